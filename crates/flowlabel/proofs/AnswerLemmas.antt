@@ -9,14 +9,13 @@ use Rattle.clap.specs.declared.error.kind.ErrorKind.{ErrorKind}
 use Rattle.clap.specs.declared.error.kind.ErrorKind.TheVariants as kind
 use Rattle.clap.specs.declared.parser.ArgMatches.{ArgMatches}
 use Rattle.clap.proofs.OnLiterals.{clap_on_literals}
-use Rattle.prefix_keys.specs.Text.{AddressOf}
 use Rattle.pmap_text.specs.Reading.{◌>>=◌}
 use Rattle.flow_filter.specs.Condition.{needs_map}
 use Rattle.flow_filter.specs.Words.{filter_of_words}
 use Rattle.flow_uniq.specs.Key.{keys_reading, need_map}
 use Rattle.flowlabel.specs.Request.{LabelSource, Request, Text, check, info, recert, request_of, Command}
 use Rattle.flowlabel.specs.Definition.{flowlabel_app}
-use Rattle.flowlabel.specs.Answer.{Answer, Answers, IsAnswer, IsFaultAt, IsFaultOfKind, IsOwnAnswer, IsOwnFault, address_answer, address_in_rows, answer_of, answer_of_cat, answer_of_label, answer_of_rows, answer_of_shrink, is_help, is_mistake, shrunk_asked, shrunk_in_rows, source_answer, sources_in_rows, text_in_rows, IsUnlessMemory, condition_in_rows, with_labels, words_in_rows, answer_of_uniq, fields_in_rows, UsageFault, Refused, NotUtf8, Help, MapMissing, Filter, Key, NoMemory}
+use Rattle.flowlabel.specs.Answer.{Answer, Answers, IsAnswer, IsFaultAt, IsFaultOfKind, IsOwnAnswer, IsOwnFault, address_in_rows, answer_of, answer_of_cat, answer_of_label, answer_of_rows, answer_of_shrink, is_help, is_mistake, is_given, shrunk_asked, source_answer, sources_in_rows, text_in_rows, IsUnlessMemory, condition_in_rows, with_labels, words_in_rows, answer_of_uniq, fields_in_rows, UsageFault, Refused, NotUtf8, Help, BadAddress, MapMissing, Filter, Key, NoMemory}
 
 -- clap's theorems are about definitions such as this one
 pub flowlabel_is_simple : is_simple flowlabel_app ≡ true
@@ -71,19 +70,16 @@ source_own (Some map) None = tt
 source_own None (Some list) = tt
 source_own None None = tt
 
-needed_own : (source : Option LabelSource) → IsOwnAnswer (ok_or source MapMissing)
-needed_own None = tt
-needed_own (Some source) = tt
-
-address_own : (source : LabelSource) (address : Option AddressOf) → IsOwnAnswer (address_answer source address)
-address_own source None = tt
-address_own source (Some address) = tt
+needed_own : {A : Type 0} (value : Option A) (fault : UsageFault) → IsOwnFault fault → IsOwnAnswer (ok_or value fault)
+needed_own None fault own = own
+needed_own (Some value) fault own = tt
 
 -- `label` gives neither a refusal of clap's nor help
 label_own : (rows : List Row) → IsOwnAnswer (answer_of_label rows)
 label_own rows =
     then_own (sources_in_rows rows) _ (source_own _ _)
-    (λ found. then_own (ok_or found MapMissing) _ (needed_own found) (λ labels. address_own labels (address_in_rows rows)))
+    (λ found. then_own (ok_or found MapMissing) _ (needed_own found MapMissing tt)
+    (λ labels. then_own (ok_or (address_in_rows rows) BadAddress) _ (needed_own (address_in_rows rows) BadAddress tt) (λ address. tt)))
 
 -- `rows` and its parts give neither a refusal of clap's nor help
 mapped_own : {A F : Type 0} (as_fault : F → UsageFault) → ((fault : F) → IsOwnFault (as_fault fault)) → (r : Result A F)
@@ -115,7 +111,7 @@ uniq_own rows =
 cat_own : (rows : List Row) → IsOwnAnswer (answer_of_cat rows)
 cat_own rows =
     then_own (sources_in_rows rows) _ (source_own _ _)
-    (λ found. then_own (ok_or found MapMissing) _ (needed_own found) (λ labels. tt))
+    (λ found. then_own (ok_or found MapMissing) _ (needed_own found MapMissing tt) (λ labels. tt))
 
 shrunk_own : (certificate compact : Bool) → IsOwnAnswer (shrunk_asked certificate compact)
 shrunk_own false false = tt
@@ -124,7 +120,8 @@ shrunk_own true true = tt
 shrunk_own false true = tt
 
 shrink_own : (rows : List Row) → IsOwnAnswer (answer_of_shrink rows)
-shrink_own rows = then_own (shrunk_in_rows rows) _ (shrunk_own _ _) (λ printed. tt)
+shrink_own rows =
+    then_own (shrunk_asked (is_given (codes "certificate") rows) (is_given (codes "compact") rows)) _ (shrunk_own _ _) (λ printed. tt)
 
 either_own : (b : Bool) (answer other : Answer) → IsOwnAnswer answer → IsOwnAnswer other → IsOwnAnswer (if b then answer else other)
 either_own true answer other p q = p

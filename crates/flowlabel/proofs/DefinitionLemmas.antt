@@ -1,10 +1,10 @@
 -- How clap reads a command with one more argument, with several more, and with a subcommand.
 use Rattle.std.proofs.Common.{◌≡◌, ◌∙◌, ◌||◌, Bool, false, List, [], ◌∷◌, refl, subst}
-use Rattle.std.specs.List.{AllZip}
+use Rattle.std.specs.List.{AllZip, fold}
 use Rattle.clap.specs.Words.{AddsArg, AddsInTurn, AddsSubcommand, App, Rule, with_rule}
 use Rattle.clap.specs.declared.builder.arg.Arg.{Arg}
 use Rattle.clap.specs.declared.builder.command.Command.{Command}
-use Rattle.flowlabel.specs.Definition.{IsArgument, IsCommand, with_app, with_rules}
+use Rattle.flowlabel.specs.Definition.{IsArgument, IsCommand, with_app}
 
 neither : (a b : Bool) → a ≡ false → b ≡ false → (a || b) ≡ false
 neither a b e f = rw (e, f) refl
@@ -15,7 +15,7 @@ with_argument app old new rule arg (is, local) (has, own) adds =
     (adds.shape own ∙ (λ i. with_rule (is i) (has i)), adds.globals ∙ neither _ _ local own)
 
 pub with_arguments : (app : App) (old new : Command) (rules : List Rule) (args : List Arg) → IsCommand app old → AllZip IsArgument rules args
-    → AddsInTurn AddsArg old args new → IsCommand (with_rules app rules) new
+    → AddsInTurn AddsArg old args new → IsCommand (fold with_rule app rules) new
 with_arguments app old new [] [] is are same = subst (IsCommand app) same is
 with_arguments app old new (rule ∷ rules) (arg ∷ args) is (first, are) (mid, adds, rest) =
     with_arguments (with_rule app rule) mid new rules args (with_argument app old mid rule arg is first adds) are rest

@@ -7,18 +7,10 @@ use Rattle.flow_io.specs.declared.last_call.LastCall.{LastCall}
 use Rattle.flow_io.specs.Devices.{IsUntouched}
 use Rattle.flowlabel.specs.Answer.{Answers}
 use Rattle.flowlabel.specs.Ending.{IsAsked, IsEndOf}
-use Rattle.flowlabel.specs.Inner.{CannotOpenFirst, CannotOpenNamed, CanOpenBefore, HaveNames, name_at}
+use Rattle.flowlabel.specs.Inner.{CannotOpenFirst, HaveNames}
 use Rattle.flowlabel.specs.Request.{FileNames, Request, Text, files_of, needs_named}
-use Rattle.flowlabel.specs.Run.{AreNeeded, IsFaultOfRun, PrintsThen, is_write_stop, Turn, RunFault, Usage, CannotOpen, CannotWrite, Inputs}
+use Rattle.flowlabel.specs.Run.{AreNeeded, IsFaultOfRun, PrintsThen, is_write_stop, RunFault, Usage, CannotOpen, CannotWrite, Inputs}
 use Rattle.flowlabel.proofs.LoadingLemmas.{there_if_named}
-
--- a `?` passes on the fault of the first file that can't be opened
-pub refused_first : {A R : Type 0} (answers : Text → Option R → Type 0) (names : FileNames) (turn : Turn) (r : Result A RunFault) (fault : RunFault)
-    → IsErrAnd r (λ y. y ≡ fault) → CannotOpenNamed answers (name_at turn names) fault → CanOpenBefore answers turn names
-    → IfErr r (CannotOpenFirst answers names)
-refused_first answers names turn (Ok done) fault is cannot before = absurd is
-refused_first answers names turn (Err other) fault is cannot before =
-    subst (λ (f : RunFault). CannotOpenFirst answers names f) (sym is) (turn, cannot, before)
 
 -- inputs that have the names of files are those that are needed
 pub named_are_needed : {R : Type 0} (names : FileNames) (inputs : Inputs R) → HaveNames names inputs → AreNeeded (needs_named names) inputs

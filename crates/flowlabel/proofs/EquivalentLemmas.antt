@@ -7,21 +7,15 @@ use Rattle.pmap_text.specs.MapModel.{MapModel}
 use Rattle.pmap_text.specs.Reading.{ReadsList, ReadsMap}
 use Rattle.label_lookup.specs.Labelling.{Labelling, labelling_of_list, labelling_of_map}
 use Rattle.label_lookup.proofs.Labellings.{same_labelling}
-use Rattle.flowlabel.specs.Output.{FlowsThen, IsOutput, ListThen, MapThen, Outcome, Prints, PrintsRuns, SameUnderEquivalents, label_text, report_of_rows, report_of_groups}
+use Rattle.flowlabel.specs.Output.{FlowsThen, IsOutput, ListThen, MapThen, Outcome, Prints, PrintsRuns, SameUnderEquivalents, Then, label_text, report_of_rows, report_of_groups, BytesFault}
+use Rattle.flowlabel.specs.declared.bytes_fault.BytesFault.TheVariants.{Map as InMap, List as InList}
 use Rattle.flowlabel.specs.Request.{FromList, label, info, rows, cat, uniq}
 
--- the outcome over a text that is read as a map or a list is that for the map or the list
-of_map : (rest : MapModel → Outcome → Type 0) (text : List ℕ) (m : MapModel) (outcome : Outcome) → ReadsMap text m
-    → MapThen rest text outcome → rest m outcome
-of_map rest text m outcome reads (inl (fault, fails, is)) = cc
-of_map rest text m outcome reads (inr (other, reads', is)) =
-    let same : other ≡ m = cc in subst (λ (x : MapModel). rest x outcome) same is
-
-of_list : (rest : ListModel → Outcome → Type 0) (text : List ℕ) (l : ListModel) (outcome : Outcome) → ReadsList text l
-    → ListThen rest text outcome → rest l outcome
-of_list rest text l outcome reads (inl (fault, fails, is)) = cc
-of_list rest text l outcome reads (inr (other, reads', is)) =
-    let same : other ≡ l = cc in subst (λ (x : ListModel). rest x outcome) same is
+-- the outcome over a text that is read as one value is that for the value
+of_then : {F A : Type 0} (Fails : F → Type 0) (in_file : F → BytesFault) (Reads : A → Type 0) (rest : A → Outcome → Type 0) (x : A) (outcome : Outcome)
+    → ((fault : F) → Fails fault → ⊥) → ((y : A) → Reads y → y ≡ x) → Then Fails in_file Reads rest outcome → rest x outcome
+of_then Fails in_file Reads rest x outcome none one (inl (fault, fails, is)) = absurd (none fault fails)
+of_then {A = A} Fails in_file Reads rest x outcome none one (inr (y, reads, is)) = subst (λ (z : A). rest z outcome) (one y reads) is
 
 -- equivalent labellings have the same outcomes
 swap : (rest : Labelling → Outcome → Type 0) (map list : List ℕ) (m : MapModel) (l : ListModel) (outcome : Outcome)
@@ -29,8 +23,8 @@ swap : (rest : Labelling → Outcome → Type 0) (map list : List ℕ) (m : MapM
     → MapThen (λ k. rest (labelling_of_map k)) map outcome ↔ ListThen (λ k. rest (labelling_of_list k)) list outcome
 swap rest map list m l outcome reads_map reads_list is =
     let same : labelling_of_list l ≡ labelling_of_map m = same_labelling l m is in (
-      (λ there. inr (l, reads_list, subst (λ (k : Labelling). rest k outcome) (sym same) (of_map (λ k. rest (labelling_of_map k)) map m outcome reads_map there))),
-      (λ there. inr (m, reads_map, subst (λ (k : Labelling). rest k outcome) same (of_list (λ k. rest (labelling_of_list k)) list l outcome reads_list there))),
+      (λ there. inr (l, reads_list, subst (λ (k : Labelling). rest k outcome) (sym same) (of_then _ InMap (ReadsMap map) (λ k. rest (labelling_of_map k)) m outcome (λ fault fails. cc) (λ k reads. cc) there))),
+      (λ there. inr (m, reads_map, subst (λ (k : Labelling). rest k outcome) same (of_then _ InList (ReadsList list) (λ k. rest (labelling_of_list k)) l outcome (λ fault fails. cc) (λ k reads. cc) there))),
     )
 
 -- what holds of a File's bytes holds of equal bytes

@@ -6,7 +6,6 @@ use Rattle.prefix_keys.specs.declared.version.Version.{Version}
 use Rattle.pmap_text.specs.ListModel.{ListModel}
 use Rattle.pmap_text.specs.MapModel.{Label, MapModel}
 use Rattle.pmap_text.specs.Reading.{ReadsList, ReadsMap, list_reading, map_reading}
-use Rattle.pmap_text.specs.declared.fault.MapFault.{MapFault}
 use Rattle.label_trie.specs.Runs.{AreRunsOf, Run}
 use Rattle.label_lookup.specs.Labelling.{Labelling, labelling_of_list, labelling_of_map}
 use Rattle.pmap_cert.specs.Acceptance.{IsAccepted, IsMinimalPair}
@@ -20,11 +19,10 @@ use Rattle.cert_check.specs.declared.fault.CheckFault.{CheckFault}
 use Rattle.ipfix_read.specs.Messages.{HasFileFault, ReadsFile}
 use Rattle.ipfix_read.specs.Laws.{HasReading}
 use Rattle.ipfix_read.specs.Message.{MessageView}
-use Rattle.ipfix_read.specs.declared.fault.ReadFault.{ReadFault}
 use Rattle.flow_rows.specs.Counts.{counts_of}
 use Rattle.pmap_print.specs.Reports.{info_text}
 use Rattle.pmap_print.specs.Runs.{runs_text}
-use Rattle.flowlabel.specs.Output.{CertificateThen, Checks, FileTexts, FlowsThen, HasOutput, LabelsThen, ListThen, MapThen, Outcome, PrintsCompact, PrintsMinimal, PrintsRuns, Prints, ReportsOf, ReportsThen, label_text, minimal_text, report_of_groups, report_of_rows, shrunk_text}
+use Rattle.flowlabel.specs.Output.{CertificateThen, Checks, FileTexts, HasOutput, LabelsThen, ListThen, MapThen, Outcome, Then, BytesFault, PrintsCompact, PrintsMinimal, PrintsRuns, Prints, ReportsOf, ReportsThen, label_text, minimal_text, report_of_groups, report_of_rows, shrunk_text}
 use Rattle.flowlabel.specs.declared.bytes_fault.BytesFault.TheVariants.{Map as InMap, List as InList, Flows as InFlows, Certificate as InCertificate, Check as InCheck}
 use Rattle.flowlabel.specs.Request.{Shrunk, FromList, FromMap, LabelSource, label, info, rows, cat, shrink, check, uniq, recert}
 
@@ -32,47 +30,48 @@ use Rattle.flowlabel.specs.Request.{Shrunk, FromList, FromMap, LabelSource, labe
 abbrev Has : (Outcome → Type 0) → Type 0
 Has P = (outcome : Outcome) × P outcome
 
-map_has : (rest : MapModel → Outcome → Type 0) (text : List ℕ) (r : Result MapModel MapFault) → map_reading text ≡ r
-    → ((m : MapModel) → ReadsMap text m → Has (rest m)) → Has (MapThen rest text)
-map_has rest text (Ok m) is has = let (outcome, comes) = has m is in (outcome, inr (m, is, comes))
-map_has rest text (Err fault) is has = (Err (InMap fault), inl (fault, is, refl))
+-- a text has an outcome if it has a fault or is read, and each value that it is read as has one
+then_has : {F A : Type 0} (Fails : F → Type 0) (in_file : F → BytesFault) (Reads : A → Type 0) (rest : A → Outcome → Type 0)
+    → ((fault : F) × Fails fault) ⊎ ((value : A) × Reads value) → ((value : A) → Reads value → Has (rest value)) → Has (Then Fails in_file Reads rest)
+then_has Fails in_file Reads rest (inl (fault, fails)) has = (Err (in_file fault), inl (fault, fails, refl))
+then_has Fails in_file Reads rest (inr (value, reads)) has = let (outcome, comes) = has value reads in (outcome, inr (value, reads, comes))
 
-list_has : (rest : ListModel → Outcome → Type 0) (text : List ℕ) (r : Result ListModel MapFault) → list_reading text ≡ r
-    → ((l : ListModel) → ReadsList text l → Has (rest l)) → Has (ListThen rest text)
-list_has rest text (Ok l) is has = let (outcome, comes) = has l is in (outcome, inr (l, is, comes))
-list_has rest text (Err fault) is has = (Err (InList fault), inl (fault, is, refl))
+swapped : {A B : Type 0} → A ⊎ B → B ⊎ A
+swapped (inl x) = inr x
+swapped (inr x) = inl x
+
+fault_or_value : {F A : Type 0} (r : Result A F) → ((fault : F) × (r ≡ Err fault)) ⊎ ((value : A) × (r ≡ Ok value))
+fault_or_value (Ok value) = inr (value, refl)
+fault_or_value (Err fault) = inl (fault, refl)
+
+map_has : (rest : MapModel → Outcome → Type 0) (text : List ℕ) → ((m : MapModel) → ReadsMap text m → Has (rest m)) → Has (MapThen rest text)
+map_has rest text = then_has _ InMap (ReadsMap text) rest (fault_or_value (map_reading text))
+
+list_has : (rest : ListModel → Outcome → Type 0) (text : List ℕ) → ((l : ListModel) → ReadsList text l → Has (rest l)) → Has (ListThen rest text)
+list_has rest text = then_has _ InList (ReadsList text) rest (fault_or_value (list_reading text))
 
 labels_have : (source : LabelSource) (rest : Labelling → Outcome → Type 0) (texts : FileTexts) → ((l : Labelling) → Has (rest l)) → Has (LabelsThen source rest texts)
 labels_have (FromMap file) rest texts has =
-    map_has (λ m. rest (labelling_of_map m)) texts.map (map_reading texts.map) refl (λ m reads. has (labelling_of_map m))
+    map_has (λ m. rest (labelling_of_map m)) texts.map (λ m reads. has (labelling_of_map m))
 labels_have (FromList file) rest texts has =
-    list_has (λ l. rest (labelling_of_list l)) texts.list (list_reading texts.list) refl (λ l reads. has (labelling_of_list l))
+    list_has (λ l. rest (labelling_of_list l)) texts.list (λ l reads. has (labelling_of_list l))
 
 -- a certificate's text is read or has a fault
 abbrev EitherCertificate : Type 0
 EitherCertificate = (text : List ℕ) → ((fault : CertFault) × (format_reading text ≡ Err fault))
     ⊎ ((c : CertificateModel) × HasFormatText c × (text ≡ certificate_text c))
 
-certificate_has_so : (rest : CertificateModel → Outcome → Type 0) (text : List ℕ) → ((c : CertificateModel) → HasFormatText c → Has (rest c))
-    → ((fault : CertFault) × (format_reading text ≡ Err fault)) ⊎ ((c : CertificateModel) × HasFormatText c × (text ≡ certificate_text c))
-    → Has (CertificateThen rest text)
-certificate_has_so rest text has (inl (fault, fails)) = (Err (InCertificate fault), inl (fault, fails, refl))
-certificate_has_so rest text has (inr (c, form, is)) = let (outcome, comes) = has c form in (outcome, inr (c, (form, is), comes))
-
 certificate_has : EitherCertificate → (rest : CertificateModel → Outcome → Type 0) (text : List ℕ)
     → ((c : CertificateModel) → HasFormatText c → Has (rest c)) → Has (CertificateThen rest text)
-certificate_has law rest text has = certificate_has_so rest text has (law text)
-
--- a File's bytes are messages or have a fault
-flows_have_so : (rest : List MessageView → Outcome → Type 0) (bytes : List ℕ) → ((messages : List MessageView) → Has (rest messages))
-    → ((messages : List MessageView) × ReadsFile [] 0 bytes messages) ⊎ ((fault : ReadFault) × HasFileFault [] 0 0 bytes fault)
-    → Has (FlowsThen rest bytes)
-flows_have_so rest bytes has (inl (messages, reads)) = let (outcome, comes) = has messages in (outcome, inr (messages, reads, comes))
-flows_have_so rest bytes has (inr (fault, fails)) = (Err (InFlows fault), inl (fault, fails, refl))
+certificate_has law rest text has = elim (law text) [
+  | inl (fault, fails) ↦ (Err (InCertificate fault), inl (fault, fails, refl))
+  | inr (c, form, is) ↦ let (outcome, comes) = has c form in (outcome, inr (c, (form, is), comes))
+]
 
 report_has : HasReading → (text : Option Labelling → List MessageView → List ℕ) (labels : Option Labelling) (bytes : List ℕ) → Has (ReportsOf text labels bytes)
 report_has law text labels bytes =
-    flows_have_so (λ messages. Prints (text labels messages)) bytes (λ messages. (Ok (text labels messages), refl)) (law [] 0 0 bytes)
+    then_has (HasFileFault [] 0 0 bytes) InFlows (ReadsFile [] 0 bytes) (λ messages. Prints (text labels messages)) (swapped (law [] 0 0 bytes))
+    (λ messages reads. (Ok (text labels messages), refl))
 
 reports_have : HasReading → (text : Option Labelling → List MessageView → List ℕ) (source : Option LabelSource) (texts : FileTexts)
     → Has (ReportsThen text source texts)
@@ -118,10 +117,10 @@ has_output reading runs pair either accepted (uniq fields source condition sorte
     reports_have reading (report_of_groups fields condition sorted columns) source texts
 has_output reading runs pair either accepted (cat source) texts = labels_have source PrintsRuns texts (runs_have runs)
 has_output reading runs pair either accepted (shrink map printed) texts =
-    map_has (PrintsMinimal printed) texts.map (map_reading texts.map) refl (minimal_has pair printed texts.map)
+    map_has (PrintsMinimal printed) texts.map (minimal_has pair printed texts.map)
 has_output reading runs pair either accepted (check map list certificate) texts =
-    map_has (λ m. ListThen (λ l. CertificateThen (Checks m l) texts.certificate) texts.list) texts.map (map_reading texts.map) refl
-    (λ m reads. list_has (λ l. CertificateThen (Checks m l) texts.certificate) texts.list (list_reading texts.list) refl
+    map_has (λ m. ListThen (λ l. CertificateThen (Checks m l) texts.certificate) texts.list) texts.map
+    (λ m reads. list_has (λ l. CertificateThen (Checks m l) texts.certificate) texts.list
     (λ l reads'. certificate_has either (Checks m l) texts.certificate
     (λ c form. checks_have accepted m l c form (first_fault m l c) refl)))
 has_output reading runs pair either accepted (recert certificate) texts =

@@ -1,13 +1,14 @@
 -- What clap's theorems say about the example command lines, by computation.
 use Rattle.std.proofs.Common.{◌≡◌, ◌∙◌, ◌==◌, ℕ, Bool, true, false, not, [], ◌∷◌, Option, Some, None, Ok, Err, refl, sym, ap, codes}
-use Rattle.std.specs.Prelude.{unwrap_or}
+use Rattle.std.specs.Prelude.{ok_or, unwrap_or}
 use Rattle.clap.specs.Lexer.{short_of}
 use Rattle.clap.specs.Words.{Text}
 use Rattle.clap.proofs.OnLiterals.{clap_on_literals}
 use Rattle.prefix_keys.specs.Text.{address_of}
 use Rattle.flowlabel.specs.Definition.{flowlabel_app}
-use Rattle.flowlabel.specs.Request.{FromMap, rows}
-use Rattle.flowlabel.specs.Answer.{Answer, Answers, HaveOneAnswer, LinesHaveAnswers, address_answer, is_plain_word, no_condition, Refused, NotUtf8, Help, CompactAlone, NoMemory}
+use Rattle.pmap_text.specs.Reading.{◌>>=◌}
+use Rattle.flowlabel.specs.Request.{FromMap, label, rows}
+use Rattle.flowlabel.specs.Answer.{Answer, Answers, HaveOneAnswer, LinesHaveAnswers, condition_in_rows, is_plain_word, Refused, NotUtf8, Help, BadAddress, CompactAlone, NoMemory}
 
 pub one_answer : HaveOneAnswer
 one_answer words answer (Ok command) own is = ap (λ (o : Option Answer). unwrap_or o answer) (sym own.1 ∙ is.1)
@@ -30,7 +31,8 @@ not_short x xs h = rw h refl
 
 module _ (program : Text) where
   label_line : (map address : Text) → is_plain_word map ≡ true → is_plain_word address ≡ true
-      → Answers (program ∷ codes "label" ∷ codes "--pmap" ∷ map ∷ address ∷ []) (address_answer (FromMap map) (address_of address))
+      → Answers (program ∷ codes "label" ∷ codes "--pmap" ∷ map ∷ address ∷ [])
+      (ok_or (address_of address) BadAddress >>= (λ found. Ok (label (FromMap map) found)))
   unfolding flowlabel_app clap_on_literals
   label_line [] [] h k = (refl, refl)
   label_line (x ∷ xs) [] h k = let e = not_true (x == 45) h in (rw (e, not_short x xs e) refl, rw (e, not_short x xs e) refl)
@@ -41,12 +43,13 @@ module _ (program : Text) where
       (rw (e, not_short x xs e, f, not_short y ys f) refl, rw (e, not_short x xs e, f, not_short y ys f) refl)
 
   rows_line : (file : Text) → is_plain_word file ≡ true
-      → Answers (program ∷ codes "rows" ∷ codes "--columns" ∷ file ∷ []) (Ok (rows None no_condition true file))
+      → Answers (program ∷ codes "rows" ∷ codes "--columns" ∷ file ∷ [])
+      (condition_in_rows [] >>= (λ condition. Ok (rows None condition true file)))
   unfolding flowlabel_app clap_on_literals
-  rows_line [] h = (refl {a = []}, refl {a = Some (Ok (rows None no_condition true []))})
+  rows_line [] h = (refl {a = []}, refl {a = Some (condition_in_rows [] >>= (λ condition. Ok (rows None condition true [])))})
   rows_line (x ∷ xs) h =
       let e = not_true (x == 45) h in
-      (rw (e, not_short x xs e) (refl {a = []}), rw (e, not_short x xs e) (refl {a = Some (Ok (rows None no_condition true (x ∷ xs)))}))
+      (rw (e, not_short x xs e) (refl {a = []}), rw (e, not_short x xs e) (refl {a = Some (condition_in_rows [] >>= (λ condition. Ok (rows None condition true (x ∷ xs))))}))
 
   shrink_line : (file : Text) → is_plain_word file ≡ true
       → Answers (program ∷ codes "shrink" ∷ codes "--pmap" ∷ file ∷ codes "--compact" ∷ []) (Err CompactAlone)

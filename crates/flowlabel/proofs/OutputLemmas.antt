@@ -5,17 +5,15 @@ use Rattle.std.specs.Prelude.{◌↔◌}
 use Rattle.prefix_keys.specs.declared.version.Version.{Version}
 use Rattle.pmap_text.specs.ListModel.{ListModel}
 use Rattle.pmap_text.specs.MapModel.{Label, MapModel}
-use Rattle.pmap_text.specs.Reading.{ReadsMap}
-use Rattle.pmap_text.specs.declared.fault.MapFault.{MapFault}
+use Rattle.pmap_text.specs.Reading.{ReadsList, ReadsMap}
 use Rattle.pmap_cert.specs.Acceptance.{IsAccepted, HasItsLabels, IsMinimalPair}
 use Rattle.pmap_cert.specs.Compacting.{compact}
 use Rattle.pmap_cert.specs.FormatReading.{format_reading}
-use Rattle.pmap_cert.specs.declared.fault.CertFault.{CertFault}
 use Rattle.cert_check.specs.Checking.{first_fault}
 use Rattle.cert_check.specs.declared.fault.CheckFault.{CheckFault}
 use Rattle.ipfix_read.specs.Laws.{OneReading}
 use Rattle.ipfix_read.specs.Message.{MessageView}
-use Rattle.ipfix_read.specs.declared.fault.ReadFault.{ReadFault}
+use Rattle.ipfix_read.specs.Messages.{HasFileFault, ReadsFile}
 use Rattle.flow_rows.specs.Counts.{counts_of}
 use Rattle.pmap_cert.specs.CertificateText.{HasTextForm, certificate_text}
 use Rattle.pmap_cert.specs.CertificateModel.{CertificateModel}
@@ -23,7 +21,7 @@ use Rattle.pmap_print.specs.Reports.{info_text}
 use Rattle.pmap_print.specs.List.{list_text}
 use Rattle.pmap_print.specs.Runs.{IsRunsText}
 use Rattle.label_lookup.specs.Labelling.{Labelling, labelling_of_list, labelling_of_map}
-use Rattle.flowlabel.specs.Output.{FileTexts, FlowsThen, LabelsThen, ListThen, MapThen, OneOutput, Outcome, Prints, PrintsCompact, PrintsMinimal, PrintsRuns, ReportsOf, ReportsThen, label_text, report_of_rows, CertificateThen, Checks, ReadsCertificate, report_of_groups}
+use Rattle.flowlabel.specs.Output.{FileTexts, FlowsThen, LabelsThen, ListThen, MapThen, OneOutput, Outcome, Prints, PrintsCompact, PrintsMinimal, PrintsRuns, ReportsOf, ReportsThen, label_text, report_of_rows, CertificateThen, Checks, ReadsCertificate, Then, report_of_groups, BytesFault}
 use Rattle.flowlabel.specs.declared.bytes_fault.BytesFault.TheVariants.{Map as InMap, List as InList, Flows as InFlows, Certificate as InCertificate, Check as InCheck}
 use Rattle.flowlabel.specs.Request.{Shrunk, FromList, FromMap, LabelSource, label, info, rows, cat, shrink, check, uniq, recert}
 use Rattle.flowlabel.specs.declared.command.Shrunk.TheVariants as shrunk
@@ -35,24 +33,26 @@ IsOne {A} rest = (x : A) (outcome other : Outcome) → rest x outcome → rest x
 prints_one : {A : Type 0} (text : A → List ℕ) → IsOne (λ (x : A). Prints (text x))
 prints_one text x outcome other p q = p ∙ sym q
 
+-- if each text is read as one value or has one first fault, there is one outcome over it
+then_one : {F A : Type 0} (Fails : F → Type 0) (in_file : F → BytesFault) (Reads : A → Type 0) (rest : A → Outcome → Type 0)
+    → ((f g : F) → Fails f → Fails g → f ≡ g) → ((f : F) (x : A) → Fails f → Reads x → ⊥) → ((x y : A) → Reads x → Reads y → x ≡ y)
+    → ((x : A) → Reads x → (outcome other : Outcome) → rest x outcome → rest x other → outcome ≡ other)
+    → (outcome other : Outcome) → Then Fails in_file Reads rest outcome → Then Fails in_file Reads rest other → outcome ≡ other
+then_one {F} Fails in_file Reads rest faults either values one outcome other (inl p) (inl q) =
+    p.2 ∙ ap (λ (f : F). Err (in_file f)) (faults p.0 q.0 p.1 q.1) ∙ sym q.2
+then_one Fails in_file Reads rest faults either values one outcome other (inl p) (inr q) = absurd (either p.0 q.0 p.1 q.1)
+then_one Fails in_file Reads rest faults either values one outcome other (inr p) (inl q) = absurd (either q.0 p.0 q.1 p.1)
+then_one {A = A} Fails in_file Reads rest faults either values one outcome other (inr p) (inr q) =
+    one p.0 p.1 outcome other p.2 (subst (λ (x : A). rest x other) (values q.0 p.0 q.1 p.1) q.2)
+
 map_then_one : (rest : MapModel → Outcome → Type 0) (text : List ℕ)
     → ((m : MapModel) → ReadsMap text m → (outcome other : Outcome) → rest m outcome → rest m other → outcome ≡ other) → (outcome other : Outcome)
     → MapThen rest text outcome → MapThen rest text other → outcome ≡ other
-map_then_one rest text one outcome other (inl p) (inl q) =
-    let same : p.0 ≡ q.0 = cc in p.2 ∙ ap (λ (f : MapFault). Err (InMap f)) same ∙ sym q.2
-map_then_one rest text one outcome other (inl p) (inr q) = cc
-map_then_one rest text one outcome other (inr p) (inl q) = cc
-map_then_one rest text one outcome other (inr p) (inr q) =
-    let same : q.0 ≡ p.0 = cc in one p.0 p.1 outcome other p.2 (subst (λ (m : MapModel). rest m other) same q.2)
+map_then_one rest text = then_one _ InMap (ReadsMap text) rest (λ f g p q. cc) (λ f m p q. cc) (λ m n p q. cc)
 
 list_then_one : (rest : ListModel → Outcome → Type 0) → IsOne rest → (text : List ℕ) (outcome other : Outcome)
     → ListThen rest text outcome → ListThen rest text other → outcome ≡ other
-list_then_one rest one text outcome other (inl p) (inl q) =
-    let same : p.0 ≡ q.0 = cc in p.2 ∙ ap (λ (f : MapFault). Err (InList f)) same ∙ sym q.2
-list_then_one rest one text outcome other (inl p) (inr q) = cc
-list_then_one rest one text outcome other (inr p) (inl q) = cc
-list_then_one rest one text outcome other (inr p) (inr q) =
-    let same : q.0 ≡ p.0 = cc in one p.0 outcome other p.2 (subst (λ (l : ListModel). rest l other) same q.2)
+list_then_one rest one text = then_one _ InList (ReadsList text) rest (λ f g p q. cc) (λ f l p q. cc) (λ l k p q. cc) (λ l reads. one l)
 
 labels_then_one : (source : LabelSource) (rest : Labelling → Outcome → Type 0) → IsOne rest → (texts : FileTexts) (outcome other : Outcome)
     → LabelsThen source rest texts outcome → LabelsThen source rest texts other → outcome ≡ other
@@ -63,14 +63,9 @@ labels_then_one (FromList file) rest one texts outcome other p q =
 
 flows_then_one : OneReading → (rest : List MessageView → Outcome → Type 0) → IsOne rest → (bytes : List ℕ) (outcome other : Outcome)
     → FlowsThen rest bytes outcome → FlowsThen rest bytes other → outcome ≡ other
-flows_then_one law rest one bytes outcome other (inl p) (inl q) =
-    let same : p.0 ≡ q.0 = (law [] 0 0 bytes).1 p.0 q.0 p.1 q.1 in
-    p.2 ∙ ap (λ (f : ReadFault). Err (InFlows f)) same ∙ sym q.2
-flows_then_one law rest one bytes outcome other (inl p) (inr q) = absurd ((law [] 0 0 bytes).2 q.0 p.0 q.1 p.1)
-flows_then_one law rest one bytes outcome other (inr p) (inl q) = absurd ((law [] 0 0 bytes).2 p.0 q.0 p.1 q.1)
-flows_then_one law rest one bytes outcome other (inr p) (inr q) =
-    let same : q.0 ≡ p.0 = (law [] 0 0 bytes).0 q.0 p.0 q.1 p.1 in
-    one p.0 outcome other p.2 (subst (λ (ms : List MessageView). rest ms other) same q.2)
+flows_then_one law rest one bytes =
+    then_one (HasFileFault [] 0 0 bytes) InFlows (ReadsFile [] 0 bytes) rest (law [] 0 0 bytes).1 (λ f ms fails reads. (law [] 0 0 bytes).2 ms f reads fails)
+    (law [] 0 0 bytes).0 (λ ms reads. one ms)
 
 reports_one : OneReading → (text : Option Labelling → List MessageView → List ℕ) (bytes : List ℕ) → IsOne (λ labels. ReportsOf text labels bytes)
 reports_one law text bytes labels = flows_then_one law (λ messages. Prints (text labels messages)) (prints_one (text labels)) bytes
@@ -112,16 +107,14 @@ ReadsAsIs = (text : List ℕ) (c : CertificateModel) → format_reading text ≡
 
 certificate_then_one : ReadsAsIs → (rest : CertificateModel → Outcome → Type 0) → IsOne rest → (text : List ℕ) (outcome other : Outcome)
     → CertificateThen rest text outcome → CertificateThen rest text other → outcome ≡ other
-certificate_then_one law rest one text outcome other (inl p) (inl q) =
-    let same : p.0 ≡ q.0 = cc in p.2 ∙ ap (λ (f : CertFault). Err (InCertificate f)) same ∙ sym q.2
-certificate_then_one law rest one text outcome other (inl p) (inr q) =
-    let read : format_reading text ≡ Ok q.0 = (law text q.0).1 q.1 in cc
-certificate_then_one law rest one text outcome other (inr p) (inl q) =
-    let read : format_reading text ≡ Ok p.0 = (law text p.0).1 p.1 in cc
-certificate_then_one law rest one text outcome other (inr p) (inr q) =
-    let read : format_reading text ≡ Ok p.0 = (law text p.0).1 p.1 in
-    let read' : format_reading text ≡ Ok q.0 = (law text q.0).1 q.1 in
-    let same : q.0 ≡ p.0 = cc in one p.0 outcome other p.2 (subst (λ (c : CertificateModel). rest c other) same q.2)
+certificate_then_one law rest one text =
+    then_one _ InCertificate (ReadsCertificate text) rest (λ f g p q. cc)
+    (λ f c p q. let read : format_reading text ≡ Ok c = (law text c).1 q in cc)
+    (λ c k p q.
+    let read : format_reading text ≡ Ok c = (law text c).1 p in
+    let read' : format_reading text ≡ Ok k = (law text k).1 q in
+    cc)
+    (λ c reads. one c)
 
 -- an accepted certificate has no fault
 abbrev pub NoFault : Type 0

@@ -32,23 +32,17 @@ source_answer (Some map) None = Ok (Some (FromMap map))
 source_answer None (Some list) = Ok (Some (FromList list))
 source_answer None None = Ok None
 
--- the answer for `label`, by its source of labels and the address in its word, if that is well formed
-abbrev pub address_answer : LabelSource → Option AddressOf → Answer
-address_answer source None = Err BadAddress
-address_answer source (Some address) = Ok (label source address)
-
--- the source of labels that entries name
 abbrev pub sources_in_rows : List Row → Result (Option LabelSource) UsageFault
 sources_in_rows entries = source_answer (first_of (codes "pmap") entries) (first_of (codes "list") entries)
 
--- the address in the word ADDR of entries, if it is well formed
 abbrev pub address_in_rows : List Row → Option AddressOf
 address_in_rows entries = option_and_then address_of (first_of (codes "address") entries)
 
 -- the answer for `label`, by the entries that clap finds for it; the faults of the source come first
 abbrev pub answer_of_label : List Row → Answer
 answer_of_label entries =
-    sources_in_rows entries >>= (λ found. ok_or found MapMissing >>= (λ labels. address_answer labels (address_in_rows entries)))
+    sources_in_rows entries >>= (λ found. ok_or found MapMissing >>= (λ labels.
+    ok_or (address_in_rows entries) BadAddress >>= (λ address. Ok (label labels address))))
 
 -- the text of a required option or word: clap refuses a line without it
 abbrev pub text_in_rows : Text → List Row → Text
@@ -58,7 +52,6 @@ text_in_rows id entries = unwrap_or (first_of id entries) []
 abbrev pub is_given : Text → List Row → Bool
 is_given flag entries = bytes_eq (unwrap_or (first_of flag entries) []) (codes "true")
 
--- the texts of the filters that entries name
 abbrev pub words_in_rows : List Row → Words
 words_in_rows entries = record {
   protocol = first_of (codes "protocol") entries;
@@ -73,11 +66,9 @@ words_in_rows entries = record {
   any_label = first_of (codes "any-label") entries;
 }
 
--- the condition that the filters of entries state, or the fault of the first malformed one
 abbrev pub condition_in_rows : List Row → Result Condition UsageFault
 condition_in_rows entries = result_map_both (λ condition. condition) Filter (filter_of_words (words_in_rows entries))
 
--- the fields that entries name, or the fault of their text
 abbrev pub fields_in_rows : List Row → Result (List KeyField) UsageFault
 fields_in_rows entries = result_map_both (λ fields. fields) Key (keys_reading (text_in_rows (codes "fields") entries))
 
@@ -85,20 +76,17 @@ fields_in_rows entries = result_map_both (λ fields. fields) Key (keys_reading (
 abbrev pub with_labels : Bool → Option LabelSource → Request → Answer
 with_labels needed source request = if needed && is_none source then Err LabelNeedsMap else Ok request
 
--- the answer for `rows`, by the entries that clap finds for it
 abbrev pub answer_of_rows : List Row → Answer
 answer_of_rows entries =
     sources_in_rows entries >>= (λ source. condition_in_rows entries >>= (λ condition.
     with_labels (needs_map condition) source (rows source condition (is_given (codes "columns") entries) (text_in_rows (codes "flows") entries))))
 
--- the answer for `uniq`, by the entries that clap finds for it; its filters or its fields may need labels
 abbrev pub answer_of_uniq : List Row → Answer
 answer_of_uniq entries =
     sources_in_rows entries >>= (λ source. condition_in_rows entries >>= (λ condition. fields_in_rows entries >>= (λ fields.
     with_labels (needs_map condition || need_map fields) source
     (uniq fields source condition (is_given (codes "sort-output") entries) (is_given (codes "columns") entries) (text_in_rows (codes "flows") entries)))))
 
--- the answer for `cat`, by the entries that clap finds for it
 abbrev pub answer_of_cat : List Row → Answer
 answer_of_cat entries = sources_in_rows entries >>= (λ found. ok_or found MapMissing >>= (λ labels. Ok (cat labels)))
 
@@ -109,12 +97,10 @@ shrunk_asked true false = Ok shrunk.Certificate
 shrunk_asked true true = Ok shrunk.Compact
 shrunk_asked false true = Err CompactAlone
 
-abbrev pub shrunk_in_rows : List Row → Result Shrunk UsageFault
-shrunk_in_rows entries = shrunk_asked (is_given (codes "certificate") entries) (is_given (codes "compact") entries)
-
--- the answer for `shrink`, by the entries that clap finds for it
 abbrev pub answer_of_shrink : List Row → Answer
-answer_of_shrink entries = shrunk_in_rows entries >>= (λ printed. Ok (shrink (text_in_rows (codes "pmap") entries) printed))
+answer_of_shrink entries =
+    shrunk_asked (is_given (codes "certificate") entries) (is_given (codes "compact") entries)
+    >>= (λ printed. Ok (shrink (text_in_rows (codes "pmap") entries) printed))
 
 -- the answer for a subcommand, by its name and its entries
 abbrev pub answer_of : Text × List Row → Answer
@@ -129,7 +115,7 @@ answer_of found =
     else if bytes_eq found.0 (codes "recert") then Ok (recert (text_in_rows (codes "cert") found.1))
     else answer_of_label found.1
 
--- the kind of an error that asks for help or the version, and one that is a mistake in the words
+-- the error asks for help or the version, and the error is a mistake in the words
 abbrev pub is_help : ErrorKind → Bool
 is_help kind.DisplayHelp = true
 is_help kind.DisplayVersion = true
@@ -145,8 +131,7 @@ is_mistake k = true
 abbrev pub Answers : List Text → Answer → Type 0
 Answers words answer = (fault_of flowlabel_app words ≡ []) × (option_map answer_of (subcommand_of flowlabel_app words) ≡ Some answer)
 
--- what a fault says about the words, which are texts: clap refuses them, they ask for help, or clap takes them and the
--- program itself finds a fault
+-- what a fault says about the words: clap refuses them, they ask for help, or the program itself finds a fault
 abbrev pub IsFaultAt : List Text → UsageFault → Type 0
 IsFaultAt words (Refused text) = list_any is_mistake (fault_of flowlabel_app words) ≡ true
 IsFaultAt words NotUtf8 = ⊥
@@ -182,33 +167,20 @@ abbrev pub is_plain_word : Text → Bool
 is_plain_word [] = true
 is_plain_word (x ∷ xs) = not (x == 45)
 
--- words have at most one answer: a result that is what they ask for is that answer, or out of memory
+-- a result that is what the words ask for is their answer, or out of memory
 abbrev pub HaveOneAnswer : Type 0
 HaveOneAnswer = (words : List Text) (answer : Answer) (result : Result Command UsageFault)
     → Answers words answer → IsAnswer words result → IsUnlessMemory answer result
-
--- the condition without filters
-abbrev pub no_condition : Condition
-no_condition = record {
-  protocol = None;
-  sport = None;
-  dport = None;
-  saddress = None;
-  daddress = None;
-  packets = None;
-  bytes = None;
-  src_label = None;
-  dst_label = None;
-  any_label = None;
-}
 
 -- Three lines as examples: the answer to `label --pmap MAP ADDRESS` is its map and its address, `rows --columns FILE`
 -- asks for columns, and `shrink --pmap FILE --compact` lacks `--certificate`.
 pub record LinesHaveAnswers (program : Text) : Type 0 where
   pub label_line : (map address : Text) → is_plain_word map ≡ true → is_plain_word address ≡ true
-      → Answers (program ∷ codes "label" ∷ codes "--pmap" ∷ map ∷ address ∷ []) (address_answer (FromMap map) (address_of address))
+      → Answers (program ∷ codes "label" ∷ codes "--pmap" ∷ map ∷ address ∷ [])
+      (ok_or (address_of address) BadAddress >>= (λ found. Ok (label (FromMap map) found)))
   pub rows_line : (file : Text) → is_plain_word file ≡ true
-      → Answers (program ∷ codes "rows" ∷ codes "--columns" ∷ file ∷ []) (Ok (rows None no_condition true file))
+      → Answers (program ∷ codes "rows" ∷ codes "--columns" ∷ file ∷ [])
+      (condition_in_rows [] >>= (λ condition. Ok (rows None condition true file)))
   pub shrink_line : (file : Text) → is_plain_word file ≡ true
       → Answers (program ∷ codes "shrink" ∷ codes "--pmap" ∷ file ∷ codes "--compact" ∷ []) (Err CompactAlone)
 
@@ -219,8 +191,7 @@ IsFaultOfKind k (Help text) = is_help k ≡ true
 IsFaultOfKind k NoMemory = Unit {0}
 IsFaultOfKind k fault = ⊥
 
--- the fault of a command line whose words can't be obtained, by the kind of the system's error: a word isn't UTF-8, or
--- an allocation failed
+-- the fault of a command line whose words can't be obtained: a word isn't UTF-8, or an allocation failed
 abbrev pub words_fault_of : IoErrorKind → UsageFault
 words_fault_of io.InvalidData = NotUtf8
 words_fault_of k = NoMemory

@@ -15,7 +15,6 @@ use Rattle.flowlabel.specs.declared.bytes_fault.BytesFault.TheVariants.{Map as I
 
 -- The code, the name and the position of a fault of a file's bytes, or of a certificate for a map and a list.
 
--- the code and the name of a fault of a map text or a list text
 abbrev pub map_fault_name : MapFaultKind → List ℕ
 map_fault_name kind.BadStatement = codes "M1 BadStatement"
 map_fault_name kind.BadAddress = codes "M2 BadAddress"
@@ -33,14 +32,12 @@ map_fault_name kind.NotAList = codes "M13 NotAList"
 map_fault_name kind.DuplicateBlock = codes "M14 DuplicateBlock"
 map_fault_name kind.NoMemory = codes "M15 NoMemory"
 
--- the code and the name of a bad template, and the code of what is wrong with it
 abbrev pub template_fault_name : TemplateFaultKind → List ℕ
 template_fault_name template.Truncated = codes "F6 BadTemplate X1"
 template_fault_name template.BadTemplateId = codes "F6 BadTemplate X2"
 template_fault_name template.BadScope = codes "F6 BadTemplate X3"
 template_fault_name template.NoMemory = codes "F6 BadTemplate X4"
 
--- the code and the name of a fault of an IPFIX File
 abbrev pub flows_fault_name : ReadFaultKind → List ℕ
 flows_fault_name flows.TruncatedHeader = codes "F1 TruncatedHeader"
 flows_fault_name flows.BadVersion = codes "F2 BadVersion"
@@ -54,7 +51,6 @@ flows_fault_name flows.TooManyMessages = codes "F9 TooManyMessages"
 flows_fault_name flows.NoMemory = codes "F10 NoMemory"
 flows_fault_name flows.Failed = codes "F11 Failed"
 
--- the code and the name of a fault of a certificate's text
 abbrev pub certificate_fault_name : CertFaultKind → List ℕ
 certificate_fault_name certificate.BadHeader = codes "C1 BadHeader"
 certificate_fault_name certificate.BadLabelTable = codes "C2 BadLabelTable"
@@ -64,7 +60,6 @@ certificate_fault_name certificate.NodesMissing = codes "C5 NodesMissing"
 certificate_fault_name certificate.NodesLeft = codes "C6 NodesLeft"
 certificate_fault_name certificate.NoMemory = codes "C7 NoMemory"
 
--- the code and the name of a fault of a certificate for a map and a list
 abbrev pub check_fault_name : CheckFaultKind → List ℕ
 check_fault_name check.VersionDiffers = codes "K1 VersionDiffers"
 check_fault_name check.LeafNotUniform = codes "K2 LeafNotUniform"
@@ -74,7 +69,7 @@ check_fault_name check.CostTooHigh = codes "K5 CostTooHigh"
 check_fault_name check.BoundNotMet = codes "K6 BoundNotMet"
 check_fault_name check.NoMemory = codes "K7 NoMemory"
 
--- the code and the name of a fault, and its position: a line, an offset or a node
+-- the code and the name of a fault, and its position
 abbrev pub bytes_fault_name : BytesFault → List ℕ
 bytes_fault_name (InMap fault) = map_fault_name fault.kind
 bytes_fault_name (InList fault) = map_fault_name fault.kind
@@ -107,7 +102,6 @@ abbrev pub is_check_want : CheckFaultKind → Bool
 is_check_want check.NoMemory = true
 is_check_want k = false
 
--- whether the fault is out of memory, which says nothing about the bytes
 abbrev pub is_want_of_memory : BytesFault → Bool
 is_want_of_memory (InMap fault) = is_map_want fault.kind
 is_want_of_memory (InList fault) = is_map_want fault.kind

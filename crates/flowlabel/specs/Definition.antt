@@ -21,47 +21,37 @@ flag_rule name = record (new_rule name) { long = Some name; action = Some SetTru
 abbrev pub word_rule : Text → Rule
 word_rule name = record (new_rule name) { value_names = 1; required = true }
 
--- a command with these arguments, after those that it has
-abbrev pub with_rules : App → List Rule → App
-with_rules = fold with_rule
-
 -- a command without subcommands, by its name and its arguments
 abbrev pub leaf : Text → List Rule → App
-leaf name = with_rules (new_app name)
+leaf name = fold with_rule (new_app name)
 
--- the rules of `--pmap FILE` and `--list FILE`, of the filters, and of `[--columns] FILE`
+-- the rules of `--pmap FILE` and `--list FILE`, of these and the filters, and of `[--columns] FILE`
 abbrev pub source_rules : List Rule
 source_rules = option_rule (codes "pmap") ∷ option_rule (codes "list") ∷ []
 
-abbrev pub filter_rules : List Rule
-filter_rules = map option_rule (
+abbrev pub report_rules : List Rule
+report_rules = source_rules ++ map option_rule (
     codes "protocol" ∷ codes "sport" ∷ codes "dport" ∷ codes "saddress" ∷ codes "daddress" ∷ codes "packets" ∷ codes "bytes"
     ∷ codes "src-label" ∷ codes "dst-label" ∷ codes "any-label" ∷ [])
 
 abbrev pub table_rules : List Rule
 table_rules = flag_rule (codes "columns") ∷ word_rule (codes "flows") ∷ []
 
--- the arguments of the subcommands; those of `cat` are `source_rules`
+-- the arguments of subcommands
 abbrev pub label_rules : List Rule
 label_rules = source_rules ++ word_rule (codes "address") ∷ []
 
-abbrev pub info_rules : List Rule
-info_rules = word_rule (codes "flows") ∷ []
-
 abbrev pub rows_rules : List Rule
-rows_rules = source_rules ++ filter_rules ++ table_rules
+rows_rules = report_rules ++ table_rules
 
 abbrev pub uniq_rules : List Rule
-uniq_rules = needed_rule (codes "fields") ∷ source_rules ++ filter_rules ++ flag_rule (codes "sort-output") ∷ table_rules
+uniq_rules = needed_rule (codes "fields") ∷ report_rules ++ flag_rule (codes "sort-output") ∷ table_rules
 
 abbrev pub shrink_rules : List Rule
 shrink_rules = needed_rule (codes "pmap") ∷ flag_rule (codes "certificate") ∷ flag_rule (codes "compact") ∷ []
 
 abbrev pub check_rules : List Rule
 check_rules = needed_rule (codes "pmap") ∷ needed_rule (codes "list") ∷ needed_rule (codes "cert") ∷ []
-
-abbrev pub recert_rules : List Rule
-recert_rules = needed_rule (codes "cert") ∷ []
 
 -- the program without its subcommands: it has a version, one of them is required, and `help` isn't one
 abbrev pub program : App
@@ -73,15 +63,14 @@ program = record (new_app (codes "flowlabel")) {
   };
 }
 
--- a program with one more subcommand, and the whole command line
 abbrev pub with_app : App → App → App
 with_app app sub = with_subcommand app sub.top
 
 unfoldable pub flowlabel_app : App
 flowlabel_app = fold with_app program (
-    leaf (codes "label") label_rules ∷ leaf (codes "info") info_rules ∷ leaf (codes "rows") rows_rules ∷ leaf (codes "uniq") uniq_rules
+    leaf (codes "label") label_rules ∷ leaf (codes "info") (word_rule (codes "flows") ∷ []) ∷ leaf (codes "rows") rows_rules ∷ leaf (codes "uniq") uniq_rules
     ∷ leaf (codes "cat") source_rules ∷ leaf (codes "shrink") shrink_rules ∷ leaf (codes "check") check_rules
-    ∷ leaf (codes "recert") recert_rules ∷ [])
+    ∷ leaf (codes "recert") (needed_rule (codes "cert") ∷ []) ∷ [])
 
 -- clap reads the argument by this rule, and for its own command alone
 abbrev pub IsArgument : Rule → Arg → Type 0
@@ -90,6 +79,3 @@ IsArgument rule arg = (rule_of arg ≡ rule) × (arg.global ≡ false)
 -- clap reads the command as this one, and the command has no arguments for others
 abbrev pub IsCommand : App → Command → Type 0
 IsCommand app command = (app_of command ≡ app) × ((out-Command command).has_globals ≡ false)
-
-abbrev pub IsLeaf : Text → List Rule → Command → Type 0
-IsLeaf name rules = IsCommand (leaf name rules)

@@ -22,12 +22,10 @@ told_text (Ok done) = []
 told_text (Err (Usage (usage.Help text))) = text
 told_text (Err fault) = fault_text fault
 
--- the bytes of the text at the end
 abbrev pub told_bytes : Told → List ℕ
 told_bytes (Lent text) = text.now
 told_bytes (Made line) = line.items
 
--- the stream to which the text at the end is written
 abbrev pub stream_of : {A : Type 0} → Result A RunFault → Stream
 stream_of (Err (Usage (usage.Help text))) = stream.Output
 stream_of result = stream.Error

@@ -17,12 +17,10 @@ use Rattle.flowlabel.specs.declared.usage.UsageFault.TheVariants as usage
 abbrev pub out_of_memory : List ℕ
 out_of_memory = codes "flowlabel: out of memory\n"
 
--- the line of a fault at a position in a file
 abbrev pub place_text : List ℕ → List ℕ → ℕ → List ℕ
 place_text file name place =
     codes "flowlabel: " ++ file ++ codes ": " ++ name ++ codes " at " ++ decimal place ++ codes "\n"
 
--- the name of an option that filters rows
 abbrev pub filter_option_text : FilterOption → List ℕ
 filter_option_text option.Protocol = codes "--protocol"
 filter_option_text option.SourcePort = codes "--sport"
@@ -35,18 +33,15 @@ filter_option_text option.SourceLabel = codes "--src-label"
 filter_option_text option.DestinationLabel = codes "--dst-label"
 filter_option_text option.AnyLabel = codes "--any-label"
 
--- the code and the name of a fault of a filter's text
 abbrev pub filter_fault_text : FilterFaultKind → List ℕ
 filter_fault_text filters.BadNumberList = codes "L1 BadNumberList"
 filter_fault_text filters.BadRange = codes "L2 BadRange"
 filter_fault_text filters.BadBlock = codes "L3 BadBlock"
 filter_fault_text filters.NoMemory = codes "L4 NoMemory"
 
--- the line of a fault of an option's text
 abbrev pub option_text : List ℕ → List ℕ → List ℕ
 option_text option name = codes "flowlabel: usage: " ++ option ++ codes " " ++ name ++ codes "\n"
 
--- the code and the name of a fault of the text of `--fields`
 abbrev pub key_fault_text : KeyFault → List ℕ
 key_fault_text keys.BadField = codes "U1 BadField"
 key_fault_text keys.FieldRepeated = codes "U2 FieldRepeated"
@@ -63,12 +58,6 @@ is_usage_want (usage.Key keys.NoMemory) = true
 is_usage_want usage.NoMemory = true
 is_usage_want fault = false
 
-abbrev pub is_memory_fault : RunFault → Bool
-is_memory_fault (Usage fault) = is_usage_want fault
-is_memory_fault NoMemory = true
-is_memory_fault fault = false
-
--- the line of a fault other than out of memory
 abbrev pub usage_fault_text : UsageFault → List ℕ
 usage_fault_text (usage.Refused text) = text
 usage_fault_text usage.NotUtf8 = codes "flowlabel: usage: P1 NotUtf8\n"
@@ -82,30 +71,21 @@ usage_fault_text usage.LabelNeedsMap = codes "flowlabel: usage: P5 LabelNeedsMap
 usage_fault_text usage.CompactAlone = codes "flowlabel: usage: P6 CompactAlone\n"
 usage_fault_text usage.NoMemory = out_of_memory
 
-abbrev pub own_fault_text : RunFault → List ℕ
-own_fault_text (Usage fault) = usage_fault_text fault
-own_fault_text (CannotOpen file) = codes "flowlabel: " ++ file.now ++ codes ": cannot open\n"
-own_fault_text (CannotRead file) = codes "flowlabel: " ++ file.now ++ codes ": cannot read\n"
-own_fault_text CannotWrite = codes "flowlabel: output: cannot write\n"
-own_fault_text NoMemory = out_of_memory
-own_fault_text (File fault) = place_text fault.file.now (bytes_fault_name fault.fault) (bytes_fault_place fault.fault)
-
--- the line of any fault
 abbrev pub fault_text : RunFault → List ℕ
-fault_text fault = if is_memory_fault fault then out_of_memory else own_fault_text fault
-
--- the status of a fault other than out of memory, and that of any fault
-abbrev pub own_status_of : RunFault → ℕ
-own_status_of (Usage (usage.Help text)) = 0
-own_status_of (Usage fault) = 2
-own_status_of NoMemory = 3
-own_status_of (File fault) = 1
-own_status_of fault = 4
+fault_text (Usage fault) = if is_usage_want fault then out_of_memory else usage_fault_text fault
+fault_text (CannotOpen file) = codes "flowlabel: " ++ file.now ++ codes ": cannot open\n"
+fault_text (CannotRead file) = codes "flowlabel: " ++ file.now ++ codes ": cannot read\n"
+fault_text CannotWrite = codes "flowlabel: output: cannot write\n"
+fault_text NoMemory = out_of_memory
+fault_text (File fault) = place_text fault.file.now (bytes_fault_name fault.fault) (bytes_fault_place fault.fault)
 
 abbrev pub status_of : RunFault → ℕ
-status_of fault = if is_memory_fault fault then 3 else own_status_of fault
+status_of (Usage (usage.Help text)) = 0
+status_of (Usage fault) = if is_usage_want fault then 3 else 2
+status_of NoMemory = 3
+status_of (File fault) = 1
+status_of fault = 4
 
--- the exit status of a run with this result
 abbrev pub exit_status_of : {A : Type 0} → Result A RunFault → ℕ
 exit_status_of (Ok done) = 0
 exit_status_of (Err fault) = status_of fault

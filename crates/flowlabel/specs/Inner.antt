@@ -21,17 +21,15 @@ use Rattle.pmap_print.specs.Reports.{info_text, column_count}
 use Rattle.pmap_print.specs.Table.{IsTable, has_columns}
 use Rattle.flowlabel.specs.Output.{Checks, FileTexts, Outcome, Prints, PrintsCompact, PrintsMinimal, PrintsRuns, ReadsCertificate, ReportsOf, label_text, report_of_groups, report_of_rows, labelled_row_lines, BytesFault}
 use Rattle.flowlabel.specs.Request.{Request, label, info, rows, cat, shrink, check, uniq, recert, FileNames, Text, Needs}
-use Rattle.flowlabel.specs.Run.{HasFailed, HasName, HasText, IsReadAt, ListTurn, MapTurn, name_of, CertificateTurn, FlowsTurn, Turn, RunFault, CannotRead, NoMemory, File, CannotOpen, Inputs, Source}
-use Rattle.flowlabel.specs.declared.bytes_fault.BytesFault.TheVariants.{Map as InMap, List as InList, Flows as InFlows, Certificate as InCertificate, Check as InCheck, Flows}
+use Rattle.flowlabel.specs.Run.{HasFailed, HasName, HasText, HoldBefore, IsReadAt, ListTurn, MapTurn, name_of, CertificateTurn, FlowsTurn, Turn, RunFault, CannotRead, NoMemory, File, CannotOpen, Inputs, Source}
+use Rattle.flowlabel.specs.declared.bytes_fault.BytesFault.TheVariants.{Map as InMap, List as InList, Flows as InFlows, Certificate as InCertificate, Check as InCheck}
 pub use Rattle.flowlabel.specs.declared.run.loaded.Loaded.{Loaded}
 use Rattle.flowlabel.specs.declared.run.loaded.LoadedLabels.{LoadedLabels}
 use Rattle.flowlabel.specs.declared.run.loaded.LoadedLabels.TheVariants.{Map, List as Prefixes}
-use Rattle.flowlabel.specs.Faults.{IsInFile}
 use Rattle.flowlabel.specs.declared.run.rows.RowsTaken.{RowsTaken}
 
 -- The files that a run decodes before it reads flows, and the outcome of a request over them.
 
--- the text is read as this value
 abbrev pub IsMapText : List ℕ → MapText → Type 0
 IsMapText text map = ReadsMap text (map_of map)
 
@@ -41,13 +39,11 @@ IsListText text list = ReadsList text (list_of list)
 abbrev pub IsCertificateText : List ℕ → Certificate → Type 0
 IsCertificateText text certificate = ReadsCertificate text (certificate_of certificate)
 
--- each text is read as the value that is loaded from it
 pub record AreLoaded (loaded : Loaded) (texts : FileTexts) : Type 0 where
   pub map : IfSome loaded.map (IsMapText texts.map)
   pub list : IfSome loaded.list (IsListText texts.list)
   pub certificate : IfSome loaded.certificate (IsCertificateText texts.certificate)
 
--- exactly the files that are needed are loaded
 pub record ArePresent (needs : Needs) (loaded : Loaded) : Type 0 where
   pub map : is_some loaded.map ≡ needs.map
   pub list : is_some loaded.list ≡ needs.list
@@ -62,12 +58,10 @@ IsFirstFault needs texts (Err (InCertificate fault)) = (needs.certificate ≡ tr
     × (needs.map ≡ true → IsReadAt MapTurn texts.map) × (needs.list ≡ true → IsReadAt ListTurn texts.list)
 IsFirstFault needs texts outcome = ⊥
 
--- the labelling of a map or of a list
 abbrev pub labelling_of_either : LoadedLabels → Labelling
 labelling_of_either (Map map) = labelling_of_map (map_of map.now)
 labelling_of_either (Prefixes list) = labelling_of_list (list_of list.now)
 
--- the labelling of the loaded map, or otherwise of the loaded list
 abbrev pub labelling_of_parts : Option MapText → Option PrefixList → Option Labelling
 labelling_of_parts (Some map) list = Some (labelling_of_map (map_of map))
 labelling_of_parts None (Some list) = Some (labelling_of_list (list_of list))
@@ -102,7 +96,6 @@ module _ {R : Type 0} where
   IsLateFault old new file (InCheck fault) = HasName old.certificate file × (new.flows ≡ old.flows)
   IsLateFault old new file fault = ⊥
 
-  -- what a fault after loading says, by the relation of the bytes of the flows to the outcome
   abbrev pub IsFaultOfAnswer : (R → Option (List ℕ)) → (R → Bool) → Inputs R → Inputs R → (List ℕ → Outcome → Type 0) → RunFault → Type 0
   IsFaultOfAnswer left failed old new over (CannotRead file) = HasFailed failed old.flows new.flows file
   IsFaultOfAnswer left failed old new over NoMemory = Unit {0}
@@ -112,7 +105,6 @@ module _ {R : Type 0} where
 
 -- How the files of a request are opened.
 
--- the name of the file that is read at a turn, if there is one
 abbrev pub name_at : Turn → FileNames → Option Text
 name_at MapTurn names = names.map
 name_at ListTurn names = names.list
@@ -141,14 +133,6 @@ module _ {R : Type 0} where
   abbrev pub CanOpen : (Text → Option R → Type 0) → Option Text → Type 0
   CanOpen answers file = IfSome file (λ name. (reader : R) × answers name (Some reader))
 
-  -- each named file whose turn comes before this one can be opened
-  abbrev pub CanOpenBefore : (Text → Option R → Type 0) → Turn → FileNames → Type 0
-  CanOpenBefore answers MapTurn names = Unit {0}
-  CanOpenBefore answers ListTurn names = CanOpen answers names.map
-  CanOpenBefore answers CertificateTurn names = CanOpen answers names.map × CanOpen answers names.list
-  CanOpenBefore answers FlowsTurn names = CanOpen answers names.map × CanOpen answers names.list × CanOpen answers names.certificate
-
-  -- the fault says that the file of this name can't be opened
   abbrev pub CannotOpenNamed : (Text → Option R → Type 0) → Option Text → RunFault → Type 0
   CannotOpenNamed answers name (CannotOpen file) = (name ≡ Some file.now) × answers file.now None
   CannotOpenNamed answers name fault = ⊥
@@ -156,18 +140,16 @@ module _ {R : Type 0} where
   -- the fault reports the first of the files that can't be opened
   abbrev pub CannotOpenFirst : (Text → Option R → Type 0) → FileNames → RunFault → Type 0
   CannotOpenFirst answers names fault =
-      (turn : Turn) × CannotOpenNamed answers (name_at turn names) fault × CanOpenBefore answers turn names
+      (turn : Turn) × CannotOpenNamed answers (name_at turn names) fault × HoldBefore (λ t. CanOpen answers (name_at t names)) turn
 
 -- The state of a report after the messages of a File that it has taken.
 
--- the state is that after some messages, which are all messages of the File that the reader gave, if it reports its
--- bytes
+-- the state is that after some messages, which are all those of the File, if the reader reports its bytes
 abbrev pub HasTaken : {T : Type 0} → (List MessageView → T → Type 0) → Option (List ℕ) → T → Type 0
 HasTaken is_of given taken =
     (messages : List MessageView) × is_of messages taken × IfSome given (λ bytes. ReadsFile [] 0 bytes messages)
 
--- a fault of the calls for messages: out of memory, a failed reader, or the first fault of the bytes that the reader
--- gave
+-- out of memory, a failed reader, or the first fault of the bytes that the reader gave
 abbrev pub IsFaultOfMessages : Option (List ℕ) → ReadFault → Type 0
 IsFaultOfMessages given fault =
     (fault ≡ out_of_memory) ⊎ ((is_of_reader fault.kind ≡ true) ⊎ IfSome given (λ bytes. HasFileFault [] 0 0 bytes fault))
@@ -176,19 +158,11 @@ IsFaultOfMessages given fault =
 abbrev pub IsFirstAnswer : ReadFault → Type 0
 IsFirstAnswer fault = (is_of_reader fault.kind ≡ true) ⊎ (is_of_calls fault.kind ≡ false)
 
--- the run's fault by a fault of reading: a file that can't be read, a fault of its bytes, or out of memory
-abbrev pub IsFaultOfReading : Bor (List ℕ) → ReadFault → RunFault → Type 0
-IsFaultOfReading file fault result =
-    ((is_of_reader fault.kind ≡ true) × (result ≡ CannotRead file))
-    ⊎ ((is_of_reader fault.kind ≡ false) × IsInFile file.now (Flows fault) result)
-
--- the state of `uniq`: the groups of the rows that pass
 pub record HasGroups (keys : List KeyField) (condition : Condition) (labels : Option Labelling) (messages : List MessageView) (had : GroupsModel) : Type 0 where
   pub fields : had.fields ≡ keys
   pub count : record_count had.groups ≤ 131070 * length messages
   pub groups : had.groups ≡ groups_of keys (label_where labels) (passing_rows condition labels messages)
 
--- the state of `rows`: the table of the rows that pass
 pub record HasRows (condition : Condition) (columns : Bool) (labels : Option Labelling) (messages : List MessageView) (taken : RowsTaken) : Type 0 where
   pub padded : has_columns taken.table ≡ columns
   pub lines : IsTable (column_count (is_some labels)) (labelled_row_lines labels (passing_rows condition labels messages)) taken.table

@@ -71,21 +71,13 @@ abbrev pub LabelsThen : LabelSource → (Labelling → Outcome → Type 0) → F
 LabelsThen (FromMap file) rest texts = MapThen (λ m. rest (labelling_of_map m)) texts.map
 LabelsThen (FromList file) rest texts = ListThen (λ l. rest (labelling_of_list l)) texts.list
 
--- a line: a text and a line feed
-abbrev pub line_of : List ℕ → List ℕ
-line_of text = text ++ 10 ∷ []
-
 -- the line of the label that a labelling gives an address, which is the line feed alone if there is no label
 abbrev pub label_text : AddressOf → Labelling → List ℕ
-label_text address labels = line_of (unwrap_or (label_by labels address) [])
-
--- the text of the runs of a labelling
-abbrev pub HasRunsText : Labelling → List ℕ → Type 0
-HasRunsText labels text = IsRunsText labels.version labels.label text
+label_text address labels = unwrap_or (label_by labels address) [] ++ 10 ∷ []
 
 -- the outcome is the text of the runs of a labelling
 abbrev pub PrintsRuns : Labelling → Outcome → Type 0
-PrintsRuns labels outcome = (text : List ℕ) × HasRunsText labels text × Prints text outcome
+PrintsRuns labels outcome = (text : List ℕ) × IsRunsText labels.version labels.label text × Prints text outcome
 
 -- the outcome is the text of the certificate, compacted
 abbrev pub PrintsCompact : CertificateModel → Outcome → Type 0
@@ -133,8 +125,7 @@ ReportsThen text (Some source) texts = LabelsThen source (λ labels. ReportsOf t
 abbrev pub minimal_text : ℕ → List ℕ
 minimal_text count = codes "minimal " ++ decimal count ++ codes "\n"
 
--- the outcome of a map, a list and a certificate: the number of the list's entries if the certificate is accepted for
--- the two, otherwise the first fault
+-- the number of the list's entries if the certificate is accepted for the map and the list, otherwise the first fault
 abbrev pub Checks : MapModel → ListModel → CertificateModel → Outcome → Type 0
 Checks m l c outcome =
     (IsAccepted m l c × Prints (minimal_text (length l.prefixes)) outcome)
@@ -175,15 +166,13 @@ TakesEither (check map list certificate) = ⊥
 TakesEither (recert certificate) = ⊥
 TakesEither request = Unit {0}
 
--- Over one File, a request that takes labels from either has the same outputs under a map text and under each list text
--- whose list labels every address as the map does.
+-- a request that takes labels from either has the same outputs under a map text and under each equivalent list text
 abbrev pub SameUnderEquivalents : Type 0
 SameUnderEquivalents = (request : Request) (file other : List ℕ) (texts others : FileTexts) (m : MapModel) (l : ListModel) (outcome : Outcome)
     → TakesEither request → ReadsMap texts.map m → ReadsList others.list l → IsEquivalent l m → texts.flows ≡ others.flows
     → IsOutput (under (FromMap file) request) texts outcome ↔ IsOutput (under (FromList other) request) others outcome
 
--- the text is the number of entries of the list, which labels every address as the map does, and no list that does so
--- has fewer
+-- the text is the number of entries of the list, which is equivalent to the map and least
 abbrev pub IsCheckedLeast : FileTexts → List ℕ → Type 0
 IsCheckedLeast texts out = (m : MapModel) × (l : ListModel) × ReadsMap texts.map m × ReadsList texts.list l
     × IsEquivalent l m × IsLeast m l × (out ≡ minimal_text (length l.prefixes))
@@ -193,7 +182,7 @@ abbrev pub CheckIsEnough : Type 0
 CheckIsEnough = (map list certificate : List ℕ) (texts : FileTexts) (out : List ℕ) → IsOutput (check map list certificate) texts (Ok out)
     → IsCheckedLeast texts out
 
--- the list is within the limits of a text: at most 1,000,000 entries, with at most 65,535 label texts
+-- the list has at most 1,000,000 entries, with at most 65,535 label texts
 abbrev pub FitsText : ListModel → Type 0
 FitsText l = (length l.prefixes ≤ mapping_limit) × (length (labels_of l.prefixes) ≤ label_limit)
 
@@ -201,16 +190,15 @@ FitsText l = (length l.prefixes ≤ mapping_limit) × (length (labels_of l.prefi
 abbrev pub IsPrintedCertificate : CertificateModel → List ℕ → Type 0
 IsPrintedCertificate c text = (text ≡ certificate_text c) ⊎ (text ≡ certificate_text (compact c))
 
--- Over a map text, the printed list of its minimal pair, within the limits of a text, and the printed certificate,
--- compacted or not, `check` prints the number of the list's entries
+-- `check` accepts the printed list and certificate of a minimal pair, if the list is within the limits of a text
 abbrev pub CheckAcceptsMinimal : Type 0
 CheckAcceptsMinimal = (map list certificate : List ℕ) (texts : FileTexts) (m : MapModel) (l : ListModel) (c : CertificateModel)
     → ReadsMap texts.map m → IsMinimalPair m l c → HasTextForm c → FitsText l
     → texts.list ≡ list_text l → IsPrintedCertificate c texts.certificate
     → IsOutput (check map list certificate) texts (Ok (minimal_text (length l.prefixes)))
 
--- A certificate that `recert` prints has no more node lines than the one that it read, and `recert` prints it
--- unchanged. A number that `check` prints by the certificate that was read it also prints by the printed one.
+-- A certificate that `recert` prints has no more node lines than the one that it read, `recert` prints it unchanged, and
+-- `check` prints a number by the printed one if it does by the one that was read.
 pub record IsAsGood (before after : List ℕ) : Type 0 where
   pub old : CertificateModel
   pub new : CertificateModel

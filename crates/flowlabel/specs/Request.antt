@@ -1,4 +1,4 @@
-use Rattle.std.specs.Prelude.{◌^◌, ◌<◌, ℕ, Bool, List, Option, Some, None, is_some, option_and_then, option_map}
+use Rattle.std.specs.Prelude.{◌^◌, ◌<◌, Bool, List, Option, Some, None, is_some, option_and_then, option_map}
 use Rattle.prefix_keys.specs.Text.{AddressOf}
 use Rattle.prefix_keys.specs.Block.{width_of}
 use Rattle.flow_filter.specs.Condition.{Condition}
@@ -64,7 +64,6 @@ pub record FileNames : Type 0 where
   pub certificate : Option Text
   pub flows : Option Text
 
--- the names of a command's files, as texts
 abbrev pub names_of : Files → FileNames
 names_of files = record {
   map = option_map (λ s. s.now) files.map;
@@ -73,7 +72,7 @@ names_of files = record {
   flows = option_map (λ s. s.now) files.flows;
 }
 
--- the names of the map and of the list of a source, and the names of all files of a request
+-- the names of the map and of the list of a source, and of all files of a request
 abbrev pub map_in : LabelSource → Option Text
 map_in (FromMap file) = Some file
 map_in (FromList file) = None

@@ -28,7 +28,7 @@ pub data Turn : Type 0 where
   CertificateTurn : Turn
   FlowsTurn : Turn
 
--- the turn of the file that has the fault; a fault that `check` finds is the certificate's
+-- a fault that `check` finds is the certificate's
 abbrev pub turn_of : BytesFault → Turn
 turn_of (InMap fault) = MapTurn
 turn_of (InList fault) = ListTurn
@@ -58,10 +58,17 @@ input_at ListTurn inputs = inputs.list
 input_at CertificateTurn inputs = inputs.certificate
 input_at FlowsTurn inputs = inputs.flows
 
+-- the property holds at each turn before this one
+abbrev pub HoldBefore : (Turn → Type 0) → Turn → Type 0
+HoldBefore P MapTurn = Unit {0}
+HoldBefore P ListTurn = P MapTurn
+HoldBefore P CertificateTurn = P MapTurn × P ListTurn
+HoldBefore P FlowsTurn = P MapTurn × P ListTurn × P CertificateTurn
+
 -- What a run of a command does with the readers of its files and the writer of its output.
 
 module _ {R : Type 0} where
-  -- if the reader reports its bytes, they are this text; an input that isn't read has no bytes
+  -- the reader reports its bytes, which are this text; an input that isn't read has no bytes
   abbrev pub HasText : (R → Option (List ℕ)) → Option (Source R) → List ℕ → Type 0
   HasText left None text = text ≡ []
   HasText left (Some source) text = left source.reader ≡ Some text
@@ -100,11 +107,7 @@ module _ {R : Type 0} where
 
   -- each input whose turn comes before this one is read without fault
   abbrev pub AreReadBefore : (R → Option (List ℕ)) → Turn → Inputs R → Type 0
-  AreReadBefore left MapTurn inputs = Unit {0}
-  AreReadBefore left ListTurn inputs = IsRead left MapTurn inputs.map
-  AreReadBefore left CertificateTurn inputs = IsRead left MapTurn inputs.map × IsRead left ListTurn inputs.list
-  AreReadBefore left FlowsTurn inputs =
-      IsRead left MapTurn inputs.map × IsRead left ListTurn inputs.list × IsRead left CertificateTurn inputs.certificate
+  AreReadBefore left turn inputs = HoldBefore (λ t. IsRead left t (input_at t inputs)) turn
 
   -- the inputs of later turns are unchanged: nothing was read of them
   abbrev pub AreKeptBehind : Turn → Inputs R → Inputs R → Type 0
@@ -123,8 +126,7 @@ module _ {R : Type 0} where
   HeadlineThen left inputs request P =
       (texts : FileTexts) → HaveTexts left inputs texts → (out : List ℕ) × IsHeadline request texts out × P out
 
-  -- what a fault of reading and decoding one input says: the input had the file's name before the call, and its reader
-  -- has failed or its text has this fault
+  -- a fault of one input: it had the file's name, and its reader has failed or its text has this fault
   abbrev pub IsStop : (R → Option (List ℕ)) → (R → Bool) → Turn → Option (Source R) → Option (Source R) → RunFault → Type 0
   IsStop left failed turn old new (CannotRead file) = HasFailed failed old new file
   IsStop left failed turn old new NoMemory = Unit {0}
@@ -132,9 +134,8 @@ module _ {R : Type 0} where
       × ((text : List ℕ) → HasText left old text → IsFaultOfText fault.fault text)
   IsStop left failed turn old new fault = ⊥
 
-  -- What a fault before anything is written says, by the relation of the files' texts to the outcome. Names are those
-  -- before the call. A fault of a file's bytes is the outcome. If a reader has failed, the files before its file were
-  -- read without fault. In both cases the files after the faulty one were not read.
+  -- A fault before anything is written, by the relation of the files' texts to the outcome. A fault of a file's bytes is
+  -- the outcome. If a reader has failed, earlier files were read without fault. Later files were not read.
   abbrev pub IsFaultOfBytes : (R → Option (List ℕ)) → (R → Bool) → Inputs R → Inputs R → (FileTexts → Outcome → Type 0) → RunFault → Type 0
   IsFaultOfBytes left failed old new over (CannotRead file) =
       (turn : Turn) × HasFailed failed (input_at turn old) (input_at turn new) file × AreReadBefore left turn old × AreKeptBehind turn old new
@@ -151,8 +152,8 @@ module _ {R : Type 0} where
     pub certificate : is_some inputs.certificate ≡ needs.certificate
     pub flows : is_some inputs.flows ≡ needs.flows
 
--- what a fault of a run says: after a write fault the writer has a prefix of the output, or all of it if the flush
--- failed; any other fault comes before the writer is called
+-- after a write fault the writer has a prefix of the output, or all of it if the flush failed; any other fault comes
+-- before the writer is called
 module _ {R W : Type 0} (left : R → Option (List ℕ)) (failed : R → Bool) (taken : W → Option (List ℕ)) (last : W → LastCall) where
   abbrev pub IsFaultOfRun : Inputs R → Inputs R → W → W → Request → RunFault → Type 0
   IsFaultOfRun old new writer writer' request CannotWrite = PrintsThen left old request (StopsWriting taken last writer writer')

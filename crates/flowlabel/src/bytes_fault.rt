@@ -45,8 +45,7 @@ impl BytesFault {
         ensures { result.now ≡ bytes_fault_name self.now }
     {
         match self {
-            BytesFault::Map(fault) => map_fault_name(fault.kind),
-            BytesFault::List(fault) => map_fault_name(fault.kind),
+            BytesFault::Map(fault) | BytesFault::List(fault) => map_fault_name(fault.kind),
             BytesFault::Flows(fault) => flows_fault_name(fault.kind),
             BytesFault::Certificate(fault) => certificate_fault_name(fault.kind),
             BytesFault::Check(fault) => check_fault_name(fault.kind),
@@ -58,8 +57,7 @@ impl BytesFault {
         ensures { result ≡ bytes_fault_place self.now }
     {
         match self {
-            BytesFault::Map(fault) => fault.line,
-            BytesFault::List(fault) => fault.line,
+            BytesFault::Map(fault) | BytesFault::List(fault) => fault.line,
             BytesFault::Flows(fault) => fault.offset,
             BytesFault::Certificate(fault) => fault.line,
             BytesFault::Check(fault) => fault.node,
@@ -67,7 +65,6 @@ impl BytesFault {
     }
 }
 
-// The code and the name of a fault of a map text or a list text.
 fn map_fault_name(kind: MapFaultKind) -> &'static str
     ensures { result.now ≡ map_fault_name kind }
 {
@@ -90,7 +87,6 @@ fn map_fault_name(kind: MapFaultKind) -> &'static str
     }
 }
 
-// The code and the name of a bad template, and the code of what is wrong with it.
 fn template_fault_name(kind: TemplateFaultKind) -> &'static str
     ensures { result.now ≡ template_fault_name kind }
 {
@@ -102,7 +98,6 @@ fn template_fault_name(kind: TemplateFaultKind) -> &'static str
     }
 }
 
-// The code and the name of a fault of an IPFIX File.
 fn flows_fault_name(kind: ReadFaultKind) -> &'static str
     ensures { result.now ≡ flows_fault_name kind }
 {
@@ -121,7 +116,6 @@ fn flows_fault_name(kind: ReadFaultKind) -> &'static str
     }
 }
 
-// The code and the name of a fault of a certificate's text.
 fn certificate_fault_name(kind: CertFaultKind) -> &'static str
     ensures { result.now ≡ certificate_fault_name kind }
 {
@@ -136,7 +130,6 @@ fn certificate_fault_name(kind: CertFaultKind) -> &'static str
     }
 }
 
-// The code and the name of a fault of a certificate for a map and a list.
 fn check_fault_name(kind: CheckFaultKind) -> &'static str
     ensures { result.now ≡ check_fault_name kind }
 {

@@ -28,25 +28,23 @@ pub enum Shrunk {
 /// A command, as a command line asks for it. File names and texts are borrowed from the words.
 #[derive(Drop)]
 pub enum Command<'a> {
-    /// `label (--pmap FILE | --list FILE) ADDR`: the label of an address.
+    /// `label`: the label of an address.
     Label {
         labels: LabelFile<'a>,
         addr: Addr,
     },
-    /// `info FILE`: how many messages, sets and records an IPFIX File has.
+    /// `info`: how many messages, sets and records an IPFIX File has.
     Info {
         flows: &'a str,
     },
-    /// `rows [--pmap FILE | --list FILE] [filters] [--columns] FILE`: the rows of an IPFIX File that pass the filters,
-    /// with labels if a map or a list is named, padded to columns if asked for.
+    /// `rows`: the rows of an IPFIX File that pass the filter, with labels if a map or a list is named.
     Rows {
         labels: Option<LabelFile<'a>>,
         filter: Filter<'a>,
         columns: bool,
         flows: &'a str,
     },
-    /// `uniq --fields NAMES [--pmap FILE | --list FILE] [filters] [--sort-output] [--columns] FILE`: the groups of such
-    /// rows by fields, with their totals, in the order of their first rows or sorted.
+    /// `uniq`: the groups of such rows by fields, with their totals, in the order of their first rows or sorted.
     Uniq {
         keys: Keys,
         labels: Option<LabelFile<'a>>,
@@ -55,24 +53,22 @@ pub enum Command<'a> {
         columns: bool,
         flows: &'a str,
     },
-    /// `cat (--pmap FILE | --list FILE)`: the ranges of addresses with the same label.
+    /// `cat`: the ranges of addresses with the same label.
     Cat {
         labels: LabelFile<'a>,
     },
-    /// `shrink --pmap FILE [--certificate [--compact]]`: the shortest prefix list that labels every address as the map
-    /// does, or its certificate, compacted or not.
+    /// `shrink`: the shortest prefix list that labels every address as the map does, or its certificate.
     Shrink {
         map: &'a str,
         printed: Shrunk,
     },
-    /// `check --pmap FILE --list FILE --cert FILE`: whether a certificate shows that a list is a shortest one for a
-    /// map.
+    /// `check`: whether a certificate shows that a list is a shortest one for a map.
     Check {
         map: &'a str,
         list: &'a str,
         certificate: &'a str,
     },
-    /// `recert --cert FILE`: a certificate, compacted.
+    /// `recert`: a certificate, compacted.
     Recert {
         certificate: &'a str,
     },
@@ -97,7 +93,6 @@ pub struct Files<'a> {
 }
 
 impl<'a> Files<'a> {
-    // The files of a command that reads labels, flows or both.
     fn named(labels: Option<LabelFile<'a>>, flows: Option<&'a str>) -> Files<'a>
         ensures { names_of result ≡ files_named (option_map source_of labels.entry) (option_map (λ s. s.now) flows.entry) }
     {

@@ -1,8 +1,8 @@
-ghost use Rattle.std.specs.Prelude.{◌≡◌, IfOk, List, codes, true};
+ghost use Rattle.std.specs.Prelude.{◌≡◌, ◌∷◌, [], IfOk, List, codes, true};
 ghost use Rattle.std.specs.List.{AllZip};
 ghost use Rattle.clap.specs.Words.{Rule, new_app};
 ghost use Rattle.clap.specs.declared.builder.command.Command.TheViews.{out-Command};
-ghost use Rattle.flowlabel.specs.Definition.{IsArgument, IsCommand, IsLeaf, check_rules, filter_rules, flag_rule, flowlabel_app, info_rules, label_rules, needed_rule, option_rule, program, recert_rules, rows_rules, shrink_rules, source_rules, uniq_rules, word_rule};
+ghost use Rattle.flowlabel.specs.Definition.{IsArgument, IsCommand, check_rules, flag_rule, flowlabel_app, label_rules, leaf, needed_rule, option_rule, program, report_rules, rows_rules, shrink_rules, source_rules, uniq_rules, word_rule};
 
 use clap::{Arg, ArgAction, Command};
 use std::alloc::{AllocError, Global};
@@ -16,17 +16,14 @@ macro_rules! version {
 
 const VERSION: &str = version!("");
 
-// The first line of each help: the program and its version.
 const TITLE: &str = version!("flowlabel ");
 
-// The last lines of a help: an example of what the command prints, and where the manual is.
 macro_rules! example {
     ($what:literal, $line:literal) => {
         concat!("Example, ", $what, ":\n  ", $line, "\n\nManual: man flowlabel")
     };
 }
 
-// Returns the option `--name VALUE`, below a heading of the help.
 fn option<'a>(
     alloc: Global,
     name: &'a str,
@@ -43,7 +40,6 @@ fn option<'a>(
         .help(help)
 }
 
-// Returns the option `--name VALUE`, which must be given.
 fn needed_option<'a>(
     alloc: Global,
     name: &'a str,
@@ -56,7 +52,6 @@ fn needed_option<'a>(
     option(alloc, name, value, heading, help).required(true)
 }
 
-// Returns the flag `--name`.
 fn flag<'a>(alloc: Global, name: &'a str, help: &'a str) -> Arg<'a>
     ensures { IsArgument (flag_rule name.entry.now) result }
 {
@@ -67,7 +62,6 @@ fn flag<'a>(alloc: Global, name: &'a str, help: &'a str) -> Arg<'a>
         .help(help)
 }
 
-// Returns the argument `VALUE`, which must be given.
 fn word<'a>(alloc: Global, name: &'a str, value: &'a str, help: &'a str) -> Arg<'a>
     ensures { IsArgument (word_rule name.entry.now) result }
 {
@@ -77,7 +71,6 @@ fn word<'a>(alloc: Global, name: &'a str, value: &'a str, help: &'a str) -> Arg<
         .help(help)
 }
 
-// Returns a command without arguments, with the texts of its help.
 fn described<'a>(
     alloc: Global,
     name: &'a str,
@@ -94,7 +87,6 @@ fn described<'a>(
         .after_help(example)
 }
 
-// Returns a command with these arguments and the texts of its help.
 fn command<'a>(
     alloc: Global,
     name: &'a str,
@@ -104,14 +96,13 @@ fn command<'a>(
     arguments: Vec<Arg<'a>>,
 ) -> Result<Command<'a>, AllocError>
     ensures { (rules : List Rule) → AllZip IsArgument rules arguments.entry.items
-        → IfOk result (IsLeaf name.entry.now rules) }
+        → IfOk result (IsCommand (leaf name.entry.now rules)) }
 {
     described(alloc, name, about, usage, example).args(arguments)
 }
 
-// `label (--pmap FILE | --list FILE) ADDR`.
 fn label<'a>(alloc: Global) -> Result<Command<'a>, AllocError>
-    ensures { IfOk result (IsLeaf (codes "label") label_rules) }
+    ensures { IfOk result (IsCommand (leaf (codes "label") label_rules)) }
 {
     let about = "Print the label of an address";
     let usage = "flowlabel label (--pmap FILE | --list FILE) ADDR";
@@ -127,9 +118,8 @@ fn label<'a>(alloc: Global) -> Result<Command<'a>, AllocError>
     command(alloc, "label", about, usage, example, arguments)
 }
 
-// `info FILE`.
 fn info<'a>(alloc: Global) -> Result<Command<'a>, AllocError>
-    ensures { IfOk result (IsLeaf (codes "info") info_rules) }
+    ensures { IfOk result (IsCommand (leaf (codes "info") (word_rule (codes "flows") ∷ []))) }
 {
     let about = "Print the counts of an IPFIX File";
     let usage = "flowlabel info FILE";
@@ -141,9 +131,8 @@ fn info<'a>(alloc: Global) -> Result<Command<'a>, AllocError>
     command(alloc, "info", about, usage, example, arguments)
 }
 
-// The options that filter flows.
-fn filters<'a>(alloc: Global) -> Result<Vec<Arg<'a>>, AllocError>
-    ensures { IfOk result (λ arguments. AllZip IsArgument filter_rules arguments.items) }
+fn report_options<'a>(alloc: Global) -> Result<Vec<Arg<'a>>, AllocError>
+    ensures { IfOk result (λ arguments. AllZip IsArgument report_rules arguments.items) }
 {
     let protocols = "Flows of these protocols, such as 6,17 or 1-16";
     let from_ports = "Flows from these ports";
@@ -156,6 +145,8 @@ fn filters<'a>(alloc: Global) -> Result<Vec<Arg<'a>>, AllocError>
     let dst_label = "Flows whose destination has this label";
     let any_label = "Flows whose source or destination has this label";
     Ok(vec![in alloc;
+        option(alloc, "pmap", "FILE", "Labels", "The prefix map"),
+        option(alloc, "list", "FILE", "Labels", "The prefix list"),
         option(alloc, "protocol", "NUMBERS", "Filters", protocols),
         option(alloc, "sport", "NUMBERS", "Filters", from_ports),
         option(alloc, "dport", "NUMBERS", "Filters", to_ports),
@@ -169,9 +160,8 @@ fn filters<'a>(alloc: Global) -> Result<Vec<Arg<'a>>, AllocError>
     ]?)
 }
 
-// `rows [--pmap FILE | --list FILE] [filters] [--columns] FILE`.
 fn rows<'a>(alloc: Global) -> Result<Command<'a>, AllocError>
-    ensures { IfOk result (IsLeaf (codes "rows") rows_rules) }
+    ensures { IfOk result (IsCommand (leaf (codes "rows") rows_rules)) }
 {
     let about = "Print the flows of an IPFIX File";
     let usage = "flowlabel rows [--pmap FILE | --list FILE] [OPTIONS] FILE";
@@ -179,22 +169,16 @@ fn rows<'a>(alloc: Global) -> Result<Command<'a>, AllocError>
         "the flows from the customer Cedar to port 443",
         "flowlabel rows --pmap customers.txt --src-label Cedar --dport 443 flows.ipfix"
     );
-    let labels = vec![in alloc;
-        option(alloc, "pmap", "FILE", "Labels", "The prefix map"),
-        option(alloc, "list", "FILE", "Labels", "The prefix list"),
-    ]?;
+    let options = report_options(alloc)?;
     let last = vec![in alloc;
         flag(alloc, "columns", "Pad the fields to columns"),
         word(alloc, "flows", "FILE", "The IPFIX File"),
     ]?;
-    command(alloc, "rows", about, usage, example, labels)?
-        .args(filters(alloc)?)?
-        .args(last)
+    command(alloc, "rows", about, usage, example, options)?.args(last)
 }
 
-// `uniq --fields NAMES [--pmap FILE | --list FILE] [filters] [--sort-output] [--columns] FILE`.
 fn uniq<'a>(alloc: Global) -> Result<Command<'a>, AllocError>
-    ensures { IfOk result (IsLeaf (codes "uniq") uniq_rules) }
+    ensures { IfOk result (IsCommand (leaf (codes "uniq") uniq_rules)) }
 {
     let about = "Print the sums of the flows of an IPFIX File";
     let usage = "flowlabel uniq --fields NAMES [--pmap FILE | --list FILE] [OPTIONS] FILE";
@@ -204,28 +188,20 @@ fn uniq<'a>(alloc: Global) -> Result<Command<'a>, AllocError>
     );
     let fields =
         "The fields to sum by, such as sip,dport: sip, dip,\nsport, dport, proto, flags, src-label, dst-label";
-    let labels = vec![in alloc;
-        needed_option(alloc, "fields", "NAMES", "Keys", fields),
-        option(alloc, "pmap", "FILE", "Labels", "The prefix map"),
-        option(alloc, "list", "FILE", "Labels", "The prefix list"),
-    ]?;
+    let keys = vec![in alloc; needed_option(alloc, "fields", "NAMES", "Keys", fields)]?;
+    let sorted = "Print the sums in the order of their keys";
     let last = vec![in alloc;
-        flag(
-            alloc,
-            "sort-output",
-            "Print the sums in the order of their keys"
-        ),
+        flag(alloc, "sort-output", sorted),
         flag(alloc, "columns", "Pad the fields to columns"),
         word(alloc, "flows", "FILE", "The IPFIX File"),
     ]?;
-    command(alloc, "uniq", about, usage, example, labels)?
-        .args(filters(alloc)?)?
+    command(alloc, "uniq", about, usage, example, keys)?
+        .args(report_options(alloc)?)?
         .args(last)
 }
 
-// `cat (--pmap FILE | --list FILE)`.
 fn cat<'a>(alloc: Global) -> Result<Command<'a>, AllocError>
-    ensures { IfOk result (IsLeaf (codes "cat") source_rules) }
+    ensures { IfOk result (IsCommand (leaf (codes "cat") source_rules)) }
 {
     let about = "Print the ranges of a map or a list";
     let usage = "flowlabel cat (--pmap FILE | --list FILE)";
@@ -240,9 +216,8 @@ fn cat<'a>(alloc: Global) -> Result<Command<'a>, AllocError>
     command(alloc, "cat", about, usage, example, arguments)
 }
 
-// `shrink --pmap FILE [--certificate [--compact]]`.
 fn shrink<'a>(alloc: Global) -> Result<Command<'a>, AllocError>
-    ensures { IfOk result (IsLeaf (codes "shrink") shrink_rules) }
+    ensures { IfOk result (IsCommand (leaf (codes "shrink") shrink_rules)) }
 {
     let about = "Print the shortest list that labels as a map does";
     let usage = "flowlabel shrink --pmap FILE [--certificate [--compact]]";
@@ -250,21 +225,17 @@ fn shrink<'a>(alloc: Global) -> Result<Command<'a>, AllocError>
         "the list of a map",
         "flowlabel shrink --pmap customers.txt >list.txt"
     );
+    let certificate = "Print the certificate instead of the list";
     let arguments = vec![in alloc;
         needed_option(alloc, "pmap", "FILE", "Files", "The prefix map"),
-        flag(
-            alloc,
-            "certificate",
-            "Print the certificate instead of the list"
-        ),
+        flag(alloc, "certificate", certificate),
         flag(alloc, "compact", "Print the certificate in compact form"),
     ]?;
     command(alloc, "shrink", about, usage, example, arguments)
 }
 
-// `check --pmap FILE --list FILE --cert FILE`.
 fn check<'a>(alloc: Global) -> Result<Command<'a>, AllocError>
-    ensures { IfOk result (IsLeaf (codes "check") check_rules) }
+    ensures { IfOk result (IsCommand (leaf (codes "check") check_rules)) }
 {
     let about = "Check by a certificate that a list is a shortest one for a map";
     let usage = "flowlabel check --pmap FILE --list FILE --cert FILE";
@@ -280,9 +251,8 @@ fn check<'a>(alloc: Global) -> Result<Command<'a>, AllocError>
     command(alloc, "check", about, usage, example, arguments)
 }
 
-// `recert --cert FILE`.
 fn recert<'a>(alloc: Global) -> Result<Command<'a>, AllocError>
-    ensures { IfOk result (IsLeaf (codes "recert") recert_rules) }
+    ensures { IfOk result (IsCommand (leaf (codes "recert") (needed_rule (codes "cert") ∷ []))) }
 {
     let about = "Print a certificate in compact form";
     let usage = "flowlabel recert --cert FILE";
@@ -296,7 +266,6 @@ fn recert<'a>(alloc: Global) -> Result<Command<'a>, AllocError>
     command(alloc, "recert", about, usage, example, arguments)
 }
 
-// The program without its subcommands.
 fn program<'a>(alloc: Global) -> Command<'a>
     ensures { IsCommand program result }
 {

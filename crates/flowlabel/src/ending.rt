@@ -50,7 +50,6 @@ pub struct Ending<'a> {
     pub text: Result<Told<'a>, AllocError>,
 }
 
-// Returns the text at the end: nothing, help, which needs no allocation, or the line of a fault.
 fn told_text<'a>(
     alloc: Global,
     outcome: &'a Result<(), RunFault<'_>>,
@@ -65,7 +64,6 @@ fn told_text<'a>(
     }
 }
 
-// Returns the stream to which the text of this outcome is written.
 fn stream_of(outcome: &Result<(), RunFault<'_>>) -> Stream
     ensures { result ≡ stream_of outcome.now }
 {

@@ -1,7 +1,7 @@
 ghost use Rattle.std.specs.Prelude.{◌≡◌, IfOk, false};
 ghost use Rattle.std.specs.String.{string_bytes};
 ghost use Rattle.flowlabel.specs.BytesFault.{is_answer_of_calls};
-ghost use Rattle.flowlabel.specs.Faults.{IsInFile, exit_status_of, fault_text, filter_fault_text, filter_option_text, is_memory_fault, is_usage_want, key_fault_text, option_text, own_fault_text, own_status_of, place_text, status_of, usage_fault_text};
+ghost use Rattle.flowlabel.specs.Faults.{IsInFile, exit_status_of, fault_text, filter_fault_text, filter_option_text, key_fault_text, option_text, place_text, status_of, usage_fault_text};
 
 use crate::bytes_fault::BytesFault;
 use crate::file_fault::FileFault;
@@ -39,17 +39,6 @@ impl<'a> RunFault<'a> {
             RunFault::File(FileFault { file, fault })
         }
     }
-
-    // Returns whether the fault is out of memory, in any of its forms.
-    fn is_want_of_memory(&self) -> bool
-        ensures { result ≡ is_memory_fault self.now }
-    {
-        match self {
-            RunFault::Usage(fault) => fault.is_want_of_memory(),
-            RunFault::NoMemory => true,
-            _ => false,
-        }
-    }
 }
 
 impl<'a> From<AllocError> for RunFault<'a> {
@@ -62,7 +51,6 @@ impl<'a> From<AllocError> for RunFault<'a> {
     }
 }
 
-// The name of an option that filters rows.
 fn filter_option_name(option: FilterOption) -> &'static str
     ensures { result.now ≡ filter_option_text option }
 {
@@ -80,7 +68,6 @@ fn filter_option_name(option: FilterOption) -> &'static str
     }
 }
 
-// The code and the name of a fault of a filter's text.
 fn filter_fault_name(kind: FilterFaultKind) -> &'static str
     ensures { result.now ≡ filter_fault_text kind }
 {
@@ -92,14 +79,12 @@ fn filter_fault_name(kind: FilterFaultKind) -> &'static str
     }
 }
 
-// The line of a fault of an option's text.
 fn option_line(alloc: Global, option: &str, name: &str) -> Result<String, AllocError>
     ensures { IfOk result (λ line. string_bytes line ≡ option_text option.now name.now) }
 {
     format!(in alloc; "flowlabel: usage: {option} {name}\n")
 }
 
-// The code and the name of a fault of the text of `--fields`.
 fn key_fault_name(fault: KeyFault) -> &'static str
     ensures { result.now ≡ key_fault_text fault }
 {
@@ -138,18 +123,19 @@ fn usage_line(alloc: Global, fault: &UsageFault) -> Result<String, AllocError>
     }
 }
 
-// The line of a fault at a position in a file.
 fn place_line(alloc: Global, file: &str, name: &str, place: u64) -> Result<String, AllocError>
     ensures { IfOk result (λ line. string_bytes line ≡ place_text file.now name.now place) }
 {
     format!(in alloc; "flowlabel: {file}: {name} at {place}\n")
 }
 
-// The line of a fault other than out of memory.
-fn own_line(alloc: Global, fault: &RunFault<'_>) -> Result<String, AllocError>
-    ensures { IfOk result (λ line. string_bytes line ≡ own_fault_text fault.now) }
+fn line_of(alloc: Global, fault: &RunFault<'_>) -> Result<String, AllocError>
+    ensures { IfOk result (λ line. string_bytes line ≡ fault_text fault.now) }
 {
     match fault {
+        RunFault::Usage(fault) if fault.is_want_of_memory() => {
+            String::from_str(alloc, OUT_OF_MEMORY)
+        }
         RunFault::Usage(fault) => usage_line(alloc, fault),
         RunFault::CannotOpen(file) => format!(in alloc; "flowlabel: {file}: cannot open\n"),
         RunFault::CannotRead(file) => format!(in alloc; "flowlabel: {file}: cannot read\n"),
@@ -165,25 +151,7 @@ fn own_line(alloc: Global, fault: &RunFault<'_>) -> Result<String, AllocError>
 pub fn fault_line(alloc: Global, fault: &RunFault<'_>) -> Result<Vec<u8>, AllocError>
     ensures { IfOk result (λ line. line.items ≡ fault_text fault.now) }
 {
-    let line = if fault.is_want_of_memory() {
-        String::from_str(alloc, OUT_OF_MEMORY)?
-    } else {
-        own_line(alloc, fault)?
-    };
-    Ok(line.into_bytes())
-}
-
-// The exit status of a fault other than out of memory.
-fn own_status(fault: &RunFault<'_>) -> u8
-    ensures { result ≡ own_status_of fault.now }
-{
-    match fault {
-        RunFault::Usage(UsageFault::Help(_)) => 0,
-        RunFault::Usage(_) => 2,
-        RunFault::CannotOpen(_) | RunFault::CannotRead(_) | RunFault::CannotWrite => 4,
-        RunFault::NoMemory => 3,
-        RunFault::File(_) => 1,
-    }
+    Ok(line_of(alloc, fault)?.into_bytes())
 }
 
 /// Returns the exit status of a fault: 1 for a fault of a file's bytes or of a certificate, 2 for a usage fault, 3 for
@@ -191,10 +159,13 @@ fn own_status(fault: &RunFault<'_>) -> u8
 pub fn status(fault: &RunFault<'_>) -> u8
     ensures { result ≡ status_of fault.now }
 {
-    if fault.is_want_of_memory() {
-        3
-    } else {
-        own_status(fault)
+    match fault {
+        RunFault::Usage(UsageFault::Help(_)) => 0,
+        RunFault::Usage(fault) if fault.is_want_of_memory() => 3,
+        RunFault::Usage(_) => 2,
+        RunFault::CannotOpen(_) | RunFault::CannotRead(_) | RunFault::CannotWrite => 4,
+        RunFault::NoMemory => 3,
+        RunFault::File(_) => 1,
     }
 }
 

@@ -16,9 +16,7 @@
 #![tactic(auto)]
 
 ghost use Rattle.std.specs.Prelude.{◌≡◌, false, map, IfOk, OnOk};
-ghost use Rattle.std.specs.String.{string_bytes};
 ghost use Rattle.std.specs.Vec.Iter.{into_iter_items};
-ghost use Rattle.clap.specs.Walk.{texts};
 ghost use Rattle.flow_io.specs.declared.last_call.LastCall.TheVariants.{Flush};
 ghost use Rattle.flowlabel.specs.Ending.{IsEndOf};
 ghost use Rattle.flowlabel.specs.Run.{is_write_stop};
@@ -42,6 +40,7 @@ use opening::{Opener, open_all};
 use pmap_text::KeyHashing;
 use run::run_with_hashing;
 use std::alloc::{AllocError, Global};
+use std::convert::AsStr;
 use std::env;
 use std::process::ExitCode;
 use usage::UsageFault;
@@ -58,7 +57,6 @@ fn listed(alloc: Global, words: env::Args) -> Result<Vec<String>, AllocError>
     Ok(list)
 }
 
-// Returns the words of the command line, the first of which is the program's name.
 fn arguments(rt: &HostRuntime) -> Result<Vec<String>, UsageFault> {
     match env::args(rt) {
         Ok(words) => Ok(listed(rt.alloc(), words)?),
@@ -66,28 +64,17 @@ fn arguments(rt: &HostRuntime) -> Result<Vec<String>, UsageFault> {
     }
 }
 
-// Lists the words as texts, in one allocation.
-fn lent(alloc: Global, words: &[String]) -> Result<Vec<&str>, AllocError>
-    ensures { IfOk result (λ list. texts list.items ≡ map string_bytes words.now) }
-{
-    let mut list = Vec::with_capacity(alloc, words.len())?;
-    for word in words {
-        list.push(word.as_str())?;
-    }
-    Ok(list)
-}
-
 // Runs the command that the words ask for over the files that they name. Labels and groups are hashed by `hashing`.
-fn execute<'a, O: Opener, W: Output>(
+fn execute<'a, S: AsStr, O: Opener, W: Output>(
     alloc: Global,
-    words: &'a [&'a str],
+    words: &'a [S],
     opener: &O,
     output: &mut W,
     hashing: KeyHashing,
 ) -> Result<(), RunFault<'a>>
     requires { W.failed output.old ≡ false }
     ensures end { IsEndOf (O.answers opener.now) O.Reader.bytes_left O.Reader.failed W.bytes_taken W.last_call
-        (texts words.entry.now) output.old output.new result }
+        (map S.text words.entry.now) output.old output.new result }
     ensures flushed { OnOk result (W.last_call output.new ≡ Flush) }
     ensures write_fault { W.failed output.new ≡ is_write_stop result }
 {
@@ -99,7 +86,6 @@ fn execute<'a, O: Opener, W: Output>(
     run_with_hashing(alloc, &command, &mut inputs, output, hashing)
 }
 
-// Runs the command line, and returns the exit status.
 fn answer(rt: &HostRuntime) -> u8 {
     let alloc = rt.alloc();
     let mut output = Watched::new(rt.stdout());
@@ -111,14 +97,8 @@ fn answer(rt: &HostRuntime) -> u8 {
             return end(&ending_of(alloc, &outcome), &mut output, &mut error);
         }
     };
-    let outcome = match lent(alloc, arguments.as_slice()) {
-        Ok(words) => {
-            let hashing = KeyHashing::drawn(rt);
-            let outcome = execute(alloc, words.as_slice(), rt, &mut output, hashing);
-            return end(&ending_of(alloc, &outcome), &mut output, &mut error);
-        }
-        Err(AllocError) => Err(RunFault::NoMemory),
-    };
+    let hashing = KeyHashing::drawn(rt);
+    let outcome = execute(alloc, arguments.as_slice(), rt, &mut output, hashing);
     end(&ending_of(alloc, &outcome), &mut output, &mut error)
 }
 

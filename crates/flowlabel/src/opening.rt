@@ -1,6 +1,5 @@
 //! Opens the files that a command line names.
-ghost use Rattle.std.specs.Prelude.{◌≡◌, false, IfErr, IfOk, List, Option, ℕ, option_map};
-ghost use Rattle.std.specs.Result.{result_ok};
+ghost use Rattle.std.specs.Prelude.{◌≡◌, false, IfErr, IfOk, IfSome, List, Option, ℕ, option_map};
 ghost use Rattle.flowlabel.specs.Inner.{AreOpened, CannotOpenFirst, CannotOpenNamed, CanOpen, HaveNames, IsOpened};
 ghost use Rattle.flowlabel.specs.Request.{names_of};
 ghost use Rattle.flowlabel.specs.Run.{any_failed, name_of, source_failed};
@@ -11,10 +10,6 @@ use crate::inputs::{Inputs, Source};
 use flow_io::{Buffered, Input, Watched};
 use std::fs::File;
 
-/// The fault that a file can't be opened.
-#[derive(Clone, Copy, Debug)]
-pub struct OpenFault;
-
 /// Opens files by their names.
 pub trait Opener {
     type Reader: Input + Drop;
@@ -22,10 +17,10 @@ pub trait Opener {
     // The possible results for a name: a reader, or none.
     ghost answers: { Self → List ℕ → Option Self.Reader → Type 0 };
 
-    /// Opens the file with this name, and reads nothing of it.
-    fn open(&self, name: &str) -> Result<Self::Reader, OpenFault>
-        ensures answer { answers self.now name.now (result_ok result) }
-        ensures fresh { IfOk result (λ reader. Self.Reader.failed reader ≡ false) };
+    /// Opens the file with this name, and reads nothing of it. Returns `None` if the file can't be opened.
+    fn open(&self, name: &str) -> Option<Self::Reader>
+        ensures answer { answers self.now name.now result }
+        ensures fresh { IfSome result (λ reader. Self.Reader.failed reader ≡ false) };
 }
 
 // Opens the files of the system. No contract says which files these are.
@@ -34,15 +29,12 @@ impl Opener for HostRuntime {
 
     ghost answers = { λ _ _ _. Unit {0} };
 
-    fn open(&self, name: &str) -> Result<Buffered<Watched<File>>, OpenFault> {
-        match File::open(self, name) {
-            Ok(file) => Ok(Buffered::new(Watched::new(file))),
-            Err(_) => Err(OpenFault),
-        }
+    fn open(&self, name: &str) -> Option<Buffered<Watched<File>>> {
+        let file = File::open(self, name).ok()?;
+        Some(Buffered::new(Watched::new(file)))
     }
 }
 
-// Opens a file, if its name is given.
 fn open<'a, O: Opener>(
     opener: &O,
     name: Option<&'a str>,
@@ -57,8 +49,8 @@ fn open<'a, O: Opener>(
         return Ok(None);
     };
     match opener.open(name) {
-        Ok(reader) => Ok(Some(Source { name, reader })),
-        Err(OpenFault) => Err(RunFault::CannotOpen(name)),
+        Some(reader) => Ok(Some(Source { name, reader })),
+        None => Err(RunFault::CannotOpen(name)),
     }
 }
 

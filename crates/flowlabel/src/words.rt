@@ -1,12 +1,11 @@
-ghost use Rattle.std.specs.Prelude.{◌≡◌, ◌≢◌, Err, IfErr, IfOk, Ok, option_map, true};
+ghost use Rattle.std.specs.Prelude.{◌≡◌, ◌≢◌, Err, IfErr, IfOk, Ok, map, option_map, true};
 ghost use Rattle.std.specs.Result.{result_map_both};
 ghost use Rattle.flow_filter.specs.Filters.{condition_in};
 ghost use Rattle.flow_filter.specs.Words.{words_of};
 ghost use Rattle.clap.specs.Words.{first_of, found_of, kind_of, rows_of, takes};
-ghost use Rattle.clap.specs.Walk.{texts};
 ghost use Rattle.flowlabel.specs.Definition.{flowlabel_app};
 ghost use Rattle.flowlabel.specs.Request.{IsProper, Text, request_of, source_of};
-ghost use Rattle.flowlabel.specs.Answer.{HaveOneAnswer, IsAnswer, IsFaultOfKind, IsOwnAnswer, LinesHaveAnswers, address_in_rows, answer_of, answer_of_cat, answer_of_label, answer_of_rows, answer_of_shrink, text_in_rows, is_given, sources_in_rows, words_fault_of, condition_in_rows, shrunk_in_rows, words_in_rows, answer_of_uniq, fields_in_rows, NoMemory};
+ghost use Rattle.flowlabel.specs.Answer.{HaveOneAnswer, IsAnswer, IsFaultOfKind, IsOwnAnswer, LinesHaveAnswers, address_in_rows, answer_of, answer_of_cat, answer_of_label, answer_of_rows, answer_of_shrink, text_in_rows, is_given, sources_in_rows, words_fault_of, condition_in_rows, words_in_rows, answer_of_uniq, fields_in_rows, NoMemory};
 
 use crate::command::{Command, LabelFile, Shrunk};
 use crate::definition::definition;
@@ -17,9 +16,9 @@ use flow_filter::{Filter, FilterFaultKind, FilterWords};
 use flow_uniq::{KeyFault, Keys};
 use prefix_keys::{Addr, read_addr};
 use std::alloc::Global;
+use std::convert::AsStr;
 use std::io;
 
-// The usage fault of an error of clap's, with its text.
 fn fault_of_error(alloc: Global, error: &clap::Error) -> UsageFault
     ensures { IsFaultOfKind (kind_of error.now) result }
 {
@@ -39,14 +38,12 @@ fn fault_of_error(alloc: Global, error: &clap::Error) -> UsageFault
     }
 }
 
-// The text of an option or a word, if the line has it.
 fn text_of<'a>(entries: &ArgMatches<'a>, id: &str) -> Option<&'a str>
     ensures { option_map (λ s. s.now) result ≡ first_of id.now (rows_of (found_of entries.now)) }
 {
     entries.get_str(id)
 }
 
-// The address in the word ADDR, if it is well formed.
 fn address_in(entries: &ArgMatches<'_>) -> Option<Addr>
     ensures { option_map (λ a. (a.version, a.value)) result
         ≡ address_in_rows (rows_of (found_of entries.now)) }
@@ -55,7 +52,6 @@ fn address_in(entries: &ArgMatches<'_>) -> Option<Addr>
     read_addr(text.as_bytes())
 }
 
-// The file of labels that the line names, if any. Naming two is a fault.
 fn labels_in<'a>(entries: &ArgMatches<'a>) -> Result<Option<LabelFile<'a>>, UsageFault>
     ensures { result_map_both (option_map source_of) (λ fault. fault) result ≡ sources_in_rows (rows_of (found_of entries.now)) }
 {
@@ -67,7 +63,6 @@ fn labels_in<'a>(entries: &ArgMatches<'a>) -> Result<Option<LabelFile<'a>>, Usag
     }
 }
 
-// The command `label`, or its first usage fault, by the entries that clap found for it.
 fn label_command<'a>(entries: &ArgMatches<'a>) -> Result<Command<'a>, UsageFault>
     ensures ok { IfOk result (λ command. answer_of_label (rows_of (found_of entries.now)) ≡ Ok (request_of command)) }
     ensures err { IfErr result (λ fault. answer_of_label (rows_of (found_of entries.now)) ≡ Err fault) }
@@ -91,7 +86,6 @@ fn is_given(entries: &ArgMatches<'_>, flag: &str) -> bool
     text_of(entries, flag).unwrap_or("") == "true"
 }
 
-// The texts of the filters that the line names.
 fn filter_words_in<'a>(entries: &ArgMatches<'a>) -> FilterWords<'a>
     ensures { words_of result ≡ words_in_rows (rows_of (found_of entries.now)) }
 {
@@ -109,7 +103,6 @@ fn filter_words_in<'a>(entries: &ArgMatches<'a>) -> FilterWords<'a>
     }
 }
 
-// The filter that the line states, or the fault of the first malformed text.
 fn filter_in<'a>(alloc: Global, entries: &ArgMatches<'a>) -> Result<Filter<'a>, UsageFault>
     ensures ok { IfOk result (λ filter. condition_in_rows (rows_of (found_of entries.now)) ≡ Ok (condition_in filter)) }
     ensures err { IfErr result (λ fault. fault ≢ NoMemory → condition_in_rows (rows_of (found_of entries.now)) ≡ Err fault) }
@@ -121,7 +114,6 @@ fn filter_in<'a>(alloc: Global, entries: &ArgMatches<'a>) -> Result<Filter<'a>, 
     }
 }
 
-// The command `rows`, or its first usage fault, by the entries that clap found for it.
 fn rows_command<'a>(alloc: Global, entries: &ArgMatches<'a>) -> Result<Command<'a>, UsageFault>
     ensures ok { IfOk result (λ command. answer_of_rows (rows_of (found_of entries.now)) ≡ Ok (request_of command)) }
     ensures err { IfErr result (λ fault. fault ≢ NoMemory → answer_of_rows (rows_of (found_of entries.now)) ≡ Err fault) }
@@ -141,7 +133,6 @@ fn rows_command<'a>(alloc: Global, entries: &ArgMatches<'a>) -> Result<Command<'
     })
 }
 
-// The key fields that the line names, or the fault of their text.
 fn keys_in(alloc: Global, entries: &ArgMatches<'_>) -> Result<Keys, UsageFault>
     ensures ok { IfOk result (λ keys. fields_in_rows (rows_of (found_of entries.now)) ≡ Ok keys) }
     ensures err { IfErr result (λ fault. fault ≢ NoMemory → fields_in_rows (rows_of (found_of entries.now)) ≡ Err fault) }
@@ -153,7 +144,6 @@ fn keys_in(alloc: Global, entries: &ArgMatches<'_>) -> Result<Keys, UsageFault>
     }
 }
 
-// The command `uniq`, or its first usage fault, by the entries that clap found for it.
 fn uniq_command<'a>(alloc: Global, entries: &ArgMatches<'a>) -> Result<Command<'a>, UsageFault>
     ensures ok { IfOk result (λ command. answer_of_uniq (rows_of (found_of entries.now)) ≡ Ok (request_of command)) }
     ensures err { IfErr result (λ fault. fault ≢ NoMemory → answer_of_uniq (rows_of (found_of entries.now)) ≡ Err fault) }
@@ -177,7 +167,6 @@ fn uniq_command<'a>(alloc: Global, entries: &ArgMatches<'a>) -> Result<Command<'
     })
 }
 
-// The command `cat`, or its first usage fault, by the entries that clap found for it.
 fn cat_command<'a>(entries: &ArgMatches<'a>) -> Result<Command<'a>, UsageFault>
     ensures ok { IfOk result (λ command. answer_of_cat (rows_of (found_of entries.now)) ≡ Ok (request_of command)) }
     ensures err { IfErr result (λ fault. answer_of_cat (rows_of (found_of entries.now)) ≡ Err fault) }
@@ -186,32 +175,22 @@ fn cat_command<'a>(entries: &ArgMatches<'a>) -> Result<Command<'a>, UsageFault>
     Ok(Command::Cat { labels })
 }
 
-// Returns what `shrink` is to print, or its usage fault: a list has no compact form.
-fn shrunk_in(entries: &ArgMatches<'_>) -> Result<Shrunk, UsageFault>
-    ensures { result ≡ shrunk_in_rows (rows_of (found_of entries.now)) }
-{
-    match (
-        is_given(entries, "certificate"),
-        is_given(entries, "compact"),
-    ) {
-        (false, false) => Ok(Shrunk::List),
-        (true, false) => Ok(Shrunk::Certificate),
-        (true, true) => Ok(Shrunk::Compact),
-        (false, true) => Err(UsageFault::CompactAlone),
-    }
-}
-
-// The command `shrink`, or its first usage fault, by the entries that clap found for it.
 fn shrink_command<'a>(entries: &ArgMatches<'a>) -> Result<Command<'a>, UsageFault>
     ensures ok { IfOk result (λ command. answer_of_shrink (rows_of (found_of entries.now)) ≡ Ok (request_of command)) }
     ensures err { IfErr result (λ fault. answer_of_shrink (rows_of (found_of entries.now)) ≡ Err fault) }
 {
-    let printed = shrunk_in(entries)?;
     let map = needed_text(entries, "pmap");
+    let certificate = is_given(entries, "certificate");
+    let printed = match (certificate, is_given(entries, "compact")) {
+        (false, false) => Shrunk::List,
+        (true, false) => Shrunk::Certificate,
+        (true, true) => Shrunk::Compact,
+        // A list has no compact form.
+        (false, true) => return Err(UsageFault::CompactAlone),
+    };
     Ok(Command::Shrink { map, printed })
 }
 
-// The command of a subcommand, or its first usage fault, by its name and the entries that clap found for it.
 fn command_of<'a>(
     alloc: Global,
     name: &str,
@@ -275,10 +254,10 @@ pub fn lines_have_one_answer()
 /// `Refused` if clap refuses the line, `Help` if the line asks for help or the version. If clap takes the line, the
 /// first of these that applies to the command: `MapTwice`, `MapMissing`, `BadAddress`, `Filter` for the first malformed
 /// filter, `Key`, `LabelNeedsMap`, `CompactAlone`. `NoMemory` instead of any other result if an allocation fails.
-pub fn parse<'a>(alloc: Global, words: &'a [&'a str]) -> Result<Command<'a>, UsageFault>
-    ensures answer { IsAnswer (texts words.entry.now) result }
+pub fn parse<'a, S: AsStr>(alloc: Global, words: &'a [S]) -> Result<Command<'a>, UsageFault>
+    ensures answer { IsAnswer (map S.text words.entry.now) result }
     ensures proper { IfOk result (λ command. IsProper (request_of command)) }
-    ensures taken { takes flowlabel_app (texts words.entry.now) ≡ true → IsOwnAnswer result }
+    ensures taken { takes flowlabel_app (map S.text words.entry.now) ≡ true → IsOwnAnswer result }
 {
     let command = definition(alloc)?;
     match command.try_get_matches_from(words) {

@@ -5,7 +5,7 @@ ghost use Rattle.pmap_text.specs.PrefixList.{list_of};
 ghost use Rattle.pmap_cert.specs.Certificate.{certificate_of};
 ghost use Rattle.flowlabel.specs.BytesFault.{is_check_want};
 ghost use Rattle.flowlabel.specs.Inner.{ArePresent, ComesOf, IsFaultOfAnswer};
-ghost use Rattle.flowlabel.specs.Output.{Checks, minimal_text};
+ghost use Rattle.flowlabel.specs.Output.{Checks};
 ghost use Rattle.flowlabel.specs.Request.{check, needs_of};
 ghost use Rattle.flowlabel.specs.Run.{AreNeeded};
 ghost use Rattle.flowlabel.specs.declared.bytes_fault.BytesFault.TheVariants.{Check};
@@ -18,16 +18,8 @@ use cert_check::{CheckFault, check};
 use flow_io::Input;
 use pmap_cert::Certificate;
 use pmap_text::{MapText, PrefixList};
-use std::alloc::{AllocError, Global};
+use std::alloc::Global;
 
-// The line with the number of a shortest list's entries.
-fn minimal_line(alloc: Global, count: u64) -> Result<Vec<u8>, AllocError>
-    ensures { IfOk result (λ out. out.items ≡ minimal_text count) }
-{
-    Ok(format!(in alloc; "minimal {count}\n")?.into_bytes())
-}
-
-// Returns the line of `check`, if the certificate shows that the list is a shortest one for the map.
 fn checked(
     alloc: Global,
     map: &MapText,
@@ -39,7 +31,7 @@ fn checked(
         → Checks (map_of map.now) (list_of list.now) (certificate_of certificate.now) (Err (Check fault))) }
 {
     let count = check(alloc, map, list, certificate)?;
-    Ok(minimal_line(alloc, count)?)
+    Ok(format!(in alloc; "minimal {count}\n")?.into_bytes())
 }
 
 /// Checks the loaded files, and returns the line of `check`. A fault names the certificate's file.

@@ -1,6 +1,4 @@
 //! The output of `info`.
-ghost use Rattle.std.specs.Prelude.{◌≡◌};
-
 use crate::run::report::Report;
 use flow_rows::Counts;
 use ipfix_read::Message;

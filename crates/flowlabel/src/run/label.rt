@@ -1,17 +1,16 @@
 //! The output of `label`.
-ghost use Rattle.std.specs.Prelude.{◌≡◌, [], IfOk, option_map, unwrap_or};
+ghost use Rattle.std.specs.Prelude.{◌≡◌, ◌++◌, ◌∷◌, [], IfOk, option_map, unwrap_or};
 ghost use Rattle.label_lookup.specs.Labelling.{labelling};
 ghost use Rattle.flowlabel.specs.Inner.{labelling_of_either};
-ghost use Rattle.flowlabel.specs.Output.{label_text, line_of};
+ghost use Rattle.flowlabel.specs.Output.{label_text};
 
 use crate::run::loaded::LoadedLabels;
 use label_lookup::{Labeller, ListScan, Scan};
 use prefix_keys::{Addr, convert};
 use std::alloc::{AllocError, Global};
 
-// The line of a label. Without a label it is the line feed alone.
 fn line(alloc: Global, label: Option<&[u8]>) -> Result<Vec<u8>, AllocError>
-    ensures { IfOk result (λ out. out.items ≡ line_of (unwrap_or (option_map (λ t. t.now) label.entry) [])) }
+    ensures { IfOk result (λ out. out.items ≡ unwrap_or (option_map (λ t. t.now) label.entry) [] ++ 10 ∷ []) }
 {
     let mut out = Vec::new(alloc);
     if let Some(label) = label {
@@ -21,7 +20,6 @@ fn line(alloc: Global, label: Option<&[u8]>) -> Result<Vec<u8>, AllocError>
     Ok(out)
 }
 
-// The line of the label of an address.
 fn line_by<L: Labeller>(alloc: Global, labels: &L, addr: Addr) -> Result<Vec<u8>, AllocError>
     ensures { IfOk result (λ out. out.items
         ≡ label_text (addr.version, addr.value) (labelling (L.version_of labels.now) (L.label labels.now))) }

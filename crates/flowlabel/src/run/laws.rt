@@ -38,23 +38,20 @@ pub fn has_output()
     no_fault_is_acceptance();
 }
 
-/// A request that takes labels from a map or a list has the same outputs under a map text and under each list text
-/// whose list labels every address as the map does. So reports are the same bytes under both.
+/// A request that takes labels from either has the same outputs under a map text and under each equivalent list text.
 pub fn same_under_equivalents()
     ensures { SameUnderEquivalents }
 {}
 
-/// If `check` prints a number for a map text, a list text and a certificate, whoever made them, it is the number of the
-/// list's entries, the list labels every address as the map does, and no list that does so has fewer entries.
+/// A number that `check` prints is that of the entries of an equivalent and least list, whoever made the files.
 pub fn check_is_enough()
     ensures { CheckIsEnough }
 {
     acceptance_is_enough();
 }
 
-/// `check` accepts what is minimal: over a map text, the printed list of the map's minimal pair and its printed
-/// certificate, compacted or not, it prints the number of the list's entries, if the list is within the limits of a
-/// text.
+/// `check` accepts the printed list of a map's minimal pair and its printed certificate, compacted or not, if the list is
+/// within the limits of a text.
 pub fn check_accepts_minimal()
     ensures { CheckAcceptsMinimal }
 {
@@ -63,9 +60,7 @@ pub fn check_accepts_minimal()
     compact_keeps_acceptance();
 }
 
-/// A certificate that `recert` prints is as good as the one that it read, whoever made that one: it has no more node
-/// lines, `recert` prints it unchanged, and if `check` prints a number over a map text, a list text and the certificate
-/// that was read, it prints the same number over the printed one.
+/// A certificate that `recert` prints is as good as the one that it read, whoever made that one.
 pub fn recert_is_as_good()
     ensures { RecertIsAsGood }
 {
@@ -76,8 +71,7 @@ pub fn recert_is_as_good()
     compact_keeps_acceptance();
 }
 
-/// The list of a map text's minimal pair labels every address as the map does, and no list that does so has fewer
-/// entries. It is well formed, and the certificate is accepted for the map and the list, compacted or not.
+/// The list of a map text's minimal pair is shortest, and the certificate is accepted for it, compacted or not.
 pub fn minimal_pair_is_shortest()
     ensures { MinimalIsShortest }
 {
@@ -99,10 +93,8 @@ pub fn output_keeps_headline()
     same_under_equivalents();
 }
 
-/// For each map text, `shrink` prints a list that labels every address as the map does, and no list that does so has
-/// fewer entries. The certificate that it prints, compacted or not, is accepted for the map and the list. If the list
-/// is within the limits of a text, the printed text is read again as the same list, and `check` over the map text, that
-/// list and the certificate, compacted or not, prints the number of its entries.
+/// For each map text, `shrink` prints a shortest list, or its certificate. If the list is within the limits of a text,
+/// its text is read again as the same list, and `check` accepts it with the certificate, compacted or not.
 pub fn shrunk_list_is_least()
     ensures { ShrunkIsLeast }
 {

@@ -24,12 +24,10 @@ impl Loaded {
     pub fn labels(&self) -> Option<LoadedLabels<'_>>
         ensures { option_map labelling_of_either result ≡ labelling_loaded self.now }
     {
-        if let Some(map) = &self.map {
-            return Some(LoadedLabels::Map(map));
-        }
-        match &self.list {
-            Some(list) => Some(LoadedLabels::List(list)),
-            None => None,
+        match (&self.map, &self.list) {
+            (Some(map), _) => Some(LoadedLabels::Map(map)),
+            (None, Some(list)) => Some(LoadedLabels::List(list)),
+            (None, None) => None,
         }
     }
 }

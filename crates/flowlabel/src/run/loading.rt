@@ -15,7 +15,6 @@ use pmap_cert::{Certificate, read_cert_with_hashing};
 use pmap_text::{KeyHashing, MapText, PrefixList, read_list_with_hashing, read_map_with_hashing};
 use std::alloc::Global;
 
-// A value that the text of a file is decoded to.
 trait Decode {
     // The turn of the file among those that a run reads.
     ghost turn: { Turn };
@@ -23,7 +22,6 @@ trait Decode {
     // The text is read as this value.
     ghost reads: { List ℕ → Self → Type 0 };
 
-    // Returns the value that the text is read as, or its first fault. Labels are hashed by `hashing`.
     fn decode(alloc: Global, text: &[u8], hashing: KeyHashing) -> Result<Self, BytesFault>
         ensures ok { IfOk result (reads text.now) }
         ensures turn { IfErr result (λ fault. turn_of fault ≡ turn) }
@@ -93,7 +91,6 @@ pub fn text_of_file<'a, R: Input>(
     }
 }
 
-// Reads and decodes the file of an input, if the input is there.
 fn load_one<'a, R: Input, T: Decode>(
     alloc: Global,
     source: &mut Option<Source<'a, R>>,

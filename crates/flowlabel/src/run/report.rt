@@ -1,9 +1,9 @@
 //! Reports on an IPFIX File, with labels or without.
-ghost use Rattle.std.specs.Prelude.{◌≡◌, ◌≤◌, ◌<◌, ◌++◌, ◌∷◌, [], ℕ, List, OnOk, Option, Ok, Some, false, true, IfErr, IfOk, is_some, length, option_map};
+ghost use Rattle.std.specs.Prelude.{◌≡◌, ◌<◌, ◌++◌, ◌∷◌, [], ℕ, List, OnOk, Option, Ok, Some, false, true, IfErr, IfOk, is_some, length, option_map};
 ghost use Rattle.ipfix_read.specs.Message.{MessageView};
 ghost use Rattle.ipfix_read.specs.Messages.{is_read_fault};
-ghost use Rattle.label_lookup.specs.Labelling.{Labelling, labelling_by, labelling_lent, labelling_of_stretches};
-ghost use Rattle.flowlabel.specs.Inner.{IsFaultOfAnswer, labelling_of_either, HasTaken, IsFaultOfMessages, IsFaultOfReading, IsFirstAnswer};
+ghost use Rattle.label_lookup.specs.Labelling.{Labelling, labelling_lent, labelling_of_stretches};
+ghost use Rattle.flowlabel.specs.Inner.{IsFaultOfAnswer, labelling_of_either, HasTaken, IsFaultOfMessages, IsFirstAnswer};
 ghost use Rattle.flowlabel.specs.Output.{ReportsOf};
 ghost use Rattle.flowlabel.specs.Run.{HasText, IsStop, any_failed, is_read_stop, FlowsTurn};
 
@@ -60,7 +60,6 @@ pub trait Report {
             → IfOk result (λ out. out.items ≡ text self.now (labelling_lent L.version_of L.label labels.entry) messages) };
 }
 
-// Reads the rest of a File into one buffer, message by message, and lets the report take each message.
 fn take_messages<R: Input, P: Report, L: Labeller>(
     alloc: Global,
     reader: &mut R,
@@ -86,18 +85,6 @@ fn take_messages<R: Input, P: Report, L: Labeller>(
     Ok(())
 }
 
-// The fault of the file with this name, whose messages can't be read.
-fn fault_of_messages(file: &str, fault: ReadFault) -> RunFault<'_>
-    requires { IsFirstAnswer fault }
-    ensures { IsFaultOfReading file.entry fault result }
-{
-    match fault.kind {
-        ReadFaultKind::ReadFault => RunFault::CannotRead(file),
-        _ => RunFault::in_file(file, BytesFault::Flows(fault)),
-    }
-}
-
-// Returns the report on a File, with the labels of the labeller, if there is one.
 fn report_of_file<'a, R: Input, P: Report, L: Labeller>(
     alloc: Global,
     source: &mut Source<'a, R>,
@@ -113,11 +100,13 @@ fn report_of_file<'a, R: Input, P: Report, L: Labeller>(
     let mut taken = report.begin(alloc, labels)?;
     match take_messages(alloc, &mut source.reader, report, labels, &mut taken) {
         Ok(()) => Ok(report.finish(alloc, taken, labels)?),
-        Err(fault) => Err(fault_of_messages(source.name, fault)),
+        Err(fault) => match fault.kind {
+            ReadFaultKind::ReadFault => Err(RunFault::CannotRead(source.name)),
+            _ => Err(RunFault::in_file(source.name, BytesFault::Flows(fault))),
+        },
     }
 }
 
-// Returns an index of the labels of a map or a list, if there is one.
 fn index_of<'a>(
     alloc: Global,
     labels: Option<LoadedLabels<'a>>,

@@ -3,7 +3,7 @@ ghost use Rattle.std.specs.Prelude.{◌≡◌, ◌++◌, List, OnOk, is_some, ma
 ghost use Rattle.flow_rows.specs.Elements.{RowView, row_view};
 ghost use Rattle.pmap_print.specs.Table.{IsTable, has_columns};
 ghost use Rattle.pmap_print.specs.Reports.{column_count, label_texts};
-ghost use Rattle.label_lookup.specs.Labelling.{labelling_by, labelling_lent};
+ghost use Rattle.label_lookup.specs.Labelling.{labelling_lent};
 ghost use Rattle.flowlabel.specs.Output.{labelled_row_lines, row_labels};
 
 use crate::run::report::Report;
@@ -73,7 +73,6 @@ impl<'a> Report for RowsReport<'a> {
     }
 }
 
-// Adds the lines of rows, with their labels if there is a labeller.
 fn add_each<L: Labeller>(
     table: &mut Table,
     rows: &[Row],
@@ -92,23 +91,13 @@ fn add_each<L: Labeller>(
     Ok(())
 }
 
-// The labels of a row's addresses, if there is a labeller.
 fn labels_under<'l, L: Labeller>(labels: Option<&'l L>, row: &Row) -> Option<RowLabels<'l>>
     ensures { option_map label_texts result
         ≡ option_map (λ l. row_labels l (row_view row.now)) (labelling_lent L.version_of L.label labels.entry) }
 {
-    match labels {
-        Some(labels) => Some(labels_of_row(labels, row)),
-        None => None,
-    }
-}
-
-// The labels of a row's addresses.
-fn labels_of_row<'l, L: Labeller>(labels: &'l L, row: &Row) -> RowLabels<'l>
-    ensures { label_texts result ≡ row_labels (labelling_by L.version_of L.label labels.now) (row_view row.now) }
-{
-    RowLabels {
+    let labels = labels?;
+    Some(RowLabels {
         src: label_row(labels, row.src),
         dst: label_row(labels, row.dst),
-    }
+    })
 }

@@ -7,11 +7,11 @@ use Rattle.flowlabel.proofs.RequestLemmas.{answer_is_proper}
 use Rattle.flowlabel.proofs.words.parse.Goals as goal
 
 pub returns-in-Ok-clause-answer : goal.returns-in-Ok-clause-answer
-returns-in-Ok-clause-answer c =
+returns-in-Ok-clause-answer g c =
     let app_is = c.in_ok-command.ensures.app.0 in
     let fails = c.in-Ok.ensures.kinds (ap is_simple_and_free app_is ∙ flowlabel_is_free) in
     let matches = c.in-Ok.ensures.matches (ap is_simple app_is ∙ flowlabel_is_simple) in
-    let words = map (λ s. s.now) c.args.words.now in
+    let words = map g.S.AsStr.text c.args.words.now in
     let none = sym (ap (λ (a : App). fault_of a words) app_is) ∙ fails in
     let found = matches.1 ∙ ap (λ (a : App). subcommand_of a words) app_is in
     let name = sym c.subcommand.ensures.name ∙ ap (option_map (λ p. p.0.now)) c.unwrap.ensures in
@@ -20,23 +20,23 @@ returns-in-Ok-clause-answer c =
     answers words _ _ none (sym found ∙ sub) (unless_memory _ c.command_of.result c.command_of.ensures.ok c.command_of.ensures.err)
 
 pub returns-in-Ok-clause-taken : goal.returns-in-Ok-clause-taken
-returns-in-Ok-clause-taken c =
+returns-in-Ok-clause-taken g c =
     let found : Text × List Row = (c.unwrap.result.0.now, rows_of (found_of c.unwrap.result.1.now)) in
     λ taken. own (answer_of found) _ (answer_own found) (unless_memory _ c.command_of.result c.command_of.ensures.ok c.command_of.ensures.err)
 
 pub returns-in-Err-clause-answer : goal.returns-in-Err-clause-answer
-returns-in-Err-clause-answer c =
+returns-in-Err-clause-answer g c =
     let app_is = c.in_ok-command.ensures.app.0 in
     let fails = c.in-Err.ensures.kinds (ap is_simple_and_free app_is ∙ flowlabel_is_free) in
-    let words = map (λ s. s.now) c.args.words.now in
+    let words = map g.S.AsStr.text c.args.words.now in
     let of = subst (λ (a : App). HasKind (fault_of a words) c.in-Err.error) app_is fails in
     fault_at words _ _ of c.fault_of_error.ensures
 
 pub returns-in-Err-clause-taken : goal.returns-in-Err-clause-taken
-returns-in-Err-clause-taken c =
+returns-in-Err-clause-taken g c =
     let app_is = c.in_ok-command.ensures.app.0 in
-    let words = map (λ s. s.now) c.args.words.now in
+    let words = map g.S.AsStr.text c.args.words.now in
     λ taken. own_of_memory _ _ (c.in-Err.ensures.passes (ap (λ (a : App). takes a words) app_is ∙ taken)) c.fault_of_error.ensures
 
 pub returns-in-Ok-clause-proper : goal.returns-in-Ok-clause-proper
-returns-in-Ok-clause-proper c = answer_is_proper c.command_of.result
+returns-in-Ok-clause-proper g c = answer_is_proper c.command_of.result

@@ -1,4 +1,4 @@
-use Rattle.std.proofs.Common.{ℕ, Option, Some}
+use Rattle.std.proofs.Common.{ℕ, Option, Some, refl}
 use Rattle.std.proofs.lemmas.Result.{IfOk-weaker}
 use Rattle.pmap_text.specs.MapModel.{Label, map_label}
 use Rattle.pmap_text.specs.MapText.{map_of}
@@ -13,6 +13,10 @@ returns c =
     let alike = c.labelling_has_one_runs_text.ensures.alike in
     let label : ℕ → Option Label = λ a. Some (map_label (map_of map) a) in
     IfOk-weaker c.print_runs.result _ _
-    (λ out is. alike map.version label _ out.items (same_at_addresses map.version label)
-    (alike map.version (text_held map.labels c.in_ok-stretches.stretches) label out.items c.in_ok-stretches.ensures.labels (rw version at is)))
+    (λ out is. (
+      out.items,
+      alike map.version label _ out.items (same_at_addresses map.version label)
+          (alike map.version (text_held map.labels c.in_ok-stretches.stretches) label out.items c.in_ok-stretches.ensures.labels (rw version at is)),
+      refl,
+    ))
     c.print_runs.ensures

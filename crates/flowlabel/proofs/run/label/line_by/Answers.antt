@@ -1,5 +1,5 @@
 -- A converted address is one of the labels' version, so its label is that of the labelling.
-use Rattle.std.proofs.Common.{◌≡◌, ◌∙◌, ◌<◌, ◌^◌, ℕ, [], Option, Some, ap, subst, sym}
+use Rattle.std.proofs.Common.{◌≡◌, ◌∙◌, ◌<◌, ◌^◌, ◌++◌, ◌∷◌, ℕ, [], Option, Some, ap, subst, sym}
 use Rattle.std.specs.Prelude.{option_and_then, option_map, unwrap_or}
 use Rattle.std.proofs.lemmas.Result.{IfOk-weaker}
 use Rattle.prefix_keys.specs.Conversion.{converted}
@@ -10,7 +10,6 @@ use Rattle.prefix_keys.specs.declared.version.Version.{Version}
 use Rattle.pmap_text.specs.MapModel.{Label}
 use Rattle.label_lookup.specs.Labelling.{at_addresses, label_by, labelling}
 use Rattle.label_lookup.proofs.Labellings.{same_at_addresses}
-use Rattle.flowlabel.specs.Output.{line_of}
 use Rattle.flowlabel.proofs.run.label.line_by.Goals as goal
 
 at_place : (v : Version) (f : ℕ → Option Label) (address : AddressOf) (place : Addr) → Some (place.version, place.value) ≡ converted v address
@@ -24,6 +23,6 @@ returns-in-Some g c =
     let address : AddressOf = (c.args.addr.version, c.args.addr.value) in
     let is = ap (option_map (λ (a : Addr). (a.version, a.value))) (sym c.in-Some.is) ∙ c.convert.ensures.value ∙ ap (λ (v : Version). converted v address) c.version.ensures in
     IfOk-weaker c.line.result _ _
-    (λ out printed. printed ∙ ap (λ (l : Option Label). line_of (unwrap_or l []))
+    (λ out printed. printed ∙ ap (λ (l : Option Label). unwrap_or l [] ++ 10 ∷ [])
     (c.label_of.ensures ∙ at_place _ (g.L.Labeller.label c.args.labels.now) address c.in-Some.place is (c.in-Some.ensures.version ∙ c.version.ensures)))
     c.line.ensures
