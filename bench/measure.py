@@ -56,7 +56,7 @@ class Yardstick:
     def __init__(self, program, plain):
         self.programs = [program, plain] if os.path.exists(plain) else [program]
         self.folder = os.path.dirname(plain)
-        self.heads = ["plain Rust", "MB", "times that", "MB by that"][:4 * len(self.programs) - 4]
+        self.heads = ["plain Rust", "MB", "ratio of seconds", "ratio of MB"][:4 * len(self.programs) - 4]
 
     def output(self, words):
         """Returns the file with the output of the program. If plain Rust writes other bytes, the bench ends."""
