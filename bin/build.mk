@@ -11,8 +11,20 @@ log := out/build.log
 proved = @echo 'proved: $@' >>$(log); \
 	echo "bin/flowlabel: crate $$(grep -c '^proved: ' $(log)) of $(words $(crates)) is proved: $@" >&3
 
+# rt locks the folder of a crate and those of all crates below, so it would prove the crates above prefix_keys one by one.
+# So each library is proved in a room, which has links to the sources and to the libraries that are built. An
+# interrupted build leaves what it proved in the room. The locks keep other rules and calls of rt out meanwhile.
+room = out/rooms/$@
+leave = rm -rf crates/$@/out && mv $(room)/crates/$@/out crates/$@ && rm -rf $(room) \
+	&& rmdir --ignore-fail-on-non-empty out/rooms
+
 $(filter-out flowlabel,$(crates)):
-	@cd crates/$@ && exec rt lib --jobs $(JOBS) </dev/null
+	@flock crates/$@ flock crates sh -ec "if [ -d $(room)/crates/$@/out ]; then $(leave); fi; \
+		mkdir -p $(room) crates/$@/out; \
+		cp -rln --parents crates.txt crates/*/src crates/*/specs crates/*/proofs crates/$@/out $(room); \
+		find crates -path 'crates/*/out/rlib' -prune -exec cp -rln --parents -t $(room) {} +"
+	@cd $(room)/crates/$@ && exec rt lib --jobs $(JOBS) </dev/null
+	@flock crates/$@ flock crates sh -ec '$(leave)'
 	$(proved)
 
 # Under rt run the program is proved, is linked and runs once, and --help needs no file.
