@@ -59,7 +59,7 @@ module _ (format most count : ℕ) where
     line-lacks line h =
         subst (Lacks 10) (sym (text-words line)) (Lacks-line 10 (line_words line) refl (words-lack 10 (omega arith) line h))
 
-    line-said : (line : DueLine) → Fits line → due_words format most count (words_of (line_text line)) ≡ Some line
+    pub line-said : (line : DueLine) → Fits line → due_words format most count (words_of (line_text line)) ≡ Some line
     line-said (LeafLine number) h =
         let all = words-lack 32 (omega arith) (LeafLine number) h in
         ap (due_words format most count) (words-line (codes "l") (decimal number ∷ []) all.0 all.1)

@@ -50,7 +50,7 @@ Said = ℕ × (Version × ℕ)
 abbrev IsSaid : Said → List (List ℕ) → Type 0
 IsSaid x words = (words ≡ format_words x.0 x.1.0 x.1.1) × (x.1.1 < 65537) × IsNumbered x.0
 
-format_header_of-found : (words : List (List ℕ)) (x : Said) → format_header_of words ≡ Some x → IsSaid x words
+pub format_header_of-found : (words : List (List ℕ)) (x : Said) → format_header_of words ≡ Some x → IsSaid x words
 format_header_of-found [] x e = absurd (none-some x e)
 format_header_of-found (a ∷ []) x e = absurd (none-some x e)
 format_header_of-found (a ∷ b ∷ []) x e = absurd (none-some x e)

@@ -67,26 +67,26 @@ nodes-lack table (InnerNode claim lower upper) (suc room) ok form =
     )
 
 -- the format, the version and the number of labels of a header
-abbrev Said : Type 0
+abbrev pub Said : Type 0
 Said = ℕ × (Version × ℕ)
 
-abbrev certificate_at : ℕ → Version → List Label → Tree → CertificateModel
+abbrev pub certificate_at : ℕ → Version → List Label → Tree → CertificateModel
 certificate_at format version table root = record { format = format; version = version; table = table; root = root }
 
-abbrev due : ℕ → Version → List Label → Place → Result (DueLine × Place) CertFault
+abbrev pub due : ℕ → Version → List Label → Place → Result (DueLine × Place) CertFault
 due format version table = line_due_at format (width_of version) (length table)
 
-abbrev root_then : ℕ → Version → List Label → Result (Tree × Place) CertFault → Result CertificateModel CertFault
+abbrev pub root_then : ℕ → Version → List Label → Result (Tree × Place) CertFault → Result CertificateModel CertFault
 root_then format version table r = r >>= (λ root. ended_by (certificate_at format version table root.0) root.1)
 
-abbrev labels_then : ℕ → Version → Result (List Label × Place) CertFault → Result CertificateModel CertFault
+abbrev pub labels_then : ℕ → Version → Result (List Label × Place) CertFault → Result CertificateModel CertFault
 labels_then format version r =
     r >>= (λ labels. root_then format version labels.0 (nodes_at (due format version labels.0) labels.0 (width_of version) 0 labels.1))
 
-abbrev header_then : Result (Said × Place) CertFault → Result CertificateModel CertFault
+abbrev pub header_then : Result (Said × Place) CertFault → Result CertificateModel CertFault
 header_then r = r >>= (λ header. labels_then header.0.0 header.0.1.0 (labels_at header.0.1.1 [] header.1))
 
-reading-steps : (text : List ℕ) → format_reading text ≡ header_then (format_header_at (start_of text))
+pub reading-steps : (text : List ℕ) → format_reading text ≡ header_then (format_header_at (start_of text))
 unfolding format_reading
 reading-steps text = λ i. header_then (format_header_at (start_of text))
 
@@ -104,11 +104,12 @@ of-format : (c : CertificateModel) → IsNumbered c.format → (c.format ≡ 1 �
 of-format c (inl first) plain = inl (first, plain first)
 of-format c (inr second) plain = inr second
 
--- a text that is read is the text of its certificate, which is well formed
-pub format-found : (text : List ℕ) (c : CertificateModel) → format_reading text ≡ Ok c → HasFormatText c × (text ≡ certificate_text c)
-format-found text c e =
-    let header = bind_ok (format_header_at (start_of text)) (λ (header : Said × Place). labels_then header.0.0 header.0.1.0 (labels_at header.0.1.1 [] header.1)) c
-    (sym (reading-steps text) ∙ e) in
+-- pieces that are read are the lines of their certificate, which is well formed, and an empty piece
+pub pieces-found : (pieces : List (List ℕ)) (c : CertificateModel) → header_then (format_header_at (record { number = 0; pieces = pieces })) ≡ Ok c
+    → HasFormatText c × (pieces ≡ certificate_lines c ++ [] ∷ [])
+pieces-found pieces c e =
+    let start : Place = record { number = 0; pieces = pieces } in
+    let header = bind_ok (format_header_at start) (λ (header : Said × Place). labels_then header.0.0 header.0.1.0 (labels_at header.0.1.1 [] header.1)) c e in
     let format : ℕ = header.0.0.0 in
     let version : Version = header.0.0.1.0 in
     let count : ℕ = header.0.0.1.1 in
@@ -116,17 +117,23 @@ format-found text c e =
     let table : List Label = labels.0.0 in
     let root = bind_ok (nodes_at (due format version table) table (width_of version) 0 labels.0.1) (λ (root : Tree × Place). ended_by (certificate_at format version table root.0) root.1) c labels.2 in
     let end = ended_by-found (certificate_at format version table root.0.0) root.0.1 c root.2 in
-    let head = format_header_at-found (start_of text) header.0 header.1 in
+    let head = format_header_at-found start header.0 header.1 in
     let few : 0 + count ≤ 65536 = omega (arith, head.1) in
     let read = labels_at-found count [] header.0.1 labels.0 labels.1 no_labels few in
     let nodes = nodes_at-found table read.3 format (width_of version) (width_of version) 0 (width_of version) labels.0.1 root.0 (omega arith) root.1 in
     let count_is : count ≡ length table = sym read.4 ∙ ap (λ (t : List Label). length t) (sym read.1) in
     let made : CertificateModel = certificate_at format version table root.0.0 in
-    let pieces : pieces_of text ≡ certificate_lines made ++ [] ∷ [] =
-    joined-pieces (pieces_of text) header.0.1.pieces labels.0.1.pieces root.0.1.pieces format version count table (node_lines table root.0.0)
+    let lines : pieces ≡ certificate_lines made ++ [] ∷ [] =
+    joined-pieces pieces header.0.1.pieces labels.0.1.pieces root.0.1.pieces format version count table (node_lines table root.0.0)
     head.0 (read.2 ∙ ap (λ (t : List Label). t ++ labels.0.1.pieces) (sym read.1)) nodes.0 end.0 count_is in
-    subst (λ (c : CertificateModel). HasFormatText c × (text ≡ certificate_text c)) end.1
-    (record { format = of-format made head.2 nodes.2; table = read.3; root = nodes.1 }, text_from_pieces text (certificate_lines made) pieces)
+    subst (λ (c : CertificateModel). HasFormatText c × (pieces ≡ certificate_lines c ++ [] ∷ [])) end.1
+    (record { format = of-format made head.2 nodes.2; table = read.3; root = nodes.1 }, lines)
+
+-- a text that is read is the text of its certificate, which is well formed
+pub format-found : (text : List ℕ) (c : CertificateModel) → format_reading text ≡ Ok c → HasFormatText c × (text ≡ certificate_text c)
+format-found text c e =
+    let found = pieces-found (pieces_of text) c (sym (reading-steps text) ∙ e) in
+    (found.0, text_from_pieces text (certificate_lines c) found.1)
 
 numbered : (c : CertificateModel) → IsOfFormat c → IsNumbered c.format
 numbered c (inl first) = inl first.0

@@ -39,5 +39,7 @@ pub mod ChainLines
 pub mod FormatHeaders
 pub mod FormatTrees
 pub mod FormatWhole
+pub mod NewLabels
+pub mod FirstFault
 pub mod CompactNodes
 pub mod CompactPlaces

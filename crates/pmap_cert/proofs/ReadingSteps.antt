@@ -73,7 +73,7 @@ module _ (due : Place → Result (DueLine × Place) CertFault) (table : List Lab
       inner room = ap (then_in (suc room) (nodes_at due table room)) is
 
       -- an inner node is read by its halves if there is room below it
-      deeper : (room : ℕ) → 0 < room → nodes_at due table room 0 place ≡ lower_then (room - 1) (nodes_at due table (room - 1) 0 after)
+      pub deeper : (room : ℕ) → 0 < room → nodes_at due table room 0 place ≡ lower_then (room - 1) (nodes_at due table (room - 1) 0 after)
       deeper room h =
           let is : suc (room - 1) ≡ room = omega arith in
           ap (λ (n : ℕ). nodes_at due table n 0 place) (sym is) ∙ inner (room - 1)

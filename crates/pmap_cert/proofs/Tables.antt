@@ -84,6 +84,12 @@ new_label-is table line x e =
     let tests = and_parts (is_label line) (not (has_label table line)) found.0 in
     subst (λ (x : Label). (line ≡ x) × (is_label x ≡ true) × (has_label table x ≡ false)) found.1 (refl, tests.0, not-true _ tests.1)
 
+-- the table with a new label is a label table
+pub table-new : (table : List Label) (line x : Label) → IsLabelTable table → length table < 65536 → new_label table line ≡ Some x → IsLabelTable (table ++ x ∷ [])
+table-new table line x ok few e =
+    let found = new_label-is table line x e in
+    subst IsLabelTable (with_label-new table x found.2) (IsLabelTable-with_label table x ok found.1 few)
+
 -- the labels that are read are those of the next lines, and the table with them is a label table
 pub labels_at-found : (left : ℕ) (table : List Label) (place : Place) (x : List Label × Place) → labels_at left table place ≡ Ok x → IsLabelTable table → length table + left ≤ 65536
     → (new : List Label) × (x.0 ≡ table ++ new) × (place.pieces ≡ new ++ x.1.pieces) × IsLabelTable x.0 × (length new ≡ left)
@@ -94,12 +100,10 @@ labels_at-found (suc left) table place x e ok few =
     let step = bind_ok (line_value BadLabelTable (new_label table) place) (λ (label : Label × Place). labels_at left (table ++ label.0 ∷ []) label.1) x e in
     let label : Label = step.0.0 in
     let read = value_at-found BadLabelTable (new_label table) place step.0 step.1 in
-    let found = new_label-is table read.0 label read.2 in
-    let more : IsLabelTable (table ++ label ∷ []) = subst IsLabelTable (with_label-new table label found.2) (IsLabelTable-with_label table label ok found.1 (omega arith)) in
-    let rest = labels_at-found left (table ++ label ∷ []) step.0.1 x step.2 more (omega (arith, length-append table (label ∷ []))) in (
+    let rest = labels_at-found left (table ++ label ∷ []) step.0.1 x step.2 (table-new table read.0 label ok (omega arith) read.2) (omega (arith, length-append table (label ∷ []))) in (
       label ∷ rest.0,
       rest.1 ∙ append_assoc table (label ∷ []) rest.0,
-      read.1 ∙ (λ i. found.0 i ∷ rest.2 i),
+      read.1 ∙ (λ i. (new_label-is table read.0 label read.2).0 i ∷ rest.2 i),
       rest.3,
       omega (arith, rest.4),
     )

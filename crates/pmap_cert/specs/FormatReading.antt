@@ -157,7 +157,8 @@ due_words format most count (word ∷ words) =
     else (if bytes_eq word (codes "n") then inner_by count words else None))
 due_words format most count [] = None
 
--- reads the line of the next node; if there is none, the text has ended, or its next line is malformed
+-- reads the line of the next node; if there is no next line because the text has ended, the fault is `NodesMissing`,
+-- otherwise `BadNode`
 abbrev pub line_due_at : ℕ → ℕ → ℕ → Place → Result (DueLine × Place) CertFault
 line_due_at format most count place =
     line_value (if is_ended place.pieces then NodesMissing else BadNode) (λ line. due_words format most count (words_of line)) place

@@ -137,7 +137,7 @@ AreWhole (LeafLine number ∷ lines) = AreWhole lines
 AreWhole (InnerLine cost numbers ∷ lines) = (2 ≤ length (nodes_of lines)) × AreWhole lines
 AreWhole (ChainLine cost bits side numbers ∷ lines) = (1 ≤ length (nodes_of lines)) × AreWhole lines
 
--- the first of the nodes, or a placeholder if there is none
+-- the first of the nodes, or a placeholder if there are no nodes
 abbrev pub first_node : List Node → Node
 first_node [] = Leaf 0
 first_node (node ∷ nodes) = node
