@@ -1,16 +1,20 @@
-use Rattle.std.specs.Prelude.{◌≡◌, ◌⊎◌, ℕ, Bool, true, List, [], Option, Result, Ok, Err}
+use Rattle.std.specs.Prelude.{◌≡◌, ◌⊎◌, ◌++◌, ℕ, Bool, true, List, [], Option, Some, None, Result, Ok, Err, find, option_map}
 use Rattle.std.specs.Io.KnownBytes.{Appends}
+use Rattle.std.specs.Str.{bytes_eq}
 use Rattle.flow_io.specs.declared.last_call.LastCall.{LastCall}
 use Rattle.flow_io.specs.declared.last_call.LastCall.TheVariants.{Flush}
-use Rattle.flow_io.specs.Devices.{IsUntouched, StopsWriting}
+use Rattle.flow_io.specs.Devices.{InputState, IsUntouched, StopsWriting}
 use Rattle.flowlabel.specs.Answer.{Answers, IsFaultAt}
 use Rattle.flowlabel.specs.Faults.{fault_text}
+use Rattle.flowlabel.specs.Headline.{IsHeadline}
 use Rattle.flowlabel.specs.Inner.{AreOpened, CannotOpenFirst, HaveNames}
+use Rattle.flowlabel.specs.Output.{FileTexts, IsOutput}
 use Rattle.flowlabel.specs.Request.{Request, Text, files_of}
 use Rattle.flowlabel.specs.Run.{IsFaultOfRun, PrintsThen, RunFault, Usage, CannotOpen, Inputs}
 use Rattle.flowlabel.specs.declared.ending.Stream.{Stream}
 use Rattle.flowlabel.specs.declared.ending.Told.{Told}
 use Rattle.flowlabel.specs.declared.ending.Told.TheVariants.{Lent, Made}
+use Rattle.flowlabel.specs.declared.in_memory.MemoryFile.{MemoryFile}
 use Rattle.flowlabel.specs.declared.ending.Stream.TheVariants as stream
 use Rattle.flowlabel.specs.declared.usage.UsageFault.TheVariants as usage
 
@@ -68,3 +72,28 @@ module _ {R W : Type 0} (answers : Text → Option R → Type 0) (left : R → O
   IsEndOf words old new (Err fault) =
       (request : Request) × (inputs : Inputs R) × (inputs' : Inputs R) × IsAsked answers words request inputs
       × IsFaultOfRun left failed taken last inputs inputs' old new request fault
+
+-- The program over files in memory.
+
+-- the text of an input: the bytes of the first file with its name; an input without a name has no bytes
+abbrev pub text_in : List MemoryFile → Option Text → Option (List ℕ)
+text_in files None = Some []
+text_in files (Some name) = option_map (λ file. file.bytes.now) (find (λ file. bytes_eq file.name.now name) files)
+
+-- opening a name gives a reader of the text of the file, or none if no file has the name
+abbrev pub OpensTo : List MemoryFile → Text → Option InputState → Type 0
+OpensTo files name opened = text_in files (Some name) ≡ option_map (λ input. input.left) opened
+
+-- the words ask for a request, and its output over the texts of its files was appended to the old bytes
+pub record IsOutputInMemory (files : List MemoryFile) (words : List Text) (old new : List ℕ) : Type 0 where
+  pub request : Request
+  pub asked : Answers words (Ok request)
+  pub texts : FileTexts
+  pub map : text_in files (files_of request).map ≡ Some texts.map
+  pub list : text_in files (files_of request).list ≡ Some texts.list
+  pub certificate : text_in files (files_of request).certificate ≡ Some texts.certificate
+  pub flows : text_in files (files_of request).flows ≡ Some texts.flows
+  pub out : List ℕ
+  pub output : IsOutput request texts (Ok out)
+  pub headline : IsHeadline request texts out
+  pub written : new ≡ old ++ out

@@ -27,6 +27,7 @@ mod definition;
 mod ending;
 mod fault;
 mod file_fault;
+mod in_memory;
 mod inputs;
 mod opening;
 mod run;
