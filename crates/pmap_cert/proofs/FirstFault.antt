@@ -1,12 +1,12 @@
 -- The fault of a text is its first: what follows the faulty line is irrelevant, and the lines before it begin a
 -- certificate.
-use Rattle.std.proofs.Common.{◌≡◌, ◌≢◌, ℕ, zero, suc, ◌+◌, ◌-◌, ◌^◌, ◌<◌, ◌≤◌, ◌==◌, ◌∙◌, ◌⊎◌, inl, inr, Bool, true, false, List, [], ◌∷◌, ◌++◌, Option, Some, None, Result, Ok, Err, cond, length, map, refl, sym, ap, arith}
+use Rattle.std.proofs.Common.{◌≡◌, ◌≢◌, ℕ, zero, suc, ◌+◌, ◌-◌, ◌^◌, ◌<◌, ◌≤◌, ◌==◌, ◌∙◌, inl, inr, Bool, true, false, List, [], ◌∷◌, ◌++◌, Option, Some, None, Result, Ok, Err, cond, length, map, refl, sym, ap, arith}
 use Rattle.std.specs.Fmt.{decimal}
-use Rattle.std.specs.List.{All, onto_first, slice_split}
+use Rattle.std.specs.List.{All, onto_first}
 use Rattle.std.proofs.lemmas.Bool.{cases_Bool, cases_lt, cond-false}
 use Rattle.std.proofs.lemmas.List.{append_assoc, append_cancel_right, length-append}
 use Rattle.std.proofs.lemmas.List.Concat.{flat_map-append}
-use Rattle.std.proofs.lemmas.List.Elements.{All-append, All-cons, All-nil}
+use Rattle.std.proofs.lemmas.List.Elements.{All-append, All-cons, All-nil, All-push}
 use Rattle.std.proofs.lemmas.List.Splits.{slice_split-cons_no, slice_split-cons_yes}
 use Rattle.prefix_keys.specs.Block.{width_of}
 use Rattle.prefix_keys.specs.declared.version.Version.{Version}
@@ -43,34 +43,28 @@ record Ending (read : Reading) (number : ℕ) (front : List (List ℕ)) : Type 0
   bytes : All IsByte (text_of_lines more)
   is : read (at number ((front ++ more) ++ [] ∷ [])) ≡ Ok found
 
--- the fault is in the lines `front`, whatever follows them, or after them
-record IsInside (read : Reading) (number : ℕ) (front : List (List ℕ)) (fault : CertFault) : Type 0 where
+-- A fault in the lines `front` doesn't depend on what follows them. If it comes later and the text can be completed, so
+-- can these lines.
+record IsFirst (can : Type 0) (read : Reading) (number : ℕ) (front : List (List ℕ)) (fault : CertFault) : Type 0 where
   least : number ≤ fault.line
-  most : fault.line ≤ number + length front
-  again : (rest : List (List ℕ)) → 0 < length rest → read (at number (front ++ rest)) ≡ Err fault
+  again : fault.line ≤ number + length front → (rest : List (List ℕ)) → 0 < length rest → read (at number (front ++ rest)) ≡ Err fault
+  ends : number + length front < fault.line → can → Ending read number front
 
-record IsBeyond (can : Type 0) (read : Reading) (number : ℕ) (front : List (List ℕ)) (fault : CertFault) : Type 0 where
-  after : number + length front < fault.line
-  ends : can → Ending read number front
-
-abbrev Outcome : Type 0 → Reading → ℕ → List (List ℕ) → CertFault → Type 0
-Outcome can read number front fault = IsInside read number front fault ⊎ IsBeyond can read number front fault
-
-abbrev IsFirst : Type 0 → Reading → Type 0
-IsFirst can read =
+abbrev AreFirst : Type 0 → Reading → Type 0
+AreFirst can read =
     (number : ℕ) (front rest : List (List ℕ)) (fault : CertFault) → 0 < length rest → read (at number (front ++ rest)) ≡ Err fault
-    → Outcome can read number front fault
+    → IsFirst can read number front fault
 
 -- each fault of the reading is the first, and if it can end, it does so after some lines
 record IsSound (can : Type 0) (read : Reading) : Type 0 where
-  first : IsFirst can read
+  first : AreFirst can read
   ends : can → (number : ℕ) → Ending read number []
 
-fault-is : {A : Type 0} (a b : CertFault) → ◌≡◌ {A = Result A CertFault} (Err a) (Err b) → a ≡ b
+fault-is : (a b : CertFault) → ◌≡◌ {A = Result CertificateModel CertFault} (Err a) (Err b) → a ≡ b
 fault-is a b e = cc
 
-line-is : (a b : CertFault) → a ≡ b → a.line ≡ b.line
-line-is a b e = ap (λ (f : CertFault). f.line) e
+line-is : (a b : CertFault) → ◌≡◌ {A = Result CertificateModel CertFault} (Err a) (Err b) → a.line ≡ b.line
+line-is a b e = ap (λ (f : CertFault). f.line) (fault-is a b e)
 
 bind-bind : {A B C E : Type 0} (r : Result A E) (f : A → Result B E) (g : B → Result C E) → ((r >>= f) >>= g) ≡ (r >>= (λ x. f x >>= g))
 bind-bind (Ok x) f g = refl
@@ -80,38 +74,41 @@ bind-bind (Err d) f g = refl
 abbrev fail : CertFaultKind → Reading
 fail kind place = Err (record { kind = kind; line = place.number })
 
-fail-first : (can : Type 0) (kind : CertFaultKind) → IsFirst can (fail kind)
+fail-first : (can : Type 0) (kind : CertFaultKind) → AreFirst can (fail kind)
 fail-first can kind number front rest fault some e =
-    let line : number ≡ fault.line = line-is (record { kind = kind; line = number }) fault (fault-is {A = CertificateModel} (record { kind = kind; line = number }) fault e) in
-    inl (record { least = omega arith; most = omega arith; again = λ rest some. e })
+    let line = line-is (record { kind = kind; line = number }) fault e in
+    record { least = omega arith; again = λ le rest some. e; ends = λ less. absurd (omega arith) }
 
 -- The end of a text.
 module _ (can : Type 0) (c : CertificateModel) where
-  ended-fault : (place : Place) (fault : CertFault) → ended_by c place ≡ Err fault → fault_at place NodesLeft ≡ fault
+  abbrev left : Place → CertFault
+  left place = fault_at place NodesLeft
+
+  ended-fault : (place : Place) (fault : CertFault) → ended_by c place ≡ Err fault → ◌≡◌ {A = Result CertificateModel CertFault} (Err (left place)) (Err fault)
   ended-fault place fault e = by (is_ended place.pieces) e
     where
-      by : (b : Bool) → ◌≡◌ {A = Result CertificateModel CertFault} (cond b (Ok c) (Err (fault_at place NodesLeft))) (Err fault) → fault_at place NodesLeft ≡ fault
+      by : (b : Bool) → ◌≡◌ {A = Result CertificateModel CertFault} (cond b (Ok c) (Err (left place))) (Err fault)
+          → ◌≡◌ {A = Result CertificateModel CertFault} (Err (left place)) (Err fault)
       by true e = absurd cc
-      by false e = fault-is {A = CertificateModel} (fault_at place NodesLeft) fault e
+      by false e = e
 
   at_once : (number : ℕ) → Ending (ended_by c) number []
   at_once number = record { more = []; found = c; bytes = All-nil IsByte; is = refl }
 
-  ended-first : IsFirst can (ended_by c)
+  ended-first : AreFirst can (ended_by c)
   ended-first number [] rest fault some e =
-      let line = line-is (fault_at (at number rest) NodesLeft) fault (ended-fault (at number rest) fault e) in
-      inr (record { after = omega (arith, line); ends = λ k. at_once number })
-  ended-first number (line ∷ front) rest fault some e =
-      let place : List (List ℕ) → Place = λ rest. at number (line ∷ (front ++ rest)) in
-      let same : fault_at (place rest) NodesLeft ≡ fault = ended-fault (place rest) fault e in
-      let is = line-is (fault_at (place rest) NodesLeft) fault same in
-      inl (record {
-        least = omega (arith, is);
-        most = omega (arith, is);
-        again = λ rest some.
-            cond-false (is_ended (line ∷ (front ++ rest))) (Ok c) (Err (fault_at (place rest) NodesLeft))
-            (is_ended-two (line ∷ (front ++ rest)) (omega (arith, length-append front rest))) ∙ ap Err same;
-      })
+      let line = line-is (left (at number rest)) fault (ended-fault (at number rest) fault e) in
+      record { least = omega arith; again = λ le. absurd (omega arith); ends = λ less k. at_once number }
+  ended-first number (next ∷ front) rest fault some e =
+      let same = ended-fault (at number (next ∷ (front ++ rest))) fault e in
+      let line = line-is (left (at number (next ∷ (front ++ rest)))) fault same in
+      record {
+        least = omega arith;
+        again = λ le rest some.
+            cond-false (is_ended (next ∷ (front ++ rest))) (Ok c) (Err (left (at number (next ∷ (front ++ rest)))))
+            (is_ended-two (next ∷ (front ++ rest)) (omega (arith, length-append front rest))) ∙ same;
+        ends = λ less. absurd (omega arith);
+      }
 
   ended-sound : IsSound can (ended_by c)
   ended-sound = record { first = ended-first; ends = λ k number. at_once number }
@@ -130,78 +127,66 @@ module _ {A : Type 0} (value_of : List ℕ → Option A) (missing : List (List �
         → read (at number (line ∷ rest)) ≡ next (at (number + 1) rest)
 
     abbrev Next : A → Type 0
-    Next x = (next : Reading) × IsFirst can next × GoesOn x next
+    Next x = (next : Reading) × AreFirst can next × GoesOn x next
 
-    refused : (number : ℕ) (line : List ℕ) (rest : List (List ℕ)) → value_of line ≡ None → 0 < length rest
-        → read (at number (line ∷ rest)) ≡ Err (record { kind = kind; line = number + 1 })
-    refused number line rest h some =
-        let fault : CertFault = fault_at (at number (line ∷ rest)) (missing (line ∷ rest)) in
-        failed (at number (line ∷ rest)) (record { kind = kind; line = number + 1 })
-        (ap (value_by fault value_of) (line_from-cons number line rest some) ∙ ap (or_fault fault (at (number + 1) rest)) h
-        ∙ (λ i. Err (record { kind = same line rest some i; line = number + 1 })))
+    line-step : (x : A) (next : Reading) → GoesOn x next → (line : List ℕ) → value_of line ≡ Some x → (number : ℕ) (front rest : List (List ℕ)) → 0 < length rest
+        → read (at number (line ∷ (front ++ rest))) ≡ next (at (number + 1) (front ++ rest))
+    line-step x next goes line h number front rest some =
+        goes number line (front ++ rest)
+        (value_at-again (missing (line ∷ (front ++ rest))) value_of number line (front ++ rest) x h (omega (arith, length-append front rest)))
 
-    line-outcome : (number : ℕ) (line : List ℕ) (front rest : List (List ℕ)) (fault : CertFault) → ((x : A) → value_of line ≡ Some x → Next x)
+    line-first : (number : ℕ) (line : List ℕ) (front rest : List (List ℕ)) (fault : CertFault) → ((x : A) → value_of line ≡ Some x → Next x)
         → 0 < length rest → read (at number (line ∷ (front ++ rest))) ≡ Err fault
-        → (number < fault.line) × Outcome can read number (line ∷ front) fault
-    line-outcome number line front rest fault next some e = by (value_of line) refl
+        → (number < fault.line) × IsFirst can read number (line ∷ front) fault
+    line-first number line front rest fault next some e = by (value_of line) refl
       where
-        many : (rest : List (List ℕ)) → 0 < length rest → 0 < length (front ++ rest)
-        many rest some = omega (arith, length-append front rest)
-
-        by : (o : Option A) → value_of line ≡ o → (number < fault.line) × Outcome can read number (line ∷ front) fault
+        by : (o : Option A) → value_of line ≡ o → (number < fault.line) × IsFirst can read number (line ∷ front) fault
         by None h =
-            let here : CertFault = record { kind = kind; line = number + 1 } in
-            let is : here ≡ fault = fault-is {A = CertificateModel} here fault (sym (refused number line (front ++ rest) h (many rest some)) ∙ e) in
-            let line_is : number + 1 ≡ fault.line = line-is here fault is in (
-              omega arith,
-              inl (record {
-                least = omega arith;
-                most = omega arith;
-                again = λ rest some. refused number line (front ++ rest) h (many rest some) ∙ ap Err is;
-              }),
-            )
+            let line_is = line-is here fault same_fault in
+            (omega arith, record { least = omega arith; again = λ le rest some. refused rest some ∙ same_fault; ends = λ less. absurd (omega arith) })
+          where
+            here : CertFault
+            here = record { kind = kind; line = number + 1 }
+
+            refused : (rest : List (List ℕ)) → 0 < length rest → read (at number (line ∷ (front ++ rest))) ≡ Err here
+            refused rest some =
+                let place : Place = at number (line ∷ (front ++ rest)) in
+                let many : 0 < length (front ++ rest) = omega (arith, length-append front rest) in
+                let fault : CertFault = fault_at place (missing place.pieces) in
+                failed place here
+                (ap (value_by fault value_of) (line_from-cons number line (front ++ rest) many)
+                ∙ ap (or_fault fault (at (number + 1) (front ++ rest))) h
+                ∙ (λ i. Err (record { kind = same line (front ++ rest) many i; line = number + 1 })))
+
+            same_fault : ◌≡◌ {A = Result CertificateModel CertFault} (Err here) (Err fault)
+            same_fault = sym (refused rest some) ∙ e
         by (Some x) h =
             let go = next x h in
-            let step = λ (pieces : List (List ℕ)) (some : 0 < length pieces).
-            go.2 number line pieces (value_at-again (missing (line ∷ pieces)) value_of number line pieces x h some) in
-            elim (go.1 (number + 1) front rest fault some (sym (step (front ++ rest) (many rest some)) ∙ e)) [
-              | inl inside ↦ (
-                omega (arith, inside.least),
-                inl (record {
-                  least = omega (arith, inside.least);
-                  most = omega (arith, inside.most);
-                  again = λ rest some. step (front ++ rest) (many rest some) ∙ inside.again rest some;
-                }),
-              )
-              | inr beyond ↦ (
-                omega (arith, beyond.after),
-                inr (record {
-                  after = omega (arith, beyond.after);
-                  ends = λ k.
-                      let end = beyond.ends k in record {
-                        more = end.more;
-                        found = end.found;
-                        bytes = end.bytes;
-                        is = step ((front ++ end.more) ++ [] ∷ []) (omega (arith, length-append (front ++ end.more) ([] ∷ []))) ∙ end.is;
-                      };
-                }),
-              )
-            ]
+            let step = line-step x go.0 go.2 line h number in
+            let later = go.1 (number + 1) front rest fault some (sym (step front rest some) ∙ e) in (
+              omega (arith, later.least),
+              record {
+                least = omega (arith, later.least);
+                again = λ le rest some. step front rest some ∙ later.again (omega arith) rest some;
+                ends = λ less k.
+                    let end = later.ends (omega arith) k in record {
+                      more = end.more;
+                      found = end.found;
+                      bytes = end.bytes;
+                      is = step (front ++ end.more) ([] ∷ []) (omega arith) ∙ end.is;
+                    };
+              },
+            )
 
     -- the reading ends after a line with a value if it does so after the line
     line-ends : (line : List ℕ) (x : A) (next : Reading) → value_of line ≡ Some x → GoesOn x next → All IsByte line
         → ((number : ℕ) → Ending next number []) → (number : ℕ) → Ending read number []
     line-ends line x next h goes bytes ends number =
-        let end = ends (number + 1) in
-        let some : 0 < length (end.more ++ [] ∷ []) = omega (arith, length-append end.more ([] ∷ [])) in record {
+        let end = ends (number + 1) in record {
           more = line ∷ end.more;
           found = end.found;
-          bytes =
-              All-append IsByte (line ++ 10 ∷ []) (text_of_lines end.more)
-              (All-append IsByte line (10 ∷ []) bytes (All-cons IsByte 10 [] (omega arith) (All-nil IsByte))) end.bytes;
-          is =
-              goes number line (end.more ++ [] ∷ []) (value_at-again (missing (line ∷ (end.more ++ [] ∷ []))) value_of number line (end.more ++ [] ∷ []) x h some)
-              ∙ end.is;
+          bytes = All-append IsByte (line ++ 10 ∷ []) (text_of_lines end.more) (All-push IsByte line 10 bytes (omega arith)) end.bytes;
+          is = line-step x next goes line h number end.more ([] ∷ []) (omega arith) ∙ end.is;
         }
 
     line-sound : ((line : List ℕ) (x : A) → value_of line ≡ Some x → Next x) → (can → (number : ℕ) → Ending read number []) → IsSound can read
@@ -211,13 +196,14 @@ module _ {A : Type 0} (value_of : List ℕ → Option A) (missing : List (List �
         later number [] fault some e = absurd (omega arith)
         later number (line ∷ []) fault some e =
             let here : CertFault = fault_at (at number (line ∷ [])) (missing (line ∷ [])) in
-            let is = line-is here fault (fault-is {A = CertificateModel} here fault (sym (failed (at number (line ∷ [])) here refl) ∙ e)) in
-            omega (arith, is)
-        later number (line ∷ piece ∷ pieces) fault some e = (line-outcome number line [] (piece ∷ pieces) fault (next line) (omega arith) e).0
+            let is = line-is here fault (sym (failed (at number (line ∷ [])) here refl) ∙ e) in omega arith
+        later number (line ∷ piece ∷ pieces) fault some e = (line-first number line [] (piece ∷ pieces) fault (next line) (omega arith) e).0
 
-        first : IsFirst can read
-        first number [] rest fault some e = inr (record { after = omega (arith, later number rest fault some e); ends = λ k. ends k number })
-        first number (line ∷ front) rest fault some e = (line-outcome number line front rest fault (next line) some e).1
+        first : AreFirst can read
+        first number [] rest fault some e =
+            let less = later number rest fault some e in
+            record { least = omega arith; again = λ le. absurd (omega arith); ends = λ less k. ends k number }
+        first number (line ∷ front) rest fault some e = (line-first number line front rest fault (next line) some e).1
 
 leaf-bytes : All IsByte (leaf_line 0)
 leaf-bytes = All-cons IsByte 108 (32 ∷ decimal 0) (omega arith) (All-cons IsByte 32 (decimal 0) (omega arith) (decimal-bytes 0 (omega arith)))
@@ -300,9 +286,7 @@ module _ (can : Type 0) (format most : ℕ) (table : List Label) (few : length t
           → nodes_reading room next (at number (line ∷ rest)) ≡ next (LeafNode (text_at table label)) (at (number + 1) rest)
       leaf label number line rest e = ap (then_read next) (node-leaf due_in table (at number (line ∷ rest)) (at (number + 1) rest) room label e)
 
-      goes : (line : List ℕ) (x : DueLine) → value_of line ≡ Some x → (after : Reading) × IsFirst can after
-          × ((number : ℕ) (line : List ℕ) (rest : List (List ℕ)) → due_in (at number (line ∷ rest)) ≡ Ok (x, at (number + 1) rest)
-          → nodes_reading room next (at number (line ∷ rest)) ≡ after (at (number + 1) rest))
+      goes : (line : List ℕ) (x : DueLine) → value_of line ≡ Some x → Next value_of missing BadNode same can (nodes_reading room next) failed x
       goes line (LeafLine label) h = (next (LeafNode (text_at table label)), (sound (LeafNode (text_at table label))).first, leaf label)
       goes line (InnerLine cost numbers) h = elim (cases_lt 0 room) [
         | inl more ↦ (
@@ -379,14 +363,14 @@ whole place = header_then (format_header_at place)
 abbrev HasLabels : List (List ℕ) → Type 0
 HasLabels lines = (format : ℕ) (version : Version) (more : List (List ℕ)) → lines ≢ format_header format version 0 ∷ more
 
-whole-outcome : (lines rest : List (List ℕ)) (fault : CertFault) → 0 < length lines → 0 < length rest → whole (at 0 (lines ++ rest)) ≡ Err fault
-    → Outcome (HasLabels lines) whole 0 lines fault
-whole-outcome [] rest fault long some e = absurd (omega arith)
-whole-outcome (line ∷ front) rest fault long some e =
-    (line-outcome (λ line. format_header_of (words_of line)) (λ pieces. BadHeader) BadHeader (λ line rest some. refl) (HasLabels (line ∷ front)) whole
+whole-first : (lines rest : List (List ℕ)) (fault : CertFault) → 0 < length lines → 0 < length rest → whole (at 0 (lines ++ rest)) ≡ Err fault
+    → IsFirst (HasLabels lines) whole 0 lines fault
+whole-first [] rest fault long some e = absurd (omega arith)
+whole-first (line ∷ front) rest fault long some e =
+    (line-first (λ line. format_header_of (words_of line)) (λ pieces. BadHeader) BadHeader (λ line rest some. refl) (HasLabels (line ∷ front)) whole
     (λ place fault e. ap header_then e) 0 line front rest fault next some e).1
   where
-    next : (x : Said) → format_header_of (words_of line) ≡ Some x → (after : Reading) × IsFirst (HasLabels (line ∷ front)) after
+    next : (x : Said) → format_header_of (words_of line) ≡ Some x → (after : Reading) × AreFirst (HasLabels (line ∷ front)) after
         × ((number : ℕ) (line : List ℕ) (rest : List (List ℕ)) → format_header_at (at number (line ∷ rest)) ≡ Ok (x, at (number + 1) rest)
         → whole (at number (line ∷ rest)) ≡ after (at (number + 1) rest))
     next x h = (
@@ -428,31 +412,25 @@ module _ (front : List ℕ) where
   reading : (rest : List ℕ) → format_reading (front ++ 10 ∷ rest) ≡ whole (at 0 (pieces_of front ++ pieces_of rest))
   reading rest = reading-steps (front ++ 10 ∷ rest) ∙ ap (λ (pieces : List (List ℕ)). whole (at 0 pieces)) (pieces-feed front rest)
 
-  outcome : (rest : List ℕ) (fault : CertFault) → format_reading (front ++ 10 ∷ rest) ≡ Err fault → Outcome (HasLabels (pieces_of front)) whole 0 (pieces_of front) fault
-  outcome rest fault e = whole-outcome (pieces_of front) (pieces_of rest) fault (split_some is_feed front) (split_some is_feed rest) (sym (reading rest) ∙ e)
+  outcome : (rest : List ℕ) (fault : CertFault) → format_reading (front ++ 10 ∷ rest) ≡ Err fault → IsFirst (HasLabels (pieces_of front)) whole 0 (pieces_of front) fault
+  outcome rest fault e = whole-first (pieces_of front) (pieces_of rest) fault (split_some is_feed front) (split_some is_feed rest) (sym (reading rest) ∙ e)
 
   pub fault-after : (rest other : List ℕ) (fault : CertFault) → format_reading (front ++ 10 ∷ rest) ≡ Err fault → fault.line ≤ length (pieces_of front)
       → format_reading (front ++ 10 ∷ other) ≡ Err fault
-  fault-after rest other fault e near = elim (outcome rest fault e) [
-    | inl inside ↦ reading other ∙ inside.again (pieces_of other) (split_some is_feed other)
-    | inr beyond ↦ absurd (omega (arith, beyond.after))
-  ]
+  fault-after rest other fault e near = reading other ∙ (outcome rest fault e).again (omega arith) (pieces_of other) (split_some is_feed other)
 
   pub fault-before : (rest : List ℕ) (fault : CertFault) → format_reading (front ++ 10 ∷ rest) ≡ Err fault → length (pieces_of front) < fault.line
       → HasLabels (pieces_of front)
       → (other : List ℕ) × (c : CertificateModel) × All IsByte other × HasFormatText c × (front ++ 10 ∷ other ≡ certificate_text c)
-  fault-before rest fault e far labels = elim (outcome rest fault e) [
-    | inl inside ↦ absurd (omega (arith, inside.most))
-    | inr beyond ↦
-        let end = beyond.ends labels in
-        let found = pieces-found ((pieces_of front ++ end.more) ++ [] ∷ []) end.found end.is in
-        let lines = append_cancel_right (pieces_of front ++ end.more) (certificate_lines end.found) ([] ∷ []) found.1 in (
-          text_of_lines end.more,
-          end.found,
-          end.bytes,
-          found.0,
-          sym (append_assoc front (10 ∷ []) (text_of_lines end.more))
-              ∙ ap (λ (t : List ℕ). t ++ text_of_lines end.more) (text_from_pieces (front ++ 10 ∷ []) (pieces_of front) (pieces-feed front []))
-              ∙ sym (flat_map-append (λ line. line ++ 10 ∷ []) (pieces_of front) end.more) ∙ ap text_of_lines lines,
-        )
-  ]
+  fault-before rest fault e far labels =
+      let end = (outcome rest fault e).ends (omega arith) labels in
+      let found = pieces-found ((pieces_of front ++ end.more) ++ [] ∷ []) end.found end.is in
+      let lines = append_cancel_right (pieces_of front ++ end.more) (certificate_lines end.found) ([] ∷ []) found.1 in (
+        text_of_lines end.more,
+        end.found,
+        end.bytes,
+        found.0,
+        sym (append_assoc front (10 ∷ []) (text_of_lines end.more))
+            ∙ ap (λ (t : List ℕ). t ++ text_of_lines end.more) (text_from_pieces (front ++ 10 ∷ []) (pieces_of front) (pieces-feed front []))
+            ∙ sym (flat_map-append (λ line. line ++ 10 ∷ []) (pieces_of front) end.more) ∙ ap text_of_lines lines,
+      )

@@ -126,7 +126,7 @@ pieces-found pieces c e =
     let lines : pieces ≡ certificate_lines made ++ [] ∷ [] =
     joined-pieces pieces header.0.1.pieces labels.0.1.pieces root.0.1.pieces format version count table (node_lines table root.0.0)
     head.0 (read.2 ∙ ap (λ (t : List Label). t ++ labels.0.1.pieces) (sym read.1)) nodes.0 end.0 count_is in
-    subst (λ (c : CertificateModel). HasFormatText c × (pieces ≡ certificate_lines c ++ [] ∷ [])) end.1
+    subst (λ (c : CertificateModel). HasFormatText c × (pieces ≡ certificate_lines c ++ [] ∷ [])) {x = made} end.1
     (record { format = of-format made head.2 nodes.2; table = read.3; root = nodes.1 }, lines)
 
 -- a text that is read is the text of its certificate, which is well formed

@@ -87,10 +87,10 @@ pub fn text_of_format_is_read_or_has_a_fault()
         format_reading text ≡ Err fault → HasFormatText c → ¬ (text ≡ certificate_text c) }
 {}
 
-/// The fault of a text is its first. Here a text is `front`, a line feed and a rest, so the pieces of `front` are its
-/// first lines. If the faulty line is one of them, the text has this fault whatever the rest is. If it follows them, they
-/// begin the text of some certificate, and the rest can be bytes. One case is left out: no certificate has a header with
-/// the count 0, since each leaf needs a label.
+/// The fault of a text is its first. Here the text is `front`, a line feed and a rest, so the pieces of `front` are its
+/// first lines. If the faulty line is one of them, the text has this fault whatever the rest is. If the faulty line
+/// comes later, there are bytes that complete the text of a certificate in place of the rest. One case is left out: a
+/// header with the count 0. No certificate has one, since each leaf has a label of the table.
 pub fn fault_of_format_is_the_first()
     ensures after { (front rest other : List ℕ) (fault : CertFault) →
         format_reading (front ++ 10 ∷ rest) ≡ Err fault → fault.line ≤ length (pieces_of front) →
