@@ -1,11 +1,11 @@
 -- The lines at which nodes without chains begin and end.
-use Rattle.std.proofs.Common.{◌≡◌, ℕ, zero, suc, ◌+◌, ◌<◌, ◌≤◌, ◌∙◌, ◌==◌, Bool, true, false, List, [], ◌∷◌, ◌++◌, All, Option, Some, None, cond, drop, get_or, length, option_map, refl, sym, ap, subst, arith, slice_index}
+use Rattle.std.proofs.Common.{◌≡◌, ℕ, zero, suc, ◌+◌, ◌<◌, ◌≤◌, ◌∙◌, false, List, [], ◌∷◌, ◌++◌, All, Option, Some, None, drop, get_or, length, option_map, refl, sym, ap, subst, arith, slice_index}
 use Rattle.pmap_text.specs.declared.label.LabelId.{LabelId}
-use Rattle.std.proofs.lemmas.Option.{none-some, same_Some}
+use Rattle.std.proofs.lemmas.Option.{none-some}
 use Rattle.std.proofs.lemmas.List.Elements.{All-append, All-cons, All-head, All-nil, All-tail}
 use Rattle.pmap_cert.specs.FormatReading.{ChainLine, DueLine, InnerLine, LeafLine}
 use Rattle.pmap_cert.specs.Node.{AreWhole, Inner, HasChainForm, IsPlainNode, Chain, Leaf, Node, first_node, from_next_line, joined, label_of, lines_of, nodes_of, node_of}
-use Rattle.pmap_cert.specs.Inner.{AreEndsFrom, ArePlain, EndsAt, HasHalves, HasPlace, IsRunEnd, IsShallow, IsStep, bits_down, end_down, is_leaf, node_from}
+use Rattle.pmap_cert.specs.Inner.{AreEndsFrom, ArePlain, EndsAt, HasHalves, HasPlace, IsShallow, bits_down, end_down, is_leaf, node_from}
 use Rattle.pmap_cert.proofs.ChainWords.{left-room}
 use Rattle.pmap_cert.proofs.CompactNodes.{form-down}
 use Rattle.pmap_cert.proofs.NodeWalk.{IsLineOf, line-here, nodes-next, root-of, tree-whole, whole-next, within}
@@ -72,12 +72,6 @@ node-is lines k node rest is = ap first_node is
 inside-is : (lines : List DueLine) (k : ℕ) (node : Node) (rest : List Node) → nodes_of (drop k lines) ≡ node ∷ rest → k < length lines
 inside-is lines k node rest is = let e = ap length is in within lines k (omega arith)
 
--- a node without chains that has a label is a leaf with it
-pub leaf-only : (node : Node) (number : ℕ) → label_of node ≡ Some number → node ≡ Leaf number
-leaf-only (Leaf n) number e = ap Leaf (same_Some n number e)
-leaf-only (Inner cost set lower upper) number e = absurd (none-some number e)
-leaf-only (Chain cost set bits side end) number e = absurd (none-some number e)
-
 none-of-leaf : (number : ℕ) → ◌≡◌ {A = Option ℕ} (Some number) None → ⊥
 none-of-leaf number e = none-some number (sym e)
 
@@ -127,48 +121,10 @@ ends-leaf lines all k number place leaf = by (here lines k place.plain place.wit
     by (inner-here cost set lower upper rest is next) =
         absurd (none-some number (sym (ap label_of (node-is lines k (Inner cost set lower upper) rest is)) ∙ ap label_of leaf))
 
--- an inner node ends at the end of its upper half
-pub ends-halves : (lines : List DueLine) (all : List ℕ) (k lower upper e : ℕ) → HasHalves lines all k lower upper → EndsAt lines upper e → EndsAt lines k e
-ends-halves lines all k lower upper e halves up =
-    let one = halves.up_after in
-    let two = up.after in
-    record { after = omega arith; within = up.within; behind = up.behind ∙ sym halves.rest }
-
--- Steps and ends of a run from a line.
-module _ (lines : List DueLine) (all : List ℕ) (side k : ℕ) where
-  pub end-leaf : (number : ℕ) → node_from lines k ≡ Leaf number → IsRunEnd lines side k
-  end-leaf number is = record { bits = ap (bits_down side) is; end = ap (end_down side) is ∙ sym is }
-
-  module _ (l u : ℕ) (h : HasHalves lines all k l u) where
-    bits-here : (b c : Bool) → is_leaf side (node_from lines l) ≡ b → is_leaf side (node_from lines u) ≡ c
-        → bits_down side (node_from lines k) ≡ cond b (true ∷ bits_down side (node_from lines u)) (cond c (false ∷ bits_down side (node_from lines l)) [])
-    bits-here b c first second =
-        ap (bits_down side) h.node
-        ∙ (λ i. cond (first i) (true ∷ bits_down side (node_from lines u)) (cond (second i) (false ∷ bits_down side (node_from lines l)) []))
-
-    end-here : (b c : Bool) → is_leaf side (node_from lines l) ≡ b → is_leaf side (node_from lines u) ≡ c
-        → end_down side (node_from lines k) ≡ cond b (end_down side (node_from lines u)) (cond c (end_down side (node_from lines l)) (node_from lines k))
-    end-here b c first second =
-        ap (end_down side) h.node
-        ∙ (λ i. cond (first i) (end_down side (node_from lines u)) (cond (second i) (end_down side (node_from lines l)) (sym h.node i)))
-
-    pub step-upper : is_leaf side (node_from lines l) ≡ true → IsStep lines all side k true u
-    step-upper first = record { bits = bits-here true _ first refl; end = end-here true _ first refl; after = h.up_after; place = h.up }
-
-    pub step-lower : is_leaf side (node_from lines l) ≡ false → is_leaf side (node_from lines u) ≡ true → IsStep lines all side k false l
-    step-lower first second =
-        record { bits = bits-here false true first second; end = end-here false true first second; after = h.low_after; place = h.low }
-
-    pub step-none : is_leaf side (node_from lines l) ≡ false → is_leaf side (node_from lines u) ≡ false → IsRunEnd lines side k
-    step-none first second = record { bits = bits-here false false first second; end = end-here false false first second }
-
 -- the label of the line with a number is the label of the node at that line
 pub label-at : (lines : List DueLine) (k : ℕ) (o : Option LabelId) → ArePlain lines → k < length lines
     → option_map (λ id. id.0) o ≡ label_of (node_of (get_or lines k (LeafLine 0))) → label_of (node_from lines k) ≡ option_map (λ id. id.0) o
 label-at lines k o are inside said = sym (said ∙ (line-of lines k are inside).label)
-
-pub leaf-some : (node : Node) (side number : ℕ) → label_of node ≡ Some number → is_leaf side node ≡ (number == side)
-leaf-some node side number label = ap (is_leaf side) (leaf-only node number label)
 
 pub leaf-none : (node : Node) (side : ℕ) → label_of node ≡ None → is_leaf side node ≡ false
 leaf-none (Leaf n) side label = absurd (none-of-leaf n label)

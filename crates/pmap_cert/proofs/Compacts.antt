@@ -69,6 +69,3 @@ pub compact-runs : (c : CertificateModel) → c.format ≡ 1 → IsPlain c.root 
 compact-runs c first plain =
     subst (λ (k : CertificateModel). HasNoRun k.root) (sym (compact-first c first))
     (compacted_in-no_run (line_count c.root) c.root plain (omega arith))
-
-pub compact-twice : (c : CertificateModel) → IsOfFormat c → compact (compact c) ≡ compact c
-compact-twice c of = compact-again (compact c) (compact-format c of)

@@ -3,7 +3,6 @@ use Rattle.std.proofs.Common.{◌≡◌, ℕ, zero, suc, ◌+◌, ◌^◌, ◌<�
 use Rattle.std.specs.Fmt.{decimal}
 use Rattle.std.specs.List.{AllByRecursion, join_with_byte}
 use Rattle.std.proofs.lemmas.Bool.{eq-eqb, ne_eqb}
-use Rattle.std.proofs.lemmas.List.{length-append}
 use Rattle.std.proofs.lemmas.List.Splits.{join_with_byte-slice_split, slice_split_at}
 use Rattle.std.proofs.lemmas.Option.{none-some}
 use Rattle.prefix_keys.proofs.Printed.{Lacks}
@@ -129,7 +128,3 @@ module _ (format most count : ℕ) where
       due-missing ended is reads =
           nowhere (λ line rest begins. none-some (line, rest) (reads.only line rest begins))
           ∙ ap (λ (b : Bool). Err (fault_at place (cond b NodesMissing BadNode))) is
-
-      pub rest-shorter : (line : DueLine) (rest : List ℕ) → Begins line rest → length rest + 1 ≤ length text
-      rest-shorter line rest begins =
-          omega (arith, ap (λ (t : List ℕ). length t) begins.whole, length-append (line_text line) (10 ∷ rest))

@@ -250,10 +250,6 @@ module _ (most : ℕ) (text digits : List ℕ) (space : text ≡ 32 ∷ digits) 
               let same : bits ≡ bs = are ∙ ap (map (λ d. d == 49)) these.1 ∙ bits-back bs in
               λ i. Some (same i, these.2 i)
 
-pub bits-none : (most : ℕ) (text : List ℕ) → after_byte 32 text ≡ None → Reads (BeginsWithBits most text) None
-bits-none most text none =
-    reads_none (BeginsWithBits most text) (λ bits rest begin. not-there 32 text (bit_digits bits ++ rest) none begin.whole)
-
 -- the text of numbers, each after a space
 abbrev words : List ℕ → List ℕ
 words ns = flat_map (λ n. 32 ∷ decimal n) ns
@@ -440,15 +436,6 @@ module _ (format most count : ℕ) (text : List ℕ) where
               absurd (apart 110 99 rest _ letter (h.whole ∙ chain-text cost bits side numbers r) (λ e. omega (arith, e)))
 
     module _ (no_inner : after_byte 110 text ≡ None) where
-      pub line-none : (format ≡ 2 → after_byte 99 text ≡ None) → Reads Line None
-      line-none no_chain = reads_none Line never
-        where
-          never : (line : DueLine) (r : List ℕ) → Line line r → ⊥
-          never (LeafLine n) r h = not-there 108 text _ no_leaf h.whole
-          never (InnerLine cost numbers) r h = not-there 110 text _ no_inner (h.whole ∙ inner-text cost numbers r)
-          never (ChainLine cost bits side numbers) r h =
-              not-there 99 text _ (no_chain h.fits.0) (h.whole ∙ chain-text cost bits side numbers r)
-
       module _ (two : format ≡ 2) (rest : List ℕ) (letter : after_byte 99 text ≡ Some rest)
           (found : Option ((ℕ × (List Bool × (ℕ × List ℕ))) × List ℕ)) (chain : Reads (BeginsWithChain most count rest) found) where
         abbrev as_chain : (ℕ × (List Bool × (ℕ × List ℕ))) × List ℕ → DueLine × List ℕ
