@@ -182,17 +182,3 @@ carried-more b ss i s old new less is so_far added =
   where
     more : take (i + 1) ss ≡ take i ss ++ s ∷ []
     more = take_more ss i s less ∙ ap (λ (d : Statement). take i ss ++ d ∷ []) (sym is)
-
--- a filter of the first i + 1 entries, by that of the first i
-pub say-more : (test : Entry → Bool) (es : List Entry) (i : ℕ) (e : Entry) (old new : List Entry) → i < length es → e ≡ get_or es i e
-    → old ≡ filter test (take i es) → new ≡ cond (test e) (old ++ e ∷ []) old → new ≡ filter test (take (i + 1) es)
-say-more test es i e old new less is so_far added =
-    added ∙ (λ j. cond (test e) (so_far j ++ e ∷ []) (so_far j)) ∙ by (test e)
-    ∙ sym (filter-append test (take i es) (e ∷ [])) ∙ ap (filter test) (sym more)
-  where
-    more : take (i + 1) es ≡ take i es ++ e ∷ []
-    more = take_more es i e less ∙ ap (λ (d : Entry). take i es ++ d ∷ []) (sym is)
-
-    by : (b : Bool) → cond b (filter test (take i es) ++ e ∷ []) (filter test (take i es)) ≡ filter test (take i es) ++ cond b (e ∷ []) []
-    by true = refl
-    by false = sym (append-nil (filter test (take i es)))

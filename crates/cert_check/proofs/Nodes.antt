@@ -1,8 +1,7 @@
 -- The nodes of a certificate at a line, and their first faults by those of the nodes below them.
-use Rattle.std.proofs.Common.{◌≡◌, ◌∙◌, ℕ, zero, suc, ◌+◌, ◌-◌, ◌*◌, ◌^◌, ◌<◌, ◌≤◌, ◌==◌, ◌&&◌, Bool, true, false, cond, not, nat_lt, List, [], ◌∷◌, length, Option, Some, None, Result, Ok, Err, min, option_map, refl, sym, ap, subst, arith, drop}
+use Rattle.std.proofs.Common.{◌≡◌, ◌∙◌, ℕ, zero, suc, ◌+◌, ◌-◌, ◌*◌, ◌<◌, ◌≤◌, ◌==◌, ◌&&◌, Bool, true, false, cond, not, nat_lt, List, [], ◌∷◌, length, Option, Some, None, Result, Ok, Err, option_map, refl, sym, ap, subst, arith, drop}
 use Rattle.std.specs.List.{list_all}
 use Rattle.std.specs.Option.{option_or}
-use Rattle.std.proofs.lemmas.Bool.Decides.{nat_tests}
 use Rattle.std.proofs.lemmas.Option.{none-some, same_Some}
 use Rattle.pmap_text.specs.ListModel.{Prefix}
 use Rattle.pmap_text.specs.MapModel.{Label, MapModel, settled_label}
@@ -17,10 +16,6 @@ use Rattle.pmap_cert.specs.Node.{Chain, HasChainForm, Inner, Leaf, Node, bits_of
 use Rattle.cert_check.specs.Inner.{IsHalf, IsAnswer, answer_of, NodeLine}
 use Rattle.cert_check.specs.Checking.{bits_fault, claim_fault, fault_of_number, is_decided, is_label_of, leaf_fault, node_fault, told, CheckFault, CheckFaultKind, CostTooHigh, LeafNotUniform, ListDiffers, NoMemory, SetTooSmall}
 use Rattle.cert_check.proofs.HalfBlocks.{half-number}
-
--- the number of the next node in a fault
-pub told-next : (k number : ℕ) → told k ≡ number → (next : ℕ) → next ≡ min (number + 1) (2 ^ 64 - 1) → told (k + 1) ≡ next
-told-next k number is next e = grind (arith, nat_tests)
 
 -- the first of two faults is the first if it exists
 pub or-first : {X : Type 0} (a b : Option X) (x : X) → a ≡ Some x → option_or a b ≡ Some x
@@ -86,22 +81,6 @@ count_of labels nodes = line_count (tree_of labels (first_node nodes))
 
 abbrev pub fault_of : List Label → MapModel → List Prefix → List Node → ℕ → ℕ → ℕ → Option CheckFault
 fault_of labels m ps nodes k n q = node_fault m ps (tree_of labels (first_node nodes)) k n q
-
--- the node at a line is a leaf, and `next` is the line after it
-pub record IsLeafAt (labels : List Label) (nodes next : List Node) (id : ℕ) : Type 0 where
-  pub known : id < length labels
-  pub next_is : next ≡ drop 1 nodes
-  pub count : count_of labels nodes ≡ 1
-  pub fault : (m : MapModel) (ps : List Prefix) (k n q : ℕ) → fault_of labels m ps nodes k n q ≡ option_map (fault_of_number k) (leaf_fault m ps n q (text_at labels id))
-
-pub leaf-at : (labels : List Label) (nodes next : List Node) (id room : ℕ) → 0 < length nodes → HasChainForm (length labels) (first_node nodes) room
-    → Some id ≡ label_of (first_node nodes) → next ≡ from_next_line nodes → IsLeafAt labels nodes next id
-leaf-at labels [] next id room some form is next_is = absurd (omega (arith, some))
-leaf-at labels (Inner cost set lower upper ∷ nodes) next id room some form is next_is = absurd (none-some id (sym is))
-leaf-at labels (Chain cost set bits side end ∷ nodes) next id room some form is next_is = absurd (none-some id (sym is))
-leaf-at labels (Leaf number ∷ nodes) next id room some form is next_is =
-    subst (IsLeafAt labels (Leaf number ∷ nodes) next) (sym (same_Some id number is))
-    (record { known = form; next_is = next_is; count = refl; fault = λ m ps k n q. refl })
 
 -- the node at a line is an inner node, and `lower` and `upper` are the lines of its halves
 pub record IsInnerAt (labels : List Label) (nodes lower upper : List Node) (room : ℕ) : Type 0 where

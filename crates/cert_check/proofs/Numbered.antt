@@ -1,7 +1,7 @@
 -- The numbers of one table's labels in another table.
 use Rattle.std.proofs.Common.{◌≡◌, ℕ, zero, suc, ◌+◌, ◌<◌, Bool, true, false, ◌==◌, List, [], ◌∷◌, ◌++◌, Option, Some, None, length, map, option_map, slice_get, take, refl, sym, ap, ◌∙◌, bytes_eq}
 use Rattle.std.proofs.lemmas.Bool.{both_ways, eq-eqb, eqb-true, false_from_ne_true}
-use Rattle.std.proofs.lemmas.List.{length-map, map-append, take_more}
+use Rattle.std.proofs.lemmas.List.{map-append, take_more}
 use Rattle.std.proofs.lemmas.Option.{get_or_from_slice_get, none-some, same_Some, slice_get-get_or, slice_get_within, unwrap_or-slice_get}
 use Rattle.std.specs.Option.{unwrap_or}
 use Rattle.std.proofs.lemmas.Slice.Eq.{bytes_eq-Decides}
@@ -71,8 +71,3 @@ module _ (numbers : List (Option LabelId)) (from to : List Label) (are : AreNumb
   pub same-none : o ≡ None → false ≡ bytes_eq (text_at from own) (text_at to id)
   same-none is = sym (false_from_ne_true (bytes_eq (text_at from own) (text_at to id)) (λ h.
       absurd (none-some id (sym (ap (option_map (λ (i : LabelId). i.0)) is) ∙ number ∙ ap (number_of to) ((bytes_eq-Decides (text_at from own) (text_at to id)).0 h) ∙ own-number))))
-
--- there are as many numbers as labels
-pub numbers-length : (numbers : List (Option LabelId)) (from to : List Label) → AreNumbers numbers from to → length numbers ≡ length from
-numbers-length numbers from to are =
-    sym (length-map numbers (option_map (λ i. i.0))) ∙ ap (λ (xs : List (Option ℕ)). length xs) are.each ∙ length-map from (number_of to)

@@ -1,10 +1,8 @@
 -- Sets of labels by their numbers in rising order.
-use Rattle.std.proofs.Common.{◌≡◌, ◌⊎◌, inl, inr, ℕ, zero, suc, ◌+◌, ◌^◌, ◌<◌, ◌≤◌, Bool, true, false, cond, not, ◌&&◌, ◌||◌, ◌==◌, List, [], ◌∷◌, ◌++◌, Option, Some, None, drop, filter, get_or, length, map, nat_lt, slice_get, take, refl, sym, ap, ap₂, ◌∙◌, subst, arith, bytes_eq}
+use Rattle.std.proofs.Common.{◌≡◌, ◌⊎◌, inl, inr, ℕ, zero, suc, ◌+◌, ◌^◌, ◌<◌, ◌≤◌, Bool, true, false, cond, not, ◌&&◌, ◌||◌, ◌==◌, List, [], ◌∷◌, Option, Some, None, drop, filter, get_or, length, map, nat_lt, slice_get, take, refl, sym, ap, ap₂, ◌∙◌, subst, arith, bytes_eq}
 use Rattle.std.specs.List.{list_all}
 use Rattle.std.proofs.lemmas.Bool.{both_ways, eq-eqb, eqb-true, false_from_ne_true, false≢true}
 use Rattle.std.proofs.lemmas.Bool.{and_from}
-use Rattle.std.proofs.lemmas.List.{append-nil, take_more}
-use Rattle.std.proofs.lemmas.List.Elements.{filter-append}
 use Rattle.std.proofs.lemmas.List.Folds.{list_all-append, list_all-map, list_all_at, list_all_more}
 use Rattle.std.proofs.lemmas.Slice.Eq.{bytes_eq-Decides}
 use Rattle.std.proofs.lemmas.Option.{none-some, same_Some}
@@ -53,20 +51,6 @@ step-kept (r ∷ rest) first n e less =
     let same : r ≡ first = same_Some r first e in
     sym (ap (λ b. b || has_number (numbers rest) n) (ne-eqb r.0 n (λ f. absurd (omega (arith, f, less, ap (λ (i : LabelId). i.0) same)))))
 
-pub step-shorter : (rest : List LabelId) (first : LabelId) → slice_get rest 0 ≡ Some first → length (drop 1 rest) < length rest
-step-shorter [] first e = absurd (none-some first e)
-step-shorter (r ∷ rest) first e = omega arith
-
-pub arrived : (bound : ℕ) (rest : List LabelId) (first id : LabelId) → slice_get rest 0 ≡ Some first → id.0 ≤ first.0 → IsRising bound 0 (numbers rest) → IsRising bound id.0 (numbers rest)
-arrived bound [] first id e le h = absurd (none-some first e)
-arrived bound (r ∷ rest) first id e le h =
-    let same : r ≡ first = same_Some r first e in
-    (omega (arith, le, ap (λ (i : LabelId). i.0) same), h.1, h.2)
-
-pub arrived-end : (bound : ℕ) (rest : List LabelId) (id : LabelId) → slice_get rest 0 ≡ None → IsRising bound id.0 (numbers rest)
-arrived-end bound [] id e = tt
-arrived-end bound (r ∷ rest) id e = absurd (none-some r (sym e))
-
 -- the first number of a list that rises from `id` on is `id` exactly if the list has `id`
 pub first-is : (bound : ℕ) (rest : List LabelId) (first id : LabelId) → slice_get rest 0 ≡ Some first → IsRising bound id.0 (numbers rest) → (first.0 == id.0) ≡ has_number (numbers rest) id.0
 first-is bound [] first id e h = absurd (none-some first e)
@@ -79,19 +63,12 @@ first-is bound (r ∷ rest) first id e h =
     by true b none = refl
     by false b none = sym none
 
-pub first-none : (rest : List LabelId) (id : LabelId) → slice_get rest 0 ≡ None → false ≡ has_number (numbers rest) id.0
-first-none [] id e = refl
-first-none (r ∷ rest) id e = absurd (none-some r (sym e))
-
 -- A walk over two sets at index i of the first: the rest of the other set has all its numbers that are still to come.
 pub record IsWalk (set rest other : List LabelId) (i : ℕ) : Type 0 where
   pub low : ℕ
   pub coming : IsRising (2 ^ 32) low (numbers (drop i set))
   pub rising : IsRising (2 ^ 32) 0 (numbers rest)
   pub kept : (n : ℕ) → low ≤ n → has_number (numbers rest) n ≡ has_number (numbers other) n
-
-pub walk-start : (set other : List LabelId) → IsRising (2 ^ 32) 0 (numbers set) → IsRising (2 ^ 32) 0 (numbers other) → IsWalk set other other 0
-walk-start set other h h' = record { low = 0; coming = h; rising = h'; kept = λ n le. refl }
 
 -- the number at index i is the first of those to come, and the others rise after it
 coming-first : (low : ℕ) (set : List LabelId) (i : ℕ) (d : LabelId) → i < length set → IsRising (2 ^ 32) low (numbers (drop i set))
@@ -198,20 +175,6 @@ goes-on set rest rest' other i d less walk rising kept =
     let e : suc i ≡ i + 1 = omega arith in
     subst (IsWalk set rest' other) e (walk-next set rest rest' other i d less walk rising kept)
 
--- a filter of the first i + 1 elements, by that of the first i
-pub filter-more : (p : LabelId → Bool) (set : List LabelId) (i : ℕ) (d : LabelId) (old new : List LabelId) (w : Bool) → i < length set
-    → w ≡ p (get_or set i d) → old ≡ filter p (take i set) → new ≡ cond w (old ++ get_or set i d ∷ []) old → new ≡ filter p (take (i + 1) set)
-filter-more p set i d old new w less test so_far pushed =
-    pushed ∙ by w (p (get_or set i d)) test ∙ ap (λ (ys : List LabelId). ys ++ filter p (get_or set i d ∷ [])) so_far
-    ∙ sym (filter-append p (take i set) (get_or set i d ∷ []))
-    ∙ sym (ap (filter p) (take_more set i d less))
-  where
-    by : (w b : Bool) → w ≡ b → cond w (old ++ get_or set i d ∷ []) old ≡ old ++ cond b (get_or set i d ∷ []) []
-    by true true e = refl
-    by false false e = sym (append-nil old)
-    by true false e = absurd (false≢true (sym e))
-    by false true e = absurd (false≢true e)
-
 -- a test of the first i + 1 elements, by that of the first i
 pub all-more : (p : LabelId → Bool) (set : List LabelId) (i : ℕ) (d : LabelId) → i < length set → p (get_or set i d) ≡ true
     → list_all p (take i set) ≡ true → list_all p (take (i + 1) set) ≡ true
@@ -238,10 +201,6 @@ set-rising count ids ns few e h =
 -- the common labels of two sets have the common numbers
 pub both-numbers : (lower upper both : List LabelId) → both ≡ filter (λ i. has_number (numbers upper) i.0) lower → numbers both ≡ filter (has_number (numbers upper)) (numbers lower)
 both-numbers lower upper both e = ap numbers e ∙ numbers-filter (has_number (numbers upper)) lower
-
-pub both-rising : (lower upper both : List LabelId) → both ≡ filter (λ i. has_number (numbers upper) i.0) lower → IsRising (2 ^ 32) 0 (numbers lower) → IsRising (2 ^ 32) 0 (numbers both)
-both-rising lower upper both e h =
-    subst (IsRising (2 ^ 32) 0) (sym (both-numbers lower upper both e)) (rising-filter (2 ^ 32) 0 (has_number (numbers upper)) (numbers lower) h)
 
 -- a node claims its cost and the labels with the numbers of its set
 pub claim-numbers : (table : List Label) (node : Node) → claim_of (tree_of table node) ≡ pair_of table (cost_of node) (set_of node)
@@ -312,11 +271,6 @@ pub or-from : (a b : Bool) → (a ≡ false) ⊎ (b ≡ true) → (not a || b) �
 or-from false b h = refl
 or-from true b (inl e) = absurd (false≢true (sym e))
 or-from true b (inr e) = e
-
--- an implication fails if its premise holds and its conclusion fails
-pub or-fails : (a b : Bool) → a ≡ true → b ≡ false → (not a || b) ≡ false
-or-fails true b e f = f
-or-fails false b e f = absurd (false≢true e)
 
 pub all-common : (p t : LabelId → Bool) (ids : List LabelId) → list_all (λ i. not (p i) || t i) ids ≡ list_all t (filter p ids)
 all-common p t [] = refl

@@ -72,13 +72,6 @@ module _ (s : StretchesModel) (every : HasEveryAddress s) where
             subst (HoldsAddress s (a - 1)) same (record { index = omega (arith, at.index); from = omega (arith, less, begins); to = omega (arith, last', begins) }),
           )
 
-  pub held-still : (a i : ℕ) → HoldsAddress s a i → (first_at s i ≡ a → ⊥) → HoldsAddress s (a - 1) i
-  held-still a i at ne = record {
-    index = at.index;
-    from = elim (cases_eq (first_at s i) a) [ inl same ↦ absurd (ne same) | inr other ↦ omega (arith, at.from, other) ];
-    to = omega (arith, at.to);
-  }
-
 module _ (s : Sources) (are : AreSources s) where
   -- a block that begins in a stretch is settled, with the stretch's label, exactly if it ends there
   settled-at : (i j r : ℕ) → i < length s.stretches.firsts → first_at s.stretches i ≤ first_of (width_of s.map.now.version) j r
