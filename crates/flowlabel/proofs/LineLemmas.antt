@@ -29,18 +29,25 @@ not_true false e = refl
 not_short : (x : ℕ) (xs : Text) → (x == 45) ≡ false → short_of (x ∷ xs) ≡ None
 not_short x xs h = rw h refl
 
+abbrev labelled : Text → Text → Answer
+labelled map address = ok_or (address_of address) BadAddress >>= (λ found. Ok (label (FromMap map) found))
+
 module _ (program : Text) where
   label_line : (map address : Text) → is_plain_word map ≡ true → is_plain_word address ≡ true
       → Answers (program ∷ codes "label" ∷ codes "--pmap" ∷ map ∷ address ∷ [])
-      (ok_or (address_of address) BadAddress >>= (λ found. Ok (label (FromMap map) found)))
+      (labelled map address)
   unfolding flowlabel_app clap_on_literals
-  label_line [] [] h k = (refl, refl)
-  label_line (x ∷ xs) [] h k = let e = not_true (x == 45) h in (rw (e, not_short x xs e) refl, rw (e, not_short x xs e) refl)
-  label_line [] (y ∷ ys) h k = let f = not_true (y == 45) k in (rw (f, not_short y ys f) refl, rw (f, not_short y ys f) refl)
+  label_line [] [] h k = (refl {a = []}, refl {a = Some (labelled [] [])})
+  label_line (x ∷ xs) [] h k =
+      let e = not_true (x == 45) h in
+      (rw (e, not_short x xs e) (refl {a = []}), rw (e, not_short x xs e) (refl {a = Some (labelled (x ∷ xs) [])}))
+  label_line [] (y ∷ ys) h k =
+      let f = not_true (y == 45) k in
+      (rw (f, not_short y ys f) (refl {a = []}), rw (f, not_short y ys f) (refl {a = Some (labelled [] (y ∷ ys))}))
   label_line (x ∷ xs) (y ∷ ys) h k =
       let e = not_true (x == 45) h in
       let f = not_true (y == 45) k in
-      (rw (e, not_short x xs e, f, not_short y ys f) refl, rw (e, not_short x xs e, f, not_short y ys f) refl)
+      (rw (e, not_short x xs e, f, not_short y ys f) (refl {a = []}), rw (e, not_short x xs e, f, not_short y ys f) (refl {a = Some (labelled (x ∷ xs) (y ∷ ys))}))
 
   rows_line : (file : Text) → is_plain_word file ≡ true
       → Answers (program ∷ codes "rows" ∷ codes "--columns" ∷ file ∷ [])
@@ -54,8 +61,10 @@ module _ (program : Text) where
   shrink_line : (file : Text) → is_plain_word file ≡ true
       → Answers (program ∷ codes "shrink" ∷ codes "--pmap" ∷ file ∷ codes "--compact" ∷ []) (Err CompactAlone)
   unfolding flowlabel_app clap_on_literals
-  shrink_line [] h = (refl, refl)
-  shrink_line (x ∷ xs) h = let e = not_true (x == 45) h in (rw (e, not_short x xs e) refl, rw (e, not_short x xs e) refl)
+  shrink_line [] h = (refl {a = []}, refl {a = Some (Err CompactAlone)})
+  shrink_line (x ∷ xs) h =
+      let e = not_true (x == 45) h in
+      (rw (e, not_short x xs e) (refl {a = []}), rw (e, not_short x xs e) (refl {a = Some (Err CompactAlone)}))
 
   pub lines_have_answers : LinesHaveAnswers program
   lines_have_answers = record { label_line = label_line; rows_line = rows_line; shrink_line = shrink_line }
