@@ -55,6 +55,10 @@ fn behind_byte(text: &[u8], byte: u8) -> Option<&[u8]>
 fn leading_dotted(text: &[u8]) -> Option<(u32, &[u8])>
     ensures { IfSome result (λ r. BeginsWithDotted text.now r.1.now r.0) }
 {
+    // Most IPv6 addresses have their first colon here.
+    if let [_, _, _, _, b':', ..] = text {
+        return None;
+    }
     let (a, rest) = leading_number(text, 255)?;
     let (b, rest) = leading_number(behind_byte(rest, b'.')?, 255)?;
     let (c, rest) = leading_number(behind_byte(rest, b'.')?, 255)?;
@@ -91,8 +95,8 @@ fn leading_address(text: &[u8]) -> Option<(Addr, &[u8])>
 fn behind_blanks(text: &[u8]) -> Option<&[u8]>
     ensures { IfSome result (λ r. BeginsWithBlank text.now × (r.now ≡ trim_start text.now)) }
 {
-    match text.first() {
-        Some(byte) if is_blank(*byte) => Some(without_leading_blanks(text)),
+    match text {
+        [first, rest @ ..] if is_blank(*first) => Some(without_leading_blanks(rest)),
         _ => None,
     }
 }

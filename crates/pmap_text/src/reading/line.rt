@@ -210,6 +210,7 @@ impl Reading {
     }
 
     // Reads `BLOCK LABEL`, given the block and the text after it.
+    #[inline(always)]
     fn read_behind_block(
         &mut self,
         form: Form,
