@@ -1,8 +1,10 @@
 -- Bytes that are written before an offset of a buffer, from the last of them on.
-use Rattle.std.proofs.Common.{ℕ, ◌≡◌, ◌+◌, ◌-◌, ◌/◌, ◌%◌, ◌<◌, ◌≤◌, ◌∙◌, false, List, [], ◌∷◌, ◌++◌, length, drop, set, ap, arith, length-set}
+use Rattle.std.proofs.Common.{ℕ, zero, suc, ◌≡◌, ◌+◌, ◌-◌, ◌*◌, ◌/◌, ◌%◌, ◌<◌, ◌≤◌, ◌∙◌, Bool, true, false, ◌&&◌, T, eqb, List, [], ◌∷◌, ◌++◌, length, drop, get_or, set, ap, arith, length-set, inl, inr, eq-zero-or-pos, eqb→eq}
+use lib.Ieee.Fits.{and_l, and_r}
 use Rattle.std.specs.Fmt.{decimal, digit_glyph, digits}
 use Rattle.std.proofs.lemmas.Fmt.{decimal_digit, decimal_step}
 use Rattle.std.proofs.lemmas.List.{drop-set, drop-set-lt}
+use Rattle.prefix_keys.specs.declared.print.digits.TheConstants.{PAIRS}
 use Rattle.prefix_keys.proofs.Digits.{digits_last, digits_next}
 
 -- a byte that is written just before an offset
@@ -79,6 +81,31 @@ three_digits n low high =
     decimal_step n (omega arith) (omega arith)
     ∙ ap (λ (text : List ℕ). text ++ (48 + n % 10) ∷ []) (two_digits (n / 10) (omega arith) (omega arith))
     ∙ ap (λ m. (48 + m) ∷ (48 + n / 10 % 10) ∷ (48 + n % 10) ∷ []) front
+
+-- the last two digits of a number, in the table of pairs
+abbrev IsPair : ℕ → Type 0
+IsPair p = (get_or PAIRS (p * 2) 0 ≡ 48 + p / 10) × (get_or PAIRS (p * 2 + 1) 0 ≡ 48 + p % 10)
+
+abbrev are_pairs : ℕ → Bool
+are_pairs zero = true
+are_pairs (suc p) = (eqb (get_or PAIRS (p * 2) 0) (48 + p / 10) && eqb (get_or PAIRS (p * 2 + 1) 0) (48 + p % 10)) && are_pairs p
+
+pair_below : (n p : ℕ) → T (are_pairs n) → p < n → IsPair p
+pair_below zero p t h = absurd (omega arith)
+pair_below (suc n) p t h =
+    elim (eq-zero-or-pos (n - p)) [
+      | inl z ↦
+          let e : p ≡ n = omega arith in
+          let a = and_l _ (are_pairs n) t in rw e (eqb→eq _ _ (and_l _ _ a), eqb→eq _ _ (and_r _ _ a))
+      | inr g ↦ pair_below n p (and_r _ (are_pairs n) t) (omega arith)
+    ]
+
+pub last_pair : (n : ℕ) → (get_or PAIRS (n % 100 * 2) 0 ≡ 48 + n / 10 % 10) × (get_or PAIRS (n % 100 * 2 + 1) 0 ≡ 48 + n % 10)
+last_pair n =
+    let tens : n % 100 / 10 ≡ n / 10 % 10 = omega arith in
+    let ones : n % 100 % 10 ≡ n % 10 = omega arith in
+    let pair = pair_below 100 (n % 100) tt (omega arith) in
+    (pair.0 ∙ ap (λ m. 48 + m) tens, pair.1 ∙ ap (λ m. 48 + m) ones)
 
 -- numbers of one to four hexadecimal digits
 abbrev pub hex : ℕ → ℕ

@@ -12,6 +12,10 @@ fn glyph(digit: u16) -> u8
     b"0123456789abcdef"[digit as usize]
 }
 
+// The decimal numbers from 00 to 99.
+static PAIRS: [u8; 200] =
+    *b"00010203040506070809101112131415161718192021222324252627282930313233343536373839404142434445464748495051525354555657585960616263646566676869707172737475767778798081828384858687888990919293949596979899";
+
 /// Writes a number below 256 in decimal so that it ends at offset `end`, and returns the offset of its start. All three
 /// bytes before `end` are written, so bytes before the start may be overwritten. This avoids a branch that is hard to
 /// predict.
@@ -24,8 +28,9 @@ pub fn write_octet(octet: u16, buf: &mut [u8], end: usize) -> usize
     ensures room { end ≤ result + 3 }
     ensures written { drop result buf.new ≡ decimal octet ++ drop end buf.old }
 {
-    buf[end - 1] = b'0' + (octet % 10) as u8;
-    buf[end - 2] = b'0' + (octet / 10 % 10) as u8;
+    let pair = (octet % 100) as usize * 2;
+    buf[end - 1] = PAIRS[pair + 1];
+    buf[end - 2] = PAIRS[pair];
     buf[end - 3] = b'0' + (octet / 100) as u8;
     if octet < 10 {
         end - 1
