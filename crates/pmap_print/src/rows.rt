@@ -177,6 +177,10 @@ impl Table {
             → IsTable (column_count (is_some labels.entry))
             (lines ++ row_line (row_view row.now) (option_map label_texts labels.entry) ∷ []) self.new) }
     {
+        if self.columns.is_none() {
+            print_row(&mut self.text, row, labels)?;
+            return Ok(());
+        }
         let count = column_count(labels.is_some());
         let lengths = print_row(&mut self.text, row, labels)?;
         self.note(&lengths[..count])?;
