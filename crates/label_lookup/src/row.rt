@@ -7,6 +7,7 @@ use prefix_keys::{Addr, convert};
 
 /// Returns the label of a row's address, converted to the labeller's version. Returns `None` if the address can't be
 /// converted, or has no label there.
+#[inline(always)]
 pub fn label_row<L: Labeller>(labeller: &L, addr: Addr) -> Option<&[u8]>
     ensures { option_map (λ t. t.now) result
         ≡ label_by (labelling_by L.version_of L.label labeller.now) (addr.version, addr.value) }
