@@ -7,6 +7,19 @@ use Rattle.std.proofs.lemmas.List.{drop-set, drop-set-lt}
 use Rattle.prefix_keys.specs.declared.print.digits.TheConstants.{PAIRS}
 use Rattle.prefix_keys.proofs.Digits.{digits_last, digits_next}
 
+-- a test that each number below a limit passes, as computing shows
+abbrev pub all_below : (ℕ → Bool) → ℕ → Bool
+all_below test zero = true
+all_below test (suc n) = test n && all_below test n
+
+pub below : (test : ℕ → Bool) (n m : ℕ) → T (all_below test n) → m < n → T (test m)
+below test zero m t h = absurd (omega arith)
+below test (suc n) m t h =
+    elim (eq-zero-or-pos (n - m)) [
+      | inl z ↦ let e : m ≡ n = omega arith in rw e (and_l _ (all_below test n) t)
+      | inr g ↦ below test n m (and_r _ (all_below test n) t) (omega arith)
+    ]
+
 -- a byte that is written just before an offset
 pub put : (xs : List ℕ) (i j b : ℕ) → i + 1 ≡ j → j ≤ length xs → drop i (set xs i b) ≡ b ∷ drop j xs
 put xs i j b e h = drop-set xs i b (omega arith) ∙ ap (λ k. b ∷ drop k xs) e
@@ -83,29 +96,15 @@ three_digits n low high =
     ∙ ap (λ m. (48 + m) ∷ (48 + n / 10 % 10) ∷ (48 + n % 10) ∷ []) front
 
 -- the last two digits of a number, in the table of pairs
-abbrev IsPair : ℕ → Type 0
-IsPair p = (get_or PAIRS (p * 2) 0 ≡ 48 + p / 10) × (get_or PAIRS (p * 2 + 1) 0 ≡ 48 + p % 10)
-
-abbrev are_pairs : ℕ → Bool
-are_pairs zero = true
-are_pairs (suc p) = (eqb (get_or PAIRS (p * 2) 0) (48 + p / 10) && eqb (get_or PAIRS (p * 2 + 1) 0) (48 + p % 10)) && are_pairs p
-
-pair_below : (n p : ℕ) → T (are_pairs n) → p < n → IsPair p
-pair_below zero p t h = absurd (omega arith)
-pair_below (suc n) p t h =
-    elim (eq-zero-or-pos (n - p)) [
-      | inl z ↦
-          let e : p ≡ n = omega arith in
-          let a = and_l _ (are_pairs n) t in rw e (eqb→eq _ _ (and_l _ _ a), eqb→eq _ _ (and_r _ _ a))
-      | inr g ↦ pair_below n p (and_r _ (are_pairs n) t) (omega arith)
-    ]
+abbrev is_pair : ℕ → Bool
+is_pair p = eqb (get_or PAIRS (p * 2) 0) (48 + p / 10) && eqb (get_or PAIRS (p * 2 + 1) 0) (48 + p % 10)
 
 pub last_pair : (n : ℕ) → (get_or PAIRS (n % 100 * 2) 0 ≡ 48 + n / 10 % 10) × (get_or PAIRS (n % 100 * 2 + 1) 0 ≡ 48 + n % 10)
 last_pair n =
     let tens : n % 100 / 10 ≡ n / 10 % 10 = omega arith in
     let ones : n % 100 % 10 ≡ n % 10 = omega arith in
-    let pair = pair_below 100 (n % 100) tt (omega arith) in
-    (pair.0 ∙ ap (λ m. 48 + m) tens, pair.1 ∙ ap (λ m. 48 + m) ones)
+    let pair = below is_pair 100 (n % 100) tt (omega arith) in
+    (eqb→eq _ _ (and_l _ _ pair) ∙ ap (λ m. 48 + m) tens, eqb→eq _ _ (and_r _ _ pair) ∙ ap (λ m. 48 + m) ones)
 
 -- numbers of one to four hexadecimal digits
 abbrev pub hex : ℕ → ℕ
