@@ -78,14 +78,13 @@ fn read_lines(
 {
     let mut reading = Reading::new(alloc, hashing);
     let end = read_on(&mut reading, form, text, usize::MAX);
-    match reading.first_repeat() {
-        Ok(None) => match end {
-            Ok(_) => Ok(reading),
-            Err(fault) => Err(fault),
-        },
-        Ok(Some(index)) => Err(repeat_at(alloc, form, text, hashing, index)),
-        Err(_) => Err(fault_at(MapFaultKind::NoMemory, 0)),
-    }
+    let fault = match (reading.first_repeat(), end) {
+        (Ok(None), Ok(_)) => return Ok(reading),
+        (Ok(None), Err(fault)) => fault,
+        (Ok(Some(index)), _) => repeat_at(alloc, form, text, hashing, index),
+        (Err(_), _) => fault_at(MapFaultKind::NoMemory, 0),
+    };
+    Err(fault)
 }
 
 /// Reads a map text.
