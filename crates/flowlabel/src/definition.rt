@@ -1,8 +1,8 @@
 ghost use Rattle.std.specs.Prelude.{◌≡◌, ◌∷◌, [], IfOk, List, codes, true};
 ghost use Rattle.std.specs.List.{AllZip};
-ghost use Rattle.clap.specs.Words.{Rule, new_app};
+ghost use Rattle.clap.specs.Words.{App, Rule, new_app};
 ghost use Rattle.clap.specs.declared.builder.command.Command.TheViews.{out-Command};
-ghost use Rattle.flowlabel.specs.Definition.{IsArgument, IsCommand, check_rules, flag_rule, flowlabel_app, label_rules, leaf, needed_rule, option_rule, program, report_rules, rows_rules, shrink_rules, source_rules, uniq_rules, word_rule};
+ghost use Rattle.flowlabel.specs.Definition.{IsArgument, IsCommand, check_rules, flag_rule, flowlabel_app, label_rules, leaf, needed_rule, option_rule, program, report_rules, rows_rules, shrink_rules, source_rules, uniq_rules, with_app, word_rule};
 
 use clap::{Arg, ArgAction, Command};
 use std::alloc::{AllocError, Global};
@@ -13,10 +13,6 @@ macro_rules! version {
         concat!($before, "1.0.0")
     };
 }
-
-const VERSION: &str = version!("");
-
-const TITLE: &str = version!("flowlabel ");
 
 macro_rules! example {
     ($what:literal, $line:literal) => {
@@ -81,7 +77,7 @@ fn described<'a>(
     ensures { IsCommand (new_app name.entry.now) result }
 {
     Command::new(alloc, name)
-        .before_help(TITLE)
+        .before_help(version!("flowlabel "))
         .about(about)
         .override_usage(usage)
         .after_help(example)
@@ -272,9 +268,20 @@ fn program<'a>(alloc: Global) -> Command<'a>
     let about = "Label addresses by a prefix map, report on network flows, and shrink maps";
     let example = example!("the options of one command", "flowlabel rows --help");
     described(alloc, "flowlabel", about, "flowlabel COMMAND ...", example)
-        .version(VERSION)
+        .version(version!(""))
         .subcommand_required(true)
         .disable_help_subcommand(true)
+}
+
+// Adds a command to a program, unless an allocation failed.
+fn add<'a>(
+    program: Result<Command<'a>, AllocError>,
+    added: Result<Command<'a>, AllocError>,
+) -> Result<Command<'a>, AllocError>
+    ensures { (app sub : App) → IfOk program.entry (IsCommand app) → IfOk added.entry (IsCommand sub)
+        → IfOk result (IsCommand (with_app app sub)) }
+{
+    program?.subcommand(added?)
 }
 
 /// Returns the definition of the command line for clap: a program with one required level of subcommands.
@@ -282,13 +289,8 @@ pub fn definition<'a>(alloc: Global) -> Result<Command<'a>, AllocError>
     ensures app { IfOk result (IsCommand flowlabel_app) }
     ensures required { IfOk result (λ c. (out-Command c).subcommand_required ≡ true) }
 {
-    program(alloc)
-        .subcommand(label(alloc)?)?
-        .subcommand(info(alloc)?)?
-        .subcommand(rows(alloc)?)?
-        .subcommand(uniq(alloc)?)?
-        .subcommand(cat(alloc)?)?
-        .subcommand(shrink(alloc)?)?
-        .subcommand(check(alloc)?)?
-        .subcommand(recert(alloc)?)
+    let two = add(add(Ok(program(alloc)), label(alloc)), info(alloc));
+    let four = add(add(two, rows(alloc)), uniq(alloc));
+    let six = add(add(four, cat(alloc)), shrink(alloc));
+    add(add(six, check(alloc)), recert(alloc))
 }
