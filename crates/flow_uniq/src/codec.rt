@@ -131,10 +131,13 @@ fn append_length(out: &mut Bytes, len: usize) -> Result<(), AllocError>
     ensures { OnOk result (out.new.items ≡ out.old.items ++ length_code len) }
 {
     if len < 256 {
-        return out.extend_from_slice(&[2, len as u8]);
+        out.push(2)?;
+        out.push(len as u8)?;
+    } else {
+        out.push(3)?;
+        out.extend_from_slice(&(len as u64).to_be_bytes())?;
     }
-    out.push(3)?;
-    out.extend_from_slice(&(len as u64).to_be_bytes())
+    Ok(())
 }
 
 // Appends the bytes of a part. If an allocation fails, some of them may have been appended. Inlined into its one
