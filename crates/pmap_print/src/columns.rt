@@ -1,5 +1,5 @@
 //! The widths of a table's columns, and the padding of its fields.
-ghost use Rattle.std.specs.Prelude.{◌≡◌, ℕ, ◌+◌, ◌-◌, ◌*◌, ◌/◌, ◌%◌, ◌<◌, ◌≤◌, List, [], ◌∷◌, ◌++◌, IfOk, IfSome, OnOk, drop, filter, length, map, replicate, sum, take, true};
+ghost use Rattle.std.specs.Prelude.{◌≡◌, ℕ, ◌+◌, ◌-◌, ◌*◌, ◌/◌, ◌%◌, ◌^◌, ◌<◌, ◌≤◌, List, [], ◌∷◌, ◌++◌, IfOk, OnOk, drop, filter, length, map, min, replicate, sum, take, true};
 ghost use Rattle.std.specs.List.{flat_map};
 ghost use Rattle.pmap_print.specs.Table.{AreNoted, CanSpread, IsNoted, is_long, noted, sizes, spread, Line, Text, line_text, table_text};
 
@@ -116,17 +116,17 @@ impl Columns {
         Ok(())
     }
 
-    // Returns the length of the padded lines, or `None` if it doesn't fit in a `usize`.
-    fn spread_length(&self) -> Option<usize>
+    // Returns the length of the padded lines, or `usize::MAX` if that is less.
+    fn spread_length(&self) -> usize
         requires { 0 < length self.now.widths.items }
-        ensures { IfSome result (λ n. n
-            ≡ sum self.now.widths.items * (length self.now.short.items / length self.now.widths.items)) }
+        ensures { result ≡ min (sum self.now.widths.items
+            * (length self.now.short.items / length self.now.widths.items)) (2 ^ 64 - 1) }
     {
         let mut line: usize = 0;
         for width in self.widths.as_slice() {
-            line = line.checked_add(*width)?;
+            line = line.saturating_add(*width);
         }
-        line.checked_mul(self.short.len() / self.widths.len())
+        line.saturating_mul(self.short.len() / self.widths.len())
     }
 
     // Moves the fields, which are the first `plain` bytes of the text, to their columns, from the last to the first.
@@ -157,11 +157,9 @@ impl Columns {
         ensures { (count : ℕ) → (lines : List Line) → IsNoted count lines self.now
             → text.old.items ≡ flat_map line_text lines → OnOk result (text.new.items ≡ table_text true lines) }
     {
-        let Some(length) = self.spread_length() else {
-            return Err(AllocError);
-        };
         let plain = text.len();
-        text.resize(length, b' ')?;
+        // No `Vec` has `usize::MAX` bytes, so this fails if the length doesn't fit in a `usize`.
+        text.resize(self.spread_length(), b' ')?;
         self.spread(text.as_mut_slice(), plain);
         Ok(())
     }
