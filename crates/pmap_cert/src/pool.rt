@@ -1,5 +1,5 @@
 //! A pool of sets of labels.
-ghost use Rattle.std.specs.Prelude.{◌≡◌, ◌<◌, [], IfOk, length, map};
+ghost use Rattle.std.specs.Prelude.{◌≡◌, ◌^◌, ◌<◌, [], IfOk, SomeIff, length, map};
 ghost use Rattle.pmap_cert.specs.Packed.{HasSet, IsGrown, IsHeld, joined_halves, set_in};
 
 use pmap_text::LabelId;
@@ -49,6 +49,13 @@ pub fn halves(number: usize) -> (u32, u32)
     ((number % HALF) as u32, (number / HALF) as u32)
 }
 
+// Returns the number of labels of a set if it is below 2^32.
+fn count_of(set: &[LabelId]) -> Option<u32>
+    ensures { SomeIff result (length set.now < 2 ^ 32) (length set.now) }
+{
+    u32::try_from(set.len()).ok()
+}
+
 impl SetPool {
     /// Constructs an empty pool.
     pub fn new(alloc: Global) -> SetPool
@@ -59,8 +66,8 @@ impl SetPool {
         }
     }
 
-    /// Stores a set and returns its id. If that fails, as it does for 2 ^ 32 labels or more, the sets in the pool are
-    /// unchanged.
+    /// Stores a set and returns its id. A set of 2^32 labels or more is reported as a failed allocation. If `hold`
+    /// fails, the sets in the pool are unchanged.
     pub fn hold(&mut self, set: &[LabelId]) -> Result<SetId, AllocError>
         ensures grown { IsGrown self.old self.new }
         ensures ok { IfOk result (λ id. IsHeld self.new id (map (λ id. id.0) set.now)) }
@@ -71,11 +78,9 @@ impl SetPool {
                 high: 0,
             });
         }
-        if set.len() >= HALF {
-            return Err(AllocError);
-        }
+        let count = count_of(set).ok_or(AllocError)?;
         let (low, high) = halves(self.labels.len());
-        self.labels.push(LabelId(set.len() as u32))?;
+        self.labels.push(LabelId(count))?;
         self.labels.extend_from_slice(set)?;
         Ok(SetId {
             low: LabelId(low),
