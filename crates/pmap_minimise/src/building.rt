@@ -63,18 +63,14 @@ fn push_chain(
     requires few { below.cost + 1 < 2 ^ 32 }
     ensures { IfOk result (AddsChain below side end bits built.old built.new) }
 {
-    let number = built.chains.len();
-    if number > u32::MAX as usize {
-        return Err(AllocError);
-    }
     let cost = chain_cost(built.sets.labels(&below.set), below.cost, side);
+    built.lines.push(Line::Chain(built.chains.len()))?;
     built.chains.push(Chain {
         cost,
         side,
         end,
         bits,
     })?;
-    built.lines.push(Line::Chain(number as u32))?;
     let set = built.sets.hold(slice::from_ref(&side))?;
     Ok(Claim { cost, set })
 }

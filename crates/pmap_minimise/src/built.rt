@@ -24,7 +24,7 @@ pub struct Chain {
 pub enum Line {
     Leaf(LabelId),
     Inner(u32, SetId),
-    Chain(u32),
+    Chain(usize),
 }
 
 /// The nodes of a compact certificate. The line of a node follows those of the nodes below it, the higher half's first,

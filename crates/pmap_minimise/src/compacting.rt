@@ -29,7 +29,7 @@ fn push_node(out: &mut Nodes, built: &Built, to: usize) -> Result<usize, AllocEr
             push_node(out, built, middle)
         }
         Line::Chain(number) => {
-            let chain = built.chains[number as usize];
+            let chain = built.chains[number];
             let way = Way {
                 value: chain.end,
                 count: chain.bits,

@@ -43,7 +43,7 @@ fn push_entries(
             push_entries(entries, built, middle, &high, Some(label))
         }
         Line::Chain(number) => {
-            let chain = built.chains[number as usize];
+            let chain = built.chains[number];
             let side = push_own(entries, slice::from_ref(&chain.side), *here, inherited)?;
             let way = Way {
                 value: chain.end,

@@ -105,7 +105,7 @@ fn set_to(built: &Built, to: usize) -> &[LabelId]
     match &built.lines[to - 1] {
         Line::Leaf(id) => slice::from_ref(id),
         Line::Inner(_, set) => built.sets.labels(set),
-        Line::Chain(number) => slice::from_ref(&built.chains[*number as usize].side),
+        Line::Chain(number) => slice::from_ref(&built.chains[*number].side),
     }
 }
 
@@ -135,7 +135,7 @@ fn push_node(
             push_node(out, all, texts, built, middle)
         }
         Line::Chain(number) => {
-            let chain = built.chains[number as usize];
+            let chain = built.chains[number];
             let start = texts.len();
             push_inner_line(texts, chain.cost, slice::from_ref(&chain.side))?;
             let leaf = texts.len();
