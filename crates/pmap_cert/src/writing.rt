@@ -42,7 +42,7 @@ fn push_set(out: &mut Vec<u8>, set: &[LabelId]) -> Result<(), AllocError>
     Ok(())
 }
 
-/// Appends the line of a leaf with this label.
+/// Appends the line of a leaf with this label. If an allocation fails, a part of the line may have been appended.
 pub fn push_leaf_line(out: &mut Vec<u8>, id: LabelId) -> Result<(), AllocError>
     ensures { OnOk result (out.new.items ≡ out.old.items ++ (leaf_line id.0 ++ 10 ∷ [])) }
 {
@@ -52,7 +52,8 @@ pub fn push_leaf_line(out: &mut Vec<u8>, id: LabelId) -> Result<(), AllocError>
     Ok(())
 }
 
-/// Appends the line of an inner node that claims this cost and set.
+/// Appends the line of an inner node that claims this cost and set. If an allocation fails, a part of the line may have
+/// been appended.
 pub fn push_inner_line(out: &mut Vec<u8>, cost: u32, set: &[LabelId]) -> Result<(), AllocError>
     ensures { OnOk result (out.new.items ≡ out.old.items ++ (inner_line cost (map (λ id. id.0) set.now) ++ 10 ∷ [])) }
 {
@@ -173,6 +174,7 @@ fn push_header(
 }
 
 /// Appends the beginning of a certificate's text: its header and its label table. The lines of its nodes must follow.
+/// If an allocation fails, a part of the beginning may have been appended.
 pub fn push_head(
     out: &mut Vec<u8>,
     format: Format,

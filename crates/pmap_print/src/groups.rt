@@ -25,7 +25,8 @@ fn print_part(out: &mut Vec<u8>, part: KeyPart<'_>) -> Result<(), AllocError>
 // The number of columns of a group's totals.
 const TOTALS: usize = 3;
 
-// Appends the header of groups by these fields, and the length of each of its fields with the byte that ends it.
+// Appends the header of groups by these fields, and the length of each of its fields with the byte that ends it. If an
+// allocation fails, a part of the header may have been appended.
 fn print_title(
     out: &mut Vec<u8>,
     lengths: &mut Vec<usize>,

@@ -26,7 +26,8 @@ const LINE: usize = 250;
 // The lengths of the fields of the header, each with the byte that ends it.
 const TITLE_LENGTHS: [usize; COLUMNS_WITH_LABELS] = [4, 4, 6, 6, 6, 6, 8, 6, 6, 6, 10, 10];
 
-// Appends the header of rows, with the names of the label columns if `labelled`.
+// Appends the header of rows, with the names of the label columns if `labelled`. If an allocation fails, a part of the
+// header may have been appended.
 fn print_title(out: &mut Vec<u8>, labelled: bool) -> Result<(), AllocError>
     ensures { OnOk result (out.new.items ≡ out.old.items ++ line_text (title_line labelled)) }
 {
@@ -115,7 +116,7 @@ fn label_length(label: Option<&[u8]>) -> usize
 }
 
 // Appends the line of a row, with its labels if they are given. Returns the lengths of its fields, each with the byte
-// that ends it.
+// that ends it. If an allocation fails, a part of the line may have been appended.
 #[inline(always)]
 fn print_row(
     out: &mut Vec<u8>,
