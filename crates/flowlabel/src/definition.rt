@@ -1,11 +1,11 @@
 ghost use Rattle.std.specs.Prelude.{◌≡◌, ◌∷◌, [], IfOk, List, codes, true};
-ghost use Rattle.std.specs.List.{AllZip};
-ghost use Rattle.clap.specs.Words.{App, Rule, new_app};
+ghost use Rattle.std.specs.List.{AllZip, fold};
+ghost use Rattle.clap.specs.Words.{App, Rule, new_app, with_rule};
 ghost use Rattle.clap.specs.declared.builder.command.Command.TheViews.{out-Command};
 ghost use Rattle.flowlabel.specs.Definition.{IsArgument, IsCommand, check_rules, flag_rule, flowlabel_app, label_rules, leaf, needed_rule, option_rule, program, report_rules, rows_rules, shrink_rules, source_rules, uniq_rules, with_app, word_rule};
 
 use clap::{Arg, ArgAction, Command};
-use std::alloc::{AllocError, Global};
+use std::alloc::{AllocError, AllocFailed, Global};
 
 // Appends the version, which is written only here, to a text.
 macro_rules! version {
@@ -83,18 +83,29 @@ fn described<'a>(
         .after_help(example)
 }
 
-fn command<'a>(
+// Adds arguments to a command, unless an allocation failed.
+fn with_arguments<'a, T: Drop>(
+    command: Result<Command<'a>, AllocError>,
+    arguments: Result<Vec<Arg<'a>>, AllocFailed<T>>,
+) -> Result<Command<'a>, AllocError>
+    ensures { (app : App) (rules : List Rule) → IfOk command.entry (IsCommand app)
+        → IfOk arguments.entry (λ list. AllZip IsArgument rules list.items) → IfOk result (IsCommand (fold with_rule app rules)) }
+{
+    command?.args(arguments?)
+}
+
+fn command<'a, T: Drop>(
     alloc: Global,
     name: &'a str,
     about: &'a str,
     usage: &'a str,
     example: &'a str,
-    arguments: Vec<Arg<'a>>,
+    arguments: Result<Vec<Arg<'a>>, AllocFailed<T>>,
 ) -> Result<Command<'a>, AllocError>
-    ensures { (rules : List Rule) → AllZip IsArgument rules arguments.entry.items
+    ensures { (rules : List Rule) → IfOk arguments.entry (λ list. AllZip IsArgument rules list.items)
         → IfOk result (IsCommand (leaf name.entry.now rules)) }
 {
-    described(alloc, name, about, usage, example).args(arguments)
+    with_arguments(Ok(described(alloc, name, about, usage, example)), arguments)
 }
 
 fn label<'a>(alloc: Global) -> Result<Command<'a>, AllocError>
@@ -110,7 +121,7 @@ fn label<'a>(alloc: Global) -> Result<Command<'a>, AllocError>
         option(alloc, "pmap", "FILE", "Labels", "The prefix map"),
         option(alloc, "list", "FILE", "Labels", "The prefix list"),
         word(alloc, "address", "ADDR", "The address to label"),
-    ]?;
+    ];
     command(alloc, "label", about, usage, example, arguments)
 }
 
@@ -123,12 +134,12 @@ fn info<'a>(alloc: Global) -> Result<Command<'a>, AllocError>
         "the numbers of messages, sets and records",
         "flowlabel info flows.ipfix"
     );
-    let arguments = vec![in alloc; word(alloc, "flows", "FILE", "The IPFIX File")]?;
+    let arguments = vec![in alloc; word(alloc, "flows", "FILE", "The IPFIX File")];
     command(alloc, "info", about, usage, example, arguments)
 }
 
-fn report_options<'a>(alloc: Global) -> Result<Vec<Arg<'a>>, AllocError>
-    ensures { IfOk result (λ arguments. AllZip IsArgument report_rules arguments.items) }
+fn report_options<'a>(alloc: Global) -> [Arg<'a>; 12]
+    ensures { AllZip IsArgument report_rules result }
 {
     let protocols = "Flows of these protocols, such as 6,17 or 1-16";
     let from_ports = "Flows from these ports";
@@ -140,7 +151,7 @@ fn report_options<'a>(alloc: Global) -> Result<Vec<Arg<'a>>, AllocError>
     let src_label = "Flows whose source has this label";
     let dst_label = "Flows whose destination has this label";
     let any_label = "Flows whose source or destination has this label";
-    Ok(vec![in alloc;
+    [
         option(alloc, "pmap", "FILE", "Labels", "The prefix map"),
         option(alloc, "list", "FILE", "Labels", "The prefix list"),
         option(alloc, "protocol", "NUMBERS", "Filters", protocols),
@@ -153,7 +164,7 @@ fn report_options<'a>(alloc: Global) -> Result<Vec<Arg<'a>>, AllocError>
         option(alloc, "src-label", "LABEL", "Filters", src_label),
         option(alloc, "dst-label", "LABEL", "Filters", dst_label),
         option(alloc, "any-label", "LABEL", "Filters", any_label),
-    ]?)
+    ]
 }
 
 fn rows<'a>(alloc: Global) -> Result<Command<'a>, AllocError>
@@ -165,12 +176,13 @@ fn rows<'a>(alloc: Global) -> Result<Command<'a>, AllocError>
         "the flows from the customer Cedar to port 443",
         "flowlabel rows --pmap customers.txt --src-label Cedar --dport 443 flows.ipfix"
     );
-    let options = report_options(alloc)?;
     let last = vec![in alloc;
         flag(alloc, "columns", "Pad the fields to columns"),
         word(alloc, "flows", "FILE", "The IPFIX File"),
-    ]?;
-    command(alloc, "rows", about, usage, example, options)?.args(last)
+    ];
+    let options = Vec::from_array(alloc, report_options(alloc));
+    let filtered = command(alloc, "rows", about, usage, example, options);
+    with_arguments(filtered, last)
 }
 
 fn uniq<'a>(alloc: Global) -> Result<Command<'a>, AllocError>
@@ -184,16 +196,16 @@ fn uniq<'a>(alloc: Global) -> Result<Command<'a>, AllocError>
     );
     let fields =
         "The fields to sum by, such as sip,dport: sip, dip,\nsport, dport, proto, flags, src-label, dst-label";
-    let keys = vec![in alloc; needed_option(alloc, "fields", "NAMES", "Keys", fields)]?;
+    let keys = vec![in alloc; needed_option(alloc, "fields", "NAMES", "Keys", fields)];
     let sorted = "Print the sums in the order of their keys";
     let last = vec![in alloc;
         flag(alloc, "sort-output", sorted),
         flag(alloc, "columns", "Pad the fields to columns"),
         word(alloc, "flows", "FILE", "The IPFIX File"),
-    ]?;
-    command(alloc, "uniq", about, usage, example, keys)?
-        .args(report_options(alloc)?)?
-        .args(last)
+    ];
+    let grouped = command(alloc, "uniq", about, usage, example, keys);
+    let options = Vec::from_array(alloc, report_options(alloc));
+    with_arguments(with_arguments(grouped, options), last)
 }
 
 fn cat<'a>(alloc: Global) -> Result<Command<'a>, AllocError>
@@ -208,7 +220,7 @@ fn cat<'a>(alloc: Global) -> Result<Command<'a>, AllocError>
     let arguments = vec![in alloc;
         option(alloc, "pmap", "FILE", "Labels", "The prefix map"),
         option(alloc, "list", "FILE", "Labels", "The prefix list"),
-    ]?;
+    ];
     command(alloc, "cat", about, usage, example, arguments)
 }
 
@@ -226,7 +238,7 @@ fn shrink<'a>(alloc: Global) -> Result<Command<'a>, AllocError>
         needed_option(alloc, "pmap", "FILE", "Files", "The prefix map"),
         flag(alloc, "certificate", certificate),
         flag(alloc, "compact", "Print the certificate in compact form"),
-    ]?;
+    ];
     command(alloc, "shrink", about, usage, example, arguments)
 }
 
@@ -243,7 +255,7 @@ fn check<'a>(alloc: Global) -> Result<Command<'a>, AllocError>
         needed_option(alloc, "pmap", "FILE", "Files", "The prefix map"),
         needed_option(alloc, "list", "FILE", "Files", "The prefix list"),
         needed_option(alloc, "cert", "FILE", "Files", "The certificate"),
-    ]?;
+    ];
     command(alloc, "check", about, usage, example, arguments)
 }
 
@@ -258,7 +270,7 @@ fn recert<'a>(alloc: Global) -> Result<Command<'a>, AllocError>
     );
     let arguments = vec![in alloc;
         needed_option(alloc, "cert", "FILE", "Files", "The certificate"),
-    ]?;
+    ];
     command(alloc, "recert", about, usage, example, arguments)
 }
 
