@@ -8,7 +8,7 @@ use std::alloc::AllocError;
 use std::marker::Model;
 
 /// A text of clap for the user: help, or why clap refuses a line.
-#[derive(Debug, Drop)]
+#[derive(Drop)]
 pub struct ClapText {
     text: String,
 }
@@ -40,7 +40,7 @@ impl ClapText {
 }
 
 /// A usage fault, or a request for help: the line has no command to run.
-#[derive(Debug, Drop)]
+#[derive(Drop)]
 pub enum UsageFault {
     /// P1: clap refuses the line, and this text says why.
     Refused(ClapText),

@@ -7,7 +7,7 @@ use pmap_print::print_info;
 use std::alloc::{AllocError, Global};
 
 /// The report of `info`: counts of the messages and of what they have.
-#[derive(Clone, Copy, Debug)]
+#[derive(Clone, Copy)]
 pub struct InfoReport;
 
 impl Report for InfoReport {

@@ -15,7 +15,7 @@ use pmap_print::{RowLabels, Table};
 use std::alloc::{AllocError, Global};
 
 /// The report of `rows`: the rows that pass a filter, padded to columns if `columns`.
-#[derive(Clone, Copy, Debug)]
+#[derive(Clone, Copy)]
 pub struct RowsReport<'a> {
     pub filter: &'a Filter<'a>,
     pub columns: bool,
