@@ -19,6 +19,7 @@ pub fn label_row<L: Labeller>(labeller: &L, addr: Addr) -> Option<&[u8]>
 }
 
 /// Returns the label of a row's address like [`label_row`], or `None` if there is no labeller.
+#[inline(always)]
 pub fn label_row_under<L: Labeller>(labeller: Option<&L>, addr: Addr) -> Option<&[u8]>
     ensures { option_map (λ t. t.now) result
         ≡ label_where (labelling_lent L.version_of L.label labeller.entry) (addr.version, addr.value) }
