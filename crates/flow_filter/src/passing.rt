@@ -1,8 +1,9 @@
 //! The rows of a message that pass a filter.
-ghost use Rattle.std.specs.Prelude.{◌≡◌, ◌+◌, ◌≤◌, ◌++◌, List, OnErr, OnOk, length, map, take};
+ghost use Rattle.std.specs.Prelude.{◌≡◌, ◌+◌, ◌≤◌, ◌++◌, IsSomeAnd, List, OnErr, OnOk, Some, length, map, slice_get, take};
 ghost use Rattle.std.specs.List.{flat_map};
+ghost use Rattle.std.specs.Option.{option_to_list};
 ghost use Rattle.flow_rows.specs.Counts.{rows_of};
-ghost use Rattle.flow_rows.specs.Elements.{rows_of_record, RowView, row_view};
+ghost use Rattle.flow_rows.specs.Elements.{first_row, rows_of_record, second_row, RowView, row_view};
 ghost use Rattle.label_lookup.specs.Labelling.{labelling_lent};
 ghost use Rattle.flow_filter.specs.Filters.{condition_in};
 ghost use Rattle.flow_filter.specs.Condition.{passing};
@@ -12,6 +13,27 @@ use flow_rows::{Plan, Row};
 use ipfix_read::{Message, Record, RecordList, Set};
 use label_lookup::Labeller;
 use std::alloc::AllocError;
+
+// Adds the second row of a record whose first row has this index, if there is one. Out of line, so that no other record
+// pays for a second row on the stack.
+#[inline(never)]
+fn add_second_row(
+    plan: &Plan<'_>,
+    data_record: &Record<'_, '_>,
+    rows: &mut Vec<Row>,
+    at: usize,
+) -> Result<(), AllocError>
+    requires fields { map (λ v. v.field) data_record.now.fields ≡ plan.now }
+    requires first { IsSomeAnd (slice_get rows.old.items at) (λ row. first_row data_record.now ≡ Some (row_view row)) }
+    ensures ok { OnOk result (map row_view rows.new.items
+        ≡ map row_view rows.old.items ++ option_to_list (second_row data_record.now)) }
+    ensures front { take (length rows.old.items) rows.new.items ≡ rows.old.items }
+{
+    if let Some(second) = plan.row_back_of(data_record, &rows[at]) {
+        rows.push(second)?;
+    }
+    Ok(())
+}
 
 // Adds the rows of a record, found by the plan of its fields, the second right after the first.
 #[inline(always)]
@@ -26,16 +48,9 @@ fn add_rows_of_record(
         ≡ map row_view rows.old.items ++ rows_of_record data_record.now) }
     ensures front { take (length rows.old.items) rows.new.items ≡ rows.old.items }
 {
-    let Some(first) = plan.row_of(data_record) else {
-        return Ok(());
-    };
     let at = rows.len();
-    // The first row is read where it is kept, so that it isn't built on the stack too.
-    rows.push(first)?;
-    if plan.counts_back() {
-        if let Some(second) = plan.row_back_of(data_record, &rows[at]) {
-            rows.push(second)?;
-        }
+    if plan.add_row_of(data_record, rows)? && plan.counts_back() {
+        add_second_row(plan, data_record, rows, at)?;
     }
     Ok(())
 }

@@ -1,4 +1,4 @@
-use Rattle.std.specs.Prelude.{ℕ, List, [], ◌∷◌, length, Bool, false, Option, Some, None, option_map, find, nat_eq, nat_le, ◌==◌, ◌&&◌, ◌++◌, option_and_then, unwrap_or, if◌then◌else◌}
+use Rattle.std.specs.Prelude.{◌≡◌, ℕ, List, [], ◌∷◌, length, Bool, false, Option, Some, None, option_map, find, is_some, map, take, nat_eq, nat_le, ◌==◌, ◌&&◌, ◌++◌, option_and_then, unwrap_or, if◌then◌else◌}
 use Rattle.std.specs.Option.{option_eq, option_map_or, option_or, option_to_list}
 use Rattle.std.specs.Map.{lookup}
 use Rattle.byteorder.specs.Endian.{big_number}
@@ -155,3 +155,8 @@ second_row r = option_and_then (row_back (element back r.fields)) (first_row r)
 -- the rows of a record in order: none, one or two
 abbrev pub rows_of_record : Record → List RowView
 rows_of_record r = option_to_list (first_row r) ++ option_to_list (second_row r)
+
+-- a row is added to rows if there is one, and `there` says whether there is
+abbrev pub AddsRow : Option RowView → List Row → List Row → Bool → Type 0
+AddsRow row old new there =
+    (there ≡ is_some row) × (map row_view new ≡ map row_view old ++ option_to_list row) × (take (length old) new ≡ old)

@@ -1,7 +1,8 @@
-ghost use Rattle.std.specs.Prelude.{◌≡◌, ◌+◌, ◌<◌, ◌^◌, ◌&&◌, ◌||◌, ℕ, None, Some, if◌then◌else◌, is_some, length, nat_le, option_map};
+ghost use Rattle.std.specs.Prelude.{◌≡◌, ◌+◌, ◌<◌, ◌^◌, ◌&&◌, ◌||◌, ℕ, IfOk, None, OnErr, Some, if◌then◌else◌, is_some, length, nat_le, option_map};
 ghost use Rattle.prefix_keys.specs.Block.{width_of};
+ghost use Rattle.prefix_keys.specs.declared.version.Version.TheVariants.{V4, V6};
 ghost use Rattle.ipfix_read.specs.Value.{whole_values};
-ghost use Rattle.flow_rows.specs.Elements.{element, octets_of, packets_of, row_back, row_between, row_of_elements, row_view};
+ghost use Rattle.flow_rows.specs.Elements.{AddsRow, element, octets_of, packets_of, row_back, row_between, row_of_elements, row_view};
 ghost use Rattle.flow_rows.specs.Inner.{AreThere, elements_at, given, kept, place_in, place_of, said_there};
 
 use crate::place::{Place, time_there, u8_there, u16_there, u32_there, u64_there, u128_there};
@@ -9,6 +10,7 @@ use crate::row::Row;
 use ipfix_read::read_value;
 use ipfix_templates::Field;
 use prefix_keys::{Addr, Version};
+use std::alloc::AllocError;
 
 /// The offsets of each information element of a row (RFC 7012), or of the same element of the reverse direction (RFC
 /// 5103), in a record: those of the value of the first usable field.
@@ -151,9 +153,10 @@ impl Elements {
         requires { AreThere self.now (length bytes.now) }
         ensures { result ≡ packets_of (said_there self.now bytes.now) }
     {
-        u64_there(self.packets, bytes)
-            .or(u64_there(self.total_packets, bytes))
-            .unwrap_or(0)
+        match u64_there(self.packets, bytes) {
+            Some(count) => count,
+            None => u64_there(self.total_packets, bytes).unwrap_or(0),
+        }
     }
 
     // Returns the number of bytes of the packets, or 0 if they are not counted.
@@ -162,9 +165,10 @@ impl Elements {
         requires { AreThere self.now (length bytes.now) }
         ensures { result ≡ octets_of (said_there self.now bytes.now) }
     {
-        u64_there(self.octets, bytes)
-            .or(u64_there(self.total_octets, bytes))
-            .unwrap_or(0)
+        match u64_there(self.octets, bytes) {
+            Some(count) => count,
+            None => u64_there(self.total_octets, bytes).unwrap_or(0),
+        }
     }
 
     // The row between the addresses of this version with these numbers.
@@ -196,22 +200,60 @@ impl Elements {
         }
     }
 
+    // The row between the IPv4 addresses, if there are both.
+    #[inline(always)]
+    fn row_v4(&self, bytes: &[u8]) -> Option<Row>
+        requires { AreThere self.now (length bytes.now) }
+        ensures { let said = said_there self.now bytes.now in
+            option_map row_view result ≡ row_between V4 (said 8) (said 12) said }
+    {
+        let src = u128::from(u32_there(self.src_v4, bytes)?);
+        let dst = u128::from(u32_there(self.dst_v4, bytes)?);
+        Some(self.row_between(Version::V4, src, dst, bytes))
+    }
+
+    // The row between the IPv6 addresses, if there are both.
+    #[inline(always)]
+    fn row_v6(&self, bytes: &[u8]) -> Option<Row>
+        requires { AreThere self.now (length bytes.now) }
+        ensures { let said = said_there self.now bytes.now in
+            option_map row_view result ≡ row_between V6 (said 27) (said 28) said }
+    {
+        let src = u128_there(self.src_v6, bytes)?;
+        let dst = u128_there(self.dst_v6, bytes)?;
+        Some(self.row_between(Version::V6, src, dst, bytes))
+    }
+
     /// Returns the row of a record with these bytes, if there are both addresses of a version. Those of IPv4 take
     /// precedence.
-    #[inline(always)]
     pub fn row(&self, bytes: &[u8]) -> Option<Row>
         requires { AreThere self.now (length bytes.now) }
         ensures { option_map row_view result ≡ row_of_elements (said_there self.now bytes.now) }
     {
-        if let (Some(src), Some(dst)) = (
-            u32_there(self.src_v4, bytes),
-            u32_there(self.dst_v4, bytes),
-        ) {
-            return Some(self.row_between(Version::V4, u128::from(src), u128::from(dst), bytes));
+        match self.row_v4(bytes) {
+            Some(row) => Some(row),
+            None => self.row_v6(bytes),
         }
-        let src = u128_there(self.src_v6, bytes)?;
-        let dst = u128_there(self.dst_v6, bytes)?;
-        Some(self.row_between(Version::V6, src, dst, bytes))
+    }
+
+    /// Appends the row of a record with these bytes, if [`row`](Self::row) returns one, and returns `true` if so. Calls
+    /// `push` for each version on its own, so that the row isn't built on the stack first. If the allocation fails,
+    /// `rows` is unchanged.
+    #[inline(always)]
+    pub fn add_row(&self, bytes: &[u8], rows: &mut Vec<Row>) -> Result<bool, AllocError>
+        requires { AreThere self.now (length bytes.now) }
+        ensures ok { IfOk result (AddsRow (row_of_elements (said_there self.now bytes.now)) rows.old.items rows.new.items) }
+        ensures err { OnErr result (rows.new.items ≡ rows.old.items) }
+    {
+        if let Some(row) = self.row_v4(bytes) {
+            rows.push(row)?;
+            return Ok(true);
+        }
+        if let Some(row) = self.row_v6(bytes) {
+            rows.push(row)?;
+            return Ok(true);
+        }
+        Ok(false)
     }
 
     /// Returns the row of the reverse direction of a row, in a record with these bytes, if there are packets in that

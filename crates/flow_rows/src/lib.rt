@@ -15,12 +15,12 @@
 //!
 //! This crate uses ipfix_read (records and messages) and prefix_keys (addresses). `row_of` returns the flow row of a
 //! data record: the first usable field of each information element, read as a number in network byte order. A record
-//! with both directions of a flow (RFC 5103) has a second row, which `reverse_row_of` returns. A `Plan` returns the
-//! same rows for records with the same fields, such as those of a data set: it determines once where each element is in
-//! all of them. `Counts` counts the contents of messages. Callers may rely on this: the rows are a function of the list
-//! of the record's fields with their values. A record without both addresses of a version, and an options record, have
-//! none. Counts of a list of messages are, after one more message, those of the list with that message. Nothing in this
-//! crate allocates.
+//! with both directions of a flow (RFC 5103) has a second row, which `reverse_row_of` returns. A `Plan` finds the same
+//! rows of records with the same fields, such as those of a data set: it determines once where each element is in all
+//! of them. `Counts` counts the contents of messages. Callers may rely on this: the rows are a function of the list of
+//! the record's fields with their values. A record without both addresses of a version, and an options record, have
+//! none. Counts of a list of messages are, after one more message, those of the list with that message. Only
+//! `Plan::add_row_of` allocates, to append a row.
 #![tactic(auto)]
 
 mod counting;

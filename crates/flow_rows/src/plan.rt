@@ -1,13 +1,14 @@
-ghost use Rattle.std.specs.Prelude.{◌≡◌, ◌+◌, ◌<◌, ◌≤◌, ◌^◌, All, None, Some, false, length, map, option_map};
+ghost use Rattle.std.specs.Prelude.{◌≡◌, ◌+◌, ◌<◌, ◌≤◌, ◌^◌, All, IfOk, None, OnErr, Some, false, length, map, option_map};
 ghost use Rattle.std.specs.List.{flat_map};
 ghost use Rattle.ipfix_read.specs.Value.{whole_values};
 ghost use Rattle.ipfix_read.specs.declared.record.Record.{Record as RecordView};
-ghost use Rattle.flow_rows.specs.Elements.{back, element, forward, first_row, packets_of, row_of_elements, rows_of_record, second_row, row_view};
+ghost use Rattle.flow_rows.specs.Elements.{AddsRow, back, element, forward, first_row, packets_of, row_of_elements, rows_of_record, second_row, row_view};
 
 use crate::elements::Elements;
 use crate::row::Row;
 use ipfix_read::{Record, RecordList};
 use ipfix_templates::{Field, Fields, Kind};
+use std::alloc::AllocError;
 use std::marker::Model;
 
 // The enterprise number of the elements of the reverse direction (RFC 5103 section 6.1).
@@ -39,13 +40,18 @@ impl<'f> Model for Plan<'f> {
     ghost invariant = { λ p. IsPlanned p.fields.now p.forward p.back p.is_fixed };
 }
 
-// Returns the row of a record's own direction, from a search through its values. Not inlined, so that its table of
+// Appends the row of a record's own direction, from a search through its values. Not inlined, so that its table of
 // offsets is not in the stack frame of a caller.
 #[inline(never)]
-fn row_of_values(fields: &[Field], bytes: &[u8]) -> Option<Row>
-    ensures { option_map row_view result ≡ row_of_elements (element forward (whole_values fields.now bytes.now)) }
+fn add_row_of_values(
+    fields: &[Field],
+    bytes: &[u8],
+    rows: &mut Vec<Row>,
+) -> Result<bool, AllocError>
+    ensures ok { IfOk result (AddsRow (row_of_elements (element forward (whole_values fields.now bytes.now))) rows.old.items rows.new.items) }
+    ensures err { OnErr result (rows.new.items ≡ rows.old.items) }
 {
-    Elements::of_record(None, fields, bytes).row(bytes)
+    Elements::of_record(None, fields, bytes).add_row(bytes, rows)
 }
 
 // Returns the number of packets in the reverse direction, from a search through the record's values. Not inlined, like
@@ -81,23 +87,29 @@ impl<'f> Plan<'f> {
         }
     }
 
-    /// Returns the first row of a record with the plan's fields, from the first usable field of each element (RFC
-    /// 7012). A field is usable if it has no enterprise number and the template's length fits its element. Returns
-    /// `None` for an options record, and for a record with neither both IPv4 addresses nor both IPv6 addresses.
+    /// Appends the first row of a record with the plan's fields, and returns `true` if there is one. Each number is that
+    /// of the first usable field of its element (RFC 7012). A field is usable if it has no enterprise number and the
+    /// template's length fits its element. An options record has no row, nor has a record with neither both IPv4
+    /// addresses nor both IPv6 addresses. If the allocation fails, `rows` is unchanged.
     #[inline(always)]
     #[tactic(auto, using(crate::proofs::Reading::fixed_are_there))]
-    pub fn row_of(&self, source: &Record<'_, '_>) -> Option<Row>
+    pub fn add_row_of(
+        &self,
+        source: &Record<'_, '_>,
+        rows: &mut Vec<Row>,
+    ) -> Result<bool, AllocError>
         requires { map (λ v. v.field) source.now.fields ≡ self.now }
-        ensures { option_map row_view result ≡ first_row source.now }
+        ensures ok { IfOk result (AddsRow (first_row source.now) rows.old.items rows.new.items) }
+        ensures err { OnErr result (rows.new.items ≡ rows.old.items) }
     {
         if let Kind::Options = source.kind {
-            return None;
+            return Ok(false);
         }
         let bytes = source.fields.bytes();
         if self.is_fixed {
-            return self.forward.row(bytes);
+            return self.forward.add_row(bytes, rows);
         }
-        row_of_values(self.fields.filled(), bytes)
+        add_row_of_values(self.fields.filled(), bytes, rows)
     }
 
     /// Returns the second row of a record with the plan's fields and this first row: the row of the reverse direction
