@@ -116,16 +116,16 @@ impl<'f> Plan<'f> {
     /// (RFC 5103 section 4), if the packets in that direction are counted and not 0. Addresses and ports are those of
     /// the first row, exchanged. A field of the reverse direction is usable if its enterprise number is 29305 and the
     /// template's length fits its element. A time without a field is that of the first row.
-    #[inline(always)]
     pub fn row_back_of(&self, source: &Record<'_, '_>, first: &Row) -> Option<Row>
         requires fields { map (λ v. v.field) source.now.fields ≡ self.now }
         requires first { first_row source.now ≡ Some (row_view first.now) }
         ensures { option_map row_view result ≡ second_row source.now }
     {
-        if !self.counts_back() {
-            return None;
+        let bytes = source.fields.bytes();
+        if self.is_fixed {
+            return self.back.row_back(first, bytes);
         }
-        self.counted_row_back_of(source, first)
+        Elements::of_record(Some(REVERSE), self.fields.filled(), bytes).row_back(first, bytes)
     }
 
     /// Whether a field counts packets that went back. If not, no record with the plan's fields has a second row.
@@ -136,20 +136,6 @@ impl<'f> Plan<'f> {
         ensures second { result ≡ false → (r : RecordView) → map (λ v. v.field) r.fields ≡ self.now → second_row r ≡ None }
     {
         self.back.packets.is_some() || self.back.total_packets.is_some()
-    }
-
-    // Like `row_back_of`, if a field counts the packets that went back.
-    #[inline(never)]
-    fn counted_row_back_of(&self, source: &Record<'_, '_>, first: &Row) -> Option<Row>
-        requires fields { map (λ v. v.field) source.now.fields ≡ self.now }
-        requires first { first_row source.now ≡ Some (row_view first.now) }
-        ensures { option_map row_view result ≡ second_row source.now }
-    {
-        let bytes = source.fields.bytes();
-        if self.is_fixed {
-            return self.back.row_back(first, bytes);
-        }
-        Elements::of_record(Some(REVERSE), self.fields.filled(), bytes).row_back(first, bytes)
     }
 
     // Returns the number of packets in the reverse direction in a record with the plan's fields.

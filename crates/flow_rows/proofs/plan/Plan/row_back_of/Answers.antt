@@ -2,7 +2,7 @@ use Rattle.std.proofs.Common.{◌∙◌, ap, sym}
 use Rattle.std.specs.Prelude.{option_and_then}
 use Rattle.flow_rows.specs.Elements.{back, element, row_back, row_view}
 use Rattle.flow_rows.proofs.Reading.{filled_said, fixed_are_there, fixed_said}
-use Rattle.flow_rows.proofs.plan.Plan.counted_row_back_of.Goals as goal
+use Rattle.flow_rows.proofs.plan.Plan.row_back_of.Goals as goal
 
 pub returns-then-self : goal.returns-then-self
 returns-then-self c =
