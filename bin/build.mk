@@ -11,6 +11,10 @@ log := out/build.log
 proved = @echo 'proved: $@' >>$(log); \
 	echo "bin/flowlabel: crate $$(grep -c '^proved: ' $(log)) of $(words $(crates)) is proved: $@" >&3
 
+# Each job reads the modules of the logic and of the crates below anew: flow_filter takes 120 processor seconds by one
+# job, and 175 by four. So most libraries have half of the jobs. Nearly all of them wait for pmap_text, which has all.
+jobs = $(if $(filter pmap_text,$@),$(JOBS),$(shell expr \( $(JOBS) + 1 \) / 2))
+
 # rt locks the folder of a crate and those of all crates below, so it would prove the crates above prefix_keys one by one.
 # So each library is proved in a room, which has links to the sources and to the libraries that are built. An
 # interrupted build leaves what it proved in the room. The locks keep other rules and calls of rt out meanwhile.
@@ -23,7 +27,7 @@ $(filter-out flowlabel,$(crates)):
 		mkdir -p $(room) crates/$@/out; \
 		cp -rln --parents crates.txt crates/*/src crates/*/specs crates/*/proofs crates/$@/out $(room); \
 		find crates -path 'crates/*/out/rlib' -prune -exec cp -rln --parents -t $(room) {} +"
-	@cd $(room)/crates/$@ && exec rt lib --jobs $(JOBS) </dev/null
+	@cd $(room)/crates/$@ && exec rt lib --jobs $(jobs) </dev/null
 	@flock crates/$@ flock crates sh -ec '$(leave)'
 	$(proved)
 
