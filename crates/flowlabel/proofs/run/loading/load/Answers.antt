@@ -1,12 +1,13 @@
 -- A file that is loaded is read without fault, so a fault of a later file comes after it.
-use Rattle.std.proofs.Common.{◌∙◌, Option, refl}
+use Rattle.std.proofs.Common.{◌∙◌, Option, false, refl}
 use Rattle.pmap_text.specs.MapText.{map_of}
 use Rattle.pmap_text.specs.PrefixList.{list_of}
+use Rattle.pmap_text.specs.declared.prefix_list.PrefixList.{PrefixList}
 use Rattle.pmap_cert.specs.Certificate.{certificate_of}
 use Rattle.pmap_cert.specs.declared.certificate.Certificate.{Certificate}
 use Rattle.flowlabel.specs.Inner.{IsCertificateText, IsFirstFault, IsListText, IsMapText}
 use Rattle.flowlabel.specs.Run.{IsFaultOfBytes, IsRead, is_read_stop, CertificateTurn, ListTurn, MapTurn, Inputs}
-use Rattle.flowlabel.proofs.LoadingLemmas.{at_turn, certificate_first, certificate_tells, is_read, list_first, passed_on, stop_handed_on, there_as}
+use Rattle.flowlabel.proofs.LoadingLemmas.{at_turn, certificate_first, certificate_tells, is_read, list_first, list_tells, passed_on, stop_handed_on, there_as}
 use Rattle.flowlabel.proofs.run.loading.load.Goals as goal
 
 pub returns-in_err-list-clause-err : goal.returns-in_err-list-clause-err
@@ -60,3 +61,14 @@ returns-clause-needed g c = λ needs needed. record {
   certificate = there_as c.args.inputs.now.certificate c.load_one-3.new.source c.load_one-3.ensures.name ∙ needed.certificate;
   flows = needed.flows;
 }
+
+pub returns-in_err-list-clause-failed : goal.returns-in_err-list-clause-failed
+returns-in_err-list-clause-failed g c =
+    list_tells g.R.Input.failed c.args.inputs.now c.requires.readers c.load_one.new.source c.load_one-2.new.source
+    (is_read_stop c.from_residual-in_err-list.result) c.in_ok-map.ensures.failed
+    (c.in_err-list.ensures.failed ∙ stop_handed_on _ (Option PrefixList) c.from_residual-in_err-list.result c.in_err-list.field-0.0 c.from_residual-in_err-list.ensures.1)
+
+pub returns-clause-failed : goal.returns-clause-failed
+returns-clause-failed g c =
+    certificate_tells g.R.Input.failed c.args.inputs.now c.requires.readers c.load_one.new.source c.load_one-2.new.source c.load_one-3.new.source
+    false c.in_ok-map.ensures.failed c.in_ok-list.ensures.failed c.in_ok-certificate.ensures.failed
