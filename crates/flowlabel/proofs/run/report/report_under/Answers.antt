@@ -9,7 +9,7 @@ use Rattle.label_lookup.specs.Labelling.{Labelling, labelling_by, labelling_lent
 use Rattle.flowlabel.specs.Inner.{labelling_of_either}
 use Rattle.flowlabel.specs.Output.{ReportsOf}
 use Rattle.flowlabel.specs.Run.{HasText, Inputs, Source}
-use Rattle.flowlabel.proofs.LoadingLemmas.{flows_stop}
+use Rattle.flowlabel.proofs.LoadingLemmas.{flows_stop, flows_tell}
 use Rattle.flowlabel.proofs.run.report.report_under.Goals as goal
 
 lent_is : {L : Type 0} (version : L → Version) (label : L → ℕ → Option Label) (lent : Option (Bor L)) (owned : Option L) → option_copied lent ≡ owned
@@ -34,3 +34,6 @@ returns-clause-err g c =
     (ReportsOf (g.P.Report.text c.args.report.now) (option_map labelling_of_either c.args.labels)) c.in-Some.is refl
     (λ bytes fault is. inl (fault, is, refl)))
     c.report_of_file.ensures.err
+
+pub returns-clause-failed : goal.returns-clause-failed
+returns-clause-failed g c = flows_tell g.R.Input.failed c.args.inputs.now c.requires.readers (Some c.report_of_file.new.source) _ c.report_of_file.ensures.failed
