@@ -1,4 +1,5 @@
 use Rattle.std.proofs.Common.{◌∙◌, ◌++◌, ◌∷◌, [], List, Option, Bool, is_some, map, option_map, subst, sym, take}
+use Rattle.std.proofs.lemmas.List.{take_all}
 use Rattle.flow_rows.specs.Elements.{row_view}
 use Rattle.pmap_print.specs.Table.{IsTable, Line}
 use Rattle.pmap_print.specs.Reports.{column_count, label_texts, row_line}
@@ -33,3 +34,6 @@ loop-row-preserved g c =
           (c.in_ok-add_row.ensures.line lines (subst (λ (b : Bool). IsTable (column_count b) lines c.loop-row.table) (sym same)
           (c.loop-row.invariant.rows earlier begins))));
     }
+
+pub returns-clause-rows : goal.returns-clause-rows
+returns-clause-rows g c = λ earlier begins. rw (take_all _ _ c.loop-row-test.false) at (c.loop-row.invariant.rows earlier begins)
