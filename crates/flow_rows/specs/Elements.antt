@@ -156,7 +156,7 @@ second_row r = option_and_then (row_back (element back r.fields)) (first_row r)
 abbrev pub rows_of_record : Record → List RowView
 rows_of_record r = option_to_list (first_row r) ++ option_to_list (second_row r)
 
--- a row is added to rows if there is one, and `there` says whether there is
+-- the rows before stay, a row is added after them if there is one, and `there` says whether there is one
 abbrev pub AddsRow : Option RowView → List Row → List Row → Bool → Type 0
 AddsRow row old new there =
     (there ≡ is_some row) × (map row_view new ≡ map row_view old ++ option_to_list row) × (take (length old) new ≡ old)
