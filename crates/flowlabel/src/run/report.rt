@@ -138,8 +138,7 @@ pub fn report_under<'a, R: Input, P: Report>(
     let index = index_of(alloc, labels)?;
     let found = index.as_ref();
     let Some(source) = &mut inputs.flows else {
-        // Without a File there are no messages.
-        return Ok(report.finish(alloc, report.begin(alloc, found)?, found)?);
+        unreachable!()
     };
     report_of_file(alloc, source, report, found)
 }
