@@ -5,7 +5,7 @@ use std::alloc::AllocError;
 use thiserror::Error;
 
 /// Why a certificate is not accepted for a map and a prefix list.
-#[derive(Clone, Copy, Debug, PartialEq, Eq, Hash, Error)]
+#[derive(Clone, Copy, Debug, PartialEq, Eq, Error)]
 pub enum CheckFaultKind {
     #[error("map, list and certificate are not of one version")]
     VersionDiffers,
@@ -25,7 +25,7 @@ pub enum CheckFaultKind {
 
 /// The first fault of a certificate: its kind, and the number of the node, from 1 in the order of the certificate's
 /// node lines. A fault of no single node, such as `NoMemory`, has the number 0.
-#[derive(Clone, Copy, Debug, PartialEq, Eq, Hash, Error)]
+#[derive(Clone, Copy, Debug, Error)]
 #[error("node {node}: {kind}")]
 pub struct CheckFault {
     pub kind: CheckFaultKind,

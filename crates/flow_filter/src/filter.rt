@@ -19,7 +19,7 @@ use prefix_keys::Addr;
 use std::alloc::Global;
 
 /// Conditions on flow rows, one for each option given. A row passes if it meets all of them.
-#[derive(Debug, Drop)]
+#[derive(Drop)]
 pub struct Filter<'a> {
     protocol: Option<Ranges>,
     sport: Option<Ranges>,

@@ -7,7 +7,7 @@ use std::alloc::{AllocError, Global};
 use std::marker::Model;
 
 /// A set of numbers: those of some ranges, which are stored in an order that allows a binary search.
-#[derive(Debug, Drop)]
+#[derive(Drop)]
 pub struct Ranges {
     // Neither a lower nor an upper end is below that of an earlier range.
     ranges: Vec<Range>,

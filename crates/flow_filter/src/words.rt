@@ -1,5 +1,5 @@
 /// The text of each option given.
-#[derive(Clone, Copy, Debug)]
+#[derive(Clone, Copy)]
 pub struct FilterWords<'a> {
     /// `--protocol`: numbers and ranges, separated by commas, at most 255.
     pub protocol: Option<&'a str>,

@@ -1,5 +1,5 @@
 /// The last call of a writer.
-#[derive(Clone, Copy, Debug, PartialEq, Eq)]
+#[derive(Clone, Copy)]
 pub enum LastCall {
     /// There was no call yet.
     Nothing,

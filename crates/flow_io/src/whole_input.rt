@@ -7,7 +7,7 @@ use std::alloc::Global;
 use thiserror::Error;
 
 /// The reason why a source was not read to its end.
-#[derive(Clone, Copy, Debug, PartialEq, Eq, Error)]
+#[derive(Clone, Copy, Debug, Error)]
 pub enum ReadStop {
     /// The reader failed.
     #[error("the reader failed")]

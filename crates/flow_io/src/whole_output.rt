@@ -6,7 +6,7 @@ use crate::devices::Output;
 use thiserror::Error;
 
 /// The error of a writer that failed before it had taken and flushed everything.
-#[derive(Clone, Copy, Debug, PartialEq, Eq, Error)]
+#[derive(Clone, Copy, Debug, Error)]
 #[error("the writer failed")]
 pub struct WriteFault;
 

@@ -6,7 +6,7 @@ use ipfix_templates::Kind;
 
 /// The counts of messages, which `info` prints for a File. Each is at most 65,535 for each message, and the rows are at
 /// most twice as many.
-#[derive(Clone, Copy, Debug, PartialEq, Eq)]
+#[derive(Clone, Copy)]
 pub struct Counts {
     /// Messages (RFC 7011 section 3.1).
     pub messages: u64,

@@ -14,7 +14,7 @@ use std::alloc::AllocError;
 
 /// The offsets of each information element of a row (RFC 7012), or of the same element of the reverse direction (RFC
 /// 5103), in a record: those of the value of the first usable field.
-#[derive(Clone, Copy, Debug)]
+#[derive(Clone, Copy)]
 pub struct Elements {
     /// 1, octetDeltaCount.
     pub octets: Option<Place>,

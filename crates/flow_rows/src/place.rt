@@ -6,7 +6,7 @@ ghost use Rattle.flow_rows.specs.Inner.{IsThere, number_there};
 use byteorder::{BigEndian, ByteOrder};
 
 /// The offsets of a value in the bytes of a record.
-#[derive(Clone, Copy, Debug)]
+#[derive(Clone, Copy)]
 pub struct Place {
     /// The offset of its first byte.
     pub begin: usize,

@@ -16,7 +16,7 @@ const REVERSE: u32 = 29305;
 
 /// The plan by which the rows of records with the same fields are found: the offsets of each information element of
 /// both directions in all of the records, determined once. Contracts see the plan as the fields.
-#[derive(Debug, Drop)]
+#[derive(Drop)]
 pub struct Plan<'f> {
     fields: &'f Fields,
     // The elements of the record's own direction.

@@ -3,7 +3,7 @@ ghost use Rattle.std.specs.Prelude.{◌≡◌};
 use prefix_keys::{Addr, Version};
 
 /// A flow row: the flow that a data record describes. A missing number is 0.
-#[derive(Clone, Copy, Debug, PartialEq, Eq)]
+#[derive(Clone, Copy, PartialEq, Eq)]
 pub struct Row {
     /// The source address.
     pub src: Addr,

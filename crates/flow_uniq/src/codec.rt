@@ -15,7 +15,7 @@ use std::hash::{Hash, Hasher};
 use std::marker::Model;
 
 /// A part of a key: the value of one field of a row.
-#[derive(Clone, Copy, Debug)]
+#[derive(Clone, Copy)]
 pub enum KeyPart<'a> {
     /// An address.
     Address(Addr),
@@ -27,7 +27,7 @@ pub enum KeyPart<'a> {
 
 /// The key of a group, borrowed: its parts in the order of the fields. Each part is read from the key's bytes when
 /// requested.
-#[derive(Clone, Copy, Debug)]
+#[derive(Clone, Copy)]
 pub struct Key<'a> {
     code: &'a [u8],
 }
@@ -36,7 +36,7 @@ pub struct Key<'a> {
 type Bytes = SmallVec<u8, 24>;
 
 /// A key as bytes, which are hashed and compared in one piece.
-#[derive(Debug, Drop)]
+#[derive(Drop)]
 pub struct Code {
     bytes: Bytes,
 }

@@ -20,7 +20,7 @@ use std::alloc::{AllocError, Global};
 use std::marker::Model;
 
 /// The groups of rows by their keys, in the order of the first rows, with their totals.
-#[derive(Debug, Drop)]
+#[derive(Drop)]
 pub struct Groups {
     alloc: Global,
     fields: Vec<KeyField>,

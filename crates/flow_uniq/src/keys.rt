@@ -7,7 +7,7 @@ use std::alloc::{AllocError, Global};
 use std::marker::Model;
 
 /// The fields of keys, each once.
-#[derive(Debug, Drop)]
+#[derive(Drop)]
 pub struct Keys {
     fields: Vec<KeyField>,
 }

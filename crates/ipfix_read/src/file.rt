@@ -10,7 +10,7 @@ use ipfix_templates::TemplateTable;
 use std::alloc::Global;
 
 /// The content of a File: its messages in order, at most 4,294,967,295. The values of records are slices of the File.
-#[derive(Debug, Drop)]
+#[derive(Drop)]
 pub struct FileEvents<'a> {
     /// The messages in order.
     pub messages: MessageList<'a>,

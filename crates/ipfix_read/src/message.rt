@@ -13,7 +13,7 @@ use std::alloc::Global;
 use std::marker::Model;
 
 /// A message (RFC 7011 section 3.1). It has at most 65,535 sets, template events and data records together.
-#[derive(Debug, Drop)]
+#[derive(Drop)]
 pub struct Message<'a> {
     /// The time at which the message left the exporter, in seconds since 1970.
     pub export_time: u32,

@@ -8,7 +8,7 @@ use std::alloc::AllocError;
 use std::marker::Model;
 
 /// A data record (RFC 7011 section 3.4.3): its kind, and a value for each field of its template.
-#[derive(Debug, Drop)]
+#[derive(Drop)]
 pub struct Record<'f, 'a> {
     /// Whether it is a flow record or an options record.
     pub kind: Kind,
@@ -18,7 +18,7 @@ pub struct Record<'f, 'a> {
 
 /// The data records of a data set. The list holds their bytes and shares the template's fields. Each record is cut out
 /// of the bytes when it is requested.
-#[derive(Debug, Drop)]
+#[derive(Drop)]
 pub struct RecordList<'a> {
     kind: Kind,
     // `None` if there are no records.
@@ -108,7 +108,7 @@ impl<'a> RecordList<'a> {
 }
 
 /// An iterator over the data records of a data set, in order.
-#[derive(Debug, Drop)]
+#[derive(Drop)]
 pub struct Records<'f, 'a> {
     kind: Kind,
     specifiers: Option<&'f Fields>,

@@ -14,7 +14,7 @@ use ipfix_templates::{
 use std::alloc::{AllocError, Global};
 
 /// A set of a message (RFC 7011 section 3.3).
-#[derive(Debug, Drop)]
+#[derive(Drop)]
 pub enum Set<'a> {
     /// A template set, or an options template set, with the events of its records.
     Templates(Kind, TemplateEvents),

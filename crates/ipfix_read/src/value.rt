@@ -8,7 +8,7 @@ use std::marker::Model;
 
 /// The value of a field in a data record: the field's specifier, and the bytes of the value in the File. The value of a
 /// field of fixed length has that length.
-#[derive(Debug, Drop)]
+#[derive(Drop)]
 pub struct FieldValue<'a> {
     /// The specifier in the template.
     pub field: Field,
@@ -45,7 +45,7 @@ impl<'a> FieldValue<'a> {
 
 /// The values of a data record, one for each field of its template. The list holds the record's bytes and borrows the
 /// template's fields. Each value is cut out of the bytes when it is requested.
-#[derive(Debug, Drop)]
+#[derive(Drop)]
 pub struct FieldValues<'f, 'a> {
     specifiers: &'f Fields,
     bytes: &'a [u8],
@@ -96,7 +96,7 @@ impl<'f, 'a> FieldValues<'f, 'a> {
 }
 
 /// An iterator over the values of a data record, in order.
-#[derive(Debug, Drop)]
+#[derive(Drop)]
 pub struct Values<'f, 'a> {
     specifiers: &'f [Field],
     bytes: &'a [u8],

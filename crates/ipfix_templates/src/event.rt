@@ -3,7 +3,7 @@ use crate::kind::Kind;
 use crate::template::Template;
 
 /// The event that a record of a template set reports.
-#[derive(Debug, Drop)]
+#[derive(Drop)]
 pub enum TemplateEvent {
     /// The template is defined (RFC 7011 section 3.4).
     Define(Template),

@@ -7,7 +7,7 @@ use std::marker::Model;
 pub const VARIABLE_LENGTH: u16 = 65535;
 
 /// A field specifier (RFC 7011 section 3.2). The number of its information element is below 32,768.
-#[derive(Clone, Copy, Debug, PartialEq, Eq)]
+#[derive(Clone, Copy)]
 pub struct Field {
     /// The enterprise number, if the enterprise bit is 1.
     pub enterprise: Option<u32>,

@@ -8,7 +8,7 @@ use std::marker::Model;
 use std::rc::Rc;
 
 // A list of fields, and numbers computed once that reading a record needs.
-#[derive(Debug, Drop)]
+#[derive(Drop)]
 struct Layout {
     items: Vec<Field>,
     filled: Vec<Field>,
@@ -18,7 +18,7 @@ struct Layout {
 }
 
 /// A list of at most 65,535 field specifiers. Its copies share it.
-#[derive(Debug, Drop)]
+#[derive(Drop)]
 pub struct Fields {
     shared: Rc<Layout>,
 }

@@ -2,7 +2,7 @@ ghost use Rattle.std.specs.Prelude.{◌≡◌};
 ghost use Rattle.ipfix_templates.specs.Template.{same_kind, set_id};
 
 /// The kind of records that a template describes.
-#[derive(Clone, Copy, Debug, PartialEq, Eq)]
+#[derive(Clone, Copy)]
 pub enum Kind {
     /// Flow records: a template of a template set (RFC 7011 section 3.4.1).
     Flow,

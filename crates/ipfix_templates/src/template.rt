@@ -8,7 +8,7 @@ use std::marker::Model;
 
 /// A template (RFC 7011 section 3.4). Its ID is 256 or above, and it has at least one field. A flow template has no
 /// scope fields. The first fields of an options template, at least one, are its scope fields.
-#[derive(Debug, Drop)]
+#[derive(Drop)]
 pub struct Template {
     /// The template ID.
     pub id: u16,

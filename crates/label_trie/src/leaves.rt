@@ -5,7 +5,7 @@ use std::alloc::{AllocError, Global};
 use std::marker::Model;
 
 /// The leaves of a trie, in rising order of their blocks.
-#[derive(Debug, Drop)]
+#[derive(Drop)]
 pub struct Leaves {
     items: Vec<Leaf>,
 }

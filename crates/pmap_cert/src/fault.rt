@@ -5,7 +5,7 @@ use std::alloc::{AllocError, AllocFailed};
 use thiserror::Error;
 
 /// The kind of a fault of a certificate's text.
-#[derive(Clone, Copy, Debug, PartialEq, Eq, Hash, Error)]
+#[derive(Clone, Copy, Debug, PartialEq, Eq, Error)]
 pub enum CertFaultKind {
     #[error("not a header of a certificate")]
     BadHeader,
@@ -24,7 +24,7 @@ pub enum CertFaultKind {
 }
 
 /// The first fault of a text: its kind and its line, counted from 1. `NoMemory` has line 0.
-#[derive(Clone, Copy, Debug, PartialEq, Eq, Hash, Error)]
+#[derive(Clone, Copy, Debug, Error)]
 #[error("line {line}: {kind}")]
 pub struct CertFault {
     pub kind: CertFaultKind,

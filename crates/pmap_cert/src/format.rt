@@ -2,7 +2,7 @@ ghost use Rattle.std.specs.Prelude.{◌≡◌};
 ghost use Rattle.pmap_cert.specs.Format.{format_number};
 
 /// The format of a certificate's text.
-#[derive(Debug, Clone, Copy)]
+#[derive(Clone, Copy)]
 pub enum Format {
     /// Format 1: no node is a chain.
     One,

@@ -1,5 +1,5 @@
 /// The labels of a row's source and destination address. An address without a label has `None`.
-#[derive(Clone, Copy, Debug)]
+#[derive(Clone, Copy)]
 pub struct RowLabels<'a> {
     /// The label of the source.
     pub src: Option<&'a [u8]>,

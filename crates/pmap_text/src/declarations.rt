@@ -9,7 +9,7 @@ use std::marker::Model;
 
 /// The numbers that a text declares for labels, and their texts: the first text belongs to the first number, and so on.
 /// No two numbers are equal, and no two texts are.
-#[derive(Debug, Drop)]
+#[derive(Drop)]
 pub struct Declarations {
     alloc: Global,
     numbers: IndexSet<u32, KeyHashing>,

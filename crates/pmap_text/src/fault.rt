@@ -1,7 +1,7 @@
 use thiserror::Error;
 
 /// The kind of a fault in a line of a map text or a list text.
-#[derive(Clone, Copy, Debug, PartialEq, Eq, Hash, Error)]
+#[derive(Clone, Copy, Debug, PartialEq, Eq, Error)]
 pub enum MapFaultKind {
     #[error("no statement begins with this word")]
     BadStatement,
@@ -36,7 +36,7 @@ pub enum MapFaultKind {
 }
 
 /// The first fault of a text: its kind, and its line, counted from 1. The line is 0 if an allocation failed.
-#[derive(Clone, Copy, Debug, PartialEq, Eq, Hash, Error)]
+#[derive(Clone, Copy, Debug, PartialEq, Eq, Error)]
 #[error("line {line}: {kind}")]
 pub struct MapFault {
     pub kind: MapFaultKind,

@@ -1,5 +1,5 @@
 /// The two kinds of text. A prefix list has no ranges, no default and no repeated block.
-#[derive(Clone, Copy, Debug, PartialEq, Eq)]
+#[derive(Clone, Copy, PartialEq, Eq)]
 pub enum Form {
     /// A map text: the last statement that covers an address decides.
     Map,

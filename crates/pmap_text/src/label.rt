@@ -3,7 +3,7 @@ ghost use Rattle.std.specs.List.{list_all};
 ghost use Rattle.pmap_text.specs.Label.{is_blank, is_label_byte, is_label as is_label_text};
 
 /// The number of a label text in a label table, from 0 in the order of first occurrence.
-#[derive(Clone, Copy, Debug, Default, PartialEq, Eq, Hash, PartialOrd, Ord)]
+#[derive(Clone, Copy, Default, PartialEq, Eq)]
 pub struct LabelId(pub u32);
 
 /// Returns `true` if the byte is a blank: a space, a tab or a carriage return.

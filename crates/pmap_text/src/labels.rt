@@ -9,7 +9,7 @@ use std::marker::Model;
 
 /// A table of distinct label texts. The number of a text is its index, from 0 in the order in which the texts were
 /// added.
-#[derive(Debug, Drop)]
+#[derive(Drop)]
 pub struct Labels {
     alloc: Global,
     texts: IndexSet<Vec<u8>, KeyHashing>,

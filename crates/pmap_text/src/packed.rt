@@ -5,7 +5,7 @@ use crate::label::LabelId;
 use prefix_keys::Version;
 
 /// A mapping of IPv4 addresses, in 12 bytes.
-#[derive(Clone, Copy, Debug)]
+#[derive(Clone, Copy)]
 pub struct Narrow {
     pub low: u32,
     pub high: u32,
@@ -16,7 +16,7 @@ pub struct Narrow {
 }
 
 /// A mapping of addresses of any version, in 48 bytes.
-#[derive(Clone, Copy, Debug)]
+#[derive(Clone, Copy)]
 pub struct Wide {
     pub low: u128,
     pub high: u128,

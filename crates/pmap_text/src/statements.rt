@@ -9,7 +9,7 @@ use std::alloc::{AllocError, Global};
 use std::marker::Model;
 
 /// The mappings of a prefix map, in the order of the text.
-#[derive(Debug, Drop)]
+#[derive(Drop)]
 pub struct Statements {
     narrow: Vec<Narrow>,
     wide: Vec<Wide>,

@@ -19,7 +19,7 @@ use std::marker::Model;
 const NO_LABEL: LabelId = LabelId(u32::MAX);
 
 // The first IPv4 address of a stretch, and the number of its label.
-#[derive(Clone, Copy, Debug)]
+#[derive(Clone, Copy)]
 struct Begin {
     first: u32,
     label: LabelId,

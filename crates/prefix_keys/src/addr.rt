@@ -4,7 +4,7 @@ ghost use Rattle.prefix_keys.specs.Block.{width_of};
 use crate::version::Version;
 
 /// An IP address: a version, and the number whose bits in network byte order are the address.
-#[derive(Clone, Copy, Debug, PartialEq, Eq, Hash)]
+#[derive(Clone, Copy, PartialEq, Eq)]
 pub struct Addr {
     pub version: Version,
     pub value: u128,

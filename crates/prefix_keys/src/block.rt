@@ -7,7 +7,7 @@ use crate::version::Version;
 
 /// A CIDR block (RFC 4632): the addresses of one version whose first `len` bits are those of `value`. The remaining
 /// bits of `value`, the host bits, are 0.
-#[derive(Clone, Copy, Debug, PartialEq, Eq, Hash)]
+#[derive(Clone, Copy, PartialEq, Eq)]
 pub struct Block {
     pub version: Version,
     pub len: u32,

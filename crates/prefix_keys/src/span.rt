@@ -4,7 +4,7 @@ use crate::addr::Addr;
 use crate::block::Block;
 
 /// The addresses of one version from `low` to `high`, both included.
-#[derive(Clone, Copy, Debug, PartialEq, Eq, Hash)]
+#[derive(Clone, Copy)]
 pub struct Span {
     pub low: Addr,
     pub high: Addr,

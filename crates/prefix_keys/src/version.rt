@@ -2,7 +2,7 @@ ghost use Rattle.std.specs.Prelude.{◌≡◌};
 ghost use Rattle.prefix_keys.specs.Block.{width_of};
 
 /// The version of the Internet Protocol to which an address belongs.
-#[derive(Clone, Copy, Debug, PartialEq, Eq, Hash, PartialOrd, Ord)]
+#[derive(Clone, Copy, PartialEq, Eq)]
 pub enum Version {
     /// IPv4 (RFC 791).
     V4,
