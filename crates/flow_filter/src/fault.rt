@@ -26,24 +26,21 @@ pub enum FilterOption {
 }
 
 /// The reason why the text of an option can't be read.
-#[derive(Clone, Copy, Debug, PartialEq, Eq, Error)]
+#[derive(Clone, Copy, Debug, PartialEq, Eq)]
 pub enum FilterFaultKind {
     /// The text is not a list of numbers and ranges.
-    #[error("not a list of numbers")]
     BadNumberList,
     /// The text is not a number or a range.
-    #[error("not a range")]
     BadRange,
     /// The text is not a list of addresses and blocks.
-    #[error("not a list of addresses and blocks")]
     BadBlock,
     /// An allocation failed.
-    #[error("out of memory")]
     NoMemory,
 }
 
 /// The option whose text can't be read, and the reason.
-#[derive(Clone, Copy, Debug, PartialEq, Eq)]
+#[derive(Clone, Copy, Debug, PartialEq, Eq, Error)]
+#[error("{option:?}: {kind:?}")]
 pub struct FilterFault {
     pub option: FilterOption,
     pub kind: FilterFaultKind,

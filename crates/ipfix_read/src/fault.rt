@@ -6,47 +6,36 @@ use std::alloc::AllocError;
 use thiserror::Error;
 
 /// The kind of a fault in a File, or the reason why a message could not be read.
-#[derive(Clone, Copy, Debug, PartialEq, Eq, Error)]
+#[derive(Clone, Copy, Debug, PartialEq, Eq)]
 pub enum ReadFaultKind {
     /// Fewer bytes are left than a message header has (RFC 7011 section 3.1).
-    #[error("TruncatedHeader")]
     TruncatedHeader,
     /// The version is not 10.
-    #[error("BadVersion")]
     BadVersion,
     /// The message's length is less than that of its header.
-    #[error("BadMessageLength")]
     BadMessageLength,
     /// The message extends beyond the end of the File.
-    #[error("TruncatedMessage")]
     TruncatedMessage,
     /// A set's header or length extends beyond the end of its message, or the length is less than that of the header
     /// (RFC 7011 section 3.3.2).
-    #[error("BadSetLength")]
     BadSetLength,
     /// A template record is malformed.
-    #[error("BadTemplate {0}")]
     BadTemplate(TemplateFaultKind),
     /// A data record extends beyond the end of its set.
-    #[error("BadRecord")]
     BadRecord,
     /// The reader failed. `read_file` never returns this.
-    #[error("ReadFault")]
     ReadFault,
     /// The File has more than 4,294,967,295 messages.
-    #[error("TooManyMessages")]
     TooManyMessages,
     /// An allocation failed.
-    #[error("NoMemory")]
     NoMemory,
     /// An earlier call for a message failed. `read_file` never returns this.
-    #[error("Failed")]
     Failed,
 }
 
 /// The first fault of a File.
 #[derive(Clone, Copy, Debug, PartialEq, Eq, Error)]
-#[error("{kind} at {offset}")]
+#[error("{kind:?} at {offset}")]
 pub struct ReadFault {
     /// The kind of the fault.
     pub kind: ReadFaultKind,

@@ -5,25 +5,21 @@ use std::alloc::AllocError;
 use thiserror::Error;
 
 /// The kind of a fault in a template record.
-#[derive(Clone, Copy, Debug, PartialEq, Eq, Error)]
+#[derive(Clone, Copy, Debug, PartialEq, Eq)]
 pub enum TemplateFaultKind {
     /// A part of the record is missing.
-    #[error("Truncated")]
     Truncated,
     /// The template ID is below 256, and the record does not withdraw all templates of the set's kind.
-    #[error("BadTemplateId")]
     BadTemplateId,
     /// An options template has no scope field, or more scope fields than fields (RFC 7011 section 3.4.2.2).
-    #[error("BadScope")]
     BadScope,
     /// An allocation failed.
-    #[error("NoMemory")]
     NoMemory,
 }
 
 /// The first fault of a template set.
 #[derive(Clone, Copy, Debug, PartialEq, Eq, Error)]
-#[error("{kind} at {offset}")]
+#[error("{kind:?} at {offset}")]
 pub struct TemplateFault {
     /// The kind of the fault.
     pub kind: TemplateFaultKind,

@@ -5,27 +5,27 @@ use std::alloc::{AllocError, AllocFailed};
 use thiserror::Error;
 
 /// The kind of a fault of a certificate's text.
-#[derive(Clone, Copy, Debug, PartialEq, Eq, Error)]
+#[derive(Clone, Copy, Debug, PartialEq, Eq)]
 pub enum CertFaultKind {
-    #[error("not a header of a certificate")]
+    /// Not a header of a certificate.
     BadHeader,
-    #[error("not a label, or a label that the table has already")]
+    /// Not a label, or a label that the table has already.
     BadLabelTable,
-    #[error("not a line of a node")]
+    /// Not a line of a node.
     BadNode,
-    #[error("an inner node for a block of one address")]
+    /// An inner node for a block of one address.
     TooDeep,
-    #[error("a node is missing")]
+    /// A node is missing.
     NodesMissing,
-    #[error("more than the last node")]
+    /// More than the last node.
     NodesLeft,
-    #[error("out of memory")]
+    /// An allocation failed.
     NoMemory,
 }
 
 /// The first fault of a text: its kind and its line, counted from 1. `NoMemory` has line 0.
 #[derive(Clone, Copy, Debug, Error)]
-#[error("line {line}: {kind}")]
+#[error("line {line}: {kind:?}")]
 pub struct CertFault {
     pub kind: CertFaultKind,
     pub line: u64,

@@ -1,43 +1,43 @@
 use thiserror::Error;
 
 /// The kind of a fault in a line of a map text or a list text.
-#[derive(Clone, Copy, Debug, PartialEq, Eq, Error)]
+#[derive(Clone, Copy, Debug, PartialEq, Eq)]
 pub enum MapFaultKind {
-    #[error("no statement begins with this word")]
+    /// No statement begins with this word.
     BadStatement,
-    #[error("not an address")]
+    /// Not an address.
     BadAddress,
-    #[error("not the length of a block")]
+    /// Not the length of a block.
     BadLength,
-    #[error("the low address is above the high one")]
+    /// The low address is above the high one.
     LowAboveHigh,
-    #[error("an address of the other version")]
+    /// An address of the other version.
     WrongVersion,
-    #[error("no label")]
+    /// No label.
     MissingLabel,
-    #[error("not a label")]
+    /// Not a label.
     BadLabel,
-    #[error("a label number with two texts, or a text with two numbers")]
+    /// A label number with two texts, or a text with two numbers.
     LabelConflict,
-    #[error("not a mode")]
+    /// Not a mode.
     BadMode,
-    #[error("a mode after a mapping")]
+    /// A mode after a mapping.
     ModeLate,
-    #[error("a second mode")]
+    /// A second mode.
     ModeRepeated,
-    #[error("too many mappings or labels")]
+    /// Too many mappings or labels.
     TooMany,
-    #[error("not a statement of a list")]
+    /// Not a statement of a list.
     NotAList,
-    #[error("a block that has a label already")]
+    /// A block that has a label already.
     DuplicateBlock,
-    #[error("out of memory")]
+    /// An allocation failed.
     NoMemory,
 }
 
 /// The first fault of a text: its kind, and its line, counted from 1. The line is 0 if an allocation failed.
 #[derive(Clone, Copy, Debug, PartialEq, Eq, Error)]
-#[error("line {line}: {kind}")]
+#[error("line {line}: {kind:?}")]
 pub struct MapFault {
     pub kind: MapFaultKind,
     pub line: u64,
