@@ -19,7 +19,6 @@ use prefix_keys::Addr;
 use std::alloc::Global;
 
 /// Conditions on flow rows, one for each option given. A row passes if it meets all of them.
-#[derive(Drop)]
 pub struct Filter<'a> {
     protocol: Option<Ranges>,
     sport: Option<Ranges>,
@@ -32,6 +31,24 @@ pub struct Filter<'a> {
     src_label: Option<&'a str>,
     dst_label: Option<&'a str>,
     any_label: Option<&'a str>,
+}
+
+// A drop is one call, so the proofs of functions that drop this type have one step instead of one for each part.
+impl Drop for Filter<'_> {
+    fn drop(self) {
+        let Filter {
+            protocol: _,
+            sport: _,
+            dport: _,
+            saddress: _,
+            daddress: _,
+            packets: _,
+            bytes: _,
+            src_label: _,
+            dst_label: _,
+            any_label: _,
+        } = self;
+    }
 }
 
 // Returns `true` if the number is in the set, or if no set is given.

@@ -18,9 +18,15 @@ struct Layout {
 }
 
 /// A list of at most 65,535 field specifiers. Its copies share it.
-#[derive(Drop)]
 pub struct Fields {
     shared: Rc<Layout>,
+}
+
+// A drop is one call, so the proofs of functions that drop this type have one step instead of one for each part.
+impl Drop for Fields {
+    fn drop(self) {
+        let Fields { shared: _ } = self;
+    }
 }
 
 impl Model for Fields {

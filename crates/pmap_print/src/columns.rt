@@ -9,7 +9,6 @@ use std::alloc::{AllocError, Global};
 const LONG: usize = 255;
 
 /// The lengths in bytes of the fields of a table's lines. Each includes the byte that ends the field.
-#[derive(Drop)]
 pub struct Columns {
     // The length of each field, or `LONG` if the length is at least that.
     short: Vec<u8>,
@@ -17,6 +16,17 @@ pub struct Columns {
     long: Vec<usize>,
     // The greatest length in each column.
     widths: Vec<usize>,
+}
+
+// A drop is one call, so the proofs of functions that drop this type have one step instead of one for each part.
+impl Drop for Columns {
+    fn drop(self) {
+        let Columns {
+            short: _,
+            long: _,
+            widths: _,
+        } = self;
+    }
 }
 
 // Returns the length that `byte` notes, and the long lengths of the fields before it.

@@ -11,7 +11,6 @@ use std::alloc::{AllocError, Global};
 
 /// A sweep over the addresses from the first to the last: the number of the statement that wins at the addresses up to
 /// `last`, if one does, and the state that is needed to continue.
-#[derive(Drop)]
 pub struct Sweep<'a> {
     pub won: Option<usize>,
     pub last: u128,
@@ -20,6 +19,19 @@ pub struct Sweep<'a> {
     pub next: usize,
     /// The numbers of the others that have been opened and not yet been found to end.
     pub opened: Opened,
+}
+
+// A drop is one call, so the proofs of functions that drop this type have one step instead of one for each part.
+impl Drop for Sweep<'_> {
+    fn drop(self) {
+        let Sweep {
+            won: _,
+            last: _,
+            starts: _,
+            next: _,
+            opened: _,
+        } = self;
+    }
 }
 
 // The last address of the statement with the number, or else the end.

@@ -14,7 +14,7 @@ pub loop-rest-init : goal.loop-rest-init
 loop-rest-init c = rw c.new-messages.ensures (record { within = omega arith; counted = refl; read = ([], refl, c.new-table.ensures.follows) })
 
 -- the fault of a malformed message
-found : (c : goal.After-drop-table-inside-in_err-message) → (c.in_err-message.field-0.0 ≡ out_of_memory) ⊎ HasFileFault [] 0 0 c.args.bytes.now c.in_err-message.field-0.0
+found : (c : goal.After-drop-table) → (c.in_err-message.field-0.0 ≡ out_of_memory) ⊎ HasFileFault [] 0 0 c.args.bytes.now c.in_err-message.field-0.0
 found c =
     let some : 0 < length c.loop-rest.rest.now = not_empty c.loop-rest.rest.now (sym c.loop-rest-test.ensures) in
     let before = c.loop-rest.invariant.read in
