@@ -21,3 +21,9 @@ loop-preserved c = record {
 pub returns-clause-read : goal.returns-clause-read
 returns-clause-read c =
     rw c.in_ok-from_vec.ensures (rw (all_fields c.args.count c.loop.counter c.loop.rest.now c.loop-test.false, append-nil c.loop.fields.items) at c.loop.invariant.read)
+
+pub returns-in_err-push-clause-memory : goal.returns-in_err-push-clause-memory
+returns-in_err-push-clause-memory c = grind (arith, common_steps)
+
+pub returns-in_err-from_vec-clause-memory : goal.returns-in_err-from_vec-clause-memory
+returns-in_err-from_vec-clause-memory c = grind (arith, common_steps)
