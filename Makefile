@@ -44,6 +44,7 @@ scripts:
 	tests/country
 	tests/many
 	tests/package
+	tests/routes
 	tests/table
 
 bench:
