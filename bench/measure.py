@@ -10,7 +10,7 @@ METER = "/usr/bin/time"
 
 
 def run(words, output=subprocess.DEVNULL):
-    """Runs a program, and returns what it wrote to a pipe and the processor seconds that it took."""
+    """Runs a program, and returns what it wrote to a pipe and the CPU seconds that it took."""
     with subprocess.Popen(words, stdout=output) as started:
         text = started.stdout.read() if started.stdout else None
         _, status, usage = os.wait4(started.pid, 0)

@@ -11,8 +11,8 @@ log := out/build.log
 proved = @echo 'proved: $@' >>$(log); \
 	echo "bin/flowlabel: crate $$(grep -c '^proved: ' $(log)) of $(words $(crates)) is proved: $@" >&3
 
-# Each job reads the modules of the logic and of the crates below anew: flow_filter takes 120 processor seconds by one
-# job, and 175 by four. So most libraries have half of the jobs. Nearly all of them wait for pmap_text, which has all.
+# Each job reads the modules of the logic and of the crates below anew: flow_filter takes 120 CPU seconds by one job,
+# and 175 by four. So most libraries have half of the jobs. Nearly all of them wait for pmap_text, which has all.
 jobs = $(if $(filter pmap_text,$@),$(JOBS),$(shell expr \( $(JOBS) + 1 \) / 2))
 
 # rt locks the folder of a crate and those of all crates below, so it would prove the crates above prefix_keys one by one.
