@@ -42,6 +42,7 @@ examples:
 scripts:
 	tests/capture
 	tests/country
+	tests/lint
 	tests/many
 	tests/package
 	tests/routes
