@@ -6,7 +6,8 @@
 # make examples: all examples of the pages. make scripts: the scripts of examples/ and the packages of make package.
 # Whatever needs a missing package is skipped.
 # make bench: the speed of the program.
-# make install, make uninstall: the proved program with its manual pages and completions, below DESTDIR and PREFIX.
+# make install, make uninstall: the proved program with its manual pages, completions, pages and examples, below DESTDIR
+# and PREFIX.
 # make package: these in out/flowlabel-VERSION-x86_64-linux.tar.gz and out/flowlabel_VERSION_amd64.deb.
 .PHONY: test examples scripts bench install uninstall package
 
@@ -16,6 +17,7 @@ INSTALL = install
 
 program = crates/flowlabel/out/flowlabel
 to = "$(DESTDIR)$(PREFIX)"
+pages = share/doc/flowlabel
 files = bin/flowlabel share/man/man1/flowlabel.1 share/man/man5/flowlabel-formats.5 \
 	share/bash-completion/completions/flowlabel share/zsh/site-functions/_flowlabel \
 	share/fish/vendor_completions.d/flowlabel.fish
@@ -23,9 +25,9 @@ files = bin/flowlabel share/man/man1/flowlabel.1 share/man/man5/flowlabel-format
 # The gate builds the program, so bin/flowlabel must take the program to be as old as the gate's start.
 test:
 	mkdir -p out
-	touch out/gate
+	bin/record begin out/gate
 	bench/gate
-	mv -f out/gate out/built
+	bin/record end out/gate
 	docs/trusted >out/trusted
 	docs/words
 	tests/calls/run
@@ -55,7 +57,7 @@ bench:
 # install a program that is built.
 install:
 	bin/flowlabel --help >/dev/null
-	$(INSTALL) -d $(patsubst %,$(to)/%,$(dir $(files)))
+	$(INSTALL) -d $(patsubst %,$(to)/%,$(dir $(files)) $(pages)/examples)
 	$(INSTALL) -m 755 $(program) $(to)/bin/flowlabel
 	$(INSTALL) -m 644 man/flowlabel.1 $(to)/share/man/man1/flowlabel.1
 	$(INSTALL) -m 644 man/flowlabel-formats.5 $(to)/share/man/man5/flowlabel-formats.5
@@ -63,8 +65,11 @@ install:
 	$(INSTALL) -m 644 completions/_flowlabel $(to)/share/zsh/site-functions/_flowlabel
 	$(INSTALL) -m 644 completions/flowlabel.fish $(to)/share/fish/vendor_completions.d/flowlabel.fish
 
+	bin/pages $(to)/$(pages)
+
 uninstall:
 	rm -f $(patsubst %,$(to)/%,$(files))
+	rm -rf $(to)/$(pages)
 
 package:
 	bin/package
