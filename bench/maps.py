@@ -6,14 +6,14 @@ so that the longer of two nested prefixes comes later and decides. A shuffled te
 
 The following are similar, but neighbours share labels, so that a shorter list is worthwhile:
 
-- countries: ranges in rising order, most of which are adjacent, each of one of 250 countries;
+- countries: ranges in ascending order, most of which are adjacent, each of one of 250 countries;
 - routes: sorted, with some thousand labels; a prefix mostly has the label of the one before;
 - regions: like routes with 250 labels;
 - single: like routes with one label;
 - distinct: sorted, each prefix with a label of its own;
 - striped: neighbouring ranges of 1 to 64 addresses with two labels in turn.
 
-These have single addresses in rising order, each with a label of its own, of ten letters:
+These have single addresses in ascending order, each with a label of its own, of ten letters:
 
 - labels: random ones;
 - fold_labels: labels that are close together in a table under the hash of the kit's `FoldHasher`;

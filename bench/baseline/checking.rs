@@ -15,7 +15,7 @@ struct Checker<'a, A> {
     entries: Vec<Statement<A>>,
     stretch: usize,
     entry: usize,
-    pair: Vec<u16>,
+    exact: Vec<u16>,
 }
 
 /// Returns the number of a list's entries if the certificate shows that the list is a shortest one for the map.
@@ -29,7 +29,7 @@ pub fn check<A: Address>(map: Map<A>, list: Map<A>, certificate: Certificate) ->
     let mut entries = list.statements;
     entries.iter_mut().for_each(|entry| entry.label = of_list[entry.label as usize]);
     drop(map.statements);
-    let mut checker = Checker { certificate, stretches, entries, stretch: 0, entry: 0, pair: Vec::new() };
+    let mut checker = Checker { certificate, stretches, entries, stretch: 0, entry: 0, exact: Vec::new() };
     let root = checker.node(A::default(), 0, NO_LABEL)?;
     if checker.certificate.place < checker.certificate.text.len() || checker.entries.len() as u64 > root.cost + 1 {
         return Err("nodes are left, or the bound isn't met".into());
@@ -86,11 +86,11 @@ impl<A: Address> Checker<'_, A> {
                 let end = self.path(low, length, covering, bits, side)?;
                 let sets = &self.certificate.sets;
                 let has_side = sets[end.start..end.end].contains(&side);
-                self.pair.clear();
+                self.exact.clear();
                 if has_side || bits.len() > 1 {
-                    self.pair.push(side);
+                    self.exact.push(side);
                 } else {
-                    unite(&[side], &sets[end.start..end.end], &mut self.pair);
+                    unite(&[side], &sets[end.start..end.end], &mut self.exact);
                 }
                 self.accept(claim, end.cost + u64::from(!has_side))
             }
@@ -108,14 +108,14 @@ impl<A: Address> Checker<'_, A> {
         let (below, middle) = (length + 1, low + A::half(length));
         if *bit == b'1' {
             self.aside(low, below, covering, side)?;
-            return self.way(middle, below, covering, rest, side);
+            return self.path_below(middle, below, covering, rest, side);
         }
-        let end = self.way(low, below, covering, rest, side)?;
+        let end = self.path_below(low, below, covering, rest, side)?;
         self.aside(middle, below, covering, side)?;
         Ok(end)
     }
 
-    fn way(&mut self, low: A, length: u32, above: u32, bits: &[u8], side: u16) -> Result<Claim, Fault> {
+    fn path_below(&mut self, low: A, length: u32, above: u32, bits: &[u8], side: u16) -> Result<Claim, Fault> {
         if bits.is_empty() {
             return self.node(low, length, above);
         }
@@ -128,32 +128,32 @@ impl<A: Address> Checker<'_, A> {
         self.leaf(low, length, side, covering)
     }
 
-    /// Builds the set of two halves' exact pair, and returns the cost of the pair beyond that of the halves.
+    /// Builds the set of two halves' exact claim, and returns its cost beyond that of the halves.
     #[inline(always)]
     fn join(&mut self, lower: Claim, upper: Claim) -> u64 {
         let sets = &self.certificate.sets;
         let (lower, upper) = (&sets[lower.start..lower.end], &sets[upper.start..upper.end]);
-        self.pair.clear();
+        self.exact.clear();
         if let ([label], [other]) = (lower, upper) {
             if label == other {
-                self.pair.push(*label);
+                self.exact.push(*label);
                 return 0;
             }
         }
-        intersect(lower, upper, &mut self.pair);
-        if self.pair.is_empty() {
-            unite(lower, upper, &mut self.pair);
+        intersect(lower, upper, &mut self.exact);
+        if self.exact.is_empty() {
+            unite(lower, upper, &mut self.exact);
             return 1;
         }
         0
     }
 
-    /// Returns a claim if it claims no more than the pair, which has this cost, and drops the sets of its nodes.
+    /// Returns a claim if it claims no more than the exact claim, which has this cost, and drops the sets of its nodes.
     #[inline(always)]
     fn accept(&mut self, claim: Claim, cost: u64) -> Result<Claim, Fault> {
         let sets = &self.certificate.sets[claim.start..claim.end];
         let mut claimed = sets.iter();
-        let has_all = || self.pair.iter().all(|label| claimed.any(|other| other == label));
+        let has_all = || self.exact.iter().all(|label| claimed.any(|other| other == label));
         if claim.cost > cost || claim.cost == cost && !{ has_all }() {
             return Err("a node claims too much".into());
         }

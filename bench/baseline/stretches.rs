@@ -5,8 +5,8 @@ use std::collections::BinaryHeap;
 /// The value that represents a missing label.
 pub const NO_LABEL: u32 = u32::MAX;
 
-/// The stretches of addresses in which one statement is the last that covers, or no statement covers, in rising order:
-/// the start and the label of each. The first begins at 0, and each ends where the next one begins.
+/// The stretches of addresses in which one statement is the last that covers, or no statement covers, in ascending
+/// order: the start and the label of each. The first begins at 0, and each ends where the next one begins.
 pub struct Stretches<A> {
     pub starts: Vec<A>,
     pub labels: Vec<u32>,
@@ -62,7 +62,7 @@ impl<A: Address> Stretches<A> {
     }
 }
 
-/// Returns the numbers of the statements by rising first address, or none if they are in this order.
+/// Returns the numbers of the statements by ascending first address, or none if they are in this order.
 fn by_first<A: Address>(statements: &[Statement<A>]) -> Vec<u32> {
     if statements.windows(2).all(|pair| pair[0].first <= pair[1].first) {
         return Vec::new();

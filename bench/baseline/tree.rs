@@ -8,7 +8,7 @@ struct Set {
     length: u32,
 }
 
-/// A block with the cost and the labels of its exact pair.
+/// A block with the cost and the labels of its exact claim.
 #[derive(Clone, Copy)]
 struct Node {
     /// 0 is a leaf. With the bit PATH it is a path, whose end is the next node. Otherwise it is the number of the upper
@@ -20,7 +20,7 @@ struct Node {
 
 const PATH: u32 = 1 << 31;
 
-/// Some bits from a block to one inside it, if all other halves on the way have one label.
+/// Some bits from a block to one inside it, if all other halves on the path have one label.
 #[derive(Clone, Copy)]
 pub struct Path<A> {
     /// The first address of the block at the end.
@@ -38,8 +38,8 @@ pub enum Kind<A> {
     Path(Path<A>, usize),
 }
 
-/// The binary tree of stretches with the exact pair of each node, in preorder, in which consecutive nodes with one leaf
-/// are joined.
+/// The binary tree of stretches with the exact claim of each node, in preorder, in which consecutive nodes with one
+/// leaf are joined.
 pub struct Tree<A> {
     nodes: Vec<Node>,
     paths: Vec<Path<A>>,
@@ -107,7 +107,7 @@ impl<A: Address> Tree<A> {
         }
     }
 
-    /// Calls the function with the labels of a node's set, in rising order.
+    /// Calls the function with the labels of a node's set, in ascending order.
     #[inline(always)]
     pub fn labels_of<T>(&self, number: usize, call: impl FnOnce(&[u16]) -> T) -> T {
         let set = self.nodes[number].set;
@@ -199,7 +199,7 @@ impl<A: Address> Tree<A> {
     }
 }
 
-/// Appends the labels that two rising lists share.
+/// Appends the labels that two ascending lists share.
 pub fn intersect(one: &[u16], other: &[u16], out: &mut Vec<u16>) {
     let (mut i, mut j) = (0, 0);
     while i < one.len() && j < other.len() {
@@ -212,7 +212,7 @@ pub fn intersect(one: &[u16], other: &[u16], out: &mut Vec<u16>) {
     }
 }
 
-/// Appends all labels of two rising lists that share none.
+/// Appends all labels of two ascending lists that share none.
 pub fn unite(one: &[u16], other: &[u16], out: &mut Vec<u16>) {
     let (mut i, mut j) = (0, 0);
     while i < one.len() && j < other.len() {

@@ -13,7 +13,7 @@ use Rattle.pmap_text.specs.MapModel.{IsSettled, Label, MapModel, settled_label}
 use Rattle.pmap_cert.specs.Compacting.{line_count}
 use Rattle.pmap_cert.specs.Acceptance.{AreBitsAccepted, IsAccepted, IsDecided, IsNodeAccepted, IsWithinExact}
 use Rattle.pmap_cert.specs.CertificateText.{HasNodeForm, HasRoomBelow}
-use Rattle.pmap_cert.specs.CertificateModel.{CertificateModel, ChainNode, InnerNode, LeafNode, Pair, Tree, claim_of, has, chain_pair, chosen_half, side_half, exact_pair}
+use Rattle.pmap_cert.specs.CertificateModel.{CertificateModel, ChainNode, InnerNode, LeafNode, Claim, Tree, claim_of, has, chain_claim, chosen_half, side_half, exact_claim}
 use Rattle.pmap_cert.proofs.ChainWords.{other-room}
 use Rattle.pmap_cert.proofs.Sets.{bytes_eq-same}
 use Rattle.cert_check.specs.Checking.{bits_fault, claim_fault, fault_of_number, first_fault, is_decided, is_label_of, leaf_fault, node_fault, whole_fault, is_same_version, CheckFault, BoundNotMet, CostTooHigh, LeafNotUniform, ListDiffers, SetTooSmall, VersionDiffers}
@@ -106,8 +106,8 @@ has-all s (y ∷ ys) h =
     and_from (has s y) (list_all (has s) ys) (h y (or_left (bytes_eq y y) (has ys y) (bytes_eq-same y)))
     (has-all s ys (λ x inside. h x (or_right (bytes_eq x y) (has ys x) inside)))
 
--- a claim without a fault is within the exact pair
-claim-within : (p e : Pair) → claim_fault p e ≡ None → IsWithinExact p e
+-- a claim without a fault is within the exact claim
+claim-within : (p e : Claim) → claim_fault p e ≡ None → IsWithinExact p e
 claim-within p e none =
     let lacks : Bool = (p.cost == e.cost) && not (list_all (has p.labels) e.labels) in
     let first = cond_none-then (nat_lt e.cost p.cost) (cond lacks (Some SetTooSmall) None) CostTooHigh none in
@@ -129,7 +129,7 @@ claim-within p e none =
     full true false h e = absurd (false≢true (sym h))
     full false c h e = absurd (false≢true e)
 
-claim-none : (p e : Pair) → IsWithinExact p e → claim_fault p e ≡ None
+claim-none : (p e : Claim) → IsWithinExact p e → claim_fault p e ≡ None
 claim-none p e h =
     let high : nat_lt e.cost p.cost ≡ false = false_from_ne_true (nat_lt e.cost p.cost) (λ t. absurd (omega (arith, ltb-true e.cost p.cost t, h.cost))) in
     let lacks : ((p.cost == e.cost) && not (list_all (has p.labels) e.labels)) ≡ false =
@@ -155,7 +155,7 @@ room-from_form table (InnerNode claim lower upper) (suc room) h =
 room-from_form table (ChainNode claim bits side end) room h =
     (h.3, other-room (HasNodeForm table end) (HasRoom end) (room-from_form table end) bits room h.4)
 
--- a chain's way without a fault is accepted
+-- a chain's path without a fault is accepted
 bits-accepted : (m : MapModel) (ps : List Prefix) (side : Label) (k : ℕ) (end : ℕ → ℕ → Option CheckFault) (IsEnd : ℕ → ℕ → Type 0) (Fits : ℕ → Type 0)
     → ((room n q : ℕ) → Fits room → n + room ≡ width_of m.version → end n q ≡ None → IsEnd n q)
     → (bits : List Bool) (room n q : ℕ) → HasRoomBelow Fits bits room → n + room ≡ width_of m.version
@@ -187,7 +187,7 @@ node-accepted : (m : MapModel) (ps : List Prefix) (t : Tree) (room k n q : ℕ) 
 node-accepted m ps (LeafNode x) room k n q fits deep none = leaf-accepted m ps n q x (map_none-part (fault_of_number k) (leaf_fault m ps n q x) none)
 node-accepted m ps (InnerNode claim lower upper) zero k n q fits deep none = absurd fits
 node-accepted m ps (InnerNode claim lower upper) (suc room) k n q fits deep none =
-    let exact = exact_pair (claim_of lower) (claim_of upper) in
+    let exact = exact_claim (claim_of lower) (claim_of upper) in
     let own = option_map (fault_of_number k) (claim_fault claim exact) in
     let high = node_fault m ps upper (k + 1 + line_count lower) (suc n) (2 * q + 1) in
     let first = or_none-parts (node_fault m ps lower (k + 1) (suc n) (2 * q)) (option_or high own) none in
@@ -198,7 +198,7 @@ node-accepted m ps (InnerNode claim lower upper) (suc room) k n q fits deep none
       claim-within claim exact (map_none-part (fault_of_number k) (claim_fault claim exact) second.1),
     )
 node-accepted m ps (ChainNode claim bits side end) room k n q fits deep none =
-    let exact = chain_pair (length bits) side (claim_of end) in
+    let exact = chain_claim (length bits) side (claim_of end) in
     let own = option_map (fault_of_number k) (claim_fault claim exact) in
     let parts = or_none-parts (bits_fault m ps side k (node_fault m ps end (k + 1)) bits n q) own none in (
       fits.0,
@@ -210,14 +210,14 @@ node-accepted m ps (ChainNode claim bits side end) room k n q fits deep none =
 node-none : (m : MapModel) (ps : List Prefix) (t : Tree) (k n q : ℕ) → IsNodeAccepted m ps t n q → node_fault m ps t k n q ≡ None
 node-none m ps (LeafNode x) k n q h = ap (option_map (fault_of_number k)) (leaf-none m ps n q x h.0 h.1)
 node-none m ps (InnerNode claim lower upper) k n q h =
-    let exact = exact_pair (claim_of lower) (claim_of upper) in
+    let exact = exact_claim (claim_of lower) (claim_of upper) in
     let own = option_map (fault_of_number k) (claim_fault claim exact) in
     let high = node_fault m ps upper (k + 1 + line_count lower) (suc n) (2 * q + 1) in
     or_none-from (node_fault m ps lower (k + 1) (suc n) (2 * q)) (option_or high own) (node-none m ps lower (k + 1) (suc n) (2 * q) h.1)
     (or_none-from high own (node-none m ps upper (k + 1 + line_count lower) (suc n) (2 * q + 1) h.2)
     (ap (option_map (fault_of_number k)) (claim-none claim exact h.3)))
 node-none m ps (ChainNode claim bits side end) k n q h =
-    let exact = chain_pair (length bits) side (claim_of end) in
+    let exact = chain_claim (length bits) side (claim_of end) in
     or_none-from (bits_fault m ps side k (node_fault m ps end (k + 1)) bits n q) (option_map (fault_of_number k) (claim_fault claim exact))
     (bits-none m ps side k (node_fault m ps end (k + 1)) (IsNodeAccepted m ps end) (λ n' q' h'. node-none m ps end (k + 1) n' q' h') bits n q h.1)
     (ap (option_map (fault_of_number k)) (claim-none claim exact h.2))

@@ -9,7 +9,7 @@ use Rattle.pmap_text.specs.declared.prefix_list.PrefixList.{PrefixList}
 use Rattle.cert_check.specs.Inner.{AreHalves, IsListPart}
 use Rattle.cert_check.proofs.HalfBlocks.{behind-low, ends-high, high-number, high-within, low-number, low-within}
 use Rattle.cert_check.proofs.Handed.{handed-half}
-use Rattle.cert_check.proofs.Within.{back-from, back-rising, back-to, front-from, front-rising, front-to, lies-between, lies-from, lies-to, narrow}
+use Rattle.cert_check.proofs.Within.{back-from, back-ascending, back-to, front-from, front-ascending, front-to, lies-between, lies-from, lies-to, narrow}
 use Rattle.cert_check.proofs.Handed.{entry-version}
 
 module _ (l : PrefixList) (b low high : Block) (are : AreHalves b low high) (es : List Entry) (label : Option LabelId) (inside : IsListPart l b (suc b.len) es label)
@@ -28,9 +28,9 @@ module _ (l : PrefixList) (b low high : Block) (are : AreHalves b low high) (es 
   low-part = record {
     version = are.lower.version ∙ inside.version;
     within = narrow l.entries b (entry-version l b inside.version) low (low-within b low high are) es (take k es)
-        (front-rising es k high.value inside.within.rising before after)
+        (front-ascending es k high.value inside.within.ascending before after)
         (λ e has.
-        let from = front-from es k high.value inside.within.rising before after e has in
+        let from = front-from es k high.value inside.within.ascending before after e has in
         let lies = (inside.within.inside e from.0).1 in
         let begins = lies-from b (suc b.len) e lies in
         let last = behind-low b low high are in
@@ -38,7 +38,7 @@ module _ (l : PrefixList) (b low high : Block) (are : AreHalves b low high) (es 
         (λ e has lies.
         let to = lies-to low low.len e lies in
         let last = behind-low b low high are in
-        front-to es k high.value inside.within.rising before after e has (omega (arith, to, last)))
+        front-to es k high.value inside.within.ascending before after e has (omega (arith, to, last)))
         inside.within;
     above = handed-half l b inside.version low label (omega (arith, are.lower.len)) (low-number b low high are) inside.above;
   }
@@ -47,14 +47,14 @@ module _ (l : PrefixList) (b low high : Block) (are : AreHalves b low high) (es 
   high-part = record {
     version = are.upper.version ∙ inside.version;
     within = narrow l.entries b (entry-version l b inside.version) high (high-within b low high are) es (drop k es)
-        (back-rising es k high.value inside.within.rising before after)
+        (back-ascending es k high.value inside.within.ascending before after)
         (λ e has.
-        let from = back-from es k high.value inside.within.rising before after e has in
+        let from = back-from es k high.value inside.within.ascending before after e has in
         let lies = (inside.within.inside e from.0).1 in
         let ends = lies-to b (suc b.len) e lies in
         let last = ends-high b low high are in
         (from.0, lies-between high high.len e (omega (arith, lies.long, are.upper.len)) from.1 (omega (arith, last, ends))))
-        (λ e has lies. back-to es k high.value inside.within.rising before after e has (lies-from high high.len e lies))
+        (λ e has lies. back-to es k high.value inside.within.ascending before after e has (lies-from high high.len e lies))
         inside.within;
     above = handed-half l b inside.version high label (omega (arith, are.upper.len)) (high-number b low high are) inside.above;
   }

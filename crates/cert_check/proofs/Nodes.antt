@@ -10,8 +10,8 @@ use Rattle.prefix_keys.specs.Block.{width_of}
 use Rattle.prefix_keys.specs.declared.block.Block.{Block}
 use Rattle.pmap_text.specs.PrefixList.{number_of_block as number_of}
 use Rattle.pmap_cert.specs.Compacting.{line_count}
-use Rattle.pmap_cert.specs.CertificateText.{HasRoomBelow, IsRising}
-use Rattle.pmap_cert.specs.CertificateModel.{ChainNode, InnerNode, LeafNode, Pair, Tree, claim_of, has, chain_pair, chosen_half, side_half, exact_pair}
+use Rattle.pmap_cert.specs.CertificateText.{HasRoomBelow, IsAscending}
+use Rattle.pmap_cert.specs.CertificateModel.{ChainNode, InnerNode, LeafNode, Claim, Tree, claim_of, has, chain_claim, chosen_half, side_half, exact_claim}
 use Rattle.pmap_cert.specs.Node.{Chain, HasChainForm, Inner, Leaf, Node, bits_of, first_node, from_next_line, label_of, set_of, side_of, tree_of}
 use Rattle.cert_check.specs.Inner.{IsHalf, IsAnswer, answer_of, NodeLine}
 use Rattle.cert_check.specs.Checking.{bits_fault, claim_fault, fault_of_number, is_decided, is_label_of, leaf_fault, node_fault, told, CheckFault, CheckFaultKind, CostTooHigh, LeafNotUniform, ListDiffers, NoMemory, SetTooSmall}
@@ -55,25 +55,25 @@ half-room b half q less h room =
     omega (arith, width, h.len, room)
 
 -- the first fault along bits, by that along all but the first bit
-pub way-step : (m : MapModel) (ps : List Prefix) (x : Label) (k : ℕ) (end : ℕ → ℕ → Option CheckFault) (b chosen beside : Block) (bit : Bool) (bits rest : List Bool)
+pub path-step : (m : MapModel) (ps : List Prefix) (x : Label) (k : ℕ) (end : ℕ → ℕ → Option CheckFault) (b chosen beside : Block) (bit : Bool) (bits rest : List Bool)
     → bits ≡ bit ∷ rest → IsHalf b chosen (chosen_half bit (number_of b)) → IsHalf b beside (side_half bit (number_of b))
     → bits_fault m ps x k end bits b.len (number_of b)
     ≡ option_or (bits_fault m ps x k end rest chosen.len (number_of chosen)) (option_map (fault_of_number k) (leaf_fault m ps beside.len (number_of beside) x))
-way-step m ps x k end b chosen beside bit bits rest is on off =
+path-step m ps x k end b chosen beside bit bits rest is on off =
     ap (λ (xs : List Bool). bits_fault m ps x k end xs b.len (number_of b)) is
     ∙ (λ i. option_or (sym (half-is b chosen (chosen_half bit (number_of b)) on (bits_fault m ps x k end rest)) i)
     (option_map (fault_of_number k) (sym (half-is b beside (side_half bit (number_of b)) off (λ n q. leaf_fault m ps n q x)) i)))
 
--- the set of a node rises
-pub rising-of : (node : Node) (count room : ℕ) → HasChainForm count node room → IsRising count 0 (set_of node)
-rising-of (Leaf id) count room h = (omega arith, h, tt)
-rising-of (Inner cost set left right) count zero h = absurd h
-rising-of (Inner cost set left right) count (suc room) h = h.1
-rising-of (Chain cost set bits side end) count room h = h.1
+-- the set of a node ascends
+pub ascending-of : (node : Node) (count room : ℕ) → HasChainForm count node room → IsAscending count 0 (set_of node)
+ascending-of (Leaf id) count room h = (omega arith, h, tt)
+ascending-of (Inner cost set left right) count zero h = absurd h
+ascending-of (Inner cost set left right) count (suc room) h = h.1
+ascending-of (Chain cost set bits side end) count room h = h.1
 
 -- the claim of the first node at a line
-abbrev pub pair_of : List Label → List Node → Pair
-pair_of labels nodes = claim_of (tree_of labels (first_node nodes))
+abbrev pub claim_at : List Label → List Node → Claim
+claim_at labels nodes = claim_of (tree_of labels (first_node nodes))
 
 -- the number of nodes of the first node's tree at a line
 abbrev pub count_of : List Label → List Node → ℕ
@@ -93,7 +93,7 @@ pub record IsInnerAt (labels : List Label) (nodes lower upper : List Node) (room
   pub fault : (m : MapModel) (ps : List Prefix) (k n q : ℕ) → fault_of labels m ps nodes k n q
       ≡ option_or (fault_of labels m ps lower (k + 1) (suc n) (2 * q))
       (option_or (fault_of labels m ps upper (k + 1 + count_of labels lower) (suc n) (2 * q + 1))
-      (option_map (fault_of_number k) (claim_fault (pair_of labels nodes) (exact_pair (pair_of labels lower) (pair_of labels upper)))))
+      (option_map (fault_of_number k) (claim_fault (claim_at labels nodes) (exact_claim (claim_at labels lower) (claim_at labels upper)))))
 
 pub inner-at : (labels : List Label) (nodes lower upper : List Node) (room : ℕ) → 0 < length nodes → HasChainForm (length labels) (first_node nodes) room
     → label_of (first_node nodes) ≡ None → side_of (first_node nodes) ≡ None → lower ≡ from_next_line nodes → upper ≡ drop 1 lower
@@ -121,7 +121,7 @@ inner-at labels (Inner cost set left right ∷ nodes) lower upper (suc room) som
 -- the node at a line is a chain, and `next` is the line of its end
 pub record IsChainAt (labels : List Label) (nodes next : List Node) (side room : ℕ) : Type 0 where
   pub here : 0 < length next
-  pub rising : IsRising (length labels) 0 (set_of (first_node nodes))
+  pub ascending : IsAscending (length labels) 0 (set_of (first_node nodes))
   pub known : side < length labels
   pub some : 0 < length (bits_of (first_node nodes))
   pub form : HasRoomBelow (HasChainForm (length labels) (first_node next)) (bits_of (first_node nodes)) room
@@ -129,7 +129,7 @@ pub record IsChainAt (labels : List Label) (nodes next : List Node) (side room :
   pub count : count_of labels nodes ≡ 1 + count_of labels next
   pub fault : (m : MapModel) (ps : List Prefix) (k n q : ℕ) → fault_of labels m ps nodes k n q
       ≡ option_or (bits_fault m ps (text_at labels side) k (fault_of labels m ps next (k + 1)) (bits_of (first_node nodes)) n q)
-      (option_map (fault_of_number k) (claim_fault (pair_of labels nodes) (chain_pair (length (bits_of (first_node nodes))) (text_at labels side) (pair_of labels next))))
+      (option_map (fault_of_number k) (claim_fault (claim_at labels nodes) (chain_claim (length (bits_of (first_node nodes))) (text_at labels side) (claim_at labels next))))
 
 pub chain-at : (labels : List Label) (nodes next : List Node) (side room : ℕ) → HasChainForm (length labels) (first_node nodes) room
     → side_of (first_node nodes) ≡ Some side → next ≡ from_next_line nodes → IsChainAt labels nodes next side room
@@ -141,7 +141,7 @@ chain-at labels (Chain cost set bits s end ∷ nodes) next side room form is nex
     (subst (λ (ns : List Node). IsChainAt labels (Chain cost set bits s end ∷ nodes) ns s room) (sym next_is)
     (record {
       here = omega arith;
-      rising = form.1;
+      ascending = form.1;
       known = form.2;
       some = form.3;
       form = form.4;
@@ -150,11 +150,11 @@ chain-at labels (Chain cost set bits s end ∷ nodes) next side room form is nex
       fault = λ m ps k n q. refl;
     }))
 
--- the set of the node at a chain's end rises
-pub end-rising : (count : ℕ) (node : Node) (bits : List Bool) (room : ℕ) → HasRoomBelow (HasChainForm count node) bits room → IsRising count 0 (set_of node)
-end-rising count node [] room h = rising-of node count room h
-end-rising count node (bit ∷ bits) zero h = absurd h
-end-rising count node (bit ∷ bits) (suc room) h = end-rising count node bits room h
+-- the set of the node at a chain's end ascends
+pub end-ascending : (count : ℕ) (node : Node) (bits : List Bool) (room : ℕ) → HasRoomBelow (HasChainForm count node) bits room → IsAscending count 0 (set_of node)
+end-ascending count node [] room h = ascending-of node count room h
+end-ascending count node (bit ∷ bits) zero h = absurd h
+end-ascending count node (bit ∷ bits) (suc room) h = end-ascending count node bits room h
 
 pub end-room : (Fits : ℕ → Type 0) (bits : List Bool) (room left : ℕ) → room ≡ left + length bits → HasRoomBelow Fits bits room → Fits left
 end-room Fits [] room left is h = let same : room ≡ left = omega (arith, is) in subst Fits same h
@@ -200,7 +200,7 @@ module _ (m : MapModel) (ps : List Prefix) where
   leaf-node : (k n q : ℕ) (x : Label) → IsNodeFault (option_map (fault_of_number k) (leaf_fault m ps n q x))
   leaf-node k n q x = at-node k (leaf_fault m ps n q x) (leaf-kinds (is_label_of (settled_label m n q) x) (is_decided (width_of m.version) ps n q x))
 
-  claim-node : (k : ℕ) (claim exact : Pair) → IsNodeFault (option_map (fault_of_number k) (claim_fault claim exact))
+  claim-node : (k : ℕ) (claim exact : Claim) → IsNodeFault (option_map (fault_of_number k) (claim_fault claim exact))
   claim-node k claim exact =
       at-node k (claim_fault claim exact)
       (claim-kinds (nat_lt exact.cost claim.cost) ((claim.cost == exact.cost) && not (list_all (has claim.labels) exact.labels)))
@@ -215,12 +215,12 @@ module _ (m : MapModel) (ps : List Prefix) where
   pub tree-node : (t : Tree) (k n q : ℕ) → IsNodeFault (node_fault m ps t k n q)
   tree-node (LeafNode x) k n q = leaf-node k n q x
   tree-node (InnerNode claim lower upper) k n q =
-      let own = option_map (fault_of_number k) (claim_fault claim (exact_pair (claim_of lower) (claim_of upper))) in
+      let own = option_map (fault_of_number k) (claim_fault claim (exact_claim (claim_of lower) (claim_of upper))) in
       let high = node_fault m ps upper (k + 1 + line_count lower) (suc n) (2 * q + 1) in
       or-node (node_fault m ps lower (k + 1) (suc n) (2 * q)) (option_or high own) (tree-node lower (k + 1) (suc n) (2 * q))
-      (or-node high own (tree-node upper (k + 1 + line_count lower) (suc n) (2 * q + 1)) (claim-node k claim (exact_pair (claim_of lower) (claim_of upper))))
+      (or-node high own (tree-node upper (k + 1 + line_count lower) (suc n) (2 * q + 1)) (claim-node k claim (exact_claim (claim_of lower) (claim_of upper))))
   tree-node (ChainNode claim bits side end) k n q =
       or-node (bits_fault m ps side k (node_fault m ps end (k + 1)) bits n q)
-      (option_map (fault_of_number k) (claim_fault claim (chain_pair (length bits) side (claim_of end))))
+      (option_map (fault_of_number k) (claim_fault claim (chain_claim (length bits) side (claim_of end))))
       (bits-node side k (node_fault m ps end (k + 1)) (λ n' q'. tree-node end (k + 1) n' q') bits n q)
-      (claim-node k claim (chain_pair (length bits) side (claim_of end)))
+      (claim-node k claim (chain_claim (length bits) side (claim_of end)))

@@ -1,4 +1,4 @@
--- Sets of labels by their numbers in rising order.
+-- Sets of labels by their numbers in ascending order.
 use Rattle.std.proofs.Common.{◌≡◌, ◌⊎◌, inl, inr, ℕ, zero, suc, ◌+◌, ◌^◌, ◌<◌, ◌≤◌, Bool, true, false, cond, not, ◌&&◌, ◌||◌, ◌==◌, List, [], ◌∷◌, Option, Some, None, drop, filter, get_or, length, map, nat_lt, slice_get, take, refl, sym, ap, ap₂, ◌∙◌, subst, arith, bytes_eq}
 use Rattle.std.specs.List.{list_all}
 use Rattle.std.proofs.lemmas.Bool.{both_ways, eq-eqb, eqb-true, false_from_ne_true, false≢true}
@@ -10,8 +10,8 @@ use Rattle.pmap_text.specs.Label.{IsLabelTable}
 use Rattle.pmap_text.specs.MapModel.{Label}
 use Rattle.pmap_text.specs.MapText.{text_at}
 use Rattle.pmap_text.specs.declared.label.LabelId.{LabelId}
-use Rattle.pmap_cert.specs.CertificateText.{IsRising, place_of}
-use Rattle.pmap_cert.specs.CertificateModel.{Pair, claim_of, has, chain_labels, chain_pair, exact_pair, exact_pair_by}
+use Rattle.pmap_cert.specs.CertificateText.{IsAscending, place_of}
+use Rattle.pmap_cert.specs.CertificateModel.{Claim, claim_of, has, chain_labels, chain_claim, exact_claim, exact_claim_by}
 use Rattle.pmap_cert.specs.Node.{Chain, Inner, Leaf, Node, cost_of, set_of, tree_of}
 use Rattle.pmap_cert.proofs.Tables.{place_of-text_at}
 use Rattle.cert_check.specs.Checking.{claim_fault, CheckFaultKind, CostTooHigh, SetTooSmall}
@@ -22,28 +22,28 @@ use Rattle.cert_check.specs.Inner.{has_number}
 abbrev pub numbers : List LabelId → List ℕ
 numbers ids = map (λ i. i.0) ids
 
-pub rising-lower : (bound low less : ℕ) (ns : List ℕ) → less ≤ low → IsRising bound low ns → IsRising bound less ns
-rising-lower bound low less [] le h = tt
-rising-lower bound low less (n ∷ ns) le h = (omega (arith, h.0, le), h.1, h.2)
+pub ascending-lower : (bound low less : ℕ) (ns : List ℕ) → less ≤ low → IsAscending bound low ns → IsAscending bound less ns
+ascending-lower bound low less [] le h = tt
+ascending-lower bound low less (n ∷ ns) le h = (omega (arith, h.0, le), h.1, h.2)
 
-pub rising-bound : (bound wide low : ℕ) (ns : List ℕ) → bound ≤ wide → IsRising bound low ns → IsRising wide low ns
-rising-bound bound wide low [] le h = tt
-rising-bound bound wide low (n ∷ ns) le h = (h.0, omega (arith, h.1, le), rising-bound bound wide (n + 1) ns le h.2)
+pub ascending-bound : (bound wide low : ℕ) (ns : List ℕ) → bound ≤ wide → IsAscending bound low ns → IsAscending wide low ns
+ascending-bound bound wide low [] le h = tt
+ascending-bound bound wide low (n ∷ ns) le h = (h.0, omega (arith, h.1, le), ascending-bound bound wide (n + 1) ns le h.2)
 
 ne-eqb : (a b : ℕ) → (a ≡ b → ⊥) → (a == b) ≡ false
 ne-eqb a b ne = false_from_ne_true (a == b) (λ e. ne (eqb-true a b e))
 
--- a rising list has no number below its first
-pub rising-lacks : (bound low n : ℕ) (ns : List ℕ) → n < low → IsRising bound low ns → has_number ns n ≡ false
-rising-lacks bound low n [] less h = refl
-rising-lacks bound low n (m ∷ ns) less h =
+-- an ascending list has no number below its first
+pub ascending-lacks : (bound low n : ℕ) (ns : List ℕ) → n < low → IsAscending bound low ns → has_number ns n ≡ false
+ascending-lacks bound low n [] less h = refl
+ascending-lacks bound low n (m ∷ ns) less h =
     ap (λ b. b || has_number ns n) (ne-eqb m n (λ e. absurd (omega (arith, e, h.0, less))))
-    ∙ rising-lacks bound (m + 1) n ns (omega (arith, h.0, less)) h.2
+    ∙ ascending-lacks bound (m + 1) n ns (omega (arith, h.0, less)) h.2
 
--- a rising list without its first number rises
-pub step-rising : (bound : ℕ) (rest : List LabelId) (first : LabelId) → slice_get rest 0 ≡ Some first → IsRising bound 0 (numbers rest) → IsRising bound 0 (numbers (drop 1 rest))
-step-rising bound [] first e h = absurd (none-some first e)
-step-rising bound (r ∷ rest) first e h = rising-lower bound (r.0 + 1) 0 (numbers rest) (omega arith) h.2
+-- an ascending list without its first number ascends
+pub step-ascending : (bound : ℕ) (rest : List LabelId) (first : LabelId) → slice_get rest 0 ≡ Some first → IsAscending bound 0 (numbers rest) → IsAscending bound 0 (numbers (drop 1 rest))
+step-ascending bound [] first e h = absurd (none-some first e)
+step-ascending bound (r ∷ rest) first e h = ascending-lower bound (r.0 + 1) 0 (numbers rest) (omega arith) h.2
 
 pub step-kept : (rest : List LabelId) (first : LabelId) (n : ℕ) → slice_get rest 0 ≡ Some first → first.0 < n → has_number (numbers (drop 1 rest)) n ≡ has_number (numbers rest) n
 step-kept [] first n e less = absurd (none-some first e)
@@ -51,13 +51,13 @@ step-kept (r ∷ rest) first n e less =
     let same : r ≡ first = same_Some r first e in
     sym (ap (λ b. b || has_number (numbers rest) n) (ne-eqb r.0 n (λ f. absurd (omega (arith, f, less, ap (λ (i : LabelId). i.0) same)))))
 
--- the first number of a list that rises from `id` on is `id` exactly if the list has `id`
-pub first-is : (bound : ℕ) (rest : List LabelId) (first id : LabelId) → slice_get rest 0 ≡ Some first → IsRising bound id.0 (numbers rest) → (first.0 == id.0) ≡ has_number (numbers rest) id.0
+-- the first number of a list that ascends from `id` on is `id` exactly if the list has `id`
+pub first-is : (bound : ℕ) (rest : List LabelId) (first id : LabelId) → slice_get rest 0 ≡ Some first → IsAscending bound id.0 (numbers rest) → (first.0 == id.0) ≡ has_number (numbers rest) id.0
 first-is bound [] first id e h = absurd (none-some first e)
 first-is bound (r ∷ rest) first id e h =
     let same : r ≡ first = same_Some r first e in
     ap (λ (i : LabelId). i.0 == id.0) (sym same)
-    ∙ by (r.0 == id.0) (has_number (numbers rest) id.0) (rising-lacks bound (r.0 + 1) id.0 (numbers rest) (omega (arith, h.0)) h.2)
+    ∙ by (r.0 == id.0) (has_number (numbers rest) id.0) (ascending-lacks bound (r.0 + 1) id.0 (numbers rest) (omega (arith, h.0)) h.2)
   where
     by : (a b : Bool) → b ≡ false → a ≡ (a || b)
     by true b none = refl
@@ -66,28 +66,28 @@ first-is bound (r ∷ rest) first id e h =
 -- A walk over two sets at index i of the first: the rest of the other set has all its numbers that are still to come.
 pub record IsWalk (set rest other : List LabelId) (i : ℕ) : Type 0 where
   pub low : ℕ
-  pub coming : IsRising (2 ^ 32) low (numbers (drop i set))
-  pub rising : IsRising (2 ^ 32) 0 (numbers rest)
+  pub coming : IsAscending (2 ^ 32) low (numbers (drop i set))
+  pub ascending : IsAscending (2 ^ 32) 0 (numbers rest)
   pub kept : (n : ℕ) → low ≤ n → has_number (numbers rest) n ≡ has_number (numbers other) n
 
--- the number at index i is the first of those to come, and the others rise after it
-coming-first : (low : ℕ) (set : List LabelId) (i : ℕ) (d : LabelId) → i < length set → IsRising (2 ^ 32) low (numbers (drop i set))
-    → (low ≤ (get_or set i d).0) × IsRising (2 ^ 32) ((get_or set i d).0 + 1) (numbers (drop (suc i) set))
+-- the number at index i is the first of those to come, and the others ascend after it
+coming-first : (low : ℕ) (set : List LabelId) (i : ℕ) (d : LabelId) → i < length set → IsAscending (2 ^ 32) low (numbers (drop i set))
+    → (low ≤ (get_or set i d).0) × IsAscending (2 ^ 32) ((get_or set i d).0 + 1) (numbers (drop (suc i) set))
 coming-first low [] i d less h = absurd (omega arith)
 coming-first low (s ∷ set) zero d less h = (h.0, h.2)
 coming-first low (s ∷ set) (suc i) d less h = coming-first low set i d (omega (arith, less)) h
 
 module _ (set rest rest' other : List LabelId) (i : ℕ) (d : LabelId) (less : i < length set) (walk : IsWalk set rest other i)
-    (rising : IsRising (2 ^ 32) (get_or set i d).0 (numbers rest'))
+    (ascending : IsAscending (2 ^ 32) (get_or set i d).0 (numbers rest'))
     (kept : (n : ℕ) → (get_or set i d).0 ≤ n → has_number (numbers rest') n ≡ has_number (numbers rest) n) where
-  first-coming : (walk.low ≤ (get_or set i d).0) × IsRising (2 ^ 32) ((get_or set i d).0 + 1) (numbers (drop (suc i) set))
+  first-coming : (walk.low ≤ (get_or set i d).0) × IsAscending (2 ^ 32) ((get_or set i d).0 + 1) (numbers (drop (suc i) set))
   first-coming = coming-first walk.low set i d less walk.coming
 
   pub walk-next : IsWalk set rest' other (suc i)
   walk-next = record {
     low = (get_or set i d).0 + 1;
     coming = first-coming.1;
-    rising = rising-lower (2 ^ 32) (get_or set i d).0 0 (numbers rest') (omega arith) rising;
+    ascending = ascending-lower (2 ^ 32) (get_or set i d).0 0 (numbers rest') (omega arith) ascending;
     kept = λ n le. kept n (omega (arith, le)) ∙ walk.kept n (omega (arith, le, first-coming.0));
   }
 
@@ -105,11 +105,11 @@ module _ (table : List Label) (ok : IsLabelTable table) where
           (λ t. both_ways (m == n) e (eq-eqb m n
           (sym (place_of-text_at table m ok h') ∙ ap (place_of table) (sym ((bytes_eq-Decides (text_at table n) (text_at table m)).0 t)) ∙ place_of-text_at table n ok h)))
 
-  pub has-texts : (low : ℕ) (ns : List ℕ) (n : ℕ) → IsRising (length table) low ns → n < length table → has (map (text_at table) ns) (text_at table n) ≡ has_number ns n
+  pub has-texts : (low : ℕ) (ns : List ℕ) (n : ℕ) → IsAscending (length table) low ns → n < length table → has (map (text_at table) ns) (text_at table n) ≡ has_number ns n
   has-texts low [] n h less = refl
   has-texts low (m ∷ ns) n h less = ap₂ ◌||◌ (same-number n m less h.1) (has-texts (m + 1) ns n h.2 less)
 
-  pub common-texts : (low low' : ℕ) (ns ms : List ℕ) → IsRising (length table) low ns → IsRising (length table) low' ms
+  pub common-texts : (low low' : ℕ) (ns ms : List ℕ) → IsAscending (length table) low ns → IsAscending (length table) low' ms
       → filter (has (map (text_at table) ms)) (map (text_at table) ns) ≡ map (text_at table) (filter (has_number ms) ns)
   common-texts low low' [] ms h h' = refl
   common-texts low low' (n ∷ ns) ms h h' = by (has_number ms n) (has-texts low' ms n h' h.1) (common-texts (n + 1) low' ns ms h.2 h')
@@ -122,23 +122,23 @@ module _ (table : List Label) (ok : IsLabelTable table) where
       by false e rest = ap (λ b. cond b (text_at table n ∷ filter (has (map (text_at table) ms)) (map (text_at table) ns)) (filter (has (map (text_at table) ms)) (map (text_at table) ns))) e
           ∙ rest
 
-  pub all-texts : (low low' : ℕ) (ns ms : List ℕ) → IsRising (length table) low ns → IsRising (length table) low' ms
+  pub all-texts : (low low' : ℕ) (ns ms : List ℕ) → IsAscending (length table) low ns → IsAscending (length table) low' ms
       → list_all (has (map (text_at table) ms)) (map (text_at table) ns) ≡ list_all (has_number ms) ns
   all-texts low low' [] ms h h' = refl
   all-texts low low' (n ∷ ns) ms h h' = ap₂ ◌&&◌ (has-texts low' ms n h' h.1) (all-texts (n + 1) low' ns ms h.2 h')
 
--- a filtered rising list rises
-pub rising-filter : (bound low : ℕ) (test : ℕ → Bool) (ns : List ℕ) → IsRising bound low ns → IsRising bound low (filter test ns)
-rising-filter bound low test [] h = tt
-rising-filter bound low test (n ∷ ns) h = by (test n) (rising-filter bound (n + 1) test ns h.2)
+-- a filtered ascending list ascends
+pub ascending-filter : (bound low : ℕ) (test : ℕ → Bool) (ns : List ℕ) → IsAscending bound low ns → IsAscending bound low (filter test ns)
+ascending-filter bound low test [] h = tt
+ascending-filter bound low test (n ∷ ns) h = by (test n) (ascending-filter bound (n + 1) test ns h.2)
   where
-    by : (b : Bool) → IsRising bound (n + 1) (filter test ns) → IsRising bound low (cond b (n ∷ filter test ns) (filter test ns))
+    by : (b : Bool) → IsAscending bound (n + 1) (filter test ns) → IsAscending bound low (cond b (n ∷ filter test ns) (filter test ns))
     by true rest = (h.0, h.1, rest)
-    by false rest = rising-lower bound (n + 1) low (filter test ns) (omega (arith, h.0)) rest
+    by false rest = ascending-lower bound (n + 1) low (filter test ns) (omega (arith, h.0)) rest
 
--- the pair with this cost and the labels with these numbers
-abbrev pub pair_of : List Label → ℕ → List ℕ → Pair
-pair_of table k ns = record { cost = k; labels = map (text_at table) ns }
+-- the claim with this cost and the labels with these numbers
+abbrev pub claim_with : List Label → ℕ → List ℕ → Claim
+claim_with table k ns = record { cost = k; labels = map (text_at table) ns }
 
 -- the fault of a claim by its cost, the exact cost, and whether it has all labels of the exact set
 abbrev pub fault_by : ℕ → ℕ → Bool → Option CheckFaultKind
@@ -146,34 +146,34 @@ fault_by cost exact full = cond (nat_lt exact cost) (Some CostTooHigh) (cond ((c
 
 -- the fault of a claim by label numbers, if the sets of the halves have no common label
 pub claim-apart : (table : List Label) → IsLabelTable table → (cost left right : ℕ) (set lower upper : List ℕ)
-    → IsRising (length table) 0 set → IsRising (length table) 0 lower → IsRising (length table) 0 upper → filter (has_number upper) lower ≡ []
-    → claim_fault (pair_of table cost set) (exact_pair (pair_of table left lower) (pair_of table right upper))
+    → IsAscending (length table) 0 set → IsAscending (length table) 0 lower → IsAscending (length table) 0 upper → filter (has_number upper) lower ≡ []
+    → claim_fault (claim_with table cost set) (exact_claim (claim_with table left lower) (claim_with table right upper))
     ≡ fault_by cost (left + right + 1) (list_all (has_number set) lower && list_all (has_number set) upper)
 claim-apart table ok cost left right set lower upper h h' h'' none =
     let T = text_at table in
     let common : filter (has (map T upper)) (map T lower) ≡ [] = common-texts table ok 0 0 lower upper h' h'' ∙ ap (map T) none in
-    ap (λ (xs : List Label). claim_fault (pair_of table cost set) (exact_pair_by (pair_of table left lower) (pair_of table right upper) xs)) common
+    ap (λ (xs : List Label). claim_fault (claim_with table cost set) (exact_claim_by (claim_with table left lower) (claim_with table right upper) xs)) common
     ∙ ap (fault_by cost (left + right + 1))
     (list_all-append (has (map T set)) (map T lower) (map T upper)
     ∙ ap₂ ◌&&◌ (all-texts table ok 0 0 lower set h' h) (all-texts table ok 0 0 upper set h'' h))
 
 pub claim-common : (table : List Label) → IsLabelTable table → (cost left right : ℕ) (set lower upper : List ℕ)
-    → IsRising (length table) 0 set → IsRising (length table) 0 lower → IsRising (length table) 0 upper → (n : ℕ) (ns : List ℕ) → filter (has_number upper) lower ≡ n ∷ ns
-    → claim_fault (pair_of table cost set) (exact_pair (pair_of table left lower) (pair_of table right upper))
+    → IsAscending (length table) 0 set → IsAscending (length table) 0 lower → IsAscending (length table) 0 upper → (n : ℕ) (ns : List ℕ) → filter (has_number upper) lower ≡ n ∷ ns
+    → claim_fault (claim_with table cost set) (exact_claim (claim_with table left lower) (claim_with table right upper))
     ≡ fault_by cost (left + right) (list_all (has_number set) (n ∷ ns))
 claim-common table ok cost left right set lower upper h h' h'' n ns some =
     let T = text_at table in
     let common : filter (has (map T upper)) (map T lower) ≡ map T (n ∷ ns) = common-texts table ok 0 0 lower upper h' h'' ∙ ap (map T) some in
-    let rising : IsRising (length table) 0 (n ∷ ns) = subst (IsRising (length table) 0) some (rising-filter (length table) 0 (has_number upper) lower h') in
-    ap (λ (xs : List Label). claim_fault (pair_of table cost set) (exact_pair_by (pair_of table left lower) (pair_of table right upper) xs)) common
-    ∙ ap (fault_by cost (left + right)) (all-texts table ok 0 0 (n ∷ ns) set rising h)
+    let ascending : IsAscending (length table) 0 (n ∷ ns) = subst (IsAscending (length table) 0) some (ascending-filter (length table) 0 (has_number upper) lower h') in
+    ap (λ (xs : List Label). claim_fault (claim_with table cost set) (exact_claim_by (claim_with table left lower) (claim_with table right upper) xs)) common
+    ∙ ap (fault_by cost (left + right)) (all-texts table ok 0 0 (n ∷ ns) set ascending h)
 
 -- a walk goes on to the next index
-pub goes-on : (set rest rest' other : List LabelId) (i : ℕ) (d : LabelId) → i < length set → IsWalk set rest other i → IsRising (2 ^ 32) (get_or set i d).0 (numbers rest')
+pub goes-on : (set rest rest' other : List LabelId) (i : ℕ) (d : LabelId) → i < length set → IsWalk set rest other i → IsAscending (2 ^ 32) (get_or set i d).0 (numbers rest')
     → ((n : ℕ) → (get_or set i d).0 ≤ n → has_number (numbers rest') n ≡ has_number (numbers rest) n) → IsWalk set rest' other (i + 1)
-goes-on set rest rest' other i d less walk rising kept =
+goes-on set rest rest' other i d less walk ascending kept =
     let e : suc i ≡ i + 1 = omega arith in
-    subst (IsWalk set rest' other) e (walk-next set rest rest' other i d less walk rising kept)
+    subst (IsWalk set rest' other) e (walk-next set rest rest' other i d less walk ascending kept)
 
 -- a test of the first i + 1 elements, by that of the first i
 pub all-more : (p : LabelId → Bool) (set : List LabelId) (i : ℕ) (d : LabelId) → i < length set → p (get_or set i d) ≡ true
@@ -193,17 +193,17 @@ numbers-filter p (x ∷ ids) = by (p x.0) (numbers-filter p ids)
     by true rest = ap (λ (ns : List ℕ). x.0 ∷ ns) rest
     by false rest = rest
 
--- a rising set of a table's numbers rises below 2 ^ 32
-pub set-rising : (count : ℕ) (ids : List LabelId) (ns : List ℕ) → count ≤ 65536 → numbers ids ≡ ns → IsRising count 0 ns → IsRising (2 ^ 32) 0 (numbers ids)
-set-rising count ids ns few e h =
-    subst (IsRising (2 ^ 32) 0) (sym e) (rising-bound count (2 ^ 32) 0 ns (omega (arith, few)) h)
+-- an ascending set of a table's numbers ascends below 2 ^ 32
+pub set-ascending : (count : ℕ) (ids : List LabelId) (ns : List ℕ) → count ≤ 65536 → numbers ids ≡ ns → IsAscending count 0 ns → IsAscending (2 ^ 32) 0 (numbers ids)
+set-ascending count ids ns few e h =
+    subst (IsAscending (2 ^ 32) 0) (sym e) (ascending-bound count (2 ^ 32) 0 ns (omega (arith, few)) h)
 
 -- the common labels of two sets have the common numbers
 pub both-numbers : (lower upper both : List LabelId) → both ≡ filter (λ i. has_number (numbers upper) i.0) lower → numbers both ≡ filter (has_number (numbers upper)) (numbers lower)
 both-numbers lower upper both e = ap numbers e ∙ numbers-filter (has_number (numbers upper)) lower
 
 -- a node claims its cost and the labels with the numbers of its set
-pub claim-numbers : (table : List Label) (node : Node) → claim_of (tree_of table node) ≡ pair_of table (cost_of node) (set_of node)
+pub claim-numbers : (table : List Label) (node : Node) → claim_of (tree_of table node) ≡ claim_with table (cost_of node) (set_of node)
 claim-numbers table (Leaf id) = refl
 claim-numbers table (Inner cost set left right) = refl
 claim-numbers table (Chain cost set bits side end) = refl
@@ -214,19 +214,19 @@ all-numbers set ids ns ms e e' =
     sym (list_all-map (has_number (numbers set)) (λ (j : LabelId). j.0) ids) ∙ (λ i. list_all (has_number (e i)) (e' i))
 
 module _ (table : List Label) (ok : IsLabelTable table) (claim left right : Node) (set lower upper both : List LabelId) (cost below : ℕ) (full : Bool)
-    (h : IsRising (length table) 0 (set_of claim)) (h' : IsRising (length table) 0 (set_of left)) (h'' : IsRising (length table) 0 (set_of right))
+    (h : IsAscending (length table) 0 (set_of claim)) (h' : IsAscending (length table) 0 (set_of left)) (h'' : IsAscending (length table) 0 (set_of right))
     (e : numbers set ≡ set_of claim) (e' : numbers lower ≡ set_of left) (e'' : numbers upper ≡ set_of right)
     (are : both ≡ filter (λ i. has_number (numbers upper) i.0) lower) (costs : cost ≡ cost_of claim) (belows : below ≡ cost_of left + cost_of right) where
-  exact-is : claim_fault (pair_of table (cost_of claim) (set_of claim)) (exact_pair (pair_of table (cost_of left) (set_of left)) (pair_of table (cost_of right) (set_of right)))
-      ≡ claim_fault (claim_of (tree_of table claim)) (exact_pair (claim_of (tree_of table left)) (claim_of (tree_of table right)))
-  exact-is = λ i. claim_fault (sym (claim-numbers table claim) i) (exact_pair (sym (claim-numbers table left) i) (sym (claim-numbers table right) i))
+  exact-is : claim_fault (claim_with table (cost_of claim) (set_of claim)) (exact_claim (claim_with table (cost_of left) (set_of left)) (claim_with table (cost_of right) (set_of right)))
+      ≡ claim_fault (claim_of (tree_of table claim)) (exact_claim (claim_of (tree_of table left)) (claim_of (tree_of table right)))
+  exact-is = λ i. claim_fault (sym (claim-numbers table claim) i) (exact_claim (sym (claim-numbers table left) i) (sym (claim-numbers table right) i))
 
   common-is : filter (has_number (set_of right)) (set_of left) ≡ numbers both
   common-is = (λ i. filter (has_number (sym e'' i)) (sym e' i)) ∙ sym (both-numbers lower upper both are)
 
   -- the fault of a claim if the sets of the halves have no common label
   pub node-apart : length both ≡ 0 → full ≡ (list_all (λ i. has_number (numbers set) i.0) lower && list_all (λ i. has_number (numbers set) i.0) upper)
-      → fault_by cost (below + 1) full ≡ claim_fault (claim_of (tree_of table claim)) (exact_pair (claim_of (tree_of table left)) (claim_of (tree_of table right)))
+      → fault_by cost (below + 1) full ≡ claim_fault (claim_of (tree_of table claim)) (exact_claim (claim_of (tree_of table left)) (claim_of (tree_of table right)))
   node-apart none fulls =
       let nothing : filter (has_number (set_of right)) (set_of left) ≡ [] = common-is ∙ ap numbers (length-nil both none) in
       (λ i. fault_by (costs i) (belows i + 1) (fulls i))
@@ -237,7 +237,7 @@ module _ (table : List Label) (ok : IsLabelTable table) (claim left right : Node
 
   -- the fault of a claim if the sets of the halves have a common label
   common-by : (xs : List LabelId) → both ≡ xs → (length xs == 0) ≡ false → full ≡ list_all (λ i. has_number (numbers set) i.0) xs
-      → fault_by cost below full ≡ claim_fault (claim_of (tree_of table claim)) (exact_pair (claim_of (tree_of table left)) (claim_of (tree_of table right)))
+      → fault_by cost below full ≡ claim_fault (claim_of (tree_of table claim)) (exact_claim (claim_of (tree_of table left)) (claim_of (tree_of table right)))
   common-by [] is some fulls = absurd (false≢true (sym some))
   common-by (x ∷ xs) is some fulls =
       (λ i. fault_by (costs i) (belows i) (fulls i))
@@ -246,7 +246,7 @@ module _ (table : List Label) (ok : IsLabelTable table) (claim left right : Node
       ∙ exact-is
 
   pub node-common : (length both == 0) ≡ false → full ≡ list_all (λ i. has_number (numbers set) i.0) both
-      → fault_by cost below full ≡ claim_fault (claim_of (tree_of table claim)) (exact_pair (claim_of (tree_of table left)) (claim_of (tree_of table right)))
+      → fault_by cost below full ≡ claim_fault (claim_of (tree_of table claim)) (exact_claim (claim_of (tree_of table left)) (claim_of (tree_of table right)))
   node-common some fulls = common-by both refl some fulls
 
 -- a filter keeps nothing if no element passes
@@ -283,19 +283,19 @@ all-common p t (x ∷ ids) = by (p x) (all-common p t ids)
 
 -- The fault of a chain's claim, by the numbers of its set, its side label and its end's set.
 module _ (table : List Label) (ok : IsLabelTable table) (n cost below side : ℕ) (set ends : List ℕ)
-    (h : IsRising (length table) 0 set) (h' : IsRising (length table) 0 ends) (known : side < length table) where
+    (h : IsAscending (length table) 0 set) (h' : IsAscending (length table) 0 ends) (known : side < length table) where
   chain-by : (b : Bool) → has_number ends side ≡ b
-      → claim_fault (pair_of table cost set) (chain_pair n (text_at table side) (pair_of table below ends))
-      ≡ claim_fault (pair_of table cost set)
+      → claim_fault (claim_with table cost set) (chain_claim n (text_at table side) (claim_with table below ends))
+      ≡ claim_fault (claim_with table cost set)
       (cond b (record { cost = below; labels = text_at table side ∷ [] })
       (record { cost = below + 1; labels = chain_labels n (text_at table side) (map (text_at table) ends) }))
   chain-by b e =
-      ap (λ (t : Bool). claim_fault (pair_of table cost set)
+      ap (λ (t : Bool). claim_fault (claim_with table cost set)
       (cond t (record { cost = below; labels = text_at table side ∷ [] })
       (record { cost = below + 1; labels = chain_labels n (text_at table side) (map (text_at table) ends) })))
       (has-texts table ok 0 ends side h' known ∙ e)
 
-  side-alone : (exact : ℕ) → claim_fault (pair_of table cost set) (record { cost = exact; labels = text_at table side ∷ [] })
+  side-alone : (exact : ℕ) → claim_fault (claim_with table cost set) (record { cost = exact; labels = text_at table side ∷ [] })
       ≡ fault_by cost exact (has_number set side)
   side-alone exact =
       ap (fault_by cost exact) (and-true (has (map (text_at table) set) (text_at table side)) ∙ has-texts table ok 0 set side h known)
@@ -305,14 +305,14 @@ module _ (table : List Label) (ok : IsLabelTable table) (n cost below side : ℕ
       and-true false = refl
 
   pub chain-in : has_number ends side ≡ true
-      → claim_fault (pair_of table cost set) (chain_pair n (text_at table side) (pair_of table below ends)) ≡ fault_by cost below (has_number set side)
+      → claim_fault (claim_with table cost set) (chain_claim n (text_at table side) (claim_with table below ends)) ≡ fault_by cost below (has_number set side)
   chain-in e = chain-by true e ∙ side-alone below
 
   pub chain-more : has_number ends side ≡ false → (n ≡ 1 → ⊥)
-      → claim_fault (pair_of table cost set) (chain_pair n (text_at table side) (pair_of table below ends)) ≡ fault_by cost (below + 1) (has_number set side)
+      → claim_fault (claim_with table cost set) (chain_claim n (text_at table side) (claim_with table below ends)) ≡ fault_by cost (below + 1) (has_number set side)
   chain-more e ne =
       chain-by false e
-      ∙ ap (λ (xs : List Label). claim_fault (pair_of table cost set) (record { cost = below + 1; labels = xs })) (alone n ne)
+      ∙ ap (λ (xs : List Label). claim_fault (claim_with table cost set) (record { cost = below + 1; labels = xs })) (alone n ne)
       ∙ side-alone (below + 1)
     where
       alone : (i : ℕ) → (i ≡ 1 → ⊥) → chain_labels i (text_at table side) (map (text_at table) ends) ≡ text_at table side ∷ []
@@ -321,20 +321,20 @@ module _ (table : List Label) (ok : IsLabelTable table) (n cost below side : ℕ
       alone (suc (suc i)) ne = refl
 
   pub chain-one : has_number ends side ≡ false → n ≡ 1
-      → claim_fault (pair_of table cost set) (chain_pair n (text_at table side) (pair_of table below ends))
+      → claim_fault (claim_with table cost set) (chain_claim n (text_at table side) (claim_with table below ends))
       ≡ fault_by cost (below + 1) (has_number set side && list_all (has_number set) ends)
   chain-one e one =
       chain-by false e
-      ∙ ap (λ (i : ℕ). claim_fault (pair_of table cost set) (record { cost = below + 1; labels = chain_labels i (text_at table side) (map (text_at table) ends) })) one
+      ∙ ap (λ (i : ℕ). claim_fault (claim_with table cost set) (record { cost = below + 1; labels = chain_labels i (text_at table side) (map (text_at table) ends) })) one
       ∙ ap (fault_by cost (below + 1)) (ap₂ ◌&&◌ (has-texts table ok 0 set side h known) (all-texts table ok 0 0 ends set h' h))
 
 -- The fault of a chain's claim, by its node and the node at its end.
 module _ (table : List Label) (ok : IsLabelTable table) (n side : ℕ) (chain end : Node) (set beneath : List LabelId) (cost below : ℕ) (full : Bool)
-    (h : IsRising (length table) 0 (set_of chain)) (h' : IsRising (length table) 0 (set_of end)) (known : side < length table)
+    (h : IsAscending (length table) 0 (set_of chain)) (h' : IsAscending (length table) 0 (set_of end)) (known : side < length table)
     (e : numbers set ≡ set_of chain) (e' : numbers beneath ≡ set_of end) (costs : cost ≡ cost_of chain) (belows : below ≡ cost_of end) where
-  chain-exact : claim_fault (pair_of table (cost_of chain) (set_of chain)) (chain_pair n (text_at table side) (pair_of table (cost_of end) (set_of end)))
-      ≡ claim_fault (claim_of (tree_of table chain)) (chain_pair n (text_at table side) (claim_of (tree_of table end)))
-  chain-exact = λ i. claim_fault (sym (claim-numbers table chain) i) (chain_pair n (text_at table side) (sym (claim-numbers table end) i))
+  chain-exact : claim_fault (claim_with table (cost_of chain) (set_of chain)) (chain_claim n (text_at table side) (claim_with table (cost_of end) (set_of end)))
+      ≡ claim_fault (claim_of (tree_of table chain)) (chain_claim n (text_at table side) (claim_of (tree_of table end)))
+  chain-exact = λ i. claim_fault (sym (claim-numbers table chain) i) (chain_claim n (text_at table side) (sym (claim-numbers table end) i))
 
   side-of-set : has_number (numbers set) side ≡ has_number (set_of chain) side
   side-of-set = ap (λ (ns : List ℕ). has_number ns side) e
@@ -343,20 +343,20 @@ module _ (table : List Label) (ok : IsLabelTable table) (n side : ℕ) (chain en
   side-of-end b is = ap (λ (ns : List ℕ). has_number ns side) (sym e') ∙ is
 
   pub node-in : has_number (numbers beneath) side ≡ true → full ≡ has_number (numbers set) side
-      → fault_by cost below full ≡ claim_fault (claim_of (tree_of table chain)) (chain_pair n (text_at table side) (claim_of (tree_of table end)))
+      → fault_by cost below full ≡ claim_fault (claim_of (tree_of table chain)) (chain_claim n (text_at table side) (claim_of (tree_of table end)))
   node-in has fulls =
       (λ i. fault_by (costs i) (belows i) ((fulls ∙ side-of-set) i))
       ∙ sym (chain-in table ok n (cost_of chain) (cost_of end) side (set_of chain) (set_of end) h h' known (side-of-end true has)) ∙ chain-exact
 
   pub node-more : has_number (numbers beneath) side ≡ false → (n ≡ 1 → ⊥) → full ≡ has_number (numbers set) side
-      → fault_by cost (below + 1) full ≡ claim_fault (claim_of (tree_of table chain)) (chain_pair n (text_at table side) (claim_of (tree_of table end)))
+      → fault_by cost (below + 1) full ≡ claim_fault (claim_of (tree_of table chain)) (chain_claim n (text_at table side) (claim_of (tree_of table end)))
   node-more lacks ne fulls =
       (λ i. fault_by (costs i) (belows i + 1) ((fulls ∙ side-of-set) i))
       ∙ sym (chain-more table ok n (cost_of chain) (cost_of end) side (set_of chain) (set_of end) h h' known (side-of-end false lacks) ne) ∙ chain-exact
 
   pub node-one : has_number (numbers beneath) side ≡ false → n ≡ 1
       → full ≡ (has_number (numbers set) side && list_all (λ i. has_number (numbers set) i.0) beneath)
-      → fault_by cost (below + 1) full ≡ claim_fault (claim_of (tree_of table chain)) (chain_pair n (text_at table side) (claim_of (tree_of table end)))
+      → fault_by cost (below + 1) full ≡ claim_fault (claim_of (tree_of table chain)) (chain_claim n (text_at table side) (claim_of (tree_of table end)))
   node-one lacks one fulls =
       (λ i. fault_by (costs i) (belows i + 1) ((fulls ∙ ap₂ ◌&&◌ side-of-set (all-numbers set beneath (set_of chain) (set_of end) e e')) i))
       ∙ sym (chain-one table ok n (cost_of chain) (cost_of end) side (set_of chain) (set_of end) h h' known (side-of-end false lacks) one) ∙ chain-exact

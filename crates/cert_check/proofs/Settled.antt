@@ -30,7 +30,7 @@ module _ (s : StretchesModel) (every : HasEveryAddress s) where
   -- a stretch ends before the next begins
   pub last-next : (i : ℕ) → suc i < length s.firsts → last_at s i + 1 ≡ first_at s (i + 1)
   last-next i more =
-      let less = every.rising i (i + 1) (omega arith) (omega (arith, more)) in
+      let less = every.ascending i (i + 1) (omega arith) (omega (arith, more)) in
       let last : last_at s i ≡ first_at s (i + 1) - 1 =
       ap (λ b. cond b (first_at s (i + 1) - 1) (2 ^ width_of s.version - 1)) (lt-ltb (i + 1) (length s.firsts) (omega (arith, more))) in
       omega (arith, last, less)
@@ -44,7 +44,7 @@ module _ (s : StretchesModel) (every : HasEveryAddress s) where
             let begins : first_at s (j + 1) ≤ first_at s i =
             elim (cases_eq (j + 1) i) [
               | inl same ↦ subst (λ (k : ℕ). first_at s (j + 1) ≤ first_at s k) same (omega arith)
-              | inr ne ↦ let r = every.rising (j + 1) i (omega (arith, less, ne)) at.index in omega (arith, r)
+              | inr ne ↦ let r = every.ascending (j + 1) i (omega (arith, less, ne)) at.index in omega (arith, r)
             ] in
             absurd (omega (arith, last, begins, at.from, at'.to, le))
         | inr le' ↦ le'
@@ -63,7 +63,7 @@ module _ (s : StretchesModel) (every : HasEveryAddress s) where
       by : (i : ℕ) → 0 < a → HoldsAddress s a i → first_at s i ≡ a → (0 < i) × HoldsAddress s (a - 1) (i - 1)
       by zero some at begins = absurd (omega (arith, some, begins, every.zero))
       by (suc i) some at begins =
-          let less = every.rising i (suc i) (omega arith) at.index in
+          let less = every.ascending i (suc i) (omega arith) at.index in
           let last = last-next i at.index in
           let next : i + 1 ≡ suc i = omega arith in
           let last' : last_at s i + 1 ≡ first_at s (suc i) = last ∙ ap (first_at s) next in

@@ -1,4 +1,4 @@
--- The conditions under which one look shows that the blocks beside a chain's way have no fault.
+-- The conditions under which one look shows that the blocks beside a chain's path have no fault.
 use Rattle.std.proofs.Common.{◌≡◌, ◌∙◌, ◌⊎◌, inl, inr, ℕ, zero, suc, ◌+◌, ◌-◌, ◌*◌, ◌<◌, ◌≤◌, ◌==◌, ◌&&◌, Bool, true, false, cond, not, List, [], ◌∷◌, length, Option, Some, None, Contains, nat_lt, option_map, refl, sym, ap, ap₂, subst, arith}
 use Rattle.std.specs.List.{list_any}
 use Rattle.std.specs.Option.{option_or}
@@ -15,7 +15,7 @@ use Rattle.pmap_text.specs.declared.prefix_list.PrefixList.{PrefixList}
 use Rattle.pmap_text.proofs.Blocks.{address-between, address-first, address-last, block_number-shorter, pow-half}
 use Rattle.pmap_cert.proofs.Longest.{label_below-same}
 use Rattle.pmap_cert.specs.CertificateModel.{chosen_half, side_half}
-use Rattle.pmap_cert.specs.Ways.{LeadsTo, way_number}
+use Rattle.pmap_cert.specs.Paths.{LeadsTo, path_number}
 use Rattle.cert_check.specs.Inner.{IsHandedDown, IsListPart, IsSettledBetween, LiesIn, last_in, text_of}
 use Rattle.cert_check.specs.Checking.{bits_fault, fault_of_number, is_decided, is_label_of, leaf_fault, CheckFault, CheckFaultKind, LeafNotUniform, ListDiffers}
 use Rattle.cert_check.proofs.Carries.{first-last}
@@ -35,23 +35,23 @@ half-ends W n q false below = let twice = pow-half W n below in rw twice (omega 
 lower-before : (W n q : ℕ) → last_of W (suc n) (2 * q) + 1 ≡ first_of W (suc n) (2 * q + 1)
 lower-before W n q = let some = pow_pos (W - suc n) in omega (arith, some)
 
--- the end of a way lies in its block
-way-begins : (W : ℕ) (bits : List Bool) (n q k : ℕ) → k ≡ n + length bits → k ≤ W → first_of W n q ≤ first_of W k (way_number bits q)
-way-begins W [] n q k is le =
+-- the end of a path lies in its block
+path-begins : (W : ℕ) (bits : List Bool) (n q k : ℕ) → k ≡ n + length bits → k ≤ W → first_of W n q ≤ first_of W k (path_number bits q)
+path-begins W [] n q k is le =
     let same : n ≡ k = omega (arith, is) in
     subst (λ (i : ℕ). first_of W n q ≤ first_of W i q) same (omega arith)
-way-begins W (bit ∷ bits) n q k is le =
+path-begins W (bit ∷ bits) n q k is le =
     let half = half-begins W n q bit (omega (arith, is, le)) in
-    let rest = way-begins W bits (suc n) (chosen_half bit q) k (omega (arith, is)) le in
+    let rest = path-begins W bits (suc n) (chosen_half bit q) k (omega (arith, is)) le in
     omega (arith, half, rest)
 
-way-ends : (W : ℕ) (bits : List Bool) (n q k : ℕ) → k ≡ n + length bits → k ≤ W → last_of W k (way_number bits q) ≤ last_of W n q
-way-ends W [] n q k is le =
+path-ends : (W : ℕ) (bits : List Bool) (n q k : ℕ) → k ≡ n + length bits → k ≤ W → last_of W k (path_number bits q) ≤ last_of W n q
+path-ends W [] n q k is le =
     let same : n ≡ k = omega (arith, is) in
     subst (λ (i : ℕ). last_of W i q ≤ last_of W n q) same (omega arith)
-way-ends W (bit ∷ bits) n q k is le =
+path-ends W (bit ∷ bits) n q k is le =
     let half = half-ends W n q bit (omega (arith, is, le)) in
-    let rest = way-ends W bits (suc n) (chosen_half bit q) k (omega (arith, is)) le in
+    let rest = path-ends W bits (suc n) (chosen_half bit q) k (omega (arith, is)) le in
     omega (arith, half, rest)
 
 or-none : {X : Type 0} (a : Option X) → option_or a None ≡ a
@@ -64,8 +64,8 @@ module _ (m : MapModel) (ps : List Prefix) (x : Label) (W from first last begin 
     (clear : (j r : ℕ) → from < j → j ≤ W → first ≤ first_of W j r → last_of W j r ≤ last
     → (last_of W j r < begin) ⊎ (end < first_of W j r) → leaf_fault m ps j r x ≡ None) where
   sides-clear : (number : ℕ) (below : ℕ → ℕ → Option CheckFault) (bits : List Bool) (n q k : ℕ) → from ≤ n → k ≡ n + length bits → k ≤ W
-      → first ≤ first_of W n q → last_of W n q ≤ last → first_of W k (way_number bits q) ≡ begin → last_of W k (way_number bits q) ≡ end
-      → bits_fault m ps x number below bits n q ≡ below k (way_number bits q)
+      → first ≤ first_of W n q → last_of W n q ≤ last → first_of W k (path_number bits q) ≡ begin → last_of W k (path_number bits q) ≡ end
+      → bits_fault m ps x number below bits n q ≡ below k (path_number bits q)
   sides-clear number below [] n q k deep is le begins ends at to = let same : n ≡ k = omega (arith, is) in ap (λ (i : ℕ). below i q) same
   sides-clear number below (bit ∷ bits) n q k deep is le begins ends at to =
       let less : n < W = omega (arith, is, le) in
@@ -80,35 +80,35 @@ module _ (m : MapModel) (ps : List Prefix) (x : Label) (W from first last begin 
       less' : n < W
       less' = omega (arith, is, le)
 
-      beside : (bit : Bool) → first_of W k (way_number bits (chosen_half bit q)) ≡ begin → last_of W k (way_number bits (chosen_half bit q)) ≡ end
+      beside : (bit : Bool) → first_of W k (path_number bits (chosen_half bit q)) ≡ begin → last_of W k (path_number bits (chosen_half bit q)) ≡ end
           → leaf_fault m ps (suc n) (side_half bit q) x ≡ None
       beside true at to =
           let side = half-begins W n q false less' in
           let side' = half-ends W n q false less' in
           let before = lower-before W n q in
-          let on = way-begins W bits (suc n) (2 * q + 1) k (omega (arith, is)) le in
+          let on = path-begins W bits (suc n) (2 * q + 1) k (omega (arith, is)) le in
           clear (suc n) (2 * q) (omega (arith, deep)) (omega (arith, less')) (omega (arith, begins, side)) (omega (arith, ends, side')) (inl (omega (arith, before, on, at)))
       beside false at to =
           let side = half-begins W n q true less' in
           let side' = half-ends W n q true less' in
           let before = lower-before W n q in
-          let on = way-ends W bits (suc n) (2 * q) k (omega (arith, is)) le in
+          let on = path-ends W bits (suc n) (2 * q) k (omega (arith, is)) le in
           clear (suc n) (2 * q + 1) (omega (arith, deep)) (omega (arith, less')) (omega (arith, begins, side)) (omega (arith, ends, side')) (inr (omega (arith, before, on, to)))
 
-pub way-within : (b end : Block) (bits : List Bool) → LeadsTo b end bits → 0 < length bits → IsWithin b end
-way-within b end bits way some =
+pub path-within : (b end : Block) (bits : List Bool) → LeadsTo b end bits → 0 < length bits → IsWithin b end
+path-within b end bits path some =
     let W = width_of b.version in
-    let fits : end.len ≤ W = subst (λ (v : _). end.len ≤ width_of v) way.version end.len_in_range in
-    let begins = way-begins W bits b.len (number_of b) end.len way.len fits in
-    let ends = way-ends W bits b.len (number_of b) end.len way.len fits in
+    let fits : end.len ≤ W = subst (λ (v : _). end.len ≤ width_of v) path.version end.len_in_range in
+    let begins = path-begins W bits b.len (number_of b) end.len path.len fits in
+    let ends = path-ends W bits b.len (number_of b) end.len path.len fits in
     let first = block-first b in
-    let first' : first_of W end.len (way_number bits (number_of b)) ≡ end.value =
-    (λ i. first_of (width_of (sym way.version i)) end.len (sym way.number i)) ∙ block-first end in
-    let last : last_of W end.len (way_number bits (number_of b)) ≡ last_in end =
-    λ i. last_of (width_of (sym way.version i)) end.len (sym way.number i) in
+    let first' : first_of W end.len (path_number bits (number_of b)) ≡ end.value =
+    (λ i. first_of (width_of (sym path.version i)) end.len (sym path.number i)) ∙ block-first end in
+    let last : last_of W end.len (path_number bits (number_of b)) ≡ last_in end =
+    λ i. last_of (width_of (sym path.version i)) end.len (sym path.number i) in
     record {
-      version = way.version;
-      longer = omega (arith, way.len, some);
+      version = path.version;
+      longer = omega (arith, path.len, some);
       first = omega (arith, begins, first, first');
       last = omega (arith, ends, last);
     }
@@ -184,7 +184,7 @@ module _ (l : PrefixList) (b : Block) (version : b.version ≡ l.version) (end :
   pub end-part : IsListPart l end end.len within above
   end-part = record {
     version = w.version ∙ version;
-    within = narrow l.entries b (entry-version l b version) end w within within part.within.rising (λ e has. (has, all e has)) (λ e has inside. has) part.within;
+    within = narrow l.entries b (entry-version l b version) end w within within part.within.ascending (λ e has. (has, all e has)) (λ e has inside. has) part.within;
     above = handed-end;
   }
 
@@ -240,21 +240,21 @@ module _ (l : PrefixList) (b : Block) (version : b.version ≡ l.version) (end :
         ap₂ (λ (s d : Bool). cond s (cond d None (Some ListDiffers)) (Some LeafNotUniform)) settled decided
 
   -- the first fault along the bits to the inner block is that of the inner block
-  pub clear-way : (bits : List Bool) → LeadsTo b end bits → (m : MapModel) (x : Label) → m.version ≡ b.version → is_label_of (text_of l.labels above) x ≡ true
+  pub clear-path : (bits : List Bool) → LeadsTo b end bits → (m : MapModel) (x : Label) → m.version ≡ b.version → is_label_of (text_of l.labels above) x ≡ true
       → IsSettledBetween m b.value end.value x → IsSettledBetween m (last_in end + 1) (last_in b + 1) x
       → (k : ℕ) (below : ℕ → ℕ → Option CheckFault) → bits_fault m (list_of l).prefixes x k below bits b.len (number_of b) ≡ below end.len (number_of end)
-  clear-way bits way m x same is before after k below =
+  clear-path bits path m x same is before after k below =
       let W = width_of b.version in
-      let fits : end.len ≤ W = subst (λ (v : _). end.len ≤ width_of v) way.version end.len_in_range in
+      let fits : end.len ≤ W = subst (λ (v : _). end.len ≤ width_of v) path.version end.len_in_range in
       let first = block-first b in
-      let begins : first_of W end.len (way_number bits (number_of b)) ≡ end.value =
-      (λ i. first_of (width_of (sym way.version i)) end.len (sym way.number i)) ∙ block-first end in
-      let ends : last_of W end.len (way_number bits (number_of b)) ≡ last_in end =
-      λ i. last_of (width_of (sym way.version i)) end.len (sym way.number i) in
+      let begins : first_of W end.len (path_number bits (number_of b)) ≡ end.value =
+      (λ i. first_of (width_of (sym path.version i)) end.len (sym path.number i)) ∙ block-first end in
+      let ends : last_of W end.len (path_number bits (number_of b)) ≡ last_in end =
+      λ i. last_of (width_of (sym path.version i)) end.len (sym path.number i) in
       sides-clear m (list_of l).prefixes x W b.len b.value (last_in b) end.value (last_in end)
       (λ j r deep short from to apart. clear-leaf j r deep from to apart m x same is (settled j r from to apart)) k below bits b.len (number_of b) end.len
-      (omega arith) way.len fits (omega (arith, first)) (omega arith) begins ends
-      ∙ ap (below end.len) (sym way.number)
+      (omega arith) path.len fits (omega (arith, first)) (omega arith) begins ends
+      ∙ ap (below end.len) (sym path.number)
     where
       settled : (j r : ℕ) → b.value ≤ first_of (width_of b.version) j r → last_of (width_of b.version) j r ≤ last_in b
           → (last_of (width_of b.version) j r < end.value) ⊎ (last_in end < first_of (width_of b.version) j r) → is_label_of (settled_label m j r) x ≡ true

@@ -67,7 +67,7 @@ module _ (s : Sources) (are : AreSources s) (whole : Block) (version : whole.ver
   root-list entries order = record {
     version = list-version;
     within = record {
-      rising = order.rising;
+      ascending = order.ascending;
       inside = λ e has.
           let listed = order.listed e has in
           let W = width_of whole.version in

@@ -18,7 +18,7 @@ use Rattle.pmap_text.specs.declared.entry.Entry.{Entry}
 use Rattle.pmap_text.proofs.Blocks.{address-between, address-first, address-last}
 use Rattle.pmap_text.proofs.Finds.{Contains-cases, Contains-first, Contains-later}
 use Rattle.pmap_text.specs.PrefixList.{number_of_block as number_of}
-use Rattle.cert_check.specs.Inner.{AreInOrder, AreRising, AreWithin, LiesIn, last_in, rank_of}
+use Rattle.cert_check.specs.Inner.{AreInOrder, AreAscending, AreWithin, LiesIn, last_in, rank_of}
 use Rattle.cert_check.proofs.HalfBlocks.{IsWithin, block-first}
 
 -- no block has more than 128 bits
@@ -30,19 +30,19 @@ pub short-block : (b : Block) → b.len ≤ 128
 short-block b = short b.version b.len b.len_in_range
 
 -- the first of entries in order comes before all later ones
-rank-later : (c : Entry) (rest : List Entry) → AreRising (c ∷ rest) → (e : Entry) → Contains rest e → rank_of c.block < rank_of e.block
-rank-later c rest rising e has = subst (λ (x : Entry). rank_of c.block < rank_of x.block) has.2 (rising 0 (suc has.0) e (omega arith) (omega (arith, has.1)))
+rank-later : (c : Entry) (rest : List Entry) → AreAscending (c ∷ rest) → (e : Entry) → Contains rest e → rank_of c.block < rank_of e.block
+rank-later c rest ascending e has = subst (λ (x : Entry). rank_of c.block < rank_of x.block) has.2 (ascending 0 (suc has.0) e (omega arith) (omega (arith, has.1)))
 
-pub rank-first : (c : Entry) (rest : List Entry) → AreRising (c ∷ rest) → (e : Entry) → Contains (c ∷ rest) e → rank_of c.block ≤ rank_of e.block
-rank-first c rest rising e has =
+pub rank-first : (c : Entry) (rest : List Entry) → AreAscending (c ∷ rest) → (e : Entry) → Contains (c ∷ rest) e → rank_of c.block ≤ rank_of e.block
+rank-first c rest ascending e has =
     elim (Contains-cases c rest e has) [
       | inl same ↦ let r = ap (λ (x : Entry). rank_of x.block) same in omega (arith, r)
-      | inr later ↦ let r = rank-later c rest rising e later in omega (arith, r)
+      | inr later ↦ let r = rank-later c rest ascending e later in omega (arith, r)
     ]
 
 -- the last of entries in order has the greatest first address
-pub rank-last : (es : List Entry) (c : Entry) → Some c ≡ slice_get es (length es - 1) → AreRising es → (e : Entry) → Contains es e → e.block.value ≤ c.block.value
-rank-last es c is rising e has =
+pub rank-last : (es : List Entry) (c : Entry) → Some c ≡ slice_get es (length es - 1) → AreAscending es → (e : Entry) → Contains es e → e.block.value ≤ c.block.value
+rank-last es c is ascending e has =
     let few = short-block e.block in
     let few' = short-block c.block in
     let last : get_or es (length es - 1) e ≡ c = get_or_from_slice_get es (length es - 1) c e (sym is) in
@@ -52,21 +52,21 @@ rank-last es c is rising e has =
           let value = ap (λ (x : Entry). x.block.value) here in
           omega (arith, value)
       | inr other ↦
-          let less = rising has.0 (length es - 1) e (omega (arith, other, has.1)) (omega (arith, has.1)) in
+          let less = ascending has.0 (length es - 1) e (omega (arith, other, has.1)) (omega (arith, has.1)) in
           let less' : rank_of e.block < rank_of c.block =
           subst (λ (x : Entry). rank_of e.block < rank_of x.block) last (subst (λ (x : Entry). rank_of x.block < rank_of (get_or es (length es - 1) e).block) has.2 less) in
           omega (arith, less', few, few')
     ]
 
 -- the first addresses of entries in order don't fall
-pub rising-values : (es : List Entry) → AreRising es → IsNonDecreasingBy (λ e. e.block.value) es
-rising-values es rising i j d le below =
+pub ascending-values : (es : List Entry) → AreAscending es → IsNonDecreasingBy (λ e. e.block.value) es
+ascending-values es ascending i j d le below =
     elim (cases_eq i j) [
       | inl same ↦ subst (λ (k : ℕ). (get_or es i d).block.value ≤ (get_or es k d).block.value) same (omega arith)
       | inr other ↦
           let few = short-block (get_or es i d).block in
           let few' = short-block (get_or es j d).block in
-          let less = rising i j d (omega (arith, le, other)) below in
+          let less = ascending i j d (omega (arith, le, other)) below in
           omega (arith, less, few, few')
     ]
 
@@ -107,7 +107,7 @@ module _ (es : List Entry) (b : Block) (same : (e : Entry) → Contains es e →
   -- the entries in a block are those strictly inside it if none is the block's own
   pub strict : (within : List Entry) → AreWithin es b b.len within → ((e : Entry) → Contains within e → IsOwn b e → ⊥) → AreWithin es b (suc b.len) within
   strict within are none = record {
-    rising = are.rising;
+    ascending = are.ascending;
     inside = λ e has.
         let lies = are.inside e has in (
           lies.0,
@@ -129,13 +129,13 @@ module _ (es : List Entry) (b : Block) (same : (e : Entry) → Contains es e →
       let from = lies-from b b.len c lies in
       let few = short-block c.block in
       let few' = short-block b in
-      let le = rank-first c rest are.rising e has in
+      let le = rank-first c rest are.ascending e has in
       other (omega (arith, from, few, few', le, own.0, own.1, lies.long), omega (arith, from, few, few', le, own.0, own.1, lies.long))
 
   -- the entries strictly inside a block are those after the first if that is the block's own
   pub strict-rest : (c : Entry) (rest : List Entry) → AreWithin es b b.len (c ∷ rest) → IsOwn b c → AreWithin es b (suc b.len) rest
   strict-rest c rest are own = record {
-    rising = λ i j d less below. are.rising (suc i) (suc j) d (omega (arith, less)) (omega (arith, below));
+    ascending = λ i j d less below. are.ascending (suc i) (suc j) d (omega (arith, less)) (omega (arith, below));
     inside = λ e has.
         let lies = are.inside e (Contains-later c rest e has) in (
           lies.0,
@@ -143,7 +143,7 @@ module _ (es : List Entry) (b : Block) (same : (e : Entry) → Contains es e →
             long = elim (cases_eq e.block.len b.len) [
               | inl len ↦
                   let other = own-value e lies.0 lies.1 len in
-                  let less = rank-later c rest are.rising e has in
+                  let less = rank-later c rest are.ascending e has in
                   absurd (omega (arith, less, own.0, own.1, other.0, other.1))
               | inr ne ↦ omega (arith, lies.1.long, ne)
             ];
@@ -157,12 +157,12 @@ module _ (es : List Entry) (b : Block) (same : (e : Entry) → Contains es e →
   }
 
   -- the entries in an inner block are those in the outer block that lie in the inner one
-  pub narrow : (inner : Block) → IsWithin b inner → (within ys : List Entry) → AreRising ys
+  pub narrow : (inner : Block) → IsWithin b inner → (within ys : List Entry) → AreAscending ys
       → ((e : Entry) → Contains ys e → Contains within e × LiesIn inner inner.len e)
       → ((e : Entry) → Contains within e → LiesIn inner inner.len e → Contains ys e)
       → AreWithin es b (suc b.len) within → AreWithin es inner inner.len ys
-  narrow inner w within ys rising inside every are = record {
-    rising = rising;
+  narrow inner w within ys ascending inside every are = record {
+    ascending = ascending;
     inside = λ e has. let both = inside e has in ((are.inside e both.0).0, both.1);
     every = λ e has lies.
         let from = lies-from inner inner.len e lies in
@@ -173,14 +173,14 @@ module _ (es : List Entry) (b : Block) (same : (e : Entry) → Contains es e →
   }
 
 -- Entries in order, split at index k by their first addresses.
-module _ (within : List Entry) (k mid : ℕ) (rising : AreRising within)
+module _ (within : List Entry) (k mid : ℕ) (ascending : AreAscending within)
     (before : (i : ℕ) (d : Entry) → i < k → (get_or within i d).block.value < mid)
     (after : (i : ℕ) (d : Entry) → k ≤ i → i < length within → mid ≤ (get_or within i d).block.value) where
-  pub front-rising : AreRising (take k within)
-  front-rising i j d less below =
+  pub front-ascending : AreAscending (take k within)
+  front-ascending i j d less below =
       let most : j < min k (length within) = subst (λ (n : ℕ). j < n) (length-take k within) below in
       rw (get_or-take k within i d (omega (arith, less, most)), get_or-take k within j d (omega (arith, most)))
-      (rising i j d less (omega (arith, most)))
+      (ascending i j d less (omega (arith, most)))
 
   pub front-from : (e : Entry) → Contains (take k within) e → Contains within e × (e.block.value < mid)
   front-from e has =
@@ -199,10 +199,10 @@ module _ (within : List Entry) (k mid : ℕ) (rising : AreRising within)
             absurd (omega (arith, from, less))
       ]
 
-  pub back-rising : AreRising (drop k within)
-  back-rising i j d less below =
+  pub back-ascending : AreAscending (drop k within)
+  back-ascending i j d less below =
       let most : j < length within - k = subst (λ (n : ℕ). j < n) (length-drop k within) below in
-      rw (get_or-drop k within i d, get_or-drop k within j d) (rising (k + i) (k + j) d (omega (arith, less)) (omega (arith, most)))
+      rw (get_or-drop k within i d, get_or-drop k within j d) (ascending (k + i) (k + j) d (omega (arith, less)) (omega (arith, most)))
 
   pub back-from : (e : Entry) → Contains (drop k within) e → Contains within e × (mid ≤ e.block.value)
   back-from e has =
@@ -270,26 +270,26 @@ distinct-at (e ∷ es) distinct zero (suc j) d less below =
 distinct-at (e ∷ es) distinct (suc i) (suc j) d less below =
     distinct-at es (IsDistinct-tail same_block e es distinct) i j d (omega (arith, less)) (omega (arith, below))
 
-rises : (es : List Entry) → HasDistinctBlocks es → IsNonDecreasingBy (λ e. rank_of e.block) es → AreRising es
-rises es distinct rising i j d less below =
+ascends : (es : List Entry) → HasDistinctBlocks es → IsNonDecreasingBy (λ e. rank_of e.block) es → AreAscending es
+ascends es distinct ascending i j d less below =
     elim (cases_eq (rank_of (get_or es i d).block) (rank_of (get_or es j d).block)) [
       | inl same ↦ absurd (both_ways _ (distinct-at es distinct i j d less below) (rank-block (get_or es i d) (get_or es j d) same))
-      | inr other ↦ let le = rising i j d (omega (arith, less)) below in omega (arith, le, other)
+      | inr other ↦ let le = ascending i j d (omega (arith, less)) below in omega (arith, le, other)
     ]
 
 flips : (d e : Entry) → same_block d e ≡ same_block e d
 flips d e = grind arith
 
 pub sorted-order : (es sorted : List Entry) → HasDistinctBlocks es → IsPermutation es sorted → IsNonDecreasingBy (λ e. rank_of e.block) sorted → AreInOrder es sorted
-sorted-order es sorted distinct moved rising = record {
-  rising = rises sorted (IsDistinct-IsPermutation same_block flips es sorted moved distinct) rising;
+sorted-order es sorted distinct moved ascending = record {
+  ascending = ascends sorted (IsDistinct-IsPermutation same_block flips es sorted moved distinct) ascending;
   listed = λ e has. Contains-permutation sorted es e (IsPermutation-sym es sorted moved) has;
   every = λ e has. Contains-permutation es sorted e moved has;
 }
 
 pub same-order : (es given : List Entry) → HasDistinctBlocks es → given ≡ es → IsNonDecreasingBy (λ e. rank_of e.block) given → AreInOrder es given
-same-order es given distinct same rising = record {
-  rising = rises given (subst HasDistinctBlocks (sym same) distinct) rising;
+same-order es given distinct same ascending = record {
+  ascending = ascends given (subst HasDistinctBlocks (sym same) distinct) ascending;
   listed = λ e has. subst (λ (xs : List Entry). Contains xs e) same has;
   every = λ e has. subst (λ (xs : List Entry). Contains xs e) (sym same) has;
 }

@@ -8,7 +8,7 @@ use Rattle.prefix_keys.specs.Block.{first_of, width_of}
 use Rattle.pmap_text.specs.ListModel.{ListModel, Prefix, label_below, lies_inside}
 use Rattle.pmap_text.specs.MapModel.{Label, MapModel, settled_label}
 use Rattle.pmap_cert.specs.Compacting.{line_count}
-use Rattle.pmap_cert.specs.CertificateModel.{CertificateModel, ChainNode, InnerNode, LeafNode, Pair, Tree, claim_of, has, chain_pair, chosen_half, side_half, exact_pair}
+use Rattle.pmap_cert.specs.CertificateModel.{CertificateModel, ChainNode, InnerNode, LeafNode, Claim, Tree, claim_of, has, chain_claim, chosen_half, side_half, exact_claim}
 pub use Rattle.cert_check.specs.declared.fault.CheckFault.{CheckFault}
 pub use Rattle.cert_check.specs.declared.fault.CheckFaultKind.{CheckFaultKind}
 pub use Rattle.cert_check.specs.declared.fault.CheckFaultKind.TheVariants.{BoundNotMet, CostTooHigh, LeafNotUniform, ListDiffers, NoMemory, SetTooSmall, VersionDiffers}
@@ -40,9 +40,9 @@ leaf_fault m ps n q x =
     then (if is_decided (width_of m.version) ps n q x then None else Some ListDiffers)
     else Some LeafNotUniform
 
--- the fault of a claim, by the exact pair of the claims below: a cost above that pair's, or the same cost without a
+-- the fault of a claim, by the exact claim of the claims below: a cost above that claim's, or the same cost without a
 -- label of its set
-abbrev pub claim_fault : Pair → Pair → Option CheckFaultKind
+abbrev pub claim_fault : Claim → Claim → Option CheckFaultKind
 claim_fault claim exact =
     if nat_lt exact.cost claim.cost then Some CostTooHigh
     else (if claim.cost == exact.cost && not (list_all (has claim.labels) exact.labels) then Some SetTooSmall else None)
@@ -71,10 +71,10 @@ node_fault m ps (LeafNode x) number n q = option_map (fault_of_number number) (l
 node_fault m ps (InnerNode claim lower upper) number n q =
     option_or (node_fault m ps lower (number + 1) (suc n) (2 * q))
     (option_or (node_fault m ps upper (number + 1 + line_count lower) (suc n) (2 * q + 1))
-    (option_map (fault_of_number number) (claim_fault claim (exact_pair (claim_of lower) (claim_of upper)))))
+    (option_map (fault_of_number number) (claim_fault claim (exact_claim (claim_of lower) (claim_of upper)))))
 node_fault m ps (ChainNode claim bits side end) number n q =
     option_or (bits_fault m ps side number (node_fault m ps end (number + 1)) bits n q)
-    (option_map (fault_of_number number) (claim_fault claim (chain_pair (length bits) side (claim_of end))))
+    (option_map (fault_of_number number) (claim_fault claim (chain_claim (length bits) side (claim_of end))))
 
 -- a fault of no single node
 abbrev pub whole_fault : CheckFaultKind → CheckFault

@@ -93,8 +93,8 @@ last_in b = last_of (width_of b.version) b.len (number_of b)
 abbrev pub rank_of : Block → ℕ
 rank_of b = b.value * 256 + b.len
 
-abbrev pub AreRising : List Entry → Type 0
-AreRising es = (i j : ℕ) (d : Entry) → i < j → j < length es → rank_of (slice_index_or es i d).block < rank_of (slice_index_or es j d).block
+abbrev pub AreAscending : List Entry → Type 0
+AreAscending es = (i j : ℕ) (d : Entry) → i < j → j < length es → rank_of (slice_index_or es i d).block < rank_of (slice_index_or es j d).block
 
 -- the entry's block has n bits or more, and lies in the block or is it
 pub record LiesIn (b : Block) (n : ℕ) (e : Entry) : Type 0 where
@@ -103,7 +103,7 @@ pub record LiesIn (b : Block) (n : ℕ) (e : Entry) : Type 0 where
 
 -- `within` has exactly the entries of a list that lie in the block and have n bits or more, in order
 pub record AreWithin (es : List Entry) (b : Block) (n : ℕ) (within : List Entry) : Type 0 where
-  pub rising : AreRising within
+  pub ascending : AreAscending within
   pub inside : (e : Entry) → Contains within e → Contains es e × LiesIn b n e
   pub every : (e : Entry) → Contains es e → LiesIn b n e → Contains within e
 
@@ -134,7 +134,7 @@ IsSettledBetween m first stop x =
     (j r : ℕ) → first ≤ first_of (width_of m.version) j r → last_of (width_of m.version) j r < stop → is_label_of (settled_label m j r) x ≡ true
 
 pub record AreInOrder (es entries : List Entry) : Type 0 where
-  pub rising : AreRising entries
+  pub ascending : AreAscending entries
   pub listed : (e : Entry) → Contains entries e → Contains es e
   pub every : (e : Entry) → Contains es e → Contains entries e
 
@@ -147,8 +147,8 @@ line_fault s line p k =
     node_fault (map_of s.map.now) (list_of s.list.now).prefixes (tree_at s line) k p.block.len (number_of p.block)
 
 -- The first fault along the bits of a chain with the number k, from the part's block to the node at the line `end`.
-abbrev pub way_fault : Sources → NodeLine → ℕ → List Bool → Part → ℕ → Option CheckFault
-way_fault s end side bits p k =
+abbrev pub path_fault : Sources → NodeLine → ℕ → List Bool → Part → ℕ → Option CheckFault
+path_fault s end side bits p k =
     bits_fault (map_of s.map.now) (list_of s.list.now).prefixes (text_at s.certificate.now.labels side) k
     (node_fault (map_of s.map.now) (list_of s.list.now).prefixes (tree_at s end) (k + 1)) bits p.block.len (number_of p.block)
 
@@ -183,8 +183,8 @@ IsAnswer fault number count after (Err found) = (k : ℕ) → told k ≡ number 
 abbrev pub IsNodeAnswer : Sources → NodeLine → Part → Result NodeLine CheckFault → Type 0
 IsNodeAnswer s line p = IsAnswer (line_fault s line p) line.number (line_count (tree_at s line)) (drop 1 line.node)
 
-abbrev pub IsWayAnswer : Sources → NodeLine → ℕ → ℕ → List Bool → Part → Result NodeLine CheckFault → Type 0
-IsWayAnswer s end number side bits p = IsAnswer (way_fault s end side bits p) number (1 + line_count (tree_at s end)) (drop 1 end.node)
+abbrev pub IsPathAnswer : Sources → NodeLine → ℕ → ℕ → List Bool → Part → Result NodeLine CheckFault → Type 0
+IsPathAnswer s end number side bits p = IsAnswer (path_fault s end side bits p) number (1 + line_count (tree_at s end)) (drop 1 end.node)
 
 -- the result of a check with this first fault, which may also run out of memory
 abbrev pub IsOutcome : {A : Type 0} → Option CheckFault → Result A CheckFault → Type 0

@@ -8,7 +8,7 @@ ghost use Rattle.pmap_cert.specs.Certificate.{certificate_of};
 ghost use Rattle.pmap_cert.specs.Node.{first_node, from_next_line, label_of, side_of};
 ghost use Rattle.pmap_cert.specs.Packed.{bits_in};
 ghost use Rattle.cert_check.specs.Checking.{first_fault, node_fault, told, NoMemory};
-ghost use Rattle.cert_check.specs.Inner.{IsAtEnd, IsAtNode, IsNodeAnswer, IsOutcome, IsWayAnswer, answer_of, AreSources, AreInOrder};
+ghost use Rattle.cert_check.specs.Inner.{IsAtEnd, IsAtNode, IsNodeAnswer, IsOutcome, IsPathAnswer, answer_of, AreSources, AreInOrder};
 
 use crate::claims::{chain_fault, claim_fault};
 use crate::entry_order::{are_in_order, in_order};
@@ -17,7 +17,7 @@ use crate::labels::numbers_in;
 use crate::laws::no_fault_is_acceptance;
 use crate::part::Part;
 use crate::sources::Sources;
-use pmap_cert::{Certificate, Cursor, Way, acceptance_is_enough};
+use pmap_cert::{Certificate, Cursor, Path, acceptance_is_enough};
 use pmap_text::{Entry, LabelId, MapText, PrefixList, Stretches};
 use prefix_keys::whole_space;
 use std::alloc::Global;
@@ -106,53 +106,53 @@ fn check_chain<'a>(
     requires chain { side_of (first_node line.now.node) ≡ Some side.0 }
     ensures { IsNodeAnswer sources.now line.now part.now result }
 {
-    let way = line.node.way();
+    let path = line.node.path();
     let end = next_line(line);
-    let next = check_below(sources, line.number, &end, side, &way, part)?;
+    let next = check_below(sources, line.number, &end, side, &path, part)?;
     let labels = &sources.certificate.labels;
     let fault = chain_fault(labels, &line.node, &end.node, side);
     unless_fault(fault, line.number, next)
 }
 
-// Checks what is below a chain: the node at its end, and the blocks beside its way unless one look clears them.
+// Checks what is below a chain: the node at its end, and the blocks beside its path unless one look clears them.
 #[cycle(nodes)]
 fn check_below<'a>(
     sources: &Sources,
     number: u64,
     end: &NodeLine<'a>,
     side: LabelId,
-    way: &Way,
+    path: &Path,
     part: &Part,
 ) -> Result<NodeLine<'a>, CheckFault>
-    requires end { IsAtEnd sources.now end.now number side.0 (bits_in way.now) part.now }
-    requires some { 0 < length (bits_in way.now) }
-    ensures { IsWayAnswer sources.now end.now number side.0 (bits_in way.now) part.now result }
+    requires end { IsAtEnd sources.now end.now number side.0 (bits_in path.now) part.now }
+    requires some { 0 < length (bits_in path.now) }
+    ensures { IsPathAnswer sources.now end.now number side.0 (bits_in path.now) part.now result }
 {
-    match part.clear_end(sources, way, side) {
+    match part.clear_end(sources, path, side) {
         Some(below) => check_node(sources, end, &below),
-        None => check_way(sources, number, end, side, way, part),
+        None => check_path(sources, number, end, side, path, part),
     }
 }
 
-// Checks the rest of a chain's way from the part's block on: the node at its end, and then the blocks beside the way
+// Checks the rest of a chain's path from the part's block on: the node at its end, and then the blocks beside the path
 // from the deepest up.
 #[cycle(nodes)]
-fn check_way<'a>(
+fn check_path<'a>(
     sources: &Sources,
     number: u64,
     end: &NodeLine<'a>,
     side: LabelId,
-    way: &Way,
+    path: &Path,
     part: &Part,
 ) -> Result<NodeLine<'a>, CheckFault>
-    requires end { IsAtEnd sources.now end.now number side.0 (bits_in way.now) part.now }
-    ensures { IsWayAnswer sources.now end.now number side.0 (bits_in way.now) part.now result }
+    requires end { IsAtEnd sources.now end.now number side.0 (bits_in path.now) part.now }
+    ensures { IsPathAnswer sources.now end.now number side.0 (bits_in path.now) part.now result }
 {
-    let Some((bit, rest)) = way.split_first() else {
+    let Some((bit, rest)) = path.split_first() else {
         return check_node(sources, end, part);
     };
     let (chosen, beside) = part.step(sources, bit);
-    let next = check_way(sources, number, end, side, &rest, &chosen)?;
+    let next = check_path(sources, number, end, side, &rest, &chosen)?;
     unless_fault(beside.leaf_fault(sources, side), number, next)
 }
 
@@ -247,9 +247,9 @@ fn count_entries(
 /// - Then the nodes, those of a lower half before those of the upper half and both before their node. `LeafNotUniform`:
 ///   the map doesn't settle the leaf's block with its label. `ListDiffers`: an entry lies strictly inside the leaf's
 ///   block, or the longest that covers it is absent or has another label. `CostTooHigh`: the claimed cost is above that
-///   of the exact pair of the halves' claims. `SetTooSmall`: the cost is the same, and the set lacks a label of that
-///   pair. A chain has one number: its end comes first, then the blocks beside its way from the deepest up, each as a
-///   leaf with the side label, then its claim against its exact pair.
+///   of the exact claim of the halves' claims. `SetTooSmall`: the cost is the same, and the set lacks a label of that
+///   claim. A chain has one number: its end comes first, then the blocks beside its path from the deepest up, each as a
+///   leaf with the side label, then its claim against its exact claim.
 /// - `BoundNotMet`: the list has more entries than the root's cost plus one.
 /// - `NoMemory`: an allocation failed.
 ///

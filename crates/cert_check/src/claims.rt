@@ -1,10 +1,11 @@
-//! The check of the claims of inner nodes and chains. Sets are listed by rising numbers, so one walk compares two sets.
+//! The check of the claims of inner nodes and chains. Sets are listed by ascending numbers, so one walk compares two
+//! sets.
 ghost use Rattle.std.specs.Prelude.{◌≡◌, ℕ, ◌+◌, ◌^◌, ◌<◌, ◌≤◌, ◌&&◌, ◌||◌, ◌==◌, Some, None, length, map, nat_lt, not, if◌then◌else◌};
 ghost use Rattle.std.specs.List.{list_all};
 ghost use Rattle.pmap_text.specs.Label.{IsLabelTable};
 ghost use Rattle.pmap_text.specs.MapText.{text_at};
-ghost use Rattle.pmap_cert.specs.CertificateText.{IsRising};
-ghost use Rattle.pmap_cert.specs.CertificateModel.{claim_of, chain_pair, exact_pair};
+ghost use Rattle.pmap_cert.specs.CertificateText.{IsAscending};
+ghost use Rattle.pmap_cert.specs.CertificateModel.{claim_of, chain_claim, exact_claim};
 ghost use Rattle.pmap_cert.specs.Node.{bits_of, cost_of, first_node, set_of, tree_of};
 ghost use Rattle.cert_check.specs.Checking.{claim_fault as claim_fault_of, CostTooHigh, SetTooSmall};
 ghost use Rattle.cert_check.specs.Inner.{has_number};
@@ -15,8 +16,8 @@ use pmap_text::{LabelId, Labels};
 
 // Returns the rest of the set from the first number that is at least `id`.
 fn rest_from<'a>(set: &'a [LabelId], id: LabelId) -> &'a [LabelId]
-    requires { IsRising (2 ^ 32) 0 (map (λ i. i.0) set.now) }
-    ensures rising { IsRising (2 ^ 32) id.0 (map (λ i. i.0) result.now) }
+    requires { IsAscending (2 ^ 32) 0 (map (λ i. i.0) set.now) }
+    ensures ascending { IsAscending (2 ^ 32) id.0 (map (λ i. i.0) result.now) }
     ensures kept { (n : ℕ) → id.0 ≤ n → has_number (map (λ i. i.0) result.now) n
         ≡ has_number (map (λ i. i.0) set.now) n }
 {
@@ -31,7 +32,7 @@ fn rest_from<'a>(set: &'a [LabelId], id: LabelId) -> &'a [LabelId]
 }
 
 fn begins_with(rest: &[LabelId], id: LabelId) -> bool
-    requires { IsRising (2 ^ 32) id.0 (map (λ i. i.0) rest.now) }
+    requires { IsAscending (2 ^ 32) id.0 (map (λ i. i.0) rest.now) }
     ensures { result ≡ has_number (map (λ i. i.0) rest.now) id.0 }
 {
     match rest.first() {
@@ -41,15 +42,15 @@ fn begins_with(rest: &[LabelId], id: LabelId) -> bool
 }
 
 fn has_one(set: &[LabelId], id: LabelId) -> bool
-    requires { IsRising (2 ^ 32) 0 (map (λ i. i.0) set.now) }
+    requires { IsAscending (2 ^ 32) 0 (map (λ i. i.0) set.now) }
     ensures { result ≡ has_number (map (λ i. i.0) set.now) id.0 }
 {
     begins_with(rest_from(set, id), id)
 }
 
 fn are_apart(lower: &[LabelId], upper: &[LabelId]) -> bool
-    requires lower { IsRising (2 ^ 32) 0 (map (λ i. i.0) lower.now) }
-    requires upper { IsRising (2 ^ 32) 0 (map (λ i. i.0) upper.now) }
+    requires lower { IsAscending (2 ^ 32) 0 (map (λ i. i.0) lower.now) }
+    requires upper { IsAscending (2 ^ 32) 0 (map (λ i. i.0) upper.now) }
     ensures { result ≡ list_all (λ i. not (has_number (map (λ j. j.0) upper.now) i.0)) lower.now }
 {
     let mut rest = upper;
@@ -64,9 +65,9 @@ fn are_apart(lower: &[LabelId], upper: &[LabelId]) -> bool
 
 // Whether the set has each label that two others have in common.
 fn has_common(set: &[LabelId], lower: &[LabelId], upper: &[LabelId]) -> bool
-    requires set { IsRising (2 ^ 32) 0 (map (λ i. i.0) set.now) }
-    requires lower { IsRising (2 ^ 32) 0 (map (λ i. i.0) lower.now) }
-    requires upper { IsRising (2 ^ 32) 0 (map (λ i. i.0) upper.now) }
+    requires set { IsAscending (2 ^ 32) 0 (map (λ i. i.0) set.now) }
+    requires lower { IsAscending (2 ^ 32) 0 (map (λ i. i.0) lower.now) }
+    requires upper { IsAscending (2 ^ 32) 0 (map (λ i. i.0) upper.now) }
     ensures { result ≡ list_all (λ i. not (has_number (map (λ j. j.0) upper.now) i.0)
         || has_number (map (λ j. j.0) set.now) i.0) lower.now }
 {
@@ -83,8 +84,8 @@ fn has_common(set: &[LabelId], lower: &[LabelId], upper: &[LabelId]) -> bool
 }
 
 fn has_all(set: &[LabelId], labels: &[LabelId]) -> bool
-    requires set { IsRising (2 ^ 32) 0 (map (λ i. i.0) set.now) }
-    requires labels { IsRising (2 ^ 32) 0 (map (λ i. i.0) labels.now) }
+    requires set { IsAscending (2 ^ 32) 0 (map (λ i. i.0) set.now) }
+    requires labels { IsAscending (2 ^ 32) 0 (map (λ i. i.0) labels.now) }
     ensures { result ≡ list_all (λ i. has_number (map (λ j. j.0) set.now) i.0) labels.now }
 {
     let mut rest = set;
@@ -99,9 +100,9 @@ fn has_all(set: &[LabelId], labels: &[LabelId]) -> bool
 
 // Whether the set has each label of two others.
 fn has_both(set: &[LabelId], lower: &[LabelId], upper: &[LabelId]) -> bool
-    requires set { IsRising (2 ^ 32) 0 (map (λ i. i.0) set.now) }
-    requires lower { IsRising (2 ^ 32) 0 (map (λ i. i.0) lower.now) }
-    requires upper { IsRising (2 ^ 32) 0 (map (λ i. i.0) upper.now) }
+    requires set { IsAscending (2 ^ 32) 0 (map (λ i. i.0) set.now) }
+    requires lower { IsAscending (2 ^ 32) 0 (map (λ i. i.0) lower.now) }
+    requires upper { IsAscending (2 ^ 32) 0 (map (λ i. i.0) upper.now) }
     ensures { result ≡ (list_all (λ i. has_number (map (λ j. j.0) set.now) i.0) lower.now
         && list_all (λ i. has_number (map (λ j. j.0) set.now) i.0) upper.now) }
 {
@@ -131,11 +132,11 @@ pub fn claim_fault(
 ) -> Option<CheckFaultKind>
     requires here { 0 < length claim.now }
     requires below { (0 < length left.now) × (0 < length right.now) }
-    requires claim { IsRising (length labels.now) 0 (set_of (first_node claim.now)) }
-    requires left { IsRising (length labels.now) 0 (set_of (first_node left.now)) }
-    requires right { IsRising (length labels.now) 0 (set_of (first_node right.now)) }
+    requires claim { IsAscending (length labels.now) 0 (set_of (first_node claim.now)) }
+    requires left { IsAscending (length labels.now) 0 (set_of (first_node left.now)) }
+    requires right { IsAscending (length labels.now) 0 (set_of (first_node right.now)) }
     ensures { result ≡ claim_fault_of (claim_of (tree_of labels.now (first_node claim.now)))
-        (exact_pair (claim_of (tree_of labels.now (first_node left.now)))
+        (exact_claim (claim_of (tree_of labels.now (first_node left.now)))
         (claim_of (tree_of labels.now (first_node right.now)))) }
 {
     // Provides the law that a table has at most 65536 labels.
@@ -161,11 +162,11 @@ pub fn chain_fault(
 ) -> Option<CheckFaultKind>
     requires here { 0 < length chain.now }
     requires below { 0 < length end.now }
-    requires chain { IsRising (length labels.now) 0 (set_of (first_node chain.now)) }
-    requires end { IsRising (length labels.now) 0 (set_of (first_node end.now)) }
+    requires chain { IsAscending (length labels.now) 0 (set_of (first_node chain.now)) }
+    requires end { IsAscending (length labels.now) 0 (set_of (first_node end.now)) }
     requires side { side.0 < length labels.now }
     ensures { result ≡ claim_fault_of (claim_of (tree_of labels.now (first_node chain.now)))
-        (chain_pair (length (bits_of (first_node chain.now))) (text_at labels.now side.0)
+        (chain_claim (length (bits_of (first_node chain.now))) (text_at labels.now side.0)
         (claim_of (tree_of labels.now (first_node end.now)))) }
 {
     // Provides the law that a table has at most 65536 labels.
@@ -178,7 +179,7 @@ pub fn chain_fault(
     if has_one(beneath, side) {
         return fault_by(cost, below, has_side);
     }
-    if chain.way().len() == 1 {
+    if chain.path().len() == 1 {
         fault_by(cost, below + 1, has_side && has_all(set, beneath))
     } else {
         fault_by(cost, below + 1, has_side)

@@ -35,7 +35,7 @@ pub fn are_in_order(entries: &[Entry]) -> bool
 /// Returns a copy of the entries in order.
 pub fn in_order(alloc: Global, entries: &[Entry]) -> Result<Vec<Entry>, AllocError>
     ensures same { IfOk result (λ sorted. IsPermutation entries.now sorted.items) }
-    ensures rising { IfOk result (λ sorted. IsNonDecreasingBy (λ e. rank_of e.block) sorted.items) }
+    ensures ascending { IfOk result (λ sorted. IsNonDecreasingBy (λ e. rank_of e.block) sorted.items) }
 {
     let mut sorted = Vec::from_slice(alloc, entries)?;
     sorted.sort_unstable_by(|entry, other| by_rank(&entry.block, &other.block));

@@ -8,15 +8,15 @@ ghost use Rattle.pmap_text.specs.declared.entry.Entry.{Entry};
 ghost use Rattle.pmap_text.specs.declared.prefix_list.PrefixList.{PrefixList};
 ghost use Rattle.pmap_cert.specs.CertificateModel.{chosen_half, side_half};
 ghost use Rattle.pmap_cert.specs.Packed.{bits_in};
-ghost use Rattle.pmap_cert.specs.Ways.{LeadsTo};
+ghost use Rattle.pmap_cert.specs.Paths.{LeadsTo};
 ghost use Rattle.pmap_text.specs.Stretches.{HoldsAddress};
-ghost use Rattle.cert_check.specs.Inner.{AreHalves, IsHalf, AreSources, AreRising, IsListPart, IsPart, IsSettledBetween, LiesIn, last_in};
+ghost use Rattle.cert_check.specs.Inner.{AreHalves, IsHalf, AreSources, AreAscending, IsListPart, IsPart, IsSettledBetween, LiesIn, last_in};
 ghost use Rattle.cert_check.specs.Checking.{bits_fault, is_decided as is_decided_of, is_label_of, leaf_fault as leaf_fault_of, CheckFault};
 
 use crate::entry_order::by_rank;
 use crate::fault::CheckFaultKind;
 use crate::sources::Sources;
-use pmap_cert::Way;
+use pmap_cert::Path;
 use pmap_text::{Entry, LabelId};
 use prefix_keys::Block;
 
@@ -35,7 +35,7 @@ pub struct Part<'a> {
 // Whether all of the entries, which are in order, are for the block or for blocks inside it.
 fn lie_in(entries: &[Entry], block: &Block) -> bool
     requires versions { (e : Entry) → Contains entries.now e → e.block.version ≡ block.now.version }
-    requires rising { AreRising entries.now }
+    requires ascending { AreAscending entries.now }
     ensures { IsTrue result → (e : Entry) → Contains entries.now e → LiesIn block.now block.now.len e }
 {
     let (Some(first), Some(last)) = (entries.first(), entries.last()) else {
@@ -212,22 +212,22 @@ impl<'a> Part<'a> {
         }
     }
 
-    /// Returns the part of the block that the bits lead to if one look shows that the blocks beside the way have no
+    /// Returns the part of the block that the bits lead to if one look shows that the blocks beside the path have no
     /// fault as leaves with the certificate's label `side`. If it returns `None`, they must be checked one by one.
-    pub fn clear_end(&self, sources: &Sources, way: &Way, side: LabelId) -> Option<Part<'a>>
+    pub fn clear_end(&self, sources: &Sources, path: &Path, side: LabelId) -> Option<Part<'a>>
         requires sources { AreSources sources.now }
         requires part { IsPart sources.now self.now }
-        requires some { 0 < length (bits_in way.now) }
-        requires room { self.now.block.len + way.now.count ≤ width_of self.now.block.version }
+        requires some { 0 < length (bits_in path.now) }
+        requires room { self.now.block.len + path.now.count ≤ width_of self.now.block.version }
         requires known { side.0 < length sources.now.certificate.now.labels }
         ensures part { IfSome result (IsPart sources.now) }
-        ensures way { IfSome result (λ end. LeadsTo self.now.block end.block (bits_in way.now)) }
+        ensures path { IfSome result (λ end. LeadsTo self.now.block end.block (bits_in path.now)) }
         ensures clear { IfSome result (λ end. (k : ℕ) (below : ℕ → ℕ → Option CheckFault) →
             bits_fault (map_of sources.now.map.now) (list_of sources.now.list.now).prefixes
-            (text_at sources.now.certificate.now.labels side.0) k below (bits_in way.now) self.now.block.len
+            (text_at sources.now.certificate.now.labels side.0) k below (bits_in path.now) self.now.block.len
             (number_of self.now.block) ≡ below end.block.len (number_of end.block)) }
     {
-        let end = way.end(&self.block);
+        let end = path.end(&self.block);
         let (inside, above) = self.inside();
         if !lie_in(inside, &end) || !sources.is_of_list(above, side) {
             return None;

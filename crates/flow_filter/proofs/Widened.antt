@@ -1,4 +1,4 @@
--- Ranges in rising order, each extended to the highest end of the earlier ones.
+-- Ranges in ascending order, each extended to the highest end of the earlier ones.
 use Rattle.std.proofs.Common.{◌≡◌, ℕ, ◌+◌, ◌-◌, ◌<◌, ◌≤◌, ◌||◌, inl, inr, Bool, true, false, List, [], ◌∷◌, ◌++◌, nat_le, leb, get_or, length, max, take, refl, sym, ap, subst, ◌∙◌, arith}
 use Rattle.std.specs.Ordering.{nat_cmp, ord_max}
 use Rattle.std.specs.List.Sorted.{IsNonDecreasingBy, IsPartitionPoint, IsPermutation}
@@ -7,7 +7,7 @@ use Rattle.std.proofs.lemmas.Bool.{and_from, and_parts, both_ways, cases_eq, cas
 use Rattle.std.proofs.lemmas.List.{get_or_append_left, get_or_default, get_or_push, length_push}
 use Rattle.std.proofs.lemmas.List.Folds.{list_any-append, list_any_at, list_any_more, list_any_none}
 use Rattle.std.proofs.lemmas.List.Sorted.{list_any-IsPermutation}
-use Rattle.flow_filter.specs.Condition.{AreRising, in_range, in_ranges, Range}
+use Rattle.flow_filter.specs.Condition.{AreAscending, in_range, in_ranges, Range}
 
 -- the higher of two numbers, as the code finds it
 pub higher_is : (a b m : ℕ) → m ≡ ord_max nat_cmp a b → m ≡ max a b
@@ -142,15 +142,15 @@ module _ (ranges : List Range) (count : ℕ) (wide : List Range) (high : ℕ) (u
       or_false true = refl
       or_false false = refl
 
--- at the end the set is that of the ranges, and the ranges rise
+-- at the end the set is that of the ranges, and the ranges ascend
 pub widened_set : (ranges wide : List Range) (count high : ℕ) → AreWidened ranges count wide high → length ranges ≤ count →
     take count ranges ≡ ranges → in_ranges wide ≡ in_ranges ranges
 widened_set ranges wide count high so_far all whole =
     λ i n. (so_far.same n ∙ ap (λ (rs : List Range). in_ranges rs n) whole) i
 
-pub widened_rise : (ranges wide : List Range) (count high : ℕ) → IsNonDecreasingBy (λ (r : Range). r.low) ranges → AreWidened ranges count wide high →
-    count ≤ length ranges → AreRising wide
-widened_rise ranges wide count high up so_far within = record {
+pub widened_ascend : (ranges wide : List Range) (count high : ℕ) → IsNonDecreasingBy (λ (r : Range). r.low) ranges → AreWidened ranges count wide high →
+    count ≤ length ranges → AreAscending wide
+widened_ascend ranges wide count high up so_far within = record {
   lows = λ i j d le under.
       omega (
         arith,
@@ -161,7 +161,7 @@ widened_rise ranges wide count high up so_far within = record {
   highs = so_far.highs;
 }
 
-module _ (ranges : List Range) (rising : AreRising ranges) (n begun : ℕ)
+module _ (ranges : List Range) (ascending : AreAscending ranges) (n begun : ℕ)
     (point : IsPartitionPoint (λ (r : Range). leb r.low n ≡ true) (λ (r : Range). leb r.low n ≡ false) ranges begun) where
   late : (k : ℕ) (d : Range) → begun ≤ k → k < length ranges → in_range n (get_or ranges k d) ≡ false
   late k d from under =
@@ -187,7 +187,7 @@ module _ (ranges : List Range) (rising : AreRising ranges) (n begun : ℕ)
           elim (cases_lt k begun) [
             | inl early ↦
                 let most : (get_or ranges k d).high ≤ (get_or ranges (begun - 1) d).high =
-                rising.highs k (begun - 1) d (omega (arith, early)) (omega (arith, some, within)) in
+                ascending.highs k (begun - 1) d (omega (arith, early)) (omega (arith, some, within)) in
                 let most' : (get_or ranges k d).high ≤ r.high =
                 subst (λ (x : Range). (get_or ranges k d).high ≤ x.high)
                 (sym (is ∙ get_or_default ranges (begun - 1) r d (omega (arith, some, within)))) most in

@@ -49,7 +49,7 @@ abbrev pub in_ranges : List Range → ℕ → Bool
 in_ranges ranges n = list_any (in_range n) ranges
 
 -- no end of a range is below that of an earlier one
-pub record AreRising (ranges : List Range) : Type 0 where
+pub record AreAscending (ranges : List Range) : Type 0 where
   pub lows : IsNonDecreasingBy (λ r. r.low) ranges
   pub highs : IsNonDecreasingBy (λ r. r.high) ranges
 

@@ -1,6 +1,6 @@
 ghost use Rattle.std.specs.Prelude.{◌≡◌, ◌<◌, ◌≤◌, IfOk};
 ghost use Rattle.std.specs.List.Sorted.{IsNonDecreasingBy};
-ghost use Rattle.flow_filter.specs.Condition.{AreRising, in_ranges};
+ghost use Rattle.flow_filter.specs.Condition.{AreAscending, in_ranges};
 
 use crate::range::Range;
 use std::alloc::{AllocError, Global};
@@ -15,13 +15,13 @@ pub struct Ranges {
 
 impl Model for Ranges {
     ghost use Rattle.std.specs.Prelude.{List};
-    ghost use Rattle.flow_filter.specs.Condition.{AreRising, Range};
+    ghost use Rattle.flow_filter.specs.Condition.{AreAscending, Range};
 
     ghost Value = { List Range };
 
     ghost view = { λ r. r.ranges.items };
 
-    ghost invariant = { λ r. AreRising r.ranges.items };
+    ghost invariant = { λ r. AreAscending r.ranges.items };
 }
 
 impl Ranges {
@@ -47,11 +47,11 @@ impl Ranges {
     }
 }
 
-// Returns the ranges, each extended to the highest end of the earlier ones. The lower ends must be in rising order. No
-// number is added to the set: a number that is added to a range is in an earlier one.
+// Returns the ranges, each extended to the highest end of the earlier ones. The lower ends must be in ascending order.
+// No number is added to the set: a number that is added to a range is in an earlier one.
 fn widened(alloc: Global, ranges: &[Range]) -> Result<Vec<Range>, AllocError>
     requires { IsNonDecreasingBy (λ r. r.low) ranges.now }
-    ensures rising { IfOk result (λ wide. AreRising wide.items) }
+    ensures ascending { IfOk result (λ wide. AreAscending wide.items) }
     ensures same { IfOk result (λ wide. in_ranges wide.items ≡ in_ranges ranges.now) }
 {
     let mut wide = Vec::with_capacity(alloc, ranges.len())?;

@@ -1,4 +1,4 @@
--- A list in order is the only list that rises and keeps the order of elements that tie.
+-- A list in order is the only list that ascends and keeps the order of elements that tie.
 use Rattle.std.proofs.Common.{◌≡◌, suc, ◌+◌, ◌<◌, Bool, true, false, not, ◌&&◌, cond, if◌then◌else◌, List, [], ◌∷◌, length, map, filter, All, true≢false, refl, sym, ap, subst, ◌∙◌, arith}
 use Rattle.std.proofs.lemmas.Bool.{and_parts, both_ways, false_from_ne_true, not-true}
 use Rattle.std.proofs.lemmas.List.{get_or-map, length-map}
@@ -27,9 +27,9 @@ module _ {X : Type 0} (lt : X → X → Bool) (o : IsStrictWeakOrder lt) where
   ties_from x y p q = ap (λ b. not b && not (lt y x)) p ∙ ap (λ b. not b) q
 
   -- no element is less than one before it
-  abbrev Rises : List X → Type 0
-  Rises [] = Unit {0}
-  Rises (x ∷ xs) = All (λ y. lt y x ≡ false) xs × Rises xs
+  abbrev Ascends : List X → Type 0
+  Ascends [] = Unit {0}
+  Ascends (x ∷ xs) = All (λ y. lt y x ≡ false) xs × Ascends xs
 
   -- the elements that are kept of a list with one more element before it
   kept : (p : X → Bool) (x : X) (xs : List X) (b : Bool) → p x ≡ b → filter p (x ∷ xs) ≡ cond b (x ∷ filter p xs) (filter p xs)
@@ -44,15 +44,15 @@ module _ {X : Type 0} (lt : X → X → Bool) (o : IsStrictWeakOrder lt) where
       let both : x ∷ filter p xs ≡ x ∷ filter p ys = sym (kept p x xs true e) ∙ h ∙ kept p x ys true e in cc
   same_tails p x xs ys false e h = sym (kept p x xs false e) ∙ h ∙ kept p x ys false e
 
-  same_rising : (xs ys : List X) → Rises xs → Rises ys → ((z : X) → filter (ties lt z) xs ≡ filter (ties lt z) ys) → xs ≡ ys
-  same_rising [] [] r s same = refl
-  same_rising [] (y ∷ ys) r s same =
+  same_ascending : (xs ys : List X) → Ascends xs → Ascends ys → ((z : X) → filter (ties lt z) xs ≡ filter (ties lt z) ys) → xs ≡ ys
+  same_ascending [] [] r s same = refl
+  same_ascending [] (y ∷ ys) r s same =
       let h : [] ≡ y ∷ filter (ties lt y) ys = same y ∙ kept (ties lt y) y ys true (ties_from y y (irreflexive y) (irreflexive y)) in
       cc
-  same_rising (x ∷ xs) [] r s same =
+  same_ascending (x ∷ xs) [] r s same =
       let h : [] ≡ x ∷ filter (ties lt x) xs = sym (same x) ∙ kept (ties lt x) x xs true (ties_from x x (irreflexive x) (irreflexive x)) in
       cc
-  same_rising (x ∷ xs) (y ∷ ys) r s same = by (ties lt x y) (ties lt y x) refl refl (same_rising xs ys r.1 s.1)
+  same_ascending (x ∷ xs) (y ∷ ys) r s same = by (ties lt x y) (ties lt y x) refl refl (same_ascending xs ys r.1 s.1)
     where
       left : filter (ties lt x) (x ∷ xs) ≡ x ∷ filter (ties lt x) xs
       left = kept (ties lt x) x xs true (ties_from x x (irreflexive x) (irreflexive x))
@@ -84,11 +84,11 @@ module _ {X : Type 0} (lt : X → X → Bool) (o : IsStrictWeakOrder lt) where
           let q : lt y x ≡ false = front_has (λ w. lt w x ≡ false) (ties lt y) y xs _ there r.0 in
           absurd (true≢false (sym (ties_from x y p q) ∙ e))
 
-  rises_from_sorted : (xs : List X) → IsSortedBy lt xs → Rises xs
-  rises_from_sorted [] up = tt
-  rises_from_sorted (x ∷ xs) up = (
+  ascends_from_sorted : (xs : List X) → IsSortedBy lt xs → Ascends xs
+  ascends_from_sorted [] up = tt
+  ascends_from_sorted (x ∷ xs) up = (
     All-from_get_or (λ y. lt y x ≡ false) xs x (λ i h. sorted_far lt o (x ∷ xs) up 0 (suc i) x (omega arith) (omega arith)),
-    rises_from_sorted xs (λ k d low h. sorted_far lt o (x ∷ xs) up (suc k) (suc (k + 1)) d (omega arith) (omega arith)),
+    ascends_from_sorted xs (λ k d low h. sorted_far lt o (x ∷ xs) up (suc k) (suc (k + 1)) d (omega arith) (omega arith)),
   )
 
   All-with_in_order : (P : X → Type 0) (x : X) (ys : List X) → P x → All P ys → All P (with_in_order lt x ys)
@@ -99,11 +99,11 @@ module _ {X : Type 0} (lt : X → X → Bool) (o : IsStrictWeakOrder lt) where
       by true ih = All-cons P y (with_in_order lt x ys) (All-head P y ys all) ih
       by false ih = All-cons P x (y ∷ ys) here all
 
-  rises-with_in_order : (x : X) (ys : List X) → Rises ys → Rises (with_in_order lt x ys)
-  rises-with_in_order x [] r = (All-nil (λ y. lt y x ≡ false), tt)
-  rises-with_in_order x (y ∷ ys) r = by (lt y x) refl (rises-with_in_order x ys r.1)
+  ascends-with_in_order : (x : X) (ys : List X) → Ascends ys → Ascends (with_in_order lt x ys)
+  ascends-with_in_order x [] r = (All-nil (λ y. lt y x ≡ false), tt)
+  ascends-with_in_order x (y ∷ ys) r = by (lt y x) refl (ascends-with_in_order x ys r.1)
     where
-      by : (b : Bool) → lt y x ≡ b → Rises (with_in_order lt x ys) → Rises (if b then y ∷ with_in_order lt x ys else x ∷ y ∷ ys)
+      by : (b : Bool) → lt y x ≡ b → Ascends (with_in_order lt x ys) → Ascends (if b then y ∷ with_in_order lt x ys else x ∷ y ∷ ys)
       by true e ih = (All-with_in_order (λ z. lt z y ≡ false) x ys (o.one_way y x e) r.0, ih)
       by false e ih = (
         All-cons (λ z. lt z x ≡ false) y ys e
@@ -123,9 +123,9 @@ module _ {X : Type 0} (lt : X → X → Bool) (o : IsStrictWeakOrder lt) where
           ∙ swapped x y (filter (ties lt z) ys) (ties lt z x) (ties lt z y)
           (λ p q. true≢false (sym e ∙ o.chain y z x (ties_parts z y q).1 (ties_parts z x p).0))
 
-  rises-in_order : (xs : List X) → Rises (in_order lt xs)
-  rises-in_order [] = tt
-  rises-in_order (x ∷ xs) = rises-with_in_order x (in_order lt xs) (rises-in_order xs)
+  ascends-in_order : (xs : List X) → Ascends (in_order lt xs)
+  ascends-in_order [] = tt
+  ascends-in_order (x ∷ xs) = ascends-with_in_order x (in_order lt xs) (ascends-in_order xs)
 
   stable-in_order : (z : X) (xs : List X) → filter (ties lt z) (in_order lt xs) ≡ filter (ties lt z) xs
   stable-in_order z [] = refl
@@ -135,7 +135,7 @@ module _ {X : Type 0} (lt : X → X → Bool) (o : IsStrictWeakOrder lt) where
   -- the result of a stable sort
   pub sorted_is : (xs ys : List X) → IsSortedBy lt ys → IsStableBy lt xs ys → ys ≡ in_order lt xs
   sorted_is xs ys up stable =
-      same_rising ys (in_order lt xs) (rises_from_sorted ys up) (rises-in_order xs)
+      same_ascending ys (in_order lt xs) (ascends_from_sorted ys up) (ascends-in_order xs)
       (λ z. stable z ∙ sym (stable-in_order z xs))
 
 -- elements ordered by a function of them
@@ -155,7 +155,7 @@ module _ {X Y : Type 0} (f : X → Y) (lt : Y → Y → Bool) where
   map-in_order (x ∷ xs) =
       map-with_in_order x (in_order (λ a b. lt (f a) (f b)) xs) ∙ ap (λ (l : List Y). with_in_order lt (f x) l) (map-in_order xs)
 
--- a list that rises by a function of its elements rises after the function is applied
+-- a list that ascends by a function of its elements ascends after the function is applied
 pub IsSortedBy-map : {X Y : Type 0} (f : X → Y) (lt : Y → Y → Bool) (xs : List X) → IsSortedBy (λ a b. lt (f a) (f b)) xs → IsSortedBy lt (map f xs)
 IsSortedBy-map f lt [] up = λ k d low h. absurd (omega arith)
 IsSortedBy-map f lt (x ∷ xs) up = λ k d low h.

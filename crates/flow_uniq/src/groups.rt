@@ -166,7 +166,7 @@ impl Groups {
         ensures value { IfOk result (λ groups. map group_model groups.items ≡ sorted_groups self.now.groups) }
         // They are a permutation of the groups, in which no group is less than the one before it.
         ensures permutation { IfOk result (λ groups. IsPermutation self.now.groups (map group_model groups.items)) }
-        ensures rises { IfOk result (λ groups. IsSortedBy is_before (map group_model groups.items)) }
+        ensures ascends { IfOk result (λ groups. IsSortedBy is_before (map group_model groups.items)) }
     {
         let mut groups = listed(self.alloc, self)?;
         groups.sort_by(|a, b| compare_keys(a.key, b.key))?;

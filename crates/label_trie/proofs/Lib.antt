@@ -5,7 +5,7 @@ pub mod Lookup
 pub mod Divided
 pub mod Encoded
 pub mod Places
-pub mod Way
+pub mod Path
 pub mod Sums
 pub mod Grown
 pub mod Built

@@ -21,7 +21,7 @@ use Rattle.pmap_text.proofs.Longest.{label_seen}
 use Rattle.label_trie.proofs.SeenLeaves.{IsSeenLeaf, leaf_decided, leaves_seen}
 use Rattle.label_trie.proofs.Lookup.{leaf_with}
 use Rattle.label_trie.proofs.NodeLeaves.{length_leaves}
-use Rattle.pmap_text.proofs.Painted.{painting, rising, seen_permuted}
+use Rattle.pmap_text.proofs.Painted.{painting, ascending, seen_permuted}
 use Rattle.label_trie.proofs.Parted.{parted_block}
 use Rattle.label_trie.proofs.Sums.{sum_most}
 
@@ -66,7 +66,7 @@ list_seen l sorted root moved up f =
     let versions = All-permutation (λ (e : Entry). e.block.version ≡ l.version) l.entries sorted moved l.one_version in
     All-weaker (IsSeenLeaf W l.labels rs) (IsSeenLeaf W l.labels ps)
     (λ leaf g. seen_permuted W l.labels rs ps back leaf.bits leaf.number leaf.label g)
-    (leaves_of root 0 0) (leaves_seen l.version l.labels rs root 0 0 (rising l.version l.labels sorted versions up) f)
+    (leaves_of root 0 0) (leaves_seen l.version l.labels rs root 0 0 (ascending l.version l.labels sorted versions up) f)
 
 -- so each leaf is decided by the list, and each address has its label
 pub list_decided : (l : PrefixList) (root : Tree)

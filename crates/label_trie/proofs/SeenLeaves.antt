@@ -8,12 +8,12 @@ use Rattle.pmap_text.specs.MapModel.{Label, last_such, meets}
 use Rattle.pmap_text.specs.MapText.{text_at}
 use Rattle.pmap_text.specs.declared.label.LabelId.{LabelId}
 use Rattle.pmap_text.proofs.Longest.{AreBlocks, known_seen, label_seen, none_inside}
-use Rattle.pmap_text.proofs.Painted.{IsRising, IsSeen, painted, painting, seen_by, unmet}
+use Rattle.pmap_text.proofs.Painted.{IsAscending, IsSeen, painted, painting, seen_by, unmet}
 use Rattle.label_trie.specs.TrieModel.{LeafModel, IsDecidedLeaf}
 use Rattle.label_trie.specs.Tree.{Tree, Tip, Fork, leaves_of, Settles, Fits}
 
 -- the label that settles a block of each such painting is seen there
-seen : (version : Version) (table : List Label) (ps : List Prefix) (label : Option LabelId) (n q : ℕ) → IsRising (width_of version) ps
+seen : (version : Version) (table : List Label) (ps : List Prefix) (label : Option LabelId) (n q : ℕ) → IsAscending (width_of version) ps
     → ((fallback : Label) → Settles (painting version table ps fallback) label n q)
     → IsSeen (width_of version) table ps n q (option_map (λ id. id.0) label)
 seen version table ps None n q up f = unmet (width_of version) n q ps (f [])
@@ -26,7 +26,7 @@ seen version table ps (Some id) n q up f =
 abbrev pub IsSeenLeaf : ℕ → List Label → List Prefix → LeafModel → Type 0
 IsSeenLeaf W table ps leaf = IsSeen W table ps leaf.bits leaf.number leaf.label
 
-pub leaves_seen : (version : Version) (table : List Label) (ps : List Prefix) (node : Tree) (n q : ℕ) → IsRising (width_of version) ps
+pub leaves_seen : (version : Version) (table : List Label) (ps : List Prefix) (node : Tree) (n q : ℕ) → IsAscending (width_of version) ps
     → ((fallback : Label) → Fits (painting version table ps fallback) node n q)
     → All (IsSeenLeaf (width_of version) table ps) (leaves_of node n q)
 leaves_seen version table ps (Tip label) n q up f =

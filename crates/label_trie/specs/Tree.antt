@@ -13,7 +13,7 @@ pub data Tree : Type 0 where
   Tip : (label : Option LabelId) → Tree
   Fork : (low high : Tree) → Tree
 
--- the leaves of a tree, in rising order
+-- the leaves of a tree, in ascending order
 abbrev pub leaves_of : Tree → ℕ → ℕ → List LeafModel
 leaves_of (Tip label) n q = record { bits = n; number = q; label = option_map (λ id. id.0) label } ∷ []
 leaves_of (Fork low high) n q = leaves_of low (suc n) (2 * q) ++ leaves_of high (suc n) (2 * q + 1)

@@ -9,7 +9,7 @@ use Rattle.pmap_text.specs.MapText.{text_at}
 pub use Rattle.pmap_text.specs.PrefixList.{number_of_block as number_of}
 use Rattle.label_trie.specs.declared.leaf.Leaf.{Leaf}
 
--- A trie as contracts see it: its leaves, in rising order of their addresses, and its nodes.
+-- A trie as contracts see it: its leaves, in ascending order of their addresses, and its nodes.
 
 -- the block of `bits` bits with the number `number`, and the number of its label, if it has one
 pub record LeafModel : Type 0 where
@@ -17,7 +17,8 @@ pub record LeafModel : Type 0 where
   pub number : ℕ
   pub label : Option ℕ
 
--- a node of a trie: the block of `bits` bits with the number `number`, and the leaves at and below it in rising order
+-- a node of a trie: the block of `bits` bits with the number `number`, and the leaves at and below it in ascending
+-- order
 pub record NodeModel : Type 0 where
   pub bits : ℕ
   pub number : ℕ
@@ -72,8 +73,8 @@ abbrev pub model_of : Leaf → LeafModel
 model_of leaf =
     record { bits = leaf.block.len; number = number_of leaf.block; label = option_map (λ id. id.0) leaf.label }
 
--- A cursor in a trie as contracts see it: the block of its node, the leaves at and below the node in rising order, the
--- number of the node, and the nodes of the trie in the order of their numbers.
+-- A cursor in a trie as contracts see it: the block of its node, the leaves at and below the node in ascending order,
+-- the number of the node, and the nodes of the trie in the order of their numbers.
 pub record CursorModel : Type 0 where
   pub block : Block
   pub leaves : List LeafModel

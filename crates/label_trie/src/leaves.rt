@@ -4,7 +4,7 @@ use crate::leaf::Leaf;
 use std::alloc::{AllocError, Global};
 use std::marker::Model;
 
-/// The leaves of a trie, in rising order of their blocks.
+/// The leaves of a trie, in ascending order of their blocks.
 #[derive(Drop)]
 pub struct Leaves {
     items: Vec<Leaf>,

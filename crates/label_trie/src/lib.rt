@@ -12,11 +12,11 @@
 //!
 //! This crate uses prefix_keys (blocks) and pmap_text (map texts, prefix lists, their stretches and label tables). A
 //! trie halves the address space until each piece, a leaf, has one label or none. Callers may rely on this: the leaves
-//! are blocks in rising order that cover every address once. In the trie of a map, each leaf is settled by the map and
-//! has the label that settles it, and no block that strictly contains a leaf is settled. So the label that the trie
+//! are blocks in ascending order that cover every address once. In the trie of a map, each leaf is settled by the map
+//! and has the label that settles it, and no block that strictly contains a leaf is settled. So the label that the trie
 //! gives an address is the map's. In the trie of a prefix list, no entry lies strictly inside a leaf. Each leaf, and so
 //! each address, has the label of the longest entry that covers it, or none. A walk by cursors from the root reaches
-//! these leaves, and in the trie of a map no block on the way is settled. The nodes are numbered from 0: a block comes
+//! these leaves, and in the trie of a map no block on the path is settled. The nodes are numbered from 0: a block comes
 //! before its lower half, and all nodes of the lower half come before those of the higher half. The number of nodes is
 //! at most one, plus four times the width for each statement of a map, or twice the width for each entry of a list.
 //! Contracts see a trie as the lists of its leaves and nodes. How they are stored is private.

@@ -121,7 +121,7 @@ impl Trie {
         }
     }
 
-    /// Returns the leaves in rising order of their blocks.
+    /// Returns the leaves in ascending order of their blocks.
     pub fn leaves(&self, alloc: Global) -> Result<Leaves, AllocError>
         ensures version { IfOk result (All (λ leaf. leaf.block.version ≡ self.now.version)) }
         ensures leaves { IfOk result (λ leaves. map model_of leaves ≡ self.now.leaves) }

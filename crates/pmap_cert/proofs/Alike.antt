@@ -7,24 +7,24 @@ use Rattle.std.proofs.lemmas.List.Elements.{All-head, All-tail}
 use Rattle.prefix_keys.specs.Block.{first_of, width_of}
 use Rattle.pmap_text.specs.ListModel.{ListModel}
 use Rattle.pmap_text.specs.MapModel.{Label, MapModel, Mapping, last_such, meets, settled_by, spans_all}
-use Rattle.pmap_cert.specs.CertificateModel.{CertificateModel, ChainNode, InnerNode, LeafNode, Pair, Tree, claim_of, has, IsSamePair, common_labels, exact_pair, exact_pair_by}
+use Rattle.pmap_cert.specs.CertificateModel.{CertificateModel, ChainNode, InnerNode, LeafNode, Claim, Tree, claim_of, has, IsSameClaim, common_labels, exact_claim, exact_claim_by}
 use Rattle.pmap_cert.specs.Acceptance.{HasItsLabels, IsSameCertificate, IsSameTree, IsMinimalPair, StandsFor, entries_of, first_label, handed_on, has_inherited, least_label, own_entry}
-use Rattle.pmap_cert.proofs.ExactPairs.{same-exact_pair}
+use Rattle.pmap_cert.proofs.ExactClaims.{same-exact_claim}
 use Rattle.pmap_cert.proofs.Handed.{inhabited}
 use Rattle.pmap_cert.proofs.Sets.{has-append, has-filter, has-single}
 use Rattle.pmap_text.proofs.LastSuch.{last_such-cases}
 
 -- All minimal pairs of a map are alike.
 
--- sameness of pairs is transitive and symmetric
-pub same-between : (a b c d : Pair) → IsSamePair a b → IsSamePair b c → IsSamePair d c → IsSamePair a d
+-- sameness of claims is transitive and symmetric
+pub same-between : (a b c d : Claim) → IsSameClaim a b → IsSameClaim b c → IsSameClaim d c → IsSameClaim a d
 same-between a b c d e f g = record {
   cost = e.cost ∙ f.cost ∙ sym g.cost;
   labels = λ x. e.labels x ∙ f.labels x ∙ sym (g.labels x);
 }
 
 -- alike nodes claim the same
-same-claim : (t t' : Tree) → IsSameTree t t' → IsSamePair (claim_of t) (claim_of t')
+same-claim : (t t' : Tree) → IsSameTree t t' → IsSameClaim (claim_of t) (claim_of t')
 same-claim (LeafNode x) (LeafNode y) e = record { cost = refl; labels = λ z. ap (λ (u : Label). has (u ∷ []) z) e }
 same-claim (LeafNode x) (InnerNode p l r) e = absurd e
 same-claim (InnerNode p l r) (LeafNode y) e = absurd e
@@ -44,8 +44,8 @@ alike m (ChainNode p bits side end) t n q h h' = absurd h
 alike m (InnerNode p l r) (InnerNode p' l' r') n q h h' =
     let lower = alike m l l' (suc n) (2 * q) h.2 h'.2 in
     let upper = alike m r r' (suc n) (2 * q + 1) h.3 h'.3 in (
-      same-between p (exact_pair (claim_of l) (claim_of r)) (exact_pair (claim_of l') (claim_of r')) p' h.1
-          (same-exact_pair (claim_of l) (claim_of r) (claim_of l') (claim_of r') (same-claim l l' lower) (same-claim r r' upper)) h'.1,
+      same-between p (exact_claim (claim_of l) (claim_of r)) (exact_claim (claim_of l') (claim_of r')) p' h.1
+          (same-exact_claim (claim_of l) (claim_of r) (claim_of l') (claim_of r') (same-claim l l' lower) (same-claim r r' upper)) h'.1,
       lower,
       upper,
     )
@@ -100,12 +100,12 @@ table-settled_by W n q table fallback x ms (Some s) default all last h =
     let parts = cond_some (spans_all W n q s) s.label x h in
     subst (λ (y : Label). has table y ≡ true) parts.1 (table-mapping table (meets W n q) ms s all last)
 
--- each label of the exact pair is a label of one of the two pairs
-exact_pair_by-labels : (p r : Pair) (x : Label) (common : List Label) →
-    ((y : Label) → has common y ≡ (has p.labels y && has r.labels y)) → has (exact_pair_by p r common).labels x ≡ true →
+-- each label of the exact claim is a label of one of the two claims
+exact_claim_by-labels : (p r : Claim) (x : Label) (common : List Label) →
+    ((y : Label) → has common y ≡ (has p.labels y && has r.labels y)) → has (exact_claim_by p r common).labels x ≡ true →
     (has p.labels x ≡ true) ⊎ (has r.labels x ≡ true)
-exact_pair_by-labels p r x [] both h = or_cases (has p.labels x) (has r.labels x) (sym (has-append p.labels r.labels x) ∙ h)
-exact_pair_by-labels p r x (y ∷ ys) both h = inl ((and_parts (has p.labels x) (has r.labels x) (sym (both x) ∙ h)).0)
+exact_claim_by-labels p r x [] both h = or_cases (has p.labels x) (has r.labels x) (sym (has-append p.labels r.labels x) ∙ h)
+exact_claim_by-labels p r x (y ∷ ys) both h = inl ((and_parts (has p.labels x) (has r.labels x) (sym (both x) ∙ h)).0)
 
 -- each label of a node's set is in the map's table
 pub table-node : (m : MapModel) → HasItsLabels m → (t : Tree) (n q : ℕ) → StandsFor m t n q → (x : Label) →
@@ -118,7 +118,7 @@ table-node m inside (ChainNode p bits side end) n q stands x h = absurd stands
 table-node m inside (InnerNode p l r) n q stands x h =
     let same = stands.1 in
     ⊎_elim (table-node m inside l (suc n) (2 * q) stands.2 x) (table-node m inside r (suc n) (2 * q + 1) stands.3 x)
-    (exact_pair_by-labels (claim_of l) (claim_of r) x (common_labels (claim_of l) (claim_of r))
+    (exact_claim_by-labels (claim_of l) (claim_of r) x (common_labels (claim_of l) (claim_of r))
     (λ y. has-filter (claim_of r).labels (claim_of l).labels y) (sym (same.labels x) ∙ h))
 
 -- equal sets give the same own entry and pass on the same label

@@ -8,10 +8,10 @@ use Rattle.std.proofs.lemmas.Bool.{and_from, and_parts, cond-false, cond-true, e
 use Rattle.std.proofs.lemmas.List.{length-map}
 use Rattle.std.proofs.lemmas.Option.{none-some, same_Some}
 use Rattle.std.proofs.lemmas.Slice.Eq.{bytes_eq-Decides}
-use Rattle.pmap_cert.specs.CertificateText.{IsRising, bit_digits}
-use Rattle.pmap_cert.specs.FormatReading.{ChainLine, DueLine, InnerLine, LeafLine, bits_of, both, chain_by, due_words, number_below, rising_numbers}
+use Rattle.pmap_cert.specs.CertificateText.{IsAscending, bit_digits}
+use Rattle.pmap_cert.specs.FormatReading.{ChainLine, DueLine, InnerLine, LeafLine, bits_of, both, chain_by, due_words, number_below, ascending_numbers}
 use Rattle.pmap_cert.proofs.NodeLines.{SaysDue, both_some, node_words, node_words-found, node_words-inner, node_words-leaf}
-use Rattle.pmap_cert.proofs.Numbers.{number_below-decimal, number_below-found, option_map_some, rising_numbers-decimals, rising_numbers-found}
+use Rattle.pmap_cert.proofs.Numbers.{number_below-decimal, number_below-found, option_map_some, ascending_numbers-decimals, ascending_numbers-found}
 
 -- the byte is a digit of a chain's bits
 abbrev is_digit : ℕ → Bool
@@ -82,15 +82,15 @@ chain-found format most count word (a ∷ []) line is two e = absurd (none-some 
 chain-found format most count word (a ∷ b ∷ []) line is two e = absurd (none-some line e)
 chain-found format most count word (cost ∷ bits ∷ side ∷ numbers) line is two e =
     let first : Option (ℕ × List Bool) = both (number_below (2 ^ 32) cost) (bits_of most bits) in
-    let second : Option (ℕ × List ℕ) = both (number_below count side) (rising_numbers count 0 numbers) in
+    let second : Option (ℕ × List ℕ) = both (number_below count side) (ascending_numbers count 0 numbers) in
     let found = option_map_some chain_of (both first second) line e in
     let halves = both_some first second found.0 found.1 in
     let front = both_some (number_below (2 ^ 32) cost) (bits_of most bits) found.0.0 halves.0 in
-    let back = both_some (number_below count side) (rising_numbers count 0 numbers) found.0.1 halves.1 in
+    let back = both_some (number_below count side) (ascending_numbers count 0 numbers) found.0.1 halves.1 in
     let is_cost = number_below-found (2 ^ 32) cost found.0.0.0 front.0 in
     let are_bits = bits_of-found most bits found.0.0.1 front.1 in
     let is_side = number_below-found count side found.0.1.0 back.0 in
-    let are_numbers = rising_numbers-found count 0 numbers found.0.1.1 back.1 in
+    let are_numbers = ascending_numbers-found count 0 numbers found.0.1.1 back.1 in
     subst (λ (line : DueLine). SaysDue format most count line (word ∷ cost ∷ bits ∷ side ∷ numbers)) found.2 (
       (λ i. is i ∷ is_cost.0 i ∷ are_bits.0 i ∷ is_side.0 i ∷ are_numbers.0 i),
       (two, is_cost.1, are_bits.1, are_bits.2, is_side.1, are_numbers.1),
@@ -130,17 +130,17 @@ pub due_words-leaf : (format most count number : ℕ) → number < count → cou
 due_words-leaf format most count number h small =
     due_words-plain format most count (codes "l") (decimal number ∷ []) (LeafLine number) refl (node_words-leaf count number h small)
 
-pub due_words-inner : (format most count cost : ℕ) (numbers : List ℕ) → cost < 2 ^ 32 → IsRising count 0 numbers → count ≤ 2 ^ 63 →
+pub due_words-inner : (format most count cost : ℕ) (numbers : List ℕ) → cost < 2 ^ 32 → IsAscending count 0 numbers → count ≤ 2 ^ 63 →
     due_words format most count (codes "n" ∷ decimal cost ∷ map decimal numbers) ≡ Some (InnerLine cost numbers)
-due_words-inner format most count cost numbers h rising small =
+due_words-inner format most count cost numbers h ascending small =
     due_words-plain format most count (codes "n") (decimal cost ∷ map decimal numbers) (InnerLine cost numbers) refl
-    (node_words-inner count cost numbers h rising small)
+    (node_words-inner count cost numbers h ascending small)
 
 pub due_words-chain : (format most count cost : ℕ) (bits : List Bool) (side : ℕ) (numbers : List ℕ) → format ≡ 2 → cost < 2 ^ 32 →
-    0 < length bits → length bits ≤ most → side < count → IsRising count 0 numbers → count ≤ 2 ^ 63 →
+    0 < length bits → length bits ≤ most → side < count → IsAscending count 0 numbers → count ≤ 2 ^ 63 →
     due_words format most count (codes "c" ∷ decimal cost ∷ bit_digits bits ∷ decimal side ∷ map decimal numbers)
     ≡ Some (ChainLine cost bits side numbers)
-due_words-chain format most count cost bits side numbers two h some few known rising small =
+due_words-chain format most count cost bits side numbers two h some few known ascending small =
     cond-true (format == 2 && bytes_eq (codes "c") (codes "c"))
     (chain_by most count (decimal cost ∷ bit_digits bits ∷ decimal side ∷ map decimal numbers))
     (node_words count (codes "c" ∷ decimal cost ∷ bit_digits bits ∷ decimal side ∷ map decimal numbers))
@@ -156,5 +156,5 @@ due_words-chain format most count cost bits side numbers two h some few known ri
     is_side : number_below count (decimal side) ≡ Some side
     is_side = number_below-decimal count side known (omega arith)
 
-    are_numbers : rising_numbers count 0 (map decimal numbers) ≡ Some numbers
-    are_numbers = rising_numbers-decimals count 0 numbers small rising
+    are_numbers : ascending_numbers count 0 (map decimal numbers) ≡ Some numbers
+    are_numbers = ascending_numbers-decimals count 0 numbers small ascending

@@ -5,14 +5,14 @@ use Rattle.std.proofs.lemmas.Option.{none-some, same_Some}
 use Rattle.prefix_keys.specs.Block.{width_of}
 use Rattle.pmap_text.specs.MapModel.{Label}
 use Rattle.pmap_cert.specs.CertificateText.{HasFormatText, HasNodeForm, HasRoomBelow, place_of}
-use Rattle.pmap_cert.specs.CertificateModel.{CertificateModel, ChainNode, InnerNode, LeafNode, Pair, Tree, IsPlain}
+use Rattle.pmap_cert.specs.CertificateModel.{CertificateModel, ChainNode, InnerNode, LeafNode, Claim, Tree, IsPlain}
 use Rattle.pmap_cert.specs.Compacting.{compact, compacted_in, line_count, run_bits, run_end, side_of}
 use Rattle.pmap_cert.proofs.ChainWords.{other-room}
 use Rattle.pmap_cert.proofs.Compacts.{by_format}
 use Rattle.pmap_cert.proofs.Runs.{by_run, by_steps, plain-run}
 
 module _ (table : List Label) where
-  halves-form : (claim : Pair) (lower upper : Tree) (room : ℕ) → HasNodeForm table (InnerNode claim lower upper) room →
+  halves-form : (claim : Claim) (lower upper : Tree) (room : ℕ) → HasNodeForm table (InnerNode claim lower upper) room →
       (left : ℕ) × (room ≡ suc left) × HasNodeForm table lower left × HasNodeForm table upper left
   halves-form claim lower upper zero h = absurd h
   halves-form claim lower upper (suc room) h = (room, refl, h.2, h.3)

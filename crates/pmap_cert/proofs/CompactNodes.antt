@@ -12,7 +12,7 @@ use Rattle.pmap_text.specs.Label.{IsLabelTable}
 use Rattle.pmap_text.specs.MapModel.{Label}
 use Rattle.pmap_text.specs.MapText.{text_at}
 use Rattle.pmap_cert.specs.CertificateText.{HasRoomBelow, place_of}
-use Rattle.pmap_cert.specs.CertificateModel.{CertificateModel, ChainNode, InnerNode, Pair, Tree}
+use Rattle.pmap_cert.specs.CertificateModel.{CertificateModel, ChainNode, InnerNode, Claim, Tree}
 use Rattle.pmap_cert.specs.Compacting.{compact, compacted, is_side, leaf_label, run_bits, run_compacted, run_end, side_of}
 use Rattle.pmap_cert.specs.Format.{format_number, Format, One, Two}
 use Rattle.pmap_cert.specs.FormatReading.{ChainLine, DueLine, InnerLine, LeafLine}
@@ -113,7 +113,7 @@ module _ (cost : ℕ) (set : List ℕ) (lower upper : Node) where
   abbrev whole : Node
   whole = Inner cost set lower upper
 
-  abbrev claim : List Label → Pair
+  abbrev claim : List Label → Claim
   claim table = record { cost = cost; labels = map (text_at table) set }
 
   abbrev run_in : List Label → Option Label → Tree

@@ -4,7 +4,7 @@ use Rattle.std.proofs.lemmas.Bool.{cond-false, cond-true, eq-eqb, ne_eqb}
 use Rattle.pmap_text.specs.ListModel.{ListModel}
 use Rattle.pmap_text.specs.MapModel.{MapModel}
 use Rattle.pmap_cert.specs.Acceptance.{IsAccepted}
-use Rattle.pmap_cert.specs.CertificateModel.{CertificateModel, Pair, IsOfFormat, IsPlain, opened}
+use Rattle.pmap_cert.specs.CertificateModel.{CertificateModel, Claim, IsOfFormat, IsPlain, opened}
 use Rattle.pmap_cert.specs.Compacting.{HasNoRun, IsSameShape, OpensTo, compact, compacted, line_count}
 use Rattle.pmap_cert.proofs.Opening.{claim-opening, lines-opening, opening-accepted}
 use Rattle.pmap_cert.proofs.Runs.{compacted_in-no_run, compacted_in-opens, shape-opens}
@@ -42,7 +42,7 @@ compact-accepted m l c of h =
       list_version = h.list_version;
       certificate_version = h.certificate_version;
       root = opening-accepted m l.prefixes (compacted c.root) c.root 0 0 (opens c plain) h.root;
-      count = subst (λ (p : Pair). length l.prefixes ≤ p.cost + 1) (claim-opening (compacted c.root) c.root (opens c plain)) h.count;
+      count = subst (λ (p : Claim). length l.prefixes ≤ p.cost + 1) (claim-opening (compacted c.root) c.root (opens c plain)) h.count;
     }) (λ second. h)
 
 pub compact-format : (c : CertificateModel) → IsOfFormat c → (compact c).format ≡ 2

@@ -11,8 +11,8 @@ use Rattle.pmap_text.proofs.Settled.{unsettled-halves}
 use Rattle.pmap_text.specs.MapModel.{Label, MapModel, Mapping, last_such, meets, settled_by, spans_all}
 use Rattle.pmap_text.specs.Reading.{mapping_limit}
 use Rattle.pmap_cert.proofs.Counts.{one_if}
-use Rattle.pmap_cert.proofs.Sets.{exact_pair-cost}
-use Rattle.pmap_cert.specs.CertificateModel.{ChainNode, InnerNode, LeafNode, Tree, claim_of, exact_pair}
+use Rattle.pmap_cert.proofs.Sets.{exact_claim-cost}
+use Rattle.pmap_cert.specs.CertificateModel.{ChainNode, InnerNode, LeafNode, Tree, claim_of, exact_claim}
 use Rattle.pmap_cert.specs.Acceptance.{StandsFor}
 
 -- the number of ends of a mapping between two addresses; at an end it covers one of two neighbours and not the other
@@ -129,9 +129,9 @@ cost-ends m (InnerNode p l r) zero n q e stands =
     let below : n < width_of m.version = unsettled-halves m n q (omega arith) stands.0 in
     absurd (omega arith)
 cost-ends m (InnerNode p l r) (suc left) n q e stands =
-    let same : p.cost ≡ (exact_pair (claim_of l) (claim_of r)).cost = stands.1.cost in
+    let same : p.cost ≡ (exact_claim (claim_of l) (claim_of r)).cost = stands.1.cost in
     sum-bound p.cost (claim_of l).cost (claim_of r).cost left (block_ends m (suc n) (2 * q)) (block_ends m (suc n) (2 * q + 1)) (block_ends m n q)
-    (omega (arith, same, exact_pair-cost (claim_of l) (claim_of r) None))
+    (omega (arith, same, exact_claim-cost (claim_of l) (claim_of r) None))
     (cost-ends m l left (suc n) (2 * q) (omega arith) stands.2)
     (cost-ends m r left (suc n) (2 * q + 1) (omega arith) stands.3)
     (ends-halves m n q (omega arith))

@@ -4,7 +4,7 @@ use Rattle.prefix_keys.specs.declared.version.Version.{Version}
 use Rattle.pmap_text.specs.ListModel.{IsEquivalent, ListModel, Prefix, label_below, lies_inside}
 use Rattle.pmap_text.specs.MapModel.{Label, MapModel, map_label}
 use Rattle.pmap_cert.specs.Acceptance.{IsAccepted, IsDecided, IsLeast, IsNodeAccepted}
-use Rattle.pmap_cert.specs.CertificateModel.{CertificateModel, ChainNode, InnerNode, LeafNode, Pair, Tree, claim_of, IsPlain, opened_certificate}
+use Rattle.pmap_cert.specs.CertificateModel.{CertificateModel, ChainNode, InnerNode, LeafNode, Claim, Tree, claim_of, IsPlain, opened_certificate}
 use Rattle.pmap_cert.proofs.Chains.{claim-opened, opened-accepted, opened-plain}
 use Rattle.pmap_text.proofs.Blocks.{block_number-first_of, block_number-halves, block_number-zero}
 use Rattle.pmap_cert.proofs.Counts.{count_of-filter, count_of-le, is_within}
@@ -56,7 +56,7 @@ bound-accepted m l c given other same =
     let h = opened-accepted m l c given in
     let k = kernel m l.prefixes other.prefixes (labels-at_version other m same) (opened_certificate c).root 0 0
     (opened-plain c.root) (omega arith) (omega arith) h.root in
-    let cost = ap (λ (p : Pair). p.cost) (claim-opened m l.prefixes c.root 0 0 given.root) in
+    let cost = ap (λ (p : Claim). p.cost) (claim-opened m l.prefixes c.root 0 0 given.root) in
     omega (arith, cost, count_of-le (is_within (width_of m.version) 0 0) other.prefixes)
 
 pub least-accepted : (m : MapModel) (l : ListModel) (c : CertificateModel) → IsAccepted m l c → IsLeast m l

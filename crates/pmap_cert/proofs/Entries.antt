@@ -4,12 +4,12 @@ use Rattle.std.proofs.lemmas.Bool.Decides.{nat_tests}
 use Rattle.prefix_keys.specs.Block.{block_number, first_of, width_of}
 use Rattle.pmap_text.specs.ListModel.{Prefix}
 use Rattle.pmap_text.specs.MapModel.{Label, MapModel}
-use Rattle.pmap_cert.specs.CertificateModel.{ChainNode, InnerNode, LeafNode, Pair, Tree, claim_of, IsSamePair, exact_pair}
+use Rattle.pmap_cert.specs.CertificateModel.{ChainNode, InnerNode, LeafNode, Claim, Tree, claim_of, IsSameClaim, exact_claim}
 use Rattle.pmap_cert.specs.Acceptance.{StandsFor, entries_of, handed_on, has_inherited, least_label, own_entry}
 use Rattle.pmap_text.proofs.Blocks.{block_number-first_of, block_number-half}
 use Rattle.pmap_cert.proofs.Counts.{is_within}
 use Rattle.pmap_cert.proofs.Filters.{filter-three}
-use Rattle.pmap_cert.proofs.Handed.{IsInhabited, exact_pair-cost_of, handed_on-has, inhabited}
+use Rattle.pmap_cert.proofs.Handed.{IsInhabited, exact_claim-cost_of, handed_on-has, inhabited}
 use Rattle.pmap_cert.proofs.Sets.{miss}
 use Rattle.pmap_text.proofs.Settled.{unsettled-halves}
 
@@ -25,12 +25,12 @@ length-own_entry W table s h n q = by_test (has_inherited s h) (record { start =
     by_test false p = refl
 
 -- the cost of a node that passes on a label of its set is the number of entries of its halves
-halves-cost : (table : List Label) (claim p r : Pair) (h : Option Label) → IsInhabited claim.labels →
-    IsSamePair claim (exact_pair p r) →
+halves-cost : (table : List Label) (claim p r : Claim) (h : Option Label) → IsInhabited claim.labels →
+    IsSameClaim claim (exact_claim p r) →
     claim.cost ≡ p.cost + miss (handed_on table claim.labels h) p.labels + (r.cost + miss (handed_on table claim.labels h) r.labels)
 halves-cost table claim p r h some same =
     let handed = handed_on-has table claim.labels h some in
-    let cost = exact_pair-cost_of p r handed.0 (sym (same.labels handed.0) ∙ handed.2) in
+    let cost = exact_claim-cost_of p r handed.0 (sym (same.labels handed.0) ∙ handed.2) in
     rw handed.1 (same.cost ∙ cost)
 
 -- a node has as many entries as it costs, and one more if its set lacks the inherited label

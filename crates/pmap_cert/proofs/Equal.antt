@@ -7,7 +7,7 @@ use Rattle.prefix_keys.specs.declared.version.Version.{Version}
 use Rattle.pmap_text.specs.MapModel.{Label, MapModel}
 use Rattle.pmap_text.specs.ListModel.{ListModel}
 use Rattle.pmap_text.specs.MapText.{text_at}
-use Rattle.pmap_cert.specs.CertificateText.{HasNodeForm, HasTextForm, IsRising, place_of}
+use Rattle.pmap_cert.specs.CertificateText.{HasNodeForm, HasTextForm, IsAscending, place_of}
 use Rattle.pmap_cert.specs.CertificateModel.{CertificateModel, ChainNode, InnerNode, LeafNode, Tree, has}
 use Rattle.pmap_cert.specs.Acceptance.{IsMinimalPair, IsSameCertificate, IsSameTree}
 use Rattle.pmap_cert.proofs.Alike.{certificate-unique}
@@ -16,7 +16,7 @@ use Rattle.pmap_cert.proofs.Tables.{text_at-place_of}
 
 module _ (table : List Label) where
   abbrev Listed : ℕ → List Label → Type 0
-  Listed low xs = IsRising (length table) low (map (place_of table) xs)
+  Listed low xs = IsAscending (length table) low (map (place_of table) xs)
 
   -- each label of a listed set has a number of at least low
   member-place : (low : ℕ) (xs : List Label) (z : Label) → Listed low xs → has xs z ≡ true → low ≤ place_of table z

@@ -2,7 +2,7 @@ use Rattle.std.proofs.Common.{◌≡◌, ℕ, zero, suc, ◌+◌, ◌*◌, ◌<�
 use Rattle.prefix_keys.specs.Block.{width_of}
 use Rattle.pmap_text.specs.ListModel.{ListModel}
 use Rattle.pmap_text.specs.MapModel.{Label, MapModel, settled_label}
-use Rattle.pmap_cert.specs.CertificateModel.{CertificateModel, InnerNode, LeafNode, Tree, claim_of, exact_pair}
+use Rattle.pmap_cert.specs.CertificateModel.{CertificateModel, InnerNode, LeafNode, Tree, claim_of, exact_claim}
 use Rattle.pmap_cert.specs.Acceptance.{IsMinimalPair, StandsFor, entries_of}
 use Rattle.pmap_text.proofs.Settled.{unsettled-halves}
 
@@ -16,7 +16,7 @@ NodeFor m n q = (t : Tree) × StandsFor m t n q
 node_over : (m : MapModel) (n q : ℕ) → settled_label m n q ≡ None → NodeFor m (suc n) (2 * q) → NodeFor m (suc n) (2 * q + 1) →
     NodeFor m n q
 node_over m n q unsettled lower upper = (
-  InnerNode (exact_pair (claim_of lower.0) (claim_of upper.0)) lower.0 upper.0,
+  InnerNode (exact_claim (claim_of lower.0) (claim_of upper.0)) lower.0 upper.0,
   (unsettled, record { cost = refl; labels = λ x. refl }, lower.1, upper.1),
 )
 

@@ -14,7 +14,7 @@ use Rattle.pmap_text.specs.Label.{IsLabelTable}
 use Rattle.pmap_text.specs.MapModel.{Label}
 use Rattle.pmap_text.specs.MapText.{text_at}
 use Rattle.pmap_text.specs.Reading.{◌>>=◌}
-use Rattle.pmap_cert.specs.CertificateModel.{CertificateModel, ChainNode, InnerNode, LeafNode, Pair, Tree}
+use Rattle.pmap_cert.specs.CertificateModel.{CertificateModel, ChainNode, InnerNode, LeafNode, Claim, Tree}
 use Rattle.pmap_cert.specs.CertificateText.{HasFormatText, certificate_lines, certificate_text, format_header, leaf_line, text_of_lines}
 use Rattle.pmap_cert.specs.FormatReading.{ChainLine, DueLine, InnerLine, LeafLine, Place, due_words, ended_by, fault_at, format_header_at, format_header_of, format_reading, is_ended, labels_at, line_due_at, line_value, new_label, nodes_at, or_fault, pieces_of, value_by, words_of, CertFault, CertFaultKind, BadHeader, BadLabelTable, BadNode, NodesLeft, NodesMissing, TooDeep}
 use Rattle.pmap_cert.proofs.ChainLines.{due_words-found}
@@ -310,7 +310,7 @@ module _ (can : Type 0) (format most : ℕ) (table : List Label) (few : length t
         )
       ]
         where
-          claim : Pair
+          claim : Claim
           claim = record { cost = cost; labels = map (text_at table) numbers }
 
           node : Tree → Tree → Reading

@@ -7,8 +7,8 @@ use Rattle.pmap_text.specs.Label.{IsLabelTable}
 use Rattle.pmap_text.specs.MapModel.{Label}
 use Rattle.pmap_text.specs.Reading.{◌>>=◌}
 use Rattle.pmap_text.specs.MapText.{text_at}
-use Rattle.pmap_cert.specs.CertificateText.{HasNodeForm, IsRising, bit_digits, chain_line, inner_line, leaf_line, node_lines, place_of}
-use Rattle.pmap_cert.specs.CertificateModel.{ChainNode, InnerNode, LeafNode, Pair, Tree, IsPlain}
+use Rattle.pmap_cert.specs.CertificateText.{HasNodeForm, IsAscending, bit_digits, chain_line, inner_line, leaf_line, node_lines, place_of}
+use Rattle.pmap_cert.specs.CertificateModel.{ChainNode, InnerNode, LeafNode, Claim, Tree, IsPlain}
 use Rattle.pmap_cert.specs.FormatReading.{ChainLine, DueLine, InnerLine, LeafLine, Place, due_node, due_words, fault_at, is_ended, line_due_at, nodes_at, words_of, CertFault, BadNode, NodesMissing, TooDeep}
 use Rattle.pmap_cert.proofs.ChainLines.{due_words-found}
 use Rattle.pmap_cert.proofs.NodeLines.{SaysDue}
@@ -58,7 +58,7 @@ module _ (table : List Label) (ok : IsLabelTable table) (format most : ℕ) wher
   abbrev due : Place → Result (DueLine × Place) CertFault
   due = line_due_at format most (length table)
 
-  abbrev claim_at : ℕ → List ℕ → Pair
+  abbrev claim_at : ℕ → List ℕ → Claim
   claim_at cost numbers = record { cost = cost; labels = map (text_at table) numbers }
 
   leaf-read : (room number : ℕ) (text : List ℕ) (place after : Place) (x : Tree × Place) → place.pieces ≡ text ∷ after.pieces →
@@ -141,7 +141,7 @@ module _ (table : List Label) (ok : IsLabelTable table) (format most : ℕ) wher
           due_node table (suc room) place (nodes_at due table room) line after ≡ Ok x → IsReadIn table format (suc room) place x
       by (LeafLine number) after text pieces says below e = leaf-read (suc room) number text place after x pieces says e
       by (InnerLine cost numbers) after text pieces says below e =
-          let claim : Pair = claim_at cost numbers in
+          let claim : Claim = claim_at cost numbers in
           let low = bind_ok (nodes_at due table room 0 after) (λ (lower : Tree × Place). nodes_at due table room 0 lower.1 >>= (λ (upper : Tree × Place). Ok (InnerNode claim lower.0 upper.0, upper.1))) x e in
           let up = bind_ok (nodes_at due table room 0 low.0.1) (λ (upper : Tree × Place). Ok (InnerNode claim low.0.0 upper.0, upper.1)) x low.2 in
           inner-read room cost numbers text place after x low.0 up.0 pieces says
@@ -174,22 +174,22 @@ module _ (table : List Label) (ok : IsLabelTable table) (format most : ℕ) wher
   few : length table ≤ 2 ^ 32
   few = let limit = ok.few in omega arith
 
-  claim-is : (claim : Pair) → IsRising (length table) 0 (map (place_of table) claim.labels) → claim_at claim.cost (map (place_of table) claim.labels) ≡ claim
-  claim-is claim rising = λ i. record { cost = claim.cost; labels = texts-places table 0 claim.labels rising i }
+  claim-is : (claim : Claim) → IsAscending (length table) 0 (map (place_of table) claim.labels) → claim_at claim.cost (map (place_of table) claim.labels) ≡ claim
+  claim-is claim ascending = λ i. record { cost = claim.cost; labels = texts-places table 0 claim.labels ascending i }
 
   -- the tree has no chain, or the format is 2
   abbrev pub IsKind : Tree → Type 0
   IsKind tree = IsPlain tree ⊎ (format ≡ 2)
 
-  lower-kind : (claim : Pair) (lower upper : Tree) → IsKind (InnerNode claim lower upper) → IsKind lower
+  lower-kind : (claim : Claim) (lower upper : Tree) → IsKind (InnerNode claim lower upper) → IsKind lower
   lower-kind claim lower upper (inl plain) = inl plain.0
   lower-kind claim lower upper (inr two) = inr two
 
-  upper-kind : (claim : Pair) (lower upper : Tree) → IsKind (InnerNode claim lower upper) → IsKind upper
+  upper-kind : (claim : Claim) (lower upper : Tree) → IsKind (InnerNode claim lower upper) → IsKind upper
   upper-kind claim lower upper (inl plain) = inl plain.1
   upper-kind claim lower upper (inr two) = inr two
 
-  chain-kind : (claim : Pair) (bits : List Bool) (side : Label) (end : Tree) → IsKind (ChainNode claim bits side end) → format ≡ 2
+  chain-kind : (claim : Claim) (bits : List Bool) (side : Label) (end : Tree) → IsKind (ChainNode claim bits side end) → format ≡ 2
   chain-kind claim bits side end (inl plain) = absurd plain
   chain-kind claim bits side end (inr two) = two
 
@@ -228,7 +228,7 @@ module _ (table : List Label) (ok : IsLabelTable table) (format most : ℕ) wher
             ∙ ap (λ (r : Result (DueLine × Place) CertFault). r >>= (λ line. due_node table (suc room) here (nodes_at due table room) line.0 line.1)) line
             ∙ ap (λ (r : Result (Tree × Place) CertFault). r >>= (λ l. nodes_at due table room 0 l.1 >>= (λ u. Ok (InnerNode (claim_at claim.cost numbers) l.0 u.0, u.1)))) first.1
             ∙ ap (λ (r : Result (Tree × Place) CertFault). r >>= (λ u. Ok (InnerNode (claim_at claim.cost numbers) lower u.0, u.1))) second.1
-            ∙ ap (λ (c : Pair). Ok (InnerNode c lower upper, at second.0 rest)) (claim-is claim form.1),
+            ∙ ap (λ (c : Claim). Ok (InnerNode c lower upper, at second.0 rest)) (claim-is claim form.1),
       )
   nodes_at-again (ChainNode claim [] side end) room rest number most_room form kind some =
       absurd (omega (arith, form.3))

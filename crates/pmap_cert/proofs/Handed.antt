@@ -2,7 +2,7 @@ use Rattle.std.proofs.Common.{◌≡◌, ℕ, ◌+◌, Bool, true, false, cond, 
 use Rattle.std.proofs.lemmas.Bool.{or_left}
 use Rattle.pmap_text.specs.MapModel.{Label, MapModel}
 use Rattle.pmap_text.proofs.Finds.{find_passes}
-use Rattle.pmap_cert.specs.CertificateModel.{ChainNode, InnerNode, LeafNode, Pair, Tree, claim_of, has, common_labels, exact_pair, exact_pair_by}
+use Rattle.pmap_cert.specs.CertificateModel.{ChainNode, InnerNode, LeafNode, Claim, Tree, claim_of, has, common_labels, exact_claim, exact_claim_by}
 use Rattle.pmap_cert.specs.Acceptance.{StandsFor, first_label, handed_on, least_label}
 use Rattle.pmap_cert.proofs.Sets.{bytes_eq-same, has-append, has-filter, has-own, has-single, miss}
 
@@ -40,11 +40,11 @@ handed_on-leaf table x h =
     let handed = handed_on-has table (x ∷ []) h (x, has-own x) in
     handed.1 ∙ ap Some (sym (has-single x handed.0 handed.2))
 
--- the exact pair of sets that are not empty has a label
-inhabited-exact_pair_by : (p r : Pair) (common : List Label) → IsInhabited p.labels → IsInhabited (exact_pair_by p r common).labels
-inhabited-exact_pair_by p r [] some =
+-- the exact claim of sets that are not empty has a label
+inhabited-exact_claim_by : (p r : Claim) (common : List Label) → IsInhabited p.labels → IsInhabited (exact_claim_by p r common).labels
+inhabited-exact_claim_by p r [] some =
     (some.0, has-append p.labels r.labels some.0 ∙ or_left (has p.labels some.0) (has r.labels some.0) some.1)
-inhabited-exact_pair_by p r (x ∷ xs) some = (x, or_left (bytes_eq x x) (has xs x) (bytes_eq-same x))
+inhabited-exact_claim_by p r (x ∷ xs) some = (x, or_left (bytes_eq x x) (has xs x) (bytes_eq-same x))
 
 -- the set of each node that represents a block has a label
 pub inhabited : (m : MapModel) (t : Tree) (n q : ℕ) → StandsFor m t n q → IsInhabited (claim_of t).labels
@@ -52,28 +52,28 @@ inhabited m (LeafNode x) n q h = (x, has-own x)
 inhabited m (ChainNode p bits side end) n q h = absurd h
 inhabited m (InnerNode claim lower upper) n q h =
     let below = inhabited m lower _ _ h.2 in
-    let exact = inhabited-exact_pair_by (claim_of lower) (claim_of upper) (common_labels (claim_of lower) (claim_of upper)) below in
+    let exact = inhabited-exact_claim_by (claim_of lower) (claim_of upper) (common_labels (claim_of lower) (claim_of upper)) below in
     (exact.0, (h.1).labels exact.0 ∙ exact.1)
 
--- if both halves inherit a label of the exact set, they have as many entries as the exact pair costs
+-- if both halves inherit a label of the exact set, they have as many entries as the exact claim costs
 misses-one : (a b c : Bool) → false ≡ (a && b) → c ≡ (a || b) → c ≡ true → cond a 0 1 + cond b 0 1 ≡ 1
 misses-one a b c none is h = grind arith
 
 misses-none : (a b c : Bool) → c ≡ (a && b) → c ≡ true → cond a 0 1 + cond b 0 1 ≡ 0
 misses-none a b c is h = grind arith
 
-exact_pair_by-cost_of : (p r : Pair) (x : Label) (common : List Label) →
+exact_claim_by-cost_of : (p r : Claim) (x : Label) (common : List Label) →
     ((y : Label) → has common y ≡ (has p.labels y && has r.labels y)) →
-    has (exact_pair_by p r common).labels x ≡ true →
-    (exact_pair_by p r common).cost ≡ p.cost + miss (Some x) p.labels + (r.cost + miss (Some x) r.labels)
-exact_pair_by-cost_of p r x [] both h =
+    has (exact_claim_by p r common).labels x ≡ true →
+    (exact_claim_by p r common).cost ≡ p.cost + miss (Some x) p.labels + (r.cost + miss (Some x) r.labels)
+exact_claim_by-cost_of p r x [] both h =
     omega (
       arith,
       misses-one (has p.labels x) (has r.labels x) (has (p.labels ++ r.labels) x) (both x) (has-append p.labels r.labels x) h,
     )
-exact_pair_by-cost_of p r x (y ∷ ys) both h =
+exact_claim_by-cost_of p r x (y ∷ ys) both h =
     omega (arith, misses-none (has p.labels x) (has r.labels x) (has (y ∷ ys) x) (both x) h)
 
-pub exact_pair-cost_of : (p r : Pair) (x : Label) → has (exact_pair p r).labels x ≡ true →
-    (exact_pair p r).cost ≡ p.cost + miss (Some x) p.labels + (r.cost + miss (Some x) r.labels)
-exact_pair-cost_of p r x h = exact_pair_by-cost_of p r x (common_labels p r) (λ y. has-filter r.labels p.labels y) h
+pub exact_claim-cost_of : (p r : Claim) (x : Label) → has (exact_claim p r).labels x ≡ true →
+    (exact_claim p r).cost ≡ p.cost + miss (Some x) p.labels + (r.cost + miss (Some x) r.labels)
+exact_claim-cost_of p r x h = exact_claim_by-cost_of p r x (common_labels p r) (λ y. has-filter r.labels p.labels y) h

@@ -11,38 +11,38 @@ use Rattle.pmap_text.specs.Reading.{ReadsMap, mapping_limit}
 use Rattle.pmap_cert.proofs.Plain.{plain-stands}
 use Rattle.pmap_cert.proofs.Alike.{same-between, table-node}
 use Rattle.pmap_cert.proofs.Ends.{cost-fits}
-use Rattle.pmap_cert.proofs.ExactPairs.{same-exact_pair}
+use Rattle.pmap_cert.proofs.ExactClaims.{same-exact_claim}
 use Rattle.pmap_cert.proofs.Existence.{minimal_pair, pair_of}
 use Rattle.pmap_cert.proofs.MapLabels.{labels-read}
 use Rattle.pmap_cert.proofs.MapLimits.{limits-read}
 use Rattle.pmap_cert.proofs.Pieces.{found_at}
 use Rattle.pmap_cert.proofs.Sets.{has-filter, has-own}
-use Rattle.pmap_cert.specs.CertificateText.{HasNodeForm, HasTextForm, IsRising, place_of}
-use Rattle.pmap_cert.specs.CertificateModel.{CertificateModel, ChainNode, InnerNode, LeafNode, Pair, Tree, claim_of, has, IsSamePair, exact_pair}
+use Rattle.pmap_cert.specs.CertificateText.{HasNodeForm, HasTextForm, IsAscending, place_of}
+use Rattle.pmap_cert.specs.CertificateModel.{CertificateModel, ChainNode, InnerNode, LeafNode, Claim, Tree, claim_of, has, IsSameClaim, exact_claim}
 use Rattle.pmap_cert.specs.Acceptance.{HasItsLabels, IsMinimalPair, StandsFor}
 
--- rising numbers rise from a lower bound too
-rising-weaker : (bound low high : ℕ) (ns : List ℕ) → low ≤ high → IsRising bound high ns → IsRising bound low ns
-rising-weaker bound low high [] le rising = tt
-rising-weaker bound low high (n ∷ ns) le rising = let least = rising.0 in (omega arith, rising.1, rising.2)
+-- ascending numbers ascend from a lower bound too
+ascending-weaker : (bound low high : ℕ) (ns : List ℕ) → low ≤ high → IsAscending bound high ns → IsAscending bound low ns
+ascending-weaker bound low high [] le ascending = tt
+ascending-weaker bound low high (n ∷ ns) le ascending = let least = ascending.0 in (omega arith, ascending.1, ascending.2)
 
-rising-filter : (table : List Label) (p : Label → Bool) (i : ℕ) (xs : List Label) → i + length xs ≡ length table
-    → ((j : ℕ) (x : Label) → slice_get xs j ≡ Some x → place_of table x ≡ i + j) → IsRising (length table) i (map (place_of table) (filter p xs))
-rising-filter table p i [] all places = tt
-rising-filter table p i (x ∷ xs) all places =
-    by (p x) refl (rising-filter table p (i + 1) xs (omega arith) (λ j y e. let there = places (suc j) y e in omega arith))
+ascending-filter : (table : List Label) (p : Label → Bool) (i : ℕ) (xs : List Label) → i + length xs ≡ length table
+    → ((j : ℕ) (x : Label) → slice_get xs j ≡ Some x → place_of table x ≡ i + j) → IsAscending (length table) i (map (place_of table) (filter p xs))
+ascending-filter table p i [] all places = tt
+ascending-filter table p i (x ∷ xs) all places =
+    by (p x) refl (ascending-filter table p (i + 1) xs (omega arith) (λ j y e. let there = places (suc j) y e in omega arith))
   where
     here : place_of table x ≡ i + 0
     here = places 0 x refl
 
-    by : (b : Bool) → p x ≡ b → IsRising (length table) (i + 1) (map (place_of table) (filter p xs)) → IsRising (length table) i (map (place_of table) (filter p (x ∷ xs)))
+    by : (b : Bool) → p x ≡ b → IsAscending (length table) (i + 1) (map (place_of table) (filter p xs)) → IsAscending (length table) i (map (place_of table) (filter p (x ∷ xs)))
     by true e rest =
-        rw e (omega (arith, here), omega (arith, here, all), rising-weaker (length table) (place_of table x + 1) (i + 1) (map (place_of table) (filter p xs)) (omega (arith, here)) rest)
-    by false e rest = rw e (rising-weaker (length table) i (i + 1) (map (place_of table) (filter p xs)) (omega arith) rest)
+        rw e (omega (arith, here), omega (arith, here, all), ascending-weaker (length table) (place_of table x + 1) (i + 1) (map (place_of table) (filter p xs)) (omega (arith, here)) rest)
+    by false e rest = rw e (ascending-weaker (length table) i (i + 1) (map (place_of table) (filter p xs)) (omega arith) rest)
 
-rising-table : (table : List Label) (p : Label → Bool) → IsLabelTable table → IsRising (length table) 0 (map (place_of table) (filter p table))
-rising-table table p ok =
-    rising-filter table p 0 table (omega arith)
+ascending-table : (table : List Label) (p : Label → Bool) → IsLabelTable table → IsAscending (length table) 0 (map (place_of table) (filter p table))
+ascending-table table p ok =
+    ascending-filter table p 0 table (omega arith)
     (λ j x e. let there = (found_at (bytes_eq x) table j (ok.places j x e)).1 in omega arith)
 
 -- the node with its sets in the order of the table
@@ -58,7 +58,7 @@ implied false true h = h refl
 implied false false h = refl
 
 claim-listed : (table : List Label) (t : Tree) → ((x : Label) → has (claim_of t).labels x ≡ true → has table x ≡ true)
-    → IsSamePair (claim_of (listed table t)) (claim_of t)
+    → IsSameClaim (claim_of (listed table t)) (claim_of t)
 unfolding listed
 claim-listed table (LeafNode x) inside = record { cost = refl; labels = λ y. refl }
 claim-listed table (ChainNode p bits side end) inside = record { cost = refl; labels = λ y. refl }
@@ -67,11 +67,11 @@ claim-listed table (InnerNode p l r) inside = record {
   labels = λ x. has-filter p.labels table x ∙ implied (has table x) (has p.labels x) (inside x);
 }
 
-same-back : (p r : Pair) → IsSamePair p r → IsSamePair r p
+same-back : (p r : Claim) → IsSameClaim p r → IsSameClaim r p
 same-back p r same = record { cost = sym same.cost; labels = λ x. sym (same.labels x) }
 
 module _ (m : MapModel) (inside : HasItsLabels m) where
-  claim-stands : (t : Tree) (n q : ℕ) → StandsFor m t n q → IsSamePair (claim_of (listed m.table t)) (claim_of t)
+  claim-stands : (t : Tree) (n q : ℕ) → StandsFor m t n q → IsSameClaim (claim_of (listed m.table t)) (claim_of t)
   claim-stands t n q stands = claim-listed m.table t (table-node m inside t n q stands)
 
   stands-listed : (t : Tree) (n q : ℕ) → StandsFor m t n q → StandsFor m (listed m.table t) n q
@@ -81,10 +81,10 @@ module _ (m : MapModel) (inside : HasItsLabels m) where
   stands-listed (InnerNode p l r) n q stands =
       let l' : Tree = listed m.table l in
       let r' : Tree = listed m.table r in
-      let p' : Pair = record { cost = p.cost; labels = filter (has p.labels) m.table } in (
+      let p' : Claim = record { cost = p.cost; labels = filter (has p.labels) m.table } in (
         stands.0,
-        same-between p' p (exact_pair (claim_of l) (claim_of r)) (exact_pair (claim_of l') (claim_of r')) (claim-stands (InnerNode p l r) n q stands) stands.1
-            (same-exact_pair (claim_of l') (claim_of r') (claim_of l) (claim_of r)
+        same-between p' p (exact_claim (claim_of l) (claim_of r)) (exact_claim (claim_of l') (claim_of r')) (claim-stands (InnerNode p l r) n q stands) stands.1
+            (same-exact_claim (claim_of l') (claim_of r') (claim_of l) (claim_of r)
             (claim-stands l (suc n) (2 * q) stands.2) (claim-stands r (suc n) (2 * q + 1) stands.3)),
         stands-listed l (suc n) (2 * q) stands.2,
         stands-listed r (suc n) (2 * q + 1) stands.3,
@@ -102,7 +102,7 @@ module _ (m : MapModel) (inside : HasItsLabels m) where
         absurd (omega arith)
     form-listed (InnerNode p l r) (suc left) n q e stands = (
       cost-fits m (InnerNode p l r) (suc left) n q few e stands,
-      rising-table m.table (has p.labels) ok,
+      ascending-table m.table (has p.labels) ok,
       form-listed l left (suc n) (2 * q) (omega arith) stands.2,
       form-listed r left (suc n) (2 * q + 1) (omega arith) stands.3,
     )

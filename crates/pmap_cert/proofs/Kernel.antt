@@ -3,21 +3,21 @@ use Rattle.prefix_keys.specs.Block.{block_number, first_of, width_of}
 use Rattle.pmap_text.specs.ListModel.{Prefix, label_at, label_below}
 use Rattle.pmap_text.specs.MapModel.{IsSettled, Label, MapModel, map_label}
 use Rattle.pmap_cert.specs.Acceptance.{IsNodeAccepted, IsWithinExact}
-use Rattle.pmap_cert.specs.CertificateModel.{ChainNode, InnerNode, LeafNode, Pair, Tree, claim_of, has, IsPlain, exact_pair}
+use Rattle.pmap_cert.specs.CertificateModel.{ChainNode, InnerNode, LeafNode, Claim, Tree, claim_of, has, IsPlain, exact_claim}
 use Rattle.pmap_text.proofs.Blocks.{block_number-first_of, block_number-half, first_of-below, first_of-lower}
 use Rattle.pmap_cert.proofs.Counts.{count_of, count_of-halves, is_at, is_within}
 use Rattle.pmap_cert.proofs.Longest.{label_at-none, label_below-same, label_below-within}
-use Rattle.pmap_cert.proofs.Sets.{exact_pair-cost, has-own, miss, miss-le}
+use Rattle.pmap_cert.proofs.Sets.{exact_claim-cost, has-own, miss, miss-le}
 use Rattle.pmap_text.proofs.Settled.{map_label-settled}
 
 -- The bound: a list that labels a block's addresses as the map does has at least as many entries there as an accepted
 -- node claims, and one more if the claim's set lacks the inherited label, or none is inherited.
 
--- a claim within the exact pair costs no more, with the inherited label
+-- a claim within the exact claim costs no more, with the inherited label
 claim-miss : (k k' : ℕ) (a b : Bool) → k ≤ k' → (k ≡ k' → b ≡ true → a ≡ true) → k + cond a 0 1 ≤ k' + cond b 0 1
 claim-miss k k' a b le h = grind arith
 
-pub claim-cost : (claim e : Pair) (h : Option Label) → IsWithinExact claim e →
+pub claim-cost : (claim e : Claim) (h : Option Label) → IsWithinExact claim e →
     claim.cost + miss h claim.labels ≤ e.cost + miss h e.labels
 claim-cost claim e None within = omega (arith, within.cost)
 claim-cost claim e (Some x) within =
@@ -69,7 +69,7 @@ label_below-upper W ps n q below =
     (first_of-upper W n q below ∙ sym (block_number-first_of W n q))
 
 -- the bound at a block from the bounds at its halves
-halves-bound : (W : ℕ) (ps : List Prefix) (n q : ℕ) (claim p r : Pair) → n < W → IsWithinExact claim (exact_pair p r) →
+halves-bound : (W : ℕ) (ps : List Prefix) (n q : ℕ) (claim p r : Claim) → n < W → IsWithinExact claim (exact_claim p r) →
     p.cost + miss (label_below W ps (suc n) (first_of W (suc n) (2 * q))) p.labels ≤ count_of (is_within W (suc n) (2 * q)) ps →
     r.cost + miss (label_below W ps (suc n) (first_of W (suc n) (2 * q + 1))) r.labels ≤ count_of (is_within W (suc n) (2 * q + 1)) ps →
     claim.cost + miss (label_below W ps n (first_of W n q)) claim.labels ≤ count_of (is_within W n q) ps
@@ -83,8 +83,8 @@ halves-bound W ps n q claim p r below within lower upper =
       arith,
       count_of-halves W n q below ps,
       own-miss W ps n q (first_of W n q) claim.labels (block_number-first_of W n q),
-      claim-cost claim (exact_pair p r) (label_below W ps (suc n) (first_of W n q)) within,
-      exact_pair-cost p r (label_below W ps (suc n) (first_of W n q)),
+      claim-cost claim (exact_claim p r) (label_below W ps (suc n) (first_of W n q)) within,
+      exact_claim-cost p r (label_below W ps (suc n) (first_of W n q)),
       lower',
       upper',
     )

@@ -8,14 +8,14 @@ pub mod Handed
 pub mod Entries
 pub mod Minimal
 pub mod Existence
-pub mod ExactPairs
+pub mod ExactClaims
 pub mod Alike
 pub mod Pieces
 pub mod Numbers
 pub mod NodeLines
 pub mod Tables
 pub mod Headers
-pub mod Ways
+pub mod Paths
 pub mod PackedLines
 pub mod NodeWalk
 pub mod ReadingSteps

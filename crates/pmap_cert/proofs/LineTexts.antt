@@ -12,7 +12,7 @@ use Rattle.std.proofs.lemmas.List.Concat.{flat_map-cons}
 use Rattle.std.proofs.lemmas.Option.{none-some, same_Some}
 use Rattle.std.proofs.lemmas.Slice.Eq.{bytes_eq-Decides}
 use Rattle.prefix_keys.specs.Text.{decimal_value, is_digit}
-use Rattle.pmap_cert.specs.CertificateText.{IsRising, bit_digits, chain_line, inner_line}
+use Rattle.pmap_cert.specs.CertificateText.{IsAscending, bit_digits, chain_line, inner_line}
 use Rattle.std.specs.Prelude.{IfSome}
 use Rattle.pmap_cert.specs.FormatReading.{ChainLine, DueLine, InnerLine, LeafLine}
 use Rattle.pmap_cert.specs.Inner.{BeginsWithBits, BeginsWithChain, BeginsWithClaim, BeginsWithLine, BeginsWithNumber, BeginsWithSet, GoesOnWithout, Reads, Then, after_byte, is_bit}
@@ -282,7 +282,7 @@ module _ (bound low : ℕ) (text ns rest : List ℕ) (so_far : IsReadTo bound lo
       right : Set ns r
       right =
           subst (λ (all : List ℕ). Set all r) (append-nil ns)
-          (so_far.into [] r (record { whole = after_byte-found 10 rest r feed; rising = tt }))
+          (so_far.into [] r (record { whole = after_byte-found 10 rest r feed; ascending = tt }))
 
       only : (all s : List ℕ) → Set all s → ◌≡◌ {A = Option (List ℕ × List ℕ)} (Some (ns, r)) (Some (all, s))
       only all s set = by parts.0 parts.1 parts.2
@@ -301,22 +301,22 @@ module _ (bound low : ℕ) (text ns rest : List ℕ) (so_far : IsReadTo bound lo
   module _ (no_feed : after_byte 10 rest ≡ None) where
     -- a set that is not at its end has a next number
     next : (all r : List ℕ) → Set all r
-        → (n : ℕ) × (tail : List ℕ) × (all ≡ ns ++ n ∷ tail) × (low ≤ n) × BeginsWithNumber bound rest n (words tail ++ 10 ∷ r) × IsRising bound (n + 1) tail
+        → (n : ℕ) × (tail : List ℕ) × (all ≡ ns ++ n ∷ tail) × (low ≤ n) × BeginsWithNumber bound rest n (words tail ++ 10 ∷ r) × IsAscending bound (n + 1) tail
     next all r set = by parts.0 parts.1 parts.2
       where
         parts : (tail : List ℕ) × (all ≡ ns ++ tail) × BeginsWithSet bound low rest tail r
         parts = so_far.only all r set
 
         by : (tail : List ℕ) → all ≡ ns ++ tail → BeginsWithSet bound low rest tail r
-            → (n : ℕ) × (tail : List ℕ) × (all ≡ ns ++ n ∷ tail) × (low ≤ n) × BeginsWithNumber bound rest n (words tail ++ 10 ∷ r) × IsRising bound (n + 1) tail
+            → (n : ℕ) × (tail : List ℕ) × (all ≡ ns ++ n ∷ tail) × (low ≤ n) × BeginsWithNumber bound rest n (words tail ++ 10 ∷ r) × IsAscending bound (n + 1) tail
         by [] is last = absurd (not-there 10 rest r no_feed last.whole)
         by (n ∷ tail) is last = (
           n,
           tail,
           is,
-          last.rising.0,
-          record { whole = last.whole ∙ words-more n tail (10 ∷ r); below = last.rising.1; ended = words-ended tail r },
-          last.rising.2,
+          last.ascending.0,
+          record { whole = last.whole ∙ words-more n tail (10 ∷ r); below = last.ascending.1; ended = words-ended tail r },
+          last.ascending.2,
         )
 
     pub set-stopped : Reads (BeginsWithNumber bound rest) None → Reads Set None
@@ -340,7 +340,7 @@ module _ (bound low : ℕ) (text ns rest : List ℕ) (so_far : IsReadTo bound lo
               (so_far.into (n ∷ tail) r (record {
                 whole =
                     number.right.whole ∙ ap (λ (t : List ℕ). 32 ∷ (decimal n ++ t)) set.whole ∙ sym (words-more n tail (10 ∷ r));
-                rising = (least, number.right.below, set.rising);
+                ascending = (least, number.right.below, set.ascending);
               }))
 
           only : (all r : List ℕ) → Set all r → (tail : List ℕ) × (all ≡ (ns ++ n ∷ []) ++ tail) × BeginsWithSet bound (n + 1) after tail r
@@ -349,7 +349,7 @@ module _ (bound low : ℕ) (text ns rest : List ℕ) (so_far : IsReadTo bound lo
               let same = next-is more.0 more.1 r more.4 in (
                 more.1,
                 more.2 ∙ (λ i. ns ++ sym same.0 i ∷ more.1) ∙ sym (append_assoc ns (n ∷ []) more.1),
-                record { whole = same.1; rising = subst (λ (m : ℕ). IsRising bound (m + 1) more.1) (sym same.0) more.5 },
+                record { whole = same.1; ascending = subst (λ (m : ℕ). IsAscending bound (m + 1) more.1) (sym same.0) more.5 },
               )
 
 -- Reading one part after another.
@@ -417,7 +417,7 @@ module _ (format most count : ℕ) (text : List ℕ) where
             whole =
                 after_byte-found 110 text rest letter ∙ ap (◌∷◌ 110) (h.first.whole ∙ ap (λ (t : List ℕ). 32 ∷ (decimal x.0.0 ++ t)) h.second.whole)
                 ∙ sym (inner-text x.0.0 x.0.1 x.1);
-            fits = (h.first.below, h.second.rising);
+            fits = (h.first.below, h.second.ascending);
           }
 
           only : (line : DueLine) (r : List ℕ) → Line line r → option_map as_inner found ≡ Some (line, r)
@@ -430,7 +430,7 @@ module _ (format most count : ℕ) (text : List ℕ) where
                   below = h.fits.0;
                   ended = words-ended numbers r;
                 };
-                second = record { whole = refl; rising = h.fits.1 };
+                second = record { whole = refl; ascending = h.fits.1 };
               }))
           only (ChainLine cost bits side numbers) r h =
               absurd (apart 110 99 rest _ letter (h.whole ∙ chain-text cost bits side numbers r) (λ e. omega (arith, e)))
@@ -456,7 +456,7 @@ module _ (format most count : ℕ) (text : List ℕ) where
                       ∙ ap (λ (t : List ℕ). 32 ∷ (bit_digits x.0.1.0 ++ t)) (last.first.whole
                       ∙ ap (λ (t : List ℕ). 32 ∷ (decimal x.0.1.1.0 ++ t)) last.second.whole)))
                       ∙ sym (chain-text x.0.0 x.0.1.0 x.0.1.1.0 x.0.1.1.1 x.1);
-                  fits = (two, h.first.below, bits.some, bits.few, last.first.below, last.second.rising);
+                  fits = (two, h.first.below, bits.some, bits.few, last.first.below, last.second.ascending);
                 }
 
             only : (line : DueLine) (r : List ℕ) → Line line r → option_map as_chain found ≡ Some (line, r)
@@ -464,11 +464,11 @@ module _ (format most count : ℕ) (text : List ℕ) where
             only (InnerLine cost numbers) r h = absurd (not-there 110 text _ no_inner (h.whole ∙ inner-text cost numbers r))
             only (ChainLine cost bits side numbers) r h =
                 let last : List ℕ = words numbers ++ 10 ∷ r in
-                let way : List ℕ = 32 ∷ (bit_digits bits ++ 32 ∷ (decimal side ++ last)) in
+                let path : List ℕ = 32 ∷ (bit_digits bits ++ 32 ∷ (decimal side ++ last)) in
                 ap (option_map as_chain) (chain.only (cost, (bits, (side, numbers))) r (record {
-                  middle = way;
+                  middle = path;
                   first = record {
-                    whole = follows 99 rest (32 ∷ (decimal cost ++ way)) letter (h.whole ∙ chain-text cost bits side numbers r);
+                    whole = follows 99 rest (32 ∷ (decimal cost ++ path)) letter (h.whole ∙ chain-text cost bits side numbers r);
                     below = h.fits.1;
                     ended = refl;
                   };
@@ -478,7 +478,7 @@ module _ (format most count : ℕ) (text : List ℕ) where
                     second = record {
                       middle = last;
                       first = record { whole = refl; below = h.fits.4; ended = words-ended numbers r };
-                      second = record { whole = refl; rising = h.fits.5 };
+                      second = record { whole = refl; ascending = h.fits.5 };
                     };
                   };
                 }))

@@ -6,7 +6,7 @@ use Rattle.prefix_keys.specs.Block.{block_number, first_of, width_of}
 use Rattle.pmap_text.specs.ListModel.{ListModel, Prefix, covers, label_below, lies_inside}
 use Rattle.pmap_text.specs.MapModel.{Label, MapModel}
 use Rattle.pmap_cert.specs.Acceptance.{IsAccepted, IsDecided, IsNodeAccepted, IsWithinExact, IsMinimalPair, StandsFor, entries_of, handed_on, has_inherited, least_label, own_entry}
-use Rattle.pmap_cert.specs.CertificateModel.{CertificateModel, ChainNode, InnerNode, LeafNode, Pair, Tree, claim_of, IsSamePair, exact_pair}
+use Rattle.pmap_cert.specs.CertificateModel.{CertificateModel, ChainNode, InnerNode, LeafNode, Claim, Tree, claim_of, IsSameClaim, exact_claim}
 use Rattle.pmap_text.proofs.Blocks.{block_number-first_of}
 use Rattle.pmap_cert.proofs.Counts.{is_within}
 use Rattle.pmap_cert.proofs.Entries.{filter-entries_of, filter-own_entry, is_within-half, length-entries_of}
@@ -65,8 +65,8 @@ own-half W n q i x = and_left (nat_le (suc n) n) (block_number W (suc n) (first_
 own-inside : (W n q : ℕ) (x : Label) → lies_inside W n q (record { start = first_of W n q; bits = n; label = x }) ≡ false
 own-inside W n q x = and_left (nat_lt n n) (block_number W n (first_of W n q) == q) (le-ltb n n (omega arith))
 
--- a claim that is the same as the exact pair is within it
-within-same : (claim e : Pair) → IsSamePair claim e → IsWithinExact claim e
+-- a claim that is the same as the exact claim is within it
+within-same : (claim e : Claim) → IsSameClaim claim e → IsWithinExact claim e
 within-same claim e same = record { cost = le_of_eq same.cost; labels = λ cost x h. same.labels x ∙ h }
 
 -- A map, its label table, and a list.
@@ -101,7 +101,7 @@ module _ (m : MapModel) (table : List Label) (ps : List Prefix) where
   }
 
   -- what a test keeps if it keeps all or none of an inner node's own entry, and of the entries within each half
-  inner-kept : (test : Prefix → Bool) (a b c : Bool) (claim : Pair) (lower upper : Tree) (h : Option Label) (n q : ℕ) → n < width_of m.version →
+  inner-kept : (test : Prefix → Bool) (a b c : Bool) (claim : Claim) (lower upper : Tree) (h : Option Label) (n q : ℕ) → n < width_of m.version →
       StandsFor m (InnerNode claim lower upper) n q →
       filter (is_within (width_of m.version) n q) ps ≡ entries_of (width_of m.version) table (InnerNode claim lower upper) h n q →
       ((p : Prefix) → test p ≡ true → is_within (width_of m.version) n q p ≡ true) →
@@ -143,7 +143,7 @@ module _ (m : MapModel) (table : List Label) (ps : List Prefix) where
         accepted-node lower passed (suc n) (2 * q) below stands.2 (low ∙ append-nil (entries_of W table lower passed (suc n) (2 * q)))
             (label_below-lower W ps n q below ∙ handed),
         accepted-node upper passed (suc n) (2 * q + 1) below stands.3 up (label_below-upper W ps n q below ∙ handed),
-        within-same claim (exact_pair (claim_of lower) (claim_of upper)) stands.1,
+        within-same claim (exact_claim (claim_of lower) (claim_of upper)) stands.1,
       )
 
 -- a minimal pair's list has as many entries as the root's cost plus one

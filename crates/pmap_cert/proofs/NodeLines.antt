@@ -3,11 +3,11 @@ use Rattle.std.proofs.Common.{◌≡◌, ℕ, ◌^◌, ◌<◌, ◌≤◌, ◌�
 use Rattle.std.specs.Fmt.{decimal}
 use Rattle.std.specs.Option.{option_map}
 use Rattle.std.proofs.lemmas.Option.{none-some}
-use Rattle.pmap_cert.specs.CertificateText.{IsRising, bit_digits}
-use Rattle.pmap_cert.specs.FormatReading.{ChainLine, DueLine, InnerLine, LeafLine, both, inner_by, leaf_by, number_below, rising_numbers}
+use Rattle.pmap_cert.specs.CertificateText.{IsAscending, bit_digits}
+use Rattle.pmap_cert.specs.FormatReading.{ChainLine, DueLine, InnerLine, LeafLine, both, inner_by, leaf_by, number_below, ascending_numbers}
 use Rattle.pmap_cert.specs.Inner.{FitsLine}
 use Rattle.pmap_cert.proofs.Pieces.{either-word}
-use Rattle.pmap_cert.proofs.Numbers.{number_below-decimal, number_below-found, option_map_some, rising_numbers-decimals, rising_numbers-found}
+use Rattle.pmap_cert.proofs.Numbers.{number_below-decimal, number_below-found, option_map_some, ascending_numbers-decimals, ascending_numbers-found}
 
 -- the words of a node's line
 abbrev pub line_words : DueLine → List (List ℕ)
@@ -45,10 +45,10 @@ module _ (format most count : ℕ) where
   inner-found : (word : List ℕ) (words : List (List ℕ)) (line : DueLine) → word ≡ codes "n" → inner_by count words ≡ Some line → Says line (word ∷ words)
   inner-found word [] line is e = absurd (none-some line e)
   inner-found word (text ∷ words) line is e =
-      let found = option_map_some (λ (claim : ℕ × List ℕ). InnerLine claim.0 claim.1) (both (number_below (2 ^ 32) text) (rising_numbers count 0 words)) line e in
-      let parts = both_some (number_below (2 ^ 32) text) (rising_numbers count 0 words) found.0 found.1 in
+      let found = option_map_some (λ (claim : ℕ × List ℕ). InnerLine claim.0 claim.1) (both (number_below (2 ^ 32) text) (ascending_numbers count 0 words)) line e in
+      let parts = both_some (number_below (2 ^ 32) text) (ascending_numbers count 0 words) found.0 found.1 in
       let cost = number_below-found (2 ^ 32) text found.0.0 parts.0 in
-      let numbers = rising_numbers-found count 0 words found.0.1 parts.1 in
+      let numbers = ascending_numbers-found count 0 words found.0.1 parts.1 in
       subst (λ line. Says line (word ∷ text ∷ words)) found.2 ((λ i. is i ∷ cost.0 i ∷ numbers.0 i), (cost.1, numbers.1))
 
   pub node_words-found : (words : List (List ℕ)) (line : DueLine) → node_words count words ≡ Some line → Says line words
@@ -61,10 +61,10 @@ module _ (format most count : ℕ) where
 pub node_words-leaf : (count number : ℕ) → number < count → count ≤ 2 ^ 63 → node_words count (codes "l" ∷ decimal number ∷ []) ≡ Some (LeafLine number)
 node_words-leaf count number h small = ap (option_map LeafLine) (number_below-decimal count number h (omega arith))
 
-pub node_words-inner : (count cost : ℕ) (numbers : List ℕ) → cost < 2 ^ 32 → IsRising count 0 numbers → count ≤ 2 ^ 63
+pub node_words-inner : (count cost : ℕ) (numbers : List ℕ) → cost < 2 ^ 32 → IsAscending count 0 numbers → count ≤ 2 ^ 63
     → node_words count (codes "n" ∷ decimal cost ∷ map decimal numbers) ≡ Some (InnerLine cost numbers)
-node_words-inner count cost numbers h rising small =
-    ap (λ o. option_map (λ (claim : ℕ × List ℕ). InnerLine claim.0 claim.1) (both o (rising_numbers count 0 (map decimal numbers))))
+node_words-inner count cost numbers h ascending small =
+    ap (λ o. option_map (λ (claim : ℕ × List ℕ). InnerLine claim.0 claim.1) (both o (ascending_numbers count 0 (map decimal numbers))))
     (number_below-decimal (2 ^ 32) cost h (omega arith))
     ∙ ap (λ o. option_map (λ (claim : ℕ × List ℕ). InnerLine claim.0 claim.1) (both (Some cost) o))
-    (rising_numbers-decimals count 0 numbers small rising)
+    (ascending_numbers-decimals count 0 numbers small ascending)

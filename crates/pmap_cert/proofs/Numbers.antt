@@ -1,4 +1,4 @@
--- The decimal texts of numbers, and rising numbers.
+-- The decimal texts of numbers, and ascending numbers.
 use Rattle.std.proofs.Common.{◌≡◌, ℕ, zero, suc, ◌+◌, ◌-◌, ◌*◌, ◌^◌, ◌<◌, ◌≤◌, ◌==◌, ◌&&◌, ◌||◌, ◌∙◌, Bool, true, false, List, [], ◌∷◌, Option, Some, None, map, fold, refl, sym, ap, subst, arith, cond, leb, ltb, get_or, length, not, rules}
 use Rattle.std.specs.Fmt.{decimal, digit_glyph}
 use Rattle.std.specs.List.{AllByRecursion, list_all}
@@ -12,8 +12,8 @@ use Rattle.std.proofs.lemmas.Slice.Eq.{bytes_eq-Decides}
 use Rattle.prefix_keys.proofs.Digits.{All-digits, fold-digits, length-digits-le}
 use Rattle.prefix_keys.proofs.Printed.{Lacks}
 use Rattle.prefix_keys.specs.Text.{decimal_number, decimal_value, is_digit}
-use Rattle.pmap_cert.specs.CertificateText.{IsRising}
-use Rattle.pmap_cert.specs.FormatReading.{number_below, onto_numbers, rising_numbers}
+use Rattle.pmap_cert.specs.CertificateText.{IsAscending}
+use Rattle.pmap_cert.specs.FormatReading.{number_below, onto_numbers, ascending_numbers}
 
 -- a digit is not a byte below the digits, and its value is its number
 digit-other : (c d : ℕ) → c < 48 → d < 10 → (digit_glyph false d == c) ≡ false
@@ -49,7 +49,7 @@ pub option_map_some : {A B : Type 0} (f : A → B) (o : Option A) (y : B) → op
 option_map_some f None y e = absurd (none-some y e)
 option_map_some f (Some x) y e = (x, refl, cc)
 
--- rising numbers that are read have a first number and others that rise after it
+-- ascending numbers that are read have a first number and others that ascend after it
 onto-found : (low : ℕ) (o : Option ℕ) (others : ℕ → Option (List ℕ)) (ns : List ℕ) → onto_numbers low o others ≡ Some ns
     → (n : ℕ) × (rest : List ℕ) × (o ≡ Some n) × (low ≤ n) × (others (n + 1) ≡ Some rest) × (n ∷ rest ≡ ns)
 onto-found low None others ns e = absurd (none-some ns e)
@@ -64,29 +64,29 @@ onto-found low (Some n) others ns e = by (leb low n) refl
 nil_is : (ns : List ℕ) → Some [] ≡ Some ns → [] ≡ ns
 nil_is ns e = cc
 
-pub rising_numbers-found : (bound low : ℕ) (words : List (List ℕ)) (ns : List ℕ) → rising_numbers bound low words ≡ Some ns → (words ≡ map decimal ns) × IsRising bound low ns
-rising_numbers-found bound low [] ns e =
-    subst (λ (ns : List ℕ). ([] ≡ map decimal ns) × IsRising bound low ns) (nil_is ns e) (refl, tt)
-rising_numbers-found bound low (word ∷ words) ns e =
-    let found = onto-found low (number_below bound word) (λ next. rising_numbers bound next words) ns e in
+pub ascending_numbers-found : (bound low : ℕ) (words : List (List ℕ)) (ns : List ℕ) → ascending_numbers bound low words ≡ Some ns → (words ≡ map decimal ns) × IsAscending bound low ns
+ascending_numbers-found bound low [] ns e =
+    subst (λ (ns : List ℕ). ([] ≡ map decimal ns) × IsAscending bound low ns) (nil_is ns e) (refl, tt)
+ascending_numbers-found bound low (word ∷ words) ns e =
+    let found = onto-found low (number_below bound word) (λ next. ascending_numbers bound next words) ns e in
     let number = number_below-found bound word found.0 found.2 in
-    let rest = rising_numbers-found bound (found.0 + 1) words found.1 found.4 in
-    subst (λ (ns : List ℕ). (word ∷ words ≡ map decimal ns) × IsRising bound low ns) found.5
+    let rest = ascending_numbers-found bound (found.0 + 1) words found.1 found.4 in
+    subst (λ (ns : List ℕ). (word ∷ words ≡ map decimal ns) × IsAscending bound low ns) found.5
     ((λ i. number.0 i ∷ rest.0 i), (found.3, number.1, rest.1))
 
-pub rising_numbers-decimals : (bound low : ℕ) (ns : List ℕ) → bound ≤ 2 ^ 63 → IsRising bound low ns → rising_numbers bound low (map decimal ns) ≡ Some ns
-rising_numbers-decimals bound low [] small rising = refl
-rising_numbers-decimals bound low (n ∷ ns) small rising =
-    let first = number_below-decimal bound n rising.1 (omega arith) in
-    ap (λ o. onto_numbers low o (λ next. rising_numbers bound next (map decimal ns))) first
-    ∙ cond-true (leb low n) (option_map (λ rest. n ∷ rest) (rising_numbers bound (n + 1) (map decimal ns))) None (le-leb _ _ rising.0)
-    ∙ ap (option_map (λ rest. n ∷ rest)) (rising_numbers-decimals bound (n + 1) ns small rising.2)
+pub ascending_numbers-decimals : (bound low : ℕ) (ns : List ℕ) → bound ≤ 2 ^ 63 → IsAscending bound low ns → ascending_numbers bound low (map decimal ns) ≡ Some ns
+ascending_numbers-decimals bound low [] small ascending = refl
+ascending_numbers-decimals bound low (n ∷ ns) small ascending =
+    let first = number_below-decimal bound n ascending.1 (omega arith) in
+    ap (λ o. onto_numbers low o (λ next. ascending_numbers bound next (map decimal ns))) first
+    ∙ cond-true (leb low n) (option_map (λ rest. n ∷ rest) (ascending_numbers bound (n + 1) (map decimal ns))) None (le-leb _ _ ascending.0)
+    ∙ ap (option_map (λ rest. n ∷ rest)) (ascending_numbers-decimals bound (n + 1) ns small ascending.2)
 
--- no decimal text of rising numbers has a byte below the digits
-pub Lacks-decimals : (c bound low : ℕ) (ns : List ℕ) → c < 48 → bound ≤ 2 ^ 63 → IsRising bound low ns → AllByRecursion (Lacks c) (map decimal ns)
-Lacks-decimals c bound low [] less small rising = tt
-Lacks-decimals c bound low (n ∷ ns) less small rising =
-    (Lacks-decimal c n less (omega (arith, rising.1)), Lacks-decimals c bound (n + 1) ns less small rising.2)
+-- no decimal text of ascending numbers has a byte below the digits
+pub Lacks-decimals : (c bound low : ℕ) (ns : List ℕ) → c < 48 → bound ≤ 2 ^ 63 → IsAscending bound low ns → AllByRecursion (Lacks c) (map decimal ns)
+Lacks-decimals c bound low [] less small ascending = tt
+Lacks-decimals c bound low (n ∷ ns) less small ascending =
+    (Lacks-decimal c n less (omega (arith, ascending.1)), Lacks-decimals c bound (n + 1) ns less small ascending.2)
 
 -- digits with their value are a model of decimal texts
 own : IsNumeralModel (λ ds. list_all is_digit ds ≡ true) decimal_value

@@ -67,7 +67,7 @@ module _ (s s' : Store) (m : IsMore s s') where
   same-line (Inner cost set) has = ap (λ (ns : List ℕ). InnerLine cost ns) (same-set s s' set m has)
   same-line (Chain low high) has =
       let c = chain_at s.chains (joined_halves low high) in
-      ap (chain_in s') (same-chain_at (joined_halves low high) has.0) ∙ (λ i. ChainLine c.cost (bits_in c.way) c.side.0 (same-set s s' c.set m has.1 i))
+      ap (chain_in s') (same-chain_at (joined_halves low high) has.0) ∙ (λ i. ChainLine c.cost (bits_in c.path) c.side.0 (same-set s s' c.set m has.1 i))
 
   still-packed : (p : Packed) → IsPacked s p → IsPacked s' p
   still-packed (Leaf id) has = tt
@@ -110,11 +110,11 @@ module _ (s s' : Store) (ps : List Packed) (lines : List DueLine) (m : IsMore s 
   -- one more chain and its packed line represent one more line of a chain
   pub chain-pushed : (ps' : List Packed) (low high : ℕ) (c : PackedChain) (numbers : List ℕ) → IsHeld s'.labels c.set numbers
       → joined_halves low high ≡ length s.chains → s'.chains ≡ s.chains ++ c ∷ []
-      → ps' ≡ ps ++ Chain low high ∷ [] → ArePackedAs s' ps' (lines ++ ChainLine c.cost (bits_in c.way) c.side.0 numbers ∷ [])
+      → ps' ≡ ps ++ Chain low high ∷ [] → ArePackedAs s' ps' (lines ++ ChainLine c.cost (bits_in c.path) c.side.0 numbers ∷ [])
   chain-pushed ps' low high c numbers held number chains pushed =
       let here : chain_at s'.chains (joined_halves low high) ≡ c =
       ap (λ (cs : List PackedChain). chain_at cs (joined_halves low high)) chains ∙ get_or_push s.chains c no_chain (joined_halves low high) (sym number) in
       let count = ap length chains ∙ length-append s.chains (c ∷ []) in
-      line-pushed ps' (Chain low high) (ChainLine c.cost (bits_in c.way) c.side.0 numbers)
+      line-pushed ps' (Chain low high) (ChainLine c.cost (bits_in c.path) c.side.0 numbers)
       (omega arith, subst (λ (chain : PackedChain). HasSet s'.labels chain.set) (sym here) held.whole)
-      (ap (chain_in s') here ∙ (λ i. ChainLine c.cost (bits_in c.way) c.side.0 (held.set i))) pushed
+      (ap (chain_in s') here ∙ (λ i. ChainLine c.cost (bits_in c.path) c.side.0 (held.set i))) pushed

@@ -5,7 +5,7 @@ use Rattle.std.proofs.lemmas.List.{append_assoc, length_push}
 use Rattle.pmap_text.specs.MapModel.{Label}
 use Rattle.pmap_text.specs.Reading.{◌>>=◌}
 use Rattle.pmap_text.specs.MapText.{text_at}
-use Rattle.pmap_cert.specs.CertificateModel.{ChainNode, InnerNode, LeafNode, Pair, Tree}
+use Rattle.pmap_cert.specs.CertificateModel.{ChainNode, InnerNode, LeafNode, Claim, Tree}
 use Rattle.pmap_cert.specs.Format.{IsNodeOf, format_number, Format, One, Two}
 use Rattle.pmap_cert.specs.FormatReading.{ChainLine, DueLine, InnerLine, LeafLine, Place, due_node, fault_at, labels_at, line_due_at, new_label, nodes_at, line_value, CertFault, BadLabelTable, TooDeep}
 use Rattle.pmap_cert.specs.Node.{Chain, HasChainForm, Inner, Leaf, Node, lines_of, tree_of}
@@ -54,7 +54,7 @@ module _ (due : Place → Result (DueLine × Place) CertFault) (table : List Lab
   node-leaf (suc room) number e = ap (then_in (suc room) (nodes_at due table room)) e
 
   module _ (cost : ℕ) (numbers : List ℕ) where
-    abbrev claim : Pair
+    abbrev claim : Claim
     claim = record { cost = cost; labels = map (text_at table) numbers }
 
     module _ (is : due place ≡ Ok (InnerLine cost numbers, after)) where

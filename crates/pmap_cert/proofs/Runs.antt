@@ -5,17 +5,17 @@ use Rattle.std.proofs.lemmas.Bool.{cond-false, cond-true, false≢true, le-leb, 
 use Rattle.std.proofs.lemmas.Option.{none-some, same_Some}
 use Rattle.std.proofs.lemmas.Slice.Eq.{bytes_eq-Decides}
 use Rattle.pmap_text.specs.MapModel.{Label}
-use Rattle.pmap_cert.specs.CertificateModel.{ChainNode, InnerNode, LeafNode, Pair, Tree, IsPlain, chain_opened, links, opened}
+use Rattle.pmap_cert.specs.CertificateModel.{ChainNode, InnerNode, LeafNode, Claim, Tree, IsPlain, chain_opened, links, opened}
 use Rattle.pmap_cert.specs.CertificateText.{certificate_lines}
-use Rattle.pmap_cert.specs.Compacting.{HasNoRun, IsSameShape, IsWay, OpensTo, compact, compacted, compacted_in, has_side, is_side, line_count, run_bits, run_compacted, run_end, side_of}
+use Rattle.pmap_cert.specs.Compacting.{HasNoRun, IsSameShape, IsPath, OpensTo, compact, compacted, compacted_in, has_side, is_side, line_count, run_bits, run_compacted, run_end, side_of}
 use Rattle.pmap_cert.specs.Examples.{last_address_certificate, last_address_lines, last_address_opened}
 use Rattle.pmap_cert.proofs.Sets.{bytes_eq-same}
 
 -- what holds of a run that ends at once, and of a longer run if it holds of the run from the chosen half, holds of each
 module _ (side : Label) (Is : Tree → List Bool → Tree → Type 0) (ended : (t : Tree) → Is t [] t)
-    (up-on : (claim : Pair) (lower upper : Tree) (bits : List Bool) (end : Tree) → is_side side lower ≡ true → Is upper bits end →
+    (up-on : (claim : Claim) (lower upper : Tree) (bits : List Bool) (end : Tree) → is_side side lower ≡ true → Is upper bits end →
     Is (InnerNode claim lower upper) (true ∷ bits) end)
-    (low-on : (claim : Pair) (lower upper : Tree) (bits : List Bool) (end : Tree) → is_side side upper ≡ true → Is lower bits end →
+    (low-on : (claim : Claim) (lower upper : Tree) (bits : List Bool) (end : Tree) → is_side side upper ≡ true → Is lower bits end →
     Is (InnerNode claim lower upper) (false ∷ bits) end) where
   pub by_steps : (t : Tree) → Is t (run_bits side t) (run_end side t)
   by_steps (LeafNode x) = ended (LeafNode x)
@@ -53,42 +53,42 @@ side-leaf side (LeafNode x) is = ap LeafNode ((bytes_eq-Decides x side).0 is)
 side-leaf side (InnerNode p l r) is = absurd (false≢true is)
 side-leaf side (ChainNode p bs s end) is = absurd (false≢true is)
 
--- the bits of a run are a way down the node
-pub way-run : (IsEnd : Tree → Type 0) (side : Label) (node : Tree) → IsEnd (run_end side node) → IsWay IsEnd side (run_bits side node) node
-way-run IsEnd side node =
-    by_steps side (λ t bits end. IsEnd end → IsWay IsEnd side bits t) (λ t h. h)
+-- the bits of a run are a path down the node
+pub path-run : (IsEnd : Tree → Type 0) (side : Label) (node : Tree) → IsEnd (run_end side node) → IsPath IsEnd side (run_bits side node) node
+path-run IsEnd side node =
+    by_steps side (λ t bits end. IsEnd end → IsPath IsEnd side bits t) (λ t h. h)
     (λ claim lower upper bits end e below h. (side-leaf side lower e, below h))
     (λ claim lower upper bits end e below h. (side-leaf side upper e, below h)) node
 
--- the way of a run leads to the run's end
-pub run-way : (side : Label) (node : Tree) → IsWay (λ end. end ≡ run_end side node) side (run_bits side node) node
-run-way side node = way-run (λ end. end ≡ run_end side node) side node refl
+-- the path of a run leads to the run's end
+pub run-path : (side : Label) (node : Tree) → IsPath (λ end. end ≡ run_end side node) side (run_bits side node) node
+run-path side node = path-run (λ end. end ≡ run_end side node) side node refl
 
--- a node that is a leaf with the side label has no way with a bit
-no-bits : (side : Label) (bits : List Bool) (node : Tree) → is_side side node ≡ true → IsWay (λ end. Unit {0}) side bits node → length bits ≡ 0
-no-bits side [] node e way = refl
-no-bits side (bit ∷ bits) (LeafNode x) e way = absurd way
-no-bits side (bit ∷ bits) (InnerNode claim lower upper) e way = absurd (false≢true e)
-no-bits side (bit ∷ bits) (ChainNode claim bs s end) e way = absurd (false≢true e)
+-- a node that is a leaf with the side label has no path with a bit
+no-bits : (side : Label) (bits : List Bool) (node : Tree) → is_side side node ≡ true → IsPath (λ end. Unit {0}) side bits node → length bits ≡ 0
+no-bits side [] node e path = refl
+no-bits side (bit ∷ bits) (LeafNode x) e path = absurd path
+no-bits side (bit ∷ bits) (InnerNode claim lower upper) e path = absurd (false≢true e)
+no-bits side (bit ∷ bits) (ChainNode claim bs s end) e path = absurd (false≢true e)
 
-pub run-longest : (side : Label) (node : Tree) (bits : List Bool) → IsWay (λ end. Unit {0}) side bits node →
+pub run-longest : (side : Label) (node : Tree) (bits : List Bool) → IsPath (λ end. Unit {0}) side bits node →
     length bits ≤ length (run_bits side node)
-run-longest side node [] way = omega arith
-run-longest side (LeafNode x) (bit ∷ bits) way = absurd way
-run-longest side (ChainNode claim bs s end) (bit ∷ bits) way = absurd way
-run-longest side (InnerNode claim lower upper) (true ∷ bits) way =
-    let own : is_side side lower ≡ true = ap (is_side side) way.0 ∙ bytes_eq-same side in
-    let longest = run-longest side upper bits way.1 in
+run-longest side node [] path = omega arith
+run-longest side (LeafNode x) (bit ∷ bits) path = absurd path
+run-longest side (ChainNode claim bs s end) (bit ∷ bits) path = absurd path
+run-longest side (InnerNode claim lower upper) (true ∷ bits) path =
+    let own : is_side side lower ≡ true = ap (is_side side) path.0 ∙ bytes_eq-same side in
+    let longest = run-longest side upper bits path.1 in
     rw own (omega arith)
-run-longest side (InnerNode claim lower upper) (false ∷ bits) way =
-    by_test (is_side side lower) refl (run-longest side lower bits way.1)
+run-longest side (InnerNode claim lower upper) (false ∷ bits) path =
+    by_test (is_side side lower) refl (run-longest side lower bits path.1)
   where
     own : is_side side upper ≡ true
-    own = ap (is_side side) way.0 ∙ bytes_eq-same side
+    own = ap (is_side side) path.0 ∙ bytes_eq-same side
 
     by_test : (b : Bool) → is_side side lower ≡ b → length bits ≤ length (run_bits side lower) →
         suc (length bits) ≤ length (cond b (true ∷ run_bits side upper) (cond (is_side side upper) (false ∷ run_bits side lower) []))
-    by_test true e longest = let none = no-bits side bits lower e way.1 in omega arith
+    by_test true e longest = let none = no-bits side bits lower e path.1 in omega arith
     by_test false e longest = rw own (omega arith)
 
 -- a tree without chains opens to itself
@@ -98,14 +98,14 @@ opens-itself (InnerNode claim lower upper) h = (refl, opens-itself lower h.0, op
 opens-itself (ChainNode claim bits side end) h = absurd h
 
 -- an inner node with a long run is compacted to a chain, and one with a short run to an inner node
-run_compacted-chain : (inside : Tree → Tree) (claim : Pair) (lower upper : Tree) (side : Label) →
+run_compacted-chain : (inside : Tree → Tree) (claim : Claim) (lower upper : Tree) (side : Label) →
     nat_le 2 (length (run_bits side (InnerNode claim lower upper))) ≡ true →
     run_compacted inside claim lower upper (Some side)
     ≡ ChainNode claim (run_bits side (InnerNode claim lower upper)) side (inside (run_end side (InnerNode claim lower upper)))
 run_compacted-chain inside claim lower upper side long =
     cond-true (nat_le 2 (length (run_bits side (InnerNode claim lower upper)))) _ (InnerNode claim (inside lower) (inside upper)) long
 
-run_compacted-node : (inside : Tree → Tree) (claim : Pair) (lower upper : Tree) (side : Label) →
+run_compacted-node : (inside : Tree → Tree) (claim : Claim) (lower upper : Tree) (side : Label) →
     nat_le 2 (length (run_bits side (InnerNode claim lower upper))) ≡ false →
     run_compacted inside claim lower upper (Some side) ≡ InnerNode claim (inside lower) (inside upper)
 run_compacted-node inside claim lower upper side short =
@@ -113,7 +113,7 @@ run_compacted-node inside claim lower upper side short =
     (ChainNode claim (run_bits side (InnerNode claim lower upper)) side (inside (run_end side (InnerNode claim lower upper)))) _ short
 
 -- what holds of both possible results of compacting an inner node, a chain or an inner node, holds of the result
-module _ (inside : Tree → Tree) (claim : Pair) (lower upper : Tree) (Is : Tree → Type 0) where
+module _ (inside : Tree → Tree) (claim : Claim) (lower upper : Tree) (Is : Tree → Type 0) where
   pub by_run : (o : Option Label) →
       ((side : Label) → o ≡ Some side → nat_le 2 (length (run_bits side (InnerNode claim lower upper))) ≡ true →
       Is (ChainNode claim (run_bits side (InnerNode claim lower upper)) side (inside (run_end side (InnerNode claim lower upper))))) →
@@ -141,7 +141,7 @@ compacted_in-opens (suc steps) (InnerNode claim lower upper) h =
     (λ side e long. (
       omega (arith, leb-true 2 (length (run_bits side (InnerNode claim lower upper))) long),
       refl,
-      way-run (OpensTo (compacted_in steps (run_end side (InnerNode claim lower upper)))) side (InnerNode claim lower upper)
+      path-run (OpensTo (compacted_in steps (run_end side (InnerNode claim lower upper)))) side (InnerNode claim lower upper)
           (compacted_in-opens steps (run_end side (InnerNode claim lower upper)) (plain-run side (InnerNode claim lower upper) h)),
     ))
     (λ short. (refl, compacted_in-opens steps lower h.0, compacted_in-opens steps upper h.1))
@@ -151,18 +151,18 @@ leaf-shape x t is = subst (IsSameShape (LeafNode x)) (sym is) refl
 
 -- if a node opens to a tree, its opened node has the tree's shape and labels
 module _ (side : Label) (IsEnd : Tree → Type 0) (end : Tree) (shapes : (t : Tree) → IsEnd t → IsSameShape end t) where
-  shape-way : (bits : List Bool) (t : Tree) → IsWay IsEnd side bits t → IsSameShape (links bits side end) t
-  shape-way [] t way = shapes t way
-  shape-way (true ∷ bits) (InnerNode claim lower upper) way = (leaf-shape side lower way.0, shape-way bits upper way.1)
-  shape-way (false ∷ bits) (InnerNode claim lower upper) way = (shape-way bits lower way.1, leaf-shape side upper way.0)
-  shape-way (bit ∷ bits) (LeafNode x) way = absurd way
-  shape-way (bit ∷ bits) (ChainNode p bs s e) way = absurd way
+  shape-path : (bits : List Bool) (t : Tree) → IsPath IsEnd side bits t → IsSameShape (links bits side end) t
+  shape-path [] t path = shapes t path
+  shape-path (true ∷ bits) (InnerNode claim lower upper) path = (leaf-shape side lower path.0, shape-path bits upper path.1)
+  shape-path (false ∷ bits) (InnerNode claim lower upper) path = (shape-path bits lower path.1, leaf-shape side upper path.0)
+  shape-path (bit ∷ bits) (LeafNode x) path = absurd path
+  shape-path (bit ∷ bits) (ChainNode p bs s e) path = absurd path
 
-  shape-chain : (claim : Pair) (bits : List Bool) (t : Tree) → 0 < length bits → IsWay IsEnd side bits t →
+  shape-chain : (claim : Claim) (bits : List Bool) (t : Tree) → 0 < length bits → IsPath IsEnd side bits t →
       IsSameShape (chain_opened claim bits side end) t
-  shape-chain claim [] t some way = absurd (omega arith)
-  shape-chain claim (true ∷ bits) t some way = shape-way (true ∷ bits) t way
-  shape-chain claim (false ∷ bits) t some way = shape-way (false ∷ bits) t way
+  shape-chain claim [] t some path = absurd (omega arith)
+  shape-chain claim (true ∷ bits) t some path = shape-path (true ∷ bits) t path
+  shape-chain claim (false ∷ bits) t some path = shape-path (false ∷ bits) t path
 
 pub shape-opens : (c t : Tree) → OpensTo c t → IsSameShape (opened c) t
 shape-opens (LeafNode x) t h = leaf-shape x t h
@@ -205,11 +205,11 @@ run-some x (InnerNode claim lower upper) h = by_test (is_side x lower) (is_side 
     by_test false false h = absurd (false≢true h)
 
 -- the run of an inner node has two bits or more
-abbrev IsLong : Pair → Tree → Tree → Type 0
+abbrev IsLong : Claim → Tree → Tree → Type 0
 IsLong claim lower upper =
     (side : Label) × (side_of lower upper ≡ Some side) × (nat_le 2 (length (run_bits side (InnerNode claim lower upper))) ≡ true)
 
-long-lower : (claim : Pair) (lower upper : Tree) (x : Label) → is_side x lower ≡ true → has_side x upper ≡ true → IsLong claim lower upper
+long-lower : (claim : Claim) (lower upper : Tree) (x : Label) → is_side x lower ≡ true → has_side x upper ≡ true → IsLong claim lower upper
 long-lower claim (InnerNode p l r) upper x e h = absurd (false≢true e)
 long-lower claim (ChainNode p bs s end) upper x e h = absurd (false≢true e)
 long-lower claim (LeafNode y) upper x e h =
@@ -220,7 +220,7 @@ long-lower claim (LeafNode y) upper x e h =
           (sym (bytes_eq-same y)) (le-leb 2 (suc (length (run_bits y upper))) (omega (arith, run-some y upper known))),
     )
 
-long-upper : (claim : Pair) (lower upper : Tree) (x : Label) → is_side x upper ≡ true → has_side x lower ≡ true → IsLong claim lower upper
+long-upper : (claim : Claim) (lower upper : Tree) (x : Label) → is_side x upper ≡ true → has_side x lower ≡ true → IsLong claim lower upper
 long-upper claim (LeafNode y) upper x e h = absurd (false≢true h)
 long-upper claim (ChainNode p bs s end) upper x e h = absurd (false≢true h)
 long-upper claim (InnerNode p l r) (InnerNode p' l' r') x e h = absurd (false≢true e)
@@ -234,13 +234,13 @@ long-upper claim (InnerNode p l r) (LeafNode y) x e h =
           (sym (bytes_eq-same y)) (le-leb 2 (suc (length (run_bits y lower))) (omega (arith, run-some y lower known))),
     )
 
-not-long : (claim : Pair) (lower upper : Tree) →
+not-long : (claim : Claim) (lower upper : Tree) →
     ((side : Label) → side_of lower upper ≡ Some side → nat_le 2 (length (run_bits side (InnerNode claim lower upper))) ≡ false) →
     IsLong claim lower upper → ⊥
 not-long claim lower upper short long = false≢true (sym (short long.0 long.1) ∙ long.2)
 
 -- the end of a run of two bits has fewer lines
-less-run : (claim : Pair) (lower upper : Tree) (side : Label) (steps : ℕ) → line_count (InnerNode claim lower upper) ≤ suc steps →
+less-run : (claim : Claim) (lower upper : Tree) (side : Label) (steps : ℕ) → line_count (InnerNode claim lower upper) ≤ suc steps →
     nat_le 2 (length (run_bits side (InnerNode claim lower upper))) ≡ true →
     line_count (run_end side (InnerNode claim lower upper)) ≤ steps
 less-run claim lower upper side steps few long =
@@ -266,7 +266,7 @@ compacted_in-no_run (suc steps) (InnerNode claim lower upper) h few =
     ))
 
 -- an inner node is compacted alike by functions that agree on its halves and on its run's end
-run_compacted-same : (inside inside' : Tree → Tree) (claim : Pair) (lower upper : Tree) →
+run_compacted-same : (inside inside' : Tree → Tree) (claim : Claim) (lower upper : Tree) →
     inside lower ≡ inside' lower → inside upper ≡ inside' upper →
     ((side : Label) → nat_le 2 (length (run_bits side (InnerNode claim lower upper))) ≡ true →
     inside (run_end side (InnerNode claim lower upper)) ≡ inside' (run_end side (InnerNode claim lower upper))) →
@@ -302,7 +302,7 @@ enough-steps (suc steps) (suc steps') (InnerNode claim lower upper) few few' =
     (less-run claim lower upper side steps few long) (less-run claim lower upper side steps' few' long)) (side_of lower upper)
 
 -- an inner node is compacted by its run
-pub compacted-inner : (claim : Pair) (lower upper : Tree) →
+pub compacted-inner : (claim : Claim) (lower upper : Tree) →
     compacted (InnerNode claim lower upper) ≡ run_compacted compacted claim lower upper (side_of lower upper)
 unfolding compacted_in
 compacted-inner claim lower upper =

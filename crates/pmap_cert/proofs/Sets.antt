@@ -2,10 +2,10 @@ use Rattle.std.proofs.Common.{◌≡◌, ℕ, ◌+◌, ◌≤◌, Bool, true, fa
 use Rattle.std.proofs.lemmas.Slice.Eq.{bytes_eq-Decides}
 use Rattle.std.proofs.Math.Bool.{or-false, or_assoc}
 use Rattle.pmap_text.specs.MapModel.{Label}
-use Rattle.pmap_cert.specs.CertificateModel.{Pair, has, common_labels, exact_pair, exact_pair_by}
+use Rattle.pmap_cert.specs.CertificateModel.{Claim, has, common_labels, exact_claim, exact_claim_by}
 use Rattle.pmap_cert.specs.Acceptance.{has_inherited}
 
--- Sets of labels, and the cost of the exact pair of two pairs.
+-- Sets of labels, and the cost of the exact claim of two claims.
 
 -- a label equals itself
 pub bytes_eq-same : (x : Label) → bytes_eq x x ≡ true
@@ -48,24 +48,24 @@ miss h s = cond (has_inherited s h) 0 1
 pub miss-le : (h : Option Label) (s : List Label) → miss h s ≤ 1
 miss-le h s = grind arith
 
--- an inherited label costs with the exact pair no more than with both halves
+-- an inherited label costs with the exact claim no more than with both halves
 misses-union : (a b c : Bool) → false ≡ (a && b) → c ≡ (a || b) → 1 + cond c 0 1 ≤ cond a 0 1 + cond b 0 1
 misses-union a b c none is = grind arith
 
 misses-common : (a b c : Bool) → c ≡ (a && b) → cond c 0 1 ≤ cond a 0 1 + cond b 0 1
 misses-common a b c is = grind arith
 
-exact_pair_by-cost : (p r : Pair) (h : Option Label) (common : List Label) →
+exact_claim_by-cost : (p r : Claim) (h : Option Label) (common : List Label) →
     ((x : Label) → has common x ≡ (has p.labels x && has r.labels x)) →
-    (exact_pair_by p r common).cost + miss h (exact_pair_by p r common).labels
+    (exact_claim_by p r common).cost + miss h (exact_claim_by p r common).labels
     ≤ p.cost + miss h p.labels + (r.cost + miss h r.labels)
-exact_pair_by-cost p r None [] both = omega arith
-exact_pair_by-cost p r None (y ∷ ys) both = omega arith
-exact_pair_by-cost p r (Some x) [] both =
+exact_claim_by-cost p r None [] both = omega arith
+exact_claim_by-cost p r None (y ∷ ys) both = omega arith
+exact_claim_by-cost p r (Some x) [] both =
     omega (arith, misses-union (has p.labels x) (has r.labels x) (has (p.labels ++ r.labels) x) (both x) (has-append p.labels r.labels x))
-exact_pair_by-cost p r (Some x) (y ∷ ys) both =
+exact_claim_by-cost p r (Some x) (y ∷ ys) both =
     omega (arith, misses-common (has p.labels x) (has r.labels x) (has (y ∷ ys) x) (both x))
 
-pub exact_pair-cost : (p r : Pair) (h : Option Label) →
-    (exact_pair p r).cost + miss h (exact_pair p r).labels ≤ p.cost + miss h p.labels + (r.cost + miss h r.labels)
-exact_pair-cost p r h = exact_pair_by-cost p r h (common_labels p r) (λ x. has-filter r.labels p.labels x)
+pub exact_claim-cost : (p r : Claim) (h : Option Label) →
+    (exact_claim p r).cost + miss h (exact_claim p r).labels ≤ p.cost + miss h p.labels + (r.cost + miss h r.labels)
+exact_claim-cost p r h = exact_claim_by-cost p r h (common_labels p r) (λ x. has-filter r.labels p.labels x)

@@ -12,7 +12,7 @@ use Rattle.pmap_text.specs.Label.{IsLabelTable, has_label, is_label}
 use Rattle.pmap_text.specs.MapModel.{Label}
 use Rattle.pmap_text.specs.Reading.{◌>>=◌}
 use Rattle.pmap_text.specs.MapText.{text_at}
-use Rattle.pmap_cert.specs.CertificateText.{IsRising, place_of}
+use Rattle.pmap_cert.specs.CertificateText.{IsAscending, place_of}
 use Rattle.pmap_cert.specs.FormatReading.{Place, fault_at, labels_at, line_from, new_label, or_fault, line_value, value_by, CertFault, CertFaultKind, BadLabelTable}
 use Rattle.pmap_cert.proofs.Pieces.{found_at, line_from-cons}
 
@@ -37,15 +37,15 @@ text_at-place_of table x h =
     unwrap_or-slice_get table (place_of table x) []
     ∙ sym ((bytes_eq-Decides x (get_or table (place_of table x) [])).0 (passes_at_first (bytes_eq x) table [] h))
 
-pub places-texts : (table : List Label) (low : ℕ) (ns : List ℕ) → IsLabelTable table → IsRising (length table) low ns → map (place_of table) (map (text_at table) ns) ≡ ns
-places-texts table low [] ok rising = refl
-places-texts table low (n ∷ ns) ok rising =
-    λ i. place_of-text_at table n ok rising.1 i ∷ places-texts table (n + 1) ns ok rising.2 i
+pub places-texts : (table : List Label) (low : ℕ) (ns : List ℕ) → IsLabelTable table → IsAscending (length table) low ns → map (place_of table) (map (text_at table) ns) ≡ ns
+places-texts table low [] ok ascending = refl
+places-texts table low (n ∷ ns) ok ascending =
+    λ i. place_of-text_at table n ok ascending.1 i ∷ places-texts table (n + 1) ns ok ascending.2 i
 
-pub texts-places : (table : List Label) (low : ℕ) (xs : List Label) → IsRising (length table) low (map (place_of table) xs) → map (text_at table) (map (place_of table) xs) ≡ xs
-texts-places table low [] rising = refl
-texts-places table low (x ∷ xs) rising =
-    λ i. text_at-place_of table x rising.1 i ∷ texts-places table (place_of table x + 1) xs rising.2 i
+pub texts-places : (table : List Label) (low : ℕ) (xs : List Label) → IsAscending (length table) low (map (place_of table) xs) → map (text_at table) (map (place_of table) xs) ≡ xs
+texts-places table low [] ascending = refl
+texts-places table low (x ∷ xs) ascending =
+    λ i. text_at-place_of table x ascending.1 i ∷ texts-places table (place_of table x + 1) xs ascending.2 i
 
 -- a value that is read is that of the next line, and the given rest follows
 pub value_at-found : {A : Type 0} (kind : CertFaultKind) (value_of : List ℕ → Option A) (place : Place) (x : A × Place) → line_value kind value_of place ≡ Ok x

@@ -9,7 +9,7 @@ use Rattle.std.proofs.lemmas.Option.{get_or_from_slice_get, slice_get_within}
 use Rattle.prefix_keys.specs.declared.version.Version.{Version}
 use Rattle.pmap_text.specs.Label.{IsLabelTable}
 use Rattle.pmap_text.specs.MapModel.{Label}
-use Rattle.pmap_cert.specs.CertificateText.{HasNodeForm, IsRising, certificate_text, chain_line, format_header, inner_line, leaf_line, node_lines, text_of_lines}
+use Rattle.pmap_cert.specs.CertificateText.{HasNodeForm, IsAscending, certificate_text, chain_line, format_header, inner_line, leaf_line, node_lines, text_of_lines}
 use Rattle.pmap_cert.specs.FormatReading.{DueLine}
 use Rattle.pmap_cert.specs.Node.{Chain, HasChainForm, Inner, Leaf, Node, line_text, lines_of, tree_of}
 use Rattle.pmap_cert.proofs.ChainWords.{end-room, other-room}
@@ -46,13 +46,13 @@ module _ (table : List Label) (ok : IsLabelTable table) where
   node_form (Inner cost set lower upper) zero form = absurd form
   node_form (Inner cost set lower upper) (suc room) form = (
     form.0,
-    subst (IsRising (length table) 0) (sym (places-texts table 0 set ok form.1)) form.1,
+    subst (IsAscending (length table) 0) (sym (places-texts table 0 set ok form.1)) form.1,
     node_form lower room form.2,
     node_form upper room form.3,
   )
   node_form (Chain cost set bits side end) room form = (
     form.0,
-    subst (IsRising (length table) 0) (sym (places-texts table 0 set ok form.1)) form.1,
+    subst (IsAscending (length table) 0) (sym (places-texts table 0 set ok form.1)) form.1,
     subst (λ (n : ℕ). n < length table) (sym (place_of-text_at table side ok form.2)) form.2,
     form.3,
     other-room (HasChainForm (length table) end) (HasNodeForm table (tree_of table end)) (λ left fits. node_form end left fits) bits room form.4,

@@ -3,7 +3,7 @@ use Rattle.std.specs.List.{AllByRecursion}
 use Rattle.prefix_keys.specs.Block.{first_of, width_of}
 use Rattle.pmap_text.specs.ListModel.{IsEquivalent, ListModel, Prefix, label_below, lies_inside}
 use Rattle.pmap_text.specs.MapModel.{IsSettled, Label, MapModel, settled_label}
-use Rattle.pmap_cert.specs.CertificateModel.{CertificateModel, ChainNode, InnerNode, LeafNode, Pair, Tree, claim_of, has, chain_pair, chosen_half, side_half, exact_pair, IsSamePair}
+use Rattle.pmap_cert.specs.CertificateModel.{CertificateModel, ChainNode, InnerNode, LeafNode, Claim, Tree, claim_of, has, chain_claim, chosen_half, side_half, exact_claim, IsSameClaim}
 
 -- When a certificate is accepted for a map and a prefix list. Labels are compared by their texts.
 
@@ -12,8 +12,8 @@ pub record IsDecided (W : ℕ) (ps : List Prefix) (n q : ℕ) (x : Label) : Type
   pub inside : filter (lies_inside W n q) ps ≡ []
   pub longest : label_below W ps (suc n) (first_of W n q) ≡ Some x
 
--- the claim is within the exact pair e: its cost is below e's, or it is e's and the claim's set has all of e's labels
-pub record IsWithinExact (claim e : Pair) : Type 0 where
+-- the claim is within the exact claim e: its cost is below e's, or it is e's and the claim's set has all of e's labels
+pub record IsWithinExact (claim e : Claim) : Type 0 where
   pub cost : claim.cost ≤ e.cost
   pub labels : claim.cost ≡ e.cost → (x : Label) → IsTrue (has e.labels x) → IsTrue (has claim.labels x)
 
@@ -22,8 +22,8 @@ pub record IsWithinExact (claim e : Pair) : Type 0 where
 abbrev pub IsLeafAccepted : MapModel → List Prefix → Label → ℕ → ℕ → Type 0
 IsLeafAccepted m ps x n q = IsSettled m n q x × IsDecided (width_of m.version) ps n q x
 
--- The way of a chain's bits from the block of n bits with the number q is accepted: each block on it has halves, the
--- half beside the way is accepted as a leaf with the side label, and `IsEnd` holds of the block at the end.
+-- The path of a chain's bits from the block of n bits with the number q is accepted: each block on it has halves, the
+-- half beside the path is accepted as a leaf with the side label, and `IsEnd` holds of the block at the end.
 abbrev pub AreBitsAccepted : MapModel → List Prefix → Label → (ℕ → ℕ → Type 0) → List Bool → ℕ → ℕ → Type 0
 AreBitsAccepted m ps side IsEnd [] n q = IsEnd n q
 AreBitsAccepted m ps side IsEnd (bit ∷ bits) n q =
@@ -31,16 +31,17 @@ AreBitsAccepted m ps side IsEnd (bit ∷ bits) n q =
     × AreBitsAccepted m ps side IsEnd bits (suc n) (chosen_half bit q)
 
 -- The node is accepted for the block of n bits with the number q: a leaf as `IsLeafAccepted` says; an inner node if the
--- block has halves, its nodes are accepted for them, and its claim is within the exact pair of their claims; a chain if
--- it has a bit, its way is accepted with an accepted node at the end, and its claim is within the chain's exact pair.
+-- block has halves, its nodes are accepted for them, and its claim is within the exact claim of their claims; a chain
+-- if it has a bit, its path is accepted with an accepted node at the end, and its claim is within the chain's exact
+-- claim.
 abbrev pub IsNodeAccepted : MapModel → List Prefix → Tree → ℕ → ℕ → Type 0
 IsNodeAccepted m ps (LeafNode x) n q = IsLeafAccepted m ps x n q
 IsNodeAccepted m ps (InnerNode claim lower upper) n q =
     (n < width_of m.version) × IsNodeAccepted m ps lower (suc n) (2 * q) × IsNodeAccepted m ps upper (suc n) (2 * q + 1)
-    × IsWithinExact claim (exact_pair (claim_of lower) (claim_of upper))
+    × IsWithinExact claim (exact_claim (claim_of lower) (claim_of upper))
 IsNodeAccepted m ps (ChainNode claim bits side end) n q =
     (0 < length bits) × AreBitsAccepted m ps side (IsNodeAccepted m ps end) bits n q
-    × IsWithinExact claim (chain_pair (length bits) side (claim_of end))
+    × IsWithinExact claim (chain_claim (length bits) side (claim_of end))
 
 -- the certificate is accepted for the map and the list: the versions agree, its root is accepted for the address space,
 -- and the list has at most as many entries as the root's cost plus one
@@ -54,14 +55,14 @@ pub record IsAccepted (m : MapModel) (l : ListModel) (c : CertificateModel) : Ty
 abbrev pub IsLeast : MapModel → ListModel → Type 0
 IsLeast m l = (other : ListModel) → IsEquivalent other m → length l.prefixes ≤ length other.prefixes
 
--- The minimal pair of a map: its certificate of exact pairs and the prefix list read off it.
+-- The minimal pair of a map: its certificate of exact claims and the prefix list read off it.
 
 -- The node represents the block of n bits with the number q: a leaf if the map settles the block with its label, or,
--- for an unsettled block, an inner node with the exact pair of its nodes, which represent the halves.
+-- for an unsettled block, an inner node with the exact claim of its nodes, which represent the halves.
 abbrev pub StandsFor : MapModel → Tree → ℕ → ℕ → Type 0
 StandsFor m (LeafNode x) n q = IsSettled m n q x
 StandsFor m (InnerNode claim lower upper) n q =
-    (settled_label m n q ≡ None) × IsSamePair claim (exact_pair (claim_of lower) (claim_of upper))
+    (settled_label m n q ≡ None) × IsSameClaim claim (exact_claim (claim_of lower) (claim_of upper))
     × StandsFor m lower (suc n) (2 * q) × StandsFor m upper (suc n) (2 * q + 1)
 StandsFor m (ChainNode claim bits side end) n q = ⊥
 
@@ -114,7 +115,7 @@ pub record IsMinimalPair (m : MapModel) (l : ListModel) (c : CertificateModel) :
 -- two nodes have the same shape, labels, costs and sets
 abbrev pub IsSameTree : Tree → Tree → Type 0
 IsSameTree (LeafNode x) (LeafNode y) = x ≡ y
-IsSameTree (InnerNode p l r) (InnerNode p' l' r') = IsSamePair p p' × IsSameTree l l' × IsSameTree r r'
+IsSameTree (InnerNode p l r) (InnerNode p' l' r') = IsSameClaim p p' × IsSameTree l l' × IsSameTree r r'
 IsSameTree _ _ = ⊥
 
 -- two certificates are equal except for the order in which their sets are listed

@@ -6,7 +6,7 @@ use Rattle.pmap_text.specs.MapModel.{Label}
 -- A certificate as contracts see it: a binary tree over the address space, with label texts.
 
 -- a cost and a set of labels; the order of the set's list doesn't count
-pub record Pair : Type 0 where
+pub record Claim : Type 0 where
   pub cost : ℕ
   pub labels : List Label
 
@@ -16,15 +16,15 @@ has s x = has_label s x
 
 -- A node: a leaf with a label, an inner node with its claim and the nodes of its block's halves, or a chain. A chain
 -- represents nested inner nodes, each with a leaf in one half and the next node in the other. It has the claim of the
--- first of them, a bit for each of them that is 1 if the way continues in the upper half, the label of all leaves
--- beside the way, and the node at the way's end.
+-- first of them, a bit for each of them that is 1 if the path continues in the upper half, the label of all leaves
+-- beside the path, and the node at the path's end.
 pub data Tree : Type 0 where
   LeafNode : (x : Label) → Tree
-  InnerNode : (claim : Pair) (lower upper : Tree) → Tree
-  ChainNode : (claim : Pair) (bits : List Bool) (side : Label) (end : Tree) → Tree
+  InnerNode : (claim : Claim) (lower upper : Tree) → Tree
+  ChainNode : (claim : Claim) (bits : List Bool) (side : Label) (end : Tree) → Tree
 
 -- the claim of a node; a leaf claims the cost 0 and only its label
-abbrev pub claim_of : Tree → Pair
+abbrev pub claim_of : Tree → Claim
 claim_of (LeafNode x) = record { cost = 0; labels = x ∷ [] }
 claim_of (InnerNode claim lower upper) = claim
 claim_of (ChainNode claim bits side end) = claim
@@ -37,41 +37,41 @@ pub record CertificateModel : Type 0 where
   pub table : List Label
   pub root : Tree
 
--- The exact pair of the pairs of a block's halves.
+-- The exact claim of the claims of a block's halves.
 
 -- the labels that both sets have
-abbrev pub common_labels : Pair → Pair → List Label
+abbrev pub common_labels : Claim → Claim → List Label
 common_labels p r = filter (has r.labels) p.labels
 
--- the exact pair by the common labels: the sum of the costs with these, or, without any, one more with either set's
+-- the exact claim by the common labels: the sum of the costs with these, or, without any, one more with either set's
 -- labels
-abbrev pub exact_pair_by : Pair → Pair → List Label → Pair
-exact_pair_by p r [] = record { cost = p.cost + r.cost + 1; labels = p.labels ++ r.labels }
-exact_pair_by p r (x ∷ xs) = record { cost = p.cost + r.cost; labels = x ∷ xs }
+abbrev pub exact_claim_by : Claim → Claim → List Label → Claim
+exact_claim_by p r [] = record { cost = p.cost + r.cost + 1; labels = p.labels ++ r.labels }
+exact_claim_by p r (x ∷ xs) = record { cost = p.cost + r.cost; labels = x ∷ xs }
 
-abbrev pub exact_pair : Pair → Pair → Pair
-exact_pair p r = exact_pair_by p r (common_labels p r)
+abbrev pub exact_claim : Claim → Claim → Claim
+exact_claim p r = exact_claim_by p r (common_labels p r)
 
--- two pairs have the same cost and the same set
-pub record IsSamePair (p r : Pair) : Type 0 where
+-- two claims have the same cost and the same set
+pub record IsSameClaim (p r : Claim) : Type 0 where
   pub cost : p.cost ≡ r.cost
   pub labels : (x : Label) → has p.labels x ≡ has r.labels x
 
--- the pair has the given cost, and just the labels that pass the test
-pub record IsPairOf (p : Pair) (total : ℕ) (test : Label → Bool) : Type 0 where
+-- the claim has the given cost, and just the labels that pass the test
+pub record IsClaimWith (p : Claim) (total : ℕ) (test : Label → Bool) : Type 0 where
   pub cost : p.cost ≡ total
   pub labels : (x : Label) → has p.labels x ≡ test x
 
--- Chains: their exact pair, and the inner nodes and leaves that they represent.
+-- Chains: their exact claim, and the inner nodes and leaves that they represent.
 
--- the set of a chain's exact pair if the end's set lacks the side label: of one bit both, of more the side label alone
+-- the set of a chain's exact claim if the end's set lacks the side label: of one bit both, of more the side label alone
 abbrev pub chain_labels : ℕ → Label → List Label → List Label
 chain_labels (suc zero) side s = side ∷ s
 chain_labels _ side s = side ∷ []
 
--- the exact pair of a chain of n bits, by its side label and what its end claims
-abbrev pub chain_pair : ℕ → Label → Pair → Pair
-chain_pair n side end =
+-- the exact claim of a chain of n bits, by its side label and what its end claims
+abbrev pub chain_claim : ℕ → Label → Claim → Claim
+chain_claim n side end =
     if has end.labels side
     then record { cost = end.cost; labels = side ∷ [] }
     else record { cost = end.cost + 1; labels = chain_labels n side end.labels }
@@ -85,17 +85,17 @@ abbrev pub side_half : Bool → ℕ → ℕ
 side_half bit q = if bit then 2 * q else 2 * q + 1
 
 -- the inner node with this claim whose chosen half is the node and whose other half is a leaf with the side label
-abbrev pub link : Pair → Bool → Label → Tree → Tree
+abbrev pub link : Claim → Bool → Label → Tree → Tree
 link claim true side node = InnerNode claim (LeafNode side) node
 link claim false side node = InnerNode claim node (LeafNode side)
 
--- the inner nodes of a chain above its opened end: each claims the chain's exact pair for the bits from it on
+-- the inner nodes of a chain above its opened end: each claims the chain's exact claim for the bits from it on
 abbrev pub links : List Bool → Label → Tree → Tree
 links [] side end = end
-links (bit ∷ bits) side end = link (chain_pair (suc (length bits)) side (claim_of end)) bit side (links bits side end)
+links (bit ∷ bits) side end = link (chain_claim (suc (length bits)) side (claim_of end)) bit side (links bits side end)
 
--- a chain opened; its topmost inner node has the chain's own claim instead of the exact pair
-abbrev pub chain_opened : Pair → List Bool → Label → Tree → Tree
+-- a chain opened; its topmost inner node has the chain's own claim instead of the exact claim
+abbrev pub chain_opened : Claim → List Bool → Label → Tree → Tree
 chain_opened claim [] side end = end
 chain_opened claim (bit ∷ bits) side end = link claim bit side (links bits side end)
 
@@ -119,12 +119,12 @@ IsPlain (ChainNode claim bits side end) = ⊥
 abbrev pub IsOfFormat : CertificateModel → Type 0
 IsOfFormat c = ((c.format ≡ 1) × IsPlain c.root) ⊎ (c.format ≡ 2)
 
--- the exact pair of a link: of a leaf with the side label and a node with this pair, in the order of the halves
-abbrev pub link_pair : Bool → Label → Pair → Pair
-link_pair true side p = exact_pair (claim_of (LeafNode side)) p
-link_pair false side p = exact_pair p (claim_of (LeafNode side))
+-- the exact claim of a link: of a leaf with the side label and a node with this claim, in the order of the halves
+abbrev pub link_claim : Bool → Label → Claim → Claim
+link_claim true side p = exact_claim (claim_of (LeafNode side)) p
+link_claim false side p = exact_claim p (claim_of (LeafNode side))
 
--- the exact pair of a chain taken bit by bit, from the end up
-abbrev pub pair_by_bits : List Bool → Label → Pair → Pair
-pair_by_bits [] side end = end
-pair_by_bits (bit ∷ bits) side end = link_pair bit side (pair_by_bits bits side end)
+-- the exact claim of a chain taken bit by bit, from the end up
+abbrev pub claim_by_bits : List Bool → Label → Claim → Claim
+claim_by_bits [] side end = end
+claim_by_bits (bit ∷ bits) side end = link_claim bit side (claim_by_bits bits side end)

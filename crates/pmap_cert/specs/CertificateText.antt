@@ -41,7 +41,7 @@ leaf_line number = spaced (codes "l" ∷ decimal number ∷ [])
 abbrev pub inner_line : ℕ → List ℕ → List ℕ
 inner_line cost numbers = spaced (codes "n" ∷ decimal cost ∷ map decimal numbers)
 
--- the digits of a chain's bits: 1 if the way continues in the upper half
+-- the digits of a chain's bits: 1 if the path continues in the upper half
 abbrev pub bit_digits : List Bool → List ℕ
 bit_digits bits = map (λ bit. if bit then 49 else 48) bits
 
@@ -71,17 +71,17 @@ text_of_lines lines = flat_map (λ line. line ++ 10 ∷ []) lines
 abbrev pub certificate_text : CertificateModel → List ℕ
 certificate_text c = text_of_lines (certificate_lines c)
 
--- The certificates that have a text: each label is in the table, sets are listed by rising numbers, costs are below 2 ^
--- 32, and no node is deeper than an address has bits.
+-- The certificates that have a text: each label is in the table, sets are listed by ascending numbers, costs are below
+-- 2 ^ 32, and no node is deeper than an address has bits.
 
--- the numbers strictly rise, are below the bound, and not below low
-abbrev pub IsRising : ℕ → ℕ → List ℕ → Type 0
-IsRising bound low [] = Unit {0}
-IsRising bound low (n ∷ ns) = (low ≤ n) × (n < bound) × IsRising bound (n + 1) ns
+-- the numbers strictly ascend, are below the bound, and not below low
+abbrev pub IsAscending : ℕ → ℕ → List ℕ → Type 0
+IsAscending bound low [] = Unit {0}
+IsAscending bound low (n ∷ ns) = (low ≤ n) × (n < bound) × IsAscending bound (n + 1) ns
 
-pub IsRising-prop : (bound low : ℕ) (ns : List ℕ) → IsProp (IsRising bound low ns)
-IsRising-prop bound low [] = Unit-prop
-IsRising-prop bound low (n ∷ ns) = λ x y i. (le_prop x.0 y.0 i, le_prop x.1 y.1 i, IsRising-prop bound (n + 1) ns x.2 y.2 i)
+pub IsAscending-prop : (bound low : ℕ) (ns : List ℕ) → IsProp (IsAscending bound low ns)
+IsAscending-prop bound low [] = Unit-prop
+IsAscending-prop bound low (n ∷ ns) = λ x y i. (le_prop x.0 y.0 i, le_prop x.1 y.1 i, IsAscending-prop bound (n + 1) ns x.2 y.2 i)
 
 -- The node at a chain's end fits into the room below the chain: each of the chain's bits takes one level.
 abbrev pub HasRoomBelow : (ℕ → Type 0) → List Bool → ℕ → Type 0
@@ -90,15 +90,15 @@ HasRoomBelow Fits (bit ∷ bits) zero = ⊥
 HasRoomBelow Fits (bit ∷ bits) (suc room) = HasRoomBelow Fits bits room
 
 -- The node has at most `room` levels below it, each label is in the table, each claim is a cost below 2 ^ 32 and a set
--- listed by rising numbers, and each chain has a bit.
+-- listed by ascending numbers, and each chain has a bit.
 abbrev pub HasNodeForm : List Label → Tree → ℕ → Type 0
 HasNodeForm table (LeafNode x) room = place_of table x < length table
 HasNodeForm table (InnerNode claim lower upper) zero = ⊥
 HasNodeForm table (InnerNode claim lower upper) (suc room) =
-    (claim.cost < 2 ^ 32) × IsRising (length table) 0 (map (place_of table) claim.labels)
+    (claim.cost < 2 ^ 32) × IsAscending (length table) 0 (map (place_of table) claim.labels)
     × HasNodeForm table lower room × HasNodeForm table upper room
 HasNodeForm table (ChainNode claim bits side end) room =
-    (claim.cost < 2 ^ 32) × IsRising (length table) 0 (map (place_of table) claim.labels) × (place_of table side < length table)
+    (claim.cost < 2 ^ 32) × IsAscending (length table) 0 (map (place_of table) claim.labels) × (place_of table side < length table)
     × (0 < length bits) × HasRoomBelow (HasNodeForm table end) bits room
 
 -- the certificate has a text of its format

@@ -2,7 +2,7 @@ use Rattle.std.specs.Prelude.{◌≡◌, ℕ, zero, suc, ◌+◌, ◌<◌, ◌||
 use Rattle.std.specs.Option.{option_or}
 use Rattle.std.specs.Str.{bytes_eq}
 use Rattle.pmap_text.specs.MapModel.{Label}
-use Rattle.pmap_cert.specs.CertificateModel.{CertificateModel, ChainNode, InnerNode, LeafNode, Pair, Tree, claim_of}
+use Rattle.pmap_cert.specs.CertificateModel.{CertificateModel, ChainNode, InnerNode, LeafNode, Claim, Tree, claim_of}
 
 -- Compacting: a chain replaces each run of inner nodes that each have a leaf of the same label in one half.
 
@@ -43,7 +43,7 @@ side_of lower upper = option_or (leaf_label lower) (leaf_label upper)
 
 -- An inner node compacted, with `inside` for the nodes below it. If its run has two bits or more, it turns into a chain
 -- with its claim, those bits and the compacted end of the run; otherwise its halves are compacted.
-abbrev pub run_compacted : (Tree → Tree) → Pair → Tree → Tree → Option Label → Tree
+abbrev pub run_compacted : (Tree → Tree) → Claim → Tree → Tree → Option Label → Tree
 run_compacted inside claim lower upper None = InnerNode claim (inside lower) (inside upper)
 run_compacted inside claim lower upper (Some side) =
     if nat_le 2 (length (run_bits side (InnerNode claim lower upper)))
@@ -69,13 +69,13 @@ compact c =
     then record { format = 2; version = c.version; table = c.table; root = compacted c.root }
     else c
 
--- The bits are a way down the tree, with a side leaf beside each inner node's chosen half, to a node that meets
+-- The bits are a path down the tree, with a side leaf beside each inner node's chosen half, to a node that meets
 -- `IsEnd`.
-abbrev pub IsWay : (Tree → Type 0) → Label → List Bool → Tree → Type 0
-IsWay IsEnd side [] t = IsEnd t
-IsWay IsEnd side (bit ∷ bits) (InnerNode claim lower upper) =
-    ((if bit then lower else upper) ≡ LeafNode side) × IsWay IsEnd side bits (if bit then upper else lower)
-IsWay IsEnd side (bit ∷ bits) _ = ⊥
+abbrev pub IsPath : (Tree → Type 0) → Label → List Bool → Tree → Type 0
+IsPath IsEnd side [] t = IsEnd t
+IsPath IsEnd side (bit ∷ bits) (InnerNode claim lower upper) =
+    ((if bit then lower else upper) ≡ LeafNode side) × IsPath IsEnd side bits (if bit then upper else lower)
+IsPath IsEnd side (bit ∷ bits) _ = ⊥
 
 -- The second tree is the first with its chains opened: the labels are the same, and so are the claims, except at the
 -- inner nodes below a chain's top.
@@ -83,7 +83,7 @@ abbrev pub OpensTo : Tree → Tree → Type 0
 OpensTo (LeafNode x) t = t ≡ LeafNode x
 OpensTo (InnerNode claim lower upper) (InnerNode claim' lower' upper') =
     (claim ≡ claim') × OpensTo lower lower' × OpensTo upper upper'
-OpensTo (ChainNode claim bits side end) t = (0 < length bits) × (claim ≡ claim_of t) × IsWay (OpensTo end) side bits t
+OpensTo (ChainNode claim bits side end) t = (0 < length bits) × (claim ≡ claim_of t) × IsPath (OpensTo end) side bits t
 OpensTo (InnerNode claim lower upper) _ = ⊥
 
 -- two trees have the same shape and the same labels at their leaves, whatever their inner nodes claim

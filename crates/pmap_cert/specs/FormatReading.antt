@@ -94,11 +94,11 @@ abbrev pub onto_numbers : ℕ → Option ℕ → (ℕ → Option (List ℕ)) →
 onto_numbers low (Some n) others = if nat_le low n then option_map (λ ns. n ∷ ns) (others (n + 1)) else None
 onto_numbers low None others = None
 
--- the numbers that the words are, if these rise, are below the bound, and the first is not below low
-abbrev pub rising_numbers : ℕ → ℕ → List (List ℕ) → Option (List ℕ)
-rising_numbers bound low [] = Some []
-rising_numbers bound low (word ∷ words) =
-    onto_numbers low (number_below bound word) (λ next. rising_numbers bound next words)
+-- the numbers that the words are, if these ascend, are below the bound, and the first is not below low
+abbrev pub ascending_numbers : ℕ → ℕ → List (List ℕ) → Option (List ℕ)
+ascending_numbers bound low [] = Some []
+ascending_numbers bound low (word ∷ words) =
+    onto_numbers low (number_below bound word) (λ next. ascending_numbers bound next words)
 
 -- a line of a leaf with its label's number, of an inner node with its cost and its set's numbers, or of a chain with its
 -- cost, its bits, and the numbers of its side label and its set
@@ -115,7 +115,7 @@ leaf_by count _ = None
 -- the line of an inner node, by its words after the first
 abbrev pub inner_by : ℕ → List (List ℕ) → Option DueLine
 inner_by count (cost ∷ numbers) =
-    option_map (λ claim. InnerLine claim.0 claim.1) (both (number_below (2 ^ 32) cost) (rising_numbers count 0 numbers))
+    option_map (λ claim. InnerLine claim.0 claim.1) (both (number_below (2 ^ 32) cost) (ascending_numbers count 0 numbers))
 inner_by count [] = None
 
 -- the format that a word names
@@ -146,7 +146,7 @@ bits_of most (digit ∷ digits) =
 abbrev pub chain_by : ℕ → ℕ → List (List ℕ) → Option DueLine
 chain_by most count (cost ∷ bits ∷ side ∷ numbers) =
     option_map (λ chain. ChainLine chain.0.0 chain.0.1 chain.1.0 chain.1.1)
-    (both (both (number_below (2 ^ 32) cost) (bits_of most bits)) (both (number_below count side) (rising_numbers count 0 numbers)))
+    (both (both (number_below (2 ^ 32) cost) (bits_of most bits)) (both (number_below count side) (ascending_numbers count 0 numbers)))
 chain_by most count _ = None
 
 -- the line of a node by its words; only format 2 has chains

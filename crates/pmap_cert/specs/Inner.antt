@@ -9,7 +9,7 @@ use Rattle.pmap_cert.specs.Format.{IsNodeOf, format_number, Format}
 use Rattle.pmap_cert.specs.FormatReading.{DueLine, Place, line_due_at, nodes_at, ChainLine, InnerLine, LeafLine, CertFault}
 use Rattle.pmap_cert.specs.Node.{HasChainForm, IsPlainNode, Node, lines_of, tree_of, line_text, AreWhole, Inner, Leaf, first_node, label_of, node_of, nodes_of}
 use Rattle.pmap_cert.specs.CertificateModel.{Tree}
-use Rattle.pmap_cert.specs.CertificateText.{IsRising, bit_digits}
+use Rattle.pmap_cert.specs.CertificateText.{IsAscending, bit_digits}
 use Rattle.pmap_cert.specs.Compacting.{compacted}
 use Rattle.pmap_cert.specs.declared.compacting.Below.{Below}
 use Rattle.pmap_cert.specs.declared.compacting.Below.TheVariants.{Halves, Nothing}
@@ -58,10 +58,11 @@ pub record BeginsWithBits (most : ℕ) (text : List ℕ) (bits : List Bool) (res
   pub few : length bits ≤ most
   pub ended : GoesOnWithout is_bit rest
 
--- the text is rising numbers below the bound and not below low, each after a space, and then a line feed and the rest
+-- the text is ascending numbers below the bound and not below low, each after a space, and then a line feed and the
+-- rest
 pub record BeginsWithSet (bound low : ℕ) (text : List ℕ) (numbers rest : List ℕ) : Type 0 where
   pub whole : text ≡ flat_map (λ n. 32 ∷ decimal n) numbers ++ 10 ∷ rest
-  pub rising : IsRising bound low numbers
+  pub ascending : IsAscending bound low numbers
 
 pub record BeginsWithLeaf (count : ℕ) (text : List ℕ) (number : ℕ) (rest : List ℕ) : Type 0 where
   pub whole : text ≡ 32 ∷ (decimal number ++ 10 ∷ rest)
@@ -82,9 +83,9 @@ BeginsWithChain most count text =
 -- the line fits a certificate of this format with `count` labels for addresses of `most` bits
 abbrev pub FitsLine : ℕ → ℕ → ℕ → DueLine → Type 0
 FitsLine format most count (LeafLine number) = number < count
-FitsLine format most count (InnerLine cost numbers) = (cost < 2 ^ 32) × IsRising count 0 numbers
+FitsLine format most count (InnerLine cost numbers) = (cost < 2 ^ 32) × IsAscending count 0 numbers
 FitsLine format most count (ChainLine cost bits side numbers) =
-    (format ≡ 2) × (cost < 2 ^ 32) × (0 < length bits) × (length bits ≤ most) × (side < count) × IsRising count 0 numbers
+    (format ≡ 2) × (cost < 2 ^ 32) × (0 < length bits) × (length bits ≤ most) × (side < count) × IsAscending count 0 numbers
 
 pub record BeginsWithLine (format most count : ℕ) (text : List ℕ) (line : DueLine) (rest : List ℕ) : Type 0 where
   pub whole : text ≡ line_text line ++ 10 ∷ rest

@@ -6,7 +6,7 @@ pub mod CertificateText
 pub mod FormatReading
 pub mod Node
 pub mod Packed
-pub mod Ways
+pub mod Paths
 pub mod Format
 pub mod Certificate
 pub mod Words

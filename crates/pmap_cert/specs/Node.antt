@@ -5,7 +5,7 @@ use Rattle.std.proofs.lemmas.List.{append_assoc}
 use Rattle.std.specs.Coded.{Coded, code_by, coded_bool, coded_list, coded_ℕ, coded×, coded⊎, le_prop}
 use Rattle.pmap_text.specs.MapModel.{Label}
 use Rattle.pmap_text.specs.MapText.{text_at}
-use Rattle.pmap_cert.specs.CertificateText.{HasRoomBelow, IsRising, IsRising-prop, chain_line, inner_line, leaf_line}
+use Rattle.pmap_cert.specs.CertificateText.{HasRoomBelow, IsAscending, IsAscending-prop, chain_line, inner_line, leaf_line}
 use Rattle.pmap_cert.specs.CertificateModel.{ChainNode, InnerNode, LeafNode, Tree}
 use Rattle.pmap_cert.specs.FormatReading.{ChainLine, DueLine, InnerLine, LeafLine}
 
@@ -54,14 +54,14 @@ IsPlainNode (Inner cost set lower upper) = IsPlainNode lower × IsPlainNode uppe
 IsPlainNode (Chain cost set bits side end) = ⊥
 
 -- The node has at most `room` levels below it, each bit of a chain counts as one level, and each chain has a bit. Its
--- numbers are below count, those of each set rise, and costs are below 2 ^ 32.
+-- numbers are below count, those of each set ascend, and costs are below 2 ^ 32.
 abbrev pub HasChainForm : ℕ → Node → ℕ → Type 0
 HasChainForm count (Leaf number) room = number < count
 HasChainForm count (Inner cost set lower upper) zero = ⊥
 HasChainForm count (Inner cost set lower upper) (suc room) =
-    (cost < 2 ^ 32) × IsRising count 0 set × HasChainForm count lower room × HasChainForm count upper room
+    (cost < 2 ^ 32) × IsAscending count 0 set × HasChainForm count lower room × HasChainForm count upper room
 HasChainForm count (Chain cost set bits side end) room =
-    (cost < 2 ^ 32) × IsRising count 0 set × (side < count) × (0 < length bits)
+    (cost < 2 ^ 32) × IsAscending count 0 set × (side < count) × (0 < length bits)
     × HasRoomBelow (HasChainForm count end) bits room
 
 -- like `HasChainForm`, for a node without chains
@@ -79,14 +79,14 @@ HasChainForm-prop count (Inner cost set lower upper) zero = λ x y. absurd x
 HasChainForm-prop count (Inner cost set lower upper) (suc room) =
     λ x y i. (
       le_prop x.0 y.0 i,
-      IsRising-prop count 0 set x.1 y.1 i,
+      IsAscending-prop count 0 set x.1 y.1 i,
       HasChainForm-prop count lower room x.2 y.2 i,
       HasChainForm-prop count upper room x.3 y.3 i,
     )
 HasChainForm-prop count (Chain cost set bits side end) room =
     λ x y i. (
       le_prop x.0 y.0 i,
-      IsRising-prop count 0 set x.1 y.1 i,
+      IsAscending-prop count 0 set x.1 y.1 i,
       le_prop x.2 y.2 i,
       le_prop x.3 y.3 i,
       room-prop (HasChainForm count end) (HasChainForm-prop count end) bits room x.4 y.4 i,

@@ -7,8 +7,8 @@ pub use Rattle.pmap_cert.specs.declared.nodes.Packed.{Packed}
 pub use Rattle.pmap_cert.specs.declared.nodes.Packed.TheVariants.{Chain, Inner, Leaf}
 pub use Rattle.pmap_cert.specs.declared.nodes.PackedChain.{PackedChain}
 pub use Rattle.pmap_cert.specs.declared.pool.SetId.{SetId}
-use Rattle.pmap_cert.specs.declared.way.Way.{Way}
-use Rattle.pmap_cert.specs.Ways.{way_to}
+use Rattle.pmap_cert.specs.declared.path.Path.{Path}
+use Rattle.pmap_cert.specs.Paths.{path_to}
 
 -- the number with these lower and upper 32 bits
 abbrev pub joined_halves : ℕ → ℕ → ℕ
@@ -47,16 +47,16 @@ pub record Store : Type 0 where
   pub chains : List PackedChain
 
 abbrev pub no_chain : PackedChain
-no_chain = record { cost = 0; side = record { 0 = 0 }; set = record { low = record { 0 = 0 }; high = 0 }; way = record { value = 0; count = 0; few = lit≤ tt } }
+no_chain = record { cost = 0; side = record { 0 = 0 }; set = record { low = record { 0 = 0 }; high = 0 }; path = record { value = 0; count = 0; few = lit≤ tt } }
 
 abbrev pub chain_at : List PackedChain → ℕ → PackedChain
 chain_at chains number = slice_index_or chains number no_chain
 
-abbrev pub bits_in : Way → List Bool
-bits_in way = way_to way.value way.count
+abbrev pub bits_in : Path → List Bool
+bits_in path = path_to path.value path.count
 
 abbrev pub chain_in : Store → PackedChain → DueLine
-chain_in s c = ChainLine c.cost (bits_in c.way) c.side.0 (set_in s.labels c.set)
+chain_in s c = ChainLine c.cost (bits_in c.path) c.side.0 (set_in s.labels c.set)
 
 -- the line that a packed line represents
 abbrev pub line_in : Store → Packed → DueLine

@@ -11,7 +11,7 @@ use pmap_text::Labels;
 use prefix_keys::Version;
 
 /// A certificate: its format, the version of its addresses, its label table, and its root, which represents the address
-/// space. Labels are in the table, and the numbers of each set rise. No node is deeper than an address has bits; each
+/// space. Labels are in the table, and the numbers of each set ascend. No node is deeper than an address has bits; each
 /// bit of a chain counts as one level. A certificate of format 1 has no chain.
 #[derive(Drop)]
 pub struct Certificate {

@@ -14,8 +14,8 @@ use crate::fault::{CertFault, CertFaultKind};
 use crate::lines::Lines;
 use crate::node_line::{Frame, Kept, NodeLine};
 use crate::nodes::Nodes;
+use crate::path::Path;
 use crate::root::Root;
-use crate::way::Way;
 use header::read_header;
 use pmap_text::{KeyHashing, Labels, is_label};
 use std::alloc::Global;
@@ -99,11 +99,11 @@ fn read_node(
             Ok(())
         }
         NodeLine::Chain(cost, side) => {
-            let deep = kept.way.len();
+            let deep = kept.path.len();
             if deep > room {
                 return Err(deepest);
             }
-            nodes.push_chain(cost, kept.way, side, kept.set.as_slice())?;
+            nodes.push_chain(cost, kept.path, side, kept.set.as_slice())?;
             read_node(nodes, kept, frame, room - deep, lines)?;
             Ok(())
         }
@@ -124,7 +124,7 @@ fn read_root(alloc: Global, frame: &Frame, lines: &mut Lines) -> Result<Root, Ce
     let mut nodes = Nodes::new(alloc);
     let mut kept = Kept {
         set: Vec::new(alloc),
-        way: Way { value: 0, count: 0 },
+        path: Path { value: 0, count: 0 },
     };
     read_node(&mut nodes, &mut kept, frame, frame.width, lines)?;
     Ok(Root::new(nodes))
@@ -162,7 +162,7 @@ fn read_all(alloc: Global, text: &[u8], hashing: KeyHashing) -> Result<Certifica
 ///   `ipv6`, and COUNT at most 65536.
 /// - `BadLabelTable`: a label line is missing, isn't a label, or repeats one.
 /// - `BadNode`: the line of a node is neither `l NUMBER` nor `n COST NUMBER ..` nor, in format 2,
-///   `c COST BITS SIDE NUMBER ..` with at most as many bits as an address has, or the numbers of its set don't rise.
+///   `c COST BITS SIDE NUMBER ..` with at most as many bits as an address has, or the numbers of its set don't ascend.
 /// - `TooDeep`: an inner node has a block of one address, or the bits of a chain lead below one.
 /// - `NodesMissing`: the text ends before its last node; the line is the one after the last.
 /// - `NodesLeft`: something follows the last node.

@@ -6,16 +6,16 @@ ghost use Rattle.pmap_text.specs.ListModel.{ListModel};
 ghost use Rattle.pmap_text.specs.MapModel.{Label, MapModel};
 ghost use Rattle.pmap_cert.specs.Acceptance.{IsAccepted};
 ghost use Rattle.pmap_cert.specs.CertificateText.{HasFormatText, HasTextForm, certificate_lines, certificate_text, format_header};
-ghost use Rattle.pmap_cert.specs.CertificateModel.{CertificateModel, InnerNode, LeafNode, Pair, Tree, claim_of, IsOfFormat, IsPlain, chain_pair, opened, opened_certificate, pair_by_bits, IsSamePair};
-ghost use Rattle.pmap_cert.specs.Compacting.{HasNoRun, IsSameShape, IsWay, OpensTo, compact, compacted, line_count, run_bits, run_compacted, run_end, side_of};
+ghost use Rattle.pmap_cert.specs.CertificateModel.{CertificateModel, InnerNode, LeafNode, Claim, Tree, claim_of, IsOfFormat, IsPlain, chain_claim, opened, opened_certificate, claim_by_bits, IsSameClaim};
+ghost use Rattle.pmap_cert.specs.Compacting.{HasNoRun, IsSameShape, IsPath, OpensTo, compact, compacted, line_count, run_bits, run_compacted, run_end, side_of};
 ghost use Rattle.pmap_cert.specs.FormatReading.{format_reading, pieces_of, CertFault};
 ghost use Rattle.pmap_cert.specs.Examples.{last_address_certificate, last_address_lines, last_address_opened};
 
-/// A chain's exact pair, which `chain_pair` gives in one step, equals the exact pair taken bit by bit from the end up,
-/// whether or not the end's set has the side label.
-pub fn chain_pair_is_bit_by_bit()
-    ensures { (bit : Bool) (bits : List Bool) (side : Label) (end : Pair) →
-        IsSamePair (chain_pair (length (bit ∷ bits)) side end) (pair_by_bits (bit ∷ bits) side end) }
+/// A chain's exact claim, which `chain_claim` gives in one step, equals the exact claim taken bit by bit from the end
+/// up, whether or not the end's set has the side label.
+pub fn chain_claim_is_bit_by_bit()
+    ensures { (bit : Bool) (bits : List Bool) (side : Label) (end : Claim) →
+        IsSameClaim (chain_claim (length (bit ∷ bits)) side end) (claim_by_bits (bit ∷ bits) side end) }
 {}
 
 /// An accepted certificate stays accepted when each chain is opened into its inner nodes and leaves. Its root claims
@@ -58,16 +58,16 @@ pub fn compact_gives_back_equal()
     ensures twice { (c : CertificateModel) → IsOfFormat c → compact (compact c) ≡ compact c }
 {}
 
-/// A tree is compacted from its root down: each inner node by its run, and a leaf stays as it is. A run is a way whose
-/// side leaves all have the side label, and no such way from the same node is longer.
+/// A tree is compacted from its root down: each inner node by its run, and a leaf stays as it is. A run is a path whose
+/// side leaves all have the side label, and no such path from the same node is longer.
 pub fn compacting_is_by_longest_runs()
-    ensures inner { (claim : Pair) (lower upper : Tree) → compacted (InnerNode claim lower upper)
+    ensures inner { (claim : Claim) (lower upper : Tree) → compacted (InnerNode claim lower upper)
         ≡ run_compacted compacted claim lower upper (side_of lower upper) }
     ensures leaf { (x : Label) → compacted (LeafNode x) ≡ LeafNode x }
-    ensures way { (side : Label) (node : Tree) →
-        IsWay (λ end. end ≡ run_end side node) side (run_bits side node) node }
+    ensures path { (side : Label) (node : Tree) →
+        IsPath (λ end. end ≡ run_end side node) side (run_bits side node) node }
     ensures longest { (side : Label) (node : Tree) (bits : List Bool) →
-        IsWay (λ end. Unit {0}) side bits node → length bits ≤ length (run_bits side node) }
+        IsPath (λ end. Unit {0}) side bits node → length bits ≤ length (run_bits side node) }
 {}
 
 /// A certificate with a text of its format, compacted, has one. One with a text of format 1 has a text of its format.

@@ -10,8 +10,8 @@ ghost use Rattle.pmap_cert.specs.Inner.{AreEndsFrom, ArePlain, EndsAt, HasHalves
 use crate::certificate::Certificate;
 use crate::format::Format;
 use crate::nodes::Nodes;
+use crate::path::Path;
 use crate::root::Root;
-use crate::way::Way;
 use pmap_text::LabelId;
 use std::alloc::{AllocError, Global};
 
@@ -91,17 +91,17 @@ fn step(nodes: &Nodes, ends: &[usize], number: usize, side: LabelId) -> Option<(
 }
 
 // Follows a run of the side label from line `first`, and returns its bits and the line of the node at its end.
-fn go_down(nodes: &Nodes, ends: &[usize], first: usize, side: LabelId) -> (Way, usize)
+fn go_down(nodes: &Nodes, ends: &[usize], first: usize, side: LabelId) -> (Path, usize)
     requires { HasPlace nodes.now ends.now first }
     ensures { IsRun nodes.now ends.now side.0 first (bits_in result.0) result.1 }
 {
-    let mut way = Way { value: 0, count: 0 };
+    let mut path = Path { value: 0, count: 0 };
     let mut number = first;
     while let Some((bit, chosen)) = step(nodes, ends, number, side) {
-        way = way.with(bit);
+        path = path.with(bit);
         number = chosen;
     }
-    (way, number)
+    (path, number)
 }
 
 // The side label of the run of an inner node whose halves have these lines.
@@ -125,18 +125,18 @@ fn run_of(
     ends: &[usize],
     number: usize,
     halves: (usize, usize),
-) -> Option<(Way, LabelId, usize)>
+) -> Option<(Path, LabelId, usize)>
     requires place { HasPlace nodes.now ends.now number }
     requires halves { HasHalves nodes.now ends.now number halves.0 halves.1 }
     ensures { MatchOption result (IsShort (node_from nodes.now number))
         (λ x. IsLong nodes.now ends.now number x.1.0 (bits_in x.0) x.2) }
 {
     let side = side_of(nodes, halves.0, halves.1)?;
-    let (way, end) = go_down(nodes, ends, number, side);
-    if way.len() < 2 {
+    let (path, end) = go_down(nodes, ends, number, side);
+    if path.len() < 2 {
         return None;
     }
-    Some((way, side, end))
+    Some((path, side, end))
 }
 
 // Compacts the node at line `number` and adds the result to `out`.
@@ -155,8 +155,8 @@ fn compact_node(
             Ok(())
         }
         Below::Halves(lower, upper) => match run_of(nodes, ends, number, (lower, upper)) {
-            Some((way, side, end)) => {
-                out.push_chain(nodes.cost(number), way, side, nodes.set(number))?;
+            Some((path, side, end)) => {
+                out.push_chain(nodes.cost(number), path, side, nodes.set(number))?;
                 compact_node(out, nodes, ends, end)?;
                 Ok(())
             }

@@ -3,8 +3,8 @@ ghost use Rattle.pmap_cert.specs.Packed.{bits_in};
 ghost use Rattle.pmap_cert.specs.Node.{bits_of, cost_of, first_node, from_next_line, label_of, set_of, side_of};
 
 use crate::nodes::Nodes;
+use crate::path::Path;
 use crate::root::Root;
-use crate::way::Way;
 use pmap_text::LabelId;
 use std::marker::Model;
 
@@ -57,7 +57,7 @@ impl<'a> Cursor<'a> {
         self.nodes.cost(self.number)
     }
 
-    /// Returns the set of labels that the node claims, by rising numbers. A leaf claims only its own label.
+    /// Returns the set of labels that the node claims, by ascending numbers. A leaf claims only its own label.
     pub fn set(&self) -> &'a [LabelId]
         requires { 0 < length self.now }
         ensures { map (λ id. id.0) result.now ≡ set_of (first_node self.now) }
@@ -66,11 +66,11 @@ impl<'a> Cursor<'a> {
     }
 
     /// Returns the bits of the node: at least one for a chain, none for another node.
-    pub fn way(&self) -> Way
+    pub fn path(&self) -> Path
         requires { 0 < length self.now }
         ensures { bits_in result ≡ bits_of (first_node self.now) }
     {
-        self.nodes.way(self.number)
+        self.nodes.path(self.number)
     }
 
     /// Returns the side label of the node if it is a chain.

@@ -6,7 +6,7 @@ ghost use Rattle.pmap_text.specs.MapModel.{Label, MapModel};
 ghost use Rattle.pmap_text.specs.Reading.{ReadsMap};
 ghost use Rattle.pmap_cert.specs.Acceptance.{IsAccepted, IsLeast, HasListForm, HasItsLabels, IsMinimalPair, IsSameCertificate};
 ghost use Rattle.pmap_cert.specs.CertificateText.{HasTextForm};
-ghost use Rattle.pmap_cert.specs.CertificateModel.{CertificateModel, Pair, claim_of, has, IsPairOf, IsSamePair, exact_pair};
+ghost use Rattle.pmap_cert.specs.CertificateModel.{CertificateModel, Claim, claim_of, has, IsClaimWith, IsSameClaim, exact_claim};
 ghost use Rattle.pmap_cert.specs.Examples.{four_quarters_certificate, four_quarters_list, four_quarters_map};
 
 /// An accepted certificate is enough, whoever made it: its list labels every address as the map does, and no list that
@@ -74,15 +74,15 @@ pub fn minimal_list_is_in_order()
         IsMinimalPair m l c → HasItsLabels m → HasListForm l }
 {}
 
-/// The exact pair of two pairs depends only on their costs and sets, however these are listed: if a label is common, it
-/// is the sum of the costs with the common labels, otherwise one more with the labels of either.
-pub fn exact_pair_is_of_sets()
-    ensures common { (p r : Pair) (x : Label) → IsTrue (has p.labels x) → IsTrue (has r.labels x) →
-        IsPairOf (exact_pair p r) (p.cost + r.cost) (λ y. has p.labels y && has r.labels y) }
-    ensures apart { (p r : Pair) → ((x : Label) → (has p.labels x && has r.labels x) ≡ false) →
-        IsPairOf (exact_pair p r) (p.cost + r.cost + 1) (λ y. has p.labels y || has r.labels y) }
-    ensures same { (p r p' r' : Pair) → IsSamePair p p' → IsSamePair r r' →
-        IsSamePair (exact_pair p r) (exact_pair p' r') }
+/// The exact claim of two claims depends only on their costs and sets, however these are listed: if a label is common,
+/// it is the sum of the costs with the common labels, otherwise one more with the labels of either.
+pub fn exact_claim_is_of_sets()
+    ensures common { (p r : Claim) (x : Label) → IsTrue (has p.labels x) → IsTrue (has r.labels x) →
+        IsClaimWith (exact_claim p r) (p.cost + r.cost) (λ y. has p.labels y && has r.labels y) }
+    ensures apart { (p r : Claim) → ((x : Label) → (has p.labels x && has r.labels x) ≡ false) →
+        IsClaimWith (exact_claim p r) (p.cost + r.cost + 1) (λ y. has p.labels y || has r.labels y) }
+    ensures same { (p r p' r' : Claim) → IsSameClaim p p' → IsSameClaim r r' →
+        IsSameClaim (exact_claim p r) (exact_claim p' r') }
 {}
 
 /// The worked example's list and certificate are the minimal pair of its map.

@@ -17,7 +17,7 @@
 //! The minimiser and the checker may rely on these laws: an accepted certificate shows that its list is equivalent and
 //! that no equivalent list is shorter; each map has a minimal pair of a list and a certificate that is accepted; all
 //! minimal pairs of a map are alike; and a map read from a text has one whose certificate has a text. The type
-//! `Certificate` ensures that labels are in the table, that the numbers of each set rise, that no node is deeper than
+//! `Certificate` ensures that labels are in the table, that the numbers of each set ascend, that no node is deeper than
 //! an address has bits, and that format 1 has no chain. `write_cert` writes the one text of a certificate of either
 //! format. `read_cert` reads exactly these texts, and reports the first fault of any other. `compact` replaces runs of
 //! inner nodes by chains; if the certificate is accepted, so is the result.
@@ -34,16 +34,16 @@ mod laws;
 mod lines;
 mod node_line;
 mod nodes;
+mod path;
 mod pool;
 mod root;
-mod way;
 mod words;
 mod writing;
 
 pub use certificate::Certificate;
 pub use certificate_reading::{read_cert, read_cert_with_hashing};
 pub use chain_laws::{
-    chain_pair_is_bit_by_bit, compact_gives_back_equal, compact_has_a_text,
+    chain_claim_is_bit_by_bit, compact_gives_back_equal, compact_has_a_text,
     compact_has_no_more_lines, compact_keeps_acceptance, compact_opens_to_the_same,
     compacting_is_by_longest_runs, fault_of_format_is_the_first, last_address_is_one_chain,
     opened_is_accepted, text_of_format_is_read_or_has_a_fault,
@@ -53,13 +53,13 @@ pub use cursor::Cursor;
 pub use fault::{CertFault, CertFaultKind};
 pub use format::Format;
 pub use laws::{
-    acceptance_is_enough, exact_pair_is_of_sets, four_quarters_pair_is_minimal,
+    acceptance_is_enough, exact_claim_is_of_sets, four_quarters_pair_is_minimal,
     map_text_has_a_minimal_pair, map_text_has_its_labels, minimal_certificate_is_one,
     minimal_list_is_in_order, minimal_pair_exists, minimal_pair_is_accepted,
     minimal_pair_is_unique,
 };
 pub use nodes::Nodes;
+pub use path::Path;
 pub use pool::{SetId, SetPool};
 pub use root::Root;
-pub use way::Way;
 pub use writing::{push_head, push_inner_line, push_leaf_line, write_cert};

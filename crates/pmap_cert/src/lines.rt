@@ -60,7 +60,7 @@ impl<'a> Lines<'a> {
     pub fn next_node(&mut self, kept: &mut Kept, frame: &Frame) -> Result<NodeLine, CertFault>
         ensures ok { IfOk result (λ line. line_due_at (format_number frame.now.format) frame.now.width
             (length frame.now.labels.now) self.old
-            ≡ Ok (line_model kept.new.set.items (bits_in kept.new.way) line, self.new)) }
+            ≡ Ok (line_model kept.new.set.items (bits_in kept.new.path) line, self.new)) }
         ensures err { IfErr result (λ fault. fault.kind ≢ NoMemory → line_due_at (format_number frame.now.format)
             frame.now.width (length frame.now.labels.now) self.old ≡ Err fault) }
         ensures memory { IfErr result (λ fault. fault.kind ≡ NoMemory → fault.line ≡ 0) }

@@ -6,7 +6,7 @@ ghost use Rattle.pmap_cert.specs.Packed.{bits_in};
 ghost use Rattle.pmap_cert.specs.Words.{line_model};
 
 use crate::format::Format;
-use crate::way::Way;
+use crate::path::Path;
 use pmap_text::{LabelId, Labels};
 use std::alloc::AllocError;
 
@@ -31,7 +31,7 @@ pub struct Frame<'a> {
 #[derive(Drop)]
 pub struct Kept {
     pub set: Vec<LabelId>,
-    pub way: Way,
+    pub path: Path,
 }
 
 // Returns what follows this byte, if the text begins with it.
@@ -84,29 +84,29 @@ fn number_word(text: &[u8], bound: u64) -> Option<(u32, &[u8])>
 }
 
 // Reads a space and 1 to `most` bits, and returns the bits and the text after them.
-fn bits_word(text: &[u8], most: u32) -> Option<(Way, &[u8])>
+fn bits_word(text: &[u8], most: u32) -> Option<(Path, &[u8])>
     requires { most ≤ 128 }
     ensures { Reads (BeginsWithBits most text.now) (option_map (λ x. (bits_in x.0, x.1.now)) result) }
 {
     let digits = after_byte(text, b' ')?;
-    let mut way = Way { value: 0, count: 0 };
+    let mut path = Path { value: 0, count: 0 };
     for (at, byte) in digits.iter().enumerate() {
         if *byte != b'0' && *byte != b'1' {
             return if at == 0 {
                 None
             } else {
-                Some((way, &digits[at..]))
+                Some((path, &digits[at..]))
             };
         }
         if at >= most as usize {
             return None;
         }
-        way = way.with(*byte == b'1');
+        path = path.with(*byte == b'1');
     }
     None
 }
 
-// Reads a set of rising numbers to the end of the line, stores it, and returns the text after the line.
+// Reads a set of ascending numbers to the end of the line, stores it, and returns the text after the line.
 fn set_to_end<'a>(
     set: &mut Vec<LabelId>,
     text: &'a [u8],
@@ -178,16 +178,16 @@ fn chain<'a>(
     requires few { most ≤ 128 }
     requires count { count ≤ 2 ^ 32 }
     ensures { IfOk result (λ found. Reads (BeginsWithChain most count text.entry.now)
-        (option_map (λ x. ((x.0.0, (bits_in kept.new.way, (x.0.1.0, map (λ id. id.0) kept.new.set.items))), x.1.now))
+        (option_map (λ x. ((x.0.0, (bits_in kept.new.path, (x.0.1.0, map (λ id. id.0) kept.new.set.items))), x.1.now))
         found)) }
 {
     let Some((cost, rest)) = number_word(text, 1 << 32) else {
         return Ok(None);
     };
-    let Some((way, rest)) = bits_word(rest, most) else {
+    let Some((path, rest)) = bits_word(rest, most) else {
         return Ok(None);
     };
-    kept.way = way;
+    kept.path = path;
     match claim(&mut kept.set, rest, count, count)? {
         Some((side, rest)) => Ok(Some(((cost, LabelId(side)), rest))),
         None => Ok(None),
@@ -205,7 +205,7 @@ pub fn node_line<'a>(
     requires { count ≤ 2 ^ 32 }
     ensures { IfOk result (λ found. Reads
         (BeginsWithLine (format_number frame.now.format) frame.now.width count text.entry.now)
-        (option_map (λ x. (line_model kept.new.set.items (bits_in kept.new.way) x.0, x.1.now)) found)) }
+        (option_map (λ x. (line_model kept.new.set.items (bits_in kept.new.path) x.0, x.1.now)) found)) }
 {
     if let Some(rest) = after_byte(text, b'l') {
         match leaf(rest, count) {

@@ -3,8 +3,8 @@ ghost use Rattle.pmap_cert.specs.FormatReading.{ChainLine, InnerLine, LeafLine};
 ghost use Rattle.pmap_cert.specs.Node.{bits_of, cost_of, label_of, node_of, set_of, side_of};
 ghost use Rattle.pmap_cert.specs.Packed.{bits_in};
 
+use crate::path::Path;
 use crate::pool::{SetId, SetPool, halves, joined_halves};
-use crate::way::Way;
 use pmap_text::LabelId;
 use std::alloc::{AllocError, Global};
 use std::marker::Model;
@@ -24,7 +24,7 @@ struct PackedChain {
     cost: u32,
     side: LabelId,
     set: SetId,
-    way: Way,
+    path: Path,
 }
 
 /// The nodes of a certificate in the order of their lines. Each takes 16 bytes, a chain 48 more. A pool has the labels
@@ -109,12 +109,12 @@ impl Nodes {
     pub fn push_chain(
         &mut self,
         cost: u32,
-        way: Way,
+        path: Path,
         side: LabelId,
         set: &[LabelId],
     ) -> Result<(), AllocError>
         ensures ok { OnOk result (self.new
-            ≡ self.old ++ ChainLine cost (bits_in way) side.0 (map (λ id. id.0) set.now) ∷ []) }
+            ≡ self.old ++ ChainLine cost (bits_in path) side.0 (map (λ id. id.0) set.now) ∷ []) }
         ensures err { OnErr result (self.new ≡ self.old) }
     {
         let set = self.sets.hold(set)?;
@@ -123,7 +123,7 @@ impl Nodes {
             cost,
             side,
             set,
-            way,
+            path,
         })?;
         self.lines.push(Packed::Chain(low, high))?;
         Ok(())
@@ -169,13 +169,13 @@ impl Nodes {
     }
 
     /// Returns the bits of the node at line `number`, none if it isn't a chain.
-    pub fn way(&self, number: usize) -> Way
+    pub fn path(&self, number: usize) -> Path
         requires { number < length self.now }
         ensures { bits_in result ≡ bits_of (node_of (slice_index_or self.now number (LeafLine 0))) }
     {
         match self.lines[number] {
-            Packed::Leaf(_) | Packed::Inner(_, _) => Way { value: 0, count: 0 },
-            Packed::Chain(low, high) => self.chains[joined_halves(low, high)].way,
+            Packed::Leaf(_) | Packed::Inner(_, _) => Path { value: 0, count: 0 },
+            Packed::Chain(low, high) => self.chains[joined_halves(low, high)].path,
         }
     }
 

@@ -12,7 +12,7 @@ ghost use Rattle.pmap_cert.specs.Packed.{bits_in};
 use crate::certificate::Certificate;
 use crate::format::Format;
 use crate::nodes::Nodes;
-use crate::way::Way;
+use crate::path::Path;
 use itoa::Buffer;
 use pmap_text::{LabelId, Labels};
 use prefix_keys::Version;
@@ -65,11 +65,11 @@ pub fn push_inner_line(out: &mut Vec<u8>, cost: u32, set: &[LabelId]) -> Result<
 }
 
 // Appends a space and the bits as digits 0 and 1.
-fn push_bits(out: &mut Vec<u8>, way: Way) -> Result<(), AllocError>
-    ensures { OnOk result (out.new.items ≡ out.old.items ++ 32 ∷ bit_digits (bits_in way)) }
+fn push_bits(out: &mut Vec<u8>, path: Path) -> Result<(), AllocError>
+    ensures { OnOk result (out.new.items ≡ out.old.items ++ 32 ∷ bit_digits (bits_in path)) }
 {
     out.push(b' ')?;
-    let mut rest = way;
+    let mut rest = path;
     while let Some((bit, after)) = rest.split_first() {
         out.push(if bit { b'1' } else { b'0' })?;
         rest = after;
@@ -80,16 +80,16 @@ fn push_bits(out: &mut Vec<u8>, way: Way) -> Result<(), AllocError>
 fn push_chain(
     out: &mut Vec<u8>,
     cost: u32,
-    way: Way,
+    path: Path,
     side: LabelId,
     set: &[LabelId],
 ) -> Result<(), AllocError>
     ensures { OnOk result (out.new.items
-        ≡ out.old.items ++ (chain_line cost (bits_in way) side.0 (map (λ id. id.0) set.now) ++ 10 ∷ [])) }
+        ≡ out.old.items ++ (chain_line cost (bits_in path) side.0 (map (λ id. id.0) set.now) ++ 10 ∷ [])) }
 {
     out.push(b'c')?;
     push_number(out, cost)?;
-    push_bits(out, way)?;
+    push_bits(out, path)?;
     push_number(out, side.0)?;
     push_set(out, set)?;
     out.push(b'\n')?;
@@ -107,7 +107,7 @@ fn push_line(out: &mut Vec<u8>, nodes: &Nodes, number: usize) -> Result<(), Allo
     let cost = nodes.cost(number);
     let set = nodes.set(number);
     match nodes.side(number) {
-        Some(side) => push_chain(out, cost, nodes.way(number), side, set),
+        Some(side) => push_chain(out, cost, nodes.path(number), side, set),
         None => push_inner_line(out, cost, set),
     }
 }

@@ -12,17 +12,17 @@ use Rattle.pmap_text.specs.Stretches.{AreStretches, HasEveryAddress, HasStretch,
 use Rattle.pmap_text.specs.declared.label.LabelId.{LabelId}
 use Rattle.pmap_text.specs.declared.statement.Statement.{Statement}
 use Rattle.pmap_text.proofs.Ranges.{ends_before, held_index, last_end, next_first, ordered_at}
-use Rattle.pmap_cert.specs.CertificateText.{IsRising}
+use Rattle.pmap_cert.specs.CertificateText.{IsAscending}
 use Rattle.pmap_cert.specs.Node.{Inner, Leaf, Node, label_of, set_of}
 use Rattle.pmap_cert.specs.Inner.{bits_down, end_down, side_below}
 use Rattle.label_trie.specs.Inner.{IsBlock, parted_sum, encode, leaf_node}
 use Rattle.label_trie.specs.Tree.{Fork, Tip, Tree}
 use Rattle.label_trie.proofs.Grown.{IsSplit, block_some, is_split, leaf_added}
 use Rattle.pmap_minimise.specs.Areas.{AreFew, AreHalvesOf, IsArea, IsChoice, IsMade, IsRun, IsStep, IsStop, IsTreeOf, number_at, own_label, Area}
-use Rattle.pmap_cert.specs.Ways.{digit, way_to}
-use Rattle.pmap_minimise.specs.Built.{cost_above, node_over, set_above, way_node}
+use Rattle.pmap_cert.specs.Paths.{digit, path_to}
+use Rattle.pmap_minimise.specs.Built.{cost_above, node_over, set_above, path_node}
 use Rattle.pmap_minimise.specs.Numbers.{IsExact}
-use Rattle.pmap_minimise.proofs.Ways.{above-rising, down-high, down-low, down-none, way-high, way-low, way-set}
+use Rattle.pmap_minimise.proofs.Paths.{above-ascending, down-high, down-low, down-none, path-high, path-low, path-set}
 
 -- The stretches in their order.
 module _ (s : StretchesModel) (every : HasEveryAddress s) where
@@ -218,7 +218,7 @@ leaf-made s a n is own fits =
           (leaf-tree s.version ss default a.len (number_at s a) (first_at s a.from) (last_at s a.from) (label_at s a.from) (are.each a.from is.start.index) is.within
           (omega arith) (subst (λ (k : ℕ). last_of (width_of s.version) a.len (number_at s a) ≤ last_at s k) (sym single) (omega arith)));
       node_is = refl;
-      rising = (omega arith, fits, tt);
+      ascending = (omega arith, fits, tt);
       own = sym own;
       single = λ same. (n, refl);
       halves = λ less. absurd (omega arith);
@@ -226,9 +226,9 @@ leaf-made s a n is own fits =
 
 -- the node of a block is built from those of its halves
 pub halves-made : (s : StretchesModel) (a low high : Area) (low_tree high_tree : Tree) (lower upper : Node) (cost : ℕ) (set : List ℕ) → IsArea s a → AreHalvesOf s a low high
-    → IsMade s low low_tree lower → IsMade s high high_tree upper → IsExact lower upper cost set → IsRising (2 ^ 32) 0 set
+    → IsMade s low low_tree lower → IsMade s high high_tree upper → IsExact lower upper cost set → IsAscending (2 ^ 32) 0 set
     → IsMade s a (Fork low_tree high_tree) (Inner cost set lower upper)
-halves-made s a low high low_tree high_tree lower upper cost set is are low_made high_made exact rising = record {
+halves-made s a low high low_tree high_tree lower upper cost set is are low_made high_made exact ascending = record {
   tree_of = λ ss default stretches.
       let next : a.len + 1 ≡ suc a.len = omega arith in
       let low_is : IsTreeOf s.version ss default (suc a.len) (2 * number_at s a) low_tree =
@@ -239,7 +239,7 @@ halves-made s a low high low_tree high_tree lower upper cost set is are low_made
       (subst (λ (n : ℕ). IsTreeOf s.version ss default high.len n high_tree) are.high_number (high_made.tree_of ss default stretches)) in
       fork-tree s.version ss default a.len a.first a.last low_tree high_tree (area-split s a is are.divided ss default stretches) low_is high_is;
   node_is = (lower, upper, low_made.node_is, high_made.node_is, (refl, refl, exact));
-  rising = rising;
+  ascending = ascending;
   own = sym (own-none s a are.divided);
   single = λ same. let divided = are.divided in absurd (omega arith);
   halves = λ less. record {
@@ -274,12 +274,12 @@ made-stop s side a tree node made (inr none) =
 
 -- the tree over the half that a run chooses, the lower one if the digit is 0, and the tree of the side block
 abbrev tree_over : ℕ → Tree → Tree → Tree
-tree_over zero way side = Fork way side
-tree_over (suc digit) way side = Fork side way
+tree_over zero path side = Fork path side
+tree_over (suc digit) path side = Fork side path
 
-abbrev pub way_tree : ℕ → ℕ → ℕ → Tree → Tree
-way_tree side value zero end = end
-way_tree side value (suc bits) end = tree_over (digit value bits) (way_tree side value bits end) (Tip (Some (id_of side)))
+abbrev pub path_tree : ℕ → ℕ → ℕ → Tree → Tree
+path_tree side value zero end = end
+path_tree side value (suc bits) end = tree_over (digit value bits) (path_tree side value bits end) (Tip (Some (id_of side)))
 
 -- the end lies in the block, `count` bits deeper
 pub record IsBelow (s : StretchesModel) (count : ℕ) (a end : Area) : Type 0 where
@@ -384,14 +384,14 @@ module _ (s : StretchesModel) (side : ℕ) (fits : side < 2 ^ 32) (end : Area) (
   value = number_at s end
 
   abbrev node_of : ℕ → Node
-  node_of count = way_node side value count node
+  node_of count = path_node side value count node
 
   abbrev tree_of : ℕ → Tree
-  tree_of count = way_tree side value count tree
+  tree_of count = path_tree side value count tree
 
-  way-rising : (count : ℕ) → IsRising (2 ^ 32) 0 (set_of (node_of count))
-  way-rising zero = made.rising
-  way-rising (suc count) = subst (IsRising (2 ^ 32) 0) (sym (way-set side fits node made.rising value (suc count))) (above-rising side fits node made.rising count)
+  path-ascending : (count : ℕ) → IsAscending (2 ^ 32) 0 (set_of (node_of count))
+  path-ascending zero = made.ascending
+  path-ascending (suc count) = subst (IsAscending (2 ^ 32) 0) (sym (path-set side fits node made.ascending value (suc count))) (above-ascending side fits node made.ascending count)
 
   over-made : (a : Area) (count d : ℕ) → IsMade s a (tree_over d (tree_of count) (Tip (Some (id_of side))))
       (node_over d (cost_above side node) (set_above side (set_of node) count) (node_of count) (Leaf side)) → digit value count ≡ d
@@ -417,7 +417,7 @@ module _ (s : StretchesModel) (side : ℕ) (fits : side < 2 ^ 32) (end : Area) (
           (halves-made s a run.1.low run.1.high (Tip (Some (id_of side))) (tree_of count) (Leaf side) (node_of count) (cost_above side node) (set_above side (set_of node) count) is halves
           (leaf-made s run.1.low side halves.low_area high.1 fits)
           (subst (λ (b : Area). IsMade s b (tree_of count) (node_of count)) high.0 rest)
-          (way-high side fits node made.rising value count) (above-rising side fits node made.rising count))
+          (path-high side fits node made.ascending value count) (above-ascending side fits node made.ascending count))
           (omega arith)
       by below rest (inr low) =
           let number = below.number ∙ ap (number_at s) low.0 ∙ halves.low_number in
@@ -425,12 +425,12 @@ module _ (s : StretchesModel) (side : ℕ) (fits : side < 2 ^ 32) (end : Area) (
           (halves-made s a run.1.low run.1.high (tree_of count) (Tip (Some (id_of side))) (node_of count) (Leaf side) (cost_above side node) (set_above side (set_of node) count) is halves
           (subst (λ (b : Area). IsMade s b (tree_of count) (node_of count)) low.0 rest)
           (leaf-made s run.1.high side halves.high_area low.2 fits)
-          (way-low side fits node made.rising value count) (above-rising side fits node made.rising count))
+          (path-low side fits node made.ascending value count) (above-ascending side fits node made.ascending count))
           (omega arith)
 
   -- the run from the node has `count` bits, and leads to the node of the end
   pub record GoesDown (count : ℕ) : Type 0 where
-    pub bits : bits_down side (node_of count) ≡ way_to value count
+    pub bits : bits_down side (node_of count) ≡ path_to value count
     pub last : end_down side (node_of count) ≡ node
 
   over-down : (count d : ℕ) → digit value count ≡ d → d < 2 → (d ≡ 0 → label_of (node_of count) ≡ Some side → ⊥) → GoesDown count → GoesDown (suc count)

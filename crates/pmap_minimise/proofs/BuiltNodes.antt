@@ -14,7 +14,7 @@ use Rattle.pmap_text.specs.declared.statement.Statement.{Statement}
 use Rattle.pmap_text.specs.declared.label.LabelId.{LabelId}
 use Rattle.pmap_text.specs.declared.map_text.MapText.{MapText}
 use Rattle.pmap_cert.specs.Node.{Chain, Inner, Leaf, Node, cost_of, label_of, set_of}
-use Rattle.pmap_cert.specs.CertificateText.{IsRising}
+use Rattle.pmap_cert.specs.CertificateText.{IsAscending}
 use Rattle.pmap_cert.specs.declared.pool.SetId.{SetId}
 use Rattle.pmap_cert.specs.Packed.{IsGrown, IsHeld, set_in}
 use Rattle.pmap_cert.specs.Inner.{IsCompactNode, bits_down, end_down, side_below}
@@ -25,17 +25,17 @@ use Rattle.label_trie.specs.Tree.{Fork, Tip, Tree, leaves_of}
 use Rattle.label_trie.proofs.Built.{map_layers, parted_most}
 use Rattle.label_trie.proofs.NodeLeaves.{fits_HasRoom, leaves_settled, leaves_undivided, length_leaves}
 use Rattle.pmap_minimise.specs.Areas.{AreHalvesOf, IsArea, IsChoice, IsMade, IsRun, IsRunTo, IsStop, IsTreeOf, number_at, own_label, Area}
-use Rattle.pmap_minimise.specs.Built.{AddsChain, AddsInner, AddsLeaf, HasRisingSet, exact_cost, HasGrown, IsAt, IsBuilt, IsBuiltFor, cost_above, way_node, Built, Claim}
-use Rattle.pmap_cert.specs.Ways.{way_to}
-use Rattle.pmap_cert.proofs.Ways.{way-length}
+use Rattle.pmap_minimise.specs.Built.{AddsChain, AddsInner, AddsLeaf, HasAscendingSet, exact_cost, HasGrown, IsAt, IsBuilt, IsBuiltFor, cost_above, path_node, Built, Claim}
+use Rattle.pmap_cert.specs.Paths.{path_to}
+use Rattle.pmap_cert.proofs.Paths.{path-length}
 use Rattle.pmap_minimise.specs.Numbers.{IsExact, IsExactBy, IsExactSet, IsExactSetBy, common_numbers, has_number}
 use Rattle.pmap_minimise.specs.declared.built.Line.TheVariants.{Chain as ChainLine, Inner as InnerLine, Leaf as LeafLine}
 use Rattle.pmap_text.proofs.Ranges.{ordered_at}
-use Rattle.pmap_minimise.proofs.Areas.{AreSameHalves, area-split, halves-made, leaf-made, made-side, made-stop, run-below, run-down, run-made, same-halves, way_tree}
+use Rattle.pmap_minimise.proofs.Areas.{AreSameHalves, area-split, halves-made, leaf-made, made-side, made-stop, run-below, run-down, run-made, same-halves, path_tree}
 use Rattle.pmap_minimise.proofs.TreeNodes.{node-cost, tree-certified}
-use Rattle.pmap_minimise.proofs.Texts.{exact-rising}
+use Rattle.pmap_minimise.proofs.Texts.{exact-ascending}
 use Rattle.prefix_keys.proofs.Groups.{width-le}
-use Rattle.pmap_minimise.proofs.Ways.{down-high, down-low, way-cost, way-set}
+use Rattle.pmap_minimise.proofs.Paths.{down-high, down-low, path-cost, path-set}
 
 -- an item of a list keeps its index if more items are appended
 listed-on : {X : Type 0} (xs more : List X) (n : ℕ) (x : X) → slice_get xs n ≡ Some x → slice_get (xs ++ more) n ≡ Some x
@@ -54,8 +54,8 @@ listed-last {X} front whole x is =
     slice_get-get_or whole (length front) x long
     ∙ ap (λ (y : X). Some y) (ap (λ (l : List X). get_or l (length front) x) is ∙ get_or-append_seam front x [] x)
 
-pub rising-held : (pool : List LabelId) (id : SetId) (set : List ℕ) → IsHeld pool id set → IsRising (2 ^ 32) 0 set → HasRisingSet pool id
-rising-held pool id set is rising = record { has = is.whole; rising = subst (IsRising (2 ^ 32) 0) (sym is.set) rising }
+pub ascending-held : (pool : List LabelId) (id : SetId) (set : List ℕ) → IsHeld pool id set → IsAscending (2 ^ 32) 0 set → HasAscendingSet pool id
+ascending-held pool id set is ascending = record { has = is.whole; ascending = subst (IsAscending (2 ^ 32) 0) (sym is.set) ascending }
 
 grown-twice : {X : Type 0} (old middle new : List X) → IsGrown old middle → IsGrown middle new → IsGrown old new
 grown-twice {X} old middle new first second =
@@ -260,7 +260,7 @@ halves-built s a low high old middle after new above below claim is are short up
     let added = inner-added after new below above claim lower.compact lower.node upper.compact upper.node (length old.lines.items) (length middle.lines.items)
     high_at lower.at lower.cost_is upper.cost_is lower.set_is high_set adds in
     let made = halves-made s a low high lower.tree upper.tree lower.node upper.node claim.cost adds.held.set is are lower.made upper.made added.exact
-    (exact-rising (2 ^ 32) (cost_of lower.node) (cost_of upper.node) (set_of lower.node) (set_of upper.node) claim.cost adds.held.set lower.made.rising upper.made.rising added.exact) in
+    (exact-ascending (2 ^ 32) (cost_of lower.node) (cost_of upper.node) (set_of lower.node) (set_of upper.node) claim.cost adds.held.set lower.made.ascending upper.made.ascending added.exact) in
     let labels : option_or (label_of lower.node) (label_of upper.node) ≡ option_or (own_label s low) (own_label s high) =
     (λ i. option_or (lower.made.own i) (upper.made.own i)) in
     record {
@@ -298,7 +298,7 @@ chain-built s a low high end old middle new below claim side number bits is are 
     } in
     let value : ℕ = number_at s end in
     let count : ℕ = run.count in
-    let node : Node = way_node side.0 value count built.node in
+    let node : Node = path_node side.0 value count built.node in
     let made = run-made s side.0 adds.fits end built.tree built.node built.made count a is run.run in
     let down = run-down s side.0 adds.fits end built.tree built.node built.made run.stop count a is run.run in
     let parts = made.halves are.divided in
@@ -310,15 +310,15 @@ chain-built s a low high end old middle new below claim side number bits is are 
     let parts_cost : cost_of node ≡ parts.cost = ap cost_of parts.node_is in
     let parts_set : set_of node ≡ parts.set = ap set_of parts.node_is in
     let sides : option_or (label_of parts.lower) (label_of parts.upper) ≡ Some side.0 =
-    sym (ap side_below parts.node_is) ∙ made-side s a low high (way_tree side.0 value count built.tree) node made are ∙ label in
+    sym (ap side_below parts.node_is) ∙ made-side s a low high (path_tree side.0 value count built.tree) node made are ∙ label in
     record {
-      tree = way_tree side.0 value count built.tree;
+      tree = path_tree side.0 value count built.tree;
       node = node;
-      compact = Chain parts.cost parts.set (way_to value count) side.0 built.compact;
+      compact = Chain parts.cost parts.set (path_to value count) side.0 built.compact;
       made = made;
-      compact_is = subst (λ (n : Node). IsCompactNode n (Chain parts.cost parts.set (way_to value count) side.0 built.compact)) (sym parts.node_is)
-          (compact-chain parts.cost parts.set parts.lower parts.upper side.0 (way_to value count) built.node built.compact sides
-          (sym down.bits ∙ ap (bits_down side.0) parts.node_is) (sym down.last ∙ ap (end_down side.0) parts.node_is) (omega (arith, way-length value count)) built.compact_is);
+      compact_is = subst (λ (n : Node). IsCompactNode n (Chain parts.cost parts.set (path_to value count) side.0 built.compact)) (sym parts.node_is)
+          (compact-chain parts.cost parts.set parts.lower parts.upper side.0 (path_to value count) built.node built.compact sides
+          (sym down.bits ∙ ap (bits_down side.0) parts.node_is) (sym down.last ∙ ap (end_down side.0) parts.node_is) (omega (arith, path-length value count)) built.compact_is);
       at = record {
         number = length middle.chains.items;
         chain = record { cost = claim.cost; side = side; end = number; bits = bits };
@@ -332,24 +332,24 @@ chain-built s a low high end old middle new below claim side number bits is are 
         price_is = adds.cost_is ∙ (λ i. cond (has_number (below_set i) side.0) (built.cost_is i) (built.cost_is i + 1));
         set_is = sym parts_set ∙ set;
         side_is = refl;
-        bits_are = λ i. way_to (sym number_is i) (sym bits_is i);
+        bits_are = λ i. path_to (sym number_is i) (sym bits_is i);
         long = long;
         few = let inside = run.area.within in let len = run.len in omega (arith, width-le s.version);
-        node_is = λ i. way_node side.0 (sym number_is i) (sym bits_is i) built.node;
+        node_is = λ i. path_node side.0 (sym number_is i) (sym bits_is i) built.node;
       };
       grown = grown-again old middle new built.grown grown;
       cost_is = cost;
       set_is = subst (IsHeld new.sets claim.set) (sym set) adds.held.stands;
     }
   where
-    first-cost : (count : ℕ) → 1 ≤ count → cost_of (way_node side.0 (number_at s end) count built.node) ≡ cost_above side.0 built.node
+    first-cost : (count : ℕ) → 1 ≤ count → cost_of (path_node side.0 (number_at s end) count built.node) ≡ cost_above side.0 built.node
     first-cost zero some = absurd (omega arith)
-    first-cost (suc count) some = way-cost side.0 adds.fits built.node built.made.rising (number_at s end) (suc count)
+    first-cost (suc count) some = path-cost side.0 adds.fits built.node built.made.ascending (number_at s end) (suc count)
 
-    first-set : (count : ℕ) → 2 ≤ count → set_of (way_node side.0 (number_at s end) count built.node) ≡ side.0 ∷ []
+    first-set : (count : ℕ) → 2 ≤ count → set_of (path_node side.0 (number_at s end) count built.node) ≡ side.0 ∷ []
     first-set zero some = absurd (omega arith)
     first-set (suc zero) some = absurd (omega arith)
-    first-set (suc (suc count)) some = way-set side.0 adds.fits built.node built.made.rising (number_at s end) (suc (suc count))
+    first-set (suc (suc count)) some = path-set side.0 adds.fits built.node built.made.ascending (number_at s end) (suc (suc count))
 
 -- what is built for the whole address space is the map's
 pub whole-built : (m : MapText) (s : StretchesModel) (a : Area) (old new : Built) (claim : Claim) → s.version ≡ m.version → AreStretches m.statements (Some m.default) s

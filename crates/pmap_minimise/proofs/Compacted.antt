@@ -7,8 +7,8 @@ use Rattle.pmap_text.specs.declared.label.LabelId.{LabelId}
 use Rattle.pmap_cert.specs.Node.{Chain, Inner, Leaf, Node}
 use Rattle.pmap_cert.specs.declared.pool.SetId.{SetId}
 use Rattle.pmap_cert.specs.Packed.{IsHeld}
-use Rattle.pmap_cert.specs.Ways.{way_to}
-use Rattle.pmap_minimise.specs.Built.{IsAt, cost_above, way_node, Chain as ChainParts, Built}
+use Rattle.pmap_cert.specs.Paths.{path_to}
+use Rattle.pmap_minimise.specs.Built.{IsAt, cost_above, path_node, Chain as ChainParts, Built}
 use Rattle.pmap_minimise.specs.declared.built.Line.{Line}
 use Rattle.pmap_minimise.specs.declared.built.Line.TheVariants.{Chain as ChainLine, Inner as InnerLine, Leaf as LeafLine}
 
@@ -67,8 +67,8 @@ pub record IsChainNode (b : Built) (compact node : Node) (number from last : ℕ
   pub chain : ChainParts
   pub end : Node
   pub opened : Node
-  pub compact_is : compact ≡ Chain chain.cost (chain.side.0 ∷ []) (way_to chain.end chain.bits) chain.side.0 end
-  pub node_is : node ≡ way_node chain.side.0 chain.end chain.bits opened
+  pub compact_is : compact ≡ Chain chain.cost (chain.side.0 ∷ []) (path_to chain.end chain.bits) chain.side.0 end
+  pub node_is : node ≡ path_node chain.side.0 chain.end chain.bits opened
   pub below : IsAt b end opened from last
   pub listed : slice_get b.chains.items number ≡ Some chain
   pub price_is : chain.cost ≡ cost_above chain.side.0 opened
@@ -138,7 +138,7 @@ module _ (b : Built) (from to last : ℕ) (to_is : to ≡ last + 1) where
         end = end;
         opened = is.end;
         compact_is = λ i. Chain (is.cost_is i) ((is.set_is ∙ ap (λ (n : ℕ). n ∷ []) is.side_is) i) (is.bits_are i) (is.side_is i) end;
-        node_is = is.node_is ∙ ap (λ (n : ℕ). way_node n is.chain.end is.chain.bits is.end) is.side_is;
+        node_is = is.node_is ∙ ap (λ (n : ℕ). path_node n is.chain.end is.chain.bits is.end) is.side_is;
         below = subst (IsAt b end is.end from) (same-last is.last to last is.to_is to_is) is.below;
         listed = subst (λ (n : ℕ). slice_get b.chains.items n ≡ Some is.chain) number_is is.listed;
         price_is = is.price_is;

@@ -15,7 +15,7 @@ use Rattle.pmap_text.specs.PrefixList.{prefix_of}
 use Rattle.pmap_text.specs.declared.entry.Entry.{Entry}
 use Rattle.pmap_text.specs.declared.label.LabelId.{LabelId}
 use Rattle.pmap_text.proofs.MovedBlocks.{first_of-whole}
-use Rattle.pmap_cert.specs.CertificateText.{IsRising}
+use Rattle.pmap_cert.specs.CertificateText.{IsAscending}
 use Rattle.pmap_cert.specs.CertificateModel.{Tree}
 use Rattle.pmap_cert.specs.Acceptance.{entries_of, handed_on, has_inherited, least_label, own_entry}
 use Rattle.pmap_cert.specs.Node.{Chain, HasNumberForm, Inner, Leaf, Node, set_of, tree_of}
@@ -45,7 +45,7 @@ record IsHanded (table : List Label) (s : List Label) (block : Block) (inherited
   known : id.0 < length table
 
 module _ (table : List Label) (ok : IsLabelTable table) (ids : List LabelId) (block : Block) (inherited : Option LabelId) (old new : List Entry) (id : LabelId)
-    (rising : IsRising (length table) 0 (numbers_of ids)) (known : ForSome inherited (λ i. i.0 < length table)) where
+    (ascending : IsAscending (length table) 0 (numbers_of ids)) (known : ForSome inherited (λ i. i.0 < length table)) where
   abbrev s : List Label
   s = map (text_at table) (numbers_of ids)
 
@@ -54,7 +54,7 @@ module _ (table : List Label) (ok : IsLabelTable table) (ids : List LabelId) (bl
 
   by_test : (b : Bool) → keeps ids inherited ≡ b → IsOwnBy b ids block inherited old new id → (ids' : List LabelId) → ids ≡ ids' → IsHanded table s block inherited old new id
   by_test true e own ids' same =
-      let test : has_inherited s (text_of table inherited) ≡ true = keeps-texts table ok ids inherited rising known ∙ e in
+      let test : has_inherited s (text_of table inherited) ≡ true = keeps-texts table ok ids inherited ascending known ∙ e in
       record {
         entries = ap (λ (es : List Entry). map (prefix_of table) es) own.0 ∙ sym (append-nil (map (prefix_of table) old))
             ∙ ap (λ (ps : List Prefix). map (prefix_of table) old ++ ps) (sym (cond-true (has_inherited s (text_of table inherited)) [] (own_prefix ∷ []) test));
@@ -63,9 +63,9 @@ module _ (table : List Label) (ok : IsLabelTable table) (ids : List LabelId) (bl
       }
   by_test false e own [] same = absurd (none-some id (subst (λ (l : List LabelId). slice_get l 0 ≡ Some id) same own.1))
   by_test false e own (first ∷ rest) same =
-      let test : has_inherited s (text_of table inherited) ≡ false = keeps-texts table ok ids inherited rising known ∙ e in
+      let test : has_inherited s (text_of table inherited) ≡ false = keeps-texts table ok ids inherited ascending known ∙ e in
       let is : first ≡ id = same_Some first id (subst (λ (l : List LabelId). slice_get l 0 ≡ Some id) same own.1) in
-      let up : IsRising (length table) 0 (first.0 ∷ numbers_of rest) = subst (λ (l : List LabelId). IsRising (length table) 0 (numbers_of l)) same rising in
+      let up : IsAscending (length table) 0 (first.0 ∷ numbers_of rest) = subst (λ (l : List LabelId). IsAscending (length table) 0 (numbers_of l)) same ascending in
       let least : least_label table s ≡ text_at table id.0 =
       ap (λ (l : List LabelId). least_label table (map (text_at table) (numbers_of l))) same ∙ least-texts table ok 0 first.0 (numbers_of rest) up
       ∙ ap (λ (i : LabelId). text_at table i.0) is in
@@ -89,9 +89,9 @@ one-known count id known = λ x e. subst (λ (i : LabelId). i.0 < count) (same_S
 
 -- the own entry fits the block, and the label that is passed on is known
 own-fit : (count : ℕ) (ids : List LabelId) (block : Block) (inherited : Option LabelId) (old new : List Entry) (id : LabelId)
-    → IsRising count 0 (numbers_of ids) → ForSome inherited (λ i. i.0 < count) → IsOwn ids block inherited old new id
+    → IsAscending count 0 (numbers_of ids) → ForSome inherited (λ i. i.0 < count) → IsOwn ids block inherited old new id
     → All (IsEntryOf block count) old → All (IsEntryOf block count) new × (id.0 < count)
-own-fit count ids block inherited old new id rising known own all = by (keeps ids inherited) own ids refl
+own-fit count ids block inherited old new id ascending known own all = by (keeps ids inherited) own ids refl
   where
     by : (b : Bool) → IsOwnBy b ids block inherited old new id → (ids' : List LabelId) → ids ≡ ids' → All (IsEntryOf block count) new × (id.0 < count)
     by true own ids' same = (
@@ -101,7 +101,7 @@ own-fit count ids block inherited old new id rising known own all = by (keeps id
     by false own [] same = absurd (none-some id (subst (λ (l : List LabelId). slice_get l 0 ≡ Some id) same own.1))
     by false own (first ∷ rest) same =
         let is : first ≡ id = same_Some first id (subst (λ (l : List LabelId). slice_get l 0 ≡ Some id) same own.1) in
-        let up : IsRising count 0 (first.0 ∷ numbers_of rest) = subst (λ (l : List LabelId). IsRising count 0 (numbers_of l)) same rising in
+        let up : IsAscending count 0 (first.0 ∷ numbers_of rest) = subst (λ (l : List LabelId). IsAscending count 0 (numbers_of l)) same ascending in
         let small : id.0 < count = subst (λ (i : LabelId). i.0 < count) is up.1 in (
           subst (λ (es : List Entry). All (IsEntryOf block count) es) (sym own.0)
               (All-push (IsEntryOf block count) old (record { block = block; label = id }) all (record { version = refl; known = small })),
@@ -112,9 +112,9 @@ pub leaf-adds : (x : LabelId) (block : Block) (inherited : Option LabelId) (old 
     → IsOwn ids block inherited old new id → AddsEntries (Leaf x.0) block inherited old new
 leaf-adds x block inherited old new ids id is own = record {
   texts = λ table ok known form.
-      (handed table ok ids block inherited old new id (subst (λ (l : List ℕ). IsRising (length table) 0 l) (sym is) (omega arith, form.0, tt)) known (x.0 ∷ []) is own).entries;
+      (handed table ok ids block inherited old new id (subst (λ (l : List ℕ). IsAscending (length table) 0 l) (sym is) (omega arith, form.0, tt)) known (x.0 ∷ []) is own).entries;
   fit = λ count known form all.
-      (own-fit count ids block inherited old new id (subst (λ (l : List ℕ). IsRising count 0 l) (sym is) (omega arith, form.0, tt)) known own all).0;
+      (own-fit count ids block inherited old new id (subst (λ (l : List ℕ). IsAscending count 0 l) (sym is) (omega arith, form.0, tt)) known own all).0;
 }
 
 -- the entries of a half depend only on these values
@@ -137,7 +137,7 @@ inner-adds (Chain cost set bits side end) left right block low high inherited ol
 inner-adds (Inner cost set l r) left right block low high inherited old new0 new1 new2 ids id halves is own low_half high_half lower upper = record {
   texts = λ table ok known form.
       let inner = opened (length table) form in
-      let up = subst (λ (ns : List ℕ). IsRising (length table) 0 ns) (sym is) inner.0.1 in
+      let up = subst (λ (ns : List ℕ). IsAscending (length table) 0 ns) (sym is) inner.0.1 in
       let hand = handed table ok ids block inherited old new0 id up known set is own in
       joined-entries _ _ _ _ _ _ _ hand.entries
       (lower.texts table ok (one-known (length table) id hand.known) (left_form (length table) (inner.0.2, inner.1.0))
@@ -152,7 +152,7 @@ inner-adds (Inner cost set l r) left right block low high inherited old new0 new
       (2 * number_of block + 1) (number_of high) (ap width_of high_half.version) (sym hand.label) (let e = high_half.len in omega arith) (let e = high_half.number in omega arith)));
   fit = λ count known form all.
       let inner = opened count form in
-      let own_all = own-fit count ids block inherited old new0 id (subst (λ (ns : List ℕ). IsRising count 0 ns) (sym is) inner.0.1) known own all in
+      let own_all = own-fit count ids block inherited old new0 id (subst (λ (ns : List ℕ). IsAscending count 0 ns) (sym is) inner.0.1) known own all in
       let low_all = lower.fit count (one-known count id own_all.1) (left_form count (inner.0.2, inner.1.0))
       (All-weaker (IsEntryOf block count) (IsEntryOf low count) (λ e fits. record { version = fits.version ∙ sym low_half.version; known = fits.known }) new0 own_all.0) in
       let high_all = upper.fit count (one-known count id own_all.1) (right_form count (inner.0.3, inner.1.1))

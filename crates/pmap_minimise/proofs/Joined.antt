@@ -9,14 +9,14 @@ use Rattle.pmap_text.specs.Label.{IsLabelTable}
 use Rattle.pmap_text.specs.MapModel.{IsSettled, Label, MapModel, settled_label}
 use Rattle.pmap_text.specs.MapText.{text_at}
 use Rattle.pmap_text.specs.declared.label.LabelId.{LabelId}
-use Rattle.pmap_cert.specs.CertificateText.{IsRising}
-use Rattle.pmap_cert.specs.CertificateModel.{Pair, claim_of, IsSamePair, exact_pair}
+use Rattle.pmap_cert.specs.CertificateText.{IsAscending}
+use Rattle.pmap_cert.specs.CertificateModel.{Claim, claim_of, IsSameClaim, exact_claim}
 use Rattle.pmap_cert.specs.Acceptance.{StandsFor}
 use Rattle.pmap_cert.specs.Node.{Chain, HasNumberForm, Inner, Leaf, Node, cost_of, set_of, tree_of}
 use Rattle.label_trie.specs.TrieModel.{number_of, IsSettledLeaf, IsUndivided, LeafModel}
 use Rattle.label_trie.specs.Parts.{IsHalf}
 use Rattle.pmap_minimise.specs.Numbers.{IsCertified, IsKnownLeaf, IsExact, IsJoined, IsSound}
-use Rattle.pmap_minimise.proofs.Texts.{exact-cost, exact-rising, exact-some, same_pair}
+use Rattle.pmap_minimise.proofs.Texts.{exact-cost, exact-ascending, exact-some, same_claim}
 
 -- what holds of two lists together holds of each
 parts-recursion : {X : Type 0} (P : X → Type 0) (xs ys : List X) → AllByRecursion P (xs ++ ys) → AllByRecursion P xs × AllByRecursion P ys
@@ -42,11 +42,11 @@ claim-cost table (Leaf id) = refl
 claim-cost table (Inner cost set left right) = refl
 claim-cost table (Chain cost set bits side end) = refl
 
-set-rising : (count : ℕ) (node : Node) (room : ℕ) → HasNumberForm count node room → IsRising count 0 (set_of node)
-set-rising count (Leaf id) room form = (omega arith, form.0, tt)
-set-rising count (Inner cost set left right) zero form = absurd form.0
-set-rising count (Inner cost set left right) (suc room) form = form.0.1
-set-rising count (Chain cost set bits side end) room form = absurd form.1
+set-ascending : (count : ℕ) (node : Node) (room : ℕ) → HasNumberForm count node room → IsAscending count 0 (set_of node)
+set-ascending count (Leaf id) room form = (omega arith, form.0, tt)
+set-ascending count (Inner cost set left right) zero form = absurd form.0
+set-ascending count (Inner cost set left right) (suc room) form = form.0.1
+set-ascending count (Chain cost set bits side end) room form = absurd form.1
 
 pub set-some : (node : Node) (room : ℕ) → IsSound node room → 0 < length (set_of node)
 set-some (Leaf id) room sound = omega arith
@@ -112,20 +112,20 @@ module _ (n q room : ℕ) (low_leaves high_leaves : List LeafModel) (low high : 
       upper.stands m ok (all-right (IsSettledLeaf m) leaves low_leaves high_leaves refl settled)
       (all-right (IsUndivided m) leaves low_leaves high_leaves refl undivided)
 
-  pair : (m : MapModel) (cost : ℕ) (set : List ℕ) → IsLabelTable m.table → All (IsSettledLeaf m) leaves → IsExact low high cost set
-      → IsSamePair (record { cost = cost; labels = map (text_at m.table) set }) (exact_pair (claim_of (tree_of m.table low)) (claim_of (tree_of m.table high)))
-  pair m cost set ok settled exact =
+  claim_same : (m : MapModel) (cost : ℕ) (set : List ℕ) → IsLabelTable m.table → All (IsSettledLeaf m) leaves → IsExact low high cost set
+      → IsSameClaim (record { cost = cost; labels = map (text_at m.table) set }) (exact_claim (claim_of (tree_of m.table low)) (claim_of (tree_of m.table high)))
+  claim_same m cost set ok settled exact =
       let known = known_leaves m settled in
-      let claim : Pair = record { cost = cost; labels = map (text_at m.table) set } in
-      subst (λ (p : Pair). IsSamePair claim (exact_pair p (claim_of (tree_of m.table high)))) (sym (claim-is m.table low))
-      (subst (λ (p : Pair). IsSamePair claim (exact_pair (record { cost = cost_of low; labels = map (text_at m.table) (set_of low) }) p)) (sym (claim-is m.table high))
-      (same_pair m.table ok (cost_of low) (cost_of high) (set_of low) (set_of high) cost set
-      (set-rising (length m.table) low room (low_form (length m.table) known)) (set-rising (length m.table) high room (high_form (length m.table) known)) exact))
+      let claim : Claim = record { cost = cost; labels = map (text_at m.table) set } in
+      subst (λ (p : Claim). IsSameClaim claim (exact_claim p (claim_of (tree_of m.table high)))) (sym (claim-is m.table low))
+      (subst (λ (p : Claim). IsSameClaim claim (exact_claim (record { cost = cost_of low; labels = map (text_at m.table) (set_of low) }) p)) (sym (claim-is m.table high))
+      (same_claim m.table ok (cost_of low) (cost_of high) (set_of low) (set_of high) cost set
+      (set-ascending (length m.table) low room (low_form (length m.table) known)) (set-ascending (length m.table) high room (high_form (length m.table) known)) exact))
 
-  rising : (count : ℕ) (cost : ℕ) (set : List ℕ) → All (IsKnownLeaf count) leaves → IsExact low high cost set → IsRising count 0 set
-  rising count cost set known exact =
-      exact-rising count (cost_of low) (cost_of high) (set_of low) (set_of high) cost set
-      (set-rising count low room (low_form count known)) (set-rising count high room (high_form count known)) exact
+  ascending : (count : ℕ) (cost : ℕ) (set : List ℕ) → All (IsKnownLeaf count) leaves → IsExact low high cost set → IsAscending count 0 set
+  ascending count cost set known exact =
+      exact-ascending count (cost_of low) (cost_of high) (set_of low) (set_of high) cost set
+      (set-ascending count low room (low_form count known)) (set-ascending count high room (high_form count known)) exact
 
   cheap : (cost : ℕ) (set : List ℕ) → IsExact low high cost set → cost < length leaves
   cheap cost set exact =
@@ -140,9 +140,9 @@ module _ (n q room : ℕ) (low_leaves high_leaves : List LeafModel) (low high : 
   joined-certified (Inner cost set left right) joined = record {
     stands = λ m ok settled undivided. (
       unsettled m undivided,
-      subst (λ (child : Node). IsSamePair (record { cost = cost; labels = map (text_at m.table) set }) (exact_pair (claim_of (tree_of m.table child)) (claim_of (tree_of m.table right)))) (sym joined.0)
-          (subst (λ (child : Node). IsSamePair (record { cost = cost; labels = map (text_at m.table) set }) (exact_pair (claim_of (tree_of m.table low)) (claim_of (tree_of m.table child)))) (sym joined.1)
-          (pair m cost set ok settled joined.2)),
+      subst (λ (child : Node). IsSameClaim (record { cost = cost; labels = map (text_at m.table) set }) (exact_claim (claim_of (tree_of m.table child)) (claim_of (tree_of m.table right)))) (sym joined.0)
+          (subst (λ (child : Node). IsSameClaim (record { cost = cost; labels = map (text_at m.table) set }) (exact_claim (claim_of (tree_of m.table low)) (claim_of (tree_of m.table child)))) (sym joined.1)
+          (claim_same m cost set ok settled joined.2)),
       subst (λ (child : Node). StandsFor m (tree_of m.table child) (suc n) (2 * q)) (sym joined.0) (stands_low m ok settled undivided),
       subst (λ (child : Node). StandsFor m (tree_of m.table child) (suc n) (2 * q + 1)) (sym joined.1) (stands_high m ok settled undivided),
     );
@@ -150,7 +150,7 @@ module _ (n q room : ℕ) (low_leaves high_leaves : List LeafModel) (low high : 
         let small = cheap cost set joined.2 in
         let low = subst (λ (child : Node). HasNumberForm count child room) (sym joined.0) (low_form count known) in
         let up = subst (λ (child : Node). HasNumberForm count child room) (sym joined.1) (high_form count known) in
-        ((omega arith, rising count cost set known joined.2, low.0, up.0), (low.1, up.1));
+        ((omega arith, ascending count cost set known joined.2, low.0, up.0), (low.1, up.1));
     sound = (
       exact-some (cost_of low) (cost_of high) (set_of low) (set_of high) cost set (set-some low room lower.sound) joined.2,
       subst (λ (child : Node). IsSound child room) (sym joined.0) lower.sound,

@@ -6,10 +6,10 @@ pub mod Distinct
 pub mod Whole
 pub mod Halves
 pub mod Compacted
-pub mod Ways
+pub mod Paths
 pub mod Areas
 pub mod BuiltNodes
-pub mod WayEntries
+pub mod PathEntries
 pub mod Opened
 pub mod RunEnds
 pub mod TreeNodes

@@ -1,42 +1,42 @@
--- Two sets of rising numbers, read side by side.
+-- Two sets of ascending numbers, read side by side.
 use Rattle.std.proofs.Common.{◌≡◌, ℕ, ◌+◌, ◌^◌, ◌<◌, ◌≤◌, ◌==◌, ◌||◌, ◌∙◌, Bool, true, false, cond, List, [], ◌∷◌, ◌++◌, filter, length, refl, sym, ap, subst, arith}
 use Rattle.std.specs.List.{list_any}
 use Rattle.std.proofs.lemmas.Bool.{cond-false, eq-eqb, ne_eqb}
 use Rattle.std.proofs.lemmas.List.{append-nil, append_assoc}
 use Rattle.std.proofs.lemmas.List.Folds.{list_any-append}
 use Rattle.pmap_text.specs.declared.label.LabelId.{LabelId}
-use Rattle.pmap_cert.specs.CertificateText.{IsRising}
+use Rattle.pmap_cert.specs.CertificateText.{IsAscending}
 use Rattle.pmap_minimise.specs.Numbers.{IsUnion, common_numbers, has_number, numbers_of}
 
 pub numbers-append : (xs ys : List LabelId) → numbers_of (xs ++ ys) ≡ numbers_of xs ++ numbers_of ys
 numbers-append [] ys = refl
 numbers-append (x ∷ xs) ys = ap (λ (ns : List ℕ). x.0 ∷ ns) (numbers-append xs ys)
 
--- numbers that rise from k on have none below k
-pub lacks : (b k : ℕ) (ns : List ℕ) (n : ℕ) → IsRising b k ns → n < k → has_number ns n ≡ false
-lacks b k [] n rising less = refl
-lacks b k (m ∷ ns) n rising less =
-    let least = rising.0 in
-    ap (λ (t : Bool). t || has_number ns n) (ne_eqb n m (λ e. omega arith)) ∙ lacks b (m + 1) ns n rising.2 (omega arith)
+-- numbers that ascend from k on have none below k
+pub lacks : (b k : ℕ) (ns : List ℕ) (n : ℕ) → IsAscending b k ns → n < k → has_number ns n ≡ false
+lacks b k [] n ascending less = refl
+lacks b k (m ∷ ns) n ascending less =
+    let least = ascending.0 in
+    ap (λ (t : Bool). t || has_number ns n) (ne_eqb n m (λ e. omega arith)) ∙ lacks b (m + 1) ns n ascending.2 (omega arith)
 
 -- a number below all numbers of a list is not common to that list and another
-common-above : (b k : ℕ) (ns : List ℕ) (y : ℕ) (s : List ℕ) → IsRising b k ns → y < k → common_numbers ns (y ∷ s) ≡ common_numbers ns s
-common-above b k [] y s rising less = refl
-common-above b k (n ∷ ns) y s rising less =
-    let least = rising.0 in
+common-above : (b k : ℕ) (ns : List ℕ) (y : ℕ) (s : List ℕ) → IsAscending b k ns → y < k → common_numbers ns (y ∷ s) ≡ common_numbers ns s
+common-above b k [] y s ascending less = refl
+common-above b k (n ∷ ns) y s ascending less =
+    let least = ascending.0 in
     let other : (n == y) ≡ false = ne_eqb n y (λ e. omega arith) in
-    let rest = common-above b (n + 1) ns y s rising.2 (omega arith) in
+    let rest = common-above b (n + 1) ns y s ascending.2 (omega arith) in
     rw (other, rest)
 
-common-first : (b k : ℕ) (x : ℕ) (r : List ℕ) (y : ℕ) (s : List ℕ) → IsRising b k (y ∷ s) → x < y → common_numbers (x ∷ r) (y ∷ s) ≡ common_numbers r (y ∷ s)
-common-first b k x r y s rising less =
-    let none : has_number (y ∷ s) x ≡ false = lacks b y (y ∷ s) x (omega arith, rising.1, rising.2) less in
+common-first : (b k : ℕ) (x : ℕ) (r : List ℕ) (y : ℕ) (s : List ℕ) → IsAscending b k (y ∷ s) → x < y → common_numbers (x ∷ r) (y ∷ s) ≡ common_numbers r (y ∷ s)
+common-first b k x r y s ascending less =
+    let none : has_number (y ∷ s) x ≡ false = lacks b y (y ∷ s) x (omega arith, ascending.1, ascending.2) less in
     cond-false (has_number (y ∷ s) x) (x ∷ common_numbers r (y ∷ s)) (common_numbers r (y ∷ s)) none
 
-pub common-same : (b k : ℕ) (x : ℕ) (r s : List ℕ) → IsRising b k (x ∷ r) → common_numbers (x ∷ r) (x ∷ s) ≡ x ∷ common_numbers r s
-common-same b k x r s rising =
+pub common-same : (b k : ℕ) (x : ℕ) (r s : List ℕ) → IsAscending b k (x ∷ r) → common_numbers (x ∷ r) (x ∷ s) ≡ x ∷ common_numbers r s
+common-same b k x r s ascending =
     let own : (x == x) ≡ true = eq-eqb x x refl in
-    let rest = common-above b (x + 1) r x s rising.2 (omega arith) in
+    let rest = common-above b (x + 1) r x s ascending.2 (omega arith) in
     rw (own, rest)
 
 pub common-none : (ns : List ℕ) → common_numbers ns [] ≡ []
@@ -47,17 +47,17 @@ common-none (n ∷ ns) = common-none ns
 pub record IsMerging (low high : List ℕ) (set : List ℕ) (lower higher : List LabelId) : Type 0 where
   pub low_from : ℕ
   pub high_from : ℕ
-  pub low_rising : IsRising (2 ^ 32) low_from (numbers_of lower)
-  pub high_rising : IsRising (2 ^ 32) high_from (numbers_of higher)
+  pub low_ascending : IsAscending (2 ^ 32) low_from (numbers_of lower)
+  pub high_ascending : IsAscending (2 ^ 32) high_from (numbers_of higher)
   pub all : set ++ common_numbers (numbers_of lower) (numbers_of higher) ≡ common_numbers low high
 
 module _ (low high : List ℕ) (set : List ℕ) (x y : LabelId) (lower higher lower_rest higher_rest : List LabelId)
     (lower_is : lower ≡ x ∷ lower_rest) (higher_is : higher ≡ y ∷ higher_rest) (merging : IsMerging low high set lower higher) where
-  abbrev low_from : IsRising (2 ^ 32) merging.low_from (x.0 ∷ numbers_of lower_rest)
-  low_from = rw lower_is at merging.low_rising
+  abbrev low_from : IsAscending (2 ^ 32) merging.low_from (x.0 ∷ numbers_of lower_rest)
+  low_from = rw lower_is at merging.low_ascending
 
-  abbrev high_from : IsRising (2 ^ 32) merging.high_from (y.0 ∷ numbers_of higher_rest)
-  high_from = rw higher_is at merging.high_rising
+  abbrev high_from : IsAscending (2 ^ 32) merging.high_from (y.0 ∷ numbers_of higher_rest)
+  high_from = rw higher_is at merging.high_ascending
 
   abbrev both : set ++ common_numbers (x.0 ∷ numbers_of lower_rest) (y.0 ∷ numbers_of higher_rest) ≡ common_numbers low high
   both =
@@ -68,8 +68,8 @@ module _ (low high : List ℕ) (set : List ℕ) (x y : LabelId) (lower higher lo
   merging-lower less = record {
     low_from = x.0 + 1;
     high_from = merging.high_from;
-    low_rising = low_from.2;
-    high_rising = merging.high_rising;
+    low_ascending = low_from.2;
+    high_ascending = merging.high_ascending;
     all = rw higher_is (ap (λ (ns : List ℕ). set ++ ns) (sym (common-first (2 ^ 32) merging.high_from x.0 (numbers_of lower_rest) y.0 (numbers_of higher_rest) high_from less)) ∙ both);
   }
 
@@ -77,8 +77,8 @@ module _ (low high : List ℕ) (set : List ℕ) (x y : LabelId) (lower higher lo
   merging-higher less = record {
     low_from = merging.low_from;
     high_from = y.0 + 1;
-    low_rising = merging.low_rising;
-    high_rising = high_from.2;
+    low_ascending = merging.low_ascending;
+    high_ascending = high_from.2;
     all =
         rw lower_is (ap (λ (ns : List ℕ). set ++ ns) (sym (common-above (2 ^ 32) x.0 (x.0 ∷ numbers_of lower_rest) y.0 (numbers_of higher_rest)
         (omega arith, low_from.1, low_from.2) less)) ∙ both);
@@ -88,32 +88,32 @@ module _ (low high : List ℕ) (set : List ℕ) (x y : LabelId) (lower higher lo
   merging-both new same is = record {
     low_from = x.0 + 1;
     high_from = y.0 + 1;
-    low_rising = low_from.2;
-    high_rising = high_from.2;
+    low_ascending = low_from.2;
+    high_ascending = high_from.2;
     all =
         rw (is, append_assoc set (x.0 ∷ []) (common_numbers (numbers_of lower_rest) (numbers_of higher_rest)))
         (ap (λ (ns : List ℕ). set ++ ns) (sym (common-same (2 ^ 32) merging.low_from x.0 (numbers_of lower_rest) (numbers_of higher_rest) low_from)
         ∙ ap (λ (n : ℕ). common_numbers (x.0 ∷ numbers_of lower_rest) (n ∷ numbers_of higher_rest)) same) ∙ both);
   }
 
--- numbers that rise from k on rise from a lower number on
-rising-weaker : (b k low : ℕ) (ns : List ℕ) → low ≤ k → IsRising b k ns → IsRising b low ns
-rising-weaker b k low [] le rising = tt
-rising-weaker b k low (n ∷ ns) le rising = let least = rising.0 in (omega arith, rising.1, rising.2)
+-- numbers that ascend from k on ascend from a lower number on
+ascending-weaker : (b k low : ℕ) (ns : List ℕ) → low ≤ k → IsAscending b k ns → IsAscending b low ns
+ascending-weaker b k low [] le ascending = tt
+ascending-weaker b k low (n ∷ ns) le ascending = let least = ascending.0 in (omega arith, ascending.1, ascending.2)
 
-pub rising-append : (b k low : ℕ) (ns ms : List ℕ) → low ≤ k → k ≤ b → IsRising k low ns → IsRising b k ms → IsRising b low (ns ++ ms)
-rising-append b k low [] ms le top rising more = rising-weaker b k low ms le more
-rising-append b k low (n ∷ ns) ms le top rising more =
-    let below = rising.1 in
-    (rising.0, omega arith, rising-append b k (n + 1) ns ms (omega arith) top rising.2 more)
+pub ascending-append : (b k low : ℕ) (ns ms : List ℕ) → low ≤ k → k ≤ b → IsAscending k low ns → IsAscending b k ms → IsAscending b low (ns ++ ms)
+ascending-append b k low [] ms le top ascending more = ascending-weaker b k low ms le more
+ascending-append b k low (n ∷ ns) ms le top ascending more =
+    let below = ascending.1 in
+    (ascending.0, omega arith, ascending-append b k (n + 1) ns ms (omega arith) top ascending.2 more)
 
 -- the set and the rests have the numbers of both sets, and those of the rests are greater than those of the set
 pub record IsUniting (low high : List ℕ) (set : List ℕ) (lower higher : List LabelId) : Type 0 where
   pub next : ℕ
   pub top : next ≤ 2 ^ 32
-  pub rising : IsRising next 0 set
-  pub low_rising : IsRising (2 ^ 32) next (numbers_of lower)
-  pub high_rising : IsRising (2 ^ 32) next (numbers_of higher)
+  pub ascending : IsAscending next 0 set
+  pub low_ascending : IsAscending (2 ^ 32) next (numbers_of lower)
+  pub high_ascending : IsAscending (2 ^ 32) next (numbers_of higher)
   pub all : (p : ℕ → Bool) → (list_any p set || (list_any p (numbers_of lower) || list_any p (numbers_of higher))) ≡ (list_any p low || list_any p high)
 
 -- whether a number passes, if one more is at the end
@@ -129,17 +129,17 @@ moved-higher s n y l h b is old = grind arith
 moved-both : (s n x l h b : Bool) → n ≡ (s || (x || false)) → (s || ((x || l) || (x || h))) ≡ b → (n || (l || h)) ≡ b
 moved-both s n x l h b is old = grind arith
 
-rising-push : (next x : ℕ) (set new : List ℕ) → next ≤ x → IsRising next 0 set → new ≡ set ++ x ∷ [] → IsRising (x + 1) 0 new
-rising-push next x set new le rising pushed =
-    rw pushed (rising-append (x + 1) next 0 set (x ∷ []) (omega arith) (omega arith) rising (le, omega arith, tt))
+ascending-push : (next x : ℕ) (set new : List ℕ) → next ≤ x → IsAscending next 0 set → new ≡ set ++ x ∷ [] → IsAscending (x + 1) 0 new
+ascending-push next x set new le ascending pushed =
+    rw pushed (ascending-append (x + 1) next 0 set (x ∷ []) (omega arith) (omega arith) ascending (le, omega arith, tt))
 
 module _ (low high : List ℕ) (set new : List ℕ) (x y : LabelId) (lower higher lower_rest higher_rest : List LabelId)
     (lower_is : lower ≡ x ∷ lower_rest) (higher_is : higher ≡ y ∷ higher_rest) (uniting : IsUniting low high set lower higher) where
-  abbrev from_low : IsRising (2 ^ 32) uniting.next (x.0 ∷ numbers_of lower_rest)
-  from_low = rw lower_is at uniting.low_rising
+  abbrev from_low : IsAscending (2 ^ 32) uniting.next (x.0 ∷ numbers_of lower_rest)
+  from_low = rw lower_is at uniting.low_ascending
 
-  abbrev from_high : IsRising (2 ^ 32) uniting.next (y.0 ∷ numbers_of higher_rest)
-  from_high = rw higher_is at uniting.high_rising
+  abbrev from_high : IsAscending (2 ^ 32) uniting.next (y.0 ∷ numbers_of higher_rest)
+  from_high = rw higher_is at uniting.high_ascending
 
   abbrev any : (p : ℕ → Bool) → (list_any p set || ((p x.0 || list_any p (numbers_of lower_rest)) || (p y.0 || list_any p (numbers_of higher_rest)))) ≡ (list_any p low || list_any p high)
   any = λ p.
@@ -150,9 +150,9 @@ module _ (low high : List ℕ) (set new : List ℕ) (x y : LabelId) (lower highe
   uniting-lower less is = record {
     next = x.0 + 1;
     top = let small = from_low.1 in omega arith;
-    rising = rising-push uniting.next x.0 set new from_low.0 uniting.rising is;
-    low_rising = from_low.2;
-    high_rising = rw higher_is (omega arith, from_high.1, from_high.2);
+    ascending = ascending-push uniting.next x.0 set new from_low.0 uniting.ascending is;
+    low_ascending = from_low.2;
+    high_ascending = rw higher_is (omega arith, from_high.1, from_high.2);
     all = λ p. rw higher_is (moved-lower (list_any p set) (list_any p new) (p x.0) (list_any p (numbers_of lower_rest))
         (list_any p (y.0 ∷ numbers_of higher_rest)) (list_any p low || list_any p high) (any-push p set new x.0 is) (any p));
   }
@@ -161,9 +161,9 @@ module _ (low high : List ℕ) (set new : List ℕ) (x y : LabelId) (lower highe
   uniting-higher less is = record {
     next = y.0 + 1;
     top = let small = from_high.1 in omega arith;
-    rising = rising-push uniting.next y.0 set new from_high.0 uniting.rising is;
-    low_rising = rw lower_is (omega arith, from_low.1, from_low.2);
-    high_rising = from_high.2;
+    ascending = ascending-push uniting.next y.0 set new from_high.0 uniting.ascending is;
+    low_ascending = rw lower_is (omega arith, from_low.1, from_low.2);
+    high_ascending = from_high.2;
     all = λ p. rw lower_is (moved-higher (list_any p set) (list_any p new) (p y.0) (list_any p (x.0 ∷ numbers_of lower_rest))
         (list_any p (numbers_of higher_rest)) (list_any p low || list_any p high) (any-push p set new y.0 is) (any p));
   }
@@ -172,9 +172,9 @@ module _ (low high : List ℕ) (set new : List ℕ) (x y : LabelId) (lower highe
   uniting-both same is = record {
     next = x.0 + 1;
     top = let small = from_low.1 in omega arith;
-    rising = rising-push uniting.next x.0 set new from_low.0 uniting.rising is;
-    low_rising = from_low.2;
-    high_rising = rw same from_high.2;
+    ascending = ascending-push uniting.next x.0 set new from_low.0 uniting.ascending is;
+    low_ascending = from_low.2;
+    high_ascending = rw same from_high.2;
     all = λ p. moved-both (list_any p set) (list_any p new) (p x.0) (list_any p (numbers_of lower_rest))
         (list_any p (numbers_of higher_rest)) (list_any p low || list_any p high) (any-push p set new x.0 is)
         (subst (λ (n : ℕ). (list_any p set || ((p x.0 || list_any p (numbers_of lower_rest)) || (p n || list_any p (numbers_of higher_rest)))) ≡ (list_any p low || list_any p high)) (sym same) (any p));
@@ -189,7 +189,7 @@ rest-higher s n h b is old = grind arith
 
 pub record IsUnited (low high : List ℕ) (set : List ℕ) : Type 0 where
   pub union : IsUnion low high set
-  pub rising : IsRising (2 ^ 32) 0 set
+  pub ascending : IsAscending (2 ^ 32) 0 set
 
 any-joined : (p : ℕ → Bool) (set : List ℕ) (rest : List LabelId) (new : List ℕ) → new ≡ set ++ numbers_of rest → list_any p new ≡ (list_any p set || list_any p (numbers_of rest))
 any-joined p set rest new is = rw is (list_any-append p set (numbers_of rest))
@@ -199,7 +199,7 @@ united-lower low high set lower higher new none is uniting =
     let all = λ (p : ℕ → Bool). subst (λ (hs : List LabelId). (list_any p set || (list_any p (numbers_of lower) || list_any p (numbers_of hs))) ≡ (list_any p low || list_any p high)) none (uniting.all p) in
     record {
       union = λ p. rest-lower (list_any p set) (list_any p new) (list_any p (numbers_of lower)) (list_any p low || list_any p high) (any-joined p set lower new is) (all p);
-      rising = rw is (rising-append (2 ^ 32) uniting.next 0 set (numbers_of lower) (omega arith) uniting.top uniting.rising uniting.low_rising);
+      ascending = rw is (ascending-append (2 ^ 32) uniting.next 0 set (numbers_of lower) (omega arith) uniting.top uniting.ascending uniting.low_ascending);
     }
 
 pub united-higher : (low high : List ℕ) (set : List ℕ) (lower higher : List LabelId) (new : List ℕ) → lower ≡ [] → new ≡ set ++ numbers_of higher → IsUniting low high set lower higher → IsUnited low high new
@@ -207,19 +207,19 @@ united-higher low high set lower higher new none is uniting =
     let all = λ (p : ℕ → Bool). subst (λ (ls : List LabelId). (list_any p set || (list_any p (numbers_of ls) || list_any p (numbers_of higher))) ≡ (list_any p low || list_any p high)) none (uniting.all p) in
     record {
       union = λ p. rest-higher (list_any p set) (list_any p new) (list_any p (numbers_of higher)) (list_any p low || list_any p high) (any-joined p set higher new is) (all p);
-      rising = rw is (rising-append (2 ^ 32) uniting.next 0 set (numbers_of higher) (omega arith) uniting.top uniting.rising uniting.high_rising);
+      ascending = rw is (ascending-append (2 ^ 32) uniting.next 0 set (numbers_of higher) (omega arith) uniting.top uniting.ascending uniting.high_ascending);
     }
 
--- the numbers that pass a test still rise
-pub rising-filter : (b low : ℕ) (p : ℕ → Bool) (ns : List ℕ) → IsRising b low ns → IsRising b low (filter p ns)
-rising-filter b low p [] rising = tt
-rising-filter b low p (n ∷ ns) rising =
-    let rest : IsRising b (n + 1) (filter p ns) = rising-filter b (n + 1) p ns rising.2 in
+-- the numbers that pass a test still ascend
+pub ascending-filter : (b low : ℕ) (p : ℕ → Bool) (ns : List ℕ) → IsAscending b low ns → IsAscending b low (filter p ns)
+ascending-filter b low p [] ascending = tt
+ascending-filter b low p (n ∷ ns) ascending =
+    let rest : IsAscending b (n + 1) (filter p ns) = ascending-filter b (n + 1) p ns ascending.2 in
     by (p n) rest
   where
-    by : (t : Bool) → IsRising b (n + 1) (filter p ns) → IsRising b low (cond t (n ∷ filter p ns) (filter p ns))
-    by true rest = (rising.0, rising.1, rest)
-    by false rest = let least = rising.0 in rising-weaker b (n + 1) low (filter p ns) (omega arith) rest
+    by : (t : Bool) → IsAscending b (n + 1) (filter p ns) → IsAscending b low (cond t (n ∷ filter p ns) (filter p ns))
+    by true rest = (ascending.0, ascending.1, rest)
+    by false rest = let least = ascending.0 in ascending-weaker b (n + 1) low (filter p ns) (omega arith) rest
 
 -- once one of two sets is used up, their common numbers are found
 pub merged-lower : (low high set : List ℕ) (lower higher : List LabelId) → higher ≡ [] → IsMerging low high set lower higher → set ≡ common_numbers low high

@@ -10,39 +10,39 @@ use Rattle.pmap_text.specs.Label.{IsLabelTable}
 use Rattle.pmap_text.specs.MapModel.{Label}
 use Rattle.pmap_text.specs.MapText.{text_at}
 use Rattle.pmap_text.specs.declared.label.LabelId.{LabelId}
-use Rattle.pmap_cert.specs.CertificateText.{IsRising, place_of}
-use Rattle.pmap_cert.specs.CertificateModel.{Pair, has, IsSamePair, exact_pair, exact_pair_by}
+use Rattle.pmap_cert.specs.CertificateText.{IsAscending, place_of}
+use Rattle.pmap_cert.specs.CertificateModel.{Claim, has, IsSameClaim, exact_claim, exact_claim_by}
 use Rattle.pmap_cert.specs.Acceptance.{has_inherited, least_label}
 use Rattle.pmap_cert.proofs.Sets.{bytes_eq-same, has-append}
 use Rattle.pmap_cert.proofs.Tables.{place_of-text_at}
 use Rattle.pmap_minimise.specs.Listing.{text_of}
 use Rattle.pmap_minimise.specs.Numbers.{IsExactBy, IsUnion, common_numbers, has_number, keeps, numbers_of}
-use Rattle.pmap_minimise.proofs.Merged.{lacks, rising-filter}
+use Rattle.pmap_minimise.proofs.Merged.{lacks, ascending-filter}
 
--- rising numbers that are all below `count` rise below it
-rising-bounded : (b count low : ℕ) (ns : List ℕ) → IsRising b low ns → list_any (λ n. nat_le count n) ns ≡ false → IsRising count low ns
-rising-bounded b count low [] rising none = tt
-rising-bounded b count low (n ∷ ns) rising none =
+-- ascending numbers that are all below `count` ascend below it
+ascending-bounded : (b count low : ℕ) (ns : List ℕ) → IsAscending b low ns → list_any (λ n. nat_le count n) ns ≡ false → IsAscending count low ns
+ascending-bounded b count low [] ascending none = tt
+ascending-bounded b count low (n ∷ ns) ascending none =
     let parts = or_parts (nat_le count n) (list_any (λ m. nat_le count m) ns) none in
-    (rising.0, leb-false count n parts.0, rising-bounded b count (n + 1) ns rising.2 parts.1)
+    (ascending.0, leb-false count n parts.0, ascending-bounded b count (n + 1) ns ascending.2 parts.1)
 
-rising-within : (count low : ℕ) (ns : List ℕ) → IsRising count low ns → list_any (λ n. nat_le count n) ns ≡ false
-rising-within count low [] rising = refl
-rising-within count low (n ∷ ns) rising =
-    or_from (nat_le count n) (list_any (λ m. nat_le count m) ns) (lt-leb count n rising.1) (rising-within count (n + 1) ns rising.2)
+ascending-within : (count low : ℕ) (ns : List ℕ) → IsAscending count low ns → list_any (λ n. nat_le count n) ns ≡ false
+ascending-within count low [] ascending = refl
+ascending-within count low (n ∷ ns) ascending =
+    or_from (nat_le count n) (list_any (λ m. nat_le count m) ns) (lt-leb count n ascending.1) (ascending-within count (n + 1) ns ascending.2)
 
--- the exact set of two rising sets rises, and has a number if one of the sets has
-pub exact-rising : (count low_cost high_cost : ℕ) (low high : List ℕ) (cost : ℕ) (set : List ℕ) → IsRising count 0 low → IsRising count 0 high
-    → IsExactBy low_cost high_cost low high (common_numbers low high) cost set → IsRising count 0 set
-exact-rising count low_cost high_cost low high cost set low_rising high_rising exact =
-    by (common_numbers low high) (rising-filter count 0 (has_number high) low low_rising) exact
+-- the exact set of two ascending sets ascends, and has a number if one of the sets has
+pub exact-ascending : (count low_cost high_cost : ℕ) (low high : List ℕ) (cost : ℕ) (set : List ℕ) → IsAscending count 0 low → IsAscending count 0 high
+    → IsExactBy low_cost high_cost low high (common_numbers low high) cost set → IsAscending count 0 set
+exact-ascending count low_cost high_cost low high cost set low_ascending high_ascending exact =
+    by (common_numbers low high) (ascending-filter count 0 (has_number high) low low_ascending) exact
   where
-    by : (ns : List ℕ) → IsRising count 0 ns → IsExactBy low_cost high_cost low high ns cost set → IsRising count 0 set
-    by [] rising exact =
-        rising-bounded (2 ^ 32) count 0 set exact.2
+    by : (ns : List ℕ) → IsAscending count 0 ns → IsExactBy low_cost high_cost low high ns cost set → IsAscending count 0 set
+    by [] ascending exact =
+        ascending-bounded (2 ^ 32) count 0 set exact.2
         (exact.1 (λ n. nat_le count n)
-        ∙ or_from (list_any (λ n. nat_le count n) low) (list_any (λ n. nat_le count n) high) (rising-within count 0 low low_rising) (rising-within count 0 high high_rising))
-    by (n ∷ ns) rising exact = subst (λ (s : List ℕ). IsRising count 0 s) (sym exact.1) rising
+        ∙ or_from (list_any (λ n. nat_le count n) low) (list_any (λ n. nat_le count n) high) (ascending-within count 0 low low_ascending) (ascending-within count 0 high high_ascending))
+    by (n ∷ ns) ascending exact = subst (λ (s : List ℕ). IsAscending count 0 s) (sym exact.1) ascending
 
 union-some : (m : ℕ) (ms high set : List ℕ) → IsUnion (m ∷ ms) high set → 0 < length set
 union-some m ms high [] union = absurd (false≢true (union (λ n. true)))
@@ -97,41 +97,41 @@ module _ (table : List Label) (ok : IsLabelTable table) where
       by true e = subst (λ (k : ℕ). bytes_eq (text_at table n) (text_at table k) ≡ true) (eqb-true n m e) (bytes_eq-same (text_at table n))
       by false e = other e (bytes_eq (text_at table n) (text_at table m)) refl
 
-  pub texts-has : (low : ℕ) (ns : List ℕ) (n : ℕ) → IsRising (length table) low ns → n < length table
+  pub texts-has : (low : ℕ) (ns : List ℕ) (n : ℕ) → IsAscending (length table) low ns → n < length table
       → has (map (text_at table) ns) (text_at table n) ≡ has_number ns n
-  texts-has low [] n rising known = refl
-  texts-has low (m ∷ ns) n rising known =
-      ap (λ (t : Bool). t || has (map (text_at table) ns) (text_at table n)) (text-same n m known rising.1)
-      ∙ ap (λ (t : Bool). (n == m) || t) (texts-has (m + 1) ns n rising.2 known)
+  texts-has low [] n ascending known = refl
+  texts-has low (m ∷ ns) n ascending known =
+      ap (λ (t : Bool). t || has (map (text_at table) ns) (text_at table n)) (text-same n m known ascending.1)
+      ∙ ap (λ (t : Bool). (n == m) || t) (texts-has (m + 1) ns n ascending.2 known)
 
   kept : (b c : Bool) → b ≡ c → (n : ℕ) (xs : List Label) (ns : List ℕ) → xs ≡ map (text_at table) ns
       → cond b (text_at table n ∷ xs) xs ≡ map (text_at table) (cond c (n ∷ ns) ns)
   kept b true e n xs ns same = cond-true b (text_at table n ∷ xs) xs e ∙ ap (λ (l : List Label). text_at table n ∷ l) same
   kept b false e n xs ns same = cond-false b (text_at table n ∷ xs) xs e ∙ same
 
-  texts-common : (from low : ℕ) (ls hs : List ℕ) → IsRising (length table) from ls → IsRising (length table) low hs
+  texts-common : (from low : ℕ) (ls hs : List ℕ) → IsAscending (length table) from ls → IsAscending (length table) low hs
       → filter (has (map (text_at table) hs)) (map (text_at table) ls) ≡ map (text_at table) (common_numbers ls hs)
-  texts-common from low [] hs rising also = refl
-  texts-common from low (n ∷ ls) hs rising also =
-      kept (has (map (text_at table) hs) (text_at table n)) (has_number hs n) (texts-has low hs n also rising.1) n
+  texts-common from low [] hs ascending also = refl
+  texts-common from low (n ∷ ls) hs ascending also =
+      kept (has (map (text_at table) hs) (text_at table n)) (has_number hs n) (texts-has low hs n also ascending.1) n
       (filter (has (map (text_at table) hs)) (map (text_at table) ls)) (common_numbers ls hs)
-      (texts-common (n + 1) low ls hs rising.2 also)
+      (texts-common (n + 1) low ls hs ascending.2 also)
 
-  -- the exact claim by numbers is the exact pair of the texts
-  pub same_pair : (low_cost high_cost : ℕ) (ls hs : List ℕ) (cost : ℕ) (set : List ℕ) → IsRising (length table) 0 ls → IsRising (length table) 0 hs
+  -- the exact claim by numbers is the exact claim of the texts
+  pub same_claim : (low_cost high_cost : ℕ) (ls hs : List ℕ) (cost : ℕ) (set : List ℕ) → IsAscending (length table) 0 ls → IsAscending (length table) 0 hs
       → IsExactBy low_cost high_cost ls hs (common_numbers ls hs) cost set
-      → IsSamePair (record { cost = cost; labels = map (text_at table) set })
-      (exact_pair (record { cost = low_cost; labels = map (text_at table) ls }) (record { cost = high_cost; labels = map (text_at table) hs }))
-  same_pair low_cost high_cost ls hs cost set rising also exact =
-      subst (λ (common : List Label). IsSamePair claim (exact_pair_by lower upper common)) (sym (texts-common 0 0 ls hs rising also)) (by (common_numbers ls hs) exact)
+      → IsSameClaim (record { cost = cost; labels = map (text_at table) set })
+      (exact_claim (record { cost = low_cost; labels = map (text_at table) ls }) (record { cost = high_cost; labels = map (text_at table) hs }))
+  same_claim low_cost high_cost ls hs cost set ascending also exact =
+      subst (λ (common : List Label). IsSameClaim claim (exact_claim_by lower upper common)) (sym (texts-common 0 0 ls hs ascending also)) (by (common_numbers ls hs) exact)
     where
-      claim : Pair
+      claim : Claim
       claim = record { cost = cost; labels = map (text_at table) set }
 
-      lower : Pair
+      lower : Claim
       lower = record { cost = low_cost; labels = map (text_at table) ls }
 
-      upper : Pair
+      upper : Claim
       upper = record { cost = high_cost; labels = map (text_at table) hs }
 
       union : (x : Label) → IsUnion ls hs set → has (map (text_at table) set) x ≡ has (map (text_at table) ls ++ map (text_at table) hs) x
@@ -141,31 +141,31 @@ module _ (table : List Label) (ok : IsLabelTable table) where
           ∙ ap (λ (t : Bool). has (map (text_at table) ls) x || t) (sym (any-texts table (bytes_eq x) hs))
           ∙ sym (has-append (map (text_at table) ls) (map (text_at table) hs) x)
 
-      by : (ns : List ℕ) → IsExactBy low_cost high_cost ls hs ns cost set → IsSamePair claim (exact_pair_by lower upper (map (text_at table) ns))
+      by : (ns : List ℕ) → IsExactBy low_cost high_cost ls hs ns cost set → IsSameClaim claim (exact_claim_by lower upper (map (text_at table) ns))
       by [] exact = record { cost = exact.0; labels = λ x. union x exact.1 }
       by (n ∷ ns) exact = record { cost = exact.0; labels = λ x. ap (λ (s : List ℕ). has (map (text_at table) s) x) exact.1 }
 
   -- whether the inherited label is kept is the same by texts and by numbers
-  pub keeps-texts : (ids : List LabelId) (inherited : Option LabelId) → IsRising (length table) 0 (numbers_of ids) → ForSome inherited (λ id. id.0 < length table)
+  pub keeps-texts : (ids : List LabelId) (inherited : Option LabelId) → IsAscending (length table) 0 (numbers_of ids) → ForSome inherited (λ id. id.0 < length table)
       → has_inherited (map (text_at table) (numbers_of ids)) (text_of table inherited) ≡ keeps ids inherited
-  keeps-texts ids None rising known = refl
-  keeps-texts ids (Some id) rising known = texts-has 0 (numbers_of ids) id.0 rising (known id refl) ∙ any-numbers ids id.0
+  keeps-texts ids None ascending known = refl
+  keeps-texts ids (Some id) ascending known = texts-has 0 (numbers_of ids) id.0 ascending (known id refl) ∙ any-numbers ids id.0
 
-  -- the first of rising numbers is the least label's
-  pub least-texts : (low n : ℕ) (ns : List ℕ) → IsRising (length table) low (n ∷ ns) → least_label table (map (text_at table) (n ∷ ns)) ≡ text_at table n
-  least-texts low n ns rising =
+  -- the first of ascending numbers is the least label's
+  pub least-texts : (low n : ℕ) (ns : List ℕ) → IsAscending (length table) low (n ∷ ns) → least_label table (map (text_at table) (n ∷ ns)) ≡ text_at table n
+  least-texts low n ns ascending =
       ap (λ (o : Option Label). unwrap_or o (text_at table n))
-      (find-first (has s) table n rising.1 below here)
+      (find-first (has s) table n ascending.1 below here)
       ∙ sym (unwrap_or-slice_get table n [])
     where
       s : List Label
       s = map (text_at table) (n ∷ ns)
 
       at : (i : ℕ) → i < length table → has s (get_or table i []) ≡ has_number (n ∷ ns) i
-      at i h = ap (has s) (sym (unwrap_or-slice_get table i [])) ∙ texts-has low (n ∷ ns) i rising h
+      at i h = ap (has s) (sym (unwrap_or-slice_get table i [])) ∙ texts-has low (n ∷ ns) i ascending h
 
       below : (i : ℕ) → i < n → has s (get_or table i []) ≡ false
-      below i h = at i (let top = rising.1 in omega arith) ∙ lacks (length table) n (n ∷ ns) i (omega arith, rising.1, rising.2) h
+      below i h = at i (let top = ascending.1 in omega arith) ∙ lacks (length table) n (n ∷ ns) i (omega arith, ascending.1, ascending.2) h
 
       here : has s (get_or table n []) ≡ true
       here = ap (has s) (sym (unwrap_or-slice_get table n [])) ∙ own

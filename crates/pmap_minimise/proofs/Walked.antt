@@ -20,16 +20,16 @@ use Rattle.label_trie.specs.TrieModel.{LeafModel, NodeModel, TrieModel}
 use Rattle.label_trie.specs.declared.kind.Kind.TheVariants.{Divided as DividedKind, Leaf as LeafKind}
 use Rattle.label_trie.proofs.Encoded.{length_nodes, size_leaves, size_pos}
 use Rattle.label_trie.proofs.NodeLeaves.{length_leaves}
-use Rattle.pmap_minimise.specs.Built.{AddsInner, AddsLeaf, HasRisingSet, HasGrown, IsAt, Built, Claim}
+use Rattle.pmap_minimise.specs.Built.{AddsInner, AddsLeaf, HasAscendingSet, HasGrown, IsAt, Built, Claim}
 use Rattle.pmap_minimise.specs.Numbers.{IsCertified, IsOwn, IsSound, numbers_of}
 use Rattle.pmap_minimise.specs.Listing.{AddsEntries, IsWhole}
 use Rattle.pmap_minimise.specs.Walks.{AddsAll, AreStacked, IsChosenFrom, IsClaimOf, IsClaimed, IsClaimedFrom, IsDueFor, from_next, trees_from, Due}
 use Rattle.pmap_minimise.specs.declared.built.Line.{Line}
 use Rattle.pmap_minimise.specs.declared.built.Line.TheVariants.{Chain as ChainLine, Inner as InnerEntry, Leaf as LeafEntry}
-use Rattle.pmap_minimise.proofs.BuiltNodes.{at-grown, inner-added, leaf-added, rising-held}
+use Rattle.pmap_minimise.proofs.BuiltNodes.{at-grown, inner-added, leaf-added, ascending-held}
 use Rattle.pmap_minimise.proofs.Compacted.{IsInnerNode, at-last, chain-there, inner-there, leaf-there}
 use Rattle.pmap_minimise.proofs.Entered.{HasHalves, inner-adds, leaf-adds, sound-halves}
-use Rattle.pmap_minimise.proofs.Texts.{exact-rising}
+use Rattle.pmap_minimise.proofs.Texts.{exact-ascending}
 use Rattle.pmap_minimise.proofs.TreeNodes.{node-cost, tree-certified}
 
 -- the nodes are those of the trees, one after the other
@@ -154,7 +154,7 @@ claims-grown old new grown (tree ∷ trees) to claims are =
         at = at-grown old new claim.node claim.node are.from to grown claim.at;
         cost_is = claim.cost_is;
         set_is = held-more old.sets new.sets are.top.set (set_of claim.node) grown.sets claim.set_is;
-        rising = claim.rising;
+        ascending = claim.ascending;
       };
       below = claims-grown old new grown trees are.from are.rest are.below;
     }
@@ -224,7 +224,7 @@ module _ (t : TrieModel) (number : ℕ) (b : Built) (claims : List Claim) (from 
         rest = claims;
         top = claim;
         stack_is = refl;
-        is = record { node = Leaf id.0; node_is = refl; at = added.at; cost_is = adds.cost_is; set_is = adds.held.stands; rising = (omega arith, adds.fits, tt) };
+        is = record { node = Leaf id.0; node_is = refl; at = added.at; cost_is = adds.cost_is; set_is = adds.held.stands; ascending = (omega arith, adds.fits, tt) };
         below = claims-grown b new added.grown first.0 (length b.lines.items) claims
             (subst (λ (l : List Tree). AreStacked (IsClaimOf b) (from_next l) (length b.lines.items) claims) first.1 stacked);
       } in
@@ -266,11 +266,11 @@ module _ (t : TrieModel) (number : ℕ) (b : Built) (claims : List Claim) (from 
           let d = from.few in
           omega (arith, node-cost halved.low two.low_is.node two.low_is.node_is, node-cost halved.high two.high_is.node two.high_is.node_is, length-drop (suc number) t.nodes)
 
-      pub low-held : HasRisingSet b.sets low.set
-      low-held = rising-held b.sets low.set (set_of two.low_is.node) two.low_is.set_is two.low_is.rising
+      pub low-held : HasAscendingSet b.sets low.set
+      low-held = ascending-held b.sets low.set (set_of two.low_is.node) two.low_is.set_is two.low_is.ascending
 
-      pub high-held : HasRisingSet b.sets high.set
-      high-held = rising-held b.sets high.set (set_of two.high_is.node) two.high_is.set_is two.high_is.rising
+      pub high-held : HasAscendingSet b.sets high.set
+      high-held = ascending-held b.sets high.set (set_of two.high_is.node) two.high_is.set_is two.high_is.ascending
 
       pub claim-inner : (new : Built) (claim : Claim) → AddsInner low high b new claim → IsClaimedFrom t number new (rest ++ claim ∷ [])
       claim-inner new claim adds =
@@ -287,8 +287,8 @@ module _ (t : TrieModel) (number : ℕ) (b : Built) (claims : List Claim) (from 
               at = added.at;
               cost_is = refl;
               set_is = adds.held.held.stands;
-              rising = exact-rising (2 ^ 32) (cost_of two.low_is.node) (cost_of two.high_is.node) (set_of two.low_is.node) (set_of two.high_is.node) claim.cost adds.held.set
-                  two.low_is.rising two.high_is.rising added.exact;
+              ascending = exact-ascending (2 ^ 32) (cost_of two.low_is.node) (cost_of two.high_is.node) (set_of two.low_is.node) (set_of two.high_is.node) claim.cost adds.held.set
+                  two.low_is.ascending two.high_is.ascending added.exact;
             };
             below = claims-grown b new added.grown halved.others two.from rest two.below;
           } in

@@ -5,7 +5,7 @@ use Rattle.pmap_text.specs.MapModel.{MapModel}
 use Rattle.pmap_text.specs.Stretches.{AreStretches, HoldsAddress, StretchesModel, label_at}
 use Rattle.pmap_text.specs.declared.label.LabelId.{LabelId}
 use Rattle.pmap_text.specs.declared.statement.Statement.{Statement}
-use Rattle.pmap_cert.specs.CertificateText.{IsRising}
+use Rattle.pmap_cert.specs.CertificateText.{IsAscending}
 use Rattle.pmap_cert.specs.Node.{Inner, Leaf, Node, label_of, set_of}
 use Rattle.label_trie.specs.Inner.{IsBlock, IsMapOf, parted_sum}
 use Rattle.label_trie.specs.Tree.{Fits, IsLabelled, Tree, leaf_count}
@@ -112,7 +112,7 @@ pub record IsMade (s : StretchesModel) (a : Area) (tree : Tree) (node : Node) : 
   pub tree_of : (ss : List Statement) (default : Option LabelId) → AreStretches ss default s
       → IsTreeOf s.version ss default a.len (number_at s a) tree
   pub node_is : IsNodeFor tree node
-  pub rising : IsRising (2 ^ 32) 0 (set_of node)
+  pub ascending : IsAscending (2 ^ 32) 0 (set_of node)
   pub own : label_of node ≡ own_label s a
   pub single : a.from ≡ a.to → (n : ℕ) × (node ≡ Leaf n)
   pub halves : a.from < a.to → HasLabelledHalves s a node

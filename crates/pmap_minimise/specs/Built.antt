@@ -10,9 +10,9 @@ use Rattle.label_trie.specs.TrieModel.{IsSettledLeaf, IsUndivided, LeafModel}
 use Rattle.pmap_cert.specs.Node.{Chain as ChainNode, Inner, Leaf, Node, cost_of, set_of, line_text, lines_of}
 use Rattle.pmap_cert.specs.Packed.{IsGrown, IsHeld, HasSet, set_in}
 use Rattle.pmap_cert.specs.Inner.{IsCompactNode}
-use Rattle.pmap_cert.specs.Ways.{digit, way_to}
+use Rattle.pmap_cert.specs.Paths.{digit, path_to}
 use Rattle.pmap_cert.specs.declared.pool.SetId.{SetId}
-use Rattle.pmap_cert.specs.CertificateText.{IsRising, inner_line, leaf_line, text_of_lines}
+use Rattle.pmap_cert.specs.CertificateText.{IsAscending, inner_line, leaf_line, text_of_lines}
 use Rattle.pmap_minimise.specs.Areas.{IsMade, Area}
 use Rattle.pmap_minimise.specs.Numbers.{IsCertified, has_number, IsExactSet}
 pub use Rattle.pmap_minimise.specs.declared.built.Built.{Built}
@@ -22,7 +22,7 @@ use Rattle.pmap_minimise.specs.declared.built.Line.TheVariants.{Chain as ChainLi
 
 -- The compact certificate as it is built: the lines of a node come after those of its halves, the higher half's first.
 
--- the set with one more number, in rising order
+-- the set with one more number, in ascending order
 abbrev pub with_number : ℕ → List ℕ → List ℕ
 with_number n [] = n ∷ []
 with_number n (m ∷ ms) = if nat_lt n m then n ∷ m ∷ ms else m ∷ with_number n ms
@@ -38,14 +38,14 @@ cost_above side end = if has_number (set_of end) side then cost_of end else cost
 
 -- an inner node over the half that a run chooses, the lower one if the digit is 0, and the side block's leaf
 abbrev pub node_over : ℕ → ℕ → List ℕ → Node → Node → Node
-node_over zero cost set way side = Inner cost set way side
-node_over (suc digit) cost set way side = Inner cost set side way
+node_over zero cost set path side = Inner cost set path side
+node_over (suc digit) cost set path side = Inner cost set side path
 
 -- the node from which a run of `bits` bits leads to the node `end`, whose block has the number `value`
-abbrev pub way_node : ℕ → ℕ → ℕ → Node → Node
-way_node side value zero end = end
-way_node side value (suc bits) end =
-    node_over (digit value bits) (cost_above side end) (set_above side (set_of end) bits) (way_node side value bits end) (Leaf side)
+abbrev pub path_node : ℕ → ℕ → ℕ → Node → Node
+path_node side value zero end = end
+path_node side value (suc bits) end =
+    node_over (digit value bits) (cost_above side end) (set_above side (set_of end) bits) (path_node side value bits end) (Leaf side)
 
 pub record IsLeafAt (b : Built) (label : ℕ) (node : Node) (from to : ℕ) : Type 0 where
   pub line_is : slice_get b.lines.items from ≡ Some (LeafLine (record { 0 = label }))
@@ -78,10 +78,10 @@ pub record IsChainAt (b : Built) (cost : ℕ) (set : List ℕ) (bits : List Bool
   pub price_is : chain.cost ≡ cost_above chain.side.0 end
   pub set_is : set ≡ side ∷ []
   pub side_is : side ≡ chain.side.0
-  pub bits_are : bits ≡ way_to chain.end chain.bits
+  pub bits_are : bits ≡ path_to chain.end chain.bits
   pub long : 2 ≤ chain.bits
   pub few : chain.bits ≤ 128
-  pub node_is : node ≡ way_node side chain.end chain.bits end
+  pub node_is : node ≡ path_node side chain.end chain.bits end
 
 -- The lines from `from` to before `to` are those of `compact`. Opening each chain of `compact` gives `node`.
 abbrev pub IsAt : Built → Node → Node → ℕ → ℕ → Type 0
@@ -130,9 +130,9 @@ pub record HasLinesTo (b : Built) (to : ℕ) : Type 0 where
 abbrev pub exact_cost : ℕ → ℕ → Bool → ℕ
 exact_cost low high apart = if apart then low + high + 1 else low + high
 
-pub record HasRisingSet (pool : List LabelId) (id : SetId) : Type 0 where
+pub record HasAscendingSet (pool : List LabelId) (id : SetId) : Type 0 where
   pub has : HasSet pool id
-  pub rising : IsRising (2 ^ 32) 0 (set_in pool id)
+  pub ascending : IsAscending (2 ^ 32) 0 (set_in pool id)
 
 pub record IsHeldAs (old new : List LabelId) (set : List ℕ) (id : SetId) : Type 0 where
   pub grown : IsGrown old new
@@ -168,8 +168,8 @@ abbrev pub node_text : Node → List ℕ
 node_text node = text_of_lines (map line_text (lines_of node))
 
 -- the line of a chain's node that claims the side label alone, and that of a side block
-abbrev pub way_line : Chain → List ℕ
-way_line chain = inner_line chain.cost (chain.side.0 ∷ []) ++ 10 ∷ []
+abbrev pub path_line : Chain → List ℕ
+path_line chain = inner_line chain.cost (chain.side.0 ∷ []) ++ 10 ∷ []
 
 abbrev pub side_line : Chain → List ℕ
 side_line chain = leaf_line chain.side.0 ++ 10 ∷ []

@@ -8,7 +8,7 @@ use Rattle.pmap_text.specs.Label.{IsLabelTable}
 use Rattle.pmap_text.specs.MapModel.{MapModel}
 use Rattle.label_trie.specs.Tree.{Fork, Tip, Tree}
 use Rattle.label_trie.specs.TrieModel.{IsSettledLeaf, IsUndivided, LeafModel}
-use Rattle.pmap_cert.specs.CertificateText.{IsRising}
+use Rattle.pmap_cert.specs.CertificateText.{IsAscending}
 use Rattle.pmap_cert.specs.Node.{Chain, Inner, Leaf, Node, cost_of, set_of, HasNumberForm, tree_of}
 use Rattle.pmap_cert.specs.Acceptance.{StandsFor}
 
@@ -27,7 +27,7 @@ IsUnion low high set = (p : ℕ → Bool) → list_any p set ≡ (list_any p low
 -- The exact set of two sets, by their common numbers: these, if there are any. Otherwise the sets are apart, and the
 -- exact set has the numbers of either.
 abbrev pub IsExactSetBy : List ℕ → List ℕ → Bool → List ℕ → List ℕ → Type 0
-IsExactSetBy low high apart [] set = (apart ≡ true) × IsUnion low high set × IsRising (2 ^ 32) 0 set
+IsExactSetBy low high apart [] set = (apart ≡ true) × IsUnion low high set × IsAscending (2 ^ 32) 0 set
 IsExactSetBy low high apart (n ∷ ns) set = (apart ≡ false) × (set ≡ n ∷ ns)
 
 abbrev pub IsExactSet : List ℕ → List ℕ → Bool → List ℕ → Type 0
@@ -37,7 +37,7 @@ IsExactSet low high apart set = IsExactSetBy low high apart (common_numbers low 
 -- there are any, otherwise one more than the sum and the numbers of either set.
 abbrev pub IsExactBy : ℕ → ℕ → List ℕ → List ℕ → List ℕ → ℕ → List ℕ → Type 0
 IsExactBy low_cost high_cost low high [] cost set =
-    (cost ≡ low_cost + high_cost + 1) × IsUnion low high set × IsRising (2 ^ 32) 0 set
+    (cost ≡ low_cost + high_cost + 1) × IsUnion low high set × IsAscending (2 ^ 32) 0 set
 IsExactBy low_cost high_cost low high (n ∷ ns) cost set = (cost ≡ low_cost + high_cost) × (set ≡ n ∷ ns)
 
 -- the exact cost and set of two nodes by their claims

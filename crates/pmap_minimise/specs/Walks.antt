@@ -4,7 +4,7 @@ use Rattle.prefix_keys.specs.Block.{width_of}
 use Rattle.prefix_keys.specs.declared.block.Block.{Block}
 use Rattle.prefix_keys.specs.declared.version.Version.{Version}
 use Rattle.pmap_text.specs.declared.entry.Entry.{Entry}
-use Rattle.pmap_cert.specs.CertificateText.{IsRising}
+use Rattle.pmap_cert.specs.CertificateText.{IsAscending}
 use Rattle.pmap_cert.specs.FormatReading.{DueLine}
 use Rattle.pmap_cert.specs.Node.{Node, cost_of, lines_of, set_of}
 use Rattle.pmap_cert.specs.Packed.{IsHeld}
@@ -45,7 +45,7 @@ pub record IsClaimOf (b : Built) (tree : Tree) (claim : Claim) (from to : ℕ) :
   pub at : IsAt b node node from to
   pub cost_is : claim.cost ≡ cost_of node
   pub set_is : IsHeld b.sets claim.set (set_of node)
-  pub rising : IsRising (2 ^ 32) 0 (set_of node)
+  pub ascending : IsAscending (2 ^ 32) 0 (set_of node)
 
 -- the lines are those of the trie's nodes from `number` on, and the claims are those that no parent has taken yet
 pub record IsClaimedFrom (t : TrieModel) (number : ℕ) (b : Built) (claims : List Claim) : Type 0 where

@@ -3,7 +3,7 @@ ghost use Rattle.std.specs.Prelude.{◌≡◌, ◌+◌, ◌^◌, ◌<◌, IfOk, 
 ghost use Rattle.std.specs.Option.{option_or};
 ghost use Rattle.pmap_cert.specs.Packed.{HasSet};
 ghost use Rattle.pmap_minimise.specs.Areas.{IsArea, number_at, own_label};
-ghost use Rattle.pmap_minimise.specs.Built.{AddsChain, AddsInner, AddsLeaf, HasRisingSet, IsBuilt, IsBuiltFor};
+ghost use Rattle.pmap_minimise.specs.Built.{AddsChain, AddsInner, AddsLeaf, HasAscendingSet, IsBuilt, IsBuiltFor};
 ghost use Rattle.pmap_minimise.specs.Numbers.{has_number, numbers_of};
 
 use crate::area::{Area, halves, own_label, run_end};
@@ -24,15 +24,15 @@ pub fn push_leaf(built: &mut Built, id: LabelId) -> Result<Claim, AllocError>
     Ok(Claim { cost: 0, set })
 }
 
-/// Adds the line of an inner node whose halves claim `low` and `high`, and returns its claim: their exact pair.
+/// Adds the line of an inner node whose halves claim `low` and `high`, and returns its claim: their exact claim.
 pub fn push_inner(
     alloc: Global,
     built: &mut Built,
     low: Claim,
     high: Claim,
 ) -> Result<Claim, AllocError>
-    requires low { HasRisingSet built.old.sets low.set }
-    requires high { HasRisingSet built.old.sets high.set }
+    requires low { HasAscendingSet built.old.sets low.set }
+    requires high { HasAscendingSet built.old.sets high.set }
     requires few { low.cost + high.cost + 1 < 2 ^ 32 }
     ensures { IfOk result (AddsInner low high built.old built.new) }
 {

@@ -7,7 +7,7 @@ ghost use Rattle.label_trie.specs.TrieModel.{LeafModel};
 ghost use Rattle.pmap_minimise.specs.Built.{HasLinesTo, IsAt, IsBuiltOf};
 
 use crate::built::{Built, Line};
-use pmap_cert::{Nodes, Root, Way};
+use pmap_cert::{Nodes, Path, Root};
 use std::alloc::{AllocError, Global};
 use std::slice;
 
@@ -30,11 +30,11 @@ fn push_node(out: &mut Nodes, built: &Built, to: usize) -> Result<usize, AllocEr
         }
         Line::Chain(number) => {
             let chain = built.chains[number];
-            let way = Way {
+            let path = Path {
                 value: chain.end,
                 count: chain.bits,
             };
-            out.push_chain(chain.cost, way, chain.side, slice::from_ref(&chain.side))?;
+            out.push_chain(chain.cost, path, chain.side, slice::from_ref(&chain.side))?;
             push_node(out, built, last)
         }
     }

@@ -9,7 +9,7 @@ ghost use Rattle.pmap_minimise.specs.Numbers.{IsSound};
 
 use crate::built::{Built, Line};
 use crate::entering::push_own;
-use pmap_cert::Way;
+use pmap_cert::Path;
 use pmap_text::{Entry, LabelId};
 use prefix_keys::{Block, Version, whole_space};
 use std::alloc::{AllocError, Global};
@@ -45,17 +45,17 @@ fn push_entries(
         Line::Chain(number) => {
             let chain = built.chains[number];
             let side = push_own(entries, slice::from_ref(&chain.side), *here, inherited)?;
-            let way = Way {
+            let path = Path {
                 value: chain.end,
                 count: chain.bits,
             };
-            let end = way.end(here);
+            let end = path.end(here);
             push_entries(entries, built, last, &end, Some(side))
         }
     }
 }
 
-/// Returns the entries of the shortest list by rising first address, by the certificate that was built.
+/// Returns the entries of the shortest list by ascending first address, by the certificate that was built.
 pub fn listed(alloc: Global, built: &Built, version: Version) -> Result<Vec<Entry>, AllocError>
     requires { (leaves : List LeafModel) × (node : Node) × IsBuiltOf version leaves built.now node }
     ensures { IfOk result (λ entries. (leaves : List LeafModel) (node : Node)

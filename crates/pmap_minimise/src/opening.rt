@@ -2,7 +2,7 @@
 ghost use Rattle.std.specs.Prelude.{◌≡◌, ℕ, ◌+◌, ◌++◌, ◌∷◌, ◌≤◌, [], IfOk, OnOk, length};
 ghost use Rattle.pmap_cert.specs.CertificateText.{inner_line};
 ghost use Rattle.pmap_cert.specs.Node.{Node, set_of};
-ghost use Rattle.pmap_minimise.specs.Built.{HasLinesTo, IsAt, set_above, with_number, node_text, side_line, text_down, text_up, way_line};
+ghost use Rattle.pmap_minimise.specs.Built.{HasLinesTo, IsAt, set_above, with_number, node_text, side_line, text_down, text_up, path_line};
 ghost use Rattle.pmap_minimise.specs.Numbers.{numbers_of};
 
 use crate::built::{Built, Chain, Line};
@@ -12,7 +12,7 @@ use pmap_text::LabelId;
 use std::alloc::{AllocError, Global};
 use std::slice;
 
-// Appends the labels of a set with one more label, in rising order.
+// Appends the labels of a set with one more label, in ascending order.
 fn push_with(all: &mut Vec<LabelId>, set: &[LabelId], side: LabelId) -> Result<(), AllocError>
     ensures { OnOk result (numbers_of all.new.items
         ≡ numbers_of all.old.items ++ with_number side.0 (numbers_of set.now)) }
@@ -40,7 +40,7 @@ fn push_last_line(
     end: &[LabelId],
     node: &[u8],
 ) -> Result<(), AllocError>
-    requires { node.now ≡ way_line chain.now }
+    requires { node.now ≡ path_line chain.now }
     ensures { OnOk result (out.new.items ≡ out.old.items
         ++ (inner_line chain.now.cost (set_above chain.now.side.0 (numbers_of end.now) 0) ++ 10 ∷ [])) }
 {
@@ -65,8 +65,8 @@ fn push_down(
     len: usize,
 ) -> Result<(), AllocError>
     requires bits { (1 ≤ chain.now.bits) × (chain.now.bits ≤ 128) }
-    requires both { both.now ≡ way_line chain.now ++ side_line chain.now }
-    requires len { len ≡ length (way_line chain.now) }
+    requires both { both.now ≡ path_line chain.now ++ side_line chain.now }
+    requires len { len ≡ length (path_line chain.now) }
     ensures { OnOk result (out.new.items
         ≡ out.old.items ++ text_down chain.now (numbers_of end.now) chain.now.bits) }
 {

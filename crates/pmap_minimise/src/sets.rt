@@ -1,8 +1,8 @@
-//! Sets of labels, as slices with their numbers in rising order.
+//! Sets of labels, as slices with their numbers in ascending order.
 ghost use Rattle.std.specs.Prelude.{◌≡◌, ◌^◌, IfOk};
-ghost use Rattle.pmap_cert.specs.CertificateText.{IsRising};
+ghost use Rattle.pmap_cert.specs.CertificateText.{IsAscending};
 ghost use Rattle.pmap_cert.specs.Packed.{set_in};
-ghost use Rattle.pmap_minimise.specs.Built.{HasRisingSet, IsHalfHeld};
+ghost use Rattle.pmap_minimise.specs.Built.{HasAscendingSet, IsHalfHeld};
 ghost use Rattle.pmap_minimise.specs.Numbers.{IsExactSet, IsUnion, common_numbers, numbers_of};
 
 use pmap_cert::{SetId, SetPool};
@@ -14,10 +14,10 @@ use std::alloc::{AllocError, Global};
 type SmallSet = SmallVec<LabelId, 8>;
 
 fn common(alloc: Global, low: &[LabelId], high: &[LabelId]) -> Result<SmallSet, AllocError>
-    requires low { IsRising (2 ^ 32) 0 (numbers_of low.now) }
-    requires high { IsRising (2 ^ 32) 0 (numbers_of high.now) }
+    requires low { IsAscending (2 ^ 32) 0 (numbers_of low.now) }
+    requires high { IsAscending (2 ^ 32) 0 (numbers_of high.now) }
     ensures common { IfOk result (λ set. numbers_of set.items ≡ common_numbers (numbers_of low.now) (numbers_of high.now)) }
-    ensures rising { IfOk result (λ set. IsRising (2 ^ 32) 0 (numbers_of set.items)) }
+    ensures ascending { IfOk result (λ set. IsAscending (2 ^ 32) 0 (numbers_of set.items)) }
 {
     let mut set = SmallVec::new(alloc);
     let mut lower = low;
@@ -40,10 +40,10 @@ fn common(alloc: Global, low: &[LabelId], high: &[LabelId]) -> Result<SmallSet, 
 }
 
 fn either(alloc: Global, low: &[LabelId], high: &[LabelId]) -> Result<SmallSet, AllocError>
-    requires low { IsRising (2 ^ 32) 0 (numbers_of low.now) }
-    requires high { IsRising (2 ^ 32) 0 (numbers_of high.now) }
+    requires low { IsAscending (2 ^ 32) 0 (numbers_of low.now) }
+    requires high { IsAscending (2 ^ 32) 0 (numbers_of high.now) }
     ensures union { IfOk result (λ set. IsUnion (numbers_of low.now) (numbers_of high.now) (numbers_of set.items)) }
-    ensures rising { IfOk result (λ set. IsRising (2 ^ 32) 0 (numbers_of set.items)) }
+    ensures ascending { IfOk result (λ set. IsAscending (2 ^ 32) 0 (numbers_of set.items)) }
 {
     let mut set = SmallVec::new(alloc);
     let mut lower = low;
@@ -77,11 +77,11 @@ fn exact_set(
     low: &SetId,
     high: &SetId,
 ) -> Result<(SmallSet, bool), AllocError>
-    requires low { HasRisingSet sets.now low.now }
-    requires high { HasRisingSet sets.now high.now }
+    requires low { HasAscendingSet sets.now low.now }
+    requires high { HasAscendingSet sets.now high.now }
     ensures exact { IfOk result (λ exact. IsExactSet (set_in sets.now low.now)
         (set_in sets.now high.now) exact.1 (numbers_of exact.0.items)) }
-    ensures rising { IfOk result (λ exact. IsRising (2 ^ 32) 0 (numbers_of exact.0.items)) }
+    ensures ascending { IfOk result (λ exact. IsAscending (2 ^ 32) 0 (numbers_of exact.0.items)) }
 {
     let low = sets.labels(low);
     let high = sets.labels(high);
@@ -100,8 +100,8 @@ pub fn joined(
     low: SetId,
     high: SetId,
 ) -> Result<(SetId, bool), AllocError>
-    requires low { HasRisingSet sets.old low }
-    requires high { HasRisingSet sets.old high }
+    requires low { HasAscendingSet sets.old low }
+    requires high { HasAscendingSet sets.old high }
     ensures { IfOk result (λ half. IsHalfHeld low high sets.old sets.new half.0 half.1) }
 {
     // An optimisation: halves that claim one and the same label are frequent.

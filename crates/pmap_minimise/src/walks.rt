@@ -57,7 +57,7 @@ fn push_node(
 }
 
 /// Returns the lines of a trie's nodes, from the last node to the first. A leaf claims the cost 0 and its label, an
-/// inner node the exact pair of its halves.
+/// inner node the exact claim of its halves.
 pub fn claimed(alloc: Global, trie: &Trie) -> Result<Built, AllocError>
     requires { All (λ leaf. IsSome leaf.label) trie.now.leaves }
     ensures { IfOk result (λ built. (node : Node) × IsClaimed trie.now.version trie.now.leaves built node) }
@@ -118,7 +118,7 @@ fn push_chosen(
     }
 }
 
-/// Returns the entries of the shortest list, by rising first address, and the root of the certificate, by the lines
+/// Returns the entries of the shortest list, by ascending first address, and the root of the certificate, by the lines
 /// that `claimed` returned.
 pub fn chosen(
     alloc: Global,

@@ -84,7 +84,7 @@ in_order-moves (p ∷ ps) =
     IsPermutation-trans (p ∷ ps) (p ∷ entries_in_order ps) (placed p (entries_in_order ps)) (IsPermutation-cons p ps (entries_in_order ps) (in_order-moves ps))
     (placed-moves p (entries_in_order ps))
 
--- the entries in order rise
+-- the entries in order ascend
 placed-all : (P : Prefix → Type 0) (p : Prefix) (ps : List Prefix) → P p → AllByRecursion P ps → AllByRecursion P (placed p ps)
 placed-all P p [] is all = (is, tt)
 placed-all P p (r ∷ rs) is all = by (begins_before r p) (placed-all P p rs is all.1)
@@ -123,7 +123,7 @@ in_order-one ps rs distinct moved ordered =
     order-one rs (entries_in_order ps) ordered (in_order-order ps distinct) (λ s. Contains-permutation rs (entries_in_order ps) s both)
     (λ s. Contains-permutation (entries_in_order ps) rs s (IsPermutation-sym rs (entries_in_order ps) both))
 
--- entries that rise by `place_of` are in order
+-- entries that ascend by `place_of` are in order
 place-before : (table : List Label) (d e : Entry) → d.block.len ≤ 128 → e.block.len ≤ 128 → place_of d ≤ place_of e → same_block d e ≡ false
     → begins_before (prefix_of table d) (prefix_of table e) ≡ true
 place-before table d e short short' le ne = grind (arith, nat_tests)
@@ -137,14 +137,14 @@ short-block e = short e.block.version e.block.len e.block.len_in_range
 
 pub entries-order : (table : List Label) (es : List Entry) → IsNonDecreasingBy place_of es → HasDistinctBlocks es
     → IsInOrder (map (prefix_of table) es)
-entries-order table [] rising distinct = tt
-entries-order table (e ∷ es) rising distinct =
+entries-order table [] ascending distinct = tt
+entries-order table (e ∷ es) ascending distinct =
     let P : Prefix → Type 0 = λ p. begins_before (prefix_of table e) p ≡ true in
     let other = All-from_recursion (λ (d : Entry). same_block e d ≡ false) es (IsDistinct-head same_block e es distinct) in
     let each : All (λ d. P (prefix_of table d)) es = λ k d below.
-    place-before table e (get_or es k d) (short-block e) (short-block (get_or es k d)) (rising 0 (suc k) d (omega arith) (omega (arith, below))) (other k d below) in (
+    place-before table e (get_or es k d) (short-block e) (short-block (get_or es k d)) (ascending 0 (suc k) d (omega arith) (omega (arith, below))) (other k d below) in (
       recursion_from_All P (map (prefix_of table) es) (All-map P (prefix_of table) es each),
-      entries-order table es (λ i j d le lt. rising (suc i) (suc j) d (omega (arith, le)) (omega (arith, lt))) (IsDistinct-tail same_block e es distinct),
+      entries-order table es (λ i j d le lt. ascending (suc i) (suc j) d (omega (arith, le)) (omega (arith, lt))) (IsDistinct-tail same_block e es distinct),
     )
 
 -- the sorted entries are those of the list in its order
@@ -156,10 +156,10 @@ alike-blocks table es distinct = distinct_to_map (prefix_of table) starts_alike 
 
 pub sorted-order : (table : List Label) (es sorted : List Entry) → IsPermutation es sorted → IsNonDecreasingBy place_of sorted → HasDistinctBlocks es
     → map (prefix_of table) sorted ≡ entries_in_order (map (prefix_of table) es)
-sorted-order table es sorted moved rising distinct =
+sorted-order table es sorted moved ascending distinct =
     in_order-one (map (prefix_of table) es) (map (prefix_of table) sorted) (alike-blocks table es distinct)
     (IsPermutation-map (prefix_of table) es sorted moved)
-    (entries-order table sorted rising (IsDistinct-IsPermutation same_block flips es sorted moved distinct))
+    (entries-order table sorted ascending (IsDistinct-IsPermutation same_block flips es sorted moved distinct))
 
 -- entries in order keep their order
 placed-first : (p : Prefix) (ps : List Prefix) → IsInOrder (p ∷ ps) → placed p ps ≡ p ∷ ps

@@ -45,7 +45,7 @@ list_text l =
 
 -- How the code sorts entries.
 
--- a number that rises with the order of entries, as prefix lengths are below 256
+-- a number that ascends with the order of entries, as prefix lengths are below 256
 abbrev pub place_of : Entry → ℕ
 place_of e = e.block.value * 256 + e.block.len
 

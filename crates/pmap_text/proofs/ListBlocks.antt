@@ -26,7 +26,7 @@ block_short v e same = rw (← same) e.block.len_in_range
 
 -- of two blocks in order that share an address the second is no shorter
 pub longer_later : (es : List Entry) → IsNonDecreasingBy rank_of es → LongerLater es
-longer_later es rising i j d le below a version first second =
+longer_later es ascending i j d le below a version first second =
     let e = get_or es i d in
     let f = get_or es j d in
     let W = width_of e.block.version in
@@ -36,7 +36,7 @@ longer_later es rising i j d le below a version first second =
           let number = block_number-shorter W f.block.len e.block.len e.block.value a (omega (arith, shorter)) e.block.len_in_range (sym first) ∙ there in
           let start = block_start e.block.version f (sym version) in
           let begins = address-first W f.block.len (block_number W f.block.len f.block.value) e.block.value number in
-          absurd (omega (arith, start, begins, rising i j d le below, shorter))
+          absurd (omega (arith, start, begins, ascending i j d le below, shorter))
       | inr short ↦ short
     ]
 

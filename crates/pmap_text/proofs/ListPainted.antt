@@ -17,7 +17,7 @@ use Rattle.pmap_text.proofs.Finds.{Contains-from_map, distinct_same}
 use Rattle.pmap_text.proofs.ListBlocks.{block_short, same_block-from}
 use Rattle.pmap_text.proofs.Longest.{AreBlocks, label_seen}
 use Rattle.pmap_text.proofs.Orders.{known_text}
-use Rattle.pmap_text.proofs.Painted.{IsRising, IsSeen, painted, rising, seen_by, seen_permuted, unmet}
+use Rattle.pmap_text.proofs.Painted.{IsAscending, IsSeen, painted, ascending, seen_by, seen_permuted, unmet}
 use Rattle.pmap_text.proofs.Seen.{last_such-is}
 use Rattle.pmap_text.proofs.SeenBlocks.{IsWhole, address_whole, ordered_of}
 
@@ -83,7 +83,7 @@ record IsWon (W a : ℕ) (table : List Label) (ps : List Prefix) (o : Option Map
   seen : IsSeen W table ps W a label
   text : option_or (option_map (λ m. m.label) o) None ≡ option_and_then (slice_get table) label
 
-won : (W a : ℕ) (table : List Label) (ps : List Prefix) (ss : List Statement) → IsRising W ps → All (λ s. s.label.0 < length table) ss
+won : (W a : ℕ) (table : List Label) (ps : List Prefix) (ss : List Statement) → IsAscending W ps → All (λ s. s.label.0 < length table) ss
     → (o : Option Mapping) → last_such (spans a) (mappings_of table ss) ≡ o → IsWhole W W a (map (painted W) ps) o → IsWon W a table ps o
 won W a table ps ss up known None last whole = record { label = None; seen = unmet W W a ps whole.is; text = refl }
 won W a table ps ss up known (Some m) last whole =
@@ -138,7 +138,7 @@ statements_of l ss first = record {
         ordered_of l.labels ss m (subst (λ (ms : List Mapping). Contains ms m) mappings has) in
         let here = subst (λ (ms : List Mapping). IsWhole W W a (map (painted W) rs) (last_such (spans a) ms)) mappings
         (address_whole W a (map (painted W) rs) ordered) in
-        let is = won W a l.labels rs ss (rising l.version l.labels sorted versions first.later) known (last_such (spans a) (mappings_of l.labels ss)) refl here in
+        let is = won W a l.labels rs ss (ascending l.version l.labels sorted versions first.later) known (last_such (spans a) (mappings_of l.labels ss)) refl here in
         let back = IsPermutation-map (prefix_of l.labels) sorted l.entries (IsPermutation-sym l.entries sorted first.moved) in
         is.text ∙ sym (label_seen W l.labels (map (prefix_of l.labels) l.entries) W a a (suc W) is.label (list_blocks l) (single W a)
         (λ bits most fits. omega (arith, fits)) (seen_permuted W l.labels rs (map (prefix_of l.labels) l.entries) back W a is.label is.seen))

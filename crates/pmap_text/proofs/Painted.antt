@@ -49,10 +49,10 @@ IsSeen W table ps n q (Some id) =
     (id < length table) × ((top : Prefix) × (top.label ≡ text_at table id) × IsTop W ps n q top)
 
 -- of two prefixes that cover an address the longer one comes later
-abbrev pub IsRising : ℕ → List Prefix → Type 0
-IsRising W [] = Unit {0}
-IsRising W (p ∷ ps) =
-    All (λ r. (a : ℕ) → spans a (painted W p) ≡ true → spans a (painted W r) ≡ true → p.bits ≤ r.bits) ps × IsRising W ps
+abbrev pub IsAscending : ℕ → List Prefix → Type 0
+IsAscending W [] = Unit {0}
+IsAscending W (p ∷ ps) =
+    All (λ r. (a : ℕ) → spans a (painted W p) ≡ true → spans a (painted W r) ≡ true → p.bits ≤ r.bits) ps × IsAscending W ps
 
 -- a prefix covers an address if the entry's block does
 in_block : (table : List Label) (e : Entry) (a : ℕ) → spans a (painted (width_of e.block.version) (prefix_of table e)) ≡ true → IsInBlock e.block a
@@ -62,10 +62,10 @@ in_block table e a h =
     let ends = both_le (first_of W e.block.len s) a a (last_of W e.block.len s) h in
     address-between W e.block.len s a ends.0 ends.1
 
-pub rising : (v : Version) (table : List Label) (es : List Entry) → All (λ e. e.block.version ≡ v) es → LongerLater es
-    → IsRising (width_of v) (map (prefix_of table) es)
-rising v table [] same later = tt
-rising v table (e ∷ es) same later = (
+pub ascending : (v : Version) (table : List Label) (es : List Entry) → All (λ e. e.block.version ≡ v) es → LongerLater es
+    → IsAscending (width_of v) (map (prefix_of table) es)
+ascending v table [] same later = tt
+ascending v table (e ∷ es) same later = (
   All-map (λ r. (a : ℕ) → spans a (painted (width_of v) (prefix_of table e)) ≡ true → spans a (painted (width_of v) r) ≡ true → e.block.len ≤ r.bits)
       (prefix_of table) es
       (λ k d below a covers covers'.
@@ -74,7 +74,7 @@ rising v table (e ∷ es) same later = (
       let there : r.block.version ≡ v = All-tail (λ (e : Entry). e.block.version ≡ v) e es same k d below in
       later 0 (suc k) d (omega arith) (omega (arith, below)) a (here ∙ sym there)
       (in_block table e a (rw here covers)) (in_block table r a (rw there covers'))),
-  rising v table es (All-tail (λ (e : Entry). e.block.version ≡ v) e es same)
+  ascending v table es (All-tail (λ (e : Entry). e.block.version ≡ v) e es same)
       (λ i j d le below. later (suc i) (suc j) d (omega (arith, le)) (omega (arith, below))),
 )
 
@@ -132,7 +132,7 @@ last_met-step W n q p ps m up whole later true None last e = record {
 }
 last_met-step W n q p ps m up whole later false None last e = absurd (let h : None ≡ Some m = e in cc)
 
-last_met : (W n q : ℕ) (ps : List Prefix) (m : Mapping) → IsRising W ps → last_such (meets W n q) (map (painted W) ps) ≡ Some m
+last_met : (W n q : ℕ) (ps : List Prefix) (m : Mapping) → IsAscending W ps → last_such (meets W n q) (map (painted W) ps) ≡ Some m
     → spans_all W n q m ≡ true → IsLast W n q ps m
 last_met W n q [] m up e whole = absurd (let h : None ≡ Some m = e in cc)
 last_met W n q (p ∷ ps) m up e whole =
@@ -141,7 +141,7 @@ last_met W n q (p ∷ ps) m up e whole =
 
 -- the label that settles a block, whatever the label of the addresses that no prefix covers, is that of the prefix on
 -- top
-pub seen_by : (W n q : ℕ) (ps : List Prefix) (x : Label) → IsRising W ps → (o : Option Mapping)
+pub seen_by : (W n q : ℕ) (ps : List Prefix) (x : Label) → IsAscending W ps → (o : Option Mapping)
     → last_such (meets W n q) (map (painted W) ps) ≡ o → ((fallback : Label) → settled_by W n q fallback o ≡ Some x)
     → (top : Prefix) × (top.label ≡ x) × IsTop W ps n q top
 seen_by W n q ps x up None last settled =

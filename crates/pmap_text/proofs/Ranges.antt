@@ -59,15 +59,15 @@ module _ (s : StretchesModel) (every : HasEveryAddress s) (a : ℕ) where
         let few = prefix_len-le-length (λ first. leb first a) s.firsts in
         let from = begun (i + 1) (omega (arith, under)) in
         let last = last_before s i (omega (arith, under, few)) in
-        let rises = every.rising i (i + 1) (omega arith) (omega (arith, under, few)) in
-        absurd (omega (arith, from, last, rises, holds.to))
+        let ascends = every.ascending i (i + 1) (omega arith) (omega (arith, under, few)) in
+        absurd (omega (arith, from, last, ascends, holds.to))
     | inr up ↦ elim (cases_lt (count - 1) i) [
       | inl over ↦
           let above = not_begun (omega (arith, over, holds.index, some_begun)) in
           elim (cases_lt count i) [
             | inl beyond ↦
-                let rises = every.rising count i beyond holds.index in
-                absurd (omega (arith, above, rises, holds.from))
+                let ascends = every.ascending count i beyond holds.index in
+                absurd (omega (arith, above, ascends, holds.from))
             | inr here ↦
                 let same : first_at s count ≡ first_at s i = ap (first_at s) (let e : count ≡ i = omega (arith, over, here, some_begun) in e) in
                 absurd (omega (arith, above, same, holds.from))
@@ -116,16 +116,16 @@ module _ (s : StretchesModel) (first : ℕ) (label : Option LabelId) (s' : Stret
     some = omega (arith, length_added);
     paired = ap (λ (l : List (Option LabelId)). length l) adds.labels ∙ length_push s.labels label ∙ ap (λ (n : ℕ). n + 1) every.paired ∙ sym length_added;
     zero = first_early 0 every.some ∙ every.zero;
-    rising = λ i j under within.
+    ascending = λ i j under within.
         let before = first_early i (omega (arith, under, within, length_added)) in
         elim (cases_lt j (length s.firsts)) [
-          | inl early ↦ let rises = every.rising i j under early in omega (arith, before, first_early j early, rises)
+          | inl early ↦ let ascends = every.ascending i j under early in omega (arith, before, first_early j early, ascends)
           | inr late ↦
               let last = first_late j (omega (arith, late, within, length_added)) in
               elim (cases_lt i (length s.firsts - 1)) [
                 | inl low ↦
-                    let rises = every.rising i (length s.firsts - 1) low (omega (arith, every.some)) in
-                    omega (arith, before, last, rises, above)
+                    let ascends = every.ascending i (length s.firsts - 1) low (omega (arith, every.some)) in
+                    omega (arith, before, last, ascends, above)
                 | inr top ↦
                     let same : first_at s i ≡ first_at s (length s.firsts - 1) =
                     ap (first_at s) (let e : i ≡ length s.firsts - 1 = omega (arith, top, under, within, length_added, every.some) in e) in
@@ -143,18 +143,18 @@ module _ (s : StretchesModel) (first : ℕ) (label : Option LabelId) (s' : Stret
 -- a stretch is not empty, ends among the addresses, and the next one begins right after it
 module _ (s : StretchesModel) (every : HasEveryAddress s) where
   pub next_first : (i : ℕ) → i + 1 < length s.firsts → first_at s (i + 1) ≡ last_at s i + 1
-  next_first i more = omega (arith, last_before s i more, every.rising i (i + 1) (omega arith) more)
+  next_first i more = omega (arith, last_before s i more, every.ascending i (i + 1) (omega arith) more)
 
   pub ordered_at : (i : ℕ) → i < length s.firsts → first_at s i ≤ last_at s i
   ordered_at i below = elim (cases_lt (i + 1) (length s.firsts)) [
-    | inl more ↦ omega (arith, next_first i more, every.rising i (i + 1) (omega arith) more)
+    | inl more ↦ omega (arith, next_first i more, every.ascending i (i + 1) (omega arith) more)
     | inr end ↦ omega (arith, last_end s i end, every.within i below)
   ]
 
   -- of two stretches the earlier one ends before the later one begins
   pub ends_before : (i j : ℕ) → i < j → j < length s.firsts → last_at s i < first_at s j
   ends_before i j less below = elim (cases_lt (i + 1) j) [
-    | inl more ↦ omega (arith, next_first i (omega (arith, less, below)), every.rising (i + 1) j more below)
+    | inl more ↦ omega (arith, next_first i (omega (arith, less, below)), every.ascending (i + 1) j more below)
     | inr next ↦
         let same : first_at s (i + 1) ≡ first_at s j = ap (first_at s) (let e : i + 1 ≡ j = omega (arith, less, next) in e) in
         omega (arith, next_first i (omega (arith, less, below)), same)

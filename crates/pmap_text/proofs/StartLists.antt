@@ -35,7 +35,7 @@ first_all ss count starts sorted has end moved up = record {
   every = λ j s listed.
       let within = slice_get_within ss j s listed in
       Contains-permutation starts sorted (start_of j s) moved (has.every j s (omega (arith, within, end)) listed);
-  rising = up;
+  ascending = up;
 }
 
 -- the one at an index of its list
@@ -70,7 +70,7 @@ in_own_order ss up = record {
   every = λ j s listed.
       let at = start_from ss j s listed in
       (j, slice_get_within (starts_from 0 ss) j (start_of j s) at, get_or_from_slice_get (starts_from 0 ss) j (start_of j s) (start_of j s) at);
-  rising = λ i j d le below.
+  ascending = λ i j d le below.
       let within : j < length ss = omega (arith, below, length_from 0 ss) in
       let a = some_at ss i (omega (arith, le, within)) in
       let b = some_at ss j within in

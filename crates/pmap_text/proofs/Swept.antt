@@ -10,7 +10,7 @@ use Rattle.pmap_text.specs.Starting.{start_of, IsStart, AreStarts, Start}
 use Rattle.pmap_text.specs.Inner.{Closes, IsSwept, IsTop, IsWinner, Opens, high_won}
 use Rattle.pmap_text.proofs.Finds.{Contains-cases, Contains-first, Contains-later}
 
--- if the first of a rising list is after an address, all are
+-- if the first of an ascending list is after an address, all are
 behind_first : (coming : List Start) (first : ℕ) (e : Start) → IsNonDecreasingBy (λ start. start.low) coming → 0 < length coming
     → e ≡ get_or coming 0 e → first < e.low → All (λ start. first < start.low) coming
 behind_first coming first e up some is behind k d below =
@@ -24,7 +24,7 @@ pub behind_coming : (ss : List Statement) (starts : List Start) (next first : �
 behind_coming ss starts next first e are within is behind =
     let long = length-drop next starts in
     let here : get_or (drop next starts) 0 e ≡ get_or starts next e = get_or-drop next starts 0 e ∙ ap (λ (k : ℕ). get_or starts k e) (let z : next + 0 ≡ next = omega arith in z) in
-    behind_first (drop next starts) first e (IsNonDecreasingBy-drop (λ start. start.low) next starts are.rising) (omega (arith, within, long)) (is ∙ sym here) behind
+    behind_first (drop next starts) first e (IsNonDecreasingBy-drop (λ start. start.low) next starts are.ascending) (omega (arith, within, long)) (is ∙ sym here) behind
 
 -- the elements of a list with one more number
 module _ (x : ℕ) (xs ys : List ℕ) (moved : IsPermutation (x ∷ xs) ys) where

@@ -14,7 +14,7 @@ same_block d e = d.block.value == e.block.value && d.block.len == e.block.len
 abbrev pub HasDistinctBlocks : List Entry → Type 0
 HasDistinctBlocks entries = IsDistinct same_block entries
 
--- A number by which entries rise in the order of their blocks: by first address, and of equal first addresses the
+-- A number by which entries ascend in the order of their blocks: by first address, and of equal first addresses the
 -- shorter block first. Lengths are below 256.
 abbrev pub rank_of : Entry → ℕ
 rank_of e = e.block.value * 256 + e.block.len

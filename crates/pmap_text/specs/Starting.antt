@@ -14,7 +14,7 @@ pub record IsStart (ss : List Statement) (start : Start) : Type 0 where
 pub record AreStarts (ss : List Statement) (starts : List Start) : Type 0 where
   pub each : All (IsStart ss) starts
   pub every : (j : ℕ) (s : Statement) → slice_get ss j ≡ Some s → Contains starts (start_of j s)
-  pub rising : IsNonDecreasingBy (λ start. start.low) starts
+  pub ascending : IsNonDecreasingBy (λ start. start.low) starts
 
 -- the starts of statements, in their own order, with numbers from this one on
 abbrev pub starts_from : ℕ → List Statement → List Start

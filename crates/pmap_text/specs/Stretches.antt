@@ -51,8 +51,8 @@ pub record HasStretch (W : ℕ) (ss : List Statement) (default : Option LabelId)
   pub stretch : (m : MapModel) → width_of m.version ≡ W → m.mappings ≡ mappings_of m.table ss
       → IsStretch m first last (option_map (mapping_of m.table) top)
 
--- Stretches as contracts see them: for the addresses of a version, the first address of each stretch, in rising order,
--- and its label.
+-- Stretches as contracts see them: for the addresses of a version, the first address of each stretch, in ascending
+-- order, and its label.
 pub record StretchesModel : Type 0 where
   pub version : Version
   pub firsts : List ℕ
@@ -74,13 +74,13 @@ pub record HoldsAddress (s : StretchesModel) (a i : ℕ) : Type 0 where
   pub from : first_at s i ≤ a
   pub to : a ≤ last_at s i
 
--- there is a stretch with a label for each first address; the first stretch begins at 0, and the others rise within the
--- version's addresses
+-- there is a stretch with a label for each first address; the first stretch begins at 0, and the others ascend within
+-- the version's addresses
 pub record HasEveryAddress (s : StretchesModel) : Type 0 where
   pub some : 0 < length s.firsts
   pub paired : length s.labels ≡ length s.firsts
   pub zero : first_at s 0 ≡ 0
-  pub rising : (i j : ℕ) → i < j → j < length s.firsts → first_at s i < first_at s j
+  pub ascending : (i j : ℕ) → i < j → j < length s.firsts → first_at s i < first_at s j
   pub within : (i : ℕ) → i < length s.firsts → first_at s i < 2 ^ width_of s.version
 
 -- the default is the label of the addresses that no statement covers

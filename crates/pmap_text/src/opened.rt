@@ -7,11 +7,11 @@ use std::alloc::{AllocError, Global};
 use std::collections::BinaryHeap;
 use std::marker::Model;
 
-/// The numbers of the open statements. The greatest is removed first. Numbers that are added in rising order, as in
+/// The numbers of the open statements. The greatest is removed first. Numbers that are added in ascending order, as in
 /// most texts, are kept on a stack, which is quicker than a heap.
 #[derive(Drop)]
 pub struct Opened {
-    rising: Vec<usize>,
+    ascending: Vec<usize>,
     others: BinaryHeap<usize>,
 }
 
@@ -23,9 +23,9 @@ impl Model for Opened {
 
     ghost Value = { List ℕ };
 
-    ghost view = { λ o. o.rising.items ++ heap_items o.others };
+    ghost view = { λ o. o.ascending.items ++ heap_items o.others };
 
-    ghost invariant = { λ o. IsNonDecreasingBy (λ n. n) o.rising.items × IsHeap nat_cmp (heap_items o.others) };
+    ghost invariant = { λ o. IsNonDecreasingBy (λ n. n) o.ascending.items × IsHeap nat_cmp (heap_items o.others) };
 }
 
 impl Opened {
@@ -34,7 +34,7 @@ impl Opened {
         ensures { result ≡ [] }
     {
         Opened {
-            rising: Vec::new(alloc),
+            ascending: Vec::new(alloc),
             others: BinaryHeap::new(alloc),
         }
     }
@@ -44,9 +44,9 @@ impl Opened {
     pub fn push(&mut self, number: usize) -> Result<(), AllocError>
         ensures { OnOk result (IsPermutation (number ∷ self.old) self.new) }
     {
-        match self.rising.last() {
+        match self.ascending.last() {
             Some(last) if number < *last => self.others.push(number)?,
-            _ => self.rising.push(number)?,
+            _ => self.ascending.push(number)?,
         }
         Ok(())
     }
@@ -58,10 +58,10 @@ impl Opened {
         ensures taken { IfSome result (λ number. IsPermutation self.old (number ∷ self.new)) }
         ensures greatest { IfSome result (λ number. All (λ other. other ≤ number) self.new) }
     {
-        if is_above(&self.others, self.rising.last().copied()) {
+        if is_above(&self.others, self.ascending.last().copied()) {
             self.others.pop()
         } else {
-            self.rising.pop()
+            self.ascending.pop()
         }
     }
 }

@@ -21,7 +21,7 @@ fn by_block(entry: &Entry, other: &Entry) -> Ordering
 
 /// Returns `true` if each entry comes after the one before it.
 pub fn are_in_order(entries: &[Entry]) -> bool
-    ensures rising { IsTrue result → IsNonDecreasingBy rank_of entries.now }
+    ensures ascending { IsTrue result → IsNonDecreasingBy rank_of entries.now }
     ensures distinct { IsTrue result → HasDistinctBlocks entries.now }
 {
     for i in 1..entries.len() {
@@ -35,7 +35,7 @@ pub fn are_in_order(entries: &[Entry]) -> bool
 /// Returns the entries in order.
 pub fn in_order(alloc: Global, entries: &[Entry]) -> Result<Vec<Entry>, AllocError>
     ensures same { IfOk result (λ sorted. IsPermutation entries.now sorted.items) }
-    ensures rising { IfOk result (λ sorted. IsNonDecreasingBy rank_of sorted.items) }
+    ensures ascending { IfOk result (λ sorted. IsNonDecreasingBy rank_of sorted.items) }
 {
     let mut sorted = Vec::from_slice(alloc, entries)?;
     sorted.sort_unstable_by(|entry, other| by_block(entry, other));

@@ -7,8 +7,8 @@ use crate::statements::Statements;
 use std::alloc::{AllocError, Global};
 use std::marker::Model;
 
-/// The starts of statements, in rising order. If the statements are in that order already, as in most texts, nothing is
-/// copied and nothing is sorted.
+/// The starts of statements, in ascending order. If the statements are in that order already, as in most texts, nothing
+/// is copied and nothing is sorted.
 #[derive(Drop)]
 pub struct Starts<'a> {
     statements: &'a Statements,
@@ -25,7 +25,7 @@ impl<'a> Model for Starts<'a> {
 }
 
 // Returns `true` if no statement begins before an earlier one.
-fn are_rising(statements: &Statements) -> bool
+fn are_ascending(statements: &Statements) -> bool
     ensures { IsTrue result → IsNonDecreasingBy (λ s. s.span.low.value) statements.now }
 {
     for place in 1..statements.len() {
@@ -57,7 +57,7 @@ impl<'a> Starts<'a> {
     pub fn new(alloc: Global, statements: &'a Statements) -> Result<Starts<'a>, AllocError>
         ensures { IfOk result (λ starts. AreStarts statements.now starts) }
     {
-        if are_rising(statements) {
+        if are_ascending(statements) {
             return Ok(Starts {
                 statements,
                 sorted: None,

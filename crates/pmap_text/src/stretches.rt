@@ -25,15 +25,15 @@ struct Begin {
     label: LabelId,
 }
 
-// The first addresses of stretches, in rising order, and the numbers of their labels. A stretch takes 8 bytes for IPv4
-// and 20 for IPv6.
+// The first addresses of stretches, in ascending order, and the numbers of their labels. A stretch takes 8 bytes for
+// IPv4 and 20 for IPv6.
 #[derive(Drop)]
 enum Begins {
     Narrow(Vec<Begin>),
     Wide(Vec<u128>, Vec<LabelId>),
 }
 
-/// The stretches of statements over the addresses of a version, in rising order. A stretch is a maximal range of
+/// The stretches of statements over the addresses of a version, in ascending order. A stretch is a maximal range of
 /// addresses at which one statement wins (the last that covers them), or none does. It has the label of that statement,
 /// or the default.
 pub struct Stretches {

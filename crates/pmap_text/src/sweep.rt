@@ -14,7 +14,7 @@ use std::alloc::{AllocError, Global};
 pub struct Sweep<'a> {
     pub won: Option<usize>,
     pub last: u128,
-    /// The starts of the statements, in rising order. Those before `next` have been opened.
+    /// The starts of the statements, in ascending order. Those before `next` have been opened.
     pub starts: Starts<'a>,
     pub next: usize,
     /// The numbers of the others that have been opened and not yet been found to end.

@@ -5,34 +5,34 @@ use Rattle.pmap_text.specs.MapText.{map_of, text_at}
 use Rattle.pmap_text.specs.PrefixList.{list_of, number_of_block as number_of}
 use Rattle.pmap_text.specs.declared.label.LabelId.{LabelId}
 use Rattle.pmap_cert.specs.CertificateText.{HasRoomBelow}
-use Rattle.pmap_cert.specs.CertificateModel.{chain_pair, chosen_half}
+use Rattle.pmap_cert.specs.CertificateModel.{chain_claim, chosen_half}
 use Rattle.pmap_cert.specs.Node.{HasChainForm, bits_of, first_node}
 use Rattle.pmap_cert.specs.Packed.{bits_in}
-use Rattle.pmap_cert.proofs.Ways.{way-length}
-use Rattle.cert_check.specs.Inner.{IsNodeAnswer, IsWayAnswer, line_fault, tree_at, way_fault}
+use Rattle.pmap_cert.proofs.Paths.{path-length}
+use Rattle.cert_check.specs.Inner.{IsNodeAnswer, IsPathAnswer, line_fault, tree_at, path_fault}
 use Rattle.cert_check.specs.Checking.{bits_fault, claim_fault, fault_of_number, node_fault, told}
-use Rattle.cert_check.proofs.Nodes.{chain-at, count_of, end-rising, end-room, fault_of, half-is, half-room, inner-at, later-answer, or-first, or-second, own-answer, pair_of, rising-of, room-long, room-rest, way-step}
+use Rattle.cert_check.proofs.Nodes.{chain-at, count_of, end-ascending, end-room, fault_of, half-is, half-room, inner-at, later-answer, or-first, or-second, own-answer, claim_at, ascending-of, room-long, room-rest, path-step}
 use Rattle.cert_check.proofs.checking.+nodes.Goals as goal
 
 pub check_below-clear_end-requires-clause-room : goal.check_below-clear_end-requires-clause-room
 check_below-clear_end-requires-clause-room t c =
     let b = c.args.part.now.block in
-    let long = room-long (HasChainForm (length c.args.sources.now.certificate.now.labels) (first_node c.args.end.now.node)) (bits_in c.args.way.now) (width_of b.version - b.len) c.requires.end.form in
-    omega (arith, long, way-length c.args.way.now.value c.args.way.now.count, b.len_in_range)
+    let long = room-long (HasChainForm (length c.args.sources.now.certificate.now.labels) (first_node c.args.end.now.node)) (bits_in c.args.path.now) (width_of b.version - b.len) c.requires.end.form in
+    omega (arith, long, path-length c.args.path.now.value c.args.path.now.count, b.len_in_range)
 
 pub check_below-check_node-requires : goal.check_below-check_node-requires
 check_below-check_node-requires t c =
     let b = c.args.part.now.block in
     let end = c.in-Some.below.block in
-    let way = c.in-Some.ensures.way in
-    let width : width_of end.version ≡ width_of b.version = ap width_of way.version in
-    let room : width_of b.version - b.len ≡ (width_of end.version - end.len) + length (bits_in c.args.way.now) = omega (arith, width, way.len, end.len_in_range) in (
-      omega (arith, width, way.len, end.len_in_range, c.requires.some),
+    let path = c.in-Some.ensures.path in
+    let width : width_of end.version ≡ width_of b.version = ap width_of path.version in
+    let room : width_of b.version - b.len ≡ (width_of end.version - end.len) + length (bits_in c.args.path.now) = omega (arith, width, path.len, end.len_in_range) in (
+      omega (arith, width, path.len, end.len_in_range, c.requires.some),
       record {
         sources = c.requires.end.sources;
         part = c.in-Some.ensures.part;
         here = c.requires.end.here;
-        form = end-room (HasChainForm (length c.args.sources.now.certificate.now.labels) (first_node c.args.end.now.node)) (bits_in c.args.way.now)
+        form = end-room (HasChainForm (length c.args.sources.now.certificate.now.labels) (first_node c.args.end.now.node)) (bits_in c.args.path.now)
             (width_of b.version - b.len) (width_of end.version - end.len) room c.requires.end.form;
       },
     )
@@ -41,7 +41,7 @@ pub check_below-returns-in-Some : goal.check_below-returns-in-Some
 check_below-returns-in-Some t c =
     let s = c.args.sources.now in
     let end = c.args.end.now in
-    later-answer (way_fault s end c.args.side.0 (bits_in c.args.way.now) c.args.part.now) (line_fault s end c.in-Some.below) c.args.number end.number
+    later-answer (path_fault s end c.args.side.0 (bits_in c.args.path.now) c.args.part.now) (line_fault s end c.in-Some.below) c.args.number end.number
     (count_of s.certificate.now.labels end.node) (drop 1 end.node) c.check_node.result c.requires.end.next
     (λ k. c.in-Some.ensures.clear k (node_fault (map_of s.map.now) (list_of s.list.now).prefixes (tree_at s end) (k + 1))) c.check_node.ensures
 
@@ -58,11 +58,11 @@ check_chain-check_below-requires t c =
           sources = c.requires.node.sources;
           part = c.requires.node.part;
           here = at.here;
-          form = subst (λ (bits : List Bool). HasRoomBelow (HasChainForm (length labels) (first_node end.node)) bits room) (sym c.way-way.ensures) at.form;
+          form = subst (λ (bits : List Bool). HasRoomBelow (HasChainForm (length labels) (first_node end.node)) bits room) (sym c.path-path.ensures) at.form;
           known = at.known;
           next = c.next_line-end.ensures.number;
         },
-        subst (λ (bits : List Bool). 0 < length bits) (sym c.way-way.ensures) at.some,
+        subst (λ (bits : List Bool). 0 < length bits) (sym c.path-path.ensures) at.some,
       ),
     )
 
@@ -73,7 +73,7 @@ check_chain-chain_fault-fault-requires-clause-end t c =
     let end = c.next_line-end.result in
     let room = width_of b.version - b.len in
     let at = chain-at labels c.args.line.now.node end.node c.args.side.0 room c.requires.node.form c.requires.chain c.next_line-end.ensures.node in
-    end-rising (length labels) (first_node end.node) (bits_of (first_node c.args.line.now.node)) room at.form
+    end-ascending (length labels) (first_node end.node) (bits_of (first_node c.args.line.now.node)) room at.form
 
 pub check_chain-returns : goal.check_chain-returns
 check_chain-returns t c =
@@ -97,8 +97,8 @@ check_chain-returns t c =
     let along = λ (xs : List Bool). bits_fault m ps (text_at labels side) k (fault_of labels m ps end.node (k + 1)) xs b.len (number_of b) in
     let count : k + (1 + count_of labels end.node) ≡ k + count_of labels line.node = ap (λ (n : ℕ). k + n) (sym at.count) in (
       at.fault m ps k b.len (number_of b)
-          ∙ or-second (along bits) (option_map (fault_of_number k) (claim_fault (pair_of labels line.node) (chain_pair (length bits) (text_at labels side) (pair_of labels end.node))))
-          (option_map (fault_of_number k) fault) (ap along (sym c.way-way.ensures) ∙ below.0) (ap (option_map (fault_of_number k)) (sym c.chain_fault-fault.ensures)),
+          ∙ or-second (along bits) (option_map (fault_of_number k) (claim_fault (claim_at labels line.node) (chain_claim (length bits) (text_at labels side) (claim_at labels end.node))))
+          (option_map (fault_of_number k) fault) (ap along (sym c.path-path.ensures) ∙ below.0) (ap (option_map (fault_of_number k)) (sym c.chain_fault-fault.ensures)),
       below.1 ∙ ap told count,
     )))
 
@@ -209,9 +209,9 @@ check_inner-claim_fault-fault-requires t c =
     record {
       here = c.requires.node.here;
       below = (at.2.lower_here, at.2.upper_here);
-      claim = rising-of (first_node line.node) (length labels) (width_of b.version - b.len) c.requires.node.form;
-      left = rising-of (first_node lower.node) (length labels) at.0 at.2.lower_form;
-      right = rising-of (first_node upper.node) (length labels) at.0 at.2.upper_form;
+      claim = ascending-of (first_node line.node) (length labels) (width_of b.version - b.len) c.requires.node.form;
+      left = ascending-of (first_node lower.node) (length labels) at.0 at.2.lower_form;
+      right = ascending-of (first_node upper.node) (length labels) at.0 at.2.upper_form;
     }
 
 pub check_inner-returns : goal.check_inner-returns
@@ -259,11 +259,11 @@ check_node-check_inner-requires t c = (
   ),
 )
 
-pub check_way-check_node-requires : goal.check_way-check_node-requires
-check_way-check_node-requires t c =
+pub check_path-check_node-requires : goal.check_path-check_node-requires
+check_path-check_node-requires t c =
     let b = c.args.part.now.block in
     let none = c.in_default.ensures.bits in
-    let long : length (bits_in c.args.way.now) ≡ 0 = ap (λ (xs : List Bool). length xs) none in (
+    let long : length (bits_in c.args.path.now) ≡ 0 = ap (λ (xs : List Bool). length xs) none in (
       omega (arith, long),
       record {
         sources = c.requires.end.sources;
@@ -274,29 +274,29 @@ check_way-check_node-requires t c =
       },
     )
 
-pub check_way-returns-in_default : goal.check_way-returns-in_default
-check_way-returns-in_default t c =
+pub check_path-returns-in_default : goal.check_path-returns-in_default
+check_path-returns-in_default t c =
     let s = c.args.sources.now in
     let p = c.args.part.now in
     let end = c.args.end.now in
     let none = c.in_default.ensures.bits in
-    later-answer (way_fault s end c.args.side.0 (bits_in c.args.way.now) p) (line_fault s end p) c.args.number end.number (count_of s.certificate.now.labels end.node)
-    (drop 1 end.node) c.check_node.result c.requires.end.next (λ k. ap (λ (xs : List Bool). way_fault s end c.args.side.0 xs p k) none) c.check_node.ensures
+    later-answer (path_fault s end c.args.side.0 (bits_in c.args.path.now) p) (line_fault s end p) c.args.number end.number (count_of s.certificate.now.labels end.node)
+    (drop 1 end.node) c.check_node.result c.requires.end.next (λ k. ap (λ (xs : List Bool). path_fault s end c.args.side.0 xs p k) none) c.check_node.ensures
 
-pub check_way-step-requires-clause-room : goal.check_way-step-requires-clause-room
-check_way-step-requires-clause-room t c =
+pub check_path-step-requires-clause-room : goal.check_path-step-requires-clause-room
+check_path-step-requires-clause-room t c =
     let b = c.args.part.now.block in
-    let bits = bits_in c.args.way.now in
+    let bits = bits_in c.args.path.now in
     let bit = c.in-Some.bit in
     let less = room-rest (HasChainForm (length c.args.sources.now.certificate.now.labels) (first_node c.args.end.now.node)) bits bit (bits_in c.in-Some.rest)
     (width_of b.version - b.len) c.in-Some.ensures.bits c.requires.end.form in
     omega (arith, less.1)
 
-pub check_way-check_way-requires : goal.check_way-check_way-requires
-check_way-check_way-requires t c =
+pub check_path-check_path-requires : goal.check_path-check_path-requires
+check_path-check_path-requires t c =
     let labels = c.args.sources.now.certificate.now.labels in
     let b = c.args.part.now.block in
-    let bits = bits_in c.args.way.now in
+    let bits = bits_in c.args.path.now in
     let bit = c.in-Some.bit in
     let rest = bits_in c.in-Some.rest in
     let chosen = c.step.result.0.block in
@@ -315,15 +315,15 @@ check_way-check_way-requires t c =
       },
     )
 
-pub check_way-returns-in_err-next : goal.check_way-returns-in_err-next
-check_way-returns-in_err-next t c =
+pub check_path-returns-in_err-next : goal.check_path-returns-in_err-next
+check_path-returns-in_err-next t c =
     let s = c.args.sources.now in
     let labels = s.certificate.now.labels in
     let m = map_of s.map.now in
     let ps = (list_of s.list.now).prefixes in
     let p = c.args.part.now in
     let b = p.block in
-    let bits = bits_in c.args.way.now in
+    let bits = bits_in c.args.path.now in
     let bit = c.in-Some.bit in
     let rest = bits_in c.in-Some.rest in
     let chosen = c.step.result.0.block in
@@ -335,18 +335,18 @@ check_way-returns-in_err-next t c =
     rw (e.1, e.2)
     (λ k told_is.
     let end = node_fault m ps (tree_at s c.args.end.now) (k + 1) in
-    way-step m ps x k end b chosen beside bit bits rest is c.step.ensures.chosen_half c.step.ensures.side_half
+    path-step m ps x k end b chosen beside bit bits rest is c.step.ensures.chosen_half c.step.ensures.side_half
     ∙ or-first (bits_fault m ps x k end rest chosen.len (number_of chosen)) _ found (c.in_err-next.ensures k told_is))
 
-pub check_way-returns : goal.check_way-returns
-check_way-returns t c =
+pub check_path-returns : goal.check_path-returns
+check_path-returns t c =
     let s = c.args.sources.now in
     let labels = s.certificate.now.labels in
     let m = map_of s.map.now in
     let ps = (list_of s.list.now).prefixes in
     let p = c.args.part.now in
     let b = p.block in
-    let bits = bits_in c.args.way.now in
+    let bits = bits_in c.args.path.now in
     let bit = c.in-Some.bit in
     let rest = bits_in c.in-Some.rest in
     let chosen = c.step.result.0.block in
@@ -355,12 +355,12 @@ check_way-returns t c =
     let is : bits ≡ bit ∷ rest = c.in-Some.ensures.bits in
     let line = c.args.end.now in
     let fault = c.leaf_fault.result in
-    subst (IsWayAnswer s line c.args.number c.args.side.0 bits p) (sym c.unless_fault.ensures)
-    (own-answer (way_fault s line c.args.side.0 bits p) c.args.number (1 + count_of labels line.node) (drop 1 line.node) fault c.in_ok-next.next c.in_ok-next.ensures.0
+    subst (IsPathAnswer s line c.args.number c.args.side.0 bits p) (sym c.unless_fault.ensures)
+    (own-answer (path_fault s line c.args.side.0 bits p) c.args.number (1 + count_of labels line.node) (drop 1 line.node) fault c.in_ok-next.next c.in_ok-next.ensures.0
     (λ k told_is.
     let end = node_fault m ps (tree_at s line) (k + 1) in
     let below = c.in_ok-next.ensures.1 k told_is in (
-      way-step m ps x k end b chosen beside bit bits rest is c.step.ensures.chosen_half c.step.ensures.side_half
+      path-step m ps x k end b chosen beside bit bits rest is c.step.ensures.chosen_half c.step.ensures.side_half
           ∙ or-second (bits_fault m ps x k end rest chosen.len (number_of chosen)) _ (option_map (fault_of_number k) fault) below.0
           (ap (option_map (fault_of_number k)) (sym c.leaf_fault.ensures)),
       below.1,

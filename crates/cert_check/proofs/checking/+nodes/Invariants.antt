@@ -1,9 +1,9 @@
 use Rattle.std.proofs.Common.{◌+◌, ◌*◌, ◌-◌, length}
 use Rattle.prefix_keys.specs.Block.{width_of}
-use Rattle.pmap_cert.specs.Ways.{way_to}
+use Rattle.pmap_cert.specs.Paths.{path_to}
 use Rattle.cert_check.proofs.checking.+nodes.Given as goal
 
--- Halves of a block and ends of ways have more bits than the block. At one block, a way without bits comes before the
+-- Halves of a block and ends of paths have more bits than the block. At one block, a path without bits comes before the
 -- node at its end, a node before the inner node or chain that it is, and a chain before what is below it.
 abbrev pub decreases-check_node : goal.decreases-check_node
 decreases-check_node l = 8 * (width_of l.part.now.block.version - l.part.now.block.len) + 5
@@ -17,5 +17,5 @@ decreases-check_chain l = 8 * (width_of l.part.now.block.version - l.part.now.bl
 abbrev pub decreases-check_below : goal.decreases-check_below
 decreases-check_below l = 8 * (width_of l.part.now.block.version - l.part.now.block.len) + 3
 
-abbrev pub decreases-check_way : goal.decreases-check_way
-decreases-check_way l = 8 * (width_of l.part.now.block.version - l.part.now.block.len) + (7 - 7 * length (way_to l.way.now.value l.way.now.count))
+abbrev pub decreases-check_path : goal.decreases-check_path
+decreases-check_path l = 8 * (width_of l.part.now.block.version - l.part.now.block.len) + (7 - 7 * length (path_to l.path.now.value l.path.now.count))

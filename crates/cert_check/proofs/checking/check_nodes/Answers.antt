@@ -16,4 +16,4 @@ check_nodes_by-requires-2-clause-entries c =
     let sorted = c.in_ok-sorted.sorted.items in
     subst (AreInOrder es) (sym c.as_slice.ensures.value)
     (sorted-order es sorted c.args.list.now.blocks_distinct
-    (subst (λ (xs : List Entry). IsPermutation xs sorted) c.as_slice-entries.ensures.value c.in_ok-sorted.ensures.same) c.in_ok-sorted.ensures.rising)
+    (subst (λ (xs : List Entry). IsPermutation xs sorted) c.as_slice-entries.ensures.value c.in_ok-sorted.ensures.same) c.in_ok-sorted.ensures.ascending)

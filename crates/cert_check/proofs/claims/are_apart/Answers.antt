@@ -11,9 +11,9 @@ loop-id-preserved c =
     let i = c.loop-id.id-index in
     let id : LabelId = record { 0 = 0 } in
     let walk = c.loop-id.invariant.walk in
-    let here = walk-has lower c.loop-id.rest.now c.rest_from-rest.result.now upper i id c.loop-id-test.true walk c.rest_from-rest.ensures.rising c.rest_from-rest.ensures.kept in
+    let here = walk-has lower c.loop-id.rest.now c.rest_from-rest.result.now upper i id c.loop-id-test.true walk c.rest_from-rest.ensures.ascending c.rest_from-rest.ensures.kept in
     record {
-      walk = goes-on lower c.loop-id.rest.now c.rest_from-rest.result.now upper i id c.loop-id-test.true walk c.rest_from-rest.ensures.rising c.rest_from-rest.ensures.kept;
+      walk = goes-on lower c.loop-id.rest.now c.rest_from-rest.result.now upper i id c.loop-id-test.true walk c.rest_from-rest.ensures.ascending c.rest_from-rest.ensures.kept;
       all = all-more (λ (j : LabelId). not (has_number (numbers upper) j.0)) lower i id c.loop-id-test.true
           (ap not (sym here ∙ sym c.begins_with.ensures ∙ c.if-begins_with.false)) c.loop-id.invariant.all;
     }
@@ -24,5 +24,5 @@ returns-then-begins_with c =
     let upper = c.args.upper.now in
     let i = c.loop-id.id-index in
     let id : LabelId = record { 0 = 0 } in
-    let here = walk-has lower c.loop-id.rest.now c.rest_from-rest.result.now upper i id c.loop-id-test.true c.loop-id.invariant.walk c.rest_from-rest.ensures.rising c.rest_from-rest.ensures.kept in
+    let here = walk-has lower c.loop-id.rest.now c.rest_from-rest.result.now upper i id c.loop-id-test.true c.loop-id.invariant.walk c.rest_from-rest.ensures.ascending c.rest_from-rest.ensures.kept in
     sym (all-fails (λ (j : LabelId). not (has_number (numbers upper) j.0)) lower i id c.loop-id-test.true (ap not (sym here ∙ sym c.begins_with.ensures ∙ c.if-begins_with.true)))

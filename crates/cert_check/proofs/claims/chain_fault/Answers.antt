@@ -3,25 +3,25 @@ use Rattle.std.specs.List.{list_all}
 use Rattle.pmap_text.specs.declared.label.LabelId.{LabelId}
 use Rattle.pmap_cert.specs.Node.{bits_of, first_node, set_of}
 use Rattle.cert_check.specs.Inner.{has_number}
-use Rattle.cert_check.proofs.Sets.{node-in, node-more, node-one, numbers, set-rising}
+use Rattle.cert_check.proofs.Sets.{node-in, node-more, node-one, numbers, set-ascending}
 use Rattle.cert_check.proofs.claims.chain_fault.Goals as goal
 use Rattle.cert_check.proofs.claims.chain_fault.Goals.{else-has_side, then-has_side}
 
 pub has_one-has_side-requires : goal.has_one-has_side-requires
 has_one-has_side-requires c =
-    set-rising (length c.args.labels.now) c.set-set.result.now (set_of (first_node c.args.chain.now)) (omega (arith, c.len-count.ensures.few, c.len-count.ensures.value)) c.set-set.ensures c.requires.chain
+    set-ascending (length c.args.labels.now) c.set-set.result.now (set_of (first_node c.args.chain.now)) (omega (arith, c.len-count.ensures.few, c.len-count.ensures.value)) c.set-set.ensures c.requires.chain
 
 pub has_one-requires : goal.has_one-requires
 has_one-requires c =
-    set-rising (length c.args.labels.now) c.set-beneath.result.now (set_of (first_node c.args.end.now)) (omega (arith, c.len-count.ensures.few, c.len-count.ensures.value)) c.set-beneath.ensures c.requires.end
+    set-ascending (length c.args.labels.now) c.set-beneath.result.now (set_of (first_node c.args.end.now)) (omega (arith, c.len-count.ensures.few, c.len-count.ensures.value)) c.set-beneath.ensures c.requires.end
 
 pub has_all-requires-clause-set : goal.has_all-requires-clause-set
 has_all-requires-clause-set c =
-    set-rising (length c.args.labels.now) c.set-set.result.now (set_of (first_node c.args.chain.now)) (omega (arith, c.len-count.ensures.few, c.len-count.ensures.value)) c.set-set.ensures c.requires.chain
+    set-ascending (length c.args.labels.now) c.set-set.result.now (set_of (first_node c.args.chain.now)) (omega (arith, c.len-count.ensures.few, c.len-count.ensures.value)) c.set-set.ensures c.requires.chain
 
 pub has_all-requires-clause-labels : goal.has_all-requires-clause-labels
 has_all-requires-clause-labels c =
-    set-rising (length c.args.labels.now) c.set-beneath.result.now (set_of (first_node c.args.end.now)) (omega (arith, c.len-count.ensures.few, c.len-count.ensures.value)) c.set-beneath.ensures c.requires.end
+    set-ascending (length c.args.labels.now) c.set-beneath.result.now (set_of (first_node c.args.end.now)) (omega (arith, c.len-count.ensures.few, c.len-count.ensures.value)) c.set-beneath.ensures c.requires.end
 
 pub returns-then-has_one : goal.returns-then-has_one
 returns-then-has_one c =
@@ -37,7 +37,7 @@ returns-else-len-eq1 c =
     ∙ node-more c.args.labels.now c.len-count.ensures.table (length (bits_of (first_node c.args.chain.now))) c.args.side.0
     (first_node c.args.chain.now) (first_node c.args.end.now) c.set-set.result.now c.set-beneath.result.now c.from-cost.result c.from-below.result c.has_one-has_side.result
     c.requires.chain c.requires.end c.requires.side c.set-set.ensures c.set-beneath.ensures (c.from-cost.ensures ∙ c.cost.ensures) (c.from-below.ensures ∙ c.cost-2.ensures)
-    (sym c.has_one.ensures ∙ c.if-has_one.false) (λ one. c.if-len-eq1.false (c.len.ensures ∙ ap length c.way.ensures ∙ one)) c.has_one-has_side.ensures
+    (sym c.has_one.ensures ∙ c.if-has_one.false) (λ one. c.if-len-eq1.false (c.len.ensures ∙ ap length c.path.ensures ∙ one)) c.has_one-has_side.ensures
 
 pub returns-after-has_side : goal.returns-after-has_side
 returns-after-has_side c =
@@ -53,4 +53,4 @@ returns-after-has_side c =
     ∙ node-one c.args.labels.now c.len-count.ensures.table (length (bits_of (first_node c.args.chain.now))) c.args.side.0
     (first_node c.args.chain.now) (first_node c.args.end.now) set beneath c.from-cost.result c.from-below.result c.if-has_side.fault_by
     c.requires.chain c.requires.end c.requires.side c.set-set.ensures c.set-beneath.ensures (c.from-cost.ensures ∙ c.cost.ensures) (c.from-below.ensures ∙ c.cost-2.ensures)
-    (sym c.has_one.ensures ∙ c.if-has_one.false) (sym (c.len.ensures ∙ ap length c.way.ensures) ∙ c.if-len-eq1.true) full
+    (sym c.has_one.ensures ∙ c.if-has_one.false) (sym (c.len.ensures ∙ ap length c.path.ensures) ∙ c.if-len-eq1.true) full

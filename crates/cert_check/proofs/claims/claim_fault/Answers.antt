@@ -1,7 +1,7 @@
 use Rattle.std.proofs.Common.{◌+◌, ◌≤◌, ◌∙◌, List, arith, filter, length, refl, sym}
 use Rattle.pmap_text.specs.declared.label.LabelId.{LabelId}
 use Rattle.cert_check.specs.Inner.{has_number}
-use Rattle.cert_check.proofs.Sets.{all-common, apart-none, apart-some, node-apart, node-common, numbers, set-rising}
+use Rattle.cert_check.proofs.Sets.{all-common, apart-none, apart-some, node-apart, node-common, numbers, set-ascending}
 use Rattle.cert_check.proofs.claims.claim_fault.Goals as goal
 use Rattle.pmap_cert.specs.Node.{first_node, set_of}
 
@@ -9,26 +9,26 @@ pub are_apart-requires : goal.are_apart-requires
 are_apart-requires c =
     let few : length c.args.labels.now ≤ 65536 = omega (arith, c.len-count.ensures.few, c.len-count.ensures.value) in
     record {
-      lower = set-rising (length c.args.labels.now) c.set-lower.result.now (set_of (first_node c.args.left.now)) few c.set-lower.ensures c.requires.left;
-      upper = set-rising (length c.args.labels.now) c.set-upper.result.now (set_of (first_node c.args.right.now)) few c.set-upper.ensures c.requires.right;
+      lower = set-ascending (length c.args.labels.now) c.set-lower.result.now (set_of (first_node c.args.left.now)) few c.set-lower.ensures c.requires.left;
+      upper = set-ascending (length c.args.labels.now) c.set-upper.result.now (set_of (first_node c.args.right.now)) few c.set-upper.ensures c.requires.right;
     }
 
 pub has_both-requires : goal.has_both-requires
 has_both-requires c =
     let few : length c.args.labels.now ≤ 65536 = omega (arith, c.len-count.ensures.few, c.len-count.ensures.value) in
     record {
-      set = set-rising (length c.args.labels.now) c.set-set.result.now (set_of (first_node c.args.claim.now)) few c.set-set.ensures c.requires.claim;
-      lower = set-rising (length c.args.labels.now) c.set-lower.result.now (set_of (first_node c.args.left.now)) few c.set-lower.ensures c.requires.left;
-      upper = set-rising (length c.args.labels.now) c.set-upper.result.now (set_of (first_node c.args.right.now)) few c.set-upper.ensures c.requires.right;
+      set = set-ascending (length c.args.labels.now) c.set-set.result.now (set_of (first_node c.args.claim.now)) few c.set-set.ensures c.requires.claim;
+      lower = set-ascending (length c.args.labels.now) c.set-lower.result.now (set_of (first_node c.args.left.now)) few c.set-lower.ensures c.requires.left;
+      upper = set-ascending (length c.args.labels.now) c.set-upper.result.now (set_of (first_node c.args.right.now)) few c.set-upper.ensures c.requires.right;
     }
 
 pub has_common-requires : goal.has_common-requires
 has_common-requires c =
     let few : length c.args.labels.now ≤ 65536 = omega (arith, c.len-count.ensures.few, c.len-count.ensures.value) in
     record {
-      set = set-rising (length c.args.labels.now) c.set-set.result.now (set_of (first_node c.args.claim.now)) few c.set-set.ensures c.requires.claim;
-      lower = set-rising (length c.args.labels.now) c.set-lower.result.now (set_of (first_node c.args.left.now)) few c.set-lower.ensures c.requires.left;
-      upper = set-rising (length c.args.labels.now) c.set-upper.result.now (set_of (first_node c.args.right.now)) few c.set-upper.ensures c.requires.right;
+      set = set-ascending (length c.args.labels.now) c.set-set.result.now (set_of (first_node c.args.claim.now)) few c.set-set.ensures c.requires.claim;
+      lower = set-ascending (length c.args.labels.now) c.set-lower.result.now (set_of (first_node c.args.left.now)) few c.set-lower.ensures c.requires.left;
+      upper = set-ascending (length c.args.labels.now) c.set-upper.result.now (set_of (first_node c.args.right.now)) few c.set-upper.ensures c.requires.right;
     }
 
 pub returns-then-are_apart : goal.returns-then-are_apart

@@ -11,9 +11,9 @@ loop-id-preserved c =
     let i = c.loop-id.id-index in
     let id : LabelId = record { 0 = 0 } in
     let walk = c.loop-id.invariant.walk in
-    let here = walk-has labels c.loop-id.rest.now c.rest_from-rest.result.now set i id c.loop-id-test.true walk c.rest_from-rest.ensures.rising c.rest_from-rest.ensures.kept in
+    let here = walk-has labels c.loop-id.rest.now c.rest_from-rest.result.now set i id c.loop-id-test.true walk c.rest_from-rest.ensures.ascending c.rest_from-rest.ensures.kept in
     record {
-      walk = goes-on labels c.loop-id.rest.now c.rest_from-rest.result.now set i id c.loop-id-test.true walk c.rest_from-rest.ensures.rising c.rest_from-rest.ensures.kept;
+      walk = goes-on labels c.loop-id.rest.now c.rest_from-rest.result.now set i id c.loop-id-test.true walk c.rest_from-rest.ensures.ascending c.rest_from-rest.ensures.kept;
       all = all-more (λ (j : LabelId). has_number (numbers set) j.0) labels i id c.loop-id-test.true
           (sym here ∙ sym c.begins_with.ensures ∙ c.if-not-begins_with.false) c.loop-id.invariant.all;
     }
@@ -24,5 +24,5 @@ returns-then-not-begins_with c =
     let set = c.args.set.now in
     let i = c.loop-id.id-index in
     let id : LabelId = record { 0 = 0 } in
-    let here = walk-has labels c.loop-id.rest.now c.rest_from-rest.result.now set i id c.loop-id-test.true c.loop-id.invariant.walk c.rest_from-rest.ensures.rising c.rest_from-rest.ensures.kept in
+    let here = walk-has labels c.loop-id.rest.now c.rest_from-rest.result.now set i id c.loop-id-test.true c.loop-id.invariant.walk c.rest_from-rest.ensures.ascending c.rest_from-rest.ensures.kept in
     sym (all-fails (λ (j : LabelId). has_number (numbers set) j.0) labels i id c.loop-id-test.true (sym here ∙ sym c.begins_with.ensures ∙ c.if-not-begins_with.true))

@@ -2,7 +2,7 @@ use Rattle.std.proofs.Common.{◌≡◌, ℕ, ◌+◌, List, get_or, length, max
 use Rattle.std.proofs.Math.Seq.{take-length}
 use Rattle.std.proofs.lemmas.List.{get_or_default}
 use Rattle.flow_filter.specs.declared.range.Range.{Range}
-use Rattle.flow_filter.proofs.Widened.{AreWidened, higher_is, one_widened, widened_rise, widened_set}
+use Rattle.flow_filter.proofs.Widened.{AreWidened, higher_is, one_widened, widened_ascend, widened_set}
 use Rattle.flow_filter.proofs.ranges.widened.Goals as goal
 
 pub loop-range-preserved : goal.loop-range-preserved
@@ -26,6 +26,6 @@ returns c =
     let number : count ≡ length rs = omega (arith, c.loop-range-test.false, c.loop-range.auto.range-index-end) in
     let whole : take count rs ≡ rs = ap (λ (n : ℕ). take n rs) number ∙ take-length rs in
     record {
-      rising = widened_rise rs c.loop-range.wide.items count c.loop-range.high c.requires c.loop-range.invariant c.loop-range.auto.range-index-end;
+      ascending = widened_ascend rs c.loop-range.wide.items count c.loop-range.high c.requires c.loop-range.invariant c.loop-range.auto.range-index-end;
       same = widened_set rs c.loop-range.wide.items count c.loop-range.high c.loop-range.invariant c.loop-range-test.false whole;
     }

@@ -57,7 +57,7 @@ returns-in_ok-read_node-in-Inner-2-clause-ok t c =
 pub returns-then-deep-room-clause-err : goal.returns-then-deep-room-clause-err
 returns-then-deep-room-clause-err t c = λ _.
     let frame = c.args.frame.now in
-    let bits : List Bool = bits_in c.next_node.new.kept.way in
+    let bits : List Bool = bits_in c.next_node.new.kept.path in
     let numbers : List ℕ = map (λ (id : LabelId). id.0) c.next_node.new.kept.set.items in
     let due = rw c.in-Chain.is at c.in_ok-id.ensures.ok in
     let some = chain-bits frame.format frame.width frame.labels.now c.args.lines.now c.next_node.new.self c.in-Chain.cost bits c.in-Chain.side.0 numbers due in
@@ -70,7 +70,7 @@ returns-then-deep-room-clause-err t c = λ _.
 pub read_node-requires-in-Chain : goal.read_node-requires-in-Chain
 read_node-requires-in-Chain t c =
     let frame = c.args.frame.now in
-    let bits : List Bool = bits_in c.next_node.new.kept.way in
+    let bits : List Bool = bits_in c.next_node.new.kept.path in
     let numbers : List ℕ = map (λ (id : LabelId). id.0) c.next_node.new.kept.set.items in
     let due = rw c.in-Chain.is at c.in_ok-id.ensures.ok in
     let some = chain-bits frame.format frame.width frame.labels.now c.args.lines.now c.next_node.new.self c.in-Chain.cost bits c.in-Chain.side.0 numbers due in
@@ -82,7 +82,7 @@ read_node-requires-in-Chain t c =
 pub returns-in_err-read_node-in-Chain-clause-err : goal.returns-in_err-read_node-in-Chain-clause-err
 returns-in_err-read_node-in-Chain-clause-err t c =
     let frame = c.args.frame.now in
-    let bits : List Bool = bits_in c.next_node.new.kept.way in
+    let bits : List Bool = bits_in c.next_node.new.kept.path in
     let numbers : List ℕ = map (λ (id : LabelId). id.0) c.next_node.new.kept.set.items in
     let due = rw c.in-Chain.is at c.in_ok-id.ensures.ok in
     let some = chain-bits frame.format frame.width frame.labels.now c.args.lines.now c.next_node.new.self c.in-Chain.cost bits c.in-Chain.side.0 numbers due in
@@ -98,7 +98,7 @@ returns-in_err-read_node-in-Chain-clause-err t c =
 pub returns-in_ok-read_node-in-Chain-clause-ok : goal.returns-in_ok-read_node-in-Chain-clause-ok
 returns-in_ok-read_node-in-Chain-clause-ok t c =
     let frame = c.args.frame.now in
-    let bits : List Bool = bits_in c.next_node.new.kept.way in
+    let bits : List Bool = bits_in c.next_node.new.kept.path in
     let numbers : List ℕ = map (λ (id : LabelId). id.0) c.next_node.new.kept.set.items in
     let due = rw c.in-Chain.is at c.in_ok-id.ensures.ok in
     let some = chain-bits frame.format frame.width frame.labels.now c.args.lines.now c.next_node.new.self c.in-Chain.cost bits c.in-Chain.side.0 numbers due in

@@ -1,10 +1,10 @@
-use Rattle.pmap_cert.proofs.Runs.{compacted-inner, compacted-leaf, run-longest, run-way}
+use Rattle.pmap_cert.proofs.Runs.{compacted-inner, compacted-leaf, run-longest, run-path}
 use Rattle.pmap_cert.proofs.chain_laws.compacting_is_by_longest_runs.Goals as goal
 
 pub returns : goal.returns
 returns c = record {
   inner = compacted-inner;
   leaf = compacted-leaf;
-  way = run-way;
+  path = run-path;
   longest = run-longest;
 }

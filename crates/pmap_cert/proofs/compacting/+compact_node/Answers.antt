@@ -20,7 +20,7 @@ returns-in_ok-compact_node-in-Some t c =
     let run = long.run in
     chain-lines (node_from lines c.args.number) halves.cost halves.set (node_from lines c.in-Halves.lower) (node_from lines c.in-Halves.upper) halves.node c.args.out.now
     c.in-Some.side.0 c.cost.result (map (λ (id : LabelId). id.0) c.set.result.now)
-    (bits_in c.in-Some.way) (node_from lines c.in-Some.end) c.push_chain.new.self c.compact_node.new.out long.sides run.bits_are run.node long.long
+    (bits_in c.in-Some.path) (node_from lines c.in-Some.end) c.push_chain.new.self c.compact_node.new.out long.sides run.bits_are run.node long.long
     (c.cost.ensures ∙ line.cost) (c.set.ensures ∙ line.set)
     c.in_ok-push_chain-in-Some.ensures.ok
     c.in_ok-compact_node-in-Some.ensures

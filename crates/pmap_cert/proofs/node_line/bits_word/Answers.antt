@@ -1,6 +1,6 @@
 use Rattle.std.proofs.Common.{ℕ, List, get_or, inl, inr, sym, arith}
 use Rattle.std.proofs.lemmas.List.{take_rest}
-use Rattle.pmap_cert.specs.Ways.{way_to}
+use Rattle.pmap_cert.specs.Paths.{path_to}
 use Rattle.pmap_cert.proofs.LineTexts.{a_bit, after_byte-found, bits-many, bits-nothing, bits-read, no_bit}
 use Rattle.pmap_cert.proofs.node_line.bits_word.Goals as goal
 use Rattle.pmap_cert.proofs.node_line.bits_word.Goals.{else-at-eq0, else-byte-ne48-via-else-byte-ne48, else-byte-ne48-via-then-byte-ne48+else-byte-ne49, then-at-eq0}
@@ -17,7 +17,7 @@ returns-then-byte-ne49 c =
       | then-at-eq0 w ↦ rw w.result-is (bits-nothing most text digits space at c.loop-at.invariant.digits c.loop-at-test.true other w.if-at-eq0.true)
       | else-at-eq0 w ↦
           rw w.result-is (rw take_rest
-          (bits-read most text digits space at c.loop-at.invariant.digits c.loop-at-test.true other (way_to c.loop-at.way.0 c.loop-at.way.1.0) c.loop-at.invariant.bits
+          (bits-read most text digits space at c.loop-at.invariant.digits c.loop-at-test.true other (path_to c.loop-at.path.0 c.loop-at.path.1.0) c.loop-at.invariant.bits
           (omega (arith, w.if-at-eq0.false)) c.loop-at.invariant.few))
     ]
 

@@ -12,8 +12,8 @@ returns-in-Some-2 c =
     let rest : List ℕ = c.in-Some.rest.now in
     let numbers : List ℕ = map (λ (id : LabelId). id.0) c.claim.new.set.items in
     then-read (BeginsWithNumber (2 ^ 32) c.args.text.now) (λ middle. Then (BeginsWithBits most middle) (BeginsWithClaim count count)) c.in-Some.cost rest c.in-Some.ensures
-    (bits_in c.in-Some-bits_word.way, (c.in-Some-2.side, numbers)) c.in-Some-2.rest.now
-    (then-read (BeginsWithBits most rest) (BeginsWithClaim count count) (bits_in c.in-Some-bits_word.way) c.in-Some-bits_word.rest.now c.in-Some-bits_word.ensures
+    (bits_in c.in-Some-bits_word.path, (c.in-Some-2.side, numbers)) c.in-Some-2.rest.now
+    (then-read (BeginsWithBits most rest) (BeginsWithClaim count count) (bits_in c.in-Some-bits_word.path) c.in-Some-bits_word.rest.now c.in-Some-bits_word.ensures
     (c.in-Some-2.side, numbers) c.in-Some-2.rest.now (rw c.in-Some-2.is at c.in_ok-side.ensures))
 
 pub returns-in-None : goal.returns-in-None
@@ -22,5 +22,5 @@ returns-in-None c =
     let count : ℕ = c.args.count in
     let rest : List ℕ = c.in-Some.rest.now in
     then-left (BeginsWithNumber (2 ^ 32) c.args.text.now) (λ middle. Then (BeginsWithBits most middle) (BeginsWithClaim count count)) c.in-Some.cost rest c.in-Some.ensures
-    (then-left (BeginsWithBits most rest) (BeginsWithClaim count count) (bits_in c.in-Some-bits_word.way) c.in-Some-bits_word.rest.now c.in-Some-bits_word.ensures
+    (then-left (BeginsWithBits most rest) (BeginsWithClaim count count) (bits_in c.in-Some-bits_word.path) c.in-Some-bits_word.rest.now c.in-Some-bits_word.ensures
     (rw c.in-None.is at c.in_ok-side.ensures))

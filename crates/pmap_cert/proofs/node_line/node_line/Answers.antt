@@ -20,7 +20,7 @@ pub returns-in-Some-3 : goal.returns-in-Some-3
 returns-in-Some-3 c =
     line-chain (format_number c.args.frame.now.format) c.args.frame.now.width c.args.count c.args.text.now (sym c.in_default.ensures)
     (sym c.in_default-after_byte.ensures) (ap format_number c.in-Two-Some.is-0) c.in-Two-Some.rest.now (sym c.in-Two-Some.ensures)
-    (Some ((c.in-Some-3.cost, (bits_in c.chain.new.kept.way, (c.in-Some-3.side.0, map (λ (id : LabelId). id.0) c.chain.new.kept.set.items))), c.in-Some-3.rest.now))
+    (Some ((c.in-Some-3.cost, (bits_in c.chain.new.kept.path, (c.in-Some-3.side.0, map (λ (id : LabelId). id.0) c.chain.new.kept.set.items))), c.in-Some-3.rest.now))
     (rw c.in-Some-3.is at c.in_ok-cost-2.ensures)
 
 pub returns-in-None-3 : goal.returns-in-None-3

@@ -5,7 +5,7 @@ use Rattle.pmap_cert.proofs.writing.push_bits.Given as goal
 
 abbrev pub invariant-loop-bit : goal.invariant-loop-bit
 invariant-loop-bit l =
-    l.out.items ++ bit_digits (bits_in l.rest) ≡ l.fn.out.items ++ 32 ∷ bit_digits (bits_in l.fn.way)
+    l.out.items ++ bit_digits (bits_in l.rest) ≡ l.fn.out.items ++ 32 ∷ bit_digits (bits_in l.fn.path)
 
 abbrev pub decreases-loop-bit : goal.decreases-loop-bit
 decreases-loop-bit l = l.rest.count

@@ -6,7 +6,7 @@ use Rattle.pmap_cert.proofs.PackedLines.{held-more}
 use Rattle.pmap_minimise.specs.Areas.{own_label}
 use Rattle.pmap_minimise.specs.Built.{IsBuilt}
 use Rattle.pmap_minimise.proofs.Areas.{own-is}
-use Rattle.pmap_minimise.proofs.BuiltNodes.{IsShortRun, both-cost, chain-built, end-smaller, halves-built, leaf-built, made-cost, rising-held}
+use Rattle.pmap_minimise.proofs.BuiltNodes.{IsShortRun, both-cost, chain-built, end-smaller, halves-built, leaf-built, made-cost, ascending-held}
 use Rattle.pmap_minimise.proofs.Compacted.{if_ok}
 use Rattle.pmap_minimise.proofs.building.+area.Goals as goal
 use Rattle.pmap_minimise.proofs.building.+area.Goals.{push_divided-in-Some+else-bits-ge2, push_divided-in_default}
@@ -52,8 +52,8 @@ push_divided-push_inner-requires-clause-high t c =
     let above = c.in_ok-above.ensures in
     let below = c.in_ok-below-2.ensures in
     let id = c.in_ok-above.above.set in
-    rising-held c.push_area-3.new.built.sets id (set_of above.node)
-    (held-more c.push_area-2.new.built.sets c.push_area-3.new.built.sets id (set_of above.node) below.grown.sets above.set_is) above.made.rising
+    ascending-held c.push_area-3.new.built.sets id (set_of above.node)
+    (held-more c.push_area-2.new.built.sets c.push_area-3.new.built.sets id (set_of above.node) below.grown.sets above.set_is) above.made.ascending
 
 pub push_divided-returns-then-bits-ge2 : goal.push_divided-returns-then-bits-ge2
 push_divided-returns-then-bits-ge2 t c =

@@ -4,11 +4,11 @@ use Rattle.std.proofs.lemmas.Option.{slice_get_within}
 use Rattle.pmap_text.specs.declared.label.LabelId.{LabelId}
 use Rattle.pmap_cert.specs.FormatReading.{ChainLine, DueLine, InnerLine}
 use Rattle.pmap_cert.specs.Node.{lines_of}
-use Rattle.pmap_cert.specs.Ways.{way_to}
+use Rattle.pmap_cert.specs.Paths.{path_to}
 use Rattle.pmap_minimise.specs.Built.{IsAt}
 use Rattle.pmap_minimise.specs.Numbers.{numbers_of}
 use Rattle.pmap_minimise.proofs.Compacted.{if_ok, line-inside, read-chained, read-inner, read-leaf, to-some}
-use Rattle.pmap_minimise.proofs.WayEntries.{read-few, read-lines}
+use Rattle.pmap_minimise.proofs.PathEntries.{read-few, read-lines}
 use Rattle.pmap_minimise.proofs.compacting.+push_node.Goals as goal
 
 pub overflow_sub-last : goal.overflow_sub-last
@@ -58,8 +58,8 @@ index-requires-in-Chain t c =
     let inside = slice_get_within b.chains.items c.in-Chain.number chain.chain chain.listed in
     omega arith
 
-pub invariant_of-way : goal.invariant_of-way
-invariant_of-way t c =
+pub invariant_of-path : goal.invariant_of-path
+invariant_of-path t c =
     let lines = c.requires in
     let b = c.args.built.now in
     let chain = read-chained b lines.compact lines.node lines.from c.args.to lines.at c.index.result.now c.in-Chain.number c.index.ensures c.in-Chain.is in
@@ -110,7 +110,7 @@ returns-in_ok-push_chain-in-Chain t c =
     let set : map (λ (id : LabelId). id.0) c.from_ref.result.now ≡ read.side.0 ∷ [] = ap numbers_of c.from_ref.ensures.value in (
       below.0,
       below.1 ∙ ap (λ (ls : List DueLine). ls ++ lines_of chain.end)
-          (c.in_ok-push_chain-in-Chain.ensures.ok ∙ (λ i. c.args.out.now ++ ChainLine read.cost (way_to read.end read.bits) read.side.0 (set i) ∷ []))
-          ∙ append_assoc c.args.out.now (ChainLine read.cost (way_to read.end read.bits) read.side.0 (read.side.0 ∷ []) ∷ []) (lines_of chain.end)
+          (c.in_ok-push_chain-in-Chain.ensures.ok ∙ (λ i. c.args.out.now ++ ChainLine read.cost (path_to read.end read.bits) read.side.0 (set i) ∷ []))
+          ∙ append_assoc c.args.out.now (ChainLine read.cost (path_to read.end read.bits) read.side.0 (read.side.0 ∷ []) ∷ []) (lines_of chain.end)
           ∙ ap (λ (ls : List DueLine). c.args.out.now ++ ls) (sym (read-lines b compact node c.in-Chain.number start _ chain read c.index-in-Chain.ensures)),
     ))

@@ -4,7 +4,7 @@ use Rattle.std.proofs.lemmas.Option.{slice_get_within}
 use Rattle.prefix_keys.specs.Block.{block_number, width_of}
 use Rattle.pmap_text.specs.declared.label.LabelId.{LabelId}
 use Rattle.pmap_cert.specs.Node.{Node, set_of}
-use Rattle.pmap_cert.proofs.Ways.{way-length}
+use Rattle.pmap_cert.proofs.Paths.{path-length}
 use Rattle.label_trie.specs.TrieModel.{number_of}
 use Rattle.label_trie.specs.Parts.{IsHalf}
 use Rattle.label_trie.proofs.Divided.{is_half}
@@ -14,7 +14,7 @@ use Rattle.pmap_minimise.specs.Numbers.{IsOwn, IsSound, numbers_of}
 use Rattle.pmap_minimise.proofs.Compacted.{if_ok, line-inside, read-chained, read-inner, read-leaf, to-some}
 use Rattle.pmap_minimise.proofs.Entered.{HasHalves, inner-adds, leaf-adds, sound-halves}
 use Rattle.pmap_minimise.proofs.Joined.{set-some}
-use Rattle.pmap_minimise.proofs.WayEntries.{no-room, read-deep, read-entries, read-few}
+use Rattle.pmap_minimise.proofs.PathEntries.{no-room, read-deep, read-entries, read-few}
 use Rattle.pmap_minimise.proofs.listing.+push_entries.Goals as goal
 
 pub overflow_sub-last : goal.overflow_sub-last
@@ -95,8 +95,8 @@ index-requires-in-Chain t c =
     let inside = slice_get_within b.chains.items c.in-Chain.number chain.chain chain.listed in
     omega arith
 
-pub invariant_of-way : goal.invariant_of-way
-invariant_of-way t c =
+pub invariant_of-path : goal.invariant_of-path
+invariant_of-path t c =
     let lines = c.requires.0 in
     let b = c.args.built.now in
     let chain = read-chained b lines.compact lines.node lines.from c.args.to lines.at c.index.result.now c.in-Chain.number c.index.ensures c.in-Chain.is in
@@ -124,7 +124,7 @@ push_entries-requires-in-Chain t c =
     let within = c.args.here.now.len_in_range in
     let end = c.end-end.ensures in
     let len = end.len in
-    let count = way-length c.index-in-Chain.result.now.end c.index-in-Chain.result.now.bits in
+    let count = path-length c.index-in-Chain.result.now.end c.index-in-Chain.result.now.bits in
     let width : width_of c.end-end.result.version ≡ width_of c.args.here.now.version = ap width_of end.version in
     let left : deep.left ≡ width_of c.end-end.result.version - c.end-end.result.len = omega arith in
     let less = c.decreases in

@@ -3,11 +3,11 @@ use Rattle.std.proofs.lemmas.List.{append_assoc}
 use Rattle.std.proofs.lemmas.Option.{slice_get_within}
 use Rattle.pmap_cert.specs.CertificateText.{inner_line}
 use Rattle.pmap_cert.specs.Node.{Node}
-use Rattle.pmap_minimise.specs.Built.{IsAt, node_text, side_line, text_down, way_line}
+use Rattle.pmap_minimise.specs.Built.{IsAt, node_text, side_line, text_down, path_line}
 use Rattle.pmap_minimise.specs.Numbers.{numbers_of}
 use Rattle.pmap_minimise.proofs.Compacted.{if_ok, line-inside, read-chained, read-inner, read-leaf, to-some}
 use Rattle.pmap_minimise.proofs.Opened.{chain-added, inner-added, leaf-added, text-after}
-use Rattle.pmap_minimise.proofs.WayEntries.{read-few, read-long, read-node, read-price}
+use Rattle.pmap_minimise.proofs.PathEntries.{read-few, read-long, read-node, read-price}
 use Rattle.pmap_minimise.proofs.opening.+push_node.Goals as goal
 
 pub overflow_sub-last : goal.overflow_sub-last
@@ -72,14 +72,14 @@ push_down-requires t c =
     let chain = read-chained b lines.compact lines.node lines.from c.args.to lines.at c.index.result.now c.in-Chain.number c.index.ensures c.in-Chain.is in
     let long = read-long b lines.compact lines.node c.in-Chain.number lines.from _ chain read c.index-in-Chain.ensures in
     let old = c.args.texts.now.items in
-    let node : c.push_inner_line-in-Chain.new.out.items ≡ old ++ way_line read =
+    let node : c.push_inner_line-in-Chain.new.out.items ≡ old ++ path_line read =
     c.in_ok-push_inner_line-in-Chain.ensures ∙ ap (λ (s : List ℕ). old ++ (inner_line read.cost s ++ 10 ∷ [])) (ap numbers_of c.from_ref.ensures.value) in
-    let count : length c.push_inner_line-in-Chain.new.out.items ≡ length old + length (way_line read) = ap length node ∙ length-append old (way_line read) in
+    let count : length c.push_inner_line-in-Chain.new.out.items ≡ length old + length (path_line read) = ap length node ∙ length-append old (path_line read) in
     record {
       bits = (omega arith, read-few b lines.compact lines.node c.in-Chain.number lines.from _ chain read c.index-in-Chain.ensures);
       both =
-          text-after old (way_line read ++ side_line read) c.deref.result.now c.len-start.result
-          (c.deref.ensures.value ∙ c.in_ok-push_leaf_line-in-Chain.ensures ∙ ap (λ (l : List ℕ). l ++ side_line read) node ∙ append_assoc old (way_line read) (side_line read))
+          text-after old (path_line read ++ side_line read) c.deref.result.now c.len-start.result
+          (c.deref.ensures.value ∙ c.in_ok-push_leaf_line-in-Chain.ensures ∙ ap (λ (l : List ℕ). l ++ side_line read) node ∙ append_assoc old (path_line read) (side_line read))
           (omega (arith, c.len-start.ensures, c.args.texts.now.ok));
       len = omega (arith, c.len-start.ensures, c.args.texts.now.ok, c.len-leaf.ensures, c.push_inner_line-in-Chain.new.out.ok);
     }

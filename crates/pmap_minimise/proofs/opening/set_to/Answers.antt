@@ -5,7 +5,7 @@ use Rattle.pmap_minimise.specs.Numbers.{numbers_of}
 use Rattle.pmap_minimise.specs.declared.built.Chain.{Chain}
 use Rattle.pmap_minimise.proofs.Compacted.{line-inside, read-chained, read-inner, read-leaf, to-some}
 use Rattle.pmap_minimise.proofs.Opened.{long-set}
-use Rattle.pmap_minimise.proofs.WayEntries.{read-long, read-node}
+use Rattle.pmap_minimise.proofs.PathEntries.{read-long, read-node}
 use Rattle.pmap_minimise.proofs.opening.set_to.Goals as goal
 
 pub overflow_sub-to : goal.overflow_sub-to

@@ -3,10 +3,10 @@ use Rattle.pmap_minimise.specs.Numbers.{numbers_of}
 use Rattle.pmap_minimise.proofs.Merged.{no_items, numbers-append, united-higher, united-lower, uniting-both, uniting-higher, uniting-lower}
 use Rattle.pmap_minimise.proofs.sets.either.Goals as goal
 
-pub returns-in_default-split_first-clause-rising : goal.returns-in_default-split_first-clause-rising
-returns-in_default-split_first-clause-rising c =
+pub returns-in_default-split_first-clause-ascending : goal.returns-in_default-split_first-clause-ascending
+returns-in_default-split_first-clause-ascending c =
     let all = united-lower _ _ _ _ c.loop-x.higher.now _ (no_items c.loop-x.higher.now c.in_default-split_first.ensures.cases) (ap numbers_of c.in_ok-extend_from_slice.ensures.ok ∙ numbers-append c.loop-x.set.items c.loop-x.lower.now) c.loop-x.invariant in
-    all.rising
+    all.ascending
 
 pub loop-x-preserved-then-x-y : goal.loop-x-preserved-then-x-y
 loop-x-preserved-then-x-y c =
@@ -23,7 +23,7 @@ loop-x-preserved c =
     uniting-both _ _ _ _ c.in-Some.x.now c.in-Some-split_first.y.now _ _ _ _ c.in-Some.ensures.cases.0 c.in-Some-split_first.ensures.cases.0 c.loop-x.invariant
     (omega arith) (ap numbers_of c.in_ok-push-3.ensures.ok ∙ numbers-append c.loop-x.set.items (c.in-Some.x.now ∷ []))
 
-pub returns-clause-rising : goal.returns-clause-rising
-returns-clause-rising c =
+pub returns-clause-ascending : goal.returns-clause-ascending
+returns-clause-ascending c =
     let all = united-higher _ _ _ c.loop-x.lower.now _ _ (no_items c.loop-x.lower.now c.in_default.ensures.cases) (ap numbers_of c.in_ok-extend_from_slice-2.ensures.ok ∙ numbers-append c.loop-x.set.items c.loop-x.higher.now) c.loop-x.invariant in
-    all.rising
+    all.ascending

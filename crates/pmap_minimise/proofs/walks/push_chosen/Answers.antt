@@ -12,7 +12,7 @@ use Rattle.pmap_minimise.specs.Walks.{IsChosenFrom, Due}
 use Rattle.pmap_minimise.proofs.Compacted.{on_ok}
 use Rattle.pmap_minimise.proofs.Joined.{set-some}
 use Rattle.pmap_minimise.proofs.Walked.{chosen-inner, chosen-leaf, due-some, here-is, inner-read, line-inside, no-chain}
-use Rattle.pmap_minimise.proofs.WayEntries.{no-room}
+use Rattle.pmap_minimise.proofs.PathEntries.{no-room}
 use Rattle.pmap_minimise.proofs.walks.push_chosen.Goals as goal
 
 pub pop-here-requires : goal.pop-here-requires

@@ -1,13 +1,13 @@
 use Rattle.std.proofs.Common.{arith}
 use Rattle.std.proofs.lemmas.List.Sorted.{IsNonDecreasingBy-from_all_adjacent}
 use Rattle.pmap_text.specs.ListEntries.{rank_of}
-use Rattle.pmap_text.proofs.Filed.{distinct_rising}
+use Rattle.pmap_text.proofs.Filed.{distinct_ascending}
 use Rattle.pmap_text.proofs.order.are_in_order.Goals as goal
 
-pub returns-clause-rising : goal.returns-clause-rising
-returns-clause-rising c = λ t.
+pub returns-clause-ascending : goal.returns-clause-ascending
+returns-clause-ascending c = λ t.
     IsNonDecreasingBy-from_all_adjacent rank_of c.args.entries.now
     (λ k d within. omega (arith, c.loop-i.invariant k d (omega (arith, within))))
 
 pub returns-clause-distinct : goal.returns-clause-distinct
-returns-clause-distinct c = λ t. distinct_rising c.args.entries.now (λ k d within. c.loop-i.invariant k d (omega (arith, within)))
+returns-clause-distinct c = λ t. distinct_ascending c.args.entries.now (λ k d within. c.loop-i.invariant k d (omega (arith, within)))

@@ -3,5 +3,5 @@ use Rattle.std.proofs.lemmas.List.Sorted.{IsNonDecreasingBy-from_sort_by}
 use Rattle.pmap_text.specs.ListEntries.{rank_of}
 use Rattle.pmap_text.proofs.order.in_order.Goals as goal
 
-pub returns-clause-rising : goal.returns-clause-rising
-returns-clause-rising c = IsNonDecreasingBy-from_sort_by rank_of _ c.sort_unstable_by.ensures.sorted (λ a r q k. search rules)
+pub returns-clause-ascending : goal.returns-clause-ascending
+returns-clause-ascending c = IsNonDecreasingBy-from_sort_by rank_of _ c.sort_unstable_by.ensures.sorted (λ a r q k. search rules)

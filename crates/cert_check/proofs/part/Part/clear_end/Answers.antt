@@ -5,7 +5,7 @@ use Rattle.pmap_cert.specs.Packed.{bits_in}
 use Rattle.pmap_text.specs.Stretches.{HoldsAddress}
 use Rattle.cert_check.proofs.HalfBlocks.{block-last}
 use Rattle.cert_check.proofs.Handed.{entry-version}
-use Rattle.cert_check.proofs.Sides.{clear-way, end-part, way-within}
+use Rattle.cert_check.proofs.Sides.{clear-path, end-part, path-within}
 use Rattle.cert_check.proofs.part.Part.clear_end.Goals as goal
 
 pub lie_in-requires-clause-versions : goal.lie_in-requires-clause-versions
@@ -15,24 +15,24 @@ lie_in-requires-clause-versions c = λ e has.
     entry-version l c.args.self.now.block inside.version e (inside.within.inside e has).0 ∙ sym c.end-end.ensures.version
 
 pub clear_before-requires-clause-from : goal.clear_before-requires-clause-from
-clear_before-requires-clause-from c = (way-within c.args.self.now.block c.end-end.result (bits_in c.args.way.now) c.end-end.ensures c.requires.some).first
+clear_before-requires-clause-from c = (path-within c.args.self.now.block c.end-end.result (bits_in c.args.path.now) c.end-end.ensures c.requires.some).first
 
 pub clear_before-requires-clause-within : goal.clear_before-requires-clause-within
 clear_before-requires-clause-within c =
-    let within = way-within c.args.self.now.block c.end-end.result (bits_in c.args.way.now) c.end-end.ensures c.requires.some in
+    let within = path-within c.args.self.now.block c.end-end.result (bits_in c.args.path.now) c.end-end.ensures c.requires.some in
     let some = block-last c.end-end.result in
     omega (arith, within.last, some)
 
 pub clear_after-requires-clause-from : goal.clear_after-requires-clause-from
 clear_after-requires-clause-from c =
-    let within = way-within c.args.self.now.block c.end-end.result (bits_in c.args.way.now) c.end-end.ensures c.requires.some in
+    let within = path-within c.args.self.now.block c.end-end.result (bits_in c.args.path.now) c.end-end.ensures c.requires.some in
     let some = block-last c.end-end.result in
     let last = c.high.ensures.last in
     omega (arith, within.first, some, last)
 
 pub clear_after-requires-clause-within : goal.clear_after-requires-clause-within
 clear_after-requires-clause-within c =
-    let within = way-within c.args.self.now.block c.end-end.result (bits_in c.args.way.now) c.end-end.ensures c.requires.some in
+    let within = path-within c.args.self.now.block c.end-end.result (bits_in c.args.path.now) c.end-end.ensures c.requires.some in
     let last = c.high.ensures.last in
     omega (arith, within.last, last)
 
@@ -42,7 +42,7 @@ returns-clause-part c =
     let b = c.args.self.now.block in
     let end = c.end-end.result in
     let inside = c.inside-above.ensures s.list.now c.requires.part.list in
-    let within = way-within b end (bits_in c.args.way.now) c.end-end.ensures c.requires.some in
+    let within = path-within b end (bits_in c.args.path.now) c.end-end.ensures c.requires.some in
     let all = c.lie_in.ensures c.if-not-lie_in.false in
     record {
       from = c.in_ok-from.ensures.at;
@@ -58,8 +58,8 @@ returns-clause-clear c = λ k below.
     let end = c.end-end.result in
     let x = text_at s.certificate.now.labels c.args.side.0 in
     let inside = c.inside-above.ensures s.list.now c.requires.part.list in
-    let within = way-within b end (bits_in c.args.way.now) c.end-end.ensures c.requires.some in
+    let within = path-within b end (bits_in c.args.path.now) c.end-end.ensures c.requires.some in
     let all = c.lie_in.ensures c.if-not-lie_in.false in
-    clear-way s.list.now b inside.version end within c.inside-above.result.0.now c.inside-above.result.1 inside all (bits_in c.args.way.now) c.end-end.ensures m x
+    clear-path s.list.now b inside.version end within c.inside-above.result.0.now c.inside-above.result.1 inside all (bits_in c.args.path.now) c.end-end.ensures m x
     (sym (inside.version ∙ c.requires.sources.list_version)) (sym c.is_of_list.ensures ∙ c.if-not-is_of_list.false) c.in_ok-from.ensures.clear
     (subst (λ (a : ℕ). IsSettledBetween m (a + 1) (last_in b + 1) x) c.high.ensures.last c.in_ok-to.ensures.clear) k below

@@ -6,7 +6,7 @@ use Rattle.pmap_text.specs.Stretches.{HoldsAddress}
 use Rattle.cert_check.proofs.HalfBlocks.{behind-low, ends-high}
 use Rattle.cert_check.proofs.Lists.{slice-from}
 use Rattle.cert_check.proofs.Halved.{high-part, low-part}
-use Rattle.cert_check.proofs.Within.{rising-values}
+use Rattle.cert_check.proofs.Within.{ascending-values}
 use Rattle.cert_check.proofs.part.Part.halves.Goals as goal
 
 pub returns : goal.returns
@@ -24,7 +24,7 @@ returns c =
     let es = c.inside-above.result.0.now in
     let k = c.partition_point-begun.result in
     let point = IsPartitionPoint-from_clause (λ (e : Entry). ltb e.block.value high.value) es k
-    c.partition_point-begun.ensures.partitioned (IsPartitionedBy-ltb (λ (e : Entry). e.block.value) es high.value (rising-values es inside.within.rising))
+    c.partition_point-begun.ensures.partitioned (IsPartitionedBy-ltb (λ (e : Entry). e.block.value) es high.value (ascending-values es inside.within.ascending))
     (λ x r q k. search rules) in
     let last = behind-low b low high are in
     record {

@@ -32,7 +32,7 @@ returns-clause-permutation c =
     subst (λ (l : List GroupModel). IsPermutation l (map group_model c.sort_by.new.self.items)) c.in_ok-groups.ensures
     (IsPermutation-map group_model c.in_ok-groups.groups.items _ c.in_ok-sort_by.ensures.permutation)
 
-pub returns-clause-rises : goal.returns-clause-rises
-returns-clause-rises c =
+pub returns-clause-ascends : goal.returns-clause-ascends
+returns-clause-ascends c =
     IsSortedBy-map group_model is_before _
     (c.in_ok-sort_by.ensures.sorted before before-order (answers_always _ _ _ (λ f a r f' k. search (rules, tests))))

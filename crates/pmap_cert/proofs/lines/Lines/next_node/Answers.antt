@@ -13,7 +13,7 @@ returns-in-Some-clause-ok c =
     let few : c.len-count.result ≤ 2 ^ 32 = omega (arith, c.len-count.ensures.value, c.len-count.ensures.few) in
     rw (← c.self.view_is, ← c.len-count.ensures.value)
     (there (format_number frame.format) frame.width c.len-count.result few c.self.inside.number c.self.inside.rest.now
-    (line_model kept.set.items (bits_in kept.way) c.in-Some.line) c.in-Some.rest.now (rw c.in-Some.is at c.in_ok-line.ensures).right)
+    (line_model kept.set.items (bits_in kept.path) c.in-Some.line) c.in-Some.rest.now (rw c.in-Some.is at c.in_ok-line.ensures).right)
 
 pub returns-in-None-2-clause-err : goal.returns-in-None-2-clause-err
 returns-in-None-2-clause-err c = λ _.

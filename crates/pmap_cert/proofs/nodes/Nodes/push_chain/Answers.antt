@@ -29,14 +29,14 @@ returns-in_err-push-2-clause-err c =
 
 pub invariant_of-self-2 : goal.invariant_of-self-2
 invariant_of-self-2 c =
-    let chain : PackedChain = record { cost = c.args.cost; side = c.args.side; set = c.in_ok-set.set; way = c.args.way } in
+    let chain : PackedChain = record { cost = c.args.cost; side = c.args.side; set = c.in_ok-set.set; path = c.args.path } in
     let pushed = chain-pushed _ _ _ _ (more-of c.self.inside.sets _ c.self.inside.chains.items _ c.hold.ensures.grown (_, c.in_ok-push.ensures.items)) c.self.invariant c.self.view_is c.push-2.new.self.items
     c.halves-low.result.0 c.halves-low.result.1 chain _ c.in_ok-set.ensures.ok (omega (arith, c.halves-low.ensures, c.len.ensures)) c.in_ok-push.ensures.items c.in_ok-push-2.ensures.items in
     pushed.packed
 
 pub returns-clause-ok : goal.returns-clause-ok
 returns-clause-ok c =
-    let chain : PackedChain = record { cost = c.args.cost; side = c.args.side; set = c.in_ok-set.set; way = c.args.way } in
+    let chain : PackedChain = record { cost = c.args.cost; side = c.args.side; set = c.in_ok-set.set; path = c.args.path } in
     let pushed = chain-pushed _ _ _ _ (more-of c.self.inside.sets _ c.self.inside.chains.items _ c.hold.ensures.grown (_, c.in_ok-push.ensures.items)) c.self.invariant c.self.view_is c.push-2.new.self.items
     c.halves-low.result.0 c.halves-low.result.1 chain _ c.in_ok-set.ensures.ok (omega (arith, c.halves-low.ensures, c.len.ensures)) c.in_ok-push.ensures.items c.in_ok-push-2.ensures.items in
     pushed.are

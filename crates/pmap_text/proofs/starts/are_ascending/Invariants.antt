@@ -1,6 +1,6 @@
 use Rattle.std.proofs.Common.{◌≤◌}
 use Rattle.std.specs.List.{AllAdjacentBelow}
-use Rattle.pmap_text.proofs.starts.are_rising.Given as goal
+use Rattle.pmap_text.proofs.starts.are_ascending.Given as goal
 
 -- the statements so far are in order
 abbrev pub invariant-loop-place : goal.invariant-loop-place

@@ -1,6 +1,6 @@
 use Rattle.std.proofs.Common.{arith}
 use Rattle.std.proofs.lemmas.List.Sorted.{IsNonDecreasingBy-from_all_adjacent}
-use Rattle.pmap_text.proofs.starts.are_rising.Goals as goal
+use Rattle.pmap_text.proofs.starts.are_ascending.Goals as goal
 
 pub returns : goal.returns
 returns c = λ t.

@@ -9,11 +9,11 @@ use Rattle.prefix_keys.specs.declared.block.Block.{Block}
 use Rattle.prefix_keys.proofs.Groups.{width-le}
 use Rattle.prefix_keys.proofs.Quotients.{block_end, whole}
 use Rattle.pmap_cert.specs.CertificateModel.{chosen_half}
-use Rattle.pmap_cert.specs.Ways.{digit, way_number, way_to}
+use Rattle.pmap_cert.specs.Paths.{digit, path_number, path_to}
 
-pub way-length : (value bits : ℕ) → length (way_to value bits) ≡ bits
-way-length value zero = refl
-way-length value (suc bits) = let rest = way-length value bits in omega arith
+pub path-length : (value bits : ℕ) → length (path_to value bits) ≡ bits
+path-length value zero = refl
+path-length value (suc bits) = let rest = path-length value bits in omega arith
 
 -- the digits of a number that one more digit follows
 digit-moved : (value bit place : ℕ) → bit < 2 → place < 127 → digit (value * 2 % 2 ^ 128 + bit) (suc place) ≡ digit value place
@@ -28,11 +28,11 @@ digit-moved value bit place small few =
     ap (λ (d : ℕ). all / d % 2) (pow-succ' 2 place) ∙ ap (λ (n : ℕ). n % 2) (sym (div-div-eq-div-mul all 2 (2 ^ place)) ∙ ap (λ (n : ℕ). n / 2 ^ place) half ∙ cut)
     ∙ ap (λ (k : ℕ). value / 2 ^ place % 2 ^ k % 2) more ∙ mod-mod-pow (value / 2 ^ place) (126 - place) 1
 
-pub way-more : (value count : ℕ) (bit : Bool) → count < 128 → way_to (value * 2 % 2 ^ 128 + bool_byte bit) (suc count) ≡ way_to value count ++ bit ∷ []
-way-more value zero true few = let last : (value * 2 % 2 ^ 128 + 1) / 2 ^ 0 % 2 ≡ 1 = omega arith in ap (λ (d : ℕ). (d == 1) ∷ []) last
-way-more value zero false few = let last : (value * 2 % 2 ^ 128 + 0) / 2 ^ 0 % 2 ≡ 0 = omega arith in ap (λ (d : ℕ). (d == 1) ∷ []) last
-way-more value (suc count) bit few =
-    λ i. (digit-moved value (bool_byte bit) count (small bit) (omega (arith, few)) i == 1) ∷ way-more value count bit (omega (arith, few)) i
+pub path-more : (value count : ℕ) (bit : Bool) → count < 128 → path_to (value * 2 % 2 ^ 128 + bool_byte bit) (suc count) ≡ path_to value count ++ bit ∷ []
+path-more value zero true few = let last : (value * 2 % 2 ^ 128 + 1) / 2 ^ 0 % 2 ≡ 1 = omega arith in ap (λ (d : ℕ). (d == 1) ∷ []) last
+path-more value zero false few = let last : (value * 2 % 2 ^ 128 + 0) / 2 ^ 0 % 2 ≡ 0 = omega arith in ap (λ (d : ℕ). (d == 1) ∷ []) last
+path-more value (suc count) bit few =
+    λ i. (digit-moved value (bool_byte bit) count (small bit) (omega (arith, few)) i == 1) ∷ path-more value count bit (omega (arith, few)) i
   where
     small : (bit : Bool) → bool_byte bit < 2
     small true = omega arith
@@ -43,12 +43,12 @@ half-number zero q small = omega arith
 half-number (suc zero) q small = refl
 half-number (suc (suc digit)) q small = absurd (omega (arith, small))
 
--- the number of the block at a way's end
-pub way-number : (value count q : ℕ) → way_number (way_to value count) q ≡ q * 2 ^ count + value % 2 ^ count
-way-number value zero q = omega arith
-way-number value (suc count) q =
+-- the number of the block at a path's end
+pub path-number : (value count q : ℕ) → path_number (path_to value count) q ≡ q * 2 ^ count + value % 2 ^ count
+path-number value zero q = omega arith
+path-number value (suc count) q =
     let next : 1 + count ≡ suc count = omega arith in
-    way-number value count (chosen_half (digit value count == 1) q)
+    path-number value count (chosen_half (digit value count == 1) q)
     ∙ ap (λ (half : ℕ). half * 2 ^ count + value % 2 ^ count) (half-number (digit value count) q (omega arith))
     ∙ joined (digit value count) (2 ^ count) (2 ^ suc count) (value % 2 ^ count) (value % 2 ^ suc count) (pow-suc 2 count)
     (ap (λ (n : ℕ). value % 2 ^ n) (sym next) ∙ mod-pow-add value 1 count)
@@ -56,13 +56,13 @@ way-number value (suc count) q =
     joined : (d size double low all : ℕ) → double ≡ size * 2 → all ≡ d * size + low → (2 * q + d) * size + low ≡ q * double + all
     joined d size double low all twice digits = rw (twice, digits) (omega arith)
 
--- the address begins a block at the end of a way of so many bits, which are the last digits of the number
+-- the address begins a block at the end of a path of so many bits, which are the last digits of the number
 pub record IsEnd (W n value number bits end : ℕ) : Type 0 where
   pub fits : end < 2 ^ W
   pub free : end % 2 ^ (W - (n + bits)) ≡ 0
   pub number_is : end / 2 ^ (W - (n + bits)) ≡ value / 2 ^ (W - n) * 2 ^ bits + number % 2 ^ bits
 
--- The block at a way's end, whose bits are first moved to the front of 128 and then to their places.
+-- The block at a path's end, whose bits are first moved to the front of 128 and then to their places.
 module _ (W n value number bits : ℕ) (wide : W ≤ 128) (deep : n + bits ≤ W) where
   abbrev low : ℕ
   low = number % 2 ^ bits

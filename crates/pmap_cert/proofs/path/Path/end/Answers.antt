@@ -1,7 +1,7 @@
 use Rattle.std.proofs.Common.{◌+◌, ◌∙◌, arith, ap, refl, sym}
 use Rattle.prefix_keys.proofs.Quotients.{width_at_most}
-use Rattle.pmap_cert.proofs.Ways.{at-end, way-length, way-number}
-use Rattle.pmap_cert.proofs.way.Way.end.Goals as goal
+use Rattle.pmap_cert.proofs.Paths.{at-end, path-length, path-number}
+use Rattle.pmap_cert.proofs.path.Path.end.Goals as goal
 
 pub overflow_add-result : goal.overflow_add-result
 overflow_add-result c =
@@ -18,6 +18,6 @@ returns c =
     let end = at-end c.args.block.now c.args.self.now.value c.args.self.now.count c.width.result c.requires c.width.ensures in
     record {
       version = refl;
-      len = ap (λ n. c.args.block.now.len + n) (sym (way-length c.args.self.now.value c.args.self.now.count));
-      number = end.number_is ∙ sym (way-number c.args.self.now.value c.args.self.now.count _);
+      len = ap (λ n. c.args.block.now.len + n) (sym (path-length c.args.self.now.value c.args.self.now.count));
+      number = end.number_is ∙ sym (path-number c.args.self.now.value c.args.self.now.count _);
     }

@@ -2,11 +2,11 @@
 use Rattle.std.proofs.Common.{◌≡◌, ◌≢◌, ℕ, zero, suc, ◌+◌, ◌^◌, ◌<◌, ◌≤◌, inl, inr, ◌∙◌, ◌||◌, ◌==◌, Bool, true, false, cond, List, [], ◌∷◌, Some, refl, sym, ap, subst, arith}
 use Rattle.std.specs.List.{list_any}
 use Rattle.std.proofs.lemmas.Bool.{cases_lt, cond_above, cond_below, eq-eqb, eqb-true, ne_eqb}
-use Rattle.pmap_cert.specs.CertificateText.{IsRising}
+use Rattle.pmap_cert.specs.CertificateText.{IsAscending}
 use Rattle.pmap_cert.specs.Node.{Chain, Inner, Leaf, Node, cost_of, label_of, set_of}
 use Rattle.pmap_cert.specs.Inner.{bits_down, end_down, is_leaf}
-use Rattle.pmap_cert.specs.Ways.{digit}
-use Rattle.pmap_minimise.specs.Built.{cost_above, node_over, set_above, way_node, with_number}
+use Rattle.pmap_cert.specs.Paths.{digit}
+use Rattle.pmap_minimise.specs.Built.{cost_above, node_over, set_above, path_node, with_number}
 use Rattle.pmap_minimise.specs.Numbers.{IsExact, IsExactBy, common_numbers, has_number}
 use Rattle.pmap_minimise.proofs.Merged.{lacks}
 
@@ -14,15 +14,15 @@ use Rattle.pmap_minimise.proofs.Merged.{lacks}
 abbrev only_if : Bool → ℕ → List ℕ
 only_if b n = cond b (n ∷ []) []
 
-common-one : (b k n : ℕ) (set : List ℕ) → IsRising b k set → common_numbers set (n ∷ []) ≡ only_if (has_number set n) n
-common-one b k n [] rising = refl
-common-one b k n (m ∷ ms) rising = by (common-one b (m + 1) n ms rising.2) (n == m) refl
+common-one : (b k n : ℕ) (set : List ℕ) → IsAscending b k set → common_numbers set (n ∷ []) ≡ only_if (has_number set n) n
+common-one b k n [] ascending = refl
+common-one b k n (m ∷ ms) ascending = by (common-one b (m + 1) n ms ascending.2) (n == m) refl
   where
     by : common_numbers ms (n ∷ []) ≡ only_if (has_number ms n) n → (t : Bool) → (n == m) ≡ t → common_numbers (m ∷ ms) (n ∷ []) ≡ only_if (has_number (m ∷ ms) n) n
     by rest true e =
         let same : n ≡ m = eqb-true n m e in
         let back : (m == n) ≡ true = eq-eqb m n (sym same) in
-        let none : has_number ms n ≡ false = lacks b (m + 1) ms n rising.2 (omega arith) in
+        let none : has_number ms n ≡ false = lacks b (m + 1) ms n ascending.2 (omega arith) in
         let empty : common_numbers ms (n ∷ []) ≡ [] = rest ∙ ap (λ (t : Bool). only_if t n) none in
         (λ i. cond (back i || false) (m ∷ empty i) (empty i)) ∙ ap (λ (x : ℕ). x ∷ []) (sym same)
         ∙ (λ i. only_if (sym e i || has_number ms n) n)
@@ -60,14 +60,14 @@ with-any p n (m ∷ ms) =
     swap : (x y z : Bool) → (x || (y || z)) ≡ (y || (x || z))
     swap x y z = grind arith
 
-with-rising : (b k n : ℕ) (set : List ℕ) → IsRising b k set → k ≤ n → n < b → has_number set n ≡ false → IsRising b k (with_number n set)
-with-rising b k n [] rising least below none = (least, below, tt)
-with-rising b k n (m ∷ ms) rising least below none =
+with-ascending : (b k n : ℕ) (set : List ℕ) → IsAscending b k set → k ≤ n → n < b → has_number set n ≡ false → IsAscending b k (with_number n set)
+with-ascending b k n [] ascending least below none = (least, below, tt)
+with-ascending b k n (m ∷ ms) ascending least below none =
     elim (cases_lt n m) [
-      | inl less ↦ subst (IsRising b k) (cond_below n m (n ∷ m ∷ ms) (m ∷ with_number n ms) less) (least, below, (omega arith, rising.1, rising.2))
-      | inr most ↦ subst (IsRising b k) (cond_above n m (n ∷ m ∷ ms) (m ∷ with_number n ms) (m ∷ with_number n ms) most refl)
+      | inl less ↦ subst (IsAscending b k) (cond_below n m (n ∷ m ∷ ms) (m ∷ with_number n ms) less) (least, below, (omega arith, ascending.1, ascending.2))
+      | inr most ↦ subst (IsAscending b k) (cond_above n m (n ∷ m ∷ ms) (m ∷ with_number n ms) (m ∷ with_number n ms) most refl)
           (let other : n ≢ m = λ same. absurd (true-not (sym (ap (λ (t : Bool). t || has_number ms n) (eq-eqb n m same)) ∙ none)) in
-          (rising.0, rising.1, with-rising b (m + 1) n ms rising.2 (omega arith) below (rest (n == m) (has_number ms n) none)))
+          (ascending.0, ascending.1, with-ascending b (m + 1) n ms ascending.2 (omega arith) below (rest (n == m) (has_number ms n) none)))
     ]
   where
     true-not : true ≡ false → ⊥
@@ -78,9 +78,9 @@ with-rising b k n (m ∷ ms) rising least below none =
     rest false y e = e
 
 -- What the nodes of a run claim.
-module _ (side : ℕ) (fits : side < 2 ^ 32) (end : Node) (rising : IsRising (2 ^ 32) 0 (set_of end)) where
-  one-rising : IsRising (2 ^ 32) 0 (side ∷ [])
-  one-rising = (omega arith, fits, tt)
+module _ (side : ℕ) (fits : side < 2 ^ 32) (end : Node) (ascending : IsAscending (2 ^ 32) 0 (set_of end)) where
+  one-ascending : IsAscending (2 ^ 32) 0 (side ∷ [])
+  one-ascending = (omega arith, fits, tt)
 
   abbrev above : ℕ → List ℕ
   above more = set_above side (set_of end) more
@@ -93,26 +93,26 @@ module _ (side : ℕ) (fits : side < 2 ^ 32) (end : Node) (rising : IsRising (2 
       by false = with-has side (set_of end)
   above-has (suc more) = ap (λ (t : Bool). t || false) (eq-eqb side side refl)
 
-  pub above-rising : (more : ℕ) → IsRising (2 ^ 32) 0 (above more)
-  above-rising zero = by (has_number (set_of end) side) refl
+  pub above-ascending : (more : ℕ) → IsAscending (2 ^ 32) 0 (above more)
+  above-ascending zero = by (has_number (set_of end) side) refl
     where
-      by : (t : Bool) → has_number (set_of end) side ≡ t → IsRising (2 ^ 32) 0 (cond t (side ∷ []) (with_number side (set_of end)))
-      by true e = one-rising
-      by false e = with-rising (2 ^ 32) 0 side (set_of end) rising (omega arith) fits e
-  above-rising (suc more) = one-rising
+      by : (t : Bool) → has_number (set_of end) side ≡ t → IsAscending (2 ^ 32) 0 (cond t (side ∷ []) (with_number side (set_of end)))
+      by true e = one-ascending
+      by false e = with-ascending (2 ^ 32) 0 side (set_of end) ascending (omega arith) fits e
+  above-ascending (suc more) = one-ascending
 
   -- what the node with `bits` bits of the run below it claims
-  abbrev way_cost : ℕ → ℕ
-  way_cost zero = cost_of end
-  way_cost (suc bits) = cost_above side end
+  abbrev path_cost : ℕ → ℕ
+  path_cost zero = cost_of end
+  path_cost (suc bits) = cost_above side end
 
-  abbrev way_set : ℕ → List ℕ
-  way_set zero = set_of end
-  way_set (suc bits) = above bits
+  abbrev path_set : ℕ → List ℕ
+  path_set zero = set_of end
+  path_set (suc bits) = above bits
 
-  exact-low : (bits : ℕ) → IsExactBy (way_cost bits) 0 (way_set bits) (side ∷ []) (common_numbers (way_set bits) (side ∷ [])) (cost_above side end) (above bits)
+  exact-low : (bits : ℕ) → IsExactBy (path_cost bits) 0 (path_set bits) (side ∷ []) (common_numbers (path_set bits) (side ∷ [])) (cost_above side end) (above bits)
   exact-low zero =
-      subst (λ (shared : List ℕ). IsExactBy (cost_of end) 0 (set_of end) (side ∷ []) shared (cost_above side end) (above zero)) (sym (common-one (2 ^ 32) 0 side (set_of end) rising))
+      subst (λ (shared : List ℕ). IsExactBy (cost_of end) 0 (set_of end) (side ∷ []) shared (cost_above side end) (above zero)) (sym (common-one (2 ^ 32) 0 side (set_of end) ascending))
       (by (has_number (set_of end) side) refl)
     where
       by : (t : Bool) → has_number (set_of end) side ≡ t
@@ -121,17 +121,17 @@ module _ (side : ℕ) (fits : side < 2 ^ 32) (end : Node) (rising : IsRising (2 
       by false e = (
         omega arith,
         λ p. with-any p side (set_of end) ∙ swap (p side) (list_any p (set_of end)),
-        with-rising (2 ^ 32) 0 side (set_of end) rising (omega arith) fits e,
+        with-ascending (2 ^ 32) 0 side (set_of end) ascending (omega arith) fits e,
       )
         where
           swap : (x y : Bool) → (x || y) ≡ (y || (x || false))
           swap x y = grind arith
   exact-low (suc bits) =
       subst (λ (shared : List ℕ). IsExactBy (cost_above side end) 0 (above bits) (side ∷ []) shared (cost_above side end) (side ∷ []))
-      (sym (common-one (2 ^ 32) 0 side (above bits) (above-rising bits) ∙ ap (λ (t : Bool). only_if t side) (above-has bits)))
+      (sym (common-one (2 ^ 32) 0 side (above bits) (above-ascending bits) ∙ ap (λ (t : Bool). only_if t side) (above-has bits)))
       (omega arith, refl)
 
-  exact-high : (bits : ℕ) → IsExactBy 0 (way_cost bits) (side ∷ []) (way_set bits) (common_numbers (side ∷ []) (way_set bits)) (cost_above side end) (above bits)
+  exact-high : (bits : ℕ) → IsExactBy 0 (path_cost bits) (side ∷ []) (path_set bits) (common_numbers (side ∷ []) (path_set bits)) (cost_above side end) (above bits)
   exact-high zero = by (has_number (set_of end) side) refl
     where
       by : (t : Bool) → has_number (set_of end) side ≡ t
@@ -140,7 +140,7 @@ module _ (side : ℕ) (fits : side < 2 ^ 32) (end : Node) (rising : IsRising (2 
       by false e = (
         omega arith,
         λ p. with-any p side (set_of end) ∙ add (p side) (list_any p (set_of end)),
-        with-rising (2 ^ 32) 0 side (set_of end) rising (omega arith) fits e,
+        with-ascending (2 ^ 32) 0 side (set_of end) ascending (omega arith) fits e,
       )
         where
           add : (x y : Bool) → (x || y) ≡ ((x || false) || y)
@@ -149,8 +149,8 @@ module _ (side : ℕ) (fits : side < 2 ^ 32) (end : Node) (rising : IsRising (2 
       subst (λ (t : Bool). IsExactBy 0 (cost_above side end) (side ∷ []) (above bits) (only_if t side) (cost_above side end) (side ∷ []))
       (sym (above-has bits)) (omega arith, refl)
 
-  abbrev way : ℕ → ℕ → Node
-  way value bits = way_node side value bits end
+  abbrev path : ℕ → ℕ → Node
+  path value bits = path_node side value bits end
 
   over-cost : (d cost : ℕ) (set : List ℕ) (x y : Node) → cost_of (node_over d cost set x y) ≡ cost
   over-cost zero cost set x y = refl
@@ -160,23 +160,23 @@ module _ (side : ℕ) (fits : side < 2 ^ 32) (end : Node) (rising : IsRising (2 
   over-set zero cost set x y = refl
   over-set (suc d) cost set x y = refl
 
-  pub way-cost : (value bits : ℕ) → cost_of (way value bits) ≡ way_cost bits
-  way-cost value zero = refl
-  way-cost value (suc bits) = over-cost (digit value bits) (cost_above side end) (above bits) (way value bits) (Leaf side)
+  pub path-cost : (value bits : ℕ) → cost_of (path value bits) ≡ path_cost bits
+  path-cost value zero = refl
+  path-cost value (suc bits) = over-cost (digit value bits) (cost_above side end) (above bits) (path value bits) (Leaf side)
 
-  pub way-set : (value bits : ℕ) → set_of (way value bits) ≡ way_set bits
-  way-set value zero = refl
-  way-set value (suc bits) = over-set (digit value bits) (cost_above side end) (above bits) (way value bits) (Leaf side)
+  pub path-set : (value bits : ℕ) → set_of (path value bits) ≡ path_set bits
+  path-set value zero = refl
+  path-set value (suc bits) = over-set (digit value bits) (cost_above side end) (above bits) (path value bits) (Leaf side)
 
-  pub way-low : (value bits : ℕ) → IsExact (way value bits) (Leaf side) (cost_above side end) (above bits)
-  way-low value bits =
-      subst (λ (cost : ℕ). IsExactBy cost 0 (set_of (way value bits)) (side ∷ []) (common_numbers (set_of (way value bits)) (side ∷ [])) (cost_above side end) (above bits)) (sym (way-cost value bits))
-      (subst (λ (set : List ℕ). IsExactBy (way_cost bits) 0 set (side ∷ []) (common_numbers set (side ∷ [])) (cost_above side end) (above bits)) (sym (way-set value bits)) (exact-low bits))
+  pub path-low : (value bits : ℕ) → IsExact (path value bits) (Leaf side) (cost_above side end) (above bits)
+  path-low value bits =
+      subst (λ (cost : ℕ). IsExactBy cost 0 (set_of (path value bits)) (side ∷ []) (common_numbers (set_of (path value bits)) (side ∷ [])) (cost_above side end) (above bits)) (sym (path-cost value bits))
+      (subst (λ (set : List ℕ). IsExactBy (path_cost bits) 0 set (side ∷ []) (common_numbers set (side ∷ [])) (cost_above side end) (above bits)) (sym (path-set value bits)) (exact-low bits))
 
-  pub way-high : (value bits : ℕ) → IsExact (Leaf side) (way value bits) (cost_above side end) (above bits)
-  way-high value bits =
-      subst (λ (cost : ℕ). IsExactBy 0 cost (side ∷ []) (set_of (way value bits)) (common_numbers (side ∷ []) (set_of (way value bits))) (cost_above side end) (above bits)) (sym (way-cost value bits))
-      (subst (λ (set : List ℕ). IsExactBy 0 (way_cost bits) (side ∷ []) set (common_numbers (side ∷ []) set) (cost_above side end) (above bits)) (sym (way-set value bits)) (exact-high bits))
+  pub path-high : (value bits : ℕ) → IsExact (Leaf side) (path value bits) (cost_above side end) (above bits)
+  path-high value bits =
+      subst (λ (cost : ℕ). IsExactBy 0 cost (side ∷ []) (set_of (path value bits)) (common_numbers (side ∷ []) (set_of (path value bits))) (cost_above side end) (above bits)) (sym (path-cost value bits))
+      (subst (λ (set : List ℕ). IsExactBy 0 (path_cost bits) (side ∷ []) set (common_numbers (side ∷ []) set) (cost_above side end) (above bits)) (sym (path-set value bits)) (exact-high bits))
 
 -- a node without the side label is no leaf with it
 pub no-leaf : (side : ℕ) (node : Node) → (label_of node ≡ Some side → ⊥) → is_leaf side node ≡ false
