@@ -51,13 +51,9 @@ fn repeat_at(alloc: Global, form: Form, text: &[u8], hashing: KeyHashing, index:
     ensures err { result.kind ≢ NoMemory → entries_from form [] 0 (lines_of text.now) ≡ Err result }
     ensures memory { result.kind ≡ NoMemory → result.line ≡ 0 }
 {
-    // The block ends before the match, so that a reading is dropped at one place only.
-    let (end, repeat) = {
-        let mut reading = Reading::new(alloc, hashing);
-        let end = read_on(&mut reading, form, text, index);
-        (end, reading.first_repeat())
-    };
-    match (end, repeat) {
+    let mut reading = Reading::new(alloc, hashing);
+    let end = read_on(&mut reading, form, text, index);
+    match (end, reading.first_repeat()) {
         (Ok(line), Ok(Some(first))) if first == index => MapFault {
             kind: MapFaultKind::DuplicateBlock,
             line,
