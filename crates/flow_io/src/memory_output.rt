@@ -112,9 +112,7 @@ impl<const N: usize> Output for MemoryOutput<N> {
         let buffer = &mut self.buffer[..];
         buffer[self.filled..end].copy_from_slice(&slice[..count]);
         self.filled = end;
-        if count == 0 && !slice.is_empty() {
-            self.failed = true;
-        }
+        self.failed |= count == 0 && !slice.is_empty();
         Ok(count)
     }
 

@@ -72,9 +72,7 @@ impl<T: Write> Output for Watched<T> {
             self.failed = true;
             return Err(DeviceFault);
         };
-        if count == 0 && !slice.is_empty() {
-            self.failed = true;
-        }
+        self.failed |= count == 0 && !slice.is_empty();
         Ok(count)
     }
 
