@@ -15,15 +15,18 @@ same-piece xs more from end le within =
 
 -- a set in the pool stays the same if more is appended
 module _ (pool more : List LabelId) where
-  same-count : (place : ℕ) → place < length pool → count_at (pool ++ more) place ≡ count_at pool place
-  same-count place inside = ap (λ (id : LabelId). id.0) (get_or_append_left pool more (record { 0 = 0 }) place inside)
+  same-count : (place : ℕ) → place + 1 < length pool → count_at (pool ++ more) place ≡ count_at pool place
+  same-count place inside =
+      let low = ap (λ (id : LabelId). id.0) (get_or_append_left pool more (record { 0 = 0 }) place (omega (arith, inside))) in
+      let high = ap (λ (id : LabelId). id.0) (get_or_append_left pool more (record { 0 = 0 }) (place + 1) inside) in
+      λ i. joined_halves (low i) (high i)
 
   same-set_by : (low high : ℕ) → HasSetBy pool low high → set_by (pool ++ more) low high ≡ set_by pool low high
   same-set_by low zero has = refl
   same-set_by low (suc high) has =
       let place = joined_halves low high in
-      ap (λ (n : ℕ). map (λ (id : LabelId). id.0) (slice_range (pool ++ more) (place + 1) (place + 1 + n))) (same-count place (omega arith))
-      ∙ ap (map (λ (id : LabelId). id.0)) (same-piece pool more (place + 1) (place + 1 + count_at pool place) (omega arith) has)
+      ap (λ (n : ℕ). map (λ (id : LabelId). id.0) (slice_range (pool ++ more) (place + 2) (place + 2 + n))) (same-count place (omega arith))
+      ∙ ap (map (λ (id : LabelId). id.0)) (same-piece pool more (place + 2) (place + 2 + count_at pool place) (omega arith) has)
 
   still-set_by : (low high : ℕ) → HasSetBy pool low high → HasSetBy (pool ++ more) low high
   still-set_by low zero has = tt

@@ -56,7 +56,7 @@ path-number value (suc count) q =
     joined : (d size double low all : ℕ) → double ≡ size * 2 → all ≡ d * size + low → (2 * q + d) * size + low ≡ q * double + all
     joined d size double low all twice digits = rw (twice, digits) (omega arith)
 
--- the address begins a block at the end of a path of so many bits, which are the last digits of the number
+-- the address begins a block at the end of a path of this many bits, which are the last digits of the number
 pub record IsEnd (W n value number bits end : ℕ) : Type 0 where
   pub fits : end < 2 ^ W
   pub free : end % 2 ^ (W - (n + bits)) ≡ 0

@@ -14,11 +14,13 @@ use Rattle.pmap_cert.specs.Paths.{path_to}
 abbrev pub joined_halves : ℕ → ℕ → ℕ
 joined_halves low high = high * 2 ^ 32 + low
 
+-- the number of labels of the set at this index, whose halves are stored before the labels
 abbrev pub count_at : List LabelId → ℕ → ℕ
-count_at pool place = (slice_index_or pool place (record { 0 = 0 })).0
+count_at pool place =
+    joined_halves (slice_index_or pool place (record { 0 = 0 })).0 (slice_index_or pool (place + 1) (record { 0 = 0 })).0
 
 abbrev pub larger_at : List LabelId → ℕ → List ℕ
-larger_at pool place = map (λ id. id.0) (slice_range pool (place + 1) (place + 1 + count_at pool place))
+larger_at pool place = map (λ id. id.0) (slice_range pool (place + 2) (place + 2 + count_at pool place))
 
 abbrev pub set_by : List LabelId → ℕ → ℕ → List ℕ
 set_by pool low zero = low ∷ []
@@ -29,7 +31,7 @@ set_in pool id = set_by pool id.low.0 id.high
 
 abbrev pub HasSetBy : List LabelId → ℕ → ℕ → Type 0
 HasSetBy pool low zero = Unit {0}
-HasSetBy pool low (suc high) = joined_halves low high + 1 + count_at pool (joined_halves low high) ≤ length pool
+HasSetBy pool low (suc high) = joined_halves low high + 2 + count_at pool (joined_halves low high) ≤ length pool
 
 abbrev pub HasSet : List LabelId → SetId → Type 0
 HasSet pool id = HasSetBy pool id.low.0 id.high

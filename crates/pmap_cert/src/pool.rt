@@ -1,5 +1,5 @@
 //! A pool of sets of labels.
-ghost use Rattle.std.specs.Prelude.{◌≡◌, ◌^◌, ◌<◌, [], IfOk, SomeIff, length, map};
+ghost use Rattle.std.specs.Prelude.{◌≡◌, [], IfOk, map};
 ghost use Rattle.pmap_cert.specs.Packed.{HasSet, IsGrown, IsHeld, joined_halves, set_in};
 
 use pmap_text::LabelId;
@@ -22,7 +22,8 @@ pub struct SetId {
 /// A pool of sets of labels. A set of one label takes no memory in it.
 #[derive(Drop)]
 pub struct SetPool {
-    // For each set that doesn't have exactly one label: the number of its labels, and then the labels.
+    // For each set that doesn't have exactly one label: the lower and the upper 32 bits of the number of its labels, and
+    // then the labels.
     labels: Vec<LabelId>,
 }
 
@@ -49,13 +50,6 @@ pub fn halves(number: usize) -> (u32, u32)
     ((number % HALF) as u32, (number / HALF) as u32)
 }
 
-// Returns the number of labels of a set if it is below 2^32.
-fn count_of(set: &[LabelId]) -> Option<u32>
-    ensures { SomeIff result (length set.now < 2 ^ 32) (length set.now) }
-{
-    u32::try_from(set.len()).ok()
-}
-
 impl SetPool {
     /// Constructs an empty pool.
     pub fn new(alloc: Global) -> SetPool
@@ -66,8 +60,7 @@ impl SetPool {
         }
     }
 
-    /// Stores a set and returns its id. A set of 2^32 labels or more is reported as a failed allocation. If `hold`
-    /// fails, the sets in the pool are unchanged.
+    /// Stores a set and returns its id. If an allocation fails, the sets in the pool are unchanged.
     pub fn hold(&mut self, set: &[LabelId]) -> Result<SetId, AllocError>
         ensures grown { IsGrown self.old self.new }
         ensures ok { IfOk result (λ id. IsHeld self.new id (map (λ id. id.0) set.now)) }
@@ -78,9 +71,10 @@ impl SetPool {
                 high: 0,
             });
         }
-        let count = count_of(set).ok_or(AllocError)?;
         let (low, high) = halves(self.labels.len());
-        self.labels.push(LabelId(count))?;
+        let (count_low, count_high) = halves(set.len());
+        self.labels.push(LabelId(count_low))?;
+        self.labels.push(LabelId(count_high))?;
         self.labels.extend_from_slice(set)?;
         Ok(SetId {
             low: LabelId(low),
@@ -98,8 +92,8 @@ impl SetPool {
             return slice::from_ref(&id.low);
         }
         let place = joined_halves(id.low.0, id.high - 1);
-        let start = place + 1;
-        let end = start + self.labels[place].0 as usize;
+        let start = place + 2;
+        let end = start + joined_halves(self.labels[place].0, self.labels[place + 1].0);
         &self.labels[start..end]
     }
 
