@@ -10,7 +10,7 @@ use Rattle.flow_rows.specs.Elements.{back, big_endian, forward, is_usable}
 -- The offsets of the values of a row's elements in a record, and what is read there. This is private, and callers of
 -- the crate need not read it.
 
--- the offsets of the value of a field, after so many bytes
+-- the offsets of the value of a field, after this many bytes
 abbrev pub place_of : ℕ → Field → Place
 place_of at f = record { begin = at; end = at + f.length }
 
@@ -20,7 +20,7 @@ kept known None = known
 kept None (Some new) = Some new
 kept (Some known) (Some new) = Some known
 
--- the offsets that a field after so many bytes gives to an element of a direction
+-- the offsets that a field after this many bytes gives to an element of a direction
 abbrev pub given : Option ℕ → ℕ → Field → ℕ → Option Place
 given direction at f number = if is_usable direction number f then Some (place_of at f) else None
 
@@ -66,7 +66,7 @@ number_there p bytes = option_map (λ p. big_endian (slice_range bytes p.begin p
 abbrev pub said_there : Elements → List ℕ → ℕ → Option ℕ
 said_there e bytes number = number_there (place_in e number) bytes
 
--- among so many bytes there are so many, at least and at most, at a place that is known
+-- if the place is known, its length is in this range, and it lies within this many bytes
 abbrev pub IsThere : ℕ × ℕ → ℕ → Option Place → Type 0
 IsThere range len None = Unit {0}
 IsThere range len (Some p) = (p.begin + range.0 ≤ p.end) × (p.end ≤ p.begin + range.1) × (p.end ≤ len)

@@ -16,7 +16,7 @@ macro_rules! version {
 
 macro_rules! example {
     ($what:literal, $line:literal) => {
-        concat!("Example, ", $what, ":\n  ", $line, "\n\nManual: man flowlabel")
+        concat!("Example, ", $what, ":\n  ", $line, "\n\nManuals: flowlabel(1), flowlabel-formats(5)")
     };
 }
 
@@ -146,8 +146,8 @@ fn report_options<'a>(alloc: Global) -> [Arg<'a>; 12]
     let to_ports = "Flows to these ports";
     let from_addresses = "Flows from these addresses: 10.0.0.1,2001:db8::/32";
     let to_addresses = "Flows to these addresses";
-    let packets = "Flows with so many packets, such as 5, 5- or 5-9";
-    let bytes = "Flows with so many bytes";
+    let packets = "Flows with this many packets, such as 5, 5- or 5-9";
+    let bytes = "Flows with this many bytes";
     let src_label = "Flows whose source has this label";
     let dst_label = "Flows whose destination has this label";
     let any_label = "Flows whose source or destination has this label";

@@ -72,8 +72,8 @@ abbrev pub is_read_fault : {A : Type 0} → Result A ReadFault → Bool
 is_read_fault (Ok _) = false
 is_read_fault (Err fault) = is_of_reader fault.kind
 
--- the bytes of the message after so many messages, if the reader will still return these bytes; none if no bytes remain,
--- or the fault of the header
+-- the bytes of the message after this many messages, if the reader will still return these bytes; none if no bytes
+-- remain, or the fault of the header
 abbrev pub Gathers : ℕ → List ℕ → Result (Option (List ℕ)) ReadFaultKind → Option (List ℕ) → Type 0
 Gathers count left (Ok (Some front)) gives =
     (after : List ℕ) × (left ≡ front ++ after) × (header_fault count left ≡ None) × (gives ≡ Some after)

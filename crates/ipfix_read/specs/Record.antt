@@ -27,7 +27,7 @@ IsDataSet t bytes records = ReadsWhole (ReadsRecord t) (λ rest. ¬ HasRoom t re
 abbrev pub HasRecord : TemplateView → List ℕ → Type 0
 HasRecord t bytes = (records : List Record) × (rest : List ℕ) × Reads (ReadsRecord t) bytes records rest × HasRoom t rest × IsSome (record_at t rest)
 
--- at this offset of so many bytes there is no padding, and the record there extends beyond the end
+-- at this offset of this many bytes there is no padding, and the record there extends beyond the end
 abbrev pub IsCutOff : TemplateView → ℕ → List ℕ → ℕ → Type 0
 IsCutOff t size rest place = HasRoom t rest × (record_at t rest ≡ None) × (place + length rest ≡ size)
 

@@ -88,7 +88,7 @@ abbrev pub HasTemplateRecord : Kind → List ℕ → Type 0
 HasTemplateRecord kind bytes =
     (events : List TemplateEvent) × (rest : List ℕ) × Reads (ReadsEvent kind) bytes events rest × (4 ≤ length rest) × IsOk (template_record_at kind rest)
 
--- at the start of the rest of so many bytes there is no padding and no record, but this fault
+-- at the start of the rest of this many bytes there is no padding and no record, but this fault
 abbrev pub IsRecordFault : Kind → ℕ → List ℕ → TemplateFault → Type 0
 IsRecordFault kind size rest fault = (4 ≤ length rest) × (template_record_at kind rest ≡ Err fault.kind) × (fault.offset + length rest ≡ size)
 

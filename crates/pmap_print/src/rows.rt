@@ -20,7 +20,7 @@ const COLUMNS: usize = 10;
 const COLUMNS_WITH_LABELS: usize = 12;
 
 // The addresses of a row, the `|` between them, its eight numbers, each after a `|`, and the byte after them take at
-// most so many bytes.
+// most this many bytes.
 const LINE: usize = 250;
 
 // The lengths of the fields of the header, each with the byte that ends it.
