@@ -72,6 +72,6 @@ module _ {W : Type 0} (taken : W → Option (List ℕ)) (last : W → LastCall) 
   StopsWriting old new bytes =
       (AppendsPrefix (taken old) (taken new) bytes × (last new ≡ Write)) ⊎ (Appends (taken old) (taken new) bytes × (last new ≡ FailedFlush))
 
-  -- it took nothing and was not called
+  -- it took nothing, and its last call is still the earlier one
   abbrev pub IsUntouched : W → W → Type 0
   IsUntouched old new = Keeps (taken old) (taken new) × (last new ≡ last old)

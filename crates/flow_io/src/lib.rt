@@ -23,8 +23,8 @@
 //!
 //! `read_whole` returns all the bytes that a reader will still return. It returns a read fault if and only if the
 //! reader failed. Its only other error is that an allocation failed. `write_whole` passes a writer all of some bytes
-//! and then flushes it once. It returns a fault if and only if the writer failed: at a write, with a prefix of the
-//! bytes taken, or at the flush, with all of them taken. Nothing else in this crate allocates.
+//! and flushes it last. It returns a fault if and only if the writer failed: at a write, with a prefix of the bytes
+//! taken, or at the flush, with all of them taken. Nothing else in this crate allocates.
 #![tactic(auto)]
 
 mod buffered;

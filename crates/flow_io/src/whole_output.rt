@@ -10,8 +10,8 @@ use thiserror::Error;
 #[error("the writer failed")]
 pub struct WriteFault;
 
-/// Writes all the bytes, and then flushes once. If a write fails, the writer has taken a prefix of them. If the flush
-/// fails, the writer has taken all of them.
+/// Writes all the bytes, and flushes the writer last. If a write fails, the writer has taken a prefix of them. If the
+/// flush fails, the writer has taken all of them.
 pub fn write_whole<W: Output>(writer: &mut W, bytes: &[u8]) -> Result<(), WriteFault>
     requires { W.failed writer.old ≡ false }
     ensures whole { OnOk result (Appends (W.bytes_taken writer.old) (W.bytes_taken writer.new) bytes.now) }

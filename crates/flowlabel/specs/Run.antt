@@ -152,8 +152,8 @@ module _ {R : Type 0} where
     pub certificate : is_some inputs.certificate ≡ needs.certificate
     pub flows : is_some inputs.flows ≡ needs.flows
 
--- after a write fault the writer has a prefix of the output, or all of it if the flush failed; any other fault comes
--- before the writer is called
+-- after a write fault the writer has a prefix of the output, or all of it if the flush failed; after any other fault it
+-- has taken nothing, and its last call is still the earlier one
 module _ {R W : Type 0} (left : R → Option (List ℕ)) (failed : R → Bool) (taken : W → Option (List ℕ)) (last : W → LastCall) where
   abbrev pub IsFaultOfRun : Inputs R → Inputs R → W → W → Request → RunFault → Type 0
   IsFaultOfRun old new writer writer' request CannotWrite = PrintsThen left old request (StopsWriting taken last writer writer')

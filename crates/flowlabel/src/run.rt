@@ -112,8 +112,9 @@ fn output<'a, R: Input>(
     answer(alloc, command, &mut loaded, inputs, hashing)
 }
 
-/// Runs a command: reads its inputs, makes the whole output, and then writes it and flushes once. The map, the list and
-/// the certificate are each read whole and decoded, in this order. The flows are last, and are read message by message.
+/// Runs a command: reads its inputs, makes the whole output, writes it, and flushes the writer last. The map, the list
+/// and the certificate are each read whole and decoded, in this order. The flows are last, and are read message by
+/// message.
 ///
 /// # Errors
 ///
