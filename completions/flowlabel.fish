@@ -13,13 +13,13 @@ complete -c flowlabel -n "not $of $commands" -a uniq -d 'Print the sums of the f
 complete -c flowlabel -n "not $of $commands" -a cat -d 'Print the ranges of a map or a list'
 complete -c flowlabel -n "not $of $commands" -a shrink -d 'Print the shortest list that labels as a map does'
 complete -c flowlabel -n "not $of $commands" -a check -d 'Check by a certificate that a list is a shortest one for a map'
-complete -c flowlabel -n "not $of $commands" -a recert -d 'Print a compacted certificate'
+complete -c flowlabel -n "not $of $commands" -a recert -d 'Print a certificate in compact form'
 
 complete -c flowlabel -n "$of label rows uniq cat shrink check" -l pmap -r -F -d 'The prefix map'
 complete -c flowlabel -n "$of label rows uniq cat check" -l list -r -F -d 'The prefix list'
 complete -c flowlabel -n "$of check recert" -l cert -r -F -d 'The certificate'
 complete -c flowlabel -n "$of shrink" -l certificate -d 'Print the certificate instead of the list'
-complete -c flowlabel -n "$of shrink" -l compact -d 'Compact the certificate'
+complete -c flowlabel -n "$of shrink" -l compact -d 'Print the certificate in compact form'
 
 complete -c flowlabel -n "$of rows uniq" -l protocol -x -d 'Flows of these protocols, such as 6,17 or 1-16'
 complete -c flowlabel -n "$of rows uniq" -l sport -x -d 'Flows from these ports'
@@ -31,7 +31,7 @@ complete -c flowlabel -n "$of rows uniq" -l bytes -x -d 'Flows with this many by
 complete -c flowlabel -n "$of rows uniq" -l src-label -x -d 'Flows whose source has this label'
 complete -c flowlabel -n "$of rows uniq" -l dst-label -x -d 'Flows whose destination has this label'
 complete -c flowlabel -n "$of rows uniq" -l any-label -x -d 'Flows whose source or destination has this label'
-complete -c flowlabel -n "$of rows uniq" -l columns -d 'Pad the columns'
+complete -c flowlabel -n "$of rows uniq" -l columns -d 'Pad the fields to columns'
 
 complete -c flowlabel -n "$of uniq" -l sort-output -d 'Print the sums in the order of their keys'
 complete -c flowlabel -n "$of uniq" -l fields -x -d 'The fields to sum by' \
