@@ -262,7 +262,7 @@ def ipv6_lines(rng, names, count, order):
 
 def ipv4_lines(rng, names, count, order):
     """Yields the lines of a text over IPv4."""
-    # A text of fewer lines has the lengths of one with more lines, and there are only so many short prefixes.
+    # A text of fewer lines has the lengths of one with more lines, and there are few short prefixes.
     found = prefixes(rng, count)
     if order == "shuffled":
         rng.shuffle(found)
