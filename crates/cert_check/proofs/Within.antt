@@ -1,33 +1,24 @@
 -- The entries of a list in a block and in blocks inside it.
-use Rattle.std.proofs.Common.{◌≡◌, ◌∙◌, inl, inr, ℕ, zero, suc, ◌+◌, ◌==◌, ◌*◌, ◌/◌, ◌%◌, ◌^◌, ◌-◌, ◌<◌, ◌≤◌, List, [], ◌∷◌, Contains, drop, get_or, get_or-drop, get_or-take, is_lt, length, length-drop, length-take, min, nat_cmp, slice_get, Some, false, true, take, ap, subst, sym, arith, mul-div_cancel, mul_assoc, pow_pos}
+use Rattle.std.proofs.Common.{◌≡◌, ◌∙◌, inl, inr, ℕ, suc, ◌+◌, ◌*◌, ◌/◌, ◌%◌, ◌^◌, ◌-◌, ◌<◌, ◌≤◌, List, ◌∷◌, Contains, drop, get_or, get_or-drop, get_or-take, is_lt, length, length-drop, length-take, min, nat_cmp, slice_get, Some, false, take, ap, subst, sym, arith, mul-div_cancel, mul_assoc, pow_pos}
 use Rattle.std.specs.List.Sorted.{IsNonDecreasingBy, IsPermutation}
-use Rattle.std.proofs.lemmas.Bool.{and_from, both_ways, cases_eq, cases_lt, eq-eqb}
+use Rattle.std.proofs.lemmas.Bool.{cases_eq, cases_lt}
 use Rattle.std.proofs.lemmas.Bool.Decides.{nat_tests}
 use Rattle.std.proofs.lemmas.Option.{get_or_from_slice_get}
-use Rattle.std.proofs.lemmas.List.Elements.{All-from_recursion}
-use Rattle.std.proofs.lemmas.Map.Keys.{IsDistinct-IsPermutation, IsDistinct-head, IsDistinct-tail}
+use Rattle.std.proofs.lemmas.Map.Keys.{IsDistinct-IsPermutation}
 use Rattle.std.proofs.lemmas.List.Sorted.{Contains-permutation, IsPermutation-sym}
 use Rattle.std.proofs.lemmas.Nat.{pow-add}
 use Rattle.prefix_keys.proofs.Quotients.{whole}
 use Rattle.prefix_keys.specs.Block.{block_number, first_of, width_of}
 use Rattle.prefix_keys.specs.declared.block.Block.{Block}
-use Rattle.prefix_keys.specs.declared.version.Version.{Version}
-use Rattle.prefix_keys.specs.declared.version.Version.TheVariants.{V4, V6}
-use Rattle.pmap_text.specs.ListEntries.{HasDistinctBlocks, same_block}
+use Rattle.pmap_text.specs.ListEntries.{HasDistinctBlocks, rank_of, same_block}
 use Rattle.pmap_text.specs.declared.entry.Entry.{Entry}
 use Rattle.pmap_text.proofs.Blocks.{address-between, address-first, address-last}
+use Rattle.pmap_text.proofs.Filed.{flips}
+use Rattle.pmap_text.proofs.ListBlocks.{ranks_ascend, short-block}
 use Rattle.pmap_text.proofs.Finds.{Contains-cases, Contains-first, Contains-later}
 use Rattle.pmap_text.specs.PrefixList.{number_of_block as number_of}
-use Rattle.cert_check.specs.Inner.{AreInOrder, AreAscending, AreWithin, LiesIn, last_in, rank_of}
+use Rattle.cert_check.specs.Inner.{AreInOrder, AreAscending, AreWithin, LiesIn, last_in}
 use Rattle.cert_check.proofs.HalfBlocks.{IsWithin, block-first}
-
--- no block has more than 128 bits
-short : (v : Version) (len : ℕ) → len ≤ width_of v → len ≤ 128
-short V4 len le = omega (arith, le)
-short V6 len le = le
-
-pub short-block : (b : Block) → b.len ≤ 128
-short-block b = short b.version b.len b.len_in_range
 
 -- the first of entries in order comes before all later ones
 rank-later : (c : Entry) (rest : List Entry) → AreAscending (c ∷ rest) → (e : Entry) → Contains rest e → rank_of c.block < rank_of e.block
@@ -253,43 +244,9 @@ lies-after b e same from to =
       number = number;
     }
 
--- entries of equal rank have the same block
-rank-block : (d e : Entry) → rank_of d.block ≡ rank_of e.block → same_block d e ≡ true
-rank-block d e same =
-    let a = short-block d.block in
-    let b = short-block e.block in
-    and_from (d.block.value == e.block.value) (d.block.len == e.block.len)
-    (eq-eqb d.block.value e.block.value (omega (arith, a, b, same))) (eq-eqb d.block.len e.block.len (omega (arith, a, b, same)))
-
-distinct-at : (es : List Entry) → HasDistinctBlocks es → (i j : ℕ) (d : Entry) → i < j → j < length es → same_block (get_or es i d) (get_or es j d) ≡ false
-distinct-at [] distinct i j d less below = absurd (omega (arith, below))
-distinct-at (e ∷ es) distinct zero zero d less below = absurd (omega (arith, less))
-distinct-at (e ∷ es) distinct (suc i) zero d less below = absurd (omega (arith, less))
-distinct-at (e ∷ es) distinct zero (suc j) d less below =
-    All-from_recursion (λ (x : Entry). same_block e x ≡ false) es (IsDistinct-head same_block e es distinct) j d (omega (arith, below))
-distinct-at (e ∷ es) distinct (suc i) (suc j) d less below =
-    distinct-at es (IsDistinct-tail same_block e es distinct) i j d (omega (arith, less)) (omega (arith, below))
-
-ascends : (es : List Entry) → HasDistinctBlocks es → IsNonDecreasingBy (λ e. rank_of e.block) es → AreAscending es
-ascends es distinct ascending i j d less below =
-    elim (cases_eq (rank_of (get_or es i d).block) (rank_of (get_or es j d).block)) [
-      | inl same ↦ absurd (both_ways _ (distinct-at es distinct i j d less below) (rank-block (get_or es i d) (get_or es j d) same))
-      | inr other ↦ let le = ascending i j d (omega (arith, less)) below in omega (arith, le, other)
-    ]
-
-flips : (d e : Entry) → same_block d e ≡ same_block e d
-flips d e = grind arith
-
 pub sorted-order : (es sorted : List Entry) → HasDistinctBlocks es → IsPermutation es sorted → IsNonDecreasingBy (λ e. rank_of e.block) sorted → AreInOrder es sorted
 sorted-order es sorted distinct moved ascending = record {
-  ascending = ascends sorted (IsDistinct-IsPermutation same_block flips es sorted moved distinct) ascending;
+  ascending = ranks_ascend sorted (IsDistinct-IsPermutation same_block flips es sorted moved distinct) ascending;
   listed = λ e has. Contains-permutation sorted es e (IsPermutation-sym es sorted moved) has;
   every = λ e has. Contains-permutation es sorted e moved has;
-}
-
-pub same-order : (es given : List Entry) → HasDistinctBlocks es → given ≡ es → IsNonDecreasingBy (λ e. rank_of e.block) given → AreInOrder es given
-same-order es given distinct same ascending = record {
-  ascending = ascends given (subst HasDistinctBlocks (sym same) distinct) ascending;
-  listed = λ e has. subst (λ (xs : List Entry). Contains xs e) same has;
-  every = λ e has. subst (λ (xs : List Entry). Contains xs e) (sym same) has;
 }

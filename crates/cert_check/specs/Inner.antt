@@ -7,6 +7,7 @@ use Rattle.pmap_text.specs.Carried.{carried, carried_entries, entry_covers, stat
 use Rattle.pmap_text.specs.declared.entry.Entry.{Entry}
 use Rattle.pmap_text.specs.declared.statement.Statement.{Statement}
 use Rattle.pmap_text.specs.Label.{IsLabelTable, number_of as number_of_label}
+use Rattle.pmap_text.specs.ListEntries.{rank_of}
 use Rattle.pmap_text.specs.ListModel.{lies_inside, label_below}
 use Rattle.pmap_text.specs.MapModel.{Label, MapModel, settled_label}
 use Rattle.pmap_text.specs.PrefixList.{prefix_of, list_of, number_of_block as number_of}
@@ -88,10 +89,6 @@ pub record AreSources (s : Sources) : Type 0 where
 
 abbrev pub last_in : Block → ℕ
 last_in b = last_of (width_of b.version) b.len (number_of b)
-
--- The rank of a block: blocks are ordered by first address, then by length, which is below 256.
-abbrev pub rank_of : Block → ℕ
-rank_of b = b.value * 256 + b.len
 
 abbrev pub AreAscending : List Entry → Type 0
 AreAscending es = (i j : ℕ) (d : Entry) → i < j → j < length es → rank_of (slice_index_or es i d).block < rank_of (slice_index_or es j d).block

@@ -11,14 +11,13 @@ ghost use Rattle.cert_check.specs.Checking.{first_fault, node_fault, told, NoMem
 ghost use Rattle.cert_check.specs.Inner.{IsAtEnd, IsAtNode, IsNodeAnswer, IsOutcome, IsPathAnswer, answer_of, AreSources, AreInOrder};
 
 use crate::claims::{chain_fault, claim_fault};
-use crate::entry_order::{are_in_order, in_order};
 use crate::fault::{CheckFault, CheckFaultKind};
 use crate::labels::numbers_in;
 use crate::laws::no_fault_is_acceptance;
 use crate::part::Part;
 use crate::sources::Sources;
 use pmap_cert::{Certificate, Cursor, Path, acceptance_is_enough};
-use pmap_text::{Entry, LabelId, MapText, PrefixList, Stretches};
+use pmap_text::{Entry, LabelId, MapText, PrefixList, Stretches, in_order};
 use prefix_keys::whole_space;
 use std::alloc::Global;
 
@@ -198,12 +197,8 @@ fn check_nodes(
         map_numbers: numbers_in(alloc, &map.labels, &certificate.labels)?,
         list_numbers: numbers_in(alloc, &list.labels, &certificate.labels)?,
     };
-    let entries = list.entries.as_slice();
-    if are_in_order(entries) {
-        return check_nodes_by(&sources, entries);
-    }
-    let sorted = in_order(alloc, entries)?;
-    check_nodes_by(&sources, sorted.as_slice())
+    let entries = in_order(alloc, list.entries.as_slice())?;
+    check_nodes_by(&sources, entries.as_slice())
 }
 
 // Checks the certificate, and returns the number of the list's entries or the first fault.

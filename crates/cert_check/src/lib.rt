@@ -22,7 +22,6 @@
 mod carrying;
 mod checking;
 mod claims;
-mod entry_order;
 mod fault;
 mod labels;
 mod laws;

@@ -13,11 +13,10 @@ ghost use Rattle.pmap_text.specs.Stretches.{HoldsAddress};
 ghost use Rattle.cert_check.specs.Inner.{AreHalves, IsHalf, AreSources, AreAscending, IsListPart, IsPart, IsSettledBetween, LiesIn, last_in};
 ghost use Rattle.cert_check.specs.Checking.{bits_fault, is_decided as is_decided_of, is_label_of, leaf_fault as leaf_fault_of, CheckFault};
 
-use crate::entry_order::by_rank;
 use crate::fault::CheckFaultKind;
 use crate::sources::Sources;
 use pmap_cert::Path;
-use pmap_text::{Entry, LabelId};
+use pmap_text::{Entry, LabelId, by_rank};
 use prefix_keys::Block;
 
 /// A block with what affects it: the indices of the map's stretches with its first and its last address, the list's

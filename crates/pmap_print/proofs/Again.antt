@@ -33,7 +33,8 @@ use Rattle.pmap_text.proofs.Orders.{known_text}
 use Rattle.pmap_text.proofs.ListLabels.{label-longest, label-same_prefixes, longest-match, once-distinct, same_prefixes-permuted}
 use Rattle.pmap_print.specs.List.{entry_line, list_text, mode_text, name_lines, entries_in_order, starts_alike, CanBeReadAgain, IsListAgain, IsMapAgain, IsPrintedEntry, labels_of}
 use Rattle.pmap_print.proofs.LastMatch.{last-found, match-in, mapping_of_prefix}
-use Rattle.pmap_print.proofs.Order.{alike-flips, in_order-moves, in_order-order, short}
+use Rattle.prefix_keys.proofs.Groups.{width-le}
+use Rattle.pmap_print.proofs.Order.{alike-flips, in_order-moves, in_order-order}
 use Rattle.pmap_print.proofs.ReadLines.{name-high}
 use Rattle.pmap_print.proofs.ReadList.{HasRead, lines-read}
 use Rattle.pmap_print.proofs.WordLines.{high-block, line-lacks_feed, lines-text}
@@ -57,7 +58,7 @@ entry-feed : (version : Version) (p : Prefix) → IsPrintedEntry version p → L
 entry-feed version p is =
     line-lacks_feed (block_text version p.start p.bits) p.label
     (omega (arith, length-append (address_text version p.start) (47 ∷ decimal p.bits)))
-    (high-block version p.start p.bits (omega (arith, short version p.bits is.block.bits))) is.label
+    (high-block version p.start p.bits (omega (arith, width-le version, is.block.bits))) is.label
 
 lines-feed : (version : Version) (name : Option Label) (ps : List Prefix) → ForSome name (λ n. IsTrue (is_label n)) → All (IsPrintedEntry version) ps
     → All (Lacks 10) (name_lines name ++ mode_text version ∷ map (entry_line version) ps)

@@ -1,24 +1,22 @@
 -- The order of a printed list is the only one in which each entry precedes all that follow it.
-use Rattle.std.proofs.Common.{All, get_or, ◌≡◌, ℕ, suc, ◌≤◌, ◌⊎◌, inl, inr, Bool, true, false, cond, List, [], ◌∷◌, Contains, map, refl, sym, ◌∙◌, ap, subst, arith}
+use Rattle.std.proofs.Common.{All, get_or, ◌≡◌, ℕ, suc, ◌<◌, ◌≤◌, ◌⊎◌, length, inl, inr, Bool, true, false, cond, List, [], ◌∷◌, Contains, map, refl, sym, ◌∙◌, ap, subst, arith}
 use Rattle.std.specs.List.{AllByRecursion, IsDistinct}
 use Rattle.std.specs.List.Sorted.{IsNonDecreasingBy, IsPermutation}
 use Rattle.std.proofs.lemmas.Bool.Decides.{nat_tests}
 use Rattle.std.proofs.lemmas.List.Elements.{All-contains, All-from_recursion, All-map, recursion_from_All}
 use Rattle.std.proofs.lemmas.List.Sorted.{Contains-permutation, IsPermutation-cons, IsPermutation-map, IsPermutation-middle, IsPermutation-refl, IsPermutation-sym, IsPermutation-trans}
 use Rattle.std.proofs.lemmas.Map.Keys.{IsDistinct-IsPermutation, IsDistinct-head, IsDistinct-tail}
-use Rattle.prefix_keys.specs.Block.{width_of}
-use Rattle.prefix_keys.specs.declared.version.Version.{Version}
-use Rattle.prefix_keys.specs.declared.version.Version.TheVariants.{V4, V6}
 use Rattle.pmap_cert.specs.Acceptance.{IsInOrder, begins_before}
-use Rattle.pmap_text.specs.ListEntries.{HasDistinctBlocks, same_block}
+use Rattle.pmap_text.specs.ListEntries.{HasDistinctBlocks, rank_of, same_block}
 use Rattle.pmap_text.specs.ListModel.{Prefix}
 use Rattle.pmap_text.specs.MapModel.{Label}
 use Rattle.pmap_text.specs.PrefixList.{prefix_of}
 use Rattle.pmap_text.specs.declared.entry.Entry.{Entry}
-use Rattle.pmap_text.proofs.Filed.{distinct_to_map}
+use Rattle.pmap_text.proofs.Filed.{distinct_to_map, flips}
+use Rattle.pmap_text.proofs.ListBlocks.{ranks_ascend, short-block}
 use Rattle.pmap_text.proofs.Finds.{Contains-cases, Contains-first, Contains-later, Contains-nil}
 use Rattle.flow_uniq.specs.Groups.{with_in_order}
-use Rattle.pmap_print.specs.List.{entries_in_order, starts_alike, place_of}
+use Rattle.pmap_print.specs.List.{entries_in_order, starts_alike}
 
 -- the entries with one more, which is placed before the first entry that doesn't precede it
 abbrev placed : Prefix → List Prefix → List Prefix
@@ -123,43 +121,33 @@ in_order-one ps rs distinct moved ordered =
     order-one rs (entries_in_order ps) ordered (in_order-order ps distinct) (λ s. Contains-permutation rs (entries_in_order ps) s both)
     (λ s. Contains-permutation (entries_in_order ps) rs s (IsPermutation-sym rs (entries_in_order ps) both))
 
--- entries that ascend by `place_of` are in order
-place-before : (table : List Label) (d e : Entry) → d.block.len ≤ 128 → e.block.len ≤ 128 → place_of d ≤ place_of e → same_block d e ≡ false
+-- entries that ascend by the ranks of their blocks are in order
+rank-before : (table : List Label) (d e : Entry) → d.block.len ≤ 128 → e.block.len ≤ 128 → rank_of d.block < rank_of e.block
     → begins_before (prefix_of table d) (prefix_of table e) ≡ true
-place-before table d e short short' le ne = grind (arith, nat_tests)
+rank-before table d e short short' less = grind (arith, nat_tests)
 
-pub short : (v : Version) (len : ℕ) → len ≤ width_of v → len ≤ 128
-short V4 len le = omega (arith, le)
-short V6 len le = le
-
-short-block : (e : Entry) → e.block.len ≤ 128
-short-block e = short e.block.version e.block.len e.block.len_in_range
-
-pub entries-order : (table : List Label) (es : List Entry) → IsNonDecreasingBy place_of es → HasDistinctBlocks es
+entries-order : (table : List Label) (es : List Entry)
+    → ((i j : ℕ) (d : Entry) → i < j → j < length es → rank_of (get_or es i d).block < rank_of (get_or es j d).block)
     → IsInOrder (map (prefix_of table) es)
-entries-order table [] ascending distinct = tt
-entries-order table (e ∷ es) ascending distinct =
+entries-order table [] ascending = tt
+entries-order table (e ∷ es) ascending =
     let P : Prefix → Type 0 = λ p. begins_before (prefix_of table e) p ≡ true in
-    let other = All-from_recursion (λ (d : Entry). same_block e d ≡ false) es (IsDistinct-head same_block e es distinct) in
     let each : All (λ d. P (prefix_of table d)) es = λ k d below.
-    place-before table e (get_or es k d) (short-block e) (short-block (get_or es k d)) (ascending 0 (suc k) d (omega arith) (omega (arith, below))) (other k d below) in (
+    rank-before table e (get_or es k d) (short-block e.block) (short-block (get_or es k d).block) (ascending 0 (suc k) d (omega arith) (omega (arith, below))) in (
       recursion_from_All P (map (prefix_of table) es) (All-map P (prefix_of table) es each),
-      entries-order table es (λ i j d le lt. ascending (suc i) (suc j) d (omega (arith, le)) (omega (arith, lt))) (IsDistinct-tail same_block e es distinct),
+      entries-order table es (λ i j d le lt. ascending (suc i) (suc j) d (omega (arith, le)) (omega (arith, lt))),
     )
 
 -- the sorted entries are those of the list in its order
-flips : (d e : Entry) → same_block d e ≡ same_block e d
-flips d e = grind arith
-
 alike-blocks : (table : List Label) (es : List Entry) → HasDistinctBlocks es → IsDistinct starts_alike (map (prefix_of table) es)
 alike-blocks table es distinct = distinct_to_map (prefix_of table) starts_alike es distinct
 
-pub sorted-order : (table : List Label) (es sorted : List Entry) → IsPermutation es sorted → IsNonDecreasingBy place_of sorted → HasDistinctBlocks es
+pub sorted-order : (table : List Label) (es sorted : List Entry) → IsPermutation es sorted → IsNonDecreasingBy (λ e. rank_of e.block) sorted → HasDistinctBlocks es
     → map (prefix_of table) sorted ≡ entries_in_order (map (prefix_of table) es)
 sorted-order table es sorted moved ascending distinct =
     in_order-one (map (prefix_of table) es) (map (prefix_of table) sorted) (alike-blocks table es distinct)
     (IsPermutation-map (prefix_of table) es sorted moved)
-    (entries-order table sorted ascending (IsDistinct-IsPermutation same_block flips es sorted moved distinct))
+    (entries-order table sorted (ranks_ascend sorted (IsDistinct-IsPermutation same_block flips es sorted moved distinct) ascending))
 
 -- entries in order keep their order
 placed-first : (p : Prefix) (ps : List Prefix) → IsInOrder (p ∷ ps) → placed p ps ≡ p ∷ ps

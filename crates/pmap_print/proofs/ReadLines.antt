@@ -26,7 +26,7 @@ use Rattle.pmap_text.specs.declared.form.Form.TheVariants as form
 use Rattle.pmap_print.proofs.LastMatch.{mapping_of_prefix}
 use Rattle.pmap_print.specs.List.{entry_line, mode_text, IsPrintedEntry}
 use Rattle.pmap_print.specs.Table.{Text}
-use Rattle.pmap_print.proofs.Order.{short}
+use Rattle.prefix_keys.proofs.Groups.{width-le}
 use Rattle.pmap_print.proofs.WordLines.{high-block, line-behind_word, line-content, line-first_word}
 
 -- a line of a word and a label is read by its words
@@ -143,7 +143,7 @@ placed-entry kind earlier version p is decided =
     let word = block_text version p.start p.bits in
     word-line kind earlier word p.label
     (omega (arith, length-append (address_text version p.start) (47 ∷ decimal p.bits)))
-    (high-block version p.start p.bits (omega (arith, short version p.bits is.block.bits))) is.label
+    (high-block version p.start p.bits (omega (arith, width-le version, is.block.bits))) is.label
     ∙ block-statement kind earlier word p.label (slash-in (address_text version p.start) (decimal p.bits))
     ∙ ap (λ (r : Result BlockOf BlockFault). block_line kind earlier r p.label) (read-block version p is)
     ∙ own-block kind earlier version p.start p.bits p.label decided

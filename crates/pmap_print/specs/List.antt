@@ -1,11 +1,10 @@
-use Rattle.std.specs.Prelude.{◌&&◌, ◌==◌, Bool, List, [], ◌∷◌, ◌++◌, Option, Some, None, codes, map, ℕ, ◌+◌, ◌*◌, ◌≡◌, ◌^◌, ◌<◌, ◌≤◌, All, IsTrue, fold, length, unwrap_or}
+use Rattle.std.specs.Prelude.{◌&&◌, ◌==◌, Bool, List, [], ◌∷◌, ◌++◌, Option, Some, None, codes, map, ℕ, ◌≡◌, ◌^◌, ◌<◌, ◌≤◌, All, IsTrue, fold, length, unwrap_or}
 use Rattle.std.specs.Option.{ForSome}
 use Rattle.prefix_keys.specs.Print.{block_text}
 use Rattle.prefix_keys.specs.declared.version.Version.{Version}
 use Rattle.prefix_keys.specs.Block.{width_of}
 use Rattle.pmap_text.specs.ListModel.{Prefix, ListModel, list_label, HasDistinctPrefixes}
 use Rattle.pmap_text.specs.MapModel.{Label, MapModel, map_label}
-use Rattle.pmap_text.specs.declared.entry.Entry.{Entry}
 use Rattle.pmap_text.specs.Label.{is_label, with_label}
 use Rattle.pmap_text.specs.Reading.{label_limit, mapping_limit, unknown}
 use Rattle.pmap_cert.specs.Acceptance.{begins_before, HasBlock}
@@ -42,12 +41,6 @@ entry_line version p = block_text version p.start p.bits ++ 32 ∷ p.label
 abbrev pub list_text : ListModel → Text
 list_text l =
     text_of_lines (name_lines l.name ++ mode_text l.version ∷ map (entry_line l.version) (entries_in_order l.prefixes))
-
--- How the code sorts entries.
-
--- a number that ascends with the order of entries, as prefix lengths are below 256
-abbrev pub place_of : Entry → ℕ
-place_of e = e.block.value * 256 + e.block.len
 
 -- A prefix list whose printed text can be read again.
 

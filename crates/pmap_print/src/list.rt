@@ -1,17 +1,12 @@
 //! The printed text of a prefix list.
-ghost use Rattle.std.specs.Prelude.{◌≡◌, ◌++◌, ◌∷◌, [], All, IfOk, List, OnOk, map};
-ghost use Rattle.std.specs.List.Sorted.{IsPermutation};
-ghost use Rattle.std.specs.Ordering.{nat_cmp};
+ghost use Rattle.std.specs.Prelude.{◌≡◌, ◌++◌, ◌∷◌, [], All, IfOk, OnOk, map};
 ghost use Rattle.pmap_cert.specs.CertificateText.{text_of_lines};
-ghost use Rattle.pmap_print.specs.List.{entry_line, list_text, mode_text, name_lines, entries_in_order, place_of};
-ghost use Rattle.pmap_text.specs.ListEntries.{HasDistinctBlocks};
-ghost use Rattle.pmap_text.specs.MapModel.{Label};
+ghost use Rattle.pmap_print.specs.List.{entry_line, list_text, mode_text, name_lines};
 ghost use Rattle.pmap_text.specs.PrefixList.{list_of, prefix_of};
 
-use pmap_text::{Entry, Labels, PrefixList};
+use pmap_text::{Entry, Labels, PrefixList, in_order};
 use prefix_keys::{Version, print_block};
 use std::alloc::{AllocError, Global};
-use std::cmp::Ordering;
 
 // Appends the line of the list's name, if it has one, and the line of its version.
 fn print_head(out: &mut Vec<u8>, list: &PrefixList) -> Result<(), AllocError>
@@ -57,29 +52,6 @@ fn print_entries(
     Ok(())
 }
 
-// Compares entries by their first addresses and, if these are equal, by the lengths of their prefixes.
-fn by_place(entry: &Entry, other: &Entry) -> Ordering
-    ensures { result ≡ nat_cmp (place_of entry.now) (place_of other.now) }
-{
-    if entry.block.value == other.block.value {
-        entry.block.len.cmp(&other.block.len)
-    } else {
-        entry.block.value.cmp(&other.block.value)
-    }
-}
-
-// Returns the entries in the order in which they are printed.
-fn sorted_entries(alloc: Global, entries: &[Entry]) -> Result<Vec<Entry>, AllocError>
-    requires { HasDistinctBlocks entries.now }
-    ensures same { IfOk result (λ sorted. IsPermutation entries.now sorted.items) }
-    ensures order { IfOk result (λ sorted. (table : List Label) →
-        map (prefix_of table) sorted.items ≡ entries_in_order (map (prefix_of table) entries.now)) }
-{
-    let mut sorted = Vec::from_slice(alloc, entries)?;
-    sorted.sort_by(|entry, other| by_place(entry, other))?;
-    Ok(sorted)
-}
-
 /// Returns the text of a prefix list: a line with its name, if it has one, a line with its version, and the entries in
 /// order of their first addresses. Of two entries with the same one, the shorter prefix is first.
 pub fn print_list(alloc: Global, list: &PrefixList) -> Result<Vec<u8>, AllocError>
@@ -87,7 +59,7 @@ pub fn print_list(alloc: Global, list: &PrefixList) -> Result<Vec<u8>, AllocErro
 {
     let mut out = Vec::new(alloc);
     print_head(&mut out, list)?;
-    let sorted = sorted_entries(alloc, list.entries.as_slice())?;
+    let sorted = in_order(alloc, list.entries.as_slice())?;
     print_entries(&mut out, sorted.as_slice(), list.version, &list.labels)?;
     Ok(out)
 }

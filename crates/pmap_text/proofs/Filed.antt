@@ -128,21 +128,21 @@ once-last [] p h = refl
 once-last (q ∷ qs) p h = ap₂ ◌||◌ (all_last (λ r. same_key q r ≡ false) qs p h.0) (once-last qs p h.1)
 
 -- entries that ascend have distinct blocks
-rank_apart : (d e : Entry) → rank_of d < rank_of e → same_block d e ≡ false
+rank_apart : (d e : Entry) → rank_of d.block < rank_of e.block → same_block d e ≡ false
 rank_apart d e less =
     false_from_ne_true (same_block d e)
     (λ h. let parts = and_parts (d.block.value == e.block.value) (d.block.len == e.block.len) h in
     omega (arith, less, eqb-true d.block.value e.block.value parts.0, eqb-true d.block.len e.block.len parts.1))
 
-pub distinct_ascending : (es : List Entry) → AllAdjacentBelow (λ d e. rank_of d < rank_of e) es (length es) → HasDistinctBlocks es
+pub distinct_ascending : (es : List Entry) → AllAdjacentBelow (λ d e. rank_of d.block < rank_of e.block) es (length es) → HasDistinctBlocks es
 distinct_ascending es adjacent =
-    let up = IsNonDecreasingBy-from_all_adjacent rank_of es (λ k d within. omega (arith, adjacent k d within)) in
+    let up = IsNonDecreasingBy-from_all_adjacent (λ e. rank_of e.block) es (λ k d within. omega (arith, adjacent k d within)) in
     IsDistinct-from_apart same_block es
     (λ i j d under within. rank_apart (get_or es i d) (get_or es j d)
     (omega (arith, adjacent i d (omega (arith, under, within)), up (i + 1) j d (omega (arith, under)) within)))
 
 -- this is also so if they ascend in another order
-flips : (d e : Entry) → same_block d e ≡ same_block e d
+pub flips : (d e : Entry) → same_block d e ≡ same_block e d
 flips d e = ap₂ ◌&&◌ (nat_eq_equiv.symm d.block.value e.block.value) (nat_eq_equiv.symm d.block.len e.block.len)
 
 pub distinct_sorted : (es sorted : List Entry) → IsPermutation es sorted → HasDistinctBlocks sorted → HasDistinctBlocks es

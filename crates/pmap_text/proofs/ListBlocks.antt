@@ -1,13 +1,15 @@
 -- The blocks of a prefix list's entries have no host bits and are distinct, so no two of its prefixes have one block.
-use Rattle.std.proofs.Common.{◌≡◌, ℕ, ◌-◌, ◌*◌, ◌%◌, ◌^◌, ◌≤◌, ◌==◌, inl, inr, List, false, true, get_or, arith, sym, ap, ◌∙◌, subst}
+use Rattle.std.proofs.Common.{◌≡◌, ℕ, ◌-◌, ◌*◌, ◌%◌, ◌^◌, ◌≤◌, ◌<◌, ◌==◌, inl, inr, List, false, true, get_or, length, arith, sym, ap, ◌∙◌, subst}
 use Rattle.std.specs.List.Sorted.{IsNonDecreasingBy}
-use Rattle.std.proofs.lemmas.Bool.{and_from, and_parts, both_ways, cases_lt, eq-eqb, eqb-true, false_from_ne_true}
+use Rattle.std.proofs.lemmas.Bool.{and_from, and_parts, both_ways, cases_eq, cases_lt, eq-eqb, eqb-true, false_from_ne_true}
 use Rattle.std.proofs.lemmas.Map.Keys.{IsDistinct-from_apart, apart_from_distinct}
 use Rattle.std.proofs.lemmas.Nat.{pow_pos}
 use Rattle.prefix_keys.specs.Block.{block_number, width_of}
 use Rattle.prefix_keys.specs.declared.version.Version.{Version}
+use Rattle.prefix_keys.proofs.Groups.{width-le}
 use Rattle.prefix_keys.proofs.Quotients.{whole}
-use Rattle.pmap_text.specs.ListEntries.{rank_of, same_block}
+use Rattle.prefix_keys.specs.declared.block.Block.{Block}
+use Rattle.pmap_text.specs.ListEntries.{HasDistinctBlocks, rank_of, same_block}
 use Rattle.pmap_text.specs.PrefixList.{LongerLater, list_of, prefix_of, Entry, PrefixList}
 use Rattle.pmap_text.specs.ListModel.{HasDistinctPrefixes, is_same_prefix}
 use Rattle.pmap_text.proofs.Blocks.{address-first, block_number-shorter}
@@ -24,8 +26,28 @@ block_start v e same =
 pub block_short : (v : Version) (e : Entry) → e.block.version ≡ v → e.block.len ≤ width_of v
 block_short v e same = rw (← same) e.block.len_in_range
 
+-- no block has more than 128 bits
+pub short-block : (b : Block) → b.len ≤ 128
+short-block b = let most = width-le b.version in omega (arith, most, b.len_in_range)
+
+-- the ranks of distinct blocks in order ascend
+pub ranks_ascend : (es : List Entry) → HasDistinctBlocks es → IsNonDecreasingBy (λ e. rank_of e.block) es
+    → (i j : ℕ) (d : Entry) → i < j → j < length es → rank_of (get_or es i d).block < rank_of (get_or es j d).block
+ranks_ascend es distinct ascending i j d less below =
+    let b = (get_or es i d).block in
+    let c = (get_or es j d).block in
+    let few = short-block b in
+    let few' = short-block c in
+    elim (cases_eq (rank_of b) (rank_of c)) [
+      | inl same ↦
+          absurd (both_ways _ (apart_from_distinct same_block es i j d distinct less below)
+          (and_from (b.value == c.value) (b.len == c.len) (eq-eqb b.value c.value (omega (arith, few, few', same)))
+          (eq-eqb b.len c.len (omega (arith, few, few', same)))))
+      | inr other ↦ let le = ascending i j d (omega (arith, less)) below in omega (arith, le, other)
+    ]
+
 -- of two blocks in order that share an address the second is no shorter
-pub longer_later : (es : List Entry) → IsNonDecreasingBy rank_of es → LongerLater es
+pub longer_later : (es : List Entry) → IsNonDecreasingBy (λ e. rank_of e.block) es → LongerLater es
 longer_later es ascending i j d le below a version first second =
     let e = get_or es i d in
     let f = get_or es j d in

@@ -1,5 +1,6 @@
 use Rattle.std.specs.Prelude.{ℕ, ◌+◌, ◌*◌, ◌&&◌, ◌==◌, Bool, List}
 use Rattle.std.specs.List.{list_any, IsDistinct}
+use Rattle.prefix_keys.specs.declared.block.Block.{Block}
 use Rattle.pmap_text.specs.declared.entry.Entry.{Entry}
 
 -- The entries of a prefix list and their blocks. The blocks of one list are of one version, so start and length
@@ -14,7 +15,6 @@ same_block d e = d.block.value == e.block.value && d.block.len == e.block.len
 abbrev pub HasDistinctBlocks : List Entry → Type 0
 HasDistinctBlocks entries = IsDistinct same_block entries
 
--- A number by which entries ascend in the order of their blocks: by first address, and of equal first addresses the
--- shorter block first. Lengths are below 256.
-abbrev pub rank_of : Entry → ℕ
-rank_of e = e.block.value * 256 + e.block.len
+-- The rank of a block: blocks are ordered by first address, then by length, which is below 256.
+abbrev pub rank_of : Block → ℕ
+rank_of b = b.value * 256 + b.len

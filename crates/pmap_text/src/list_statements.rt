@@ -6,7 +6,7 @@ ghost use Rattle.pmap_text.specs.PrefixList.{AreShortestFirst, HasStatement, lis
 ghost use Rattle.pmap_text.specs.Stretches.{text_won};
 
 use crate::entry::Entry;
-use crate::order::{are_in_order, in_order};
+use crate::order::in_order;
 use crate::prefix_list::PrefixList;
 use crate::statement::Statement;
 use crate::statements::Statements;
@@ -22,17 +22,7 @@ pub fn statements_of_list(alloc: Global, list: &PrefixList) -> Result<Statements
     ensures labels { IfOk result (λ ss. (a : ℕ) →
         text_won list.now.labels None ss a ≡ list_label (list_of list.now) a) }
 {
-    shortest_first(alloc, list.entries.as_slice())
-}
-
-// Returns the entries as statements, in an order in which the longer of nested blocks comes later.
-fn shortest_first(alloc: Global, entries: &[Entry]) -> Result<Statements, AllocError>
-    ensures { IfOk result (λ statements. AreShortestFirst entries.now statements) }
-{
-    if are_in_order(entries) {
-        return statements_of(alloc, entries);
-    }
-    let sorted = in_order(alloc, entries)?;
+    let sorted = in_order(alloc, list.entries.as_slice())?;
     statements_of(alloc, sorted.as_slice())
 }
 

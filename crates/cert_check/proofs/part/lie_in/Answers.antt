@@ -1,7 +1,8 @@
 use Rattle.std.proofs.Common.{◌∙◌, Contains, List, ap, arith, drop, is_lt, sym, subst}
 use Rattle.std.proofs.lemmas.Bool.{leb-true}
+use Rattle.pmap_text.specs.ListEntries.{rank_of}
 use Rattle.pmap_text.specs.declared.entry.Entry.{Entry}
-use Rattle.cert_check.specs.Inner.{AreAscending, rank_of}
+use Rattle.cert_check.specs.Inner.{AreAscending}
 use Rattle.cert_check.proofs.Lists.{first-is}
 use Rattle.cert_check.proofs.Within.{lies-after, not-before, rank-first, rank-last}
 use Rattle.cert_check.proofs.part.lie_in.Goals as goal

@@ -1,22 +1,37 @@
+use Rattle.std.proofs.Common.{List, subst}
+use Rattle.std.specs.List.Sorted.{IsPermutation}
+use Rattle.std.specs.Cow.{cow_slice_items}
 use Rattle.std.specs.Result.{IfOk}
 use Rattle.std.proofs.lemmas.Result.{IfOk-weaker}
+use Rattle.pmap_text.specs.PrefixList.{Entry}
+use Rattle.pmap_text.proofs.ListBlocks.{longer_later}
 use Rattle.pmap_text.proofs.ListPainted.{AreStatementsOf, statements_of}
 use Rattle.pmap_text.proofs.list_statements.statements_of_list.Goals as goal
+use Rattle.pmap_text.proofs.list_statements.statements_of_list.Goals.{Joined-sorted}
 
 pub returns-clause-order : goal.returns-clause-order
-returns-clause-order c = IfOk-weaker c.shortest_first.result _ _ (λ ss first. rw c.as_slice.ensures.value at first) c.shortest_first.ensures
+returns-clause-order c =
+    let sorted = cow_slice_items c.in_ok-sorted.sorted in
+    IfOk-weaker c.statements_of.result _ _
+    (λ ss each. record {
+      sorted = sorted;
+      moved = subst (λ (es : List Entry). IsPermutation es sorted) c.as_slice.ensures.value c.in_ok-sorted.ensures.same;
+      later = longer_later sorted c.in_ok-sorted.ensures.ascending;
+      each = rw c.as_slice-2.ensures.value at each;
+    })
+    c.statements_of.ensures
 
-known : (c : goal.After-shortest_first) → IfOk c.shortest_first.result (AreStatementsOf c.args.list.now)
-known c = IfOk-weaker c.shortest_first.result _ _ (λ ss first. statements_of c.args.list.now ss (rw c.as_slice.ensures.value at first)) c.shortest_first.ensures
+known : (c : Joined-sorted) → IfOk c.statements_of.result (AreStatementsOf c.args.list.now)
+known c = IfOk-weaker c.statements_of.result _ _ (statements_of c.args.list.now) (returns-clause-order c)
 
 pub returns-clause-version : goal.returns-clause-version
-returns-clause-version c = IfOk-weaker c.shortest_first.result _ _ (λ ss are. are.version) (known c)
+returns-clause-version c = IfOk-weaker c.statements_of.result _ _ (λ ss are. are.version) (known c)
 
 pub returns-clause-known : goal.returns-clause-known
-returns-clause-known c = IfOk-weaker c.shortest_first.result _ _ (λ ss are. are.known) (known c)
+returns-clause-known c = IfOk-weaker c.statements_of.result _ _ (λ ss are. are.known) (known c)
 
 pub returns-clause-count : goal.returns-clause-count
-returns-clause-count c = IfOk-weaker c.shortest_first.result _ _ (λ ss are. are.count) (known c)
+returns-clause-count c = IfOk-weaker c.statements_of.result _ _ (λ ss are. are.count) (known c)
 
 pub returns-clause-labels : goal.returns-clause-labels
-returns-clause-labels c = IfOk-weaker c.shortest_first.result _ _ (λ ss are. are.labels) (known c)
+returns-clause-labels c = IfOk-weaker c.statements_of.result _ _ (λ ss are. are.labels) (known c)

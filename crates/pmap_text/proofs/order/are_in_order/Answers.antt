@@ -6,7 +6,7 @@ use Rattle.pmap_text.proofs.order.are_in_order.Goals as goal
 
 pub returns-clause-ascending : goal.returns-clause-ascending
 returns-clause-ascending c = λ t.
-    IsNonDecreasingBy-from_all_adjacent rank_of c.args.entries.now
+    IsNonDecreasingBy-from_all_adjacent (λ e. rank_of e.block) c.args.entries.now
     (λ k d within. omega (arith, c.loop-i.invariant k d (omega (arith, within))))
 
 pub returns-clause-distinct : goal.returns-clause-distinct
