@@ -45,10 +45,8 @@ impl<'a> Labeller for ListScan<'a> {
     }
 
     fn label_of(&self, addr: Addr) -> Option<&[u8]> {
-        match longest(self.list.entries.as_slice(), addr) {
-            Some(entry) => self.list.labels.text(entry.label),
-            None => None,
-        }
+        let entry = longest(self.list.entries.as_slice(), addr)?;
+        self.list.labels.text(entry.label)
     }
 }
 

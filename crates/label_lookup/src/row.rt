@@ -12,10 +12,7 @@ pub fn label_row<L: Labeller>(labeller: &L, addr: Addr) -> Option<&[u8]>
     ensures { option_map (λ t. t.now) result
         ≡ label_by (labelling_by L.version_of L.label labeller.now) (addr.version, addr.value) }
 {
-    match convert(addr, labeller.version()) {
-        Some(place) => labeller.label_of(place),
-        None => None,
-    }
+    labeller.label_of(convert(addr, labeller.version())?)
 }
 
 /// Returns the label of a row's address like [`label_row`], or `None` if there is no labeller.
@@ -24,8 +21,5 @@ pub fn label_row_under<L: Labeller>(labeller: Option<&L>, addr: Addr) -> Option<
     ensures { option_map (λ t. t.now) result
         ≡ label_where (labelling_lent L.version_of L.label labeller.entry) (addr.version, addr.value) }
 {
-    match labeller {
-        Some(labeller) => label_row(labeller, addr),
-        None => None,
-    }
+    label_row(labeller?, addr)
 }

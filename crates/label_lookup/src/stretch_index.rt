@@ -82,10 +82,7 @@ impl<'a> Labeller for StretchIndex<'a> {
         let from = self.tops[block];
         let to = self.tops[block + 1];
         let index = self.stretches.find(from, to, addr.value);
-        match self.stretches.label(index) {
-            Some(id) => self.labels.text(id),
-            None => None,
-        }
+        self.labels.text(self.stretches.label(index)?)
     }
 }
 

@@ -49,9 +49,6 @@ impl<'a> Labeller for TrieLabeller<'a> {
     }
 
     fn label_of(&self, addr: Addr) -> Option<&[u8]> {
-        match self.trie.label_at(addr) {
-            Some(id) => self.labels.text(id),
-            None => None,
-        }
+        self.labels.text(self.trie.label_at(addr)?)
     }
 }

@@ -1,5 +1,4 @@
-ghost use Rattle.std.specs.Prelude.{◌≡◌, ◌<◌, ◌++◌, IfOk, OnOk, length, nat_eq, option_map};
-ghost use Rattle.std.specs.Option.{option_eq};
+ghost use Rattle.std.specs.Prelude.{◌≡◌, ◌<◌, ◌++◌, IfOk, OnOk, length};
 ghost use Rattle.pmap_text.specs.Stretches.{AreLabelsBelow, HasEveryAddress, text_held};
 ghost use Rattle.pmap_print.specs.Runs.{IsRunsText, run_text, run_titles, run_of, stretch_view, view_at};
 ghost use Rattle.pmap_print.specs.Table.{line_text};
@@ -40,18 +39,6 @@ fn stretch_at(stretches: &Stretches, index: usize) -> Stretch
     }
 }
 
-// Returns `true` if both labels have the same number, or both are missing. The texts of a label table are distinct, so
-// the texts are equal exactly in these cases.
-fn is_same(label: Option<LabelId>, other: Option<LabelId>) -> bool
-    ensures { result ≡ option_eq nat_eq (option_map (λ id. id.0) label) (option_map (λ id. id.0) other) }
-{
-    match (label, other) {
-        (Some(label), Some(other)) => label.0 == other.0,
-        (None, None) => true,
-        _ => false,
-    }
-}
-
 // Appends the line of a stretch: its first and last address, and its label.
 fn print_stretch(out: &mut Vec<u8>, stretch: &Stretch, labels: &Labels) -> Result<(), AllocError>
     requires { stretch.now.high.version ≡ stretch.now.low.version }
@@ -81,7 +68,7 @@ fn push_runs(out: &mut Vec<u8>, stretches: &Stretches, labels: &Labels) -> Resul
     let mut stretch = stretch_at(stretches, 0);
     for index in 1..count {
         let next = stretch_at(stretches, index);
-        if is_same(stretch.label, next.label) {
+        if stretch.label == next.label {
             stretch.high = next.high;
         } else {
             print_stretch(out, &stretch, labels)?;

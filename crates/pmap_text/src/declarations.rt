@@ -65,10 +65,7 @@ impl Declarations {
         ensures label { IfSome result (λ t. IsTrue (is_label t.now)) }
     {
         let index = self.numbers.get_index_of(&number)?;
-        match self.texts.get_index(index) {
-            Some(text) => Some(text.as_slice()),
-            None => None,
-        }
+        Some(self.texts.get_index(index)?.as_slice())
     }
 
     /// Returns `true` if the number has another text, or the text another number. Otherwise both are at the same index,
@@ -106,10 +103,7 @@ impl Declarations {
         let Some(number) = label_number(label) else {
             return label;
         };
-        match self.text_of(number) {
-            Some(text) => text,
-            None => label,
-        }
+        self.text_of(number).unwrap_or(label)
     }
 }
 

@@ -73,10 +73,7 @@ impl Labels {
         ensures number { IfSome result (λ t. number_of self.now t.now ≡ Some id.0) }
         ensures label { IfSome result (λ t. IsTrue (is_label t.now)) }
     {
-        match self.texts.get_index(id.0 as usize) {
-            Some(text) => Some(text.as_slice()),
-            None => None,
-        }
+        Some(self.texts.get_index(id.0 as usize)?.as_slice())
     }
 
     /// Returns the number of a text. The text with that number is this one.
@@ -84,10 +81,7 @@ impl Labels {
         ensures value { option_map (λ id. id.0) result ≡ number_of self.now text.now }
         ensures text { IfSome result (λ id. slice_get self.now id.0 ≡ Some text.now) }
     {
-        match self.texts.get_index_of(text) {
-            Some(index) => Some(LabelId(index as u32)),
-            None => None,
-        }
+        Some(LabelId(self.texts.get_index_of(text)? as u32))
     }
 
     /// Returns a table with the same texts and numbers.

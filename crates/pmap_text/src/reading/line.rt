@@ -34,20 +34,13 @@ fn check_label(rest: &[u8]) -> Result<(), MapFaultKind>
     }
 }
 
-// Returns `true` if the byte is in the word.
-fn has_byte(word: &[u8], byte: u8) -> bool
-    ensures { result ≡ list_any (λ b. b == byte) word.now }
-{
-    word.iter().any(|b| *b == byte)
-}
-
 // Returns the fault of a line whose first word begins no statement.
 fn fault_of(word: &[u8]) -> MapFaultKind
     ensures { result ≡ other_fault word.now }
 {
     match word.first() {
         Some(byte) if byte.is_ascii_digit() => MapFaultKind::BadAddress,
-        _ if has_byte(word, b':') => MapFaultKind::BadAddress,
+        _ if word.contains(&b':') => MapFaultKind::BadAddress,
         _ => MapFaultKind::BadStatement,
     }
 }
@@ -313,7 +306,7 @@ impl Reading {
             self.read_label(rest)
         } else if word == b"default".as_slice() {
             self.read_default(form, rest)
-        } else if has_byte(word, b'/') {
+        } else if word.contains(&b'/') {
             self.read_block_line(form, word, rest)
         } else if let Some(addr) = read_addr(word) {
             self.read_address_line(form, addr, rest)

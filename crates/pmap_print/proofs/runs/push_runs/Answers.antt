@@ -1,8 +1,17 @@
-use Rattle.std.proofs.Common.{◌∙◌, sym, arith}
+use Rattle.std.proofs.Common.{◌≡◌, ◌∙◌, ◌==◌, None, Option, Some, arith, nat_eq, option_map, refl, sym}
+use Rattle.std.specs.Option.{option_eq}
 use Rattle.std.proofs.lemmas.Result.{on_ok_weaker}
+use Rattle.pmap_text.specs.declared.label.LabelId.{LabelId}
 use Rattle.pmap_print.proofs.Stretches.{run_begins, run_ends, run_goes_on, runs_end}
 use Rattle.pmap_print.proofs.runs.push_runs.Goals as goal
-use Rattle.pmap_print.proofs.runs.push_runs.Goals.{then-is_same, else-is_same+in_ok-print_stretch}
+use Rattle.pmap_print.proofs.runs.push_runs.Goals.{then-eq, else-eq+in_ok-print_stretch}
+
+-- labels are equal if their numbers are
+same_labels : (a b : Option LabelId) → option_eq nat_eq (option_map (λ id. id.0) a) (option_map (λ id. id.0) b) ≡ option_eq (λ x y. x.0 == y.0) a b
+same_labels None None = refl
+same_labels None (Some b) = refl
+same_labels (Some a) None = refl
+same_labels (Some a) (Some b) = refl
 
 pub loop-index-init : goal.loop-index-init
 loop-index-init c =
@@ -11,22 +20,22 @@ loop-index-init c =
 
 pub loop-index-preserved : goal.loop-index-preserved
 loop-index-preserved c =
-    elim c.if-is_same.branch [
-      | then-is_same w ↦
+    elim c.if-eq.branch [
+      | then-eq w ↦
           let out = w.out-is in
           let stretch = w.stretch-is in
           rw (out, stretch)
           (run_goes_on c.args.labels.now c.args.stretches.now c.stretch_at-next.ensures.every c.requires.known c.loop-index.index (omega arith)
           c.args.out.now.items c.loop-index.out.items c.loop-index.stretch c.stretch_at-next.result c.loop-index.invariant c.stretch_at-next.ensures.view
-          c.stretch_at-next.ensures.high (sym c.is_same.ensures ∙ w.if-is_same.true))
-      | else-is_same+in_ok-print_stretch w ↦
+          c.stretch_at-next.ensures.high (same_labels c.loop-index.stretch.label c.stretch_at-next.result.label ∙ sym c.eq.ensures ∙ w.if-eq.true))
+      | else-eq+in_ok-print_stretch w ↦
           let out = w.out-is in
           let stretch = w.stretch-is in
           rw (out, stretch)
           (run_ends c.args.labels.now c.args.stretches.now c.stretch_at-next.ensures.every c.requires.known c.loop-index.index (omega arith)
           c.args.out.now.items c.loop-index.out.items c.loop-index.stretch c.stretch_at-next.result c.loop-index.invariant c.stretch_at-next.ensures.view
           c.stretch_at-next.ensures.high w.print_stretch.new.out.items c.len-count.ensures.table c.stretch_at-next.ensures.low
-          (sym c.is_same.ensures ∙ w.if-is_same.false) w.in_ok-print_stretch.ensures)
+          (same_labels c.loop-index.stretch.label c.stretch_at-next.result.label ∙ sym c.eq.ensures ∙ w.if-eq.false) w.in_ok-print_stretch.ensures)
     ]
 
 pub returns : goal.returns

@@ -1,4 +1,4 @@
-use Rattle.std.proofs.Common.{◌∙◌, ◌<◌, List, None, Some, ap, length, subst, sym}
+use Rattle.std.proofs.Common.{◌∙◌, ◌<◌, List, None, Some, ap, length, option_map, subst, sym}
 use Rattle.std.proofs.lemmas.List.Elements.{All-contains}
 use Rattle.pmap_text.specs.ListModel.{ListModel, list_label}
 use Rattle.pmap_text.specs.declared.entry.Entry.{Entry}
@@ -7,22 +7,23 @@ use Rattle.label_lookup.specs.Labelling.{IsLongest}
 use Rattle.label_lookup.proofs.Scanning.{longest_label, none_label}
 use Rattle.label_lookup.proofs.list_scan.ListScanLabeller.label_of.Goals as goal
 
-pub returns-in-Some : goal.returns-in-Some
-returns-in-Some c =
+pub returns : goal.returns
+returns c =
     let l = c.self.inside.list.now in
     let version = c.requires ∙ sym (ap (λ (t : ListModel). t.version) c.self.view_is) in
-    let longest : IsLongest l.entries c.args.addr (Some c.in-Some.entry) =
-    subst (λ (es : List Entry). IsLongest es c.args.addr (Some c.in-Some.entry)) c.as_slice.ensures.value c.in-Some.ensures in
-    let known = All-contains (λ (t : Entry). t.label.0 < length l.labels) l.entries c.in-Some.entry l.numbers_known longest.0 in
+    let longest : IsLongest l.entries c.args.addr (Some c.in_ok-entry.entry) =
+    subst (λ (es : List Entry). IsLongest es c.args.addr (Some c.in_ok-entry.entry)) c.as_slice.ensures.value c.in_ok-entry.ensures in
+    let known = All-contains (λ (t : Entry). t.label.0 < length l.labels) l.entries c.in_ok-entry.entry l.numbers_known longest.0 in
     c.text.ensures.value
-    ∙ known_text l.labels c.in-Some.entry.label.0 known
-    ∙ sym (longest_label l c.args.addr version c.in-Some.entry longest)
+    ∙ known_text l.labels c.in_ok-entry.entry.label.0 known
+    ∙ sym (longest_label l c.args.addr version c.in_ok-entry.entry longest)
     ∙ ap (λ (t : ListModel). list_label t c.args.addr.value) c.self.view_is
 
-pub returns-in-None : goal.returns-in-None
-returns-in-None c =
+pub returns-in_err-entry : goal.returns-in_err-entry
+returns-in_err-entry c =
     let l = c.self.inside.list.now in
     let version = c.requires ∙ sym (ap (λ (t : ListModel). t.version) c.self.view_is) in
-    sym (none_label l c.args.addr version
-    (subst (λ (es : List Entry). IsLongest es c.args.addr None) c.as_slice.ensures.value c.in-None.ensures))
+    ap (option_map (λ t. t.now)) c.from_residual.ensures
+    ∙ sym (none_label l c.args.addr version
+    (subst (λ (es : List Entry). IsLongest es c.args.addr None) c.as_slice.ensures.value c.in_err-entry.ensures))
     ∙ ap (λ (t : ListModel). list_label t c.args.addr.value) c.self.view_is

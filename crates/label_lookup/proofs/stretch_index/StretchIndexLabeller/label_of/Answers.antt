@@ -1,4 +1,4 @@
-use Rattle.std.proofs.Common.{◌≡◌, ◌∙◌, ℕ, ◌^◌, ◌<◌, ap, option_and_then, slice_get, sym}
+use Rattle.std.proofs.Common.{◌≡◌, ◌∙◌, ℕ, ◌^◌, ◌<◌, ap, option_and_then, option_map, slice_get, sym}
 use Rattle.prefix_keys.specs.Block.{width_of}
 use Rattle.prefix_keys.specs.declared.version.Version.{Version}
 use Rattle.pmap_text.specs.Stretches.{text_held}
@@ -37,19 +37,20 @@ find-index-requires-clause-below c =
     read_ends c.self.inside.stretches c.len-count.ensures.every c.self.inside.tops.items c.self.invariant c.args.addr.value
     (fits_version _ _ _ same c.args.addr.in_range) c.width.result _ _ (c.width.ensures ∙ ap width_of same) c.index-from.ensures c.index-to.ensures
 
-pub returns-in-Some : goal.returns-in-Some
-returns-in-Some c =
+pub returns : goal.returns
+returns c =
     let m : StretchModel = record { table = c.self.inside.labels.now; stretches = c.self.inside.stretches } in
     let same = same_version c.args.self.now m c.args.addr.version c.self.view_is c.requires in
     c.text.ensures.value
-    ∙ ap (option_and_then (λ id. slice_get m.table id.0)) (sym c.in-Some.is ∙ c.label.ensures)
+    ∙ ap (option_and_then (λ id. slice_get m.table id.0)) (sym c.in_ok-label.was ∙ c.label.ensures)
     ∙ label_found m c.len-count.ensures.every c.args.addr.value c.find-index.result c.find-index.ensures.holds (fits_version _ _ _ same c.args.addr.in_range)
     ∙ ap (λ (x : StretchModel). at_addresses x.stretches.version (text_held x.table x.stretches) c.args.addr.value) c.self.view_is
 
-pub returns-in-None : goal.returns-in-None
-returns-in-None c =
+pub returns-in_err-label : goal.returns-in_err-label
+returns-in_err-label c =
     let m : StretchModel = record { table = c.self.inside.labels.now; stretches = c.self.inside.stretches } in
     let same = same_version c.args.self.now m c.args.addr.version c.self.view_is c.requires in
-    ap (option_and_then (λ id. slice_get m.table id.0)) (sym c.in-None.is ∙ c.label.ensures)
+    ap (option_map (λ t. t.now)) c.from_residual.ensures
+    ∙ ap (option_and_then (λ id. slice_get m.table id.0)) (sym c.in_err-label.was ∙ c.label.ensures)
     ∙ label_found m c.len-count.ensures.every c.args.addr.value c.find-index.result c.find-index.ensures.holds (fits_version _ _ _ same c.args.addr.in_range)
     ∙ ap (λ (x : StretchModel). at_addresses x.stretches.version (text_held x.table x.stretches) c.args.addr.value) c.self.view_is

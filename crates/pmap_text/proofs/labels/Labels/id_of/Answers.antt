@@ -1,16 +1,16 @@
-use Rattle.std.proofs.Common.{sym, ap, ◌∙◌}
+use Rattle.std.proofs.Common.{option_map, sym, ap, ◌∙◌}
 use Rattle.std.specs.Str.{bytes_eq}
 use Rattle.pmap_text.specs.Label.{number_of}
 use Rattle.pmap_text.proofs.LabelTexts.{position-map, slice_get-number}
 use Rattle.pmap_text.proofs.labels.Labels.id_of.Goals as goal
 
-pub returns-in-Some-clause-value : goal.returns-in-Some-clause-value
-returns-in-Some-clause-value c =
-    sym c.in-Some.is ∙ c.get_index_of.ensures.index ∙ sym (position-map _ (bytes_eq c.args.text.now) c.self.inside.texts.keys) ∙ ap (λ t. number_of t c.args.text.now) c.self.view_is
+pub returns-clause-value : goal.returns-clause-value
+returns-clause-value c =
+    sym c.in_ok-get_index_of.was ∙ c.get_index_of.ensures.index ∙ sym (position-map _ (bytes_eq c.args.text.now) c.self.inside.texts.keys) ∙ ap (λ t. number_of t c.args.text.now) c.self.view_is
 
-pub returns-in-Some-clause-text : goal.returns-in-Some-clause-text
-returns-in-Some-clause-text c = slice_get-number c.args.self.now c.args.text.now c.in-Some.index (sym (returns-in-Some-clause-value c))
+pub returns-clause-text : goal.returns-clause-text
+returns-clause-text c = slice_get-number c.args.self.now c.args.text.now c.in_ok-get_index_of.field-0 (sym (returns-clause-value c))
 
-pub returns-in-None-clause-value : goal.returns-in-None-clause-value
-returns-in-None-clause-value c =
-    sym c.in-None.is ∙ c.get_index_of.ensures.index ∙ sym (position-map _ (bytes_eq c.args.text.now) c.self.inside.texts.keys) ∙ ap (λ t. number_of t c.args.text.now) c.self.view_is
+pub returns-in_err-get_index_of-clause-value : goal.returns-in_err-get_index_of-clause-value
+returns-in_err-get_index_of-clause-value c =
+    ap (option_map (λ id. id.0)) c.from_residual.ensures ∙ sym c.in_err-get_index_of.was ∙ c.get_index_of.ensures.index ∙ sym (position-map _ (bytes_eq c.args.text.now) c.self.inside.texts.keys) ∙ ap (λ t. number_of t c.args.text.now) c.self.view_is
