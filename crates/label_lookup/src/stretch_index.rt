@@ -6,7 +6,7 @@ ghost use Rattle.pmap_text.specs.Stretches.{HoldsAddress, first_at};
 ghost use Rattle.label_lookup.specs.Labelling.{labelling_of_list, labelling_of_map, AreTops, labelling_of_stretches};
 
 use crate::labeller::Labeller;
-use pmap_text::{Labels, MapText, PrefixList, Stretches, statements_of_list};
+use pmap_text::{Labels, MapText, PrefixList, Stretches};
 use prefix_keys::{Addr, Version};
 use std::alloc::{AllocError, Global};
 use std::marker::Model;
@@ -54,8 +54,7 @@ impl<'a> StretchIndex<'a> {
     pub fn of_list(alloc: Global, list: &'a PrefixList) -> Result<StretchIndex<'a>, AllocError>
         ensures { IfOk result (λ index. labelling_of_stretches index ≡ labelling_of_list (list_of list.now)) }
     {
-        let statements = statements_of_list(alloc, list)?;
-        let stretches = Stretches::new(alloc, list.version, None, &list.labels, &statements)?;
+        let stretches = Stretches::of_list(alloc, list)?;
         Ok(StretchIndex {
             labels: &list.labels,
             tops: tops_of(alloc, &stretches)?,

@@ -1,5 +1,5 @@
 -- The trie that is grown from statements, and the trie of a map text.
-use Rattle.std.proofs.Common.{◌≡◌, ℕ, ◌+◌, ◌-◌, ◌*◌, ◌/◌, ◌^◌, ◌<◌, ◌≤◌, List, [], Option, Some, IsSome, get_or, length, refl, sym, ap, subst, arith}
+use Rattle.std.proofs.Common.{◌≡◌, ℕ, ◌+◌, ◌-◌, ◌*◌, ◌/◌, ◌^◌, ◌<◌, ◌≤◌, List, [], Option, Some, IsSome, get_or, length, refl, sym, ap, ◌∙◌, subst, arith}
 use Rattle.std.proofs.Math.Nat.{mul-le-mul_right}
 use Rattle.std.proofs.lemmas.Nat.{pow_pos}
 use Rattle.std.proofs.lemmas.Option.{same_Some}
@@ -11,9 +11,10 @@ use Rattle.pmap_text.specs.MapText.{map_of, text_at}
 use Rattle.pmap_text.specs.declared.label.LabelId.{LabelId}
 use Rattle.pmap_text.specs.declared.map_text.MapText.{MapText}
 use Rattle.pmap_text.specs.declared.statement.Statement.{Statement}
-use Rattle.label_trie.specs.Inner.{AddsTree, GrowsTree, IsBlock, IsMapOf, IsPart, parted_sum, IsTrie, tree_of, Node}
-use Rattle.pmap_text.specs.Stretches.{AreStretches, HasEveryAddress, StretchesModel, mappings_of}
-use Rattle.pmap_text.proofs.Ranges.{last_end}
+use Rattle.pmap_text.specs.Windows.{number_at}
+use Rattle.pmap_text.specs.declared.window.Window.{Window}
+use Rattle.label_trie.specs.Inner.{AddsTree, GrowsTree, IsMapOf, parted_sum, window_sum, IsTrie, tree_of, Node}
+use Rattle.pmap_text.specs.Stretches.{AreStretches, StretchesModel, mappings_of}
 use Rattle.label_trie.specs.Tree.{Fits, IsLabelled, leaf_count, leaves_of}
 use Rattle.label_trie.specs.TrieModel.{LeafModel, IsCut}
 use Rattle.label_trie.proofs.Encoded.{built, size_leaves}
@@ -31,42 +32,20 @@ few_parted v ss few = omega (arith, few, parted_most (width_of v) ss, mul-le-mul
 no_number : (P : ℕ) → 0 / P ≡ 0
 no_number P = omega arith
 
-pub room_at_root : (v : Version) (ss : List Statement) (nodes : List Node) → nodes ≡ [] → length ss ≤ 1000000
-    → length nodes + (1 + 2 * parted_sum (width_of v) (width_of v - 0) 0 (block_number (width_of v) 0 0) ss) ≤ 2 ^ 32
-room_at_root v ss nodes none few =
-    let all : width_of v - 0 ≡ width_of v = omega arith in
-    let number : block_number (width_of v) 0 0 ≡ 0 = no_number (2 ^ (width_of v - 0)) in
-    rw (none, number, all) (omega (arith, few_parted v ss few))
+-- the window of all addresses
+module _ (s : StretchesModel) (w : Window) (first : w.first ≡ 0) (len : w.len ≡ 0) where
+  whole_number : number_at s w ≡ 0
+  whole_number = ap (λ (a : ℕ). block_number (width_of s.version) w.len a) first ∙ no_number (2 ^ (width_of s.version - w.len))
 
--- the whole address space as a block and as a part
-root_block : (W last : ℕ) → last + 1 ≡ 2 ^ W → IsBlock W 0 last 0 0
-root_block W last end =
-    let all : W - 0 ≡ W = omega arith in
-    record { first_is = omega arith; last_is = rw all (omega (arith, end)) }
+  pub room_at_root : (ss : List Statement) (nodes : List Node) → nodes ≡ [] → length ss ≤ 1000000 → length nodes + (1 + 2 * window_sum s w ss) ≤ 2 ^ 32
+  room_at_root ss nodes none few =
+      let all : width_of s.version - 0 ≡ width_of s.version = omega arith in
+      rw (none, whole_number, len, all) (omega (arith, few_parted s.version ss few))
 
-pub space_part : (s : StretchesModel) (last : ℕ) → HasEveryAddress s → last + 1 ≡ 2 ^ width_of s.version
-    → IsPart s (record { len = 0; first = 0; last = last; from = 0; to = length s.firsts - 1 })
-space_part s last every end =
-    let number : block_number (width_of s.version) 0 0 ≡ 0 = no_number (2 ^ (width_of s.version - 0)) in
-    let zero = every.zero in
-    record {
-      within = omega arith;
-      block = rw number (root_block (width_of s.version) last end);
-      from = record { index = every.some; from = omega (arith, zero); to = omega arith };
-      to = record {
-        index = omega (arith, every.some);
-        from = omega (arith, every.within (length s.firsts - 1) (omega (arith, every.some)), end);
-        to = omega (arith, last_end s (length s.firsts - 1) (omega arith), end);
-      };
-    }
-
--- the tree of the whole address space
-pub space_tree : (s : StretchesModel) (last : ℕ) (old new : List Node) → old ≡ []
-    → GrowsTree s (record { len = 0; first = 0; last = last; from = 0; to = length s.firsts - 1 }) old new
-    → (ss : List Statement) (default : Option LabelId) → AreStretches ss default s → AddsTree (width_of s.version) ss default 0 0 [] new
-space_tree s last old new none grows ss default are =
-    let number : block_number (width_of s.version) 0 0 ≡ 0 = no_number (2 ^ (width_of s.version - 0)) in
-    rw (number, none) at (grows ss default are)
+  -- its tree
+  pub space_tree : (old new : List Node) → old ≡ [] → GrowsTree s w old new
+      → (ss : List Statement) (default : Option LabelId) → AreStretches ss default s → AddsTree (width_of s.version) ss default 0 0 [] new
+  space_tree old new none grows ss default are = rw (whole_number, len, none) at (grows ss default are)
 
 -- facts about nodes that were grown
 pub record IsGrown (W : ℕ) (ss : List Statement) (default : Option LabelId) (nodes : List Node) : Type 0 where

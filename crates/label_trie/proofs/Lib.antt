@@ -1,4 +1,3 @@
-pub mod Blocks
 pub mod Parted
 pub mod NodeLeaves
 pub mod Lookup

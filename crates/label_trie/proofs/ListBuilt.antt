@@ -102,13 +102,5 @@ pub record IsReady (l : PrefixList) (ss : List Statement) : Type 0 where
   pub up : LongerLater sorted
   pub layers : AreListLayers l sorted ss
 
-pub list_ready : (l : PrefixList) (entries : List Entry) (items ss : List Statement) → entries ≡ l.entries → ss ≡ items
-    → AreShortestFirst entries items → IsReady l ss
-list_ready l entries items ss same given first =
-    let moved = rw same at first.moved in
-    record {
-      sorted = first.sorted;
-      moved = moved;
-      up = first.later;
-      layers = rw given (list_layers l first.sorted items moved first.each);
-    }
+pub list_ready : (l : PrefixList) (ss : List Statement) → AreShortestFirst l.entries ss → IsReady l ss
+list_ready l ss first = record { sorted = first.sorted; moved = first.moved; up = first.later; layers = list_layers l first.sorted ss first.moved first.each }

@@ -8,7 +8,7 @@ use Rattle.pmap_text.specs.MapModel.{MapModel, settled_label}
 use Rattle.pmap_text.specs.declared.label.LabelId.{LabelId}
 use Rattle.label_trie.specs.TrieModel.{LeafModel, IsCut, IsSettledLeaf, IsUndivided}
 use Rattle.label_trie.specs.Tree.{Tree, Tip, Fork, leaves_of, leaf_count, HasRoom, Settles, Fits, IsLabelled}
-use Rattle.label_trie.proofs.Blocks.{size_of_halves}
+use Rattle.pmap_text.proofs.BlockHalves.{size_of_halves}
 
 -- a node that fits has room
 pub fits_HasRoom : (m : MapModel) (node : Tree) (n q h : ℕ) → h + n ≡ width_of m.version → Fits m node n q → HasRoom node h

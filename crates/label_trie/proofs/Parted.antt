@@ -6,7 +6,7 @@ use Rattle.std.proofs.lemmas.Nat.{pow-add, pow_pos}
 use Rattle.prefix_keys.specs.Block.{first_of, last_of}
 use Rattle.prefix_keys.specs.declared.span.Span.{Span}
 use Rattle.label_trie.specs.Inner.{parted_count}
-use Rattle.label_trie.proofs.Blocks.{low_lies_in, high_lies_in, halves_ends}
+use Rattle.pmap_text.proofs.BlockHalves.{low_lies_in, high_lies_in, halves_ends}
 use Rattle.pmap_text.proofs.Orders.{le_both, not_both}
 
 -- a span that misses a block parts none of its blocks

@@ -10,7 +10,7 @@ use Rattle.pmap_text.specs.MapText.{mapping_of}
 use Rattle.pmap_text.specs.declared.statement.Statement.{Statement}
 use Rattle.label_trie.specs.Inner.{parted_count, parted_sum}
 use Rattle.pmap_text.specs.Stretches.{mappings_of}
-use Rattle.label_trie.proofs.Blocks.{high_lies_in, low_lies_in}
+use Rattle.pmap_text.proofs.BlockHalves.{high_lies_in, low_lies_in}
 use Rattle.pmap_text.proofs.Orders.{both_le}
 use Rattle.label_trie.proofs.Parted.{parted_covered, parted_missed, parted_part}
 

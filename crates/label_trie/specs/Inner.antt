@@ -1,18 +1,19 @@
 use Rattle.std.specs.Prelude.{◌≡◌, ℕ, zero, suc, ◌+◌, ◌-◌, ◌≤◌, ◌^◌, List, [], ◌∷◌, ◌++◌, Option, Some, None, length, slice_get, slice_index_or, ◌*◌, ◌<◌, ◌&&◌, All, IsSome, nat_le, if◌then◌else◌}
 use Rattle.std.specs.Option.{ForSome}
-use Rattle.prefix_keys.specs.Block.{width_of, block_number, first_of, last_of}
+use Rattle.prefix_keys.specs.Block.{width_of, first_of, last_of}
 use Rattle.prefix_keys.specs.declared.block.Block.{Block}
 use Rattle.prefix_keys.specs.declared.span.Span.{Span}
 use Rattle.pmap_text.specs.declared.label.LabelId.{LabelId}
 use Rattle.pmap_text.specs.MapModel.{MapModel}
 use Rattle.pmap_text.specs.MapText.{text_at}
-use Rattle.pmap_text.specs.Stretches.{AreStretches, HoldsAddress, StretchesModel, mappings_of}
+use Rattle.pmap_text.specs.Stretches.{AreStretches, StretchesModel, mappings_of}
+use Rattle.pmap_text.specs.Windows.{number_at}
+use Rattle.pmap_text.specs.declared.window.Window.{Window}
 use Rattle.pmap_text.specs.declared.statement.Statement.{Statement}
 use Rattle.label_trie.specs.TrieModel.{number_of}
 use Rattle.label_trie.specs.Tree.{Tree, Tip, Fork, size, nodes_of, HasNodes, HasRoom, Fits, IsLabelled, leaf_count}
 pub use Rattle.label_trie.specs.declared.node.Node.{Node}
 pub use Rattle.label_trie.specs.declared.node.Node.TheVariants.{Inner, Labelled, Unlabelled}
-pub use Rattle.label_trie.specs.declared.growing.Part.{Part}
 
 -- How a list of nodes represents a tree: a node is followed by those of its lower half, and these by those of its
 -- higher half.
@@ -65,11 +66,6 @@ pub record IsPlace (nodes : List Node) (at : ℕ) (block : Block) : Type 0 where
 
 -- How the stretches of statements divide a block.
 
--- among addresses of W bits, those from `first` to `last` form the block of n bits with the number q
-pub record IsBlock (W first last n q : ℕ) : Type 0 where
-  pub first_is : first ≡ first_of W n q
-  pub last_is : last ≡ last_of W n q
-
 -- A span parts a block if it has some of the block's addresses but not all. This is the number of blocks that the span
 -- parts among the block of n bits with the number q, its halves, their halves, and so on. The block has h host bits. A
 -- block of a single address isn't parted.
@@ -102,23 +98,18 @@ pub record AddsTree (W : ℕ) (ss : List Statement) (default : Option LabelId) (
   pub labelled : IsSome default → IsLabelled tree
   pub few : leaf_count tree ≤ 1 + parted_sum W (W - n) n q ss
 
-abbrev pub part_number : StretchesModel → Part → ℕ
-part_number s p = block_number (width_of s.version) p.len p.first
+-- the number of blocks that statements part in a window
+abbrev pub window_sum : StretchesModel → Window → List Statement → ℕ
+window_sum s w ss = parted_sum (width_of s.version) (width_of s.version - w.len) w.len (number_at s w) ss
 
-pub record IsPart (s : StretchesModel) (p : Part) : Type 0 where
-  pub within : p.len ≤ width_of s.version
-  pub block : IsBlock (width_of s.version) p.first p.last p.len (part_number s p)
-  pub from : HoldsAddress s p.first p.from
-  pub to : HoldsAddress s p.last p.to
-
--- after `count` nodes, the number of each node of the part fits 32 bits
-pub record HasRoomFor (s : StretchesModel) (p : Part) (count : ℕ) : Type 0 where
+-- after `count` nodes, the number of each node of the window fits 32 bits
+pub record HasRoomFor (s : StretchesModel) (w : Window) (count : ℕ) : Type 0 where
   pub statements : List Statement
   pub default : Option LabelId
   pub are : AreStretches statements default s
-  pub room : count + (1 + 2 * parted_sum (width_of s.version) (width_of s.version - p.len) p.len (part_number s p) statements) ≤ 2 ^ 32
+  pub room : count + (1 + 2 * window_sum s w statements) ≤ 2 ^ 32
 
--- the nodes of the part are added, for all statements that have these stretches
-abbrev pub GrowsTree : StretchesModel → Part → List Node → List Node → Type 0
-GrowsTree s p old new = (ss : List Statement) (default : Option LabelId) → AreStretches ss default s →
-    AddsTree (width_of s.version) ss default p.len (part_number s p) old new
+-- the nodes of the window are added, for all statements that have these stretches
+abbrev pub GrowsTree : StretchesModel → Window → List Node → List Node → Type 0
+GrowsTree s w old new = (ss : List Statement) (default : Option LabelId) → AreStretches ss default s →
+    AddsTree (width_of s.version) ss default w.len (number_at s w) old new

@@ -13,12 +13,12 @@ ghost use Rattle.label_trie.specs.Inner.{AddsTree, IsTrie, tree_of};
 ghost use Rattle.label_trie.specs.TrieModel.{model_of, IsCut, IsDecidedLeaf, IsSettledLeaf, IsUndivided, label_among, label_in};
 
 use crate::cursor::{Cursor, Parts, cursor_at};
-use crate::growing::{Part, push_block};
+use crate::growing::push_block;
 use crate::kind::Kind;
 use crate::leaf::Leaf;
 use crate::leaves::Leaves;
 use crate::node::Node;
-use pmap_text::{LabelId, MapText, PrefixList, Stretches, last_address, statements_of_list};
+use pmap_text::{LabelId, MapText, PrefixList, Stretches, Window};
 use prefix_keys::{Addr, Version, whole_space};
 use std::alloc::{AllocError, Global};
 use std::marker::Model;
@@ -83,8 +83,7 @@ impl Trie {
         ensures bounded { IfOk result (λ t. 2 * length t.leaves
             ≤ 2 + 2 * width_of list.now.version * length list.now.entries) }
     {
-        let statements = statements_of_list(alloc, list)?;
-        let stretches = Stretches::new(alloc, list.version, None, &list.labels, &statements)?;
+        let stretches = Stretches::of_list(alloc, list)?;
         Ok(Trie {
             version: list.version,
             nodes: grow(alloc, &stretches)?,
@@ -172,14 +171,7 @@ fn grow(alloc: Global, stretches: &Stretches) -> Result<Vec<Node>, AllocError>
         AreStretches ss default stretches.now → AddsTree (width_of stretches.now.version) ss default 0 0 [] nodes.items) }
 {
     let mut nodes = Vec::new(alloc);
-    let space = Part {
-        len: 0,
-        first: 0,
-        last: last_address(stretches.version()),
-        from: 0,
-        to: stretches.len() - 1,
-    };
-    push_block(&mut nodes, stretches, space)?;
+    push_block(&mut nodes, stretches, Window::whole(stretches))?;
     Ok(nodes)
 }
 

@@ -1,15 +1,14 @@
 -- What a block adds to the compact certificate that is built.
-use Rattle.std.proofs.Common.{◌≡◌, ℕ, zero, suc, ◌+◌, ◌-◌, ◌*◌, ◌/◌, ◌^◌, ◌<◌, ◌≤◌, ◌∙◌, inl, inr, cond, Bool, List, [], ◌∷◌, ◌++◌, Option, Some, None, IsSome, length, slice_get, get_or, refl, sym, ap, subst, arith, length-append}
+use Rattle.std.proofs.Common.{◌≡◌, ℕ, zero, suc, ◌+◌, ◌-◌, ◌^◌, ◌<◌, ◌≤◌, ◌∙◌, inl, inr, cond, Bool, List, [], ◌∷◌, ◌++◌, Option, Some, None, IsSome, length, slice_get, get_or, refl, sym, ap, subst, arith, length-append}
 use Rattle.std.specs.Option.{option_or}
 use Rattle.std.proofs.Math.Seq.{get_or-append_seam}
 use Rattle.std.proofs.Math.Nat.{mul-le-mul_right, zero-div}
 use Rattle.std.proofs.lemmas.List.{append-nil, append_assoc, get_or_append_left}
 use Rattle.std.proofs.lemmas.Option.{get_or_from_slice_get, none-some, same_Some, slice_get-get_or, slice_get_within}
-use Rattle.std.proofs.lemmas.Bool.{cond_above}
-use Rattle.prefix_keys.specs.Block.{block_number, first_of, last_of, width_of}
+use Rattle.prefix_keys.specs.Block.{block_number, width_of}
 use Rattle.prefix_keys.specs.declared.version.Version.{Version}
 use Rattle.pmap_text.specs.MapText.{map_of}
-use Rattle.pmap_text.specs.Stretches.{AreStretches, StretchesModel, first_at, label_at, label_seen, last_at}
+use Rattle.pmap_text.specs.Stretches.{AreStretches, StretchesModel, label_at, label_seen}
 use Rattle.pmap_text.specs.declared.statement.Statement.{Statement}
 use Rattle.pmap_text.specs.declared.label.LabelId.{LabelId}
 use Rattle.pmap_text.specs.declared.map_text.MapText.{MapText}
@@ -24,14 +23,15 @@ use Rattle.label_trie.specs.Inner.{parted_sum}
 use Rattle.label_trie.specs.Tree.{Fork, Tip, Tree, leaves_of}
 use Rattle.label_trie.proofs.Built.{map_layers, parted_most}
 use Rattle.label_trie.proofs.NodeLeaves.{fits_HasRoom, leaves_settled, leaves_undivided, length_leaves}
-use Rattle.pmap_minimise.specs.Areas.{AreHalvesOf, IsArea, IsChoice, IsMade, IsRun, IsRunTo, IsStop, IsTreeOf, number_at, own_label, Area}
+use Rattle.pmap_minimise.specs.Runs.{AreCountedHalves, IsCounted, IsChoice, IsMade, IsRun, IsRunTo, IsStop, IsTreeOf, own_label}
+use Rattle.pmap_text.specs.Windows.{IsWindow, number_at}
+use Rattle.pmap_text.specs.declared.window.Window.{Window}
 use Rattle.pmap_minimise.specs.Built.{AddsChain, AddsInner, AddsLeaf, HasAscendingSet, exact_cost, HasGrown, IsAt, IsBuilt, IsBuiltFor, cost_above, path_node, Built, Claim}
 use Rattle.pmap_cert.specs.Paths.{path_to}
 use Rattle.pmap_cert.proofs.Paths.{path-length}
 use Rattle.pmap_minimise.specs.Numbers.{IsExact, IsExactBy, IsExactSet, IsExactSetBy, common_numbers, has_number}
 use Rattle.pmap_minimise.specs.declared.built.Line.TheVariants.{Chain as ChainLine, Inner as InnerLine, Leaf as LeafLine}
-use Rattle.pmap_text.proofs.Ranges.{ordered_at}
-use Rattle.pmap_minimise.proofs.Areas.{AreSameHalves, area-split, halves-made, leaf-made, made-side, made-stop, run-below, run-down, run-made, same-halves, path_tree}
+use Rattle.pmap_minimise.proofs.MadeNodes.{AreSameHalves, counted-sum, halves-made, leaf-made, made-side, made-stop, run-below, run-down, run-made, same-halves, path_tree}
 use Rattle.pmap_minimise.proofs.TreeNodes.{node-cost, tree-certified}
 use Rattle.pmap_minimise.proofs.Texts.{exact-ascending}
 use Rattle.prefix_keys.proofs.Groups.{width-le}
@@ -174,7 +174,7 @@ inner-added old new below above claim low lower high upper from middle high_at l
     }
 
 -- a leaf's line is what a block in one stretch adds
-pub leaf-built : (s : StretchesModel) (a : Area) (id : LabelId) (old new : Built) (claim : Claim) → IsArea s a → own_label s a ≡ Some id.0 → AddsLeaf id old new claim
+pub leaf-built : (s : StretchesModel) (a : Window) (id : LabelId) (old new : Built) (claim : Claim) → IsCounted s a → own_label s a ≡ Some id.0 → AddsLeaf id old new claim
     → IsBuilt s a old new claim
 leaf-built s a id old new claim is own adds =
     let added = leaf-added id old new claim adds in
@@ -191,7 +191,7 @@ leaf-built s a id old new claim is own adds =
     }
 
 -- the sum that bounds the leaves of a block also bounds the cost of its node
-pub made-cost : (s : StretchesModel) (a : Area) (tree : Tree) (node : Node) (is : IsArea s a) → IsMade s a tree node
+pub made-cost : (s : StretchesModel) (a : Window) (tree : Tree) (node : Node) (is : IsCounted s a) → IsMade s a tree node
     → cost_of node ≤ parted_sum (width_of s.version) (width_of s.version - a.len) a.len (number_at s a) is.few.statements
 made-cost s a tree node is made =
     let few = (made.tree_of is.few.statements is.few.default is.few.stretches).few in
@@ -204,10 +204,10 @@ leaf-of (Inner cost set lower upper) n is = absurd (none-some n is)
 leaf-of (Chain cost set bits side end) n is = absurd (none-some n is)
 
 -- The node of two halves.
-module _ (s : StretchesModel) (a low high : Area) (low_tree high_tree : Tree) (lower upper : Node) (are : AreHalvesOf s a low high)
+module _ (s : StretchesModel) (a low high : Window) (low_tree high_tree : Tree) (lower upper : Node) (are : AreCountedHalves s a low high)
     (low_made : IsMade s low low_tree lower) (high_made : IsMade s high high_tree upper) where
   -- the run of the node has at most one bit if that of the block has
-  short-run : (tree : Tree) (cost : ℕ) (set : List ℕ) (side : ℕ) (end : Area) → IsMade s a tree (Inner cost set lower upper) → (run : IsRunTo s side a end) → run.count < 2
+  short-run : (tree : Tree) (cost : ℕ) (set : List ℕ) (side : ℕ) (end : Window) → IsMade s a tree (Inner cost set lower upper) → (run : IsRunTo s side a end) → run.count < 2
       → length (bits_down side (Inner cost set lower upper)) < 2
   short-run tree cost set side end made run few = by run.count few run.run
     where
@@ -221,7 +221,7 @@ module _ (s : StretchesModel) (a low high : Area) (low_tree high_tree : Tree) (l
           omega arith
       by (suc zero) few is = go is.1.choice
         where
-          own : (x : Area) → is.0 ≡ x → IsStop s side x
+          own : (x : Window) → is.0 ≡ x → IsStop s side x
           own x same = subst (IsStop s side) (is.2 ∙ same) run.stop
 
           same : AreSameHalves is.1.low is.1.high low high
@@ -246,12 +246,12 @@ module _ (s : StretchesModel) (a low high : Area) (low_tree high_tree : Tree) (l
       by (suc (suc count)) few is = absurd (omega arith)
 
 -- the run from a block has fewer than two bits, by the side label of its halves, if they have one
-abbrev pub IsShortRun : StretchesModel → Area → Option ℕ → Type 0
+abbrev pub IsShortRun : StretchesModel → Window → Option ℕ → Type 0
 IsShortRun s a None = Unit {0}
-IsShortRun s a (Some side) = (end : Area) × (run : IsRunTo s side a end) × (run.count < 2)
+IsShortRun s a (Some side) = (end : Window) × (run : IsRunTo s side a end) × (run.count < 2)
 
 -- an inner node's line completes a block with two halves and a short run
-pub halves-built : (s : StretchesModel) (a low high : Area) (old middle after new : Built) (above below claim : Claim) → IsArea s a → AreHalvesOf s a low high
+pub halves-built : (s : StretchesModel) (a low high : Window) (old middle after new : Built) (above below claim : Claim) → IsCounted s a → AreCountedHalves s a low high
     → IsShortRun s a (option_or (own_label s low) (own_label s high)) → IsBuilt s high old middle above → IsBuilt s low middle after below → AddsInner below above after new claim
     → IsBuilt s a old new claim
 halves-built s a low high old middle after new above below claim is are short upper lower adds =
@@ -284,7 +284,7 @@ halves-built s a low high old middle after new above below claim is are short up
         (short-run s a low high lower.tree upper.tree lower.node upper.node are lower.made upper.made tree claim.cost adds.held.set side short.0 made short.1 short.2)
 
 -- a chain's line completes a block from which a run of two bits or more leads to its end
-pub chain-built : (s : StretchesModel) (a low high end : Area) (old middle new : Built) (below claim : Claim) (side : LabelId) (number bits : ℕ) → IsArea s a → AreHalvesOf s a low high
+pub chain-built : (s : StretchesModel) (a low high end : Window) (old middle new : Built) (below claim : Claim) (side : LabelId) (number bits : ℕ) → IsCounted s a → AreCountedHalves s a low high
     → option_or (own_label s low) (own_label s high) ≡ Some side.0 → (run : IsRunTo s side.0 a end) → 2 ≤ run.count → bits ≡ end.len - a.len → number ≡ number_at s end
     → IsBuilt s end old middle below → AddsChain below side number bits middle new claim → IsBuilt s a old new claim
 chain-built s a low high end old middle new below claim side number bits is are label run more bits_same number_is built adds =
@@ -334,7 +334,7 @@ chain-built s a low high end old middle new below claim side number bits is are 
         side_is = refl;
         bits_are = λ i. path_to (sym number_is i) (sym bits_is i);
         long = long;
-        few = let inside = run.area.within in let len = run.len in omega (arith, width-le s.version);
+        few = let inside = run.counted.window.within in let len = run.len in omega (arith, width-le s.version);
         node_is = λ i. path_node side.0 (sym number_is i) (sym bits_is i) built.node;
       };
       grown = grown-again old middle new built.grown grown;
@@ -352,7 +352,7 @@ chain-built s a low high end old middle new below claim side number bits is are 
     first-set (suc (suc count)) some = path-set side.0 adds.fits built.node built.made.ascending (number_at s end) (suc (suc count))
 
 -- what is built for the whole address space is the map's
-pub whole-built : (m : MapText) (s : StretchesModel) (a : Area) (old new : Built) (claim : Claim) → s.version ≡ m.version → AreStretches m.statements (Some m.default) s
+pub whole-built : (m : MapText) (s : StretchesModel) (a : Window) (old new : Built) (claim : Claim) → s.version ≡ m.version → AreStretches m.statements (Some m.default) s
     → a.first ≡ 0 → a.len ≡ 0 → old.lines.items ≡ [] → IsBuilt s a old new claim → IsBuiltFor m new
 whole-built m s a old new claim version are first len none built =
     let v = m.version in
@@ -393,9 +393,9 @@ whole-few m =
     rw all (omega (arith, parted_most W m.statements, most, m.within_limit))
 
 -- a block's first stretch has a label
-pub area-label : (s : StretchesModel) (a : Area) → IsArea s a → label_at s a.from ≡ None → ⊥
-area-label s a is none =
-    let stretch = is.few.stretches.each a.from is.start.index in
+pub window-label : (s : StretchesModel) (a : Window) → IsCounted s a → label_at s a.from ≡ None → ⊥
+window-label s a is none =
+    let stretch = is.few.stretches.each a.from is.window.start.index in
     seen is.few.default stretch.top is.few.labelled (sym stretch.label_is ∙ none)
   where
     seen : (default : Option LabelId) (top : Option Statement) → IsSome default → label_seen default top ≡ None → ⊥
@@ -404,14 +404,14 @@ area-label s a is none =
     seen default (Some x) some e = absurd (none-some x.label (sym e))
 
 -- the end of a run of two bits or more has fewer addresses than the run's first block
-pub end-smaller : (s : StretchesModel) (a end : Area) (side : ℕ) → IsArea s a → (run : IsRunTo s side a end) → 2 ≤ run.count → end.last - end.first + 2 ≤ a.last - a.first
+pub end-smaller : (s : StretchesModel) (a end : Window) (side : ℕ) → IsCounted s a → (run : IsRunTo s side a end) → 2 ≤ run.count → end.last - end.first + 2 ≤ a.last - a.first
 end-smaller s a end side is run more =
     let below = run-below s side run.count a end is run.run in
     let smaller = below.smaller in
     omega arith
 
 -- the costs of two halves and one more can be counted
-pub both-cost : (s : StretchesModel) (a low high : Area) (low_tree high_tree : Tree) (lower upper : Node) (low_cost high_cost : ℕ) (is : IsArea s a) → AreHalvesOf s a low high
+pub both-cost : (s : StretchesModel) (a low high : Window) (low_tree high_tree : Tree) (lower upper : Node) (low_cost high_cost : ℕ) (is : IsCounted s a) → AreCountedHalves s a low high
     → IsMade s low low_tree lower → IsMade s high high_tree upper → low_cost ≡ cost_of lower → high_cost ≡ cost_of upper → low_cost + high_cost + 1 < 2 ^ 32
 both-cost s a low high low_tree high_tree lower upper low_cost high_cost is are low_made high_made low_is high_is =
     let node = Inner 0 [] lower upper in
@@ -420,21 +420,13 @@ both-cost s a low high low_tree high_tree lower upper low_cost high_cost is are 
     let stretches = is.few.stretches in
     let low_few = (low_made.tree_of ss default stretches).few in
     let high_few = (high_made.tree_of ss default stretches).few in
-    let W = width_of s.version in
-    let sum = (area-split s a is are.divided ss default stretches).sum in
+    let sum = counted-sum s a is are.divided low high are.halves in
     let few = is.few.few in
-    let low_sum : parted_sum W (W - low.len) low.len (number_at s low) ss ≡ parted_sum W (W - (a.len + 1)) (a.len + 1) (block_number W (a.len + 1) a.first) ss =
-    (λ i. parted_sum W (W - are.low_len i) (are.low_len i) (block_number W (are.low_len i) (are.low_first i)) ss) in
-    let high_sum : parted_sum W (W - high.len) high.len (number_at s high) ss
-    ≡ parted_sum W (W - (a.len + 1)) (a.len + 1) (block_number W (a.len + 1) (a.first + (a.last - a.first) / 2 + 1)) ss =
-    (λ i. parted_sum W (W - are.high_len i) (are.high_len i) (block_number W (are.high_len i) (are.high_first i)) ss) in
     omega (
       arith,
       low_few,
       high_few,
       sum,
-      low_sum,
-      high_sum,
       few,
       low_is,
       high_is,
@@ -442,37 +434,19 @@ both-cost s a low high low_tree high_tree lower upper low_cost high_cost is are 
       node-cost high_tree upper high_made.node_is,
     )
 
--- the whole address space is a block with the first and the last stretch at its ends
-pub whole-area : (m : MapText) (s : StretchesModel) (a : Area) → s.version ≡ m.version → AreStretches m.statements (Some m.default) s → a.first ≡ 0 → a.len ≡ 0 → a.from ≡ 0
-    → a.to + 1 ≡ length s.firsts → a.last ≡ last_at s a.to → IsArea s a
-whole-area m s a version are first len from to last =
+-- the leaves of the window of all addresses can be counted
+pub whole-counted : (m : MapText) (s : StretchesModel) (a : Window) → s.version ≡ m.version → AreStretches m.statements (Some m.default) s → IsWindow s a → a.first ≡ 0 → a.len ≡ 0
+    → IsCounted s a
+whole-counted m s a version are window first len =
     let W = width_of s.version in
-    let every = are.every in
-    let zero = every.zero in
-    let some = every.some in
-    let all : last_at s a.to ≡ 2 ^ W - 1 = sym (cond_above (a.to + 1) (length s.firsts) (first_at s (a.to + 1) - 1) (2 ^ W - 1) (2 ^ W - 1) (omega arith) refl) in
-    let whole : W - a.len ≡ W = omega arith in
     let number : number_at s a ≡ 0 = ap (λ (x : ℕ). block_number W a.len x) first ∙ zero-div (2 ^ (W - a.len)) in
-    let P : ℕ = 2 ^ (W - a.len) in
-    let Q : ℕ = 2 ^ W in
-    let begin : 0 ≡ 0 * P = omega arith in
-    let finish : Q - 1 ≡ (0 + 1) * Q - 1 = omega arith in
-    let begins : first_at s a.from ≡ 0 = ap (first_at s) from ∙ zero in
-    let inside : a.to < length s.firsts = omega arith in
-    let end = ordered_at s every a.to inside in
-    let start = ordered_at s every a.from (omega arith) in
-    let few : parted_sum W (W - a.len) a.len (number_at s a) m.statements + 1 < 2 ^ 32 =
-    subst (λ (k : ℕ). k + 1 < 2 ^ 32)
-    (sym ((λ i. parted_sum W (W - len i) (len i) (number i) m.statements) ∙ (λ i. parted_sum (width_of (version i)) (width_of (version i) - 0) 0 0 m.statements)))
-    (whole-few m) in
     record {
-      within = omega arith;
-      block = record {
-        first_is = first ∙ begin ∙ sym (ap (λ (q : ℕ). first_of W a.len q) number);
-        last_is = last ∙ all ∙ finish ∙ ap (λ (h : ℕ). (0 + 1) * 2 ^ h - 1) (sym whole) ∙ sym (ap (λ (q : ℕ). last_of W a.len q) number);
+      window = window;
+      few = record {
+        statements = m.statements;
+        default = Some m.default;
+        labelled = refl;
+        stretches = are;
+        few = rw (number, len) (rw version (whole-few m));
       };
-      ordered = omega arith;
-      start = record { index = omega arith; from = omega arith; to = omega arith };
-      end = record { index = inside; from = rw last end; to = rw last (omega arith) };
-      few = record { statements = m.statements; default = Some m.default; labelled = refl; stretches = are; few = few };
     }

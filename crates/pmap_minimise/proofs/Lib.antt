@@ -7,7 +7,7 @@ pub mod Whole
 pub mod Halves
 pub mod Compacted
 pub mod Paths
-pub mod Areas
+pub mod MadeNodes
 pub mod BuiltNodes
 pub mod PathEntries
 pub mod Opened

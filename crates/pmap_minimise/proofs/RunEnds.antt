@@ -14,11 +14,12 @@ use Rattle.prefix_keys.specs.declared.version.Version.{Version}
 use Rattle.prefix_keys.proofs.Quotients.{above_first, below_end, half_split, quotient_is}
 use Rattle.pmap_text.specs.Stretches.{HasEveryAddress, HoldsAddress, StretchesModel, count_begun, first_at, last_at}
 use Rattle.pmap_text.proofs.Ranges.{ends_before, held_order, holder, next_first, ordered_at}
-use Rattle.label_trie.specs.Inner.{IsBlock}
-use Rattle.label_trie.proofs.Grown.{are_halves, number_at as first-number}
-use Rattle.pmap_minimise.specs.Areas.{AreHalvesOf, HasLabel, IsArea, IsRun, IsRunTo, IsStop, number_at, own_label, Area}
+use Rattle.pmap_text.specs.Windows.{IsBlock, number_at}
+use Rattle.pmap_text.specs.declared.window.Window.{Window}
+use Rattle.pmap_text.proofs.Windows.{are_halves, first_number, halves_windows, one_index, window_some}
+use Rattle.pmap_minimise.specs.Runs.{AreCountedHalves, HasLabel, IsCounted, IsRun, IsRunTo, IsStop, own_label}
 use Rattle.prefix_keys.proofs.Groups.{width-le}
-use Rattle.pmap_minimise.proofs.Areas.{are-halves, area-split, block-order, one-index, own-is, own-single, run-below, same-area}
+use Rattle.pmap_minimise.proofs.MadeNodes.{block-order, counted-halves, own-is, own-single, run-below, same-window}
 
 -- How many first bits two numbers share, by their exclusive or.
 
@@ -73,32 +74,31 @@ in-block W first last n q x is from to =
     quotient_is x (2 ^ (W - n)) q some (omega arith) (omega arith)
 
 -- a block with addresses of two stretches has halves
-pub record HasHalves (s : StretchesModel) (a : Area) : Type 0 where
-  pub low : Area
-  pub high : Area
-  pub halves : AreHalvesOf s a low high
+pub record HasHalves (s : StretchesModel) (a : Window) : Type 0 where
+  pub low : Window
+  pub high : Window
+  pub counted : AreCountedHalves s a low high
 
-has-halves : (s : StretchesModel) (a : Area) → IsArea s a → a.from < a.to → HasHalves s a
+has-halves : (s : StretchesModel) (a : Window) → IsCounted s a → a.from < a.to → HasHalves s a
 has-halves s a is divided =
     let every = is.few.stretches.every in
-    let split = area-split s a is divided is.few.statements is.few.default is.few.stretches in
+    let some = window_some s every a is.window (λ same. absurd (omega arith)) in
+    let fits = (is.few.stretches.each a.to is.window.end.index).within in
+    let to = is.window.end.to in
     let middle : ℕ = a.first + (a.last - a.first) / 2 in
-    let some = split.some in
-    let fits = split.fits in
     let at = holder s every middle (omega arith) in
     let next = holder s every (middle + 1) (omega arith) in
-    let low : Area = record { first = a.first; last = middle; len = a.len + 1; from = a.from; to = count_begun s.firsts middle - 1 } in
-    let high : Area = record { first = middle + 1; last = a.last; len = a.len + 1; from = count_begun s.firsts (middle + 1) - 1; to = a.to } in
+    let order = held_order s every a.first middle a.from (count_begun s.firsts middle - 1) is.window.start at (omega arith) in
     record {
-      low = low;
-      high = high;
-      halves = are-halves s a is divided low high refl refl refl refl refl refl refl refl at next
-          (held_order s every a.first middle a.from low.to is.start at (omega arith)) (held_order s every (middle + 1) a.last high.from a.to next is.end (omega arith));
+      low = _;
+      high = _;
+      counted = counted-halves s a is divided _ _
+          (halves_windows s every a is.window (count_begun s.firsts middle - 1) (count_begun s.firsts (middle + 1) - 1) some at order next);
     }
 
 -- The addresses of a block before x are all in its first stretch, and those after y in its last one. If there are any,
 -- that stretch has the side label. The stretches i and j, which have x and y, don't have it.
-pub record IsInside (s : StretchesModel) (side : ℕ) (a : Area) (x y i j : ℕ) : Type 0 where
+pub record IsInside (s : StretchesModel) (side : ℕ) (a : Window) (x y i j : ℕ) : Type 0 where
   pub ordered : x ≤ y
   pub from : a.first ≤ x
   pub to : y ≤ a.last
@@ -110,7 +110,7 @@ pub record IsInside (s : StretchesModel) (side : ℕ) (a : Area) (x y i j : ℕ)
   pub right : (p : ℕ) → y < p → p ≤ a.last → HoldsAddress s p a.to × HasLabel s side a.to
 
 -- the block has the addresses from x to y, and these stretches are at its ends
-pub record IsAround (s : StretchesModel) (x y : ℕ) (b : Area) : Type 0 where
+pub record IsAround (s : StretchesModel) (x y : ℕ) (b : Window) : Type 0 where
   pub within : b.len ≤ width_of s.version
   pub block : IsBlock (width_of s.version) b.first b.last b.len (number_at s b)
   pub from : b.first ≤ x
@@ -118,7 +118,7 @@ pub record IsAround (s : StretchesModel) (x y : ℕ) (b : Area) : Type 0 where
   pub start : HoldsAddress s b.first b.from
   pub end : HoldsAddress s b.last b.to
 
-module _ (s : StretchesModel) (side : ℕ) (a : Area) (is : IsArea s a) (x y i j : ℕ) (inside : IsInside s side a x y i j) where
+module _ (s : StretchesModel) (side : ℕ) (a : Window) (is : IsCounted s a) (x y i j : ℕ) (inside : IsInside s side a x y i j) where
   abbrev W : ℕ
   W = width_of s.version
 
@@ -126,30 +126,30 @@ module _ (s : StretchesModel) (side : ℕ) (a : Area) (is : IsArea s a) (x y i j
   every = is.few.stretches.every
 
   -- a block whose ends are in one stretch with the side label has that label alone
-  own-side : (h : Area) → IsArea s h → (k : ℕ) → HoldsAddress s h.first k → HoldsAddress s h.last k → HasLabel s side k → own_label s h ≡ Some side
+  own-side : (h : Window) → IsCounted s h → (k : ℕ) → HoldsAddress s h.first k → HoldsAddress s h.last k → HasLabel s side k → own_label s h ≡ Some side
   own-side h is k first last has =
-      let from : h.from ≡ k = one-index s every h.first h.from k is.start first in
-      let to : h.to ≡ k = one-index s every h.last h.to k is.end last in
+      let from : h.from ≡ k = one_index s every h.first h.from k is.window.start first in
+      let to : h.to ≡ k = one_index s every h.last h.to k is.window.end last in
       own-is s h (from ∙ sym to) ∙ subst (HasLabel s side) (sym from) has
 
   -- a block with an address of a stretch without the side label doesn't have that label alone
-  own-other : (h : Area) → IsArea s h → (p k : ℕ) → h.first ≤ p → p ≤ h.last → HoldsAddress s p k → (HasLabel s side k → ⊥) → own_label s h ≡ Some side → ⊥
+  own-other : (h : Window) → IsCounted s h → (p k : ℕ) → h.first ≤ p → p ≤ h.last → HoldsAddress s p k → (HasLabel s side k → ⊥) → own_label s h ≡ Some side → ⊥
   own-other h is p k low high holds other own =
-      let single = own-single s h side is.ordered own in
-      let from = held_order s every h.first p h.from k is.start holds low in
-      let to = held_order s every p h.last k h.to holds is.end high in
+      let single = own-single s h side is.window.ordered own in
+      let from = held_order s every h.first p h.from k is.window.start holds low in
+      let to = held_order s every p h.last k h.to holds is.window.end high in
       let same : h.from ≡ k = omega arith in
       other (subst (HasLabel s side) same (sym (own-is s h single) ∙ own))
 
-  module _ (b : Area) (around : IsAround s x y b) where
-    abbrev middle_of : Area → ℕ
+  module _ (b : Window) (around : IsAround s x y b) where
+    abbrev middle_of : Window → ℕ
     middle_of c = c.first + (c.last - c.first) / 2
 
     -- a larger block than b has both addresses in the same half
-    in-half : (c : Area) (count : ℕ) → IsArea s c → c.first ≤ x → y ≤ c.last → b.len ≡ c.len + suc count → (y ≤ middle_of c) ⊎ (middle_of c < x)
+    in-half : (c : Window) (count : ℕ) → IsCounted s c → c.first ≤ x → y ≤ c.last → b.len ≡ c.len + suc count → (y ≤ middle_of c) ⊎ (middle_of c < x)
     in-half c count is_c from to len =
         let within = around.within in
-        let halves = are_halves W c.len (number_at s c) c.first c.last (omega arith) is_c.block in
+        let halves = are_halves W c.len (number_at s c) c.first c.last (omega arith) is_c.window.block in
         let ordered = inside.ordered in
         let up : W - (c.len + 1) ≡ W - b.len + count = omega arith in
         let at : x / 2 ^ (W - b.len) ≡ y / 2 ^ (W - b.len) =
@@ -172,7 +172,7 @@ module _ (s : StretchesModel) (side : ℕ) (a : Area) (is : IsArea s a) (x y i j
         ]
 
     -- the run leads from each block around b to b
-    run-to : (count : ℕ) (c : Area) → IsArea s c → a.first ≤ c.first → c.last ≤ a.last → c.first ≤ x → y ≤ c.last → b.len ≡ c.len + count → IsRun s side count c b
+    run-to : (count : ℕ) (c : Window) → IsCounted s c → a.first ≤ c.first → c.last ≤ a.last → c.first ≤ x → y ≤ c.last → b.len ≡ c.len + count → IsRun s side count c b
     run-to zero c is_c first last from to len =
         let same : b.len ≡ c.len = omega arith in
         let ordered = inside.ordered in
@@ -180,12 +180,12 @@ module _ (s : StretchesModel) (side : ℕ) (a : Area) (is : IsArea s a) (x y i j
         let high = around.to in
         let number : number_at s b ≡ number_at s c =
         sym (in-block W b.first b.last b.len (number_at s b) x around.block low (omega arith)) ∙ ap (λ (n : ℕ). x / 2 ^ (W - n)) same
-        ∙ in-block W c.first c.last c.len (number_at s c) x is_c.block from (omega arith) in
-        let first_is : b.first ≡ c.first = around.block.first_is ∙ (λ i. number i * 2 ^ (W - same i)) ∙ sym is_c.block.first_is in
-        let last_is : b.last ≡ c.last = around.block.last_is ∙ (λ i. (number i + 1) * 2 ^ (W - same i) - 1) ∙ sym is_c.block.last_is in
-        same-area b c first_is last_is same
-        (one-index s every c.first b.from c.from (subst (λ (p : ℕ). HoldsAddress s p b.from) first_is around.start) is_c.start)
-        (one-index s every c.last b.to c.to (subst (λ (p : ℕ). HoldsAddress s p b.to) last_is around.end) is_c.end)
+        ∙ in-block W c.first c.last c.len (number_at s c) x is_c.window.block from (omega arith) in
+        let first_is : b.first ≡ c.first = around.block.first_is ∙ (λ i. number i * 2 ^ (W - same i)) ∙ sym is_c.window.block.first_is in
+        let last_is : b.last ≡ c.last = around.block.last_is ∙ (λ i. (number i + 1) * 2 ^ (W - same i) - 1) ∙ sym is_c.window.block.last_is in
+        same-window b c first_is last_is same
+        (one_index s every c.first b.from c.from (subst (λ (p : ℕ). HoldsAddress s p b.from) first_is around.start) is_c.window.start)
+        (one_index s every c.last b.to c.to (subst (λ (p : ℕ). HoldsAddress s p b.to) last_is around.end) is_c.window.end)
     run-to (suc count) c is_c first last from to len = by (run-to count) (in-half c count is_c from to len)
       where
         ends : c.first < c.last
@@ -193,8 +193,8 @@ module _ (s : StretchesModel) (side : ℕ) (a : Area) (is : IsArea s a) (x y i j
             let within = around.within in
             let half = half_split W c.len (omega arith) in
             let some = pow_pos (W - (c.len + 1)) in
-            let first_is = is_c.block.first_is in
-            let last_is = is_c.block.last_is in
+            let first_is = is_c.window.block.first_is in
+            let last_is = is_c.window.block.last_is in
             omega arith
 
         divided : (p k : ℕ) → c.first ≤ p → p ≤ c.last → HoldsAddress s p k → HasLabel s side k → c.from < c.to
@@ -202,22 +202,23 @@ module _ (s : StretchesModel) (side : ℕ) (a : Area) (is : IsArea s a) (x y i j
             elim (cases_lt c.from c.to) [
               | inl less ↦ less
               | inr most ↦
-                  let ordered = is_c.ordered in
+                  let ordered = is_c.window.ordered in
                   let single : c.from ≡ c.to = omega arith in
-                  let begin = held_order s every c.first p c.from k is_c.start holds low in
-                  let end = held_order s every p c.last k c.to holds is_c.end high in
+                  let begin = held_order s every c.first p c.from k is_c.window.start holds low in
+                  let end = held_order s every p c.last k c.to holds is_c.window.end high in
                   let same : c.from ≡ k = omega arith in
                   let between = inside.ordered in
                   absurd (own-other c is_c x i from (omega arith) inside.low inside.low_other (own-is s c single ∙ subst (HasLabel s side) (sym same) has))
             ]
 
-        by : ((d : Area) → IsArea s d → a.first ≤ d.first → d.last ≤ a.last → d.first ≤ x → y ≤ d.last → b.len ≡ d.len + count → IsRun s side count d b)
+        by : ((d : Window) → IsCounted s d → a.first ≤ d.first → d.last ≤ a.last → d.first ≤ x → y ≤ d.last → b.len ≡ d.len + count → IsRun s side count d b)
             → (y ≤ middle_of c) ⊎ (middle_of c < x) → IsRun s side (suc count) c b
         by go (inl low) =
             let some = ends in
             let out = inside.right c.last (omega arith) last in
             let halves = has-halves s c is_c (divided c.last a.to (omega arith) (omega arith) out.0 out.1) in
-            let are = halves.halves in
+            let counted = halves.counted in
+            let are = counted.halves in
             let low_first = are.low_first in
             let low_last = are.low_last in
             let high_first = are.high_first in
@@ -229,20 +230,21 @@ module _ (s : StretchesModel) (side : ℕ) (a : Area) (is : IsArea s a) (x y i j
               record {
                 low = halves.low;
                 high = halves.high;
-                halves = are;
+                halves = counted;
                 choice = inr (
                   refl,
-                  own-other halves.low are.low_area x i (omega arith) (omega arith) inside.low inside.low_other,
-                  own-side halves.high are.high_area a.to begin.0 (subst (λ (p : ℕ). HoldsAddress s p a.to) (sym high_last) out.0) out.1,
+                  own-other halves.low counted.low_counted x i (omega arith) (omega arith) inside.low inside.low_other,
+                  own-side halves.high counted.high_counted a.to begin.0 (subst (λ (p : ℕ). HoldsAddress s p a.to) (sym high_last) out.0) out.1,
                 );
               },
-              go halves.low are.low_area (omega arith) (omega arith) (omega arith) (omega arith) (omega arith),
+              go halves.low counted.low_counted (omega arith) (omega arith) (omega arith) (omega arith) (omega arith),
             )
         by go (inr high) =
             let some = ends in
             let out = inside.left c.first first (omega arith) in
             let halves = has-halves s c is_c (divided c.first a.from (omega arith) (omega arith) out.0 out.1) in
-            let are = halves.halves in
+            let counted = halves.counted in
+            let are = counted.halves in
             let low_first = are.low_first in
             let low_last = are.low_last in
             let high_first = are.high_first in
@@ -253,21 +255,22 @@ module _ (s : StretchesModel) (side : ℕ) (a : Area) (is : IsArea s a) (x y i j
               record {
                 low = halves.low;
                 high = halves.high;
-                halves = are;
-                choice = inl (refl, own-side halves.low are.low_area a.from (subst (λ (p : ℕ). HoldsAddress s p a.from) (sym low_first) out.0) end.0 out.1);
+                halves = counted;
+                choice = inl (refl, own-side halves.low counted.low_counted a.from (subst (λ (p : ℕ). HoldsAddress s p a.from) (sym low_first) out.0) end.0 out.1);
               },
-              go halves.high are.high_area (omega arith) (omega arith) (omega arith) (omega arith) (omega arith),
+              go halves.high counted.high_counted (omega arith) (omega arith) (omega arith) (omega arith) (omega arith),
             )
 
     -- if no smaller block than b has both addresses, the run ends at b
     module _ (apart : (h : ℕ) → suc h ≡ W - b.len → x / 2 ^ h ≡ y / 2 ^ h → ⊥) where
-      stops : IsArea s b → IsStop s side b
+      stops : IsCounted s b → IsStop s side b
       stops is_b =
           elim (cases_lt b.from b.to) [
-            | inr most ↦ let ordered = is_b.ordered in inl (omega arith)
+            | inr most ↦ let ordered = is_b.window.ordered in inl (omega arith)
             | inl less ↦
                 let halves = has-halves s b is_b less in
-                let are = halves.halves in
+                let counted = halves.counted in
+                let are = counted.halves in
                 let low = around.from in
                 let high = around.to in
                 let ordered = inside.ordered in
@@ -277,29 +280,29 @@ module _ (s : StretchesModel) (side : ℕ) (a : Area) (is : IsArea s a) (x y i j
                 let last = are.high_last in
                 let low_len = are.low_len in
                 let high_len = are.high_len in
-                let deep = are.low_area.within in
+                let deep = counted.low_counted.window.within in
                 let next : suc (W - halves.low.len) ≡ W - b.len = omega arith in
                 let level : W - halves.high.len ≡ W - halves.low.len = omega arith in
                 let below : x ≤ halves.low.last = elim (cases_lt halves.low.last x) [
                   | inr most ↦ most
                   | inl above ↦
-                      let same = in-block W halves.high.first halves.high.last halves.high.len _ x are.high_area.block (omega arith) (omega arith)
-                      ∙ sym (in-block W halves.high.first halves.high.last halves.high.len _ y are.high_area.block (omega arith) (omega arith)) in
+                      let same = in-block W halves.high.first halves.high.last halves.high.len _ x counted.high_counted.window.block (omega arith) (omega arith)
+                      ∙ sym (in-block W halves.high.first halves.high.last halves.high.len _ y counted.high_counted.window.block (omega arith) (omega arith)) in
                       absurd (apart (W - halves.low.len) next (subst (λ (n : ℕ). x / 2 ^ n ≡ y / 2 ^ n) level same))
                 ] in
                 let above : halves.high.first ≤ y = elim (cases_lt y halves.high.first) [
                   | inr most ↦ most
                   | inl below ↦
-                      let same = in-block W halves.low.first halves.low.last halves.low.len _ x are.low_area.block (omega arith) (omega arith)
-                      ∙ sym (in-block W halves.low.first halves.low.last halves.low.len _ y are.low_area.block (omega arith) (omega arith)) in
+                      let same = in-block W halves.low.first halves.low.last halves.low.len _ x counted.low_counted.window.block (omega arith) (omega arith)
+                      ∙ sym (in-block W halves.low.first halves.low.last halves.low.len _ y counted.low_counted.window.block (omega arith) (omega arith)) in
                       absurd (apart (W - halves.low.len) next same)
                 ] in
                 inr (record {
                   low = halves.low;
                   high = halves.high;
-                  halves = are;
-                  low_other = own-other halves.low are.low_area x i (omega arith) below inside.low inside.low_other;
-                  high_other = own-other halves.high are.high_area y j above (omega arith) inside.high inside.high_other;
+                  halves = counted;
+                  low_other = own-other halves.low counted.low_counted x i (omega arith) below inside.low inside.low_other;
+                  high_other = own-other halves.high counted.high_counted y j above (omega arith) inside.high inside.high_other;
                 })
           ]
 
@@ -308,7 +311,7 @@ module _ (s : StretchesModel) (side : ℕ) (a : Area) (is : IsArea s a) (x y i j
       run-end deep =
           let run = run-to (b.len - a.len) a is (omega arith) (omega arith) inside.from inside.to (omega arith) in
           let below = run-below s side (b.len - a.len) a b is run in
-          record { count = b.len - a.len; run = run; stop = stops below.area; area = below.area; len = below.len }
+          record { count = b.len - a.len; run = run; stop = stops below.counted; counted = below.counted; len = below.len }
 
 -- of two blocks with a common address the smaller one is in the larger one
 nested : (x host more : ℕ) → (x / 2 ^ (host + more) * 2 ^ (host + more) ≤ x / 2 ^ host * 2 ^ host) × ((x / 2 ^ host + 1) * 2 ^ host ≤ (x / 2 ^ (host + more) + 1) * 2 ^ (host + more))
@@ -326,7 +329,7 @@ nested x host more = by (x / 2 ^ host) (x / 2 ^ (host + more)) (2 ^ host) (2 ^ m
 abbrev IsEndIn : ℕ → ℕ → ℕ → ℕ → ℕ → Type 0
 IsEndIn end address index own outer = ((end ≡ address) × (index ≡ own)) ⊎ ((end ≡ address → ⊥) × (index ≡ outer))
 
-module _ (s : StretchesModel) (side : ℕ) (a : Area) (is : IsArea s a) (x y i j host : ℕ) (inside : IsInside s side a x y i j) where
+module _ (s : StretchesModel) (side : ℕ) (a : Window) (is : IsCounted s a) (x y i j host : ℕ) (inside : IsInside s side a x y i j) where
   abbrev width : ℕ
   width = width_of s.version
 
@@ -335,27 +338,27 @@ module _ (s : StretchesModel) (side : ℕ) (a : Area) (is : IsArea s a) (x y i j
       let ordered = inside.ordered in
       let from = inside.from in
       let to = inside.to in
-      in-block width a.first a.last a.len _ x is.block from (omega arith) ∙ sym (in-block width a.first a.last a.len _ y is.block (omega arith) to)
+      in-block width a.first a.last a.len _ x is.window.block from (omega arith) ∙ sym (in-block width a.first a.last a.len _ y is.window.block (omega arith) to)
 
-  pub direct-end : IsShared x y (width - a.len) host → (b : Area) → b.len ≡ width - host → b.first ≡ first_of width b.len (block_number width b.len x)
+  pub direct-end : IsShared x y (width - a.len) host → (b : Window) → b.len ≡ width - host → b.first ≡ first_of width b.len (block_number width b.len x)
       → b.last ≡ last_of width b.len (block_number width b.len x) → IsEndIn b.first x b.from i a.from → IsEndIn b.last y b.to j a.to → IsRunTo s side a b
   direct-end shared b len first last start end =
       let few = shared.few in
-      let within = is.within in
+      let within = is.window.within in
       let level : width - b.len ≡ host = omega arith in
       let P : ℕ = 2 ^ host in
       let first' : b.first ≡ x / P * P = first ∙ (λ k. x / 2 ^ level k * 2 ^ level k) in
       let last' : b.last ≡ (x / P + 1) * P - 1 = last ∙ (λ k. (x / 2 ^ level k + 1) * 2 ^ level k - 1) in
-      let number : number_at s b ≡ block_number width b.len x = first-number width b.len _ b.first first in
+      let number : number_at s b ≡ block_number width b.len x = first_number width b.len _ b.first first in
       let low = above_first x P _ (pow_pos host) refl in
       let high = below_end y P _ (pow_pos host) (sym shared.same) in
       let more : ℕ = width - a.len - host in
       let all : width - a.len ≡ host + more = omega arith in
       let nest = nested x host more in
       let outer : x / 2 ^ (host + more) ≡ number_at s a =
-      ap (λ (n : ℕ). x / 2 ^ n) (sym all) ∙ in-block width a.first a.last a.len _ x is.block inside.from (let up = inside.to in let ordered = inside.ordered in omega arith) in
-      let begun : a.first ≤ b.first = let e = is.block.first_is ∙ (λ k. sym outer k * 2 ^ all k) in omega (arith, nest.0) in
-      let ended : b.last ≤ a.last = let e = is.block.last_is ∙ (λ k. (sym outer k + 1) * 2 ^ all k - 1) in omega (arith, nest.1) in
+      ap (λ (n : ℕ). x / 2 ^ n) (sym all) ∙ in-block width a.first a.last a.len _ x is.window.block inside.from (let up = inside.to in let ordered = inside.ordered in omega arith) in
+      let begun : a.first ≤ b.first = let e = is.window.block.first_is ∙ (λ k. sym outer k * 2 ^ all k) in omega (arith, nest.0) in
+      let ended : b.last ≤ a.last = let e = is.window.block.last_is ∙ (λ k. (sym outer k + 1) * 2 ^ all k - 1) in omega (arith, nest.1) in
       run-end s side a is x y i j inside b (record {
         within = omega arith;
         block = record { first_is = first ∙ ap (λ (q : ℕ). q * 2 ^ (width - b.len)) (sym number); last_is = last ∙ ap (λ (q : ℕ). (q + 1) * 2 ^ (width - b.len) - 1) (sym number) };
@@ -376,7 +379,7 @@ at-most true = omega arith
 at-most false = omega arith
 
 -- The addresses inside a block, by whether its first and its last stretch have the side label.
-module _ (s : StretchesModel) (side : ℕ) (a : Area) (is : IsArea s a) (divided : a.from < a.to) where
+module _ (s : StretchesModel) (side : ℕ) (a : Window) (is : IsCounted s a) (divided : a.from < a.to) where
   all : HasEveryAddress s
   all = is.few.stretches.every
 
@@ -388,7 +391,7 @@ module _ (s : StretchesModel) (side : ℕ) (a : Area) (is : IsArea s a) (divided
 
   front : (b : Bool) (i x : ℕ) → (b ≡ true → HasLabel s side a.from) → i ≡ a.from + from_bool b → x ≡ max a.first (first_at s i) → IsFront x i
   front false i x has index is_x =
-      let start = is.start in
+      let start = is.window.start in
       let same : i ≡ a.from = omega arith in
       let begin : first_at s i ≡ first_at s a.from = ap (first_at s) same in
       let from = start.from in
@@ -401,15 +404,15 @@ module _ (s : StretchesModel) (side : ℕ) (a : Area) (is : IsArea s a) (divided
         left = λ p low high. absurd (omega (arith, low, high, first));
       }
   front true i x has index is_x =
-      let start = is.start in
+      let start = is.window.start in
       let next : i ≡ a.from + 1 = index in
-      let inside = is.end.index in
+      let inside = is.window.end.index in
       let after = ends_before s all a.from a.to divided inside in
       let begin : last_at s a.from + 1 ≡ first_at s i = sym (next_first s all a.from (omega arith)) ∙ ap (first_at s) (sym next) in
       let some = ordered_at s all i (omega arith) in
       let from = start.from in
       let to = start.to in
-      let end = is.end.from in
+      let end = is.window.end.from in
       let first : x ≡ first_at s i = omega arith in
       record {
         from = omega arith;
@@ -426,7 +429,7 @@ module _ (s : StretchesModel) (side : ℕ) (a : Area) (is : IsArea s a) (divided
 
   back : (b : Bool) (j y : ℕ) → (b ≡ true → HasLabel s side a.to) → j ≡ a.to - from_bool b → y ≡ min a.last (last_at s j) → IsBack y j
   back false j y has index is_y =
-      let end = is.end in
+      let end = is.window.end in
       let same : j ≡ a.to = omega arith in
       let finish : last_at s j ≡ last_at s a.to = ap (last_at s) same in
       let to = end.to in
@@ -439,7 +442,7 @@ module _ (s : StretchesModel) (side : ℕ) (a : Area) (is : IsArea s a) (divided
         right = λ p low high. absurd (omega (arith, low, high, last));
       }
   back true j y has index is_y =
-      let end = is.end in
+      let end = is.window.end in
       let next : j + 1 ≡ a.to = omega arith in
       let inside = end.index in
       let after = ends_before s all a.from a.to divided inside in
@@ -447,7 +450,7 @@ module _ (s : StretchesModel) (side : ℕ) (a : Area) (is : IsArea s a) (divided
       let some = ordered_at s all j (omega arith) in
       let from = end.from in
       let to = end.to in
-      let start = is.start.to in
+      let start = is.window.start.to in
       let last : y ≡ last_at s j = omega arith in
       record {
         from = omega arith;
@@ -491,11 +494,11 @@ module _ (s : StretchesModel) (side : ℕ) (a : Area) (is : IsArea s a) (divided
           ]
 
 -- the first and the last address inside the block, and how many last bits they don't share
-pub record IsTrimmed (s : StretchesModel) (side : ℕ) (a : Area) (x y i j : ℕ) : Type 0 where
+pub record IsTrimmed (s : StretchesModel) (side : ℕ) (a : Window) (x y i j : ℕ) : Type 0 where
   pub inside : IsInside s side a x y i j
   pub shared : IsShared x y (width_of s.version - a.len) (128 - count_leading_zeros 128 (bit_xor x y))
 
-pub trimmed : (s : StretchesModel) (side : ℕ) (a : Area) (is : IsArea s a) → a.from < a.to → (b d : Bool) (x y i j : ℕ)
+pub trimmed : (s : StretchesModel) (side : ℕ) (a : Window) (is : IsCounted s a) → a.from < a.to → (b d : Bool) (x y i j : ℕ)
     → (b ≡ true → HasLabel s side a.from) → (d ≡ true → HasLabel s side a.to) → i ≡ a.from + from_bool b → j ≡ a.to - from_bool d
     → x ≡ max a.first (first_at s i) → y ≡ min a.last (last_at s j) → (HasLabel s side i → ⊥) → (HasLabel s side j → ⊥) → IsTrimmed s side a x y i j
 trimmed s side a is divided b d x y i j first last index index' is_x is_y low high =

@@ -13,7 +13,8 @@ use Rattle.pmap_cert.specs.Inner.{IsCompactNode}
 use Rattle.pmap_cert.specs.Paths.{digit, path_to}
 use Rattle.pmap_cert.specs.declared.pool.SetId.{SetId}
 use Rattle.pmap_cert.specs.CertificateText.{IsAscending, inner_line, leaf_line, text_of_lines}
-use Rattle.pmap_minimise.specs.Areas.{IsMade, Area}
+use Rattle.pmap_minimise.specs.Runs.{IsMade}
+use Rattle.pmap_text.specs.declared.window.Window.{Window}
 use Rattle.pmap_minimise.specs.Numbers.{IsCertified, has_number, IsExactSet}
 pub use Rattle.pmap_minimise.specs.declared.built.Built.{Built}
 pub use Rattle.pmap_minimise.specs.declared.built.Chain.{Chain}
@@ -95,7 +96,7 @@ pub record HasGrown (old new : Built) : Type 0 where
   pub chains : IsGrown old.chains.items new.chains.items
 
 -- the compacted lines of the block's node were added, and this is the node's claim
-pub record IsBuilt (s : StretchesModel) (a : Area) (old new : Built) (claim : Claim) : Type 0 where
+pub record IsBuilt (s : StretchesModel) (a : Window) (old new : Built) (claim : Claim) : Type 0 where
   pub tree : Tree
   pub node : Node
   pub compact : Node

@@ -1,5 +1,5 @@
 pub mod Numbers
 pub mod Listing
-pub mod Areas
+pub mod Runs
 pub mod Built
 pub mod Walks

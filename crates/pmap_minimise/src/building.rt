@@ -2,16 +2,17 @@
 ghost use Rattle.std.specs.Prelude.{◌≡◌, ◌+◌, ◌^◌, ◌<◌, IfOk, if◌then◌else◌, option_map};
 ghost use Rattle.std.specs.Option.{option_or};
 ghost use Rattle.pmap_cert.specs.Packed.{HasSet};
-ghost use Rattle.pmap_minimise.specs.Areas.{IsArea, number_at, own_label};
+ghost use Rattle.pmap_text.specs.Windows.{IsWindow, number_at};
+ghost use Rattle.pmap_minimise.specs.Runs.{IsCounted, own_label};
 ghost use Rattle.pmap_minimise.specs.Built.{AddsChain, AddsInner, AddsLeaf, HasAscendingSet, IsBuilt, IsBuiltFor};
 ghost use Rattle.pmap_minimise.specs.Numbers.{has_number, numbers_of};
 
-use crate::area::{Area, halves, own_label, run_end};
 use crate::built::{Built, Chain, Claim, Line};
 use crate::entering::has_label;
+use crate::runs::{own_label, run_end};
 use crate::sets::joined;
 use pmap_cert::SetPool;
-use pmap_text::{LabelId, MapText, Stretches};
+use pmap_text::{LabelId, MapText, Stretches, Window};
 use std::alloc::{AllocError, Global};
 use std::slice;
 
@@ -76,66 +77,66 @@ fn push_chain(
 }
 
 // Adds the lines of a block, and returns the claim of its node.
-#[cycle(area)]
+#[cycle(window)]
 #[inline(always)]
-fn push_area(
+fn push_window(
     alloc: Global,
     built: &mut Built,
     stretches: &Stretches,
-    area: &Area,
+    window: &Window,
 ) -> Result<Claim, AllocError>
-    requires { IsArea stretches.now area.now }
-    ensures { IfOk result (IsBuilt stretches.now area.now built.old built.new) }
+    requires { IsCounted stretches.now window.now }
+    ensures { IfOk result (IsBuilt stretches.now window.now built.old built.new) }
 {
-    if area.from < area.to {
-        return push_divided(alloc, built, stretches, area);
+    if window.from < window.to {
+        return push_divided(alloc, built, stretches, window);
     }
-    let Some(id) = stretches.label(area.from) else {
+    let Some(id) = stretches.label(window.from) else {
         unreachable!()
     };
     push_leaf(built, id)
 }
 
 // Adds the lines of a block with addresses of two stretches or more, and returns the claim of its node.
-#[cycle(area)]
+#[cycle(window)]
 fn push_divided(
     alloc: Global,
     built: &mut Built,
     stretches: &Stretches,
-    area: &Area,
+    window: &Window,
 ) -> Result<Claim, AllocError>
-    requires area { IsArea stretches.now area.now }
-    requires divided { area.now.from < area.now.to }
-    ensures { IfOk result (IsBuilt stretches.now area.now built.old built.new) }
+    requires counted { IsCounted stretches.now window.now }
+    requires divided { window.now.from < window.now.to }
+    ensures { IfOk result (IsBuilt stretches.now window.now built.old built.new) }
 {
-    let (low, high) = halves(stretches, area);
+    let (low, high) = window.halves(stretches);
     if let Some(side) = side_of(stretches, &low, &high) {
-        let end = run_end(stretches, area, side);
-        let bits = end.len - area.len;
+        let end = run_end(stretches, window, side);
+        let bits = end.len - window.len;
         if bits >= 2 {
-            let below = push_area(alloc, built, stretches, &end)?;
+            let below = push_window(alloc, built, stretches, &end)?;
             return push_chain(built, below, side, number_of(stretches, &end), bits);
         }
     }
-    let above = push_area(alloc, built, stretches, &high)?;
-    let below = push_area(alloc, built, stretches, &low)?;
+    let above = push_window(alloc, built, stretches, &high)?;
+    let below = push_window(alloc, built, stretches, &low)?;
     push_inner(alloc, built, below, above)
 }
 
 // Returns the number of a block among the blocks of its size. The block is not the whole address space.
-fn number_of(stretches: &Stretches, area: &Area) -> u128
-    requires area { IsArea stretches.now area.now }
-    requires some { 0 < area.now.len }
-    ensures { result ≡ number_at stretches.now area.now }
+fn number_of(stretches: &Stretches, window: &Window) -> u128
+    requires window { IsWindow stretches.now window.now }
+    requires some { 0 < window.now.len }
+    ensures { result ≡ number_at stretches.now window.now }
 {
-    area.first >> (stretches.version().width() - area.len)
+    window.first >> (stretches.version().width() - window.len)
 }
 
 // Returns the side label of the run from the block with these halves: the first label that a half has alone.
 #[inline(always)]
-fn side_of(stretches: &Stretches, low: &Area, high: &Area) -> Option<LabelId>
-    requires low { IsArea stretches.now low.now }
-    requires high { IsArea stretches.now high.now }
+fn side_of(stretches: &Stretches, low: &Window, high: &Window) -> Option<LabelId>
+    requires low { IsWindow stretches.now low.now }
+    requires high { IsWindow stretches.now high.now }
     ensures { option_map (λ id. id.0) result
         ≡ option_or (own_label stretches.now low.now) (own_label stretches.now high.now) }
 {
@@ -156,13 +157,6 @@ pub fn built(alloc: Global, map: &MapText) -> Result<Built, AllocError>
         chains: Vec::new(alloc),
         sets: SetPool::new(alloc),
     };
-    let whole = Area {
-        first: 0,
-        last: stretches.last(to),
-        len: 0,
-        from: 0,
-        to,
-    };
-    push_area(alloc, &mut built, &stretches, &whole)?;
+    push_window(alloc, &mut built, &stretches, &Window::whole(&stretches))?;
     Ok(built)
 }

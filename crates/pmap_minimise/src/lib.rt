@@ -19,7 +19,6 @@
 //! `certificate_text` the text of the certificate, and `compact_text` the text of the compacted certificate.
 #![tactic(auto)]
 
-mod area;
 mod building;
 mod built;
 mod compacting;
@@ -27,6 +26,7 @@ mod entering;
 mod listing;
 mod minimal;
 mod opening;
+mod runs;
 mod sets;
 mod walks;
 

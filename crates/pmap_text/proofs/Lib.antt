@@ -27,3 +27,5 @@ pub mod Layered
 pub mod Painted
 pub mod Longest
 pub mod ListPainted
+pub mod BlockHalves
+pub mod Windows

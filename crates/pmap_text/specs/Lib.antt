@@ -11,3 +11,4 @@ pub mod Inner
 pub mod Progress
 pub mod Stretches
 pub mod Starting
+pub mod Windows

@@ -47,6 +47,7 @@ mod statements;
 mod stretches;
 mod sweep;
 mod texts;
+mod window;
 
 pub use entries::Entries;
 pub use entry::Entry;
@@ -59,7 +60,6 @@ pub use laws::{
     block_is_settled_in_one_stretch, longest_match_counts, order_of_entries_is_free,
     settled_block_has_its_label,
 };
-pub use list_statements::statements_of_list;
 pub use map_text::MapText;
 pub use name::Name;
 pub use order::{by_rank, in_order};
@@ -68,5 +68,5 @@ pub use reading::{LABEL_LIMIT, MAPPING_LIMIT};
 pub use statement::Statement;
 pub use statements::Statements;
 pub use stretches::Stretches;
-pub use sweep::last_address;
 pub use texts::{read_list, read_list_with_hashing, read_map, read_map_with_hashing};
+pub use window::Window;

@@ -16,9 +16,7 @@ use std::alloc::{AllocError, Global};
 /// The last statement that covers an address is then that of the longest entry that covers it.
 pub fn statements_of_list(alloc: Global, list: &PrefixList) -> Result<Statements, AllocError>
     ensures order { IfOk result (λ ss. AreShortestFirst list.now.entries ss) }
-    ensures version { IfOk result (λ ss. All (λ s. s.span.low.version ≡ list.now.version) ss) }
     ensures known { IfOk result (λ ss. All (λ s. s.label.0 < length list.now.labels) ss) }
-    ensures count { IfOk result (λ ss. length ss ≡ length list.now.entries) }
     ensures labels { IfOk result (λ ss. (a : ℕ) →
         text_won list.now.labels None ss a ≡ list_label (list_of list.now) a) }
 {

@@ -1,14 +1,19 @@
-ghost use Rattle.std.specs.Prelude.{◌≡◌, ℕ, ◌+◌, ◌-◌, ◌^◌, ◌<◌, ◌≤◌, ◌++◌, ◌∷◌, [], Some, All, IfOk, OnOk, length};
+ghost use Rattle.std.specs.Prelude.{◌≡◌, ℕ, ◌+◌, ◌-◌, ◌^◌, ◌<◌, ◌≤◌, ◌++◌, ◌∷◌, [], List, None, Some, All, IfOk, OnOk, length};
 ghost use Rattle.std.specs.Option.{ForSome};
 ghost use Rattle.prefix_keys.specs.Block.{width_of};
 ghost use Rattle.pmap_text.specs.Stretches.{label_kept, AreLabelsBelow, AreStretches, HasEveryAddress, HoldsAddress, first_at, label_at, label_seen, last_at, text_held, text_won};
+ghost use Rattle.pmap_text.specs.ListModel.{list_label};
 ghost use Rattle.pmap_text.specs.MapModel.{map_label};
 ghost use Rattle.pmap_text.specs.MapText.{map_of};
+ghost use Rattle.pmap_text.specs.PrefixList.{AreShortestFirst, list_of};
+ghost use Rattle.pmap_text.specs.declared.statement.Statement.{Statement};
 ghost use Rattle.pmap_text.specs.Inner.{statement_won};
 
 use crate::label::LabelId;
 use crate::labels::Labels;
+use crate::list_statements::statements_of_list;
 use crate::map_text::MapText;
+use crate::prefix_list::PrefixList;
 use crate::statements::Statements;
 use crate::sweep::{Sweep, last_address};
 use prefix_keys::Version;
@@ -133,6 +138,19 @@ impl Stretches {
     {
         let default = Some(map.default);
         Stretches::new(alloc, map.version, default, &map.labels, &map.statements)
+    }
+
+    /// Returns the stretches of a prefix list.
+    pub fn of_list(alloc: Global, list: &PrefixList) -> Result<Stretches, AllocError>
+        ensures version { IfOk result (λ s. s.version ≡ list.now.version) }
+        ensures stretches { IfOk result (λ s. (ss : List Statement) ×
+            AreShortestFirst list.now.entries ss × AreStretches ss None s) }
+        ensures known { IfOk result (AreLabelsBelow (length list.now.labels)) }
+        ensures labels { IfOk result (λ s. (a : ℕ) → a < 2 ^ width_of list.now.version →
+            text_held list.now.labels s a ≡ list_label (list_of list.now) a) }
+    {
+        let statements = statements_of_list(alloc, list)?;
+        Stretches::new(alloc, list.version, None, &list.labels, &statements)
     }
 
     // Returns one stretch that has all addresses of the version.

@@ -8,7 +8,7 @@ ghost use Rattle.flowlabel.specs.Output.{PrintsRuns};
 
 use crate::run::loaded::LoadedLabels;
 use pmap_print::{labelling_has_one_runs_text, print_runs};
-use pmap_text::{MapText, PrefixList, Stretches, statements_of_list};
+use pmap_text::{MapText, PrefixList, Stretches};
 use std::alloc::{AllocError, Global};
 
 fn runs_of_map(alloc: Global, map: &MapText) -> Result<Vec<u8>, AllocError>
@@ -25,8 +25,7 @@ fn runs_of_list(alloc: Global, list: &PrefixList) -> Result<Vec<u8>, AllocError>
 {
     // Provides the law that labellings that agree on each address have one text of their runs.
     labelling_has_one_runs_text();
-    let statements = statements_of_list(alloc, list)?;
-    let stretches = Stretches::new(alloc, list.version, None, &list.labels, &statements)?;
+    let stretches = Stretches::of_list(alloc, list)?;
     print_runs(alloc, &stretches, &list.labels)
 }
 

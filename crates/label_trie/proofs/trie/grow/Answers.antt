@@ -1,22 +1,15 @@
-use Rattle.label_trie.proofs.Built.{room_at_root, space_part, space_tree}
+use Rattle.label_trie.proofs.Built.{room_at_root, space_tree}
 use Rattle.label_trie.proofs.trie.grow.Goals as goal
-
-pub push_block-requires-clause-part : goal.push_block-requires-clause-part
-push_block-requires-clause-part c =
-    let version = c.version.ensures in
-    let count = c.len.ensures.value in
-    let end = rw version at c.last_address.ensures in
-    rw count (space_part c.args.stretches.now c.last_address.result c.len.ensures.every end)
 
 pub push_block-requires-clause-room : goal.push_block-requires-clause-room
 push_block-requires-clause-room c = record {
   statements = c.requires.0;
   default = c.requires.1;
   are = c.requires.2;
-  room = room_at_root c.args.stretches.now.version c.requires.0 c.new-nodes.result.items c.new-nodes.ensures.items c.requires.3;
+  room = room_at_root c.args.stretches.now c.whole.result c.whole.ensures.first c.whole.ensures.len c.requires.0 c.new-nodes.result.items c.new-nodes.ensures.items c.requires.3;
 }
 
 pub returns : goal.returns
 returns c =
-    space_tree c.args.stretches.now c.last_address.result c.new-nodes.result.items c.push_block.new.nodes.items c.new-nodes.ensures.items
-    c.in_ok-push_block.ensures
+    space_tree c.args.stretches.now c.whole.result c.whole.ensures.first c.whole.ensures.len c.new-nodes.result.items c.push_block.new.nodes.items
+    c.new-nodes.ensures.items c.in_ok-push_block.ensures

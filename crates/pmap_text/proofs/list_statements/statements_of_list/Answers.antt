@@ -24,14 +24,8 @@ returns-clause-order c =
 known : (c : Joined-sorted) → IfOk c.statements_of.result (AreStatementsOf c.args.list.now)
 known c = IfOk-weaker c.statements_of.result _ _ (statements_of c.args.list.now) (returns-clause-order c)
 
-pub returns-clause-version : goal.returns-clause-version
-returns-clause-version c = IfOk-weaker c.statements_of.result _ _ (λ ss are. are.version) (known c)
-
 pub returns-clause-known : goal.returns-clause-known
 returns-clause-known c = IfOk-weaker c.statements_of.result _ _ (λ ss are. are.known) (known c)
-
-pub returns-clause-count : goal.returns-clause-count
-returns-clause-count c = IfOk-weaker c.statements_of.result _ _ (λ ss are. are.count) (known c)
 
 pub returns-clause-labels : goal.returns-clause-labels
 returns-clause-labels c = IfOk-weaker c.statements_of.result _ _ (λ ss are. are.labels) (known c)

@@ -1,4 +1,4 @@
-use Rattle.std.proofs.Common.{◌∙◌, refl}
+use Rattle.std.proofs.Common.{refl}
 use Rattle.std.proofs.lemmas.Result.{IfOk-weaker}
 use Rattle.pmap_text.specs.ListModel.{list_label}
 use Rattle.pmap_text.specs.PrefixList.{list_of}
@@ -15,8 +15,7 @@ returns c =
     (λ out is. (
       out.items,
       alike list.version (list_label (list_of list)) _ out.items (same_at_addresses list.version (list_label (list_of list)))
-          (alike list.version (text_held list.labels c.in_ok-stretches.stretches) (list_label (list_of list)) out.items
-          (λ a below. c.in_ok-stretches.ensures.labels a below ∙ c.in_ok-statements.ensures.labels a) (rw version at is)),
+          (alike list.version (text_held list.labels c.in_ok-stretches.stretches) (list_label (list_of list)) out.items c.in_ok-stretches.ensures.labels (rw version at is)),
       refl,
     ))
     c.print_runs.ensures

@@ -1,4 +1,3 @@
-use Rattle.std.proofs.Common.{◌∙◌}
 use Rattle.pmap_text.specs.ListModel.{list_label}
 use Rattle.pmap_text.specs.PrefixList.{list_of}
 use Rattle.pmap_text.specs.Stretches.{text_held}
@@ -9,5 +8,4 @@ pub returns : goal.returns
 returns c =
     let list = c.args.list.now in
     let version = c.in_ok-stretches.ensures.version in
-    rw version (alike list.version (text_held list.labels c.in_ok-stretches.stretches) (list_label (list_of list))
-    (λ a below. c.in_ok-stretches.ensures.labels a below ∙ c.in_ok-statements.ensures.labels a))
+    rw version (alike list.version (text_held list.labels c.in_ok-stretches.stretches) (list_label (list_of list)) c.in_ok-stretches.ensures.labels)

@@ -4,14 +4,14 @@ use Rattle.std.specs.Int.Count.{count_leading_zeros}
 use Rattle.prefix_keys.specs.Block.{block_number, first_of, width_of}
 use Rattle.prefix_keys.specs.declared.version.Version.{Version}
 use Rattle.pmap_minimise.proofs.RunEnds.{block-last, direct-end, trimmed}
-use Rattle.pmap_minimise.proofs.area.run_end.Goals as goal
-use Rattle.pmap_minimise.proofs.area.run_end.Goals.{then-first-low, else-first-low}
+use Rattle.pmap_minimise.proofs.runs.run_end.Goals as goal
+use Rattle.pmap_minimise.proofs.runs.run_end.Goals.{then-first-low, else-first-low}
 
 pub overflow_sub-len-2 : goal.overflow_sub-len-2
 overflow_sub-len-2 c =
     let s = c.args.stretches.now in
-    let a = c.args.area.now in
-    let is = c.requires.area in
+    let a = c.args.window.now in
+    let is = c.requires.counted in
     let inner = trimmed s c.args.side.0 a is c.requires.divided c.is_side.result c.is_side-2.result c.max-low.result c.min-high.result (a.from + c.from.result) (a.to - c.from-2.result)
     c.is_side.ensures.0 c.is_side-2.ensures.0 (ap (λ (n : ℕ). a.from + n) c.from.ensures) (ap (λ (n : ℕ). a.to - n) c.from-2.ensures)
     (c.max-low.ensures ∙ ap (max a.first) c.first.ensures) (c.min-high.ensures ∙ ap (min a.last) c.last.ensures)
@@ -23,8 +23,8 @@ overflow_sub-len-2 c =
 pub returns-then-last-high : goal.returns-then-last-high
 returns-then-last-high c =
     let s = c.args.stretches.now in
-    let a = c.args.area.now in
-    let is = c.requires.area in
+    let a = c.args.window.now in
+    let is = c.requires.counted in
     let inner = trimmed s c.args.side.0 a is c.requires.divided c.is_side.result c.is_side-2.result c.max-low.result c.min-high.result (a.from + c.from.result) (a.to - c.from-2.result)
     c.is_side.ensures.0 c.is_side-2.ensures.0 (ap (λ (n : ℕ). a.from + n) c.from.ensures) (ap (λ (n : ℕ). a.to - n) c.from-2.ensures)
     (c.max-low.ensures ∙ ap (max a.first) c.first.ensures) (c.min-high.ensures ∙ ap (min a.last) c.last.ensures)
@@ -47,8 +47,8 @@ returns-then-last-high c =
 pub returns-else-last-high : goal.returns-else-last-high
 returns-else-last-high c =
     let s = c.args.stretches.now in
-    let a = c.args.area.now in
-    let is = c.requires.area in
+    let a = c.args.window.now in
+    let is = c.requires.counted in
     let inner = trimmed s c.args.side.0 a is c.requires.divided c.is_side.result c.is_side-2.result c.max-low.result c.min-high.result (a.from + c.from.result) (a.to - c.from-2.result)
     c.is_side.ensures.0 c.is_side-2.ensures.0 (ap (λ (n : ℕ). a.from + n) c.from.ensures) (ap (λ (n : ℕ). a.to - n) c.from-2.ensures)
     (c.max-low.ensures ∙ ap (max a.first) c.first.ensures) (c.min-high.ensures ∙ ap (min a.last) c.last.ensures)

@@ -1,161 +1,94 @@
 -- Blocks of addresses with the stretches at their ends, and a block's node of the certificate.
-use Rattle.std.proofs.Common.{◌≡◌, ℕ, zero, suc, ◌+◌, ◌-◌, ◌*◌, ◌/◌, ◌^◌, ◌<◌, ◌≤◌, inl, inr, ◌∙◌, ◌==◌, List, [], ◌∷◌, Option, Some, None, option_map, length, refl, sym, ap, subst, arith}
+use Rattle.std.proofs.Common.{◌≡◌, ℕ, zero, suc, ◌+◌, ◌-◌, ◌*◌, ◌/◌, ◌^◌, ◌<◌, ◌≤◌, inl, inr, ◌∙◌, ◌==◌, List, [], ◌∷◌, Option, Some, None, option_map, refl, sym, ap, subst, arith}
 use Rattle.std.proofs.lemmas.Bool.{cases_lt, cond-false, cond-true, eq-eqb, ne_eqb}
 use Rattle.std.proofs.Math.Nat.{pow-suc}
 use Rattle.std.proofs.lemmas.Nat.{pow_pos}
 use Rattle.std.proofs.lemmas.Option.{none-some, same_Some}
 use Rattle.std.specs.Option.{option_or}
-use Rattle.prefix_keys.specs.Block.{block_number, first_of, last_of, width_of}
+use Rattle.prefix_keys.specs.Block.{first_of, last_of, width_of}
 use Rattle.prefix_keys.specs.declared.version.Version.{Version}
 use Rattle.prefix_keys.proofs.Quotients.{above_first, below_end, quotient_is}
 use Rattle.pmap_text.specs.Stretches.{AreStretches, HasEveryAddress, HasStretch, HoldsAddress, StretchesModel, first_at, label_at, last_at}
 use Rattle.pmap_text.specs.declared.label.LabelId.{LabelId}
 use Rattle.pmap_text.specs.declared.statement.Statement.{Statement}
-use Rattle.pmap_text.proofs.Ranges.{ends_before, held_index, last_end, next_first, ordered_at}
 use Rattle.pmap_cert.specs.CertificateText.{IsAscending}
 use Rattle.pmap_cert.specs.Node.{Inner, Leaf, Node, label_of, set_of}
 use Rattle.pmap_cert.specs.Inner.{bits_down, end_down, side_below}
-use Rattle.label_trie.specs.Inner.{IsBlock, parted_sum, encode, leaf_node}
+use Rattle.label_trie.specs.Inner.{window_sum, encode, leaf_node}
 use Rattle.label_trie.specs.Tree.{Fork, Tip, Tree}
-use Rattle.label_trie.proofs.Grown.{IsSplit, block_some, is_split, leaf_added}
-use Rattle.pmap_minimise.specs.Areas.{AreFew, AreHalvesOf, IsArea, IsChoice, IsMade, IsRun, IsStep, IsStop, IsTreeOf, number_at, own_label, Area}
+use Rattle.label_trie.proofs.Grown.{IsSplit, halves_sum, leaf_added, window_split}
+use Rattle.pmap_text.specs.Windows.{AreHalvesOf, IsWindow, number_at}
+use Rattle.pmap_text.specs.declared.window.Window.{Window}
+use Rattle.pmap_text.proofs.Windows.{block_some, one_index, ordered_window}
+use Rattle.pmap_minimise.specs.Runs.{AreCountedHalves, IsCounted, IsChoice, IsMade, IsRun, IsStep, IsStop, IsTreeOf, own_label}
 use Rattle.pmap_cert.specs.Paths.{digit, path_to}
 use Rattle.pmap_minimise.specs.Built.{cost_above, node_over, set_above, path_node}
 use Rattle.pmap_minimise.specs.Numbers.{IsExact}
 use Rattle.pmap_minimise.proofs.Paths.{above-ascending, down-high, down-low, down-none, path-high, path-low, path-set}
 
--- The stretches in their order.
-module _ (s : StretchesModel) (every : HasEveryAddress s) where
-  -- only one stretch has an address
-  pub one-index : (a i j : ℕ) → HoldsAddress s a i → HoldsAddress s a j → i ≡ j
-  one-index a i j first second = sym (held_index s every a i first) ∙ held_index s every a j second
+-- windows with equal parts are equal, so a block has only one pair of halves
+pub same-window : (a b : Window) → a.first ≡ b.first → a.last ≡ b.last → a.len ≡ b.len → a.from ≡ b.from → a.to ≡ b.to → a ≡ b
+same-window a b first last len from to = λ i. record { first = first i; last = last i; len = len i; from = from i; to = to i }
 
-  -- the address after a stretch's last one is in the next stretch
-  pub next-stretch : (a i : ℕ) → HoldsAddress s a i → a + 1 < 2 ^ width_of s.version → last_at s i ≡ a → HoldsAddress s (a + 1) (i + 1)
-  next-stretch a i holds below last =
-      elim (cases_lt (i + 1) (length s.firsts)) [
-        | inl more ↦
-            let next = next_first s every i more in
-            let some = ordered_at s every (i + 1) more in
-            record { index = more; from = omega arith; to = omega arith }
-        | inr end ↦
-            let most = last_end s i end in
-            absurd (omega arith)
-      ]
-
-  pub same-stretch : (a i : ℕ) → HoldsAddress s a i → (last_at s i ≡ a → ⊥) → HoldsAddress s (a + 1) i
-  same-stretch a i holds other =
-      let from = holds.from in
-      let to = holds.to in
-      record { index = holds.index; from = omega arith; to = omega (arith, other) }
-
--- areas with equal parts are equal, so a block has only one pair of halves
-pub same-area : (a b : Area) → a.first ≡ b.first → a.last ≡ b.last → a.len ≡ b.len → a.from ≡ b.from → a.to ≡ b.to → a ≡ b
-same-area a b first last len from to = λ i. record { first = first i; last = last i; len = len i; from = from i; to = to i }
-
-same-ends : (s : StretchesModel) (every : HasEveryAddress s) (a b : Area) → IsArea s a → IsArea s b → a.first ≡ b.first → a.last ≡ b.last → a.len ≡ b.len → a ≡ b
+same-ends : (s : StretchesModel) (every : HasEveryAddress s) (a b : Window) → IsWindow s a → IsWindow s b → a.first ≡ b.first → a.last ≡ b.last → a.len ≡ b.len → a ≡ b
 same-ends s every a b is is' first last len =
-    same-area a b first last len
-    (one-index s every b.first a.from b.from (subst (λ (x : ℕ). HoldsAddress s x a.from) first is.start) is'.start)
-    (one-index s every b.last a.to b.to (subst (λ (x : ℕ). HoldsAddress s x a.to) last is.end) is'.end)
+    same-window a b first last len
+    (one_index s every b.first a.from b.from (subst (λ (x : ℕ). HoldsAddress s x a.from) first is.start) is'.start)
+    (one_index s every b.last a.to b.to (subst (λ (x : ℕ). HoldsAddress s x a.to) last is.end) is'.end)
 
-pub record AreSameHalves (low high low' high' : Area) : Type 0 where
+pub record AreSameHalves (low high low' high' : Window) : Type 0 where
   pub low_is : low ≡ low'
   pub high_is : high ≡ high'
 
-pub same-halves : (s : StretchesModel) (a low high low' high' : Area) → AreHalvesOf s a low high → AreHalvesOf s a low' high' → AreSameHalves low high low' high'
-same-halves s a low high low' high' are are' =
-    let every = are.low_area.few.stretches.every in
+pub same-halves : (s : StretchesModel) (a low high low' high' : Window) → AreCountedHalves s a low high → AreCountedHalves s a low' high' → AreSameHalves low high low' high'
+same-halves s a low high low' high' counted counted' =
+    let every = counted.low_counted.few.stretches.every in
+    let are = counted.halves in
+    let are' = counted'.halves in
     record {
-      low_is = same-ends s every low low' are.low_area are'.low_area (are.low_first ∙ sym are'.low_first) (are.low_last ∙ sym are'.low_last) (are.low_len ∙ sym are'.low_len);
-      high_is = same-ends s every high high' are.high_area are'.high_area (are.high_first ∙ sym are'.high_first) (are.high_last ∙ sym are'.high_last) (are.high_len ∙ sym are'.high_len);
+      low_is = same-ends s every low low' are.low_window are'.low_window (are.low_first ∙ sym are'.low_first) (are.low_last ∙ sym are'.low_last) (are.low_len ∙ sym are'.low_len);
+      high_is = same-ends s every high high' are.high_window are'.high_window (are.high_first ∙ sym are'.high_first) (are.high_last ∙ sym are'.high_last) (are.high_len ∙ sym are'.high_len);
     }
 
 -- the own label of a block, by whether the block is in one stretch
-pub own-none : (s : StretchesModel) (a : Area) → a.from < a.to → own_label s a ≡ None
+pub own-none : (s : StretchesModel) (a : Window) → a.from < a.to → own_label s a ≡ None
 own-none s a less = cond-false (a.from == a.to) (option_map (λ (id : LabelId). id.0) (label_at s a.from)) None (ne_eqb a.from a.to (λ same. absurd (omega arith)))
 
-pub own-is : (s : StretchesModel) (a : Area) → a.from ≡ a.to → own_label s a ≡ option_map (λ (id : LabelId). id.0) (label_at s a.from)
+pub own-is : (s : StretchesModel) (a : Window) → a.from ≡ a.to → own_label s a ≡ option_map (λ (id : LabelId). id.0) (label_at s a.from)
 own-is s a same = cond-true (a.from == a.to) (option_map (λ (id : LabelId). id.0) (label_at s a.from)) None (eq-eqb a.from a.to same)
 
 -- a block with an own label is in one stretch
-pub own-single : (s : StretchesModel) (a : Area) (n : ℕ) → a.from ≤ a.to → own_label s a ≡ Some n → a.from ≡ a.to
+pub own-single : (s : StretchesModel) (a : Window) (n : ℕ) → a.from ≤ a.to → own_label s a ≡ Some n → a.from ≡ a.to
 own-single s a n ordered own =
     elim (cases_lt a.from a.to) [
       | inl less ↦ absurd (none-some n (sym (own-none s a less) ∙ own))
       | inr most ↦ omega arith
     ]
 
--- A block with addresses of two stretches.
-module _ (s : StretchesModel) (a : Area) (is : IsArea s a) where
-  abbrev W : ℕ
-  W = width_of s.version
+-- a block with addresses of two stretches is divided, and its halves can be counted
+module _ (s : StretchesModel) (a : Window) (is : IsCounted s a) (divided : a.from < a.to) where
+  pub window-split : (ss : List Statement) (default : Option LabelId) → AreStretches ss default s → IsSplit (width_of s.version) a.len (number_at s a) ss
+  window-split ss default are = window_split s a is.window ss default are (λ same. absurd (omega arith))
 
-  abbrev q : ℕ
-  q = number_at s a
+  pub counted-sum : (low high : Window) → AreHalvesOf s a low high → 1 + (window_sum s low is.few.statements + window_sum s high is.few.statements) ≤ window_sum s a is.few.statements
+  counted-sum low high are = halves_sum s a is.window is.few.statements is.few.default is.few.stretches low high are (λ same. absurd (omega arith))
 
-  module _ (divided : a.from < a.to) where
-    beyond : last_at s a.from < a.last
-    beyond =
-        let after = ends_before s is.few.stretches.every a.from a.to divided is.end.index in
-        let from = is.end.from in
-        omega arith
-
-    pub area-split : (ss : List Statement) (default : Option LabelId) → AreStretches ss default s → IsSplit W a.len a.first a.last ss
-    area-split ss default are =
-        is_split s.version a.len a.first a.last (first_at s a.from) (last_at s a.from) ss default (label_at s a.from) (are.each a.from is.start.index)
-        is.within is.block is.start.from is.start.to beyond
-
-    abbrev middle : ℕ
-    middle = a.first + (a.last - a.first) / 2
-
-    module _ (low high : Area) (low_first : low.first ≡ a.first) (low_last : low.last ≡ middle) (high_first : high.first ≡ middle + 1) (high_last : high.last ≡ a.last)
-        (low_len : low.len ≡ a.len + 1) (high_len : high.len ≡ a.len + 1) (low_from : low.from ≡ a.from) (high_to : high.to ≡ a.to)
-        (low_end : HoldsAddress s low.last low.to) (high_start : HoldsAddress s high.first high.from) (low_order : low.from ≤ low.to) (high_order : high.from ≤ high.to) where
-      own_split : IsSplit W a.len a.first a.last is.few.statements
-      own_split = area-split is.few.statements is.few.default is.few.stretches
-
-      low_block : IsBlock W low.first low.last low.len (number_at s low)
-      low_block = rw (low_first, low_last, low_len) own_split.halves.low
-
-      high_block : IsBlock W high.first high.last high.len (number_at s high)
-      high_block = rw (high_first, high_last, high_len) own_split.halves.high
-
-      half_few : (h : Area) → parted_sum W (W - h.len) h.len (number_at s h) is.few.statements + 1 < 2 ^ 32 → AreFew s h
-      half_few h few = record { statements = is.few.statements; default = is.few.default; labelled = is.few.labelled; stretches = is.few.stretches; few = few }
-
-      pub are-halves : AreHalvesOf s a low high
-      are-halves =
-          let below = own_split.below in
-          let sum = own_split.sum in
-          let few = is.few.few in
-          record {
-            divided = divided;
-            low_area = record {
-              within = omega arith;
-              block = low_block;
-              ordered = low_order;
-              start = rw (low_first, low_from) is.start;
-              end = low_end;
-              few = half_few low (rw (low_first, low_len) (omega arith));
-            };
-            high_area = record {
-              within = omega arith;
-              block = high_block;
-              ordered = high_order;
-              start = high_start;
-              end = rw (high_last, high_to) is.end;
-              few = half_few high (rw (high_first, high_len) (omega arith));
-            };
-            low_first = low_first;
-            low_last = low_last;
-            high_first = high_first;
-            high_last = high_last;
-            low_len = low_len;
-            high_len = high_len;
-            low_number = rw (low_first, low_len) own_split.halves.low_number;
-            high_number = rw (high_first, high_len) own_split.halves.high_number;
-          }
+  pub counted-halves : (low high : Window) → AreHalvesOf s a low high → AreCountedHalves s a low high
+  counted-halves low high are =
+      let sum = counted-sum low high are in
+      let few = is.few.few in
+      record {
+        divided = divided;
+        halves = are;
+        low_counted = half low are.low_window (omega arith);
+        high_counted = half high are.high_window (omega arith);
+      }
+    where
+      half : (h : Window) → IsWindow s h → window_sum s h is.few.statements + 1 < 2 ^ 32 → IsCounted s h
+      half h window few = record {
+        window = window;
+        few = record { statements = is.few.statements; default = is.few.default; labelled = is.few.labelled; stretches = is.few.stretches; few = few };
+      }
 
 -- The trees of blocks.
 
@@ -177,12 +110,10 @@ leaf-tree v ss default n q first last label has within from to =
     subst (IsTreeOf v ss default n q) tree_is (record { fits = added.fits; labelled = added.labelled; few = added.few })
 
 -- the tree of a block with addresses of two stretches is built from those of its halves
-fork-tree : (v : Version) (ss : List Statement) (default : Option LabelId) (n first last : ℕ) (low high : Tree) → IsSplit (width_of v) n first last ss
-    → IsTreeOf v ss default (suc n) (2 * block_number (width_of v) n first) low → IsTreeOf v ss default (suc n) (2 * block_number (width_of v) n first + 1) high
-    → IsTreeOf v ss default n (block_number (width_of v) n first) (Fork low high)
-fork-tree v ss default n first last low high split lower upper =
-    let next : n + 1 ≡ suc n = omega arith in
-    let sum = rw (split.halves.low_number, split.halves.high_number, next) at split.sum in
+fork-tree : (v : Version) (ss : List Statement) (default : Option LabelId) (n q : ℕ) (low high : Tree) → IsSplit (width_of v) n q ss
+    → IsTreeOf v ss default (suc n) (2 * q) low → IsTreeOf v ss default (suc n) (2 * q + 1) high → IsTreeOf v ss default n q (Fork low high)
+fork-tree v ss default n q low high split lower upper =
+    let sum = split.sum in
     let below = split.below in
     record {
       fits = λ m is. (
@@ -204,18 +135,18 @@ own-label-is None n is = absurd (none-some n is)
 own-label-is (Some id) n is = ap (λ (k : ℕ). Some (id_of k)) (same_Some id.0 n is)
 
 -- a block in one stretch has the node of a leaf
-pub leaf-made : (s : StretchesModel) (a : Area) (n : ℕ) → IsArea s a → own_label s a ≡ Some n → n < 2 ^ 32 → IsMade s a (Tip (Some (id_of n))) (Leaf n)
+pub leaf-made : (s : StretchesModel) (a : Window) (n : ℕ) → IsCounted s a → own_label s a ≡ Some n → n < 2 ^ 32 → IsMade s a (Tip (Some (id_of n))) (Leaf n)
 leaf-made s a n is own fits =
-    let single = own-single s a n is.ordered own in
+    let single = own-single s a n is.window.ordered own in
     let label : label_at s a.from ≡ Some (id_of n) = own-label-is (label_at s a.from) n (sym (own-is s a single) ∙ own) in
-    let first_is = is.block.first_is in
-    let last_is = is.block.last_is in
-    let from = is.start.from in
-    let to = is.end.to in
+    let first_is = is.window.block.first_is in
+    let last_is = is.window.block.last_is in
+    let from = is.window.start.from in
+    let to = is.window.end.to in
     record {
       tree_of = λ ss default are.
           subst (λ (l : Option LabelId). IsTreeOf s.version ss default a.len (number_at s a) (Tip l)) label
-          (leaf-tree s.version ss default a.len (number_at s a) (first_at s a.from) (last_at s a.from) (label_at s a.from) (are.each a.from is.start.index) is.within
+          (leaf-tree s.version ss default a.len (number_at s a) (first_at s a.from) (last_at s a.from) (label_at s a.from) (are.each a.from is.window.start.index) is.window.within
           (omega arith) (subst (λ (k : ℕ). last_of (width_of s.version) a.len (number_at s a) ≤ last_at s k) (sym single) (omega arith)));
       node_is = refl;
       ascending = (omega arith, fits, tt);
@@ -225,19 +156,19 @@ leaf-made s a n is own fits =
     }
 
 -- the node of a block is built from those of its halves
-pub halves-made : (s : StretchesModel) (a low high : Area) (low_tree high_tree : Tree) (lower upper : Node) (cost : ℕ) (set : List ℕ) → IsArea s a → AreHalvesOf s a low high
+pub halves-made : (s : StretchesModel) (a low high : Window) (low_tree high_tree : Tree) (lower upper : Node) (cost : ℕ) (set : List ℕ) → IsCounted s a → AreCountedHalves s a low high
     → IsMade s low low_tree lower → IsMade s high high_tree upper → IsExact lower upper cost set → IsAscending (2 ^ 32) 0 set
     → IsMade s a (Fork low_tree high_tree) (Inner cost set lower upper)
 halves-made s a low high low_tree high_tree lower upper cost set is are low_made high_made exact ascending = record {
   tree_of = λ ss default stretches.
       let next : a.len + 1 ≡ suc a.len = omega arith in
       let low_is : IsTreeOf s.version ss default (suc a.len) (2 * number_at s a) low_tree =
-      subst (λ (n : ℕ). IsTreeOf s.version ss default n (2 * number_at s a) low_tree) (are.low_len ∙ next)
-      (subst (λ (n : ℕ). IsTreeOf s.version ss default low.len n low_tree) are.low_number (low_made.tree_of ss default stretches)) in
+      subst (λ (n : ℕ). IsTreeOf s.version ss default n (2 * number_at s a) low_tree) (are.halves.low_len ∙ next)
+      (subst (λ (n : ℕ). IsTreeOf s.version ss default low.len n low_tree) are.halves.low_number (low_made.tree_of ss default stretches)) in
       let high_is : IsTreeOf s.version ss default (suc a.len) (2 * number_at s a + 1) high_tree =
-      subst (λ (n : ℕ). IsTreeOf s.version ss default n (2 * number_at s a + 1) high_tree) (are.high_len ∙ next)
-      (subst (λ (n : ℕ). IsTreeOf s.version ss default high.len n high_tree) are.high_number (high_made.tree_of ss default stretches)) in
-      fork-tree s.version ss default a.len a.first a.last low_tree high_tree (area-split s a is are.divided ss default stretches) low_is high_is;
+      subst (λ (n : ℕ). IsTreeOf s.version ss default n (2 * number_at s a + 1) high_tree) (are.halves.high_len ∙ next)
+      (subst (λ (n : ℕ). IsTreeOf s.version ss default high.len n high_tree) are.halves.high_number (high_made.tree_of ss default stretches)) in
+      fork-tree s.version ss default a.len (number_at s a) low_tree high_tree (window-split s a is are.divided ss default stretches) low_is high_is;
   node_is = (lower, upper, low_made.node_is, high_made.node_is, (refl, refl, exact));
   ascending = ascending;
   own = sym (own-none s a are.divided);
@@ -257,7 +188,7 @@ halves-made s a low high low_tree high_tree lower upper cost set is are low_made
 }
 
 -- if no step leads on from a block, its node has no run
-pub made-stop : (s : StretchesModel) (side : ℕ) (a : Area) (tree : Tree) (node : Node) → IsMade s a tree node → IsStop s side a
+pub made-stop : (s : StretchesModel) (side : ℕ) (a : Window) (tree : Tree) (node : Node) → IsMade s a tree node → IsStop s side a
     → (bits_down side node ≡ []) × (end_down side node ≡ node)
 made-stop s side a tree node made (inl single) =
     let leaf = made.single single in
@@ -282,10 +213,10 @@ path_tree side value zero end = end
 path_tree side value (suc bits) end = tree_over (digit value bits) (path_tree side value bits end) (Tip (Some (id_of side)))
 
 -- the end lies in the block, `count` bits deeper
-pub record IsBelow (s : StretchesModel) (count : ℕ) (a end : Area) : Type 0 where
+pub record IsBelow (s : StretchesModel) (count : ℕ) (a end : Window) : Type 0 where
   pub len : end.len ≡ a.len + count
   pub number : number_at s end / 2 ^ count ≡ number_at s a
-  pub area : IsArea s end
+  pub counted : IsCounted s end
   pub smaller : end.last - end.first + count ≤ a.last - a.first
 
 halved : (e P q d : ℕ) → 0 < P → d < 2 → e / P ≡ 2 * q + d → e / (2 * P) ≡ q
@@ -303,32 +234,31 @@ halved e P q d some small is =
     upper q (suc (suc d)) P small less = absurd (omega arith)
 
 -- a step chooses the lower half if the digit is 0, and the higher one if it is 1
-pub record IsStepBy (s : StretchesModel) (side : ℕ) (a chosen : Area) : Type 0 where
+pub record IsStepBy (s : StretchesModel) (side : ℕ) (a chosen : Window) : Type 0 where
   pub digit : ℕ
   pub small : digit < 2
   pub number : number_at s chosen ≡ 2 * number_at s a + digit
   pub len : chosen.len ≡ a.len + 1
-  pub area : IsArea s chosen
+  pub counted : IsCounted s chosen
   pub divided : a.from < a.to
   pub smaller : chosen.last - chosen.first + 1 ≤ a.last - a.first
 
-pub block-order : (s : StretchesModel) (a : Area) → IsArea s a → a.first ≤ a.last
-block-order s a is =
-    let some = block_some (width_of s.version) a.len (number_at s a) in
-    let first_is = is.block.first_is in
-    let last_is = is.block.last_is in
-    omega arith
+pub block-order : (s : StretchesModel) (a : Window) → IsCounted s a → a.first ≤ a.last
+block-order s a is = ordered_window s is.few.stretches.every a is.window
 
-pub step-by : (s : StretchesModel) (side : ℕ) (a chosen : Area) → IsStep s side a chosen → IsStepBy s side a chosen
+pub step-by : (s : StretchesModel) (side : ℕ) (a chosen : Window) → IsStep s side a chosen → IsStepBy s side a chosen
 step-by s side a chosen step = by step.choice
   where
+    counted : AreCountedHalves s a step.low step.high
+    counted = step.halves
+
     halves : AreHalvesOf s a step.low step.high
-    halves = step.halves
+    halves = counted.halves
 
     smaller : (step.high.last - step.high.first + 1 ≤ a.last - a.first) × (step.low.last - step.low.first + 1 ≤ a.last - a.first)
     smaller =
-        let order = block-order s step.high halves.high_area in
-        let lower = block-order s step.low halves.low_area in
+        let order = block-order s step.high counted.high_counted in
+        let lower = block-order s step.low counted.low_counted in
         let low_first = halves.low_first in
         let low_last = halves.low_last in
         let high_first = halves.high_first in
@@ -343,8 +273,8 @@ step-by s side a chosen step = by step.choice
           small = omega arith;
           number = halves.high_number;
           len = halves.high_len;
-          area = halves.high_area;
-          divided = halves.divided;
+          counted = counted.high_counted;
+          divided = counted.divided;
           smaller = smaller.0;
         })
     by (inr low) =
@@ -354,17 +284,17 @@ step-by s side a chosen step = by step.choice
           small = omega arith;
           number = halves.low_number ∙ omega arith;
           len = halves.low_len;
-          area = halves.low_area;
-          divided = halves.divided;
+          counted = counted.low_counted;
+          divided = counted.divided;
           smaller = smaller.1;
         })
 
-pub run-below : (s : StretchesModel) (side count : ℕ) (a end : Area) → IsArea s a → IsRun s side count a end → IsBelow s count a end
+pub run-below : (s : StretchesModel) (side count : ℕ) (a end : Window) → IsCounted s a → IsRun s side count a end → IsBelow s count a end
 run-below s side zero a end is run =
-    subst (IsBelow s zero a) (sym run) (record { len = omega arith; number = omega arith; area = is; smaller = omega arith })
+    subst (IsBelow s zero a) (sym run) (record { len = omega arith; number = omega arith; counted = is; smaller = omega arith })
 run-below s side (suc count) a end is run =
     let step = step-by s side a run.0 run.1 in
-    let rest = run-below s side count run.0 end step.area run.2 in
+    let rest = run-below s side count run.0 end step.counted run.2 in
     let len = rest.len in
     let len' = step.len in
     let smaller = rest.smaller in
@@ -374,12 +304,12 @@ run-below s side (suc count) a end is run =
       len = omega arith;
       number = ap (λ (p : ℕ). number_at s end / p) twice
           ∙ halved (number_at s end) (2 ^ count) (number_at s a) step.digit (pow_pos count) step.small (rest.number ∙ step.number);
-      area = rest.area;
+      counted = rest.counted;
       smaller = omega arith;
     }
 
 -- the node from which a run leads to the node of its end
-module _ (s : StretchesModel) (side : ℕ) (fits : side < 2 ^ 32) (end : Area) (tree : Tree) (node : Node) (made : IsMade s end tree node) where
+module _ (s : StretchesModel) (side : ℕ) (fits : side < 2 ^ 32) (end : Window) (tree : Tree) (node : Node) (made : IsMade s end tree node) where
   abbrev value : ℕ
   value = number_at s end
 
@@ -393,38 +323,38 @@ module _ (s : StretchesModel) (side : ℕ) (fits : side < 2 ^ 32) (end : Area) (
   path-ascending zero = made.ascending
   path-ascending (suc count) = subst (IsAscending (2 ^ 32) 0) (sym (path-set side fits node made.ascending value (suc count))) (above-ascending side fits node made.ascending count)
 
-  over-made : (a : Area) (count d : ℕ) → IsMade s a (tree_over d (tree_of count) (Tip (Some (id_of side))))
+  over-made : (a : Window) (count d : ℕ) → IsMade s a (tree_over d (tree_of count) (Tip (Some (id_of side))))
       (node_over d (cost_above side node) (set_above side (set_of node) count) (node_of count) (Leaf side)) → digit value count ≡ d
       → IsMade s a (tree_of (suc count)) (node_of (suc count))
   over-made a count d is same =
       subst (λ (k : ℕ). IsMade s a (tree_over k (tree_of count) (Tip (Some (id_of side))))
       (node_over k (cost_above side node) (set_above side (set_of node) count) (node_of count) (Leaf side))) (sym same) is
 
-  pub run-made : (count : ℕ) (a : Area) → IsArea s a → IsRun s side count a end → IsMade s a (tree_of count) (node_of count)
-  run-made zero a is run = subst (λ (b : Area). IsMade s b tree node) run made
+  pub run-made : (count : ℕ) (a : Window) → IsCounted s a → IsRun s side count a end → IsMade s a (tree_of count) (node_of count)
+  run-made zero a is run = subst (λ (b : Window). IsMade s b tree node) run made
   run-made (suc count) a is run =
       let step = step-by s side a run.0 run.1 in
-      by (run-below s side count run.0 end step.area run.2) (run-made count run.0 step.area run.2) run.1.choice
+      by (run-below s side count run.0 end step.counted run.2) (run-made count run.0 step.counted run.2) run.1.choice
     where
-      halves : AreHalvesOf s a run.1.low run.1.high
+      halves : AreCountedHalves s a run.1.low run.1.high
       halves = run.1.halves
 
       by : IsBelow s count run.0 end → IsMade s run.0 (tree_of count) (node_of count)
           → IsChoice s side run.1.low run.1.high run.0 → IsMade s a (tree_of (suc count)) (node_of (suc count))
       by below rest (inl high) =
-          let number = below.number ∙ ap (number_at s) high.0 ∙ halves.high_number in
+          let number = below.number ∙ ap (number_at s) high.0 ∙ halves.halves.high_number in
           over-made a count 1
           (halves-made s a run.1.low run.1.high (Tip (Some (id_of side))) (tree_of count) (Leaf side) (node_of count) (cost_above side node) (set_above side (set_of node) count) is halves
-          (leaf-made s run.1.low side halves.low_area high.1 fits)
-          (subst (λ (b : Area). IsMade s b (tree_of count) (node_of count)) high.0 rest)
+          (leaf-made s run.1.low side halves.low_counted high.1 fits)
+          (subst (λ (b : Window). IsMade s b (tree_of count) (node_of count)) high.0 rest)
           (path-high side fits node made.ascending value count) (above-ascending side fits node made.ascending count))
           (omega arith)
       by below rest (inr low) =
-          let number = below.number ∙ ap (number_at s) low.0 ∙ halves.low_number in
+          let number = below.number ∙ ap (number_at s) low.0 ∙ halves.halves.low_number in
           over-made a count 0
           (halves-made s a run.1.low run.1.high (tree_of count) (Tip (Some (id_of side))) (node_of count) (Leaf side) (cost_above side node) (set_above side (set_of node) count) is halves
-          (subst (λ (b : Area). IsMade s b (tree_of count) (node_of count)) low.0 rest)
-          (leaf-made s run.1.high side halves.high_area low.2 fits)
+          (subst (λ (b : Window). IsMade s b (tree_of count) (node_of count)) low.0 rest)
+          (leaf-made s run.1.high side halves.high_counted low.2 fits)
           (path-low side fits node made.ascending value count) (above-ascending side fits node made.ascending count))
           (omega arith)
 
@@ -460,23 +390,23 @@ module _ (s : StretchesModel) (side : ℕ) (fits : side < 2 ^ 32) (end : Area) (
     stop-down : GoesDown zero
     stop-down = let none = made-stop s side end tree node made stop in record { bits = none.0; last = none.1 }
 
-    pub run-down : (count : ℕ) (a : Area) → IsArea s a → IsRun s side count a end → GoesDown count
+    pub run-down : (count : ℕ) (a : Window) → IsCounted s a → IsRun s side count a end → GoesDown count
     run-down zero a is run = stop-down
     run-down (suc count) a is run =
         let step = step-by s side a run.0 run.1 in
-        by (run-below s side count run.0 end step.area run.2) (run-made count run.0 step.area run.2) (run-down count run.0 step.area run.2) run.1.choice
+        by (run-below s side count run.0 end step.counted run.2) (run-made count run.0 step.counted run.2) (run-down count run.0 step.counted run.2) run.1.choice
       where
         by : IsBelow s count run.0 end → IsMade s run.0 (tree_of count) (node_of count) → GoesDown count
             → IsChoice s side run.1.low run.1.high run.0 → GoesDown (suc count)
         by below chosen rest (inl high) =
-            let number = below.number ∙ ap (number_at s) high.0 ∙ run.1.halves.high_number in
+            let number = below.number ∙ ap (number_at s) high.0 ∙ run.1.halves.halves.high_number in
             over-down count 1 (omega arith) (omega arith) (λ none. absurd (omega arith)) rest
         by below chosen rest (inr low) =
-            let number = below.number ∙ ap (number_at s) low.0 ∙ run.1.halves.low_number in
+            let number = below.number ∙ ap (number_at s) low.0 ∙ run.1.halves.halves.low_number in
             over-down count 0 (omega arith) (omega arith) (λ none e. low.1 (ap (own_label s) (sym low.0) ∙ sym chosen.own ∙ e)) rest
 
 -- the side label of a run is that of a leaf right below the run's first node
-pub made-side : (s : StretchesModel) (a low high : Area) (tree : Tree) (node : Node) → IsMade s a tree node → AreHalvesOf s a low high
+pub made-side : (s : StretchesModel) (a low high : Window) (tree : Tree) (node : Node) → IsMade s a tree node → AreCountedHalves s a low high
     → side_below node ≡ option_or (own_label s low) (own_label s high)
 made-side s a low high tree node made are =
     let own = made.halves are.divided in
