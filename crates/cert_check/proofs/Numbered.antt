@@ -1,8 +1,8 @@
 -- The numbers of one table's labels in another table.
-use Rattle.std.proofs.Common.{◌≡◌, ℕ, zero, suc, ◌+◌, ◌<◌, Bool, true, false, ◌==◌, List, [], ◌∷◌, ◌++◌, Option, Some, None, length, map, option_map, slice_get, take, refl, sym, ap, ◌∙◌, bytes_eq}
+use Rattle.std.proofs.Common.{◌≡◌, ℕ, ◌+◌, ◌<◌, Bool, true, false, ◌==◌, List, [], ◌∷◌, ◌++◌, Option, Some, None, length, map, option_map, slice_get, take, refl, sym, ap, ◌∙◌, bytes_eq}
 use Rattle.std.proofs.lemmas.Bool.{both_ways, eq-eqb, eqb-true, false_from_ne_true}
 use Rattle.std.proofs.lemmas.List.{map-append, take_more}
-use Rattle.std.proofs.lemmas.Option.{get_or_from_slice_get, none-some, same_Some, slice_get-get_or, slice_get_within, unwrap_or-slice_get}
+use Rattle.std.proofs.lemmas.Option.{get_or_from_slice_get, none-some, same_Some, slice_get-map, slice_get_within}
 use Rattle.std.specs.Option.{unwrap_or}
 use Rattle.std.proofs.lemmas.Slice.Eq.{bytes_eq-Decides}
 use Rattle.pmap_text.specs.Label.{number_of}
@@ -10,17 +10,8 @@ use Rattle.pmap_text.specs.MapModel.{Label}
 use Rattle.pmap_text.specs.MapText.{text_at}
 use Rattle.pmap_text.specs.declared.label.LabelId.{LabelId}
 use Rattle.pmap_text.proofs.LabelTexts.{slice_get-number}
+use Rattle.pmap_text.proofs.Orders.{known_text}
 use Rattle.cert_check.specs.Inner.{AreNumbers}
-
--- an element of a mapped list is that of the list mapped
-slice_get-map : {X Y : Type 0} (f : X → Y) (xs : List X) (i : ℕ) → slice_get (map f xs) i ≡ option_map f (slice_get xs i)
-slice_get-map f [] i = refl
-slice_get-map f (x ∷ xs) zero = refl
-slice_get-map f (x ∷ xs) (suc i) = slice_get-map f xs i
-
--- the element of a table at a number is the text with that number
-text-listed : (table : List Label) (n : ℕ) → n < length table → slice_get table n ≡ Some (text_at table n)
-text-listed table n less = slice_get-get_or table n [] less ∙ ap Some (sym (unwrap_or-slice_get table n []))
 
 -- the numbers of the first i + 1 labels, by those of the first i
 pub numbers-more : (from to : List Label) (i : ℕ) (text : Label) (items new : List (Option LabelId)) (o : Option LabelId)
@@ -52,7 +43,7 @@ module _ (numbers : List (Option LabelId)) (from to : List Label) (are : AreNumb
           ∙ ap (number_of to) (sym (ap (λ (x : Option Label). unwrap_or x []) is))
 
   own-number : number_of to (text_at to id) ≡ Some id
-  own-number = (are.table).places id (text_at to id) (text-listed to id known)
+  own-number = (are.table).places id (text_at to id) (known_text to id known)
 
   pub same-some : (n : LabelId) → o ≡ Some n → (n.0 == id) ≡ bytes_eq (text_at from own) (text_at to id)
   same-some n is = by (bytes_eq (text_at from own) (text_at to id)) refl
@@ -66,7 +57,7 @@ module _ (numbers : List (Option LabelId)) (from to : List Label) (are : AreNumb
       by false e = false_from_ne_true (n.0 == id) (λ h. both_ways (bytes_eq (text_at from own) (text_at to id)) e
           ((bytes_eq-Decides (text_at from own) (text_at to id)).1
           (same_Some (text_at from own) (text_at to id)
-          (sym (slice_get-number to (text_at from own) n.0 found) ∙ ap (slice_get to) (eqb-true n.0 id h) ∙ text-listed to id known))))
+          (sym (slice_get-number to (text_at from own) n.0 found) ∙ ap (slice_get to) (eqb-true n.0 id h) ∙ known_text to id known))))
 
   pub same-none : o ≡ None → false ≡ bytes_eq (text_at from own) (text_at to id)
   same-none is = sym (false_from_ne_true (bytes_eq (text_at from own) (text_at to id)) (λ h.

@@ -1,19 +1,19 @@
 -- Sets of labels by their numbers in ascending order.
-use Rattle.std.proofs.Common.{◌≡◌, ◌⊎◌, inl, inr, ℕ, zero, suc, ◌+◌, ◌^◌, ◌<◌, ◌≤◌, Bool, true, false, cond, not, ◌&&◌, ◌||◌, ◌==◌, List, [], ◌∷◌, Option, Some, None, drop, filter, get_or, length, map, nat_lt, slice_get, take, refl, sym, ap, ap₂, ◌∙◌, subst, arith, bytes_eq}
+use Rattle.std.proofs.Common.{◌≡◌, ◌⊎◌, inl, inr, ℕ, zero, suc, ◌+◌, ◌^◌, ◌<◌, ◌≤◌, Bool, true, false, cond, not, ◌&&◌, ◌||◌, ◌==◌, List, [], ◌∷◌, Option, Some, None, drop, filter, get_or, length, map, nat_lt, slice_get, take, refl, sym, ap, ap₂, ◌∙◌, subst, arith}
 use Rattle.std.specs.List.{list_all}
-use Rattle.std.proofs.lemmas.Bool.{both_ways, eq-eqb, eqb-true, false_from_ne_true, false≢true}
+use Rattle.std.proofs.lemmas.Bool.{eqb-true, false_from_ne_true, false≢true}
 use Rattle.std.proofs.lemmas.Bool.{and_from}
+use Rattle.std.proofs.lemmas.Cmp.{nat_eq_equiv}
 use Rattle.std.proofs.lemmas.List.Folds.{list_all-append, list_all-map, list_all_at, list_all_more}
-use Rattle.std.proofs.lemmas.Slice.Eq.{bytes_eq-Decides}
 use Rattle.std.proofs.lemmas.Option.{none-some, same_Some}
 use Rattle.pmap_text.specs.Label.{IsLabelTable}
 use Rattle.pmap_text.specs.MapModel.{Label}
 use Rattle.pmap_text.specs.MapText.{text_at}
 use Rattle.pmap_text.specs.declared.label.LabelId.{LabelId}
-use Rattle.pmap_cert.specs.CertificateText.{IsAscending, place_of}
+use Rattle.pmap_cert.specs.CertificateText.{IsAscending}
 use Rattle.pmap_cert.specs.CertificateModel.{Claim, claim_of, has, chain_labels, chain_claim, exact_claim, exact_claim_by}
 use Rattle.pmap_cert.specs.Node.{Chain, Inner, Leaf, Node, cost_of, set_of, tree_of}
-use Rattle.pmap_cert.proofs.Tables.{place_of-text_at}
+use Rattle.pmap_cert.proofs.Tables.{label-same}
 use Rattle.cert_check.specs.Checking.{claim_fault, CheckFaultKind, CostTooHigh, SetTooSmall}
 use Rattle.cert_check.proofs.Lists.{length-nil}
 use Rattle.cert_check.specs.Inner.{has_number}
@@ -96,18 +96,9 @@ module _ (set rest rest' other : List LabelId) (i : ℕ) (d : LabelId) (less : i
 
 -- Sets of label numbers and the sets of their labels.
 module _ (table : List Label) (ok : IsLabelTable table) where
-  same-number : (n m : ℕ) → n < length table → m < length table → bytes_eq (text_at table n) (text_at table m) ≡ (m == n)
-  same-number n m h h' = by (m == n) refl
-    where
-      by : (b : Bool) → (m == n) ≡ b → bytes_eq (text_at table n) (text_at table m) ≡ b
-      by true e = (bytes_eq-Decides (text_at table n) (text_at table m)).1 (ap (text_at table) (sym (eqb-true m n e)))
-      by false e = false_from_ne_true (bytes_eq (text_at table n) (text_at table m))
-          (λ t. both_ways (m == n) e (eq-eqb m n
-          (sym (place_of-text_at table m ok h') ∙ ap (place_of table) (sym ((bytes_eq-Decides (text_at table n) (text_at table m)).0 t)) ∙ place_of-text_at table n ok h)))
-
   pub has-texts : (low : ℕ) (ns : List ℕ) (n : ℕ) → IsAscending (length table) low ns → n < length table → has (map (text_at table) ns) (text_at table n) ≡ has_number ns n
   has-texts low [] n h less = refl
-  has-texts low (m ∷ ns) n h less = ap₂ ◌||◌ (same-number n m less h.1) (has-texts (m + 1) ns n h.2 less)
+  has-texts low (m ∷ ns) n h less = ap₂ ◌||◌ (label-same table n m ok less h.1 ∙ nat_eq_equiv.symm n m) (has-texts (m + 1) ns n h.2 less)
 
   pub common-texts : (low low' : ℕ) (ns ms : List ℕ) → IsAscending (length table) low ns → IsAscending (length table) low' ms
       → filter (has (map (text_at table) ms)) (map (text_at table) ns) ≡ map (text_at table) (filter (has_number ms) ns)

@@ -1,6 +1,6 @@
 -- Whether a map settles a block, by its stretches.
-use Rattle.std.proofs.Common.{◌≡◌, ◌∙◌, ℕ, zero, suc, ◌+◌, ◌-◌, ◌^◌, ◌<◌, ◌≤◌, inl, inr, true, cond, Option, Some, None, List, get_or, length, nat_le, option_map, refl, sym, ap, subst, arith}
-use Rattle.std.proofs.lemmas.Bool.{cases_eq, cases_lt, le-leb, lt-leb, lt-ltb}
+use Rattle.std.proofs.Common.{◌≡◌, ◌∙◌, ℕ, zero, suc, ◌+◌, ◌-◌, ◌^◌, ◌<◌, ◌≤◌, true, cond, Option, Some, None, List, get_or, length, nat_le, option_map, refl, sym, ap, subst, arith}
+use Rattle.std.proofs.lemmas.Bool.{le-leb, lt-leb}
 use Rattle.std.proofs.lemmas.List.Elements.{All-map}
 use Rattle.prefix_keys.specs.Block.{first_of, last_of, width_of}
 use Rattle.pmap_text.specs.MapModel.{Label, label_or, settled_label}
@@ -9,6 +9,7 @@ use Rattle.pmap_text.specs.Stretches.{HaveAddresses, label_seen, HasEveryAddress
 use Rattle.pmap_text.specs.declared.label.LabelId.{LabelId}
 use Rattle.pmap_text.specs.declared.map_text.MapText.{MapText}
 use Rattle.pmap_text.specs.declared.statement.Statement.{Statement}
+use Rattle.pmap_text.proofs.Ranges.{held_apart, held_order, next_first, ordered_at}
 use Rattle.pmap_text.proofs.SeenBlocks.{settled_stretch}
 use Rattle.pmap_text.specs.PrefixList.{number_of_block as number_of}
 use Rattle.cert_check.specs.Inner.{AreSources, IsPart, IsSettledBetween, last_in, text_of, Part, Sources}
@@ -26,51 +27,15 @@ label-text : (table : List Label) (default : LabelId) (top : Option Statement)
 label-text table default None = refl
 label-text table default (Some s) = refl
 
-module _ (s : StretchesModel) (every : HasEveryAddress s) where
-  -- a stretch ends before the next begins
-  pub last-next : (i : ℕ) → suc i < length s.firsts → last_at s i + 1 ≡ first_at s (i + 1)
-  last-next i more =
-      let less = every.ascending i (i + 1) (omega arith) (omega (arith, more)) in
-      let last : last_at s i ≡ first_at s (i + 1) - 1 =
-      ap (λ b. cond b (first_at s (i + 1) - 1) (2 ^ width_of s.version - 1)) (lt-ltb (i + 1) (length s.firsts) (omega (arith, more))) in
-      omega (arith, last, less)
-
-  -- the greater of two addresses is in the same stretch or a later one
-  pub held-order : (a b i j : ℕ) → HoldsAddress s a i → HoldsAddress s b j → a ≤ b → i ≤ j
-  held-order a b i j at at' le =
-      elim (cases_lt j i) [
-        | inl less ↦
-            let last = last-next j (omega (arith, less, at.index)) in
-            let begins : first_at s (j + 1) ≤ first_at s i =
-            elim (cases_eq (j + 1) i) [
-              | inl same ↦ subst (λ (k : ℕ). first_at s (j + 1) ≤ first_at s k) same (omega arith)
-              | inr ne ↦ let r = every.ascending (j + 1) i (omega (arith, less, ne)) at.index in omega (arith, r)
-            ] in
-            absurd (omega (arith, last, begins, at.from, at'.to, le))
-        | inr le' ↦ le'
-      ]
-
-  pub held-same : (a i j : ℕ) → HoldsAddress s a i → HoldsAddress s a j → i ≡ j
-  held-same a i j at at' =
-      let up = held-order a a i j at at' (omega arith) in
-      let down = held-order a a j i at' at (omega arith) in
-      omega (arith, up, down)
-
-  -- if a stretch begins with an address above 0, the address before is in the stretch before
-  pub held-before : (a i : ℕ) → 0 < a → HoldsAddress s a i → first_at s i ≡ a → (0 < i) × HoldsAddress s (a - 1) (i - 1)
-  held-before a i some at begins = by i some at begins
-    where
-      by : (i : ℕ) → 0 < a → HoldsAddress s a i → first_at s i ≡ a → (0 < i) × HoldsAddress s (a - 1) (i - 1)
-      by zero some at begins = absurd (omega (arith, some, begins, every.zero))
-      by (suc i) some at begins =
-          let less = every.ascending i (suc i) (omega arith) at.index in
-          let last = last-next i at.index in
-          let next : i + 1 ≡ suc i = omega arith in
-          let last' : last_at s i + 1 ≡ first_at s (suc i) = last ∙ ap (first_at s) next in
-          let same : i ≡ suc i - 1 = omega arith in (
-            omega arith,
-            subst (HoldsAddress s (a - 1)) same (record { index = omega (arith, at.index); from = omega (arith, less, begins); to = omega (arith, last', begins) }),
-          )
+-- if a stretch begins with an address above 0, the address before is in the stretch before
+pub held-before : (s : StretchesModel) (every : HasEveryAddress s) (a i : ℕ) → 0 < a → HoldsAddress s a i → first_at s i ≡ a → (0 < i) × HoldsAddress s (a - 1) (i - 1)
+held-before s every a zero some at begins = absurd (omega (arith, some, begins, every.zero))
+held-before s every a (suc i) some at begins =
+    let next : i + 1 ≡ suc i = omega arith in
+    let last : last_at s i + 1 ≡ first_at s (suc i) = sym (next_first s every i (omega (arith, at.index))) ∙ ap (first_at s) next in
+    let ordered = ordered_at s every i (omega (arith, at.index)) in
+    let same : i ≡ suc i - 1 = omega arith in
+    (omega arith, subst (HoldsAddress s (a - 1)) same (record { index = omega (arith, at.index); from = omega (arith, ordered, last, begins); to = omega (arith, last, begins) }))
 
 module _ (s : Sources) (are : AreSources s) where
   -- a block that begins in a stretch is settled, with the stretch's label, exactly if it ends there
@@ -107,7 +72,7 @@ module _ (s : Sources) (are : AreSources s) where
     version = is.list.version ∙ are.list_version
 
     pub part-order : p.from ≤ p.to
-    part-order = held-order s.stretches are.stretches.every p.block.value (last_in p.block) p.from p.to is.from is.to (block-last p.block)
+    part-order = held_order s.stretches are.stretches.every p.block.value (last_in p.block) p.from p.to is.from is.to (block-last p.block)
 
     settled-block : settled_label (map_of s.map.now) p.block.len (number_of p.block)
         ≡ cond (nat_le (last_in p.block) (last_at s.stretches p.from)) (text_of s.map.now.labels (label_at s.stretches p.from)) None
@@ -134,10 +99,4 @@ module _ (s : Sources) (are : AreSources s) where
         settled-block
         ∙ ap (λ b. cond b (text_of s.map.now.labels (label_at s.stretches p.from)) None)
         (lt-leb (last_in p.block) (last_at s.stretches p.from)
-        (elim (cases_lt (last_at s.stretches p.from) (last_in p.block)) [
-          | inl less ↦ less
-          | inr le ↦
-              let some = block-last p.block in
-              absurd (ne (held-same s.stretches are.stretches.every (last_in p.block) p.from p.to
-              (record { index = is.from.index; from = omega (arith, is.from.from, some); to = le }) is.to))
-        ]))
+        (held_apart s.stretches are.stretches.every p.block.value (last_in p.block) p.from p.to is.from is.to (block-last p.block) ne))

@@ -1,17 +1,15 @@
 -- Compacting nodes with label numbers.
-use Rattle.std.proofs.Common.{◌≡◌, ◌++◌, ℕ, zero, suc, ◌<◌, ◌≤◌, ◌∙◌, ◌==◌, Bool, true, false, List, [], ◌∷◌, Option, Some, None, cond, length, map, nat_le, option_map, refl, sym, ap, subst, arith}
+use Rattle.std.proofs.Common.{◌≡◌, ◌++◌, ℕ, zero, suc, ◌<◌, ◌≤◌, ◌∙◌, Bool, true, false, List, [], ◌∷◌, Option, Some, None, cond, length, map, nat_le, option_map, refl, sym, ap, subst, arith}
 use Rattle.std.specs.Option.{option_or}
-use Rattle.std.specs.Str.{bytes_eq}
-use Rattle.std.proofs.lemmas.Bool.{both_ways, cond-false, cond-true, eq-eqb, eqb-true, false_from_ne_true, le-leb, lt-leb}
+use Rattle.std.proofs.lemmas.Bool.{cond-false, cond-true, le-leb, lt-leb}
 use Rattle.std.proofs.lemmas.List.{append_assoc}
 use Rattle.std.proofs.lemmas.Option.{none-some, same_Some}
-use Rattle.std.proofs.lemmas.Slice.Eq.{bytes_eq-Decides}
 use Rattle.prefix_keys.specs.Block.{width_of}
 use Rattle.prefix_keys.specs.declared.version.Version.{Version}
 use Rattle.pmap_text.specs.Label.{IsLabelTable}
 use Rattle.pmap_text.specs.MapModel.{Label}
 use Rattle.pmap_text.specs.MapText.{text_at}
-use Rattle.pmap_cert.specs.CertificateText.{HasRoomBelow, place_of}
+use Rattle.pmap_cert.specs.CertificateText.{HasRoomBelow}
 use Rattle.pmap_cert.specs.CertificateModel.{CertificateModel, ChainNode, InnerNode, Claim, Tree}
 use Rattle.pmap_cert.specs.Compacting.{compact, compacted, is_side, leaf_label, run_bits, run_compacted, run_end, side_of}
 use Rattle.pmap_cert.specs.Format.{format_number, Format, One, Two}
@@ -21,17 +19,7 @@ use Rattle.pmap_cert.specs.Inner.{IsCompactNode, IsCompacted, IsShort, bits_down
 use Rattle.pmap_cert.proofs.ChainWords.{end-room, other-room}
 use Rattle.pmap_cert.proofs.Compacts.{compact-again, compact-first}
 use Rattle.pmap_cert.proofs.Runs.{compacted-inner, compacted-leaf}
-use Rattle.pmap_cert.proofs.Tables.{place_of-text_at}
-
--- labels of a table are equal exactly if their numbers are
-pub label-same : (table : List Label) (a b : ℕ) → IsLabelTable table → a < length table → b < length table → bytes_eq (text_at table a) (text_at table b) ≡ (a == b)
-label-same table a b ok first second = by (a == b) refl
-  where
-    by : (q : Bool) → (a == b) ≡ q → bytes_eq (text_at table a) (text_at table b) ≡ q
-    by true e = (bytes_eq-Decides (text_at table a) (text_at table b)).1 (ap (text_at table) (eqb-true a b e))
-    by false e = false_from_ne_true (bytes_eq (text_at table a) (text_at table b)) (λ t.
-        both_ways (a == b) e (eq-eqb a b
-        (sym (place_of-text_at table a ok first) ∙ ap (place_of table) ((bytes_eq-Decides (text_at table a) (text_at table b)).0 t) ∙ place_of-text_at table b ok second)))
+use Rattle.pmap_cert.proofs.Tables.{label-same}
 
 -- the run of a node's tree is the run of the node
 module _ (table : List Label) (ok : IsLabelTable table) (side : ℕ) (known : side < length table) where

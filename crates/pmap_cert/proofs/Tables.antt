@@ -1,8 +1,8 @@
 -- Label tables: the numbers of their labels, and their lines.
-use Rattle.std.proofs.Common.{◌≡◌, ℕ, zero, suc, ◌+◌, ◌<◌, ◌≤◌, ◌∙◌, ◌&&◌, Bool, true, false, not, List, [], ◌∷◌, ◌++◌, Option, None, Some, Result, Ok, Err, length, map, get_or, refl, sym, ap, subst, arith}
+use Rattle.std.proofs.Common.{◌≡◌, ℕ, zero, suc, ◌+◌, ◌<◌, ◌≤◌, ◌∙◌, ◌&&◌, ◌==◌, Bool, true, false, not, List, [], ◌∷◌, ◌++◌, Option, None, Some, Result, Ok, Err, length, map, get_or, refl, sym, ap, subst, arith}
 use Rattle.std.specs.List.{position_or_len}
 use Rattle.std.specs.Str.{bytes_eq}
-use Rattle.std.proofs.lemmas.Bool.{and_from, and_parts, cond-true, not-true, not_from_false, ltb-true}
+use Rattle.std.proofs.lemmas.Bool.{and_from, and_parts, both_ways, cond-true, eq-eqb, eqb-true, false_from_ne_true, not-true, not_from_false, ltb-true}
 use Rattle.std.proofs.lemmas.List.{append-nil, append_assoc, get_or_at, length-append}
 use Rattle.std.proofs.lemmas.List.Sums.{passes_at_first}
 use Rattle.std.proofs.lemmas.Option.{cond_some, slice_get-get_or, unwrap_or-slice_get}
@@ -30,6 +30,16 @@ place_of-text_at table n ok h =
     let text : Label = get_or table n [] in
     ap (place_of table) (unwrap_or-slice_get table n [])
     ∙ (found_at (bytes_eq text) table n (ok.places n text (slice_get-get_or table n [] h))).1
+
+-- labels of a table are equal exactly if their numbers are
+pub label-same : (table : List Label) (a b : ℕ) → IsLabelTable table → a < length table → b < length table → bytes_eq (text_at table a) (text_at table b) ≡ (a == b)
+label-same table a b ok first second = by (a == b) refl
+  where
+    by : (q : Bool) → (a == b) ≡ q → bytes_eq (text_at table a) (text_at table b) ≡ q
+    by true e = (bytes_eq-Decides (text_at table a) (text_at table b)).1 (ap (text_at table) (eqb-true a b e))
+    by false e = false_from_ne_true (bytes_eq (text_at table a) (text_at table b)) (λ t.
+        both_ways (a == b) e (eq-eqb a b
+        (sym (place_of-text_at table a ok first) ∙ ap (place_of table) ((bytes_eq-Decides (text_at table a) (text_at table b)).0 t) ∙ place_of-text_at table b ok second)))
 
 -- a label of the table is the label with its number
 pub text_at-place_of : (table : List Label) (x : Label) → place_of table x < length table → text_at table (place_of table x) ≡ x

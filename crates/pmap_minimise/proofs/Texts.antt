@@ -3,18 +3,17 @@ use Rattle.std.proofs.Common.{◌≡◌, ℕ, zero, suc, ◌+◌, ◌^◌, ◌<�
 use Rattle.std.specs.List.{list_any}
 use Rattle.std.specs.Option.{ForSome}
 use Rattle.std.specs.Str.{bytes_eq}
-use Rattle.std.proofs.lemmas.Bool.{cond-true, cond-false, eqb-false, eqb-true, false≢true, leb-false, lt-leb, or_from, or_parts}
+use Rattle.std.proofs.lemmas.Bool.{cond-true, cond-false, false≢true, leb-false, lt-leb, or_from, or_parts}
 use Rattle.std.proofs.lemmas.Option.{unwrap_or-slice_get}
-use Rattle.std.proofs.lemmas.Slice.Eq.{bytes_eq-Decides}
 use Rattle.pmap_text.specs.Label.{IsLabelTable}
 use Rattle.pmap_text.specs.MapModel.{Label}
 use Rattle.pmap_text.specs.MapText.{text_at}
 use Rattle.pmap_text.specs.declared.label.LabelId.{LabelId}
-use Rattle.pmap_cert.specs.CertificateText.{IsAscending, place_of}
+use Rattle.pmap_cert.specs.CertificateText.{IsAscending}
 use Rattle.pmap_cert.specs.CertificateModel.{Claim, has, IsSameClaim, exact_claim, exact_claim_by}
 use Rattle.pmap_cert.specs.Acceptance.{has_inherited, least_label}
 use Rattle.pmap_cert.proofs.Sets.{bytes_eq-same, has-append}
-use Rattle.pmap_cert.proofs.Tables.{place_of-text_at}
+use Rattle.pmap_cert.proofs.Tables.{label-same}
 use Rattle.pmap_minimise.specs.Listing.{text_of}
 use Rattle.pmap_minimise.specs.Numbers.{IsExactBy, IsUnion, common_numbers, has_number, keeps, numbers_of}
 use Rattle.pmap_minimise.proofs.Merged.{lacks, ascending-filter}
@@ -83,25 +82,11 @@ find-first p (x ∷ xs) (suc n) inside below here =
     cond-false (p x) (Some x) (find p xs) (below 0 (omega arith)) ∙ find-first p xs n (omega arith) (λ i h. below (suc i) (omega arith)) here
 
 module _ (table : List Label) (ok : IsLabelTable table) where
-  -- labels of the table differ exactly if their numbers do
-  text-same : (n m : ℕ) → n < length table → m < length table → bytes_eq (text_at table n) (text_at table m) ≡ (n == m)
-  text-same n m known also = by (n == m) refl
-    where
-      other : (n == m) ≡ false → (b : Bool) → bytes_eq (text_at table n) (text_at table m) ≡ b → b ≡ false
-      other e false h = refl
-      other e true h =
-          absurd (eqb-false n m e (sym (place_of-text_at table n ok known)
-          ∙ ap (place_of table) ((bytes_eq-Decides (text_at table n) (text_at table m)).0 h) ∙ place_of-text_at table m ok also))
-
-      by : (b : Bool) → (n == m) ≡ b → bytes_eq (text_at table n) (text_at table m) ≡ b
-      by true e = subst (λ (k : ℕ). bytes_eq (text_at table n) (text_at table k) ≡ true) (eqb-true n m e) (bytes_eq-same (text_at table n))
-      by false e = other e (bytes_eq (text_at table n) (text_at table m)) refl
-
   pub texts-has : (low : ℕ) (ns : List ℕ) (n : ℕ) → IsAscending (length table) low ns → n < length table
       → has (map (text_at table) ns) (text_at table n) ≡ has_number ns n
   texts-has low [] n ascending known = refl
   texts-has low (m ∷ ns) n ascending known =
-      ap (λ (t : Bool). t || has (map (text_at table) ns) (text_at table n)) (text-same n m known ascending.1)
+      ap (λ (t : Bool). t || has (map (text_at table) ns) (text_at table n)) (label-same table n m ok known ascending.1)
       ∙ ap (λ (t : Bool). (n == m) || t) (texts-has (m + 1) ns n ascending.2 known)
 
   kept : (b c : Bool) → b ≡ c → (n : ℕ) (xs : List Label) (ns : List ℕ) → xs ≡ map (text_at table) ns
