@@ -13,7 +13,7 @@ use Rattle.pmap_text.specs.declared.label.LabelId.{LabelId}
 use Rattle.pmap_cert.specs.CertificateText.{IsAscending}
 use Rattle.pmap_cert.specs.CertificateModel.{Claim, claim_of, has, chain_labels, chain_claim, exact_claim, exact_claim_by}
 use Rattle.pmap_cert.specs.Node.{Chain, Inner, Leaf, Node, cost_of, set_of, tree_of}
-use Rattle.pmap_cert.proofs.Tables.{label-same}
+use Rattle.pmap_cert.proofs.Tables.{ascending-filter, ascending-lower, label-same}
 use Rattle.cert_check.specs.Checking.{claim_fault, CheckFaultKind, CostTooHigh, SetTooSmall}
 use Rattle.cert_check.proofs.Lists.{length-nil}
 use Rattle.cert_check.specs.Inner.{has_number}
@@ -21,10 +21,6 @@ use Rattle.cert_check.specs.Inner.{has_number}
 -- the numbers of labels
 abbrev pub numbers : List LabelId → List ℕ
 numbers ids = map (λ i. i.0) ids
-
-pub ascending-lower : (bound low less : ℕ) (ns : List ℕ) → less ≤ low → IsAscending bound low ns → IsAscending bound less ns
-ascending-lower bound low less [] le h = tt
-ascending-lower bound low less (n ∷ ns) le h = (omega (arith, h.0, le), h.1, h.2)
 
 pub ascending-bound : (bound wide low : ℕ) (ns : List ℕ) → bound ≤ wide → IsAscending bound low ns → IsAscending wide low ns
 ascending-bound bound wide low [] le h = tt
@@ -117,15 +113,6 @@ module _ (table : List Label) (ok : IsLabelTable table) where
       → list_all (has (map (text_at table) ms)) (map (text_at table) ns) ≡ list_all (has_number ms) ns
   all-texts low low' [] ms h h' = refl
   all-texts low low' (n ∷ ns) ms h h' = ap₂ ◌&&◌ (has-texts low' ms n h' h.1) (all-texts (n + 1) low' ns ms h.2 h')
-
--- a filtered ascending list ascends
-pub ascending-filter : (bound low : ℕ) (test : ℕ → Bool) (ns : List ℕ) → IsAscending bound low ns → IsAscending bound low (filter test ns)
-ascending-filter bound low test [] h = tt
-ascending-filter bound low test (n ∷ ns) h = by (test n) (ascending-filter bound (n + 1) test ns h.2)
-  where
-    by : (b : Bool) → IsAscending bound (n + 1) (filter test ns) → IsAscending bound low (cond b (n ∷ filter test ns) (filter test ns))
-    by true rest = (h.0, h.1, rest)
-    by false rest = ascending-lower bound (n + 1) low (filter test ns) (omega (arith, h.0)) rest
 
 -- the claim with this cost and the labels with these numbers
 abbrev pub claim_with : List Label → ℕ → List ℕ → Claim

@@ -81,7 +81,8 @@ impl<'a> Labeller for StretchIndex<'a> {
         let from = self.tops[block];
         let to = self.tops[block + 1];
         let index = self.stretches.find(from, to, addr.value);
-        self.labels.text(self.stretches.label(index)?)
+        let id = self.stretches.label(index)?;
+        self.labels.text(id)
     }
 }
 

@@ -17,32 +17,28 @@ use Rattle.pmap_cert.proofs.MapLabels.{labels-read}
 use Rattle.pmap_cert.proofs.MapLimits.{limits-read}
 use Rattle.pmap_cert.proofs.Pieces.{found_at}
 use Rattle.pmap_cert.proofs.Sets.{has-filter, has-own}
+use Rattle.pmap_cert.proofs.Tables.{ascending-lower}
 use Rattle.pmap_cert.specs.CertificateText.{HasNodeForm, HasTextForm, IsAscending, place_of}
 use Rattle.pmap_cert.specs.CertificateModel.{CertificateModel, ChainNode, InnerNode, LeafNode, Claim, Tree, claim_of, has, IsSameClaim, exact_claim}
 use Rattle.pmap_cert.specs.Acceptance.{HasItsLabels, IsMinimalPair, StandsFor}
 
--- ascending numbers ascend from a lower bound too
-ascending-weaker : (bound low high : ℕ) (ns : List ℕ) → low ≤ high → IsAscending bound high ns → IsAscending bound low ns
-ascending-weaker bound low high [] le ascending = tt
-ascending-weaker bound low high (n ∷ ns) le ascending = let least = ascending.0 in (omega arith, ascending.1, ascending.2)
-
-ascending-filter : (table : List Label) (p : Label → Bool) (i : ℕ) (xs : List Label) → i + length xs ≡ length table
+ascending-kept : (table : List Label) (p : Label → Bool) (i : ℕ) (xs : List Label) → i + length xs ≡ length table
     → ((j : ℕ) (x : Label) → slice_get xs j ≡ Some x → place_of table x ≡ i + j) → IsAscending (length table) i (map (place_of table) (filter p xs))
-ascending-filter table p i [] all places = tt
-ascending-filter table p i (x ∷ xs) all places =
-    by (p x) refl (ascending-filter table p (i + 1) xs (omega arith) (λ j y e. let there = places (suc j) y e in omega arith))
+ascending-kept table p i [] all places = tt
+ascending-kept table p i (x ∷ xs) all places =
+    by (p x) refl (ascending-kept table p (i + 1) xs (omega arith) (λ j y e. let there = places (suc j) y e in omega arith))
   where
     here : place_of table x ≡ i + 0
     here = places 0 x refl
 
     by : (b : Bool) → p x ≡ b → IsAscending (length table) (i + 1) (map (place_of table) (filter p xs)) → IsAscending (length table) i (map (place_of table) (filter p (x ∷ xs)))
     by true e rest =
-        rw e (omega (arith, here), omega (arith, here, all), ascending-weaker (length table) (place_of table x + 1) (i + 1) (map (place_of table) (filter p xs)) (omega (arith, here)) rest)
-    by false e rest = rw e (ascending-weaker (length table) i (i + 1) (map (place_of table) (filter p xs)) (omega arith) rest)
+        rw e (omega (arith, here), omega (arith, here, all), ascending-lower (length table) (i + 1) (place_of table x + 1) (map (place_of table) (filter p xs)) (omega (arith, here)) rest)
+    by false e rest = rw e (ascending-lower (length table) (i + 1) i (map (place_of table) (filter p xs)) (omega arith) rest)
 
 ascending-table : (table : List Label) (p : Label → Bool) → IsLabelTable table → IsAscending (length table) 0 (map (place_of table) (filter p table))
 ascending-table table p ok =
-    ascending-filter table p 0 table (omega arith)
+    ascending-kept table p 0 table (omega arith)
     (λ j x e. let there = (found_at (bytes_eq x) table j (ok.places j x e)).1 in omega arith)
 
 -- the node with its sets in the order of the table

@@ -1,5 +1,5 @@
 -- Label tables: the numbers of their labels, and their lines.
-use Rattle.std.proofs.Common.{◌≡◌, ℕ, zero, suc, ◌+◌, ◌<◌, ◌≤◌, ◌∙◌, ◌&&◌, ◌==◌, Bool, true, false, not, List, [], ◌∷◌, ◌++◌, Option, None, Some, Result, Ok, Err, length, map, get_or, refl, sym, ap, subst, arith}
+use Rattle.std.proofs.Common.{◌≡◌, ℕ, zero, suc, ◌+◌, ◌<◌, ◌≤◌, ◌∙◌, ◌&&◌, ◌==◌, Bool, true, false, not, List, [], ◌∷◌, ◌++◌, Option, None, Some, Result, Ok, Err, cond, filter, length, map, get_or, refl, sym, ap, subst, arith}
 use Rattle.std.specs.List.{position_or_len}
 use Rattle.std.specs.Str.{bytes_eq}
 use Rattle.std.proofs.lemmas.Bool.{and_from, and_parts, both_ways, cond-true, eq-eqb, eqb-true, false_from_ne_true, not-true, not_from_false, ltb-true}
@@ -164,3 +164,16 @@ labels_at-again (x ∷ new) table number rest ok some =
       ap (λ (r : Result (Label × Place) CertFault). r >>= (λ label. labels_at (length new) (table ++ label.0 ∷ []) label.1)) step
           ∙ more.1 ∙ ap (λ (t : List Label). Ok (t, record { number = more.0; pieces = rest })) (append_assoc table (x ∷ []) new),
     )
+
+-- ascending numbers ascend from a lower one, and so do those that pass a test
+pub ascending-lower : (bound low less : ℕ) (ns : List ℕ) → less ≤ low → IsAscending bound low ns → IsAscending bound less ns
+ascending-lower bound low less [] le h = tt
+ascending-lower bound low less (n ∷ ns) le h = (omega (arith, h.0, le), h.1, h.2)
+
+pub ascending-filter : (bound low : ℕ) (test : ℕ → Bool) (ns : List ℕ) → IsAscending bound low ns → IsAscending bound low (filter test ns)
+ascending-filter bound low test [] h = tt
+ascending-filter bound low test (n ∷ ns) h = by (test n) (ascending-filter bound (n + 1) test ns h.2)
+  where
+    by : (b : Bool) → IsAscending bound (n + 1) (filter test ns) → IsAscending bound low (cond b (n ∷ filter test ns) (filter test ns))
+    by true rest = (h.0, h.1, rest)
+    by false rest = ascending-lower bound (n + 1) low (filter test ns) (omega (arith, h.0)) rest

@@ -1,11 +1,12 @@
 -- Two sets of ascending numbers, read side by side.
-use Rattle.std.proofs.Common.{◌≡◌, ℕ, ◌+◌, ◌^◌, ◌<◌, ◌≤◌, ◌==◌, ◌||◌, ◌∙◌, Bool, true, false, cond, List, [], ◌∷◌, ◌++◌, filter, length, refl, sym, ap, subst, arith}
+use Rattle.std.proofs.Common.{◌≡◌, ℕ, ◌+◌, ◌^◌, ◌<◌, ◌≤◌, ◌==◌, ◌||◌, ◌∙◌, Bool, true, false, List, [], ◌∷◌, ◌++◌, length, refl, sym, ap, subst, arith}
 use Rattle.std.specs.List.{list_any}
 use Rattle.std.proofs.lemmas.Bool.{cond-false, eq-eqb, ne_eqb}
 use Rattle.std.proofs.lemmas.List.{append-nil, append_assoc}
 use Rattle.std.proofs.lemmas.List.Folds.{list_any-append}
 use Rattle.pmap_text.specs.declared.label.LabelId.{LabelId}
 use Rattle.pmap_cert.specs.CertificateText.{IsAscending}
+use Rattle.pmap_cert.proofs.Tables.{ascending-lower}
 use Rattle.pmap_minimise.specs.Numbers.{IsUnion, common_numbers, has_number, numbers_of}
 
 pub numbers-append : (xs ys : List LabelId) → numbers_of (xs ++ ys) ≡ numbers_of xs ++ numbers_of ys
@@ -96,13 +97,8 @@ module _ (low high : List ℕ) (set : List ℕ) (x y : LabelId) (lower higher lo
         ∙ ap (λ (n : ℕ). common_numbers (x.0 ∷ numbers_of lower_rest) (n ∷ numbers_of higher_rest)) same) ∙ both);
   }
 
--- numbers that ascend from k on ascend from a lower number on
-ascending-weaker : (b k low : ℕ) (ns : List ℕ) → low ≤ k → IsAscending b k ns → IsAscending b low ns
-ascending-weaker b k low [] le ascending = tt
-ascending-weaker b k low (n ∷ ns) le ascending = let least = ascending.0 in (omega arith, ascending.1, ascending.2)
-
 pub ascending-append : (b k low : ℕ) (ns ms : List ℕ) → low ≤ k → k ≤ b → IsAscending k low ns → IsAscending b k ms → IsAscending b low (ns ++ ms)
-ascending-append b k low [] ms le top ascending more = ascending-weaker b k low ms le more
+ascending-append b k low [] ms le top ascending more = ascending-lower b k low ms le more
 ascending-append b k low (n ∷ ns) ms le top ascending more =
     let below = ascending.1 in
     (ascending.0, omega arith, ascending-append b k (n + 1) ns ms (omega arith) top ascending.2 more)
@@ -209,17 +205,6 @@ united-higher low high set lower higher new none is uniting =
       union = λ p. rest-higher (list_any p set) (list_any p new) (list_any p (numbers_of higher)) (list_any p low || list_any p high) (any-joined p set higher new is) (all p);
       ascending = rw is (ascending-append (2 ^ 32) uniting.next 0 set (numbers_of higher) (omega arith) uniting.top uniting.ascending uniting.high_ascending);
     }
-
--- the numbers that pass a test still ascend
-pub ascending-filter : (b low : ℕ) (p : ℕ → Bool) (ns : List ℕ) → IsAscending b low ns → IsAscending b low (filter p ns)
-ascending-filter b low p [] ascending = tt
-ascending-filter b low p (n ∷ ns) ascending =
-    let rest : IsAscending b (n + 1) (filter p ns) = ascending-filter b (n + 1) p ns ascending.2 in
-    by (p n) rest
-  where
-    by : (t : Bool) → IsAscending b (n + 1) (filter p ns) → IsAscending b low (cond t (n ∷ filter p ns) (filter p ns))
-    by true rest = (ascending.0, ascending.1, rest)
-    by false rest = let least = ascending.0 in ascending-weaker b (n + 1) low (filter p ns) (omega arith) rest
 
 -- once one of two sets is used up, their common numbers are found
 pub merged-lower : (low high set : List ℕ) (lower higher : List LabelId) → higher ≡ [] → IsMerging low high set lower higher → set ≡ common_numbers low high

@@ -13,10 +13,10 @@ use Rattle.pmap_cert.specs.CertificateText.{IsAscending}
 use Rattle.pmap_cert.specs.CertificateModel.{Claim, has, IsSameClaim, exact_claim, exact_claim_by}
 use Rattle.pmap_cert.specs.Acceptance.{has_inherited, least_label}
 use Rattle.pmap_cert.proofs.Sets.{bytes_eq-same, has-append}
-use Rattle.pmap_cert.proofs.Tables.{label-same}
+use Rattle.pmap_cert.proofs.Tables.{ascending-filter, label-same}
 use Rattle.pmap_minimise.specs.Listing.{text_of}
 use Rattle.pmap_minimise.specs.Numbers.{IsExactBy, IsUnion, common_numbers, has_number, keeps, numbers_of}
-use Rattle.pmap_minimise.proofs.Merged.{lacks, ascending-filter}
+use Rattle.pmap_minimise.proofs.Merged.{lacks}
 
 -- ascending numbers that are all below `count` ascend below it
 ascending-bounded : (b count low : ℕ) (ns : List ℕ) → IsAscending b low ns → list_any (λ n. nat_le count n) ns ≡ false → IsAscending count low ns

@@ -1,6 +1,7 @@
 use Rattle.std.proofs.Common.{◌^◌, ◌∙◌, ◌∷◌, [], ap, arith}
 use Rattle.pmap_minimise.specs.Numbers.{has_number, numbers_of}
-use Rattle.pmap_minimise.proofs.Merged.{merged-higher, merged-lower, merging-both, merging-higher, merging-lower, no_items, numbers-append, ascending-filter}
+use Rattle.pmap_minimise.proofs.Merged.{merged-higher, merged-lower, merging-both, merging-higher, merging-lower, no_items, numbers-append}
+use Rattle.pmap_cert.proofs.Tables.{ascending-filter}
 use Rattle.pmap_minimise.proofs.sets.common.Goals as goal
 
 pub returns-in_default-split_first-clause-common : goal.returns-in_default-split_first-clause-common

@@ -42,15 +42,15 @@ returns c =
     let m : StretchModel = record { table = c.self.inside.labels.now; stretches = c.self.inside.stretches } in
     let same = same_version c.args.self.now m c.args.addr.version c.self.view_is c.requires in
     c.text.ensures.value
-    ∙ ap (option_and_then (λ id. slice_get m.table id.0)) (sym c.in_ok-label.was ∙ c.label.ensures)
+    ∙ ap (option_and_then (λ id. slice_get m.table id.0)) (sym c.in_ok-id.was ∙ c.label.ensures)
     ∙ label_found m c.len-count.ensures.every c.args.addr.value c.find-index.result c.find-index.ensures.holds (fits_version _ _ _ same c.args.addr.in_range)
     ∙ ap (λ (x : StretchModel). at_addresses x.stretches.version (text_held x.table x.stretches) c.args.addr.value) c.self.view_is
 
-pub returns-in_err-label : goal.returns-in_err-label
-returns-in_err-label c =
+pub returns-in_err-id : goal.returns-in_err-id
+returns-in_err-id c =
     let m : StretchModel = record { table = c.self.inside.labels.now; stretches = c.self.inside.stretches } in
     let same = same_version c.args.self.now m c.args.addr.version c.self.view_is c.requires in
     ap (option_map (λ t. t.now)) c.from_residual.ensures
-    ∙ ap (option_and_then (λ id. slice_get m.table id.0)) (sym c.in_err-label.was ∙ c.label.ensures)
+    ∙ ap (option_and_then (λ id. slice_get m.table id.0)) (sym c.in_err-id.was ∙ c.label.ensures)
     ∙ label_found m c.len-count.ensures.every c.args.addr.value c.find-index.result c.find-index.ensures.holds (fits_version _ _ _ same c.args.addr.in_range)
     ∙ ap (λ (x : StretchModel). at_addresses x.stretches.version (text_held x.table x.stretches) c.args.addr.value) c.self.view_is
