@@ -35,16 +35,13 @@ fn read_label<'a>(labels: &Labels, lines: &Lines<'a>) -> Result<(&'a [u8], Lines
     ensures new { IfOk result (λ x. has_label labels.now x.0.now ≡ false) }
     ensures err { IfErr result (λ fault. line_value BadLabelTable (new_label labels.now) lines.now ≡ Err fault) }
 {
-    match lines.next() {
-        Some((line, after)) => {
-            if is_label(line) && !is_known(labels, line) {
-                Ok((line, after))
-            } else {
-                Err(lines.fault(CertFaultKind::BadLabelTable))
-            }
-        }
-        None => Err(lines.fault(CertFaultKind::BadLabelTable)),
+    if let Some((line, after)) = lines.next()
+        && is_label(line)
+        && !is_known(labels, line)
+    {
+        return Ok((line, after));
     }
+    Err(lines.fault(CertFaultKind::BadLabelTable))
 }
 
 // Reads a table of `count` labels.

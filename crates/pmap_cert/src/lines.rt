@@ -42,17 +42,12 @@ impl<'a> Lines<'a> {
     pub fn next(&self) -> Option<(&'a [u8], Lines<'a>)>
         ensures { option_map (λ x. (x.0.now, x.1)) result ≡ next_line self.now }
     {
-        let text = self.rest;
-        match find_byte(text, b'\n') {
-            Some(end) => Some((
-                &text[..end],
-                Lines {
-                    rest: &text[end + 1..],
-                    number: self.number + 1,
-                },
-            )),
-            None => None,
-        }
+        let end = find_byte(self.rest, b'\n')?;
+        let after = Lines {
+            rest: &self.rest[end + 1..],
+            number: self.number + 1,
+        };
+        Some((&self.rest[..end], after))
     }
 
     /// Reads the next line of a node and moves past it. `kept` gets the set of an inner node or a chain, and the bits of

@@ -79,11 +79,10 @@ pub fn read_header<'a>(lines: &Lines<'a>) -> Result<(Header, Lines<'a>), CertFau
     ensures ok { IfOk result (λ x. format_header_at lines.now ≡ Ok (header_model x.0, x.1)) }
     ensures err { IfErr result (λ fault. format_header_at lines.now ≡ Err fault) }
 {
-    match lines.next() {
-        Some((line, after)) => match said(line) {
-            Some(found) => Ok((found, after)),
-            None => Err(lines.fault(CertFaultKind::BadHeader)),
-        },
-        None => Err(lines.fault(CertFaultKind::BadHeader)),
+    if let Some((line, after)) = lines.next()
+        && let Some(found) = said(line)
+    {
+        return Ok((found, after));
     }
+    Err(lines.fault(CertFaultKind::BadHeader))
 }
