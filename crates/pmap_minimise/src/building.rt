@@ -140,10 +140,7 @@ fn side_of(stretches: &Stretches, low: &Window, high: &Window) -> Option<LabelId
     ensures { option_map (λ id. id.0) result
         ≡ option_or (own_label stretches.now low.now) (own_label stretches.now high.now) }
 {
-    match own_label(stretches, low) {
-        Some(side) => Some(side),
-        None => own_label(stretches, high),
-    }
+    own_label(stretches, low).or_else(|| own_label(stretches, high))
 }
 
 /// Builds the nodes of the compact certificate of a map's minimal pair.

@@ -26,10 +26,7 @@ fn is_side(stretches: &Stretches, at: usize, side: LabelId) -> bool
     requires { at < length stretches.now.firsts }
     ensures { IsTrue result ↔ HasLabel stretches.now side.0 at }
 {
-    match stretches.label(at) {
-        Some(id) => id.0 == side.0,
-        None => false,
-    }
+    stretches.label(at) == Some(side)
 }
 
 // Returns whether a block is in one stretch, and that stretch has this label.
