@@ -1,9 +1,9 @@
 -- Headers, whatever bytes follow them, and headers whose following bytes are known.
-use Rattle.std.proofs.Common.{◌≡◌, ℕ, ◌<◌, ◌≤◌, List, ◌++◌, length, Option, Some, None, inl, inr, refl, sym, ap, ◌∙◌, arith, ◌+◌, take, length-take, ◌-◌, IfSome, Ok, Err, subst, append_assoc, length-append}
+use Rattle.std.proofs.Common.{◌≡◌, ℕ, ◌<◌, ◌≤◌, List, ◌++◌, length, Option, Some, None, inl, inr, refl, sym, ap, ◌∙◌, arith, ◌+◌, take, length-take, ◌-◌, Ok, Err, subst, length-append, [], unwrap_or}
 use Rattle.std.proofs.lemmas.Grind.{common_steps}
 use Rattle.std.proofs.lemmas.Bool.Decides.{nat_tests}
 use Rattle.std.proofs.lemmas.Bool.{lt-ltb, le-ltb}
-use Rattle.std.proofs.lemmas.List.{take_at, take_all, length-take-le}
+use Rattle.std.proofs.lemmas.List.{append-nil, take_at, take_all, length-take-le}
 use Rattle.byteorder.specs.Endian.{big_number}
 use Rattle.ipfix_read.specs.Message.{ReadFaultKind, header_fault, own_fault, HasHeader}
 use Rattle.ipfix_read.specs.declared.fault.ReadFaultKind.TheVariants.{TruncatedHeader, TruncatedMessage, ReadFault as Unread}
@@ -13,7 +13,7 @@ use lib.Seq.{take-append-add, take-append-le, take-append_seam}
 use borrow.Rule.Slice.PartMut.{put_mid, post_of}
 use Rattle.std.specs.Io.KnownBytes.{Consumes, IsAtEnd}
 use Rattle.std.proofs.KnownBytes.{Consumes-trans}
-use Rattle.ipfix_read.specs.Messages.{Gathers}
+use Rattle.ipfix_read.specs.Messages.{Gathers, ReadsInput}
 
 -- ---- numbers at the start, whatever follows
 
@@ -54,6 +54,16 @@ pub header_sound : (count : ℕ) (bytes : List ℕ) → header_fault count bytes
 header_sound count bytes e =
     let own : own_fault count bytes ≡ None = grind (arith, nat_tests, common_steps) in (own_sound count bytes own, grind (arith, nat_tests, common_steps))
 
+own_none : (count : ℕ) (bytes : List ℕ) → count < 4294967295 → big_number 2 bytes ≡ 10 → 16 ≤ written_length bytes → own_fault count bytes ≡ None
+own_none count bytes counted version least = grind (arith, nat_tests, common_steps)
+
+-- the header of a whole message, whatever bytes follow the message
+pub header_whole : (count : ℕ) (front after : List ℕ) → count < 4294967295 → 16 ≤ length front → big_number 2 front ≡ 10 → written_length front ≡ length front → header_fault count (front ++ after) ≡ None
+header_whole count front after counted least version whole =
+    let long = length-append front after in
+    header_none count (front ++ after) (omega (arith, long)) (own_ahead count front after (omega arith) ∙ own_none count front counted version (omega arith))
+    (omega (arith, written_ahead front after (omega arith), long))
+
 -- ---- the start of a slice after a read into the rest of it
 
 take_length : (a : ℕ) (xs : List ℕ) → a ≤ length xs → length (take a xs) ≡ a
@@ -88,101 +98,65 @@ two_parts size xs ys zs sixteen all =
 
 -- ---- the reader returned nothing, too little, or a header with a fault
 
--- if nothing is gathered, the content of the buffer is unspecified
-pub unread : (o : Option (List ℕ)) (count : ℕ) → IfSome o (λ left. Gathers count left (Err Unread) None)
-unread None count = tt
-unread (Some left) count = inl refl
+-- nothing follows at the end of the input
+pub none_follow : (bytes : List ℕ) (n : Option (List ℕ)) → IsAtEnd n → bytes ++ unwrap_or n [] ≡ bytes
+none_follow bytes None end = append-nil bytes
+none_follow bytes (Some left) end = ap (λ (l : List ℕ). bytes ++ l) end ∙ append-nil bytes
 
-pub nothing_left : (o n : Option (List ℕ)) (count head : ℕ) (ys : List ℕ) → Consumes o n (take head ys) → head ≡ 0 → IsAtEnd n
-    → IfSome o (λ left. Gathers count left (Ok None) n)
-nothing_left None n count head ys given none end = tt
-nothing_left (Some left) None count head ys given none end = absurd given
-nothing_left (Some left) (Some rest) count head ys given none end =
-    (given ∙ ap (λ (k : ℕ). take k ys ++ rest) none ∙ end, ap (λ (l : List ℕ). Some l) end)
-
-pub short_header : (o n : Option (List ℕ)) (count head : ℕ) (ys : List ℕ) → Consumes o n (take head ys) → 0 < head → head < 16 → head ≤ length ys → IsAtEnd n
-    → IfSome o (λ left. Gathers count left (Err TruncatedHeader) n)
-short_header None n count head ys given some short within end = tt
-short_header (Some left) None count head ys given some short within end = absurd given
-short_header (Some left) (Some rest) count head ys given some short within end =
-    let long : length left ≡ head =
-    omega (arith, ap (λ (l : List ℕ). length l) given, length-append (take head ys) rest, ap (λ (l : List ℕ). length l) end, length-take-le head ys within) in
-    inr (omega (arith, long, some), header_short count left (omega (arith, long, short)))
-
--- a whole header was read: it is at the start of the remaining bytes
-whole_head : (left rest ys : List ℕ) (head : ℕ) → left ≡ take head ys ++ rest → length ys ≡ 16 → 16 ≤ head → left ≡ ys ++ rest
-whole_head left rest ys head given sixteen whole = given ∙ ap (λ (l : List ℕ). l ++ rest) (take_all head ys (omega (arith, sixteen, whole)))
+pub unread_header : (o n : Option (List ℕ)) (count : ℕ) (ys : List ℕ) → length ys ≡ 16 → ReadsInput o n (λ taken left. length taken < length ys) → ReadsInput o n (Gathers count (Err Unread))
+unread_header o n count ys sixteen r = (r.0, r.1, inl (refl, inl (header_short count r.0 (omega (arith, r.2, sixteen)))))
 
 -- the fault and the length that a header at the start gives
-same_fault : (count : ℕ) (left xs ys more : List ℕ) → left ≡ ys ++ more → length ys ≡ 16 → own_fault count left ≡ own_fault count (head_of xs ys)
-same_fault count left xs ys more parts sixteen =
-    ap (λ (l : List ℕ). own_fault count l) parts ∙ own_ahead count ys more (omega (arith, sixteen)) ∙ ap (λ (l : List ℕ). own_fault count l) (sym (head_is xs ys sixteen))
+same_fault : (count : ℕ) (xs ys more : List ℕ) → length ys ≡ 16 → own_fault count (ys ++ more) ≡ own_fault count (head_of xs ys)
+same_fault count xs ys more sixteen = own_ahead count ys more (omega (arith, sixteen)) ∙ ap (λ (l : List ℕ). own_fault count l) (sym (head_is xs ys sixteen))
 
-same_length : (left xs ys more : List ℕ) → left ≡ ys ++ more → length ys ≡ 16 → written_length left ≡ written_length (head_of xs ys)
-same_length left xs ys more parts sixteen =
-    ap (λ (l : List ℕ). written_length l) parts ∙ written_ahead ys more (omega (arith, sixteen)) ∙ ap (λ (l : List ℕ). written_length l) (sym (head_is xs ys sixteen))
+same_length : (xs ys more : List ℕ) → length ys ≡ 16 → written_length (ys ++ more) ≡ written_length (head_of xs ys)
+same_length xs ys more sixteen = written_ahead ys more (omega (arith, sixteen)) ∙ ap (λ (l : List ℕ). written_length l) (sym (head_is xs ys sixteen))
 
-long_enough : (left ys more : List ℕ) → left ≡ ys ++ more → length left ≡ length ys + length more
-long_enough left ys more parts = ap (λ (l : List ℕ). length l) parts ∙ length-append ys more
+-- the first read
+module _ (o n : Option (List ℕ)) (count head : ℕ) (ys : List ℕ) (given : Consumes o n (take head ys)) where
+  pub nothing_left : head ≡ 0 → IsAtEnd n → ReadsInput o n (Gathers count (Ok None))
+  nothing_left none end = (take head ys, given, none_follow (take head ys) n end ∙ ap (λ (k : ℕ). take k ys) none)
 
-pub faulty_header : (o n : Option (List ℕ)) (count head : ℕ) (xs ys : List ℕ) (kind : ReadFaultKind) → Consumes o n (take head ys) → length ys ≡ 16 → 16 ≤ head
-    → own_fault count (head_of xs ys) ≡ Some kind → IfSome o (λ left. Gathers count left (Err kind) n)
-faulty_header None n count head xs ys kind given sixteen whole own = tt
-faulty_header (Some left) None count head xs ys kind given sixteen whole own = absurd given
-faulty_header (Some left) (Some rest) count head xs ys kind given sixteen whole own =
-    let parts = whole_head left rest ys head given sixteen whole in
-    let long = long_enough left ys rest parts in
-    inr (omega (arith, long, sixteen), header_own count left kind (omega (arith, long, sixteen)) (same_fault count left xs ys rest parts sixteen ∙ own))
+  pub short_header : 0 < head → head < 16 → head ≤ length ys → IsAtEnd n → ReadsInput o n (Gathers count (Err TruncatedHeader))
+  short_header some short within end =
+      let long = length-take-le head ys within in
+      (take head ys, given, inr (omega (arith, long, some), ap (λ (l : List ℕ). header_fault count l) (none_follow (take head ys) n end) ∙ header_short count (take head ys) (omega (arith, long, short))))
 
--- ---- both reads
+  module _ (xs : List ℕ) (sixteen : length ys ≡ 16) (whole : 16 ≤ head) where
+    all_given : Consumes o n ys
+    all_given = subst (λ (l : List ℕ). Consumes o n l) (take_all head ys (omega (arith, sixteen, whole))) given
 
--- the bytes that both reads returned
-both_given : (left rest ys zs : List ℕ) (head : ℕ) → left ≡ (take head ys ++ zs) ++ rest → length ys ≡ 16 → 16 ≤ head → left ≡ ys ++ (zs ++ rest)
-both_given left rest ys zs head given sixteen whole =
-    given ∙ ap (λ (l : List ℕ). (l ++ zs) ++ rest) (take_all head ys (omega (arith, sixteen, whole))) ∙ append_assoc ys zs rest
+    pub faulty_header : (kind : ReadFaultKind) → own_fault count (head_of xs ys) ≡ Some kind → ReadsInput o n (Gathers count (Err kind))
+    faulty_header kind own =
+        let left = unwrap_or n [] in
+        (ys, all_given, inr (omega (arith, sixteen), header_own count (ys ++ left) kind (omega (arith, sixteen, length-append ys left)) (same_fault count xs ys left sixteen ∙ own)))
 
-cut_message : (left : List ℕ) (n : Option (List ℕ)) (count size head : ℕ) (xs ys zs : List ℕ) → Consumes (Some left) n (take head ys ++ zs) → length ys ≡ 16 → 16 ≤ head
-    → own_fault count (head_of xs ys) ≡ None → size ≡ written_length (head_of xs ys) → 16 + length zs < size → IsAtEnd n → Gathers count left (Err TruncatedMessage) n
-cut_message left None count size head xs ys zs given sixteen whole own written short end = absurd given
-cut_message left (Some rest) count size head xs ys zs given sixteen whole own written short end =
-    let parts = both_given left rest ys zs head given sixteen whole in
-    let long : length left ≡ 16 + length zs =
-    omega (arith, long_enough left ys (zs ++ rest) parts, length-append zs rest, ap (λ (l : List ℕ). length l) end, sixteen) in
-    inr (
-      omega (arith, long),
-      header_cut count left (omega (arith, long)) (same_fault count left xs ys (zs ++ rest) parts sixteen ∙ own)
-          (omega (arith, same_length left xs ys (zs ++ rest) parts sixteen, written, long, short)),
-    )
+    -- both reads
+    module _ (size : ℕ) (m : Option (List ℕ)) (own : own_fault count (head_of xs ys) ≡ None) (written : size ≡ written_length (head_of xs ys)) where
+      cut_off : (more : List ℕ) → 16 + length more < size → header_fault count (ys ++ more) ≡ Some TruncatedMessage
+      cut_off more short =
+          let long : length (ys ++ more) ≡ 16 + length more = omega (arith, sixteen, length-append ys more) in
+          header_cut count (ys ++ more) (omega (arith, long)) (same_fault count xs ys more sixteen ∙ own) (omega (arith, same_length xs ys more sixteen, written, long, short))
 
-pub short_message : (o n₁ n₂ : Option (List ℕ)) (count size head got : ℕ) (xs ys zs : List ℕ) → Consumes o n₁ (take head ys) → Consumes n₁ n₂ (take got zs)
-    → length ys ≡ 16 → 16 ≤ head → own_fault count (head_of xs ys) ≡ None → size ≡ written_length (head_of xs ys) → got ≤ length zs → 16 + got < size → IsAtEnd n₂
-    → IfSome o (λ left. Gathers count left (Err TruncatedMessage) n₂)
-short_message None n₁ n₂ count size head got xs ys zs first second sixteen whole own written within short end = tt
-short_message (Some left) n₁ n₂ count size head got xs ys zs first second sixteen whole own written within short end =
-    cut_message left n₂ count size head xs ys (take got zs) (Consumes-trans (Some left) n₁ n₂ (take head ys) (take got zs) first second) sixteen whole own written
-    (omega (arith, length-take-le got zs within, short)) end
+      pub unread_rest : (zs : List ℕ) → size ≡ 16 + length zs → ReadsInput n m (λ taken left. length taken < length zs) → ReadsInput o m (Gathers count (Err Unread))
+      unread_rest zs all r = (ys ++ r.0, Consumes-trans o n m ys r.0 all_given r.1, inl (refl, inr (cut_off r.0 (omega (arith, r.2, all)))))
 
-whole_message : (left : List ℕ) (n : Option (List ℕ)) (count size head : ℕ) (xs ys zs : List ℕ) → Consumes (Some left) n (take head ys ++ zs) → length ys ≡ 16 → 16 ≤ head
-    → own_fault count (head_of xs ys) ≡ None → size ≡ written_length (head_of xs ys) → size ≡ 16 + length zs → Gathers count left (Ok (Some (take size (both_in size xs ys zs)))) n
-whole_message left None count size head xs ys zs given sixteen whole own written all = absurd given
-whole_message left (Some rest) count size head xs ys zs given sixteen whole own written all =
-    let parts = both_given left rest ys zs head given sixteen whole in
-    let long : length left ≡ size + length rest = omega (arith, long_enough left ys (zs ++ rest) parts, length-append zs rest, sixteen, all) in (
-      rest,
-      parts ∙ sym (append_assoc ys zs rest) ∙ ap (λ (l : List ℕ). l ++ rest) (sym (two_parts size xs ys zs sixteen all)),
-      header_none count left (omega (arith, long, all)) (same_fault count left xs ys (zs ++ rest) parts sixteen ∙ own)
-          (omega (arith, same_length left xs ys (zs ++ rest) parts sixteen, written, long)),
-      refl,
-    )
+      module _ (got : ℕ) (zs : List ℕ) (then : Consumes n m (take got zs)) where
+        pub short_message : got ≤ length zs → 16 + got < size → IsAtEnd m → ReadsInput o m (Gathers count (Err TruncatedMessage))
+        short_message within short end =
+            let more = take got zs in (
+              ys ++ more,
+              Consumes-trans o n m ys more all_given then,
+              inr (omega (arith, sixteen, length-append ys more), ap (λ (l : List ℕ). header_fault count l) (none_follow (ys ++ more) m end) ∙ cut_off more (omega (arith, length-take-le got zs within, short))),
+            )
 
-pub gathered : (o n₁ n₂ : Option (List ℕ)) (count size head got : ℕ) (xs ys zs : List ℕ) → Consumes o n₁ (take head ys) → Consumes n₁ n₂ (take got zs)
-    → length ys ≡ 16 → 16 ≤ head → own_fault count (head_of xs ys) ≡ None → size ≡ written_length (head_of xs ys) → size ≡ 16 + length zs → size ≤ 16 + got
-    → IfSome o (λ left. Gathers count left (Ok (Some (take size (both_in size xs ys zs)))) n₂)
-gathered None n₁ n₂ count size head got xs ys zs first second sixteen whole own written all most = tt
-gathered (Some left) n₁ n₂ count size head got xs ys zs first second sixteen whole own written all most =
-    let given = subst (λ (l : List ℕ). Consumes (Some left) n₂ (take head ys ++ l)) (take_all got zs (omega (arith, all, most)))
-    (Consumes-trans (Some left) n₁ n₂ (take head ys) (take got zs) first second) in
-    whole_message left n₂ count size head xs ys zs given sixteen whole own written all
+        pub gathered : size ≡ 16 + length zs → size ≤ 16 + got → ReadsInput o m (Gathers count (Ok (Some (take size (both_in size xs ys zs)))))
+        gathered all most = (
+          ys ++ zs,
+          Consumes-trans o n m ys zs all_given (subst (λ (l : List ℕ). Consumes n m l) (take_all got zs (omega (arith, all, most))) then),
+          two_parts size xs ys zs sixteen all,
+        )
 
 -- the buffer then holds a message
 pub holds_message : (size : ℕ) (xs ys zs : List ℕ) → length ys ≡ 16 → size ≡ 16 + length zs → size ≤ 65535 → big_number 2 (head_of xs ys) ≡ 10 → size ≡ written_length (head_of xs ys)
@@ -192,5 +166,5 @@ holds_message size xs ys zs sixteen all most version written =
     let many : length (ys ++ zs) ≡ size = omega (arith, length-append ys zs, sixteen, all) in
     let ten : big_number 2 (ys ++ zs) ≡ 10 =
     number_ahead ys zs (omega (arith, sixteen)) ∙ ap (λ (l : List ℕ). big_number 2 l) (sym (head_is xs ys sixteen)) ∙ version in
-    let lengths : written_length (ys ++ zs) ≡ length (ys ++ zs) = same_length (ys ++ zs) xs ys zs refl sixteen ∙ sym written ∙ sym many in
+    let lengths : written_length (ys ++ zs) ≡ length (ys ++ zs) = same_length xs ys zs sixteen ∙ sym written ∙ sym many in
     subst (λ (l : List ℕ). HasHeader l) (sym parts) (record { least = omega (arith, many, all); most = omega (arith, many, most); version = ten; whole = lengths })

@@ -24,7 +24,7 @@ use Rattle.byteorder.specs.Endian.{big_number}
 use Rattle.ipfix_read.proofs.Sets.{Cut, cut_parts, cut_length, cut_written, front_length, front_number}
 use Rattle.ipfix_read.specs.Messages.{FilePlace, ReadsMessage, IsMessageFault}
 use Rattle.ipfix_read.specs.Laws.{FirstMessageAndRest, HasReading, OneReading, MemoryIsNoFault}
-use Rattle.ipfix_read.proofs.Gathering.{header_sound}
+use Rattle.ipfix_read.proofs.Gathering.{header_sound, header_whole}
 use Rattle.ipfix_templates.specs.declared.fault.TemplateFaultKind.{TemplateFaultKind}
 use Rattle.ipfix_templates.specs.declared.fault.TemplateFaultKind.TheVariants.{NoMemory as NoTemplateMemory}
 
@@ -324,7 +324,10 @@ one_step at m o next later p q =
     (same, λ i. (histories i, counts i, fronts.1 i))
 
 message_or_fault : (at : FilePlace) (base : ℕ) (fault : ReadFault) → Goes ReadsMessage at → HasMessageFault at.0 at.1 at.2 base fault → ⊥
-message_or_fault at base fault g (inl q) = let r = g.2 in some_not_none _ _ q.1 r.2
+message_or_fault at base fault g (inl q) =
+    let r = g.2 in
+    let is = r.3 in
+    some_not_none _ _ q.1 (ap (λ (l : List ℕ). header_fault at.1 l) r.1 ∙ header_whole at.1 r.0 g.1.2 r.2 is.header is.version is.whole)
 message_or_fault at base fault g (inr q) =
     let r = g.2 in
     let same = one_front at.2 r.0 g.1.2 q.0 q.1 (message_front at g.0 g.1 r) (record { parts = q.2; least = omega (arith, q.4); whole = q.5 }) in
@@ -369,7 +372,7 @@ message_due at base None is =
           let m : MessageView = record { export_time = big_number 4 (drop 4 front); sequence = big_number 4 (drop 8 front); domain = big_number 4 (drop 12 front); sets = q.0 } in
           let version : big_number 2 front ≡ 10 = front_number size at.2 (omega (arith, header.least)) ∙ header.version in
           let is_message : IsMessage at.0 front m = record { header = least; version = version; whole = whole; export_time = refl; sequence = refl; domain = refl; sets = q.1 } in
-          inl (m, (at.0 ++ events_of_message m, at.1 + 1, after), (front, parts, is, is_message, refl, refl))
+          inl (m, (at.0 ++ events_of_message m, at.1 + 1, after), (front, parts, header.counted, is_message, refl, refl))
       | inr q ↦ inr (q.0, inr (front, after, parts, is, least, whole, q.1))
     ]
 
@@ -392,15 +395,15 @@ has_reading history offset count bytes =
 -- ---- a first message, and the rest
 
 pub first_and_rest : FirstMessageAndRest
-first_and_rest history offset count front after m none is =
+first_and_rest history offset count front after m counted is =
     let next : FilePlace = (history ++ events_of_message m, count + 1, after) in (
-      λ ms rest. (rest.0, (next, (front, refl, none, is, refl, refl), rest.1), rest.2),
+      λ ms rest. (rest.0, (next, (front, refl, counted, is, refl, refl), rest.1), rest.2),
       λ fault q.
           let at = q.1 in
           let found = q.3 in
           let place : (offset + length front) + (length after - length at.2) ≡ offset + (length (front ++ after) - length at.2) =
           omega (arith, length-append front after, messages_shorter next q.0 at q.2) in
-          (m ∷ q.0, at, (next, (front, refl, none, is, refl, refl), q.2), (found.0, subst (λ (k : ℕ). HasMessageFault at.0 at.1 at.2 k fault) place found.1)),
+          (m ∷ q.0, at, (next, (front, refl, counted, is, refl, refl), q.2), (found.0, subst (λ (k : ℕ). HasMessageFault at.0 at.1 at.2 k fault) place found.1)),
     )
 
 -- ---- the bytes of a File never have the fault that an allocation failed

@@ -1,4 +1,5 @@
-use Rattle.std.specs.Prelude.{◌≡◌, ℕ, ◌+◌, ◌-◌, ◌<◌, List, [], ◌++◌, length, None, ◌⊎◌, Bool, false, ◌∷◌, Option, Some, Result, Ok, Err}
+use Rattle.std.specs.Prelude.{◌≡◌, ℕ, ◌+◌, ◌-◌, ◌<◌, List, [], ◌++◌, length, None, ◌⊎◌, Bool, false, ◌∷◌, Option, Some, Result, Ok, Err, IfSome, unwrap_or}
+use Rattle.std.specs.Io.KnownBytes.{Consumes}
 use Rattle.ipfix_templates.specs.declared.event.TemplateEvent.{TemplateEvent}
 use Rattle.ipfix_templates.specs.Reading.{ReadsWhole, StopsAt, Reads}
 use Rattle.ipfix_templates.specs.Template.{TemplateView}
@@ -7,7 +8,7 @@ use Rattle.ipfix_read.specs.Message.{ReadFault, MessageView, IsMessage, HasMessa
 use Rattle.ipfix_read.specs.declared.fault.ReadFaultKind.TheVariants.{ReadFault as Unread}
 use Rattle.ipfix_read.specs.declared.progress.State.{State}
 pub use Rattle.ipfix_read.specs.declared.progress.State.TheVariants.{Ended, Failed, Going}
-use Rattle.ipfix_read.specs.Fault.{out_of_memory, read_fault, is_of_reader}
+use Rattle.ipfix_read.specs.Fault.{out_of_memory, read_fault, is_of_reader, TruncatedHeader, TruncatedMessage}
 use Rattle.ipfix_read.specs.Set.{IsReadAfter}
 
 -- Files (RFC 5655): consecutive messages.
@@ -16,11 +17,11 @@ use Rattle.ipfix_read.specs.Set.{IsReadAfter}
 abbrev pub FilePlace : Type 0
 FilePlace = List (ℕ × TemplateEvent) × ℕ × List ℕ
 
--- the message at the start of the remaining bytes, and the state after it, with the message's events and one more
--- message
+-- the message at the start of the remaining bytes, unless it is one too many, and the state after it, with the
+-- message's events and one more message
 abbrev pub ReadsMessage : FilePlace → MessageView → FilePlace → Type 0
 ReadsMessage at m next =
-    (front : List ℕ) × (at.2 ≡ front ++ next.2) × (header_fault at.1 at.2 ≡ None) × IsMessage at.0 front m
+    (front : List ℕ) × (at.2 ≡ front ++ next.2) × (at.1 < 4294967295) × IsMessage at.0 front m
     × (next.0 ≡ at.0 ++ events_of_message m) × (next.1 ≡ at.1 + 1)
 
 -- The bytes are exactly these consecutive messages. Reading begins after a history of template events and a number of
@@ -36,7 +37,24 @@ IsMessageFault size offset at fault = (0 < length at.2) × HasMessageFault at.0 
 abbrev pub HasFileFault : List (ℕ × TemplateEvent) → ℕ → ℕ → List ℕ → ReadFault → Type 0
 HasFileFault history offset count bytes fault = StopsAt ReadsMessage (IsMessageFault (length bytes) offset) (history, count, bytes) fault
 
--- The messages of a File, one call after another, over the bytes that a reader will still return.
+-- the bytes are the beginning of a message that isn't complete, and have no fault so far: if they ended here, the
+-- message would be truncated
+abbrev pub IsIncomplete : ℕ → List ℕ → Type 0
+IsIncomplete count bytes =
+    (header_fault count bytes ≡ Some TruncatedHeader) ⊎ (header_fault count bytes ≡ Some TruncatedMessage)
+
+-- after some messages the bytes end in such a beginning, and this is the fault of a reader that failed there
+abbrev pub StopsReading : List (ℕ × TemplateEvent) → ℕ → ℕ → List ℕ → ReadFault → Type 0
+StopsReading history offset count bytes fault =
+    StopsAt ReadsMessage
+    (λ at fault. IsIncomplete at.1 at.2 × (fault ≡ read_fault (offset + (length bytes - length at.2)))) (history, count, bytes) fault
+
+-- The messages of a File, one call after another. What a reader will still return is known if it reports its bytes.
+
+-- Bytes were taken from a reader, which had these bytes before and has those now. The property holds of the taken bytes
+-- and of those that follow, which are none if the reader doesn't report them.
+abbrev pub ReadsInput : Option (List ℕ) → Option (List ℕ) → (List ℕ → List ℕ → Type 0) → Type 0
+ReadsInput given gives P = (taken : List ℕ) × Consumes given gives taken × P taken (unwrap_or gives [])
 
 -- the state between two calls: the table of templates, the offset and the number of messages from which a File is read
 -- on, and whether there may be more messages
@@ -50,49 +68,54 @@ pub record ProgressView : Type 0 where
 abbrev pub at_start : ProgressView
 at_start = record { table = []; offset = 0; count = 0; state = Going }
 
--- The result of a call in the state Going if the reader will still return these bytes, and the state after the call.
--- The result is the first message of the File that begins here, and the reader has then returned exactly its bytes. If
--- no bytes remain, there is no message. It is the first fault of the File if that fault is in this message, or the
--- fault of a failed allocation or reader. Here means with the table, the offset and the number of messages, for each
--- history that the table follows.
-abbrev pub AnswersNext : ProgressView → List ℕ → Result (Option MessageView) ReadFault → ProgressView → Option (List ℕ) → Type 0
-AnswersNext old left (Ok (Some m)) new gives =
-    (front : List ℕ) × (after : List ℕ) × (left ≡ front ++ after) × (header_fault old.count left ≡ None)
-    × IsReadAfter old.table new.table (events_of_message m) (λ history. IsMessage history front m)
-    × (new.offset ≡ old.offset + length front) × (new.count ≡ old.count + 1) × (new.state ≡ Going) × (gives ≡ Some after)
-AnswersNext old left (Ok None) new gives = (left ≡ []) × (new.state ≡ Ended) × (gives ≡ Some [])
-AnswersNext old left (Err fault) new gives =
+-- The result of a call in the state Going, and the state after it, by the bytes that the call took and those that
+-- follow. The result is the message that the taken bytes are. If there are no bytes, there is no message. The result is
+-- the first fault of the File if that fault is in this message, or the fault of a failed allocation. It is the fault of
+-- a failed reader only if the taken bytes are the beginning of a message. All of this is so with the table, the offset
+-- and the number of messages, for each history that the table follows.
+abbrev pub AnswersNext : ProgressView → Result (Option MessageView) ReadFault → ProgressView → List ℕ → List ℕ → Type 0
+AnswersNext old (Ok (Some m)) new taken left =
+    (old.count < 4294967295) × IsReadAfter old.table new.table (events_of_message m) (λ history. IsMessage history taken m)
+    × (new.offset ≡ old.offset + length taken) × (new.count ≡ old.count + 1) × (new.state ≡ Going)
+AnswersNext old (Ok None) new taken left = (taken ++ left ≡ []) × (new.state ≡ Ended)
+AnswersNext old (Err fault) new taken left =
     (new.state ≡ Failed)
     × ((fault ≡ out_of_memory)
-    ⊎ ((fault ≡ read_fault old.offset)
-    ⊎ ((0 < length left) × ((history : List (ℕ × TemplateEvent)) → Follows old.table history → HasMessageFault history old.count left old.offset fault))))
+    ⊎ (((fault ≡ read_fault old.offset) × IsIncomplete old.count taken)
+    ⊎ ((0 < length taken) × ((history : List (ℕ × TemplateEvent)) → Follows old.table history → HasMessageFault history old.count (taken ++ left) old.offset fault))))
 
 -- whether a result is that the reader failed
 abbrev pub is_read_fault : {A : Type 0} → Result A ReadFault → Bool
 is_read_fault (Ok _) = false
 is_read_fault (Err fault) = is_of_reader fault.kind
 
--- the bytes of the message after this many messages, if the reader will still return these bytes; none if no bytes
--- remain, or the fault of the header
-abbrev pub Gathers : ℕ → List ℕ → Result (Option (List ℕ)) ReadFaultKind → Option (List ℕ) → Type 0
-Gathers count left (Ok (Some front)) gives =
-    (after : List ℕ) × (left ≡ front ++ after) × (header_fault count left ≡ None) × (gives ≡ Some after)
-Gathers count left (Ok None) gives = (left ≡ []) × (gives ≡ Some [])
-Gathers count left (Err kind) gives = (kind ≡ Unread) ⊎ ((0 < length left) × (header_fault count left ≡ Some kind))
+-- the taken bytes are those of the message after this many messages; there are no bytes; or this is the fault of the
+-- header, or of a failed reader
+abbrev pub Gathers : ℕ → Result (Option (List ℕ)) ReadFaultKind → List ℕ → List ℕ → Type 0
+Gathers count (Ok (Some front)) taken left = front ≡ taken
+Gathers count (Ok None) taken left = taken ++ left ≡ []
+Gathers count (Err kind) taken left =
+    ((kind ≡ Unread) × IsIncomplete count taken) ⊎ ((0 < length taken) × (header_fault count (taken ++ left) ≡ Some kind))
 
--- These messages are at the start of the bytes. Reading began after a history of template events, at an offset and
--- after a number of messages. The state between two calls is the one after these messages, and these bytes remain.
-pub record IsReadTo (history : List (ℕ × TemplateEvent)) (offset count : ℕ) (bytes : List ℕ) (messages : List MessageView) (p : ProgressView) (left : List ℕ) : Type 0 where
+-- The bytes taken from a reader so far are these messages. Reading began after a history of template events, at an
+-- offset and after a number of messages, with a reader that had these bytes. The state between two calls is the one
+-- after these messages, and the reader has those bytes now.
+pub record IsReadTo (history : List (ℕ × TemplateEvent)) (offset count : ℕ) (given : Option (List ℕ)) (messages : List MessageView) (p : ProgressView) (now : Option (List ℕ)) : Type 0 where
+  pub taken : List ℕ
+  pub consumed : Consumes given now taken
   pub later : List (ℕ × TemplateEvent)
-  pub read : Reads ReadsMessage (history, count, bytes) messages (later, p.count, left)
+  pub read : (rest : List ℕ) → Reads ReadsMessage (history, count, taken ++ rest) messages (later, p.count, rest)
   pub follows : Follows p.table later
-  pub placed : p.offset ≡ offset + (length bytes - length left)
+  pub placed : p.offset ≡ offset + length taken
 
--- The meaning of a result for the File that the bytes are: its messages begin with those so far and one more; it
--- consists of the messages so far; or the fault is its first one, unless it is that of a failed allocation or reader.
-abbrev pub JoinsFile : List (ℕ × TemplateEvent) → ℕ → ℕ → List ℕ → List MessageView → ProgressView → Result (Option MessageView) ReadFault → ProgressView → Option (List ℕ) → Type 0
-JoinsFile history offset count bytes messages old (Ok (Some m)) new gives =
-    (left : List ℕ) × (gives ≡ Some left) × IsReadTo history offset count bytes (messages ++ m ∷ []) new left
-JoinsFile history offset count bytes messages old (Ok None) new gives = ReadsFile history count bytes messages
-JoinsFile history offset count bytes messages old (Err fault) new gives =
-    (fault ≡ out_of_memory) ⊎ ((fault ≡ read_fault old.offset) ⊎ HasFileFault history offset count bytes fault)
+-- The meaning of a result for the File: its messages begin with those so far and one more. It consists of the messages
+-- so far. Or the fault is the first one of the File, unless it is that of a failed allocation, or of a reader that
+-- failed before a fault was met. The File is all the bytes that the reader gives, if it reports them.
+abbrev pub JoinsFile : List (ℕ × TemplateEvent) → ℕ → ℕ → Option (List ℕ) → List MessageView → Result (Option MessageView) ReadFault → ProgressView → Option (List ℕ) → Type 0
+JoinsFile history offset count given messages (Ok (Some m)) new gives = IsReadTo history offset count given (messages ++ m ∷ []) new gives
+JoinsFile history offset count given messages (Ok None) new gives =
+    (bytes : List ℕ) × IfSome given (λ all. bytes ≡ all) × ReadsFile history count bytes messages
+JoinsFile history offset count given messages (Err fault) new gives =
+    (fault ≡ out_of_memory)
+    ⊎ (((taken : List ℕ) × Consumes given gives taken × StopsReading history offset count taken fault)
+    ⊎ ((bytes : List ℕ) × IfSome given (λ all. bytes ≡ all) × HasFileFault history offset count bytes fault))

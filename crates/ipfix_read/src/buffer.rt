@@ -3,7 +3,7 @@ ghost use Rattle.std.specs.Result.{result_map_both};
 ghost use Rattle.ipfix_read.specs.declared.fault.ReadFaultKind.TheVariants.{ReadFault as Unread};
 ghost use Rattle.ipfix_read.specs.Fault.{is_of_calls, is_of_reader};
 ghost use Rattle.ipfix_read.specs.Message.{HasHeader};
-ghost use Rattle.ipfix_read.specs.Messages.{Gathers};
+ghost use Rattle.ipfix_read.specs.Messages.{Gathers, ReadsInput};
 
 use crate::fault::ReadFaultKind;
 use crate::fill::fill;
@@ -37,8 +37,8 @@ pub fn gather<'b, R: Input>(
     buffer: &'b mut [u8],
 ) -> Result<Option<&'b [u8]>, ReadFaultKind>
     requires { length buffer.old ≡ 65535 }
-    ensures gathers { IfSome (R.bytes_left reader.old) (λ left. Gathers count left
-        (result_map_both (option_map (λ bytes. bytes.now)) (λ kind. kind) result) (R.bytes_left reader.new)) }
+    ensures gathers { ReadsInput (R.bytes_left reader.old) (R.bytes_left reader.new)
+        (Gathers count (result_map_both (option_map (λ bytes. bytes.now)) (λ kind. kind) result)) }
     ensures whole { IfOk result (λ next. IfSome next (λ bytes. HasHeader bytes.now)) }
     ensures counted { IfOk result (λ next. OnSome next (count < 4294967295)) }
     ensures fault { IfErr result (λ kind. (kind ≡ Unread) ⊎ (is_of_calls kind ≡ false)) }

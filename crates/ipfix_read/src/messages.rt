@@ -1,5 +1,5 @@
-ghost use Rattle.std.specs.Prelude.{◌≡◌, ℕ, IfOk, IfSome, List, Ok, Option, Err, None};
-ghost use Rattle.ipfix_read.specs.Messages.{Going, Ended, Failed, AnswersNext, ProgressView, at_start};
+ghost use Rattle.std.specs.Prelude.{◌≡◌, ℕ, IfOk, List, Ok, Option, Err, None};
+ghost use Rattle.ipfix_read.specs.Messages.{Going, Ended, Failed, AnswersNext, ProgressView, ReadsInput, at_start};
 ghost use Rattle.ipfix_read.specs.Fault.{failed_before};
 
 use crate::buffer::Buffer;
@@ -57,9 +57,8 @@ impl<'r, R: Input> Messages<'r, R, Progress, Buffer> {
     ///
     /// The errors are those of `Progress::next`.
     pub fn next_message(&mut self) -> Result<Option<Message<'_>>, ReadFault>
-        ensures going { self.old.progress.state ≡ Going → IfSome (R.bytes_left self.old.reader.now)
-            (λ left. (new : ProgressView) × (gives : Option (List ℕ))
-            × AnswersNext self.old.progress left result new gives) }
+        ensures going { self.old.progress.state ≡ Going → (new : ProgressView) × (gives : Option (List ℕ))
+            × ReadsInput (R.bytes_left self.old.reader.now) gives (AnswersNext self.old.progress result new) }
         ensures ended { self.old.progress.state ≡ Ended → result ≡ Ok None }
         ensures failed { self.old.progress.state ≡ Failed → result ≡ Err failed_before }
     {

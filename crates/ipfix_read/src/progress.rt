@@ -1,5 +1,5 @@
-ghost use Rattle.std.specs.Prelude.{◌≡◌, ◌≤◌, ◌+◌, ◌⊎◌, false, IfErr, IfOk, IfSome, OnSome, Ok, Err, None};
-ghost use Rattle.ipfix_read.specs.Messages.{Going, Ended, Failed, AnswersNext, at_start, is_read_fault};
+ghost use Rattle.std.specs.Prelude.{◌≡◌, ◌≤◌, ◌+◌, ◌⊎◌, false, IfErr, IfOk, OnSome, Ok, Err, None};
+ghost use Rattle.ipfix_read.specs.Messages.{Going, Ended, Failed, AnswersNext, ReadsInput, at_start, is_read_fault};
 ghost use Rattle.ipfix_read.specs.Fault.{failed_before, is_of_calls, read_fault};
 
 use crate::buffer::{Buffer, gather};
@@ -70,14 +70,14 @@ impl Progress {
         reader: &mut R,
         buffer: &'b mut Buffer,
     ) -> Result<Option<Message<'b>>, ReadFault>
-        ensures going { self.old.state ≡ Going → IfSome (R.bytes_left reader.old) (λ left.
-            AnswersNext self.old left result self.new (R.bytes_left reader.new)) }
+        ensures going { self.old.state ≡ Going → ReadsInput (R.bytes_left reader.old) (R.bytes_left reader.new)
+            (AnswersNext self.old result self.new) }
         ensures ended { self.old.state ≡ Ended
             → (result ≡ Ok None) × (self.new ≡ self.old) × (reader.new ≡ reader.old) }
         ensures failed { self.old.state ≡ Failed
             → (result ≡ Err failed_before) × (self.new ≡ self.old) × (reader.new ≡ reader.old) }
 
-        // These clauses also hold for a reader that does not report its bytes.
+        // What `going` says of the fault's kind and of the count, in words that need no history.
         ensures fault { self.old.state ≡ Going → IfErr result (λ fault.
             (fault ≡ read_fault self.old.offset) ⊎ (is_of_calls fault.kind ≡ false)) }
         ensures counted { IfOk result (λ next. OnSome next ((self.new.count ≡ self.old.count + 1)

@@ -47,4 +47,4 @@ returns-clause-shorter c = let s = (goal.at.returns-clause-shorter c).After-spli
 pub returns-clause-ok : goal.returns-clause-ok
 returns-clause-ok c = let s = (goal.at.returns-clause-ok c).After-split_at in λ history follows.
     let read = c.in_ok-message.ensures.ok history follows in
-    ((c.split_at.result.0.now, cut_parts (cut s), c.in-Ok.ensures.ok, read.0, refl, refl), read.1)
+    ((c.split_at.result.0.now, cut_parts (cut s), (header s).counted, read.0, refl, refl), read.1)

@@ -18,13 +18,13 @@ pub returns-clause-going : goal.returns-clause-going
 returns-clause-going g c =
     let bytes = g.R.Input.bytes_left in let was = c.self.inside in let front = c.in-Some.bytes.now in
     let new : ProgressView = record { table = c.whole_message.new.table; offset = was.offset + length front; count = was.count + 1; state = was.state } in λ going.
-    answers_message c.self.view_is (bytes c.args.reader.now) (bytes c.gather.new.reader) front (rw c.in-Some.is at c.in-Ok.ensures.gathers) new c.in-Ok-whole_message.message c.in-Ok-whole_message.ensures.ok refl refl
+    answers_message c.self.view_is (bytes c.args.reader.now) (bytes c.gather.new.reader) front (rw c.in-Some.is at c.in-Ok.ensures.gathers) (rw c.in-Some.is at c.in-Ok.ensures.counted) new c.in-Ok-whole_message.message c.in-Ok-whole_message.ensures.ok refl refl
     (ap (λ (v : ProgressView). v.state) c.self.view_is ∙ going)
 
 pub returns-in-Err-whole_message-clause-going : goal.returns-in-Err-whole_message-clause-going
 returns-in-Err-whole_message-clause-going g c =
     let bytes = g.R.Input.bytes_left in
-    λ _. answers_fault_of_sets c.self.view_is (bytes c.args.reader.now) (bytes c.gather.new.reader) c.in-Some.bytes.now (rw c.in-Some.is at c.in-Ok.ensures.gathers) c.in-Err-whole_message.fault
+    λ _. answers_fault_of_sets c.self.view_is (bytes c.args.reader.now) (bytes c.gather.new.reader) c.in-Some.bytes.now (rw c.in-Some.is at c.in-Ok.ensures.gathers) (rw c.in-Some.is at c.in-Ok.ensures.counted) c.in-Err-whole_message.fault
     (rw c.in-Some.is at c.in-Ok.ensures.whole) c.in-Err-whole_message.ensures.fault
 
 pub returns-in-Err-whole_message-clause-fault : goal.returns-in-Err-whole_message-clause-fault
