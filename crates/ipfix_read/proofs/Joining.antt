@@ -3,12 +3,11 @@ use Rattle.std.proofs.Common.{◌≡◌, ◌∙◌, ℕ, false, ◌+◌, ◌-◌
 use Rattle.std.specs.Io.KnownBytes.{Consumes}
 use Rattle.std.proofs.KnownBytes.{Consumes-nil, Consumes-trans}
 use Rattle.byteorder.specs.Endian.{big_number}
-use Rattle.ipfix_read.specs.Message.{ReadFault, ReadFaultKind, MessageView, IsMessage, HasHeader, events_of_message, HasMessageFault}
+use Rattle.ipfix_read.specs.Message.{ReadFault, ReadFaultKind, MessageView, IsMessage, HasHeader, events_of_message, HasMessageFault, header_fault}
 use Rattle.ipfix_read.specs.Messages.{Going, Ended, Failed, ProgressView, AnswersNext, Gathers, ReadsInput, at_start, ReadsMessage}
 use Rattle.ipfix_read.specs.declared.fault.ReadFaultKind.TheVariants.{ReadFault as Unread}
 use Rattle.ipfix_read.specs.Fault.{read_fault, is_of_calls}
 use Rattle.ipfix_read.specs.Set.{HasSetsFault, IsReadAfter, IsRefused}
-use Rattle.ipfix_read.proofs.Sets.{message_fault}
 use Rattle.ipfix_templates.specs.InForce.{in_force, Follows}
 use Rattle.ipfix_templates.specs.Reading.{Reads}
 use Rattle.ipfix_templates.proofs.Reading.{reads_more}
@@ -50,8 +49,7 @@ module _ {view old : ProgressView} (same : view ≡ old) (o n : Option (List ℕ
                 let none = header_whole view.count front left counted header.least header.version header.whole in
                 inr (inr (
                   omega (arith, ap length there, header.least),
-                  λ history follows. subst (λ (l : List ℕ). HasMessageFault history view.count (l ++ left) view.offset fault) there
-                      (message_fault history view.count view.offset (front ++ left) front left fault refl none header (sets history follows)),
+                  λ history follows. inr (front, left, ap (λ (l : List ℕ). l ++ left) (sym there), ap (λ (l : List ℕ). header_fault view.count (l ++ left)) (sym there) ∙ none, header.least, header.whole, sets history follows),
                 ))
           ],
         ))
@@ -99,7 +97,7 @@ calls_join_file history offset count given now gives messages old new (Ok (Some 
     let later = so_far.later ++ events_of_message m in
     record {
       taken = so_far.taken ++ taken;
-      consumed = Consumes-trans given now gives so_far.taken taken so_far.consumed consumed;
+      consumed = Consumes-trans _ _ _ _ _ so_far.consumed consumed;
       later = later;
       read = λ rest. subst (λ (l : List ℕ). Reads ReadsMessage (history, count, l) (messages ++ m ∷ []) (later, new.count, rest)) (sym (append_assoc so_far.taken taken rest))
           (reads_more ReadsMessage (history, count, so_far.taken ++ (taken ++ rest)) messages (so_far.later, old.count, taken ++ rest) m (later, new.count, rest)
@@ -109,14 +107,14 @@ calls_join_file history offset count given now gives messages old new (Ok (Some 
     }
 calls_join_file history offset count given now gives messages old new (Ok None) so_far (taken, consumed, a) =
     let left = taken ++ unwrap_or gives [] in
-    (so_far.taken ++ left, all_bytes given now gives so_far.taken taken so_far.consumed consumed, ((so_far.later, old.count, left), so_far.read left, a.0))
+    (so_far.taken ++ left, all_bytes _ _ _ _ _ so_far.consumed consumed, ((so_far.later, old.count, left), so_far.read left, a.0))
 calls_join_file history offset count given now gives messages old new (Err fault) so_far (taken, consumed, a) =
     let placed = λ (l : List ℕ). let place : old.offset ≡ offset + (length (so_far.taken ++ l) - length l) = omega (arith, so_far.placed, length-append so_far.taken l) in place in
     elim a.1 [
       | inl memory ↦ inl memory
       | inr (inl unread) ↦ inr (inl (
         so_far.taken ++ taken,
-        Consumes-trans given now gives so_far.taken taken so_far.consumed consumed,
+        Consumes-trans _ _ _ _ _ so_far.consumed consumed,
         (messages, (so_far.later, old.count, taken), so_far.read taken, (unread.1, unread.0 ∙ ap read_fault (placed taken))),
       ))
       | inr (inr found) ↦
@@ -124,7 +122,7 @@ calls_join_file history offset count given now gives messages old new (Err fault
           let here = subst (λ (k : ℕ). HasMessageFault so_far.later old.count left k fault) (placed left) (found.1 so_far.later so_far.follows) in
           inr (inr (
             so_far.taken ++ left,
-            all_bytes given now gives so_far.taken taken so_far.consumed consumed,
+            all_bytes _ _ _ _ _ so_far.consumed consumed,
             (messages, (so_far.later, old.count, left), so_far.read left, (omega (arith, found.0, length-append taken (unwrap_or gives [])), here)),
           ))
     ]

@@ -1,5 +1,5 @@
 -- The template events of consecutive sets.
-use Rattle.std.proofs.Common.{◌≡◌, ℕ, ◌+◌, ◌<◌, List, [], ◌∷◌, ◌++◌, length, get_or, take, sym, ap, ◌∙◌, append_assoc, ◌-◌, ◌≤◌, false, eqb, drop, refl, subst, inl, inr, arith, take-append-drop, length-drop, None}
+use Rattle.std.proofs.Common.{◌≡◌, ℕ, ◌+◌, ◌<◌, List, [], ◌∷◌, ◌++◌, length, get_or, take, sym, ap, ◌∙◌, append_assoc, ◌-◌, ◌≤◌, false, eqb, drop, refl, subst, inl, inr, arith, take-append-drop, length-drop}
 use Rattle.std.proofs.lemmas.List.{map_push, take_more, append-nil, take_all, get_or-take, get_or-drop, length-take-le}
 use Rattle.ipfix_templates.specs.declared.event.TemplateEvent.{TemplateEvent}
 use Rattle.ipfix_read.specs.Set.{in_domain, events_of_set, events_of_sets, written_length, IsContent, HasContentFault, IsSet, HasSetFault, MessageState, ReadsSet, IsRefused, IsSets, HasSetsFault, Set}
@@ -9,7 +9,7 @@ use Rattle.byteorder.specs.Endian.{big_number}
 use Rattle.ipfix_templates.specs.Reading.{Reads}
 use Rattle.ipfix_templates.specs.Template.{TemplateView}
 use Rattle.ipfix_templates.specs.InForce.{Follows}
-use Rattle.ipfix_read.specs.Message.{ReadFault, set_size, message_size, MessageView, IsMessage, HasHeader, HasMessageFault, header_fault}
+use Rattle.ipfix_read.specs.Message.{ReadFault, set_size, message_size, MessageView, IsMessage, HasHeader}
 
 -- a history with one more event
 pub in_domain_more : (history : List (ℕ × TemplateEvent)) (domain : ℕ) (events : List TemplateEvent) (i : ℕ) (d : TemplateEvent) → i < length events
@@ -129,9 +129,3 @@ sets_fault bytes history domain base fault is found =
     let at : HasSetsFault history (big_number 4 (drop 12 bytes)) (take (length bytes - 16) (drop 16 bytes)) base fault =
     subst (λ (d : ℕ). HasSetsFault history d (take (length bytes - 16) (drop 16 bytes)) base fault) (is ∙ ap (λ (xs : List ℕ). big_number 4 xs) (from_place 12 bytes)) found in
     subst (λ (xs : List ℕ). HasSetsFault history (big_number 4 (drop 12 bytes)) xs base fault) (from_place 16 bytes) at
-
--- which is that of the message at the start
-pub message_fault : (history : List (ℕ × TemplateEvent)) (count base : ℕ) (bytes front after : List ℕ) (fault : ReadFault) → bytes ≡ front ++ after
-    → header_fault count bytes ≡ None → HasHeader front → HasSetsFault history (big_number 4 (drop 12 front)) (drop 16 front) (base + 16) fault
-    → HasMessageFault history count bytes base fault
-message_fault history count base bytes front after fault parts none header found = inr (front, after, parts, none, header.least, header.whole, found)

@@ -17,7 +17,7 @@ use Rattle.ipfix_read.specs.Set.{IsReadAfter}
 abbrev pub FilePlace : Type 0
 FilePlace = List (ℕ × TemplateEvent) × ℕ × List ℕ
 
--- the message at the start of the remaining bytes, unless it is one too many, and the state after it, with the
+-- the message at the start of the remaining bytes, which is not one too many, and the state after it, with the
 -- message's events and one more message
 abbrev pub ReadsMessage : FilePlace → MessageView → FilePlace → Type 0
 ReadsMessage at m next =
@@ -49,10 +49,10 @@ StopsReading history offset count bytes fault =
     StopsAt ReadsMessage
     (λ at fault. IsIncomplete at.1 at.2 × (fault ≡ read_fault (offset + (length bytes - length at.2)))) (history, count, bytes) fault
 
--- The messages of a File, one call after another. What a reader will still return is known if it reports its bytes.
+-- The messages of a File, one call after another. A reader may report the bytes that it will still return.
 
--- Bytes were taken from a reader, which had these bytes before and has those now. The property holds of the taken bytes
--- and of those that follow, which are none if the reader doesn't report them.
+-- Bytes were taken from a reader. If it reports its bytes, they are those between the earlier and the later report. The
+-- property holds of the taken bytes and the bytes left in the reader, where a reader without a report has none left.
 abbrev pub ReadsInput : Option (List ℕ) → Option (List ℕ) → (List ℕ → List ℕ → Type 0) → Type 0
 ReadsInput given gives P = (taken : List ℕ) × Consumes given gives taken × P taken (unwrap_or gives [])
 
@@ -68,11 +68,11 @@ pub record ProgressView : Type 0 where
 abbrev pub at_start : ProgressView
 at_start = record { table = []; offset = 0; count = 0; state = Going }
 
--- The result of a call in the state Going, and the state after it, by the bytes that the call took and those that
--- follow. The result is the message that the taken bytes are. If there are no bytes, there is no message. The result is
--- the first fault of the File if that fault is in this message, or the fault of a failed allocation. It is the fault of
--- a failed reader only if the taken bytes are the beginning of a message. All of this is so with the table, the offset
--- and the number of messages, for each history that the table follows.
+-- The result of a call in the state Going, and the state after the call, by the bytes that the call took and the bytes
+-- left. The result is the message that consists of the taken bytes. If there are no bytes, there is no message. The
+-- result is the first fault of the File if that fault is in this message, or the fault of a failed allocation. It is
+-- the fault of a failed reader only if the taken bytes are the beginning of a message and have no fault so far. A File
+-- is read from the table, the offset and the number of messages, for each history that the table follows.
 abbrev pub AnswersNext : ProgressView → Result (Option MessageView) ReadFault → ProgressView → List ℕ → List ℕ → Type 0
 AnswersNext old (Ok (Some m)) new taken left =
     (old.count < 4294967295) × IsReadAfter old.table new.table (events_of_message m) (λ history. IsMessage history taken m)
@@ -89,8 +89,8 @@ abbrev pub is_read_fault : {A : Type 0} → Result A ReadFault → Bool
 is_read_fault (Ok _) = false
 is_read_fault (Err fault) = is_of_reader fault.kind
 
--- the taken bytes are those of the message after this many messages; there are no bytes; or this is the fault of the
--- header, or of a failed reader
+-- the message after this many messages has the taken bytes; there are no bytes; or this is the fault of the header, or
+-- of a reader that failed before it
 abbrev pub Gathers : ℕ → Result (Option (List ℕ)) ReadFaultKind → List ℕ → List ℕ → Type 0
 Gathers count (Ok (Some front)) taken left = front ≡ taken
 Gathers count (Ok None) taken left = taken ++ left ≡ []
@@ -98,8 +98,8 @@ Gathers count (Err kind) taken left =
     ((kind ≡ Unread) × IsIncomplete count taken) ⊎ ((0 < length taken) × (header_fault count (taken ++ left) ≡ Some kind))
 
 -- The bytes taken from a reader so far are these messages. Reading began after a history of template events, at an
--- offset and after a number of messages, with a reader that had these bytes. The state between two calls is the one
--- after these messages, and the reader has those bytes now.
+-- offset and after a number of messages, and with the first report of the reader. The state between two calls is the
+-- one after these messages, and the last report is the reader's now.
 pub record IsReadTo (history : List (ℕ × TemplateEvent)) (offset count : ℕ) (given : Option (List ℕ)) (messages : List MessageView) (p : ProgressView) (now : Option (List ℕ)) : Type 0 where
   pub taken : List ℕ
   pub consumed : Consumes given now taken
@@ -108,9 +108,9 @@ pub record IsReadTo (history : List (ℕ × TemplateEvent)) (offset count : ℕ)
   pub follows : Follows p.table later
   pub placed : p.offset ≡ offset + length taken
 
--- The meaning of a result for the File: its messages begin with those so far and one more. It consists of the messages
--- so far. Or the fault is the first one of the File, unless it is that of a failed allocation, or of a reader that
--- failed before a fault was met. The File is all the bytes that the reader gives, if it reports them.
+-- The meaning of a result for the File that is read: its messages begin with those so far and one more; it consists of
+-- the messages so far; or the fault is its first one, unless it is that of a failed allocation, or of a reader that
+-- failed before a fault. If the reader reports its bytes, they are the File.
 abbrev pub JoinsFile : List (ℕ × TemplateEvent) → ℕ → ℕ → Option (List ℕ) → List MessageView → Result (Option MessageView) ReadFault → ProgressView → Option (List ℕ) → Type 0
 JoinsFile history offset count given messages (Ok (Some m)) new gives = IsReadTo history offset count given (messages ++ m ∷ []) new gives
 JoinsFile history offset count given messages (Ok None) new gives =

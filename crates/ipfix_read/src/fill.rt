@@ -8,7 +8,7 @@ use crate::fault::ReadFaultKind;
 use flow_io::Input;
 
 /// Fills the slice, and returns the number of bytes read. It is less than the length of the slice only at the end of
-/// the input. Each read requests the bytes that are still missing, and no more.
+/// the input. Each read requests the bytes that are still missing, and no more. If a read fails, the slice isn't full.
 pub fn fill<R: Input>(reader: &mut R, bytes: &mut [u8]) -> Result<usize, ReadFaultKind>
     ensures within { IfOk result (λ count. count ≤ length bytes.new) }
     ensures given { IfOk result (λ count.

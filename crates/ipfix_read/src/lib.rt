@@ -18,8 +18,9 @@
 //! after it, are the whole. Any bytes have either such messages or such a fault, and only one of them.
 //!
 //! `Messages` reads the same messages from a reader, one at a time, into one buffer from which the message borrows. A
-//! call returns the first message of the File that consists of the bytes that the reader will still return, read from
-//! the current table, offset and number of messages. By a law the calls so far and the next one are the whole File.
+//! call returns the message that consists of the bytes that it takes from the reader, or the first fault of the File if
+//! that is there. It reports a failed reader only before any fault, at the beginning of a message that is not complete.
+//! By a law the bytes of all calls are the whole File, whether or not the reader reports its bytes.
 #![tactic(auto)]
 
 mod buffer;

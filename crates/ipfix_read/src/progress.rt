@@ -63,8 +63,8 @@ impl Progress {
     ///
     /// # Errors
     ///
-    /// Returns the first fault of the File if it is in the message that is read, `ReadFault` if the reader fails, or
-    /// `NoMemory` if an allocation fails. After any of these each call returns `Failed`.
+    /// Returns the first fault of the File if it is in the message that is read, `ReadFault` if the reader fails before
+    /// that fault, or `NoMemory` if an allocation fails. After any of these each call returns `Failed`.
     pub fn next<'b, R: Input>(
         &mut self,
         reader: &mut R,
@@ -77,7 +77,7 @@ impl Progress {
         ensures failed { self.old.state ≡ Failed
             → (result ≡ Err failed_before) × (self.new ≡ self.old) × (reader.new ≡ reader.old) }
 
-        // What `going` says of the fault's kind and of the count, in words that need no history.
+        // These clauses say less than `going`, in a form that is simpler to use.
         ensures fault { self.old.state ≡ Going → IfErr result (λ fault.
             (fault ≡ read_fault self.old.offset) ⊎ (is_of_calls fault.kind ≡ false)) }
         ensures counted { IfOk result (λ next. OnSome next ((self.new.count ≡ self.old.count + 1)

@@ -1,10 +1,10 @@
-use Rattle.std.proofs.Common.{◌+◌, drop, refl, ap, length, length-append, arith}
+use Rattle.std.proofs.Common.{inr, ◌+◌, drop, refl, ap, length, length-append, arith}
 use Rattle.std.proofs.lemmas.Result.{err_from_is_err_and}
 use Rattle.byteorder.specs.Endian.{big_number}
 use Rattle.ipfix_read.specs.Set.{HasSetsFault}
 use Rattle.ipfix_read.specs.Message.{HasHeader, HasMessageFault}
 use Rattle.ipfix_read.proofs.Gathering.{Own, header_sound}
-use Rattle.ipfix_read.proofs.Sets.{Cut, refused, cut_length, cut_parts, front_header, message_fault}
+use Rattle.ipfix_read.proofs.Sets.{Cut, refused, cut_length, cut_parts, front_header}
 use Rattle.ipfix_read.proofs.message.read_message.Goals as goal
 use Rattle.ipfix_read.proofs.message.read_message.Goals.{After-split_at}
 
@@ -35,7 +35,7 @@ returns-in_err-message-clause-fault c =
     (λ history. HasMessageFault history c.args.count c.args.bytes.now c.args.base) c.in_err-message.field-0.0 (λ history follows. (
       history,
       follows,
-      message_fault history c.args.count c.args.base c.args.bytes.now c.split_at.result.0.now c.split_at.result.1.now c.in_err-message.field-0.0 (cut_parts (cut s)) c.in-Ok.ensures.ok (whole s),
+      λ found. inr (c.split_at.result.0.now, c.split_at.result.1.now, cut_parts (cut s), c.in-Ok.ensures.ok, (whole s).least, (whole s).whole, found),
     )) c.in_err-message.ensures.fault)
 
 pub returns-clause-counted : goal.returns-clause-counted
