@@ -77,7 +77,7 @@ impl Progress {
         ensures failed { self.old.state ≡ Failed
             → (result ≡ Err failed_before) × (self.new ≡ self.old) × (reader.new ≡ reader.old) }
 
-        // These clauses say less than `going`, in a form that is simpler to use.
+        // `fault` and `counted` say less than `going`, in a form that is simpler to use.
         ensures fault { self.old.state ≡ Going → IfErr result (λ fault.
             (fault ≡ read_fault self.old.offset) ⊎ (is_of_calls fault.kind ≡ false)) }
         ensures counted { IfOk result (λ next. OnSome next ((self.new.count ≡ self.old.count + 1)
