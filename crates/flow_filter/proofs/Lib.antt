@@ -1,7 +1,6 @@
 pub mod Digits
 pub mod Parts
 pub mod PassingLemmas
-pub mod Listed
-pub mod Widened
+pub mod Tops
 pub mod Places
-pub mod InOrder
+pub mod Reading

@@ -1,10 +1,6 @@
 -- The numbers of a block's addresses as IPv6 addresses.
-use Rattle.std.proofs.Common.{◌≡◌, ℕ, ◌+◌, ◌-◌, ◌*◌, ◌/◌, ◌%◌, ◌^◌, ◌<◌, ◌≤◌, ◌&&◌, ◌||◌, ◌==◌, Bool, true, false, List, [], ◌∷◌, ◌++◌, Some, None, nat_le, map, take, length, get_or, lit<, refl, sym, ap, ◌∙◌, arith, eq-eqb}
-use Rattle.std.proofs.Math.Seq.{take-length}
-use Rattle.std.specs.List.{list_any}
+use Rattle.std.proofs.Common.{◌≡◌, ℕ, ◌+◌, ◌-◌, ◌*◌, ◌/◌, ◌%◌, ◌^◌, ◌<◌, ◌≤◌, ◌&&◌, ◌==◌, Bool, true, false, Some, None, nat_le, lit<, refl, ap, ◌∙◌, arith, eq-eqb}
 use Rattle.std.proofs.lemmas.Bool.{and_from, and_parts, both_ways, eqb-true, false_from_ne_true, le-leb, leb-true}
-use Rattle.std.proofs.lemmas.List.{map-append, take_more}
-use Rattle.std.proofs.lemmas.List.Folds.{list_any-append}
 use Rattle.std.proofs.lemmas.Nat.{pow_pos}
 use Rattle.std.proofs.lemmas.Option.{same_Some}
 use Rattle.prefix_keys.specs.Block.{block_number, first_of, last_of, width_of}
@@ -14,8 +10,8 @@ use Rattle.prefix_keys.specs.declared.block.Block.{Block}
 use Rattle.prefix_keys.specs.declared.version.Version.{Version}
 use Rattle.prefix_keys.specs.declared.version.Version.TheVariants.{V4, V6}
 use Rattle.prefix_keys.proofs.Quotients.{above_first, below_end, block_end, quotient_is, whole}
-use Rattle.flow_filter.specs.Condition.{item_covers, items_cover, mapped_number, view_of, in_range, in_ranges, Range}
-use Rattle.flow_filter.specs.Filters.{by_place}
+use Rattle.flow_filter.specs.Condition.{covers, in_range}
+use Rattle.flow_filter.specs.Filters.{mapped_number, view_of}
 use Rattle.flow_filter.specs.Texts.{single}
 
 -- the number that a conversion to IPv6 gives
@@ -71,7 +67,7 @@ inside_place n h =
 block_places : (v : Version) (value len : ℕ) (low high : ℕ) (address : AddressOf) → len ≤ width_of v → value < 2 ^ width_of v →
     value % 2 ^ (width_of v - len) ≡ 0 → low ≡ mapped_number (v, value) →
     high ≡ mapped_number (v, last_of (width_of v) len (block_number (width_of v) len value)) →
-    in_range (mapped_number address) (record { low = low; high = high }) ≡ item_covers address (v, value, len)
+    in_range (mapped_number address) (record { low = low; high = high }) ≡ covers (v, value, len) address
 block_places V4 value len low high (V4, n) short fits free is is' =
     let d = 2 ^ (32 - len) in
     interval n d value mapped_prefix low high (n + mapped_prefix) (pow_pos (32 - len)) (whole value d (pow_pos (32 - len)) free) is is' refl
@@ -79,7 +75,7 @@ block_places V4 value len low high (V6, n) short fits free is is' =
     by (block_number 128 96 n == block_number 128 96 mapped_prefix) refl
   where
     by : (b : Bool) → (block_number 128 96 n == block_number 128 96 mapped_prefix) ≡ b →
-        in_range n (record { low = low; high = high }) ≡ item_covers (V6, n) (V4, value, len)
+        in_range n (record { low = low; high = high }) ≡ covers (V4, value, len) (V6, n)
     by true h =
         let d = 2 ^ (32 - len) in
         rw h (interval (n - mapped_prefix) d value mapped_prefix low high n (pow_pos (32 - len)) (whole value d (pow_pos (32 - len)) free) is is'
@@ -103,7 +99,7 @@ block_places V6 value len low high (V6, n) short fits free is is' =
 pub places_covered : (block : Block) (low high : ℕ) (first last : AddressOf) → first.0 ≡ block.version → first.1 ≡ block.value → last.0 ≡ block.version →
     last.1 ≡ last_of (width_of block.version) block.len (block_number (width_of block.version) block.len block.value) →
     low ≡ mapped_number first → high ≡ mapped_number last → (address : AddressOf) →
-    in_range (mapped_number address) (record { low = low; high = high }) ≡ item_covers address (view_of block)
+    in_range (mapped_number address) (record { low = low; high = high }) ≡ covers (view_of block) address
 places_covered block low high first last v n v' n' is is' address =
     block_places block.version block.value block.len low high address block.len_in_range block.in_range block.no_host_bit
     (is ∙ (λ i. mapped_number (v i, n i))) (is' ∙ (λ i. mapped_number (v' i, n' i)))
@@ -119,29 +115,3 @@ whole_block v w value first len n same is all start =
   where
     one : (k : ℕ) → k ≡ 0 → value / 2 ^ k * 2 ^ k ≡ value
     one k e = rw e (omega arith)
-
--- the ranges so far are those of the blocks so far
-abbrev pub HasPlaces : List Block → ℕ → List Range → Type 0
-HasPlaces blocks count ranges =
-    (address : AddressOf) → in_ranges ranges (mapped_number address) ≡ items_cover (map view_of (take count blocks)) address
-
-pub places_more : (blocks : List Block) (count : ℕ) (ranges : List Range) (b : Block) (r : Range) → HasPlaces blocks count ranges → count < length blocks →
-    b ≡ get_or blocks count b → ((address : AddressOf) → in_range (mapped_number address) r ≡ item_covers address (view_of b)) →
-    HasPlaces blocks (count + 1) (ranges ++ r ∷ [])
-places_more blocks count ranges b r so_far within is places = λ address.
-    let n = mapped_number address in
-    let taken : take (count + 1) blocks ≡ take count blocks ++ b ∷ [] =
-    take_more blocks count b within ∙ ap (λ (x : Block). take count blocks ++ x ∷ []) (sym is) in
-    list_any-append (in_range n) ranges (r ∷ [])
-    ∙ (λ i. so_far address i || (places address i || false))
-    ∙ sym (list_any-append (item_covers address) (map view_of (take count blocks)) (view_of b ∷ []))
-    ∙ ap (list_any (item_covers address)) (sym (map-append view_of (take count blocks) (b ∷ [])))
-    ∙ ap (λ (bs : List Block). items_cover (map view_of bs) address) (sym taken)
-
-pub all_places : (blocks : List Block) (count : ℕ) (ranges set : List Range) → HasPlaces blocks count ranges → length blocks ≤ count →
-    count ≤ length blocks → in_ranges set ≡ in_ranges ranges → by_place set ≡ items_cover (map view_of blocks)
-all_places blocks count ranges set so_far all within same =
-    let number : count ≡ length blocks = omega (arith, all, within) in
-    let whole : take count blocks ≡ blocks = ap (λ (n : ℕ). take n blocks) number ∙ take-length blocks in
-    λ i address.
-    ((λ j. same j (mapped_number address)) ∙ so_far address ∙ ap (λ (bs : List Block). items_cover (map view_of bs) address) whole) i

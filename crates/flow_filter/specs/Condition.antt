@@ -1,20 +1,21 @@
-use Rattle.std.specs.Prelude.{ℕ, ◌+◌, ◌==◌, Bool, false, List, Option, Some, None, ◌&&◌, nat_le, ◌||◌, true, filter}
-use Rattle.std.specs.List.{list_any}
-use Rattle.std.specs.List.Sorted.{IsNonDecreasingBy}
-use Rattle.std.specs.Option.{is_some}
+use Rattle.std.specs.Prelude.{ℕ, ◌-◌, ◌^◌, ◌==◌, Bool, true, false, List, [], ◌∷◌, ◌++◌, Option, Some, None, Result, Ok, Err, ◌&&◌, nat_le, ◌||◌, filter, find, if◌then◌else◌, is_none, map, option_map}
+use Rattle.std.specs.List.{list_all, list_any, slice_split}
+use Rattle.std.specs.Option.{option_to_list}
 use Rattle.std.specs.Str.{bytes_eq}
 use Rattle.prefix_keys.specs.Block.{block_number, width_of}
-use Rattle.prefix_keys.specs.Conversion.{converted, mapped_prefix}
+use Rattle.prefix_keys.specs.Conversion.{converted}
 use Rattle.prefix_keys.specs.Text.{AddressOf, BlockOf}
-use Rattle.prefix_keys.specs.declared.block.Block.{Block}
-use Rattle.prefix_keys.specs.declared.version.Version.TheVariants.{V4, V6}
 use Rattle.label_lookup.specs.Labelling.{Labelling, label_where}
 use Rattle.ipfix_read.specs.Message.{MessageView}
 use Rattle.flow_rows.specs.Elements.{RowView}
 use Rattle.flow_rows.specs.Counts.{rows_of_messages}
+use Rattle.flow_filter.specs.Options.{FilterOption, is_list, is_on_labels, kind_of, AnyLabel, Bytes, DestinationAddress, DestinationLabel, DestinationPort, Packets, Protocol, SourceAddress, SourceLabel, SourcePort}
+use Rattle.flow_filter.specs.Texts.{address_item, each_some, number_range}
+pub use Rattle.flow_filter.specs.declared.fault.FilterFault.{FilterFault}
+use Rattle.flow_filter.specs.declared.option.TheConstants.{ALL_OPTIONS}
 pub use Rattle.flow_filter.specs.declared.range.Range.{Range}
 
--- The addresses that the items of an address list cover.
+-- The rows that meet the options of a filter.
 
 -- the block covers the address after conversion to the block's version
 abbrev pub covers_place : BlockOf → Option AddressOf → Bool
@@ -22,81 +23,84 @@ covers_place (version, value, len) None = false
 covers_place (version, value, len) (Some (v, place)) =
     block_number (width_of version) len place == block_number (width_of version) len value
 
-abbrev pub item_covers : AddressOf → BlockOf → Bool
-item_covers address block = covers_place block (converted block.0 address)
-
--- one of the blocks covers the address
-abbrev pub items_cover : List BlockOf → AddressOf → Bool
-items_cover blocks address = list_any (item_covers address) blocks
-
--- a block without the proofs of its invariants
-abbrev pub view_of : Block → BlockOf
-view_of block = (block.version, block.value, block.len)
-
--- the number of the address as an IPv6 address
-abbrev pub mapped_number : AddressOf → ℕ
-mapped_number (V4, value) = value + mapped_prefix
-mapped_number (V6, value) = value
-
--- Sets of numbers given by ranges.
+abbrev pub covers : BlockOf → AddressOf → Bool
+covers block address = covers_place block (converted block.0 address)
 
 -- the number is between the range's low end and its high end, both included
 abbrev pub in_range : ℕ → Range → Bool
 in_range n r = nat_le r.low n && nat_le n r.high
-
--- the number is in one of the ranges
-abbrev pub in_ranges : List Range → ℕ → Bool
-in_ranges ranges n = list_any (in_range n) ranges
-
--- no end of a range is below that of an earlier one
-pub record AreAscending (ranges : List Range) : Type 0 where
-  pub lows : IsNonDecreasingBy (λ r. r.low) ranges
-  pub highs : IsNonDecreasingBy (λ r. r.high) ranges
-
--- Conditions of filters on a row.
-
--- For each option given: the numbers or the addresses that it allows, as a test, or the label text.
-pub record Condition : Type 0 where
-  pub protocol : Option (ℕ → Bool)
-  pub sport : Option (ℕ → Bool)
-  pub dport : Option (ℕ → Bool)
-  pub saddress : Option (AddressOf → Bool)
-  pub daddress : Option (AddressOf → Bool)
-  pub packets : Option (ℕ → Bool)
-  pub bytes : Option (ℕ → Bool)
-  pub src_label : Option (List ℕ)
-  pub dst_label : Option (List ℕ)
-  pub any_label : Option (List ℕ)
-
--- the test passes, if one is given
-abbrev pub allows : {X : Type 0} → Option (X → Bool) → X → Bool
-allows None x = true
-allows (Some test) x = test x
 
 -- the label exists and is this one
 abbrev pub is_this_label : List ℕ → Option (List ℕ) → Bool
 is_this_label label None = false
 is_this_label label (Some found) = bytes_eq found label
 
--- the label is the requested one, if one is requested
-abbrev pub allows_label : Option (List ℕ) → Option (List ℕ) → Bool
-allows_label None found = true
-allows_label (Some label) found = is_this_label label found
+-- a test of a row, by the labels of its addresses
+abbrev pub RowTest : Type 0
+RowTest = (AddressOf → Option (List ℕ)) → RowView → Bool
 
--- the row meets each condition given, with these labels of addresses
+-- the test that a range covers a number of the row, and that a block covers an address of the row
+abbrev pub by_number : (RowView → ℕ) → Option Range → Option RowTest
+by_number number = option_map (λ range label row. in_range (number row) range)
+
+abbrev pub by_address : (RowView → AddressOf) → Option BlockOf → Option RowTest
+by_address address = option_map (λ block label row. covers block (address row))
+
+-- the source and the destination of a row
+abbrev pub src : RowView → AddressOf
+src row = (row.version, row.src)
+
+abbrev pub dst : RowView → AddressOf
+dst row = (row.version, row.dst)
+
+-- the test that an item of an option's text states
+abbrev pub item_test : FilterOption → List ℕ → Option RowTest
+item_test Protocol item = by_number (λ row. row.protocol) (number_range false 255 item)
+item_test SourcePort item = by_number (λ row. row.sport) (number_range false 65535 item)
+item_test DestinationPort item = by_number (λ row. row.dport) (number_range false 65535 item)
+item_test SourceAddress item = by_address src (address_item item)
+item_test DestinationAddress item = by_address dst (address_item item)
+item_test Packets item = by_number (λ row. row.packets) (number_range true (2 ^ 64 - 1) item)
+item_test Bytes item = by_number (λ row. row.octets) (number_range true (2 ^ 64 - 1) item)
+item_test SourceLabel item = Some (λ label row. is_this_label item (label (src row)))
+item_test DestinationLabel item = Some (λ label row. is_this_label item (label (dst row)))
+item_test AnyLabel item = Some (λ label row. is_this_label item (label (src row)) || is_this_label item (label (dst row)))
+
+-- the items of an option's text: those between commas if it is a list, otherwise the whole text
+abbrev pub items_of : FilterOption → List ℕ → List (List ℕ)
+items_of o = if is_list o then slice_split (λ b. b == 44) else (λ text. text ∷ [])
+
+-- an option that is given, with its text
+abbrev pub Part : Type 0
+Part = FilterOption × List ℕ
+
+-- the tests of the items, if all items are well formed
+abbrev pub tests_of : Part → Option (List RowTest)
+tests_of (o, text) = each_some (map (item_test o) (items_of o text))
+
+abbrev pub is_malformed : Part → Bool
+is_malformed part = is_none (tests_of part)
+
+-- the row meets one of the tests
+abbrev pub meets_one : (AddressOf → Option (List ℕ)) → RowView → Option (List RowTest) → Bool
+meets_one label row None = false
+meets_one label row (Some tests) = list_any (λ test. test label row) tests
+
+abbrev pub meets : (AddressOf → Option (List ℕ)) → RowView → Part → Bool
+meets label row part = meets_one label row (tests_of part)
+
+-- A condition: the options that are given.
+
+abbrev pub Condition : Type 0
+Condition = List Part
+
+-- the row meets each option given, with these labels of addresses
 abbrev pub row_passes : Condition → (AddressOf → Option (List ℕ)) → RowView → Bool
-row_passes c label row =
-    allows c.protocol row.protocol && allows c.sport row.sport && allows c.dport row.dport
-    && allows c.saddress (row.version, row.src) && allows c.daddress (row.version, row.dst)
-    && allows c.packets row.packets && allows c.bytes row.octets
-    && allows_label c.src_label (label (row.version, row.src)) && allows_label c.dst_label (label (row.version, row.dst))
-    && (allows_label c.any_label (label (row.version, row.src)) || allows_label c.any_label (label (row.version, row.dst)))
+row_passes condition label row = list_all (meets label row) condition
 
--- a condition on labels is given
+-- an option on labels is given
 abbrev pub needs_map : Condition → Bool
-needs_map c = is_some c.src_label || is_some c.dst_label || is_some c.any_label
-
--- The rows that pass a condition.
+needs_map condition = list_any (λ part. is_on_labels part.0) condition
 
 -- the row meets a condition under a labelling, or without one
 abbrev pub passes : Condition → Option Labelling → RowView → Bool
@@ -108,3 +112,19 @@ passing condition labels all = filter (passes condition labels) all
 
 abbrev pub passing_rows : Condition → Option Labelling → List MessageView → List RowView
 passing_rows condition labels messages = passing condition labels (rows_of_messages messages)
+
+-- the options that have a text, with their texts
+abbrev pub given : List (Option (List ℕ)) → List FilterOption → Condition
+given (text ∷ texts) (o ∷ os) = option_to_list (option_map (λ t. (o, t)) text) ++ given texts os
+given texts os = []
+
+abbrev pub fault_of : Part → FilterFault
+fault_of part = record { option = part.0; kind = kind_of part.0 }
+
+abbrev pub unless_malformed : Condition → Option Part → Result Condition FilterFault
+unless_malformed condition None = Ok condition
+unless_malformed condition (Some part) = Err (fault_of part)
+
+-- the condition that the texts of all options state, or the fault of the first that is malformed
+abbrev pub filter_of : List (Option (List ℕ)) → Result Condition FilterFault
+filter_of texts = let condition = given texts ALL_OPTIONS in unless_malformed condition (find is_malformed condition)

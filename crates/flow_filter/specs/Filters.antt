@@ -1,38 +1,73 @@
-use Rattle.std.specs.Prelude.{◌≡◌, ◌⊎◌, ℕ, Bool, true, List, Option, Some, None, option_and_then, option_map}
-use Rattle.std.specs.Option.{is_some}
-use Rattle.prefix_keys.specs.Text.{AddressOf}
-use Rattle.flow_filter.specs.Condition.{mapped_number, in_range, in_ranges, Condition, Range}
-use Rattle.flow_filter.specs.Words.{fault_in, fault_of, FilterFault, FilterFaultKind, NoMemory, FilterOption}
-use Rattle.flow_filter.specs.declared.filter.Filter.{Filter}
+use Rattle.std.specs.Prelude.{◌≡◌, ◌⊎◌, ℕ, ◌+◌, ◌<◌, ◌++◌, ◌∷◌, Bool, true, false, List, Option, None, Err, find, slice_index, length, map, nat_le, option_map, take}
+use Rattle.std.specs.List.{list_any}
+use Rattle.prefix_keys.specs.Conversion.{mapped_prefix}
+use Rattle.prefix_keys.specs.Text.{AddressOf, BlockOf}
+use Rattle.prefix_keys.specs.declared.block.Block.{Block}
+use Rattle.prefix_keys.specs.declared.version.Version.TheVariants.{V4, V6}
+use Rattle.flow_rows.specs.Elements.{RowView}
+use Rattle.flow_filter.specs.Condition.{Condition, FilterFault, Part, Range, RowTest, dst, filter_of, given, in_range, is_malformed, meets, src}
+use Rattle.flow_filter.specs.Options.{FilterFaultKind, FilterOption, is_on_labels, kind_of, Bytes, DestinationAddress, DestinationPort, NoMemory, Packets, Protocol, SourceAddress, SourcePort}
+use Rattle.flow_filter.specs.declared.option.TheConstants.{ALL_OPTIONS}
+use Rattle.flow_filter.specs.declared.words.FilterWords.{FilterWords}
 
--- The results of reading one option, for the contracts of private functions. Callers of the crate need not read them.
+-- How filters are read and stored. Callers of the crate need only `texts_of` and `IsFault`.
 
--- the value of the option's text, which has no fault
-pub record IsRead {X : Type 0} (o : FilterOption) (k : FilterFaultKind) (read : List ℕ → Option X) (text : Option (List ℕ)) (x : Option X) : Type 0 where
-  pub value : x ≡ option_and_then read text
-  pub sound : fault_in o k read text ≡ None
+abbrev pub texts_of : FilterWords → List (Option (List ℕ))
+texts_of words = map (option_map (λ s. s.now)) words.texts
 
--- the fault that an allocation failed, if the option is given and its text has no fault; or the fault of its text
-abbrev pub IsRefused : {X : Type 0} → FilterOption → FilterFaultKind → (List ℕ → Option X) → Option (List ℕ) → FilterFault → Type 0
-IsRefused o k read text fault =
-    ((fault ≡ fault_of o NoMemory) × (is_some text ≡ true) × (fault_in o k read text ≡ None))
-    ⊎ (fault_in o k read text ≡ Some fault)
+-- the option is given, and no option before it has a malformed text
+pub record IsBeingRead (condition : Condition) (o : FilterOption) : Type 0 where
+  pub before : Condition
+  pub text : List ℕ
+  pub after : Condition
+  pub split : condition ≡ before ++ (o, text) ∷ after
+  pub sound : find is_malformed before ≡ None
 
--- the addresses whose IPv6 numbers are in the ranges
-abbrev pub by_place : List Range → AddressOf → Bool
-by_place ranges address = in_ranges ranges (mapped_number address)
+-- an allocation failed while an option was read, or the fault is the first one of the texts
+abbrev pub IsFault : List (Option (List ℕ)) → FilterFault → Type 0
+IsFault texts fault = ((fault.kind ≡ NoMemory) × IsBeingRead (given texts ALL_OPTIONS) fault.option) ⊎ (filter_of texts ≡ Err fault)
 
--- the condition of a filter
-abbrev pub condition_in : Filter → Condition
-condition_in f = record {
-  protocol = option_map in_ranges f.protocol;
-  sport = option_map in_ranges f.sport;
-  dport = option_map in_ranges f.dport;
-  saddress = option_map by_place f.saddress;
-  daddress = option_map by_place f.daddress;
-  packets = option_map (λ range n. in_range n range) f.packets;
-  bytes = option_map (λ range n. in_range n range) f.bytes;
-  src_label = option_map (λ s. s.now) f.src_label;
-  dst_label = option_map (λ s. s.now) f.dst_label;
-  any_label = option_map (λ s. s.now) f.any_label;
-}
+-- the kind of the fault of a part
+abbrev pub IsRefused : Part → FilterFaultKind → Type 0
+IsRefused part kind = (kind ≡ NoMemory) ⊎ ((is_malformed part ≡ true) × (kind ≡ kind_of part.0))
+
+-- a block without the proofs of its invariants
+abbrev pub view_of : Block → BlockOf
+view_of block = (block.version, block.value, block.len)
+
+-- the number of the address as an IPv6 address
+abbrev pub mapped_number : AddressOf → ℕ
+mapped_number (V4, value) = value + mapped_prefix
+mapped_number (V6, value) = value
+
+-- the number is in one of the ranges
+abbrev pub in_ranges : List Range → ℕ → Bool
+in_ranges ranges n = list_any (in_range n) ranges
+
+-- one of the first ranges ends at the number or above it
+abbrev pub reaches : List Range → ℕ → ℕ → Bool
+reaches ranges k n = list_any (λ range. nat_le n range.high) (take k ranges)
+
+-- for each range, the highest end of the ranges up to it
+pub record HasTops (ranges : List Range) (tops : List ℕ) : Type 0 where
+  pub long : length tops ≡ length ranges
+  pub each : (k : ℕ) → k < length tops → (n : ℕ) → nat_le n (slice_index tops k) ≡ reaches ranges (k + 1) n
+
+-- the number of a row that the ranges of an option have
+abbrev pub number_of : FilterOption → RowView → ℕ
+number_of Protocol row = row.protocol
+number_of SourcePort row = row.sport
+number_of DestinationPort row = row.dport
+number_of SourceAddress row = mapped_number (src row)
+number_of DestinationAddress row = mapped_number (dst row)
+number_of Packets row = row.packets
+number_of Bytes row = row.octets
+number_of o row = 0
+
+abbrev pub by_range : FilterOption → Range → RowTest
+by_range o range label row = in_range (number_of o row) range
+
+-- the ranges allow what the text does, unless it is a label
+abbrev pub HasRanges : Part → List Range → Type 0
+HasRanges part ranges = is_on_labels part.0 ≡ false → (label : AddressOf → Option (List ℕ)) (row : RowView)
+    → meets label row part ≡ in_ranges ranges (number_of part.0 row)

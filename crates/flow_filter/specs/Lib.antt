@@ -1,4 +1,4 @@
-pub mod Condition
+pub mod Options
 pub mod Texts
-pub mod Words
+pub mod Condition
 pub mod Filters

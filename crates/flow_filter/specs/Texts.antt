@@ -1,5 +1,5 @@
-use Rattle.std.specs.Prelude.{ℕ, suc, ◌&&◌, ◌==◌, Bool, false, List, [], ◌∷◌, Option, Some, None, length, map, nat_le, option_and_then, option_map, if◌then◌else◌}
-use Rattle.std.specs.List.{after_first, before_first, list_all, list_any, slice_split}
+use Rattle.std.specs.Prelude.{ℕ, suc, ◌&&◌, ◌==◌, Bool, List, [], ◌∷◌, Option, Some, None, length, nat_le, option_and_then, option_map, if◌then◌else◌}
+use Rattle.std.specs.List.{after_first, before_first, list_all, list_any}
 use Rattle.std.specs.Result.{result_ok}
 use Rattle.prefix_keys.specs.Text.{AddressOf, BlockOf, address_of, block_of_text, decimal_value, is_digit}
 use Rattle.prefix_keys.specs.Block.{width_of}
@@ -12,9 +12,9 @@ abbrev pub after_byte : ℕ → List ℕ → Option (List ℕ)
 after_byte byte text = if list_any (λ b. b == byte) text then Some (after_first (λ b. b == byte) text) else None
 
 -- the parts of the remaining text, if there is one
-abbrev pub parts_of : ℕ → Option (List ℕ) → List (List ℕ)
-parts_of byte None = []
-parts_of byte (Some text) = slice_split (λ b. b == byte) text
+abbrev pub parts_of : (List ℕ → List (List ℕ)) → Option (List ℕ) → List (List ℕ)
+parts_of split None = []
+parts_of split (Some text) = split text
 
 -- the size of the remaining text
 abbrev pub size_of : Option (List ℕ) → ℕ
@@ -48,19 +48,6 @@ number_range may_be_open limit text =
     let low = bounded_number limit (before_first (λ b. b == 45) text) in
     range_between low (end_or may_be_open limit low (after_byte 45 text))
 
--- the items, if all exist
-abbrev pub each_some : {X : Type 0} → List (Option X) → Option (List X)
-each_some [] = Some []
-each_some (o ∷ os) = option_and_then (λ x. option_map (λ xs. x ∷ xs) (each_some os)) o
-
--- the items of a list, separated by commas
-abbrev pub items_of : List ℕ → List (List ℕ)
-items_of text = slice_split (λ b. b == 44) text
-
--- the ranges of a number list: items `N` or `N-M`
-abbrev pub number_list : ℕ → List ℕ → Option (List Range)
-number_list limit text = each_some (map (number_range false limit) (items_of text))
-
 -- the block of one address
 abbrev pub single : AddressOf → BlockOf
 single address = (address.0, address.1, width_of address.0)
@@ -70,6 +57,7 @@ abbrev pub address_item : List ℕ → Option BlockOf
 address_item text =
     if list_any (λ b. b == 47) text then result_ok (block_of_text text) else option_map single (address_of text)
 
--- the blocks of an address list
-abbrev pub address_list : List ℕ → Option (List BlockOf)
-address_list text = each_some (map address_item (items_of text))
+-- the items, if all exist
+abbrev pub each_some : {X : Type 0} → List (Option X) → Option (List X)
+each_some [] = Some []
+each_some (o ∷ os) = option_and_then (λ x. option_map (λ xs. x ∷ xs) (each_some os)) o

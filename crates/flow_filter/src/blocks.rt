@@ -1,7 +1,9 @@
 //! The blocks of the items of an address list, and the IPv6 numbers of their addresses.
 ghost use Rattle.std.specs.Prelude.{◌≡◌, option_map};
 ghost use Rattle.prefix_keys.specs.Text.{AddressOf};
-ghost use Rattle.flow_filter.specs.Condition.{item_covers, mapped_number, view_of, in_range};
+ghost use Rattle.flow_rows.specs.Elements.{RowView};
+ghost use Rattle.flow_filter.specs.Condition.{by_address, covers, in_range};
+ghost use Rattle.flow_filter.specs.Filters.{mapped_number, view_of};
 ghost use Rattle.flow_filter.specs.Texts.{address_item, single};
 
 use crate::range::Range;
@@ -14,8 +16,8 @@ fn block_of_one(addr: Addr) -> Block
     block_of(addr, addr.version.width())
 }
 
-/// Reads an item of an address list: a block if there is a `/`, otherwise an address, which is a block of full length.
-pub fn read_item(text: &[u8]) -> Option<Block>
+// Reads an item of an address list: a block if there is a `/`, otherwise an address, which is a block of full length.
+fn read_item(text: &[u8]) -> Option<Block>
     ensures { option_map view_of result ≡ address_item text.now }
 {
     if text.contains(&b'/') {
@@ -36,10 +38,19 @@ pub fn place_of(addr: Addr) -> u128
     }
 }
 
-/// Returns the numbers of the block's addresses as IPv6 addresses. The block covers an address if and only if the
-/// number of the address as an IPv6 address is one of them.
-pub fn places_of(block: &Block) -> Range
-    ensures { (address : AddressOf) → in_range (mapped_number address) result ≡ item_covers address (view_of block.now) }
+/// Reads the IPv6 numbers of the addresses that an item of an address list covers.
+pub fn read_places(text: &[u8]) -> Option<Range>
+    ensures { (address : RowView → AddressOf) → option_map (λ range label row. in_range (mapped_number (address row)) range) result
+        ≡ by_address address (address_item text.now) }
+{
+    let block = read_item(text)?;
+    Some(places_of(&block))
+}
+
+// Returns the numbers of the block's addresses as IPv6 addresses. The block covers an address if and only if the
+// number of the address as an IPv6 address is one of them.
+fn places_of(block: &Block) -> Range
+    ensures { (address : AddressOf) → in_range (mapped_number address) result ≡ covers (view_of block.now) address }
 {
     let low = place_of(block.low());
     let high = place_of(block.high());

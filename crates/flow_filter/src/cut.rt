@@ -9,7 +9,7 @@ pub fn cut(text: &[u8], byte: u8) -> (&[u8], Option<&[u8]>)
     ensures front { result.0.now ≡ before_first (λ b. b == byte) text.now }
     ensures back { option_map (λ t. t.now) result.1 ≡ after_byte byte text.now }
     ensures parts { slice_split (λ b. b == byte) text.now
-        ≡ result.0.now ∷ parts_of byte (option_map (λ t. t.now) result.1) }
+        ≡ result.0.now ∷ parts_of (slice_split (λ b. b == byte)) (option_map (λ t. t.now) result.1) }
     ensures shorter { size_of (option_map (λ t. t.now) result.1) < length text.now + 1 }
 {
     for (at, b) in text.iter().enumerate() {

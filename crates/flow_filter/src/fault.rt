@@ -1,29 +1,8 @@
-use thiserror::Error;
+ghost use Rattle.std.specs.Prelude.{◌≡◌};
 
-/// An option that states a condition on rows. The order is that in which texts are read.
-#[derive(Clone, Copy, Debug, PartialEq, Eq)]
-pub enum FilterOption {
-    /// `--protocol`
-    Protocol,
-    /// `--sport`
-    SourcePort,
-    /// `--dport`
-    DestinationPort,
-    /// `--saddress`
-    SourceAddress,
-    /// `--daddress`
-    DestinationAddress,
-    /// `--packets`
-    Packets,
-    /// `--bytes`
-    Bytes,
-    /// `--src-label`
-    SourceLabel,
-    /// `--dst-label`
-    DestinationLabel,
-    /// `--any-label`
-    AnyLabel,
-}
+use crate::option::FilterOption;
+use std::alloc::AllocError;
+use thiserror::Error;
 
 /// The reason why the text of an option can't be read.
 #[derive(Clone, Copy, Debug, PartialEq, Eq)]
@@ -36,6 +15,16 @@ pub enum FilterFaultKind {
     BadBlock,
     /// An allocation failed.
     NoMemory,
+}
+
+impl From<AllocError> for FilterFaultKind {
+    ghost use Rattle.flow_filter.specs.declared.fault.FilterFaultKind.TheVariants.{NoMemory};
+
+    ghost from_gives = { λ _ kind. kind ≡ NoMemory };
+
+    fn from(_error: AllocError) -> FilterFaultKind {
+        FilterFaultKind::NoMemory
+    }
 }
 
 /// The option whose text can't be read, and the reason.

@@ -1,11 +1,12 @@
 //! The conditions that filters state on flow rows.
 //!
 //! ```rust
-//! use flow_filter::{Filter, FilterWords};
+//! use flow_filter::{ALL_OPTIONS, Filter, FilterOption, FilterWords};
 //! use label_lookup::Scan;
 //!
-//! // `nothing` has `None` for each option, and `row` is a row of flow_rows.
-//! let words = FilterWords { protocol: Some("6,17"), ..nothing };
+//! // `row` is a row of flow_rows.
+//! let protocols = |option| if option == FilterOption::Protocol { Some("6,17") } else { None };
+//! let words = FilterWords { texts: ALL_OPTIONS.map(protocols) };
 //! let filter = Filter::read(alloc, &words).expect(&rt, "a filter");
 //! let passes = filter.passes(&row, None::<&Scan<'_>>);
 //! assert!(rt; passes == (row.protocol == 6 || row.protocol == 17));
@@ -17,22 +18,23 @@
 //! first malformed text, in the order of the options. `passes` returns whether the row meets each condition given.
 //! `add_passing_rows` appends the rows of a message that pass to other rows, each once and in order, and leaves those
 //! rows unchanged if an allocation fails. `needs_map` returns whether a condition is on a label. Contracts see a filter
-//! as its condition: the sets of the numbers and addresses that it allows, and the label texts. How those sets are
-//! stored is private. A row is looked up in them by a search in sorted ranges, which allocates nothing.
+//! as its condition: the options given, each with its text. How the numbers that a text allows are stored is private. A row is looked up in them by a search in sorted ranges, which allocates nothing.
 #![tactic(auto)]
 
 mod blocks;
 mod cut;
 mod fault;
 mod filter;
-mod labels;
+mod items;
 mod number;
-mod options;
+mod option;
+mod part;
 mod passing;
 mod range;
 mod ranges;
 mod words;
 
-pub use fault::{FilterFault, FilterFaultKind, FilterOption};
+pub use fault::{FilterFault, FilterFaultKind};
 pub use filter::Filter;
+pub use option::{ALL_OPTIONS, FilterOption};
 pub use words::FilterWords;

@@ -5,7 +5,6 @@ ghost use Rattle.std.specs.Option.{option_to_list};
 ghost use Rattle.flow_rows.specs.Counts.{rows_of};
 ghost use Rattle.flow_rows.specs.Elements.{first_row, rows_of_record, second_row, RowView, row_view};
 ghost use Rattle.label_lookup.specs.Labelling.{labelling_lent};
-ghost use Rattle.flow_filter.specs.Filters.{condition_in};
 ghost use Rattle.flow_filter.specs.Condition.{passing};
 
 use crate::filter::Filter;
@@ -99,7 +98,7 @@ fn keep_passing<L: Labeller>(
     requires { before ≤ length rows.old.items }
     ensures { let labelling = labelling_lent L.version_of L.label labeller.entry in (earlier added : List RowView)
         → length earlier ≡ before → map row_view rows.old.items ≡ earlier ++ added
-        → map row_view rows.new.items ≡ earlier ++ passing (condition_in filter.now) labelling added }
+        → map row_view rows.new.items ≡ earlier ++ passing filter.now labelling added }
 {
     if filter.passes_all() {
         return;
@@ -131,7 +130,7 @@ impl<'a> Filter<'a> {
     ) -> Result<(), AllocError>
         ensures ok { let labelling = labelling_lent L.version_of L.label labeller.entry in
             OnOk result (map row_view rows.new.items
-            ≡ map row_view rows.old.items ++ passing (condition_in self.now) labelling (rows_of message.now.sets)) }
+            ≡ map row_view rows.old.items ++ passing self.now labelling (rows_of message.now.sets)) }
         ensures few { length rows.new.items ≤ length rows.old.items + 131070 }
         ensures err { OnErr result (rows.new.items ≡ rows.old.items) }
     {

@@ -1,21 +1,22 @@
 -- How the result of `parse` follows from the kind of clap's error, or from the entries of its matches.
-use Rattle.std.proofs.Common.{◌≡◌, ◌≢◌, ◌⊎◌, ◌∙◌, ◌||◌, Bool, true, false, List, [], ◌∷◌, Option, Some, None, Result, Ok, Err, refl, ap, ap₂, inl, inr, codes}
+use Rattle.std.proofs.Common.{◌≡◌, ◌≢◌, ◌⊎◌, ◌∙◌, ◌||◌, Bool, true, false, List, [], ◌∷◌, Option, Some, None, Result, Ok, Err, refl, ap, ap₂, inl, inr, codes, map}
 use Rattle.std.specs.Prelude.{IfErr, IfOk, ok_or, option_map, unwrap_or, if◌then◌else◌}
 use Rattle.std.specs.List.{list_any}
 use Rattle.std.specs.Result.{result_map_both}
 use Rattle.std.specs.Str.{bytes_eq}
-use Rattle.clap.specs.Words.{IsAmong, Kinds, Row, fault_of, is_simple, is_simple_and_free, subcommand_name_of, subcommand_of, subcommand_rows_of}
+use Rattle.clap.specs.Words.{IsAmong, Kinds, Row, fault_of, first_of, is_simple, is_simple_and_free, subcommand_name_of, subcommand_of, subcommand_rows_of}
 use Rattle.clap.specs.declared.error.kind.ErrorKind.{ErrorKind}
 use Rattle.clap.specs.declared.error.kind.ErrorKind.TheVariants as kind
 use Rattle.clap.specs.declared.parser.ArgMatches.{ArgMatches}
 use Rattle.clap.proofs.OnLiterals.{clap_on_literals}
 use Rattle.pmap_text.specs.Reading.{◌>>=◌}
-use Rattle.flow_filter.specs.Condition.{needs_map}
-use Rattle.flow_filter.specs.Words.{filter_of_words}
+use Rattle.flow_filter.specs.Condition.{filter_of, needs_map}
+use Rattle.flow_filter.specs.Options.{name_of}
+use Rattle.flow_filter.specs.declared.option.TheConstants.{ALL_OPTIONS}
 use Rattle.flow_uniq.specs.Key.{keys_reading, need_map}
 use Rattle.flowlabel.specs.Request.{LabelSource, Request, Text, check, info, recert, request_of, Command}
 use Rattle.flowlabel.specs.Definition.{flowlabel_app}
-use Rattle.flowlabel.specs.Answer.{Answer, Answers, IsAnswer, IsFaultAt, IsFaultOfKind, IsOwnAnswer, IsOwnFault, address_in_rows, answer_of, answer_of_cat, answer_of_label, answer_of_rows, answer_of_shrink, is_help, is_mistake, is_given, shrunk_asked, source_answer, sources_in_rows, text_in_rows, IsUnlessMemory, condition_in_rows, with_labels, words_in_rows, answer_of_uniq, fields_in_rows, UsageFault, Refused, NotUtf8, Help, BadAddress, MapMissing, Filter, Key, NoMemory}
+use Rattle.flowlabel.specs.Answer.{Answer, Answers, IsAnswer, IsFaultAt, IsFaultOfKind, IsOwnAnswer, IsOwnFault, address_in_rows, answer_of, answer_of_cat, answer_of_label, answer_of_rows, answer_of_shrink, is_help, is_mistake, is_given, shrunk_asked, source_answer, sources_in_rows, text_in_rows, IsUnlessMemory, condition_in_rows, with_labels, answer_of_uniq, fields_in_rows, UsageFault, Refused, NotUtf8, Help, BadAddress, MapMissing, Filter, Key, NoMemory}
 
 -- clap's theorems are about definitions such as this one
 pub flowlabel_is_simple : is_simple flowlabel_app ≡ true
@@ -88,7 +89,7 @@ mapped_own as_fault own (Ok x) = tt
 mapped_own as_fault own (Err fault) = own fault
 
 condition_own : (rows : List Row) → IsOwnAnswer (condition_in_rows rows)
-condition_own rows = mapped_own Filter (λ fault. tt) (filter_of_words (words_in_rows rows))
+condition_own rows = mapped_own Filter (λ fault. tt) (filter_of (map (λ o. first_of (name_of o) rows) ALL_OPTIONS))
 
 with_labels_own : (needed : Bool) (source : Option LabelSource) (request : Request) → IsOwnAnswer (with_labels needed source request)
 with_labels_own true None request = tt

@@ -1,4 +1,4 @@
-use Rattle.std.specs.Prelude.{◌≡◌, ◌==◌, ◌&&◌, ◌||◌, Bool, not, true, false, List, [], ◌∷◌, Option, Some, None, Result, Ok, Err, codes, ok_or, option_and_then, option_map, unwrap_or, is_none, if◌then◌else◌}
+use Rattle.std.specs.Prelude.{◌≡◌, ◌==◌, ◌&&◌, ◌||◌, Bool, not, true, false, List, [], ◌∷◌, Option, Some, None, Result, Ok, Err, codes, map, ok_or, option_and_then, option_map, unwrap_or, is_none, if◌then◌else◌}
 use Rattle.std.specs.List.{list_any}
 use Rattle.std.specs.Result.{result_map_both}
 use Rattle.std.specs.Str.{bytes_eq}
@@ -6,8 +6,9 @@ use Rattle.std.specs.declared.io.ErrorKind.TheVariants as io
 use Rattle.std.specs.declared.io.ErrorKind.{ErrorKind as IoErrorKind}
 use Rattle.prefix_keys.specs.Text.{AddressOf, address_of}
 use Rattle.pmap_text.specs.Reading.{◌>>=◌}
-use Rattle.flow_filter.specs.Condition.{Condition, needs_map}
-use Rattle.flow_filter.specs.Words.{Words, filter_of_words}
+use Rattle.flow_filter.specs.Condition.{Condition, filter_of, needs_map}
+use Rattle.flow_filter.specs.Options.{name_of}
+use Rattle.flow_filter.specs.declared.option.TheConstants.{ALL_OPTIONS}
 use Rattle.flow_uniq.specs.Key.{keys_reading, need_map}
 use Rattle.flow_uniq.specs.declared.field.KeyField.{KeyField}
 use Rattle.clap.specs.Words.{Row, fault_of, first_of, subcommand_of}
@@ -52,22 +53,10 @@ text_in_rows id entries = unwrap_or (first_of id entries) []
 abbrev pub is_given : Text → List Row → Bool
 is_given flag entries = bytes_eq (unwrap_or (first_of flag entries) []) (codes "true")
 
-abbrev pub words_in_rows : List Row → Words
-words_in_rows entries = record {
-  protocol = first_of (codes "protocol") entries;
-  sport = first_of (codes "sport") entries;
-  dport = first_of (codes "dport") entries;
-  saddress = first_of (codes "saddress") entries;
-  daddress = first_of (codes "daddress") entries;
-  packets = first_of (codes "packets") entries;
-  bytes = first_of (codes "bytes") entries;
-  src_label = first_of (codes "src-label") entries;
-  dst_label = first_of (codes "dst-label") entries;
-  any_label = first_of (codes "any-label") entries;
-}
-
+-- the condition of the texts of the filter options
 abbrev pub condition_in_rows : List Row → Result Condition UsageFault
-condition_in_rows entries = result_map_both (λ condition. condition) Filter (filter_of_words (words_in_rows entries))
+condition_in_rows entries =
+    result_map_both (λ condition. condition) Filter (filter_of (map (λ o. first_of (name_of o) entries) ALL_OPTIONS))
 
 abbrev pub fields_in_rows : List Row → Result (List KeyField) UsageFault
 fields_in_rows entries = result_map_both (λ fields. fields) Key (keys_reading (text_in_rows (codes "fields") entries))

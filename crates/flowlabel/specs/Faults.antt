@@ -1,8 +1,7 @@
 use Rattle.std.specs.Prelude.{◌≡◌, ℕ, Bool, true, false, List, [], ◌++◌, Result, Ok, Err, codes, decimal, if◌then◌else◌}
 use Rattle.flow_filter.specs.declared.fault.FilterFaultKind.{FilterFaultKind}
 use Rattle.flow_filter.specs.declared.fault.FilterFaultKind.TheVariants as filters
-use Rattle.flow_filter.specs.declared.fault.FilterOption.{FilterOption}
-use Rattle.flow_filter.specs.declared.fault.FilterOption.TheVariants as option
+use Rattle.flow_filter.specs.Options.{name_of}
 use Rattle.flow_uniq.specs.declared.fault.KeyFault.{KeyFault}
 use Rattle.flow_uniq.specs.declared.fault.KeyFault.TheVariants as keys
 use Rattle.flowlabel.specs.BytesFault.{bytes_fault_name, bytes_fault_place, is_want_of_memory}
@@ -21,18 +20,6 @@ abbrev pub place_text : List ℕ → List ℕ → ℕ → List ℕ
 place_text file name place =
     codes "flowlabel: " ++ file ++ codes ": " ++ name ++ codes " at " ++ decimal place ++ codes "\n"
 
-abbrev pub filter_option_text : FilterOption → List ℕ
-filter_option_text option.Protocol = codes "--protocol"
-filter_option_text option.SourcePort = codes "--sport"
-filter_option_text option.DestinationPort = codes "--dport"
-filter_option_text option.SourceAddress = codes "--saddress"
-filter_option_text option.DestinationAddress = codes "--daddress"
-filter_option_text option.Packets = codes "--packets"
-filter_option_text option.Bytes = codes "--bytes"
-filter_option_text option.SourceLabel = codes "--src-label"
-filter_option_text option.DestinationLabel = codes "--dst-label"
-filter_option_text option.AnyLabel = codes "--any-label"
-
 abbrev pub filter_fault_text : FilterFaultKind → List ℕ
 filter_fault_text filters.BadNumberList = codes "L1 BadNumberList"
 filter_fault_text filters.BadRange = codes "L2 BadRange"
@@ -40,7 +27,7 @@ filter_fault_text filters.BadBlock = codes "L3 BadBlock"
 filter_fault_text filters.NoMemory = codes "L4 NoMemory"
 
 abbrev pub option_text : List ℕ → List ℕ → List ℕ
-option_text option name = codes "flowlabel: usage: " ++ option ++ codes " " ++ name ++ codes "\n"
+option_text option name = codes "flowlabel: usage: --" ++ option ++ codes " " ++ name ++ codes "\n"
 
 abbrev pub key_fault_text : KeyFault → List ℕ
 key_fault_text keys.BadField = codes "U1 BadField"
@@ -65,8 +52,8 @@ usage_fault_text (usage.Help text) = []
 usage_fault_text usage.MapTwice = codes "flowlabel: usage: P3 MapTwice\n"
 usage_fault_text usage.MapMissing = codes "flowlabel: usage: P2 MapMissing\n"
 usage_fault_text usage.BadAddress = codes "flowlabel: usage: P4 BadAddress\n"
-usage_fault_text (usage.Filter fault) = option_text (filter_option_text fault.option) (filter_fault_text fault.kind)
-usage_fault_text (usage.Key fault) = option_text (codes "--fields") (key_fault_text fault)
+usage_fault_text (usage.Filter fault) = option_text (name_of fault.option) (filter_fault_text fault.kind)
+usage_fault_text (usage.Key fault) = option_text (codes "fields") (key_fault_text fault)
 usage_fault_text usage.LabelNeedsMap = codes "flowlabel: usage: P5 LabelNeedsMap\n"
 usage_fault_text usage.CompactAlone = codes "flowlabel: usage: P6 CompactAlone\n"
 usage_fault_text usage.NoMemory = out_of_memory

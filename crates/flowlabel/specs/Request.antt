@@ -2,7 +2,6 @@ use Rattle.std.specs.Prelude.{◌^◌, ◌<◌, Bool, List, Option, Some, None, 
 use Rattle.prefix_keys.specs.Text.{AddressOf}
 use Rattle.prefix_keys.specs.Block.{width_of}
 use Rattle.flow_filter.specs.Condition.{Condition}
-use Rattle.flow_filter.specs.Filters.{condition_in}
 pub use Rattle.flowlabel.specs.declared.command.Command.{Command}
 pub use Rattle.flowlabel.specs.declared.command.Command.TheVariants.{Cat, Check, Info, Label, Recert, Rows, Shrink, Uniq}
 use Rattle.flow_uniq.specs.declared.field.KeyField.{KeyField}
@@ -49,9 +48,9 @@ source_of (Prefixes file) = FromList file.now
 abbrev pub request_of : Command → Request
 request_of (Label labels addr) = label (source_of labels) (addr.version, addr.value)
 request_of (Info flows) = info flows.now
-request_of (Rows labels filter columns flows) = rows (option_map source_of labels) (condition_in filter) columns flows.now
+request_of (Rows labels filter columns flows) = rows (option_map source_of labels) filter columns flows.now
 request_of (Uniq keys labels filter sorted columns flows) =
-    uniq keys (option_map source_of labels) (condition_in filter) sorted columns flows.now
+    uniq keys (option_map source_of labels) filter sorted columns flows.now
 request_of (Cat labels) = cat (source_of labels)
 request_of (Shrink map printed) = shrink map.now printed
 request_of (Check map list certificate) = check map.now list.now certificate.now

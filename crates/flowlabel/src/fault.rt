@@ -1,12 +1,12 @@
 ghost use Rattle.std.specs.Prelude.{◌≡◌, IfOk, false};
 ghost use Rattle.std.specs.String.{string_bytes};
 ghost use Rattle.flowlabel.specs.BytesFault.{is_answer_of_calls};
-ghost use Rattle.flowlabel.specs.Faults.{IsInFile, exit_status_of, fault_text, filter_fault_text, filter_option_text, key_fault_text, option_text, place_text, status_of, usage_fault_text};
+ghost use Rattle.flowlabel.specs.Faults.{IsInFile, exit_status_of, fault_text, filter_fault_text, key_fault_text, option_text, place_text, status_of, usage_fault_text};
 
 use crate::bytes_fault::BytesFault;
 use crate::file_fault::FileFault;
 use crate::usage::UsageFault;
-use flow_filter::{FilterFaultKind, FilterOption};
+use flow_filter::FilterFaultKind;
 use flow_uniq::KeyFault;
 use std::alloc::{AllocError, Global};
 
@@ -51,23 +51,6 @@ impl<'a> From<AllocError> for RunFault<'a> {
     }
 }
 
-fn filter_option_name(option: FilterOption) -> &'static str
-    ensures { result.now ≡ filter_option_text option }
-{
-    match option {
-        FilterOption::Protocol => "--protocol",
-        FilterOption::SourcePort => "--sport",
-        FilterOption::DestinationPort => "--dport",
-        FilterOption::SourceAddress => "--saddress",
-        FilterOption::DestinationAddress => "--daddress",
-        FilterOption::Packets => "--packets",
-        FilterOption::Bytes => "--bytes",
-        FilterOption::SourceLabel => "--src-label",
-        FilterOption::DestinationLabel => "--dst-label",
-        FilterOption::AnyLabel => "--any-label",
-    }
-}
-
 fn filter_fault_name(kind: FilterFaultKind) -> &'static str
     ensures { result.now ≡ filter_fault_text kind }
 {
@@ -82,7 +65,7 @@ fn filter_fault_name(kind: FilterFaultKind) -> &'static str
 fn option_line(alloc: Global, option: &str, name: &str) -> Result<String, AllocError>
     ensures { IfOk result (λ line. string_bytes line ≡ option_text option.now name.now) }
 {
-    format!(in alloc; "flowlabel: usage: {option} {name}\n")
+    format!(in alloc; "flowlabel: usage: --{option} {name}\n")
 }
 
 fn key_fault_name(fault: KeyFault) -> &'static str
@@ -110,10 +93,10 @@ fn usage_line(alloc: Global, fault: &UsageFault) -> Result<String, AllocError>
         UsageFault::BadAddress => String::from_str(alloc, "flowlabel: usage: P4 BadAddress\n"),
         UsageFault::Filter(fault) => option_line(
             alloc,
-            filter_option_name(fault.option),
+            fault.option.name(),
             filter_fault_name(fault.kind),
         ),
-        UsageFault::Key(fault) => option_line(alloc, "--fields", key_fault_name(*fault)),
+        UsageFault::Key(fault) => option_line(alloc, "fields", key_fault_name(*fault)),
         UsageFault::LabelNeedsMap => String::from_str(
             alloc,
             "flowlabel: usage: P5 LabelNeedsMap\n",

@@ -1,18 +1,18 @@
 ghost use Rattle.std.specs.Prelude.{◌≡◌, ◌≢◌, Err, IfErr, IfOk, Ok, map, option_map, true};
 ghost use Rattle.std.specs.Result.{result_map_both};
-ghost use Rattle.flow_filter.specs.Filters.{condition_in};
-ghost use Rattle.flow_filter.specs.Words.{words_of};
+ghost use Rattle.flow_filter.specs.Filters.{texts_of};
+ghost use Rattle.flow_filter.specs.Options.{name_of};
 ghost use Rattle.clap.specs.Words.{first_of, found_of, kind_of, rows_of, takes};
 ghost use Rattle.flowlabel.specs.Definition.{flowlabel_app};
 ghost use Rattle.flowlabel.specs.Request.{IsProper, Text, request_of, source_of};
-ghost use Rattle.flowlabel.specs.Answer.{HaveOneAnswer, IsAnswer, IsFaultOfKind, IsOwnAnswer, LinesHaveAnswers, address_in_rows, answer_of, answer_of_cat, answer_of_label, answer_of_rows, answer_of_shrink, text_in_rows, is_given, sources_in_rows, words_fault_of, condition_in_rows, words_in_rows, answer_of_uniq, fields_in_rows, NoMemory};
+ghost use Rattle.flowlabel.specs.Answer.{HaveOneAnswer, IsAnswer, IsFaultOfKind, IsOwnAnswer, LinesHaveAnswers, address_in_rows, answer_of, answer_of_cat, answer_of_label, answer_of_rows, answer_of_shrink, text_in_rows, is_given, sources_in_rows, words_fault_of, condition_in_rows, answer_of_uniq, fields_in_rows, NoMemory};
 
 use crate::command::{Command, LabelFile, Shrunk};
 use crate::definition::definition;
 use crate::usage::{ClapText, UsageFault};
 use clap::ArgMatches;
 use clap::error::ErrorKind;
-use flow_filter::{Filter, FilterFaultKind, FilterWords};
+use flow_filter::{ALL_OPTIONS, Filter, FilterFaultKind, FilterWords};
 use flow_uniq::{KeyFault, Keys};
 use prefix_keys::{Addr, read_addr};
 use std::alloc::Global;
@@ -87,24 +87,15 @@ fn is_given(entries: &ArgMatches<'_>, flag: &str) -> bool
 }
 
 fn filter_words_in<'a>(entries: &ArgMatches<'a>) -> FilterWords<'a>
-    ensures { words_of result ≡ words_in_rows (rows_of (found_of entries.now)) }
+    ensures { texts_of result ≡ map (λ o. first_of (name_of o) (rows_of (found_of entries.now))) ALL_OPTIONS }
 {
     FilterWords {
-        protocol: text_of(entries, "protocol"),
-        sport: text_of(entries, "sport"),
-        dport: text_of(entries, "dport"),
-        saddress: text_of(entries, "saddress"),
-        daddress: text_of(entries, "daddress"),
-        packets: text_of(entries, "packets"),
-        bytes: text_of(entries, "bytes"),
-        src_label: text_of(entries, "src-label"),
-        dst_label: text_of(entries, "dst-label"),
-        any_label: text_of(entries, "any-label"),
+        texts: ALL_OPTIONS.map(|option| text_of(entries, option.name())),
     }
 }
 
 fn filter_in<'a>(alloc: Global, entries: &ArgMatches<'a>) -> Result<Filter<'a>, UsageFault>
-    ensures ok { IfOk result (λ filter. condition_in_rows (rows_of (found_of entries.now)) ≡ Ok (condition_in filter)) }
+    ensures ok { IfOk result (λ filter. condition_in_rows (rows_of (found_of entries.now)) ≡ Ok filter) }
     ensures err { IfErr result (λ fault. fault ≢ NoMemory → condition_in_rows (rows_of (found_of entries.now)) ≡ Err fault) }
 {
     match Filter::read(alloc, &filter_words_in(entries)) {

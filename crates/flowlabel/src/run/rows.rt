@@ -29,15 +29,14 @@ pub struct RowsTaken {
 }
 
 impl<'a> Report for RowsReport<'a> {
-    ghost use Rattle.flow_filter.specs.Filters.{condition_in};
     ghost use Rattle.flowlabel.specs.Output.{report_of_rows};
     ghost use Rattle.flowlabel.specs.Inner.{HasRows};
 
     type Taken = RowsTaken;
 
-    ghost text = { λ report. report_of_rows (condition_in report.filter.now) report.columns };
+    ghost text = { λ report. report_of_rows report.filter.now report.columns };
 
-    ghost is_of = { λ report. HasRows (condition_in report.filter.now) report.columns };
+    ghost is_of = { λ report. HasRows report.filter.now report.columns };
 
     fn begin<L: Labeller>(
         &self,

@@ -28,15 +28,14 @@ pub struct UniqTaken {
 }
 
 impl<'a> Report for UniqReport<'a> {
-    ghost use Rattle.flow_filter.specs.Filters.{condition_in};
     ghost use Rattle.flowlabel.specs.Output.{report_of_groups};
     ghost use Rattle.flowlabel.specs.Inner.{HasGroups};
 
     type Taken = UniqTaken;
 
-    ghost text = { λ report. report_of_groups report.keys.now (condition_in report.filter.now) report.sorted report.columns };
+    ghost text = { λ report. report_of_groups report.keys.now report.filter.now report.sorted report.columns };
 
-    ghost is_of = { λ report labels messages taken. HasGroups report.keys.now (condition_in report.filter.now) labels messages taken.groups };
+    ghost is_of = { λ report labels messages taken. HasGroups report.keys.now report.filter.now labels messages taken.groups };
 
     fn begin<L: Labeller>(
         &self,

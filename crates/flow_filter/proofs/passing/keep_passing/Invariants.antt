@@ -2,13 +2,12 @@
 use Rattle.std.proofs.Common.{◌≡◌, ◌≤◌, ◌++◌, List, drop, length, map, take}
 use Rattle.flow_rows.specs.Elements.{RowView, row_view}
 use Rattle.label_lookup.specs.Labelling.{labelling_lent}
-use Rattle.flow_filter.specs.Filters.{condition_in}
 use Rattle.flow_filter.specs.Condition.{passing}
 use Rattle.flow_filter.proofs.passing.keep_passing.Given as goal
 
 abbrev pub invariant-loop-at : goal.invariant-loop-at
 invariant-loop-at g l =
-    let those = passing (condition_in l.filter) (labelling_lent g.L.Labeller.version_of g.L.Labeller.label l.fn.labeller) in
+    let those = passing l.filter (labelling_lent g.L.Labeller.version_of g.L.Labeller.label l.fn.labeller) in
     record {
       within : l.kept ≤ l.at;
       long : length l.rows.items ≡ length l.initial.rows.items;

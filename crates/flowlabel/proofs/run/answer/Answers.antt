@@ -2,7 +2,6 @@
 use Rattle.std.proofs.Common.{◌∙◌, ℕ, List, Option, Ok, ap, subst, sym}
 use Rattle.std.specs.Prelude.{IfErr, IfOk, option_copied}
 use Rattle.std.proofs.lemmas.Result.{IfOk-weaker}
-use Rattle.flow_filter.specs.Filters.{condition_in}
 use Rattle.label_lookup.specs.Labelling.{Labelling}
 use Rattle.flowlabel.specs.Inner.{IsFaultOfAnswer}
 use Rattle.flowlabel.specs.Output.{ReportsOf, report_of_groups}
@@ -25,14 +24,14 @@ pub returns-in-Uniq-clause-ok : goal.returns-in-Uniq-clause-ok
 returns-in-Uniq-clause-ok g c =
     rw c.in-Uniq.is
     (subst (λ (labels : Option Labelling). IfOk c.report_under-in-Uniq.result (λ out. (bytes : List ℕ) → HasText g.R.Input.bytes_left c.args.inputs.now.flows bytes
-    → ReportsOf (report_of_groups c.in-Uniq.keys (condition_in c.in-Uniq.filter) c.in-Uniq.sorted c.in-Uniq.columns) labels bytes (Ok out.items))) c.labels-in-Uniq.ensures
+    → ReportsOf (report_of_groups c.in-Uniq.keys c.in-Uniq.filter c.in-Uniq.sorted c.in-Uniq.columns) labels bytes (Ok out.items))) c.labels-in-Uniq.ensures
     c.report_under-in-Uniq.ensures.ok)
 
 pub returns-in-Uniq-clause-err : goal.returns-in-Uniq-clause-err
 returns-in-Uniq-clause-err g c =
     rw c.in-Uniq.is
     (subst (λ (labels : Option Labelling). IfErr c.report_under-in-Uniq.result (IsFaultOfAnswer g.R.Input.bytes_left g.R.Input.failed c.args.inputs.now c.report_under-in-Uniq.new.inputs
-    (ReportsOf (report_of_groups c.in-Uniq.keys (condition_in c.in-Uniq.filter) c.in-Uniq.sorted c.in-Uniq.columns) labels))) c.labels-in-Uniq.ensures
+    (ReportsOf (report_of_groups c.in-Uniq.keys c.in-Uniq.filter c.in-Uniq.sorted c.in-Uniq.columns) labels))) c.labels-in-Uniq.ensures
     c.report_under-in-Uniq.ensures.err)
 
 pub returns-in-Check-clause-ok : goal.returns-in-Check-clause-ok

@@ -4,7 +4,6 @@ use Rattle.ipfix_read.specs.Message.{message_size}
 use Rattle.flow_rows.specs.Counts.{rows_of}
 use Rattle.flow_rows.specs.Elements.{row_view}
 use Rattle.label_lookup.specs.Labelling.{labelling_lent}
-use Rattle.flow_filter.specs.Filters.{condition_in}
 use Rattle.flow_filter.specs.Condition.{passes}
 use Rattle.flow_filter.proofs.PassingLemmas.{few_added}
 use Rattle.flow_filter.proofs.filter.Filter.add_passing_rows.Goals as goal
@@ -15,6 +14,6 @@ returns-else-is_err-clause-few g c =
     let sets = c.as_slice.result.now in
     let size : message_size sets ≤ 65535 = omega (arith, ap message_size (c.as_slice.ensures ∙ c.sets.ensures.value), c.sets.ensures.size) in
     few_added c.add_rows_of_sets-added.result
-    (passes (condition_in c.args.self.now) (labelling_lent g.L.Labeller.version_of g.L.Labeller.label c.args.labeller))
+    (passes c.args.self.now (labelling_lent g.L.Labeller.version_of g.L.Labeller.label c.args.labeller))
     sets old c.keep_passing.new.rows.items (sym c.is_err.ensures.value ∙ c.if-is_err.false) size c.add_rows_of_sets-added.ensures.ok
     (c.keep_passing.ensures (map row_view old) (rows_of sets) (omega (arith, length-map old row_view)))

@@ -3,7 +3,6 @@ use Rattle.flow_rows.specs.Counts.{rows_of}
 use Rattle.flow_rows.specs.Elements.{RowView, row_view}
 use Rattle.flow_rows.specs.declared.row.Row.{Row}
 use Rattle.flow_filter.specs.Condition.{Condition, passing, passing_rows}
-use Rattle.flow_filter.specs.Filters.{condition_in}
 use Rattle.pmap_print.specs.Table.{IsTable}
 use Rattle.pmap_print.specs.Reports.{column_count}
 use Rattle.label_lookup.specs.Labelling.{Labelling, labelling_lent}
@@ -14,7 +13,7 @@ use Rattle.flowlabel.proofs.run.rows.RowsReportReport.take.Goals as goal
 pub returns : goal.returns
 returns g c = λ messages few has.
     let labels : Option Labelling = labelling_lent g.L.Labeller.version_of g.L.Labeller.label c.args.labels in
-    let condition : Condition = condition_in c.args.self.now.filter.now in
+    let condition : Condition = c.args.self.now.filter.now in
     let added : map row_view c.as_slice.result.now ≡ passing condition labels (rows_of c.args.message.now.sets) =
     ap (map row_view) c.as_slice.ensures.value ∙ c.in_ok-add_passing_rows.ensures.ok
     ∙ ap (λ (rows : List Row). map row_view rows ++ passing condition labels (rows_of c.args.message.now.sets)) c.clear.ensures.items in

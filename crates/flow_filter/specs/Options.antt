@@ -1,0 +1,40 @@
+use Rattle.std.specs.Prelude.{ℕ, Bool, not, true, false, List, codes}
+pub use Rattle.flow_filter.specs.declared.fault.FilterFaultKind.{FilterFaultKind}
+pub use Rattle.flow_filter.specs.declared.fault.FilterFaultKind.TheVariants.{BadBlock, BadNumberList, BadRange, NoMemory}
+pub use Rattle.flow_filter.specs.declared.option.FilterOption.{FilterOption}
+pub use Rattle.flow_filter.specs.declared.option.FilterOption.TheVariants.{AnyLabel, Bytes, DestinationAddress, DestinationLabel, DestinationPort, Packets, Protocol, SourceAddress, SourceLabel, SourcePort}
+
+-- The options of filters.
+
+-- the name of an option
+abbrev pub name_of : FilterOption → List ℕ
+name_of Protocol = codes "protocol"
+name_of SourcePort = codes "sport"
+name_of DestinationPort = codes "dport"
+name_of SourceAddress = codes "saddress"
+name_of DestinationAddress = codes "daddress"
+name_of Packets = codes "packets"
+name_of Bytes = codes "bytes"
+name_of SourceLabel = codes "src-label"
+name_of DestinationLabel = codes "dst-label"
+name_of AnyLabel = codes "any-label"
+
+-- the text is a label, and the text is a list of items, separated by commas
+abbrev pub is_on_labels : FilterOption → Bool
+is_on_labels SourceLabel = true
+is_on_labels DestinationLabel = true
+is_on_labels AnyLabel = true
+is_on_labels o = false
+
+abbrev pub is_list : FilterOption → Bool
+is_list Packets = false
+is_list Bytes = false
+is_list o = not (is_on_labels o)
+
+-- the fault of a text that is malformed; any text is a label
+abbrev pub kind_of : FilterOption → FilterFaultKind
+kind_of SourceAddress = BadBlock
+kind_of DestinationAddress = BadBlock
+kind_of Packets = BadRange
+kind_of Bytes = BadRange
+kind_of o = BadNumberList
