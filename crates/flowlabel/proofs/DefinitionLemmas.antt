@@ -1,26 +1,22 @@
--- How clap reads a command with one more argument, with several more, and with a subcommand.
-use Rattle.std.proofs.Common.{◌≡◌, ◌∙◌, ◌||◌, Bool, false, List, [], ◌∷◌, refl, subst}
-use Rattle.std.specs.List.{AllZip, fold}
-use Rattle.clap.specs.Words.{AddsArg, AddsInTurn, AddsSubcommand, App, Rule, with_rule}
+-- How clap reads a command with one more argument, and with a subcommand.
+use Rattle.std.proofs.Common.{◌≡◌, ◌∙◌, ℕ, ◌+◌, ◌<◌, ◌||◌, Bool, false, List, get_or, length, refl, take}
+use Rattle.std.specs.List.{fold}
+use Rattle.std.proofs.lemmas.List.Sums.{fold_more}
+use Rattle.clap.specs.Words.{AddsArg, AddsSubcommand, App, with_rule}
 use Rattle.clap.specs.declared.builder.arg.Arg.{Arg}
 use Rattle.clap.specs.declared.builder.command.Command.{Command}
-use Rattle.flowlabel.specs.Definition.{IsArgument, IsCommand, with_app}
+use Rattle.flowlabel.specs.Definition.{IsArgument, IsCommand, rule_for, with_app, with_argument}
+use Rattle.flowlabel.specs.declared.definition.Argument.{Argument}
 
 neither : (a b : Bool) → a ≡ false → b ≡ false → (a || b) ≡ false
 neither a b e f = rw (e, f) refl
 
-with_argument : (app : App) (old new : Command) (rule : Rule) (arg : Arg) → IsCommand app old → IsArgument rule arg → AddsArg old arg new
-    → IsCommand (with_rule app rule) new
-with_argument app old new rule arg (is, local) (has, own) adds =
+pub one_more : (app : App) (old new : Command) (arguments : List Argument) (k : ℕ) (d : Argument) (arg : Arg) → k < length arguments →
+    IsCommand (fold with_argument app (take k arguments)) old → IsArgument (rule_for (get_or arguments k d)) arg → AddsArg old arg new →
+    IsCommand (fold with_argument app (take (k + 1) arguments)) new
+one_more app old new arguments k d arg within (is, local) (has, own) adds =
+    rw (fold_more with_argument app arguments k d within)
     (adds.shape own ∙ (λ i. with_rule (is i) (has i)), adds.globals ∙ neither _ _ local own)
-
-pub with_arguments : (app : App) (old new : Command) (rules : List Rule) (args : List Arg) → IsCommand app old → AllZip IsArgument rules args
-    → AddsInTurn AddsArg old args new → IsCommand (fold with_rule app rules) new
-with_arguments app old new [] [] is are same = subst (IsCommand app) same is
-with_arguments app old new (rule ∷ rules) (arg ∷ args) is (first, are) (mid, adds, rest) =
-    with_arguments (with_rule app rule) mid new rules args (with_argument app old mid rule arg is first adds) are rest
-with_arguments app old new [] (arg ∷ args) is are adds = absurd are
-with_arguments app old new (rule ∷ rules) [] is are adds = absurd are
 
 pub with_command : (app sub : App) (old added new : Command) → IsCommand app old → IsCommand sub added → AddsSubcommand old added new
     → IsCommand (with_app app sub) new

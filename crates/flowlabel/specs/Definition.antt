@@ -5,6 +5,8 @@ use Rattle.clap.specs.declared.builder.arg.Arg.{Arg}
 use Rattle.clap.specs.declared.builder.command.Command.{Command}
 use Rattle.clap.specs.declared.builder.command.Command.TheViews.{out-Command}
 use Rattle.clap.specs.Words.{App, Rule, Text, app_of, new_app, new_rule, rule_of, with_rule, with_subcommand}
+use Rattle.flowlabel.specs.declared.definition.Argument.{Argument}
+use Rattle.flowlabel.specs.declared.definition.Argument.TheVariants.{Flag, Needed, Optional, Word}
 
 -- The command line as clap reads its definition: each subcommand with its options and words.
 
@@ -20,6 +22,16 @@ flag_rule name = record (new_rule name) { long = Some name; action = Some SetTru
 
 abbrev pub word_rule : Text → Rule
 word_rule name = record (new_rule name) { value_names = 1; required = true }
+
+-- the rule of an argument in the program
+abbrev pub rule_for : Argument → Rule
+rule_for (Optional name value heading help) = option_rule name.now
+rule_for (Needed name value heading help) = needed_rule name.now
+rule_for (Flag name help) = flag_rule name.now
+rule_for (Word name value help) = word_rule name.now
+
+abbrev pub with_argument : App → Argument → App
+with_argument app argument = with_rule app (rule_for argument)
 
 -- a command without subcommands, by its name and its arguments
 abbrev pub leaf : Text → List Rule → App

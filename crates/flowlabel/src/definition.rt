@@ -1,11 +1,11 @@
-ghost use Rattle.std.specs.Prelude.{◌≡◌, ◌∷◌, [], IfOk, List, codes, true};
-ghost use Rattle.std.specs.List.{AllZip, fold};
-ghost use Rattle.clap.specs.Words.{App, Rule, new_app, with_rule};
+ghost use Rattle.std.specs.Prelude.{◌≡◌, ◌∷◌, [], IfOk, codes, true};
+ghost use Rattle.std.specs.List.{fold};
+ghost use Rattle.clap.specs.Words.{App, new_app};
 ghost use Rattle.clap.specs.declared.builder.command.Command.TheViews.{out-Command};
-ghost use Rattle.flowlabel.specs.Definition.{IsArgument, IsCommand, check_rules, flag_rule, flowlabel_app, label_rules, leaf, needed_rule, option_rule, program, report_rules, rows_rules, shrink_rules, source_rules, uniq_rules, with_app, word_rule};
+ghost use Rattle.flowlabel.specs.Definition.{IsArgument, IsCommand, check_rules, flowlabel_app, label_rules, leaf, needed_rule, program, rows_rules, rule_for, shrink_rules, source_rules, uniq_rules, with_app, with_argument, word_rule};
 
 use clap::{Arg, ArgAction, Command};
-use std::alloc::{AllocError, AllocFailed, Global};
+use std::alloc::{AllocError, Global};
 
 // Appends the version, which is written only here, to a text.
 macro_rules! version {
@@ -20,51 +20,44 @@ macro_rules! example {
     };
 }
 
-fn option<'a>(
-    alloc: Global,
-    name: &'a str,
-    value: &'a str,
-    heading: &'a str,
-    help: &'a str,
-) -> Arg<'a>
-    ensures { IsArgument (option_rule name.entry.now) result }
-{
-    Arg::new(alloc, name)
-        .long(name)
-        .value_name(value)
-        .help_heading(heading)
-        .help(help)
+// An argument of a command: the text after its name, if there is any, and its texts for help.
+#[derive(Clone, Copy)]
+pub enum Argument<'a> {
+    // `--name VALUE`, with the heading and the text.
+    Optional(&'a str, &'a str, &'a str, &'a str),
+    // Like `Optional`, but required.
+    Needed(&'a str, &'a str, &'a str, &'a str),
+    // `--name`, with the text.
+    Flag(&'a str, &'a str),
+    // A required word, with its name, its name in help, and the text.
+    Word(&'a str, &'a str, &'a str),
 }
 
-fn needed_option<'a>(
-    alloc: Global,
-    name: &'a str,
-    value: &'a str,
-    heading: &'a str,
-    help: &'a str,
-) -> Arg<'a>
-    ensures { IsArgument (needed_rule name.entry.now) result }
+fn argument_of<'a>(alloc: Global, argument: &Argument<'a>) -> Arg<'a>
+    ensures { IsArgument (rule_for argument.now) result }
 {
-    option(alloc, name, value, heading, help).required(true)
-}
-
-fn flag<'a>(alloc: Global, name: &'a str, help: &'a str) -> Arg<'a>
-    ensures { IsArgument (flag_rule name.entry.now) result }
-{
-    Arg::new(alloc, name)
-        .long(name)
-        .action(ArgAction::SetTrue)
-        .help_heading("Output")
-        .help(help)
-}
-
-fn word<'a>(alloc: Global, name: &'a str, value: &'a str, help: &'a str) -> Arg<'a>
-    ensures { IsArgument (word_rule name.entry.now) result }
-{
-    Arg::new(alloc, name)
-        .value_name(value)
-        .required(true)
-        .help(help)
+    match *argument {
+        Argument::Optional(name, value, heading, help) => Arg::new(alloc, name)
+            .long(name)
+            .value_name(value)
+            .help_heading(heading)
+            .help(help),
+        Argument::Needed(name, value, heading, help) => Arg::new(alloc, name)
+            .long(name)
+            .value_name(value)
+            .required(true)
+            .help_heading(heading)
+            .help(help),
+        Argument::Flag(name, help) => Arg::new(alloc, name)
+            .long(name)
+            .action(ArgAction::SetTrue)
+            .help_heading("Output")
+            .help(help),
+        Argument::Word(name, value, help) => Arg::new(alloc, name)
+            .value_name(value)
+            .required(true)
+            .help(help),
+    }
 }
 
 fn described<'a>(
@@ -83,30 +76,38 @@ fn described<'a>(
         .after_help(example)
 }
 
-// Adds arguments to a command, unless an allocation failed.
-fn with_arguments<'a, T: Drop>(
-    command: Result<Command<'a>, AllocError>,
-    arguments: Result<Vec<Arg<'a>>, AllocFailed<T>>,
+// Adds arguments to a command.
+fn with_arguments<'a>(
+    alloc: Global,
+    mut command: Command<'a>,
+    arguments: &[Argument<'a>],
 ) -> Result<Command<'a>, AllocError>
-    ensures { (app : App) (rules : List Rule) → IfOk command.entry (IsCommand app)
-        → IfOk arguments.entry (λ list. AllZip IsArgument rules list.items) → IfOk result (IsCommand (fold with_rule app rules)) }
+    ensures { (app : App) → IsCommand app command.entry → IfOk result (IsCommand (fold with_argument app arguments.now)) }
 {
-    command?.args(arguments?)
+    for argument in arguments {
+        command = command.arg(argument_of(alloc, argument))?;
+    }
+    Ok(command)
 }
 
-fn command<'a, T: Drop>(
+fn command<'a>(
     alloc: Global,
     name: &'a str,
     about: &'a str,
     usage: &'a str,
     example: &'a str,
-    arguments: Result<Vec<Arg<'a>>, AllocFailed<T>>,
+    arguments: &[Argument<'a>],
 ) -> Result<Command<'a>, AllocError>
-    ensures { (rules : List Rule) → IfOk arguments.entry (λ list. AllZip IsArgument rules list.items)
-        → IfOk result (IsCommand (leaf name.entry.now rules)) }
+    ensures { IfOk result (IsCommand (fold with_argument (new_app name.entry.now) arguments.now)) }
 {
-    with_arguments(Ok(described(alloc, name, about, usage, example)), arguments)
+    let command = described(alloc, name, about, usage, example);
+    with_arguments(alloc, command, arguments)
 }
+
+const SOURCES: [Argument<'static>; 2] = [
+    Argument::Optional("pmap", "FILE", "Labels", "The prefix map"),
+    Argument::Optional("list", "FILE", "Labels", "The prefix list"),
+];
 
 fn label<'a>(alloc: Global) -> Result<Command<'a>, AllocError>
     ensures { IfOk result (IsCommand (leaf (codes "label") label_rules)) }
@@ -117,12 +118,12 @@ fn label<'a>(alloc: Global) -> Result<Command<'a>, AllocError>
         "the label of one address",
         "flowlabel label --pmap customers.txt 10.2.3.4"
     );
-    let arguments = vec![in alloc;
-        option(alloc, "pmap", "FILE", "Labels", "The prefix map"),
-        option(alloc, "list", "FILE", "Labels", "The prefix list"),
-        word(alloc, "address", "ADDR", "The address to label"),
+    let arguments = [
+        Argument::Optional("pmap", "FILE", "Labels", "The prefix map"),
+        Argument::Optional("list", "FILE", "Labels", "The prefix list"),
+        Argument::Word("address", "ADDR", "The address to label"),
     ];
-    command(alloc, "label", about, usage, example, arguments)
+    command(alloc, "label", about, usage, example, &arguments)
 }
 
 fn info<'a>(alloc: Global) -> Result<Command<'a>, AllocError>
@@ -134,38 +135,60 @@ fn info<'a>(alloc: Global) -> Result<Command<'a>, AllocError>
         "the numbers of messages, sets and records",
         "flowlabel info flows.ipfix"
     );
-    let arguments = vec![in alloc; word(alloc, "flows", "FILE", "The IPFIX File")];
-    command(alloc, "info", about, usage, example, arguments)
+    let arguments = [Argument::Word("flows", "FILE", "The IPFIX File")];
+    command(alloc, "info", about, usage, example, &arguments)
 }
 
-fn report_options<'a>(alloc: Global) -> [Arg<'a>; 12]
-    ensures { AllZip IsArgument report_rules result }
-{
-    let protocols = "Flows of these protocols, such as 6,17 or 1-16";
-    let from_ports = "Flows from these ports";
-    let to_ports = "Flows to these ports";
-    let from_addresses = "Flows from these addresses: 10.0.0.1,2001:db8::/32";
-    let to_addresses = "Flows to these addresses";
-    let packets = "Flows with this many packets, such as 5, 5- or 5-9";
-    let bytes = "Flows with this many bytes";
-    let src_label = "Flows whose source has this label";
-    let dst_label = "Flows whose destination has this label";
-    let any_label = "Flows whose source or destination has this label";
-    [
-        option(alloc, "pmap", "FILE", "Labels", "The prefix map"),
-        option(alloc, "list", "FILE", "Labels", "The prefix list"),
-        option(alloc, "protocol", "NUMBERS", "Filters", protocols),
-        option(alloc, "sport", "NUMBERS", "Filters", from_ports),
-        option(alloc, "dport", "NUMBERS", "Filters", to_ports),
-        option(alloc, "saddress", "BLOCKS", "Filters", from_addresses),
-        option(alloc, "daddress", "BLOCKS", "Filters", to_addresses),
-        option(alloc, "packets", "RANGE", "Filters", packets),
-        option(alloc, "bytes", "RANGE", "Filters", bytes),
-        option(alloc, "src-label", "LABEL", "Filters", src_label),
-        option(alloc, "dst-label", "LABEL", "Filters", dst_label),
-        option(alloc, "any-label", "LABEL", "Filters", any_label),
-    ]
-}
+// The arguments of reports on Files that come first, and those that come last.
+const REPORT: [Argument<'static>; 12] = [
+    Argument::Optional("pmap", "FILE", "Labels", "The prefix map"),
+    Argument::Optional("list", "FILE", "Labels", "The prefix list"),
+    Argument::Optional(
+        "protocol",
+        "NUMBERS",
+        "Filters",
+        "Flows of these protocols, such as 6,17 or 1-16",
+    ),
+    Argument::Optional("sport", "NUMBERS", "Filters", "Flows from these ports"),
+    Argument::Optional("dport", "NUMBERS", "Filters", "Flows to these ports"),
+    Argument::Optional(
+        "saddress",
+        "BLOCKS",
+        "Filters",
+        "Flows from these addresses: 10.0.0.1,2001:db8::/32",
+    ),
+    Argument::Optional("daddress", "BLOCKS", "Filters", "Flows to these addresses"),
+    Argument::Optional(
+        "packets",
+        "RANGE",
+        "Filters",
+        "Flows with this many packets, such as 5, 5- or 5-9",
+    ),
+    Argument::Optional("bytes", "RANGE", "Filters", "Flows with this many bytes"),
+    Argument::Optional(
+        "src-label",
+        "LABEL",
+        "Filters",
+        "Flows whose source has this label",
+    ),
+    Argument::Optional(
+        "dst-label",
+        "LABEL",
+        "Filters",
+        "Flows whose destination has this label",
+    ),
+    Argument::Optional(
+        "any-label",
+        "LABEL",
+        "Filters",
+        "Flows whose source or destination has this label",
+    ),
+];
+
+const TABLE: [Argument<'static>; 2] = [
+    Argument::Flag("columns", "Pad the fields to columns"),
+    Argument::Word("flows", "FILE", "The IPFIX File"),
+];
 
 fn rows<'a>(alloc: Global) -> Result<Command<'a>, AllocError>
     ensures { IfOk result (IsCommand (leaf (codes "rows") rows_rules)) }
@@ -176,13 +199,8 @@ fn rows<'a>(alloc: Global) -> Result<Command<'a>, AllocError>
         "the flows from the customer Cedar to port 443",
         "flowlabel rows --pmap customers.txt --src-label Cedar --dport 443 flows.ipfix"
     );
-    let last = vec![in alloc;
-        flag(alloc, "columns", "Pad the fields to columns"),
-        word(alloc, "flows", "FILE", "The IPFIX File"),
-    ];
-    let options = Vec::from_array(alloc, report_options(alloc));
-    let filtered = command(alloc, "rows", about, usage, example, options);
-    with_arguments(filtered, last)
+    let filtered = command(alloc, "rows", about, usage, example, &REPORT)?;
+    with_arguments(alloc, filtered, &TABLE)
 }
 
 fn uniq<'a>(alloc: Global) -> Result<Command<'a>, AllocError>
@@ -196,16 +214,12 @@ fn uniq<'a>(alloc: Global) -> Result<Command<'a>, AllocError>
     );
     let fields =
         "The fields to sum by, such as sip,dport: sip, dip,\nsport, dport, proto, flags, src-label, dst-label";
-    let keys = vec![in alloc; needed_option(alloc, "fields", "NAMES", "Keys", fields)];
-    let sorted = "Print the sums in the order of their keys";
-    let last = vec![in alloc;
-        flag(alloc, "sort-output", sorted),
-        flag(alloc, "columns", "Pad the fields to columns"),
-        word(alloc, "flows", "FILE", "The IPFIX File"),
-    ];
-    let grouped = command(alloc, "uniq", about, usage, example, keys);
-    let options = Vec::from_array(alloc, report_options(alloc));
-    with_arguments(with_arguments(grouped, options), last)
+    let keys = [Argument::Needed("fields", "NAMES", "Keys", fields)];
+    let sorted = [Argument::Flag("sort-output", "Print the sums in the order of their keys")];
+    let grouped = command(alloc, "uniq", about, usage, example, &keys)?;
+    let filtered = with_arguments(alloc, grouped, &REPORT)?;
+    let ordered = with_arguments(alloc, filtered, &sorted)?;
+    with_arguments(alloc, ordered, &TABLE)
 }
 
 fn cat<'a>(alloc: Global) -> Result<Command<'a>, AllocError>
@@ -217,11 +231,7 @@ fn cat<'a>(alloc: Global) -> Result<Command<'a>, AllocError>
         "the addresses of each label",
         "flowlabel cat --pmap customers.txt"
     );
-    let arguments = vec![in alloc;
-        option(alloc, "pmap", "FILE", "Labels", "The prefix map"),
-        option(alloc, "list", "FILE", "Labels", "The prefix list"),
-    ];
-    command(alloc, "cat", about, usage, example, arguments)
+    command(alloc, "cat", about, usage, example, &SOURCES)
 }
 
 fn shrink<'a>(alloc: Global) -> Result<Command<'a>, AllocError>
@@ -234,12 +244,12 @@ fn shrink<'a>(alloc: Global) -> Result<Command<'a>, AllocError>
         "flowlabel shrink --pmap customers.txt >list.txt"
     );
     let certificate = "Print the certificate instead of the list";
-    let arguments = vec![in alloc;
-        needed_option(alloc, "pmap", "FILE", "Files", "The prefix map"),
-        flag(alloc, "certificate", certificate),
-        flag(alloc, "compact", "Print the certificate in compact form"),
+    let arguments = [
+        Argument::Needed("pmap", "FILE", "Files", "The prefix map"),
+        Argument::Flag("certificate", certificate),
+        Argument::Flag("compact", "Print the certificate in compact form"),
     ];
-    command(alloc, "shrink", about, usage, example, arguments)
+    command(alloc, "shrink", about, usage, example, &arguments)
 }
 
 fn check<'a>(alloc: Global) -> Result<Command<'a>, AllocError>
@@ -251,12 +261,12 @@ fn check<'a>(alloc: Global) -> Result<Command<'a>, AllocError>
         "whether list.txt is a shortest list",
         "flowlabel check --pmap customers.txt --list list.txt --cert cert.txt"
     );
-    let arguments = vec![in alloc;
-        needed_option(alloc, "pmap", "FILE", "Files", "The prefix map"),
-        needed_option(alloc, "list", "FILE", "Files", "The prefix list"),
-        needed_option(alloc, "cert", "FILE", "Files", "The certificate"),
+    let arguments = [
+        Argument::Needed("pmap", "FILE", "Files", "The prefix map"),
+        Argument::Needed("list", "FILE", "Files", "The prefix list"),
+        Argument::Needed("cert", "FILE", "Files", "The certificate"),
     ];
-    command(alloc, "check", about, usage, example, arguments)
+    command(alloc, "check", about, usage, example, &arguments)
 }
 
 fn recert<'a>(alloc: Global) -> Result<Command<'a>, AllocError>
@@ -268,10 +278,8 @@ fn recert<'a>(alloc: Global) -> Result<Command<'a>, AllocError>
         "a shorter form of cert.txt",
         "flowlabel recert --cert cert.txt >compact.txt"
     );
-    let arguments = vec![in alloc;
-        needed_option(alloc, "cert", "FILE", "Files", "The certificate"),
-    ];
-    command(alloc, "recert", about, usage, example, arguments)
+    let arguments = [Argument::Needed("cert", "FILE", "Files", "The certificate")];
+    command(alloc, "recert", about, usage, example, &arguments)
 }
 
 fn program<'a>(alloc: Global) -> Command<'a>
