@@ -18,7 +18,8 @@
 //! first malformed text, in the order of the options. `passes` returns whether the row meets each condition given.
 //! `add_passing_rows` appends the rows of a message that pass to other rows, each once and in order, and leaves those
 //! rows unchanged if an allocation fails. `needs_map` returns whether a condition is on a label. Contracts see a filter
-//! as its condition: the options given, each with its text. How the numbers that a text allows are stored is private. A row is looked up in them by a search in sorted ranges, which allocates nothing.
+//! as its condition: the options given, each with its text. How the numbers that a text allows are stored is private. A
+//! row is looked up in them by a search in sorted ranges, which allocates nothing.
 #![tactic(auto)]
 
 mod blocks;
