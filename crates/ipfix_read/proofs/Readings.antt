@@ -415,7 +415,7 @@ not_of_reader kind e = refl
 
 -- the fault concerns the bytes
 abbrev Tells : ReadFaultKind → Type 0
-Tells kind = (kind ≢ NoMemory) × (kind ≢ BadTemplate NoTemplateMemory)
+Tells kind = (kind ≢ NoMemory) × (kind ≢ BadTemplate NoTemplateMemory) × (is_of_calls kind ≡ false)
 
 pub no_template : NoMemory ≡ BadTemplate NoTemplateMemory → ⊥
 no_template e = cc
@@ -424,24 +424,25 @@ from_kind : (fault : ReadFault) (kind : ReadFaultKind) (offset : ℕ) → fault 
 from_kind fault kind offset is tells = (
   λ e. tells.0 (sym (ap (λ (f : ReadFault). f.kind) is) ∙ e),
   λ e. tells.1 (sym (ap (λ (f : ReadFault). f.kind) is) ∙ e),
+  ap (λ (f : ReadFault). is_of_calls f.kind) is ∙ tells.2,
 )
 
 template_kind : (kind : TemplateFaultKind) → (kind ≡ NoTemplateMemory → ⊥) → Tells (BadTemplate kind)
-template_kind kind other = (λ e. cc, λ e. other cc)
+template_kind kind other = (λ e. cc, λ e. other cc, refl)
 
 own_kind : (count : ℕ) (bytes : List ℕ) (kind : ReadFaultKind) → own_fault count bytes ≡ Some kind → Tells kind
-own_kind count bytes kind e = (λ is. grind (arith, nat_tests, common_steps), λ is. grind (arith, nat_tests, common_steps))
+own_kind count bytes kind e = (λ is. grind (arith, nat_tests, common_steps), λ is. grind (arith, nat_tests, common_steps), grind (arith, nat_tests, common_steps))
 
 header_kind : (count : ℕ) (bytes : List ℕ) (kind : ReadFaultKind) → header_fault count bytes ≡ Some kind → Tells kind
 header_kind count bytes kind e =
-    let own = own_kind count bytes kind in (λ is. grind (arith, nat_tests, common_steps), λ is. grind (arith, nat_tests, common_steps))
+    let own = own_kind count bytes kind in (λ is. grind (arith, nat_tests, common_steps), λ is. grind (arith, nat_tests, common_steps), grind (arith, nat_tests, common_steps))
 
 content_kind : (history : List (ℕ × TemplateEvent)) (domain id : ℕ) (bytes : List ℕ) (base : ℕ) (fault : ReadFault) → HasContentFault history domain id bytes base fault → Tells fault.kind
 content_kind history domain id bytes base fault (inl p) = from_kind fault _ _ p.4 (template_kind p.1.kind (memory_is_no_template_fault p.0 bytes p.1 p.3))
-content_kind history domain id bytes base fault (inr p) = from_kind fault _ _ p.5 (λ e. cc, λ e. cc)
+content_kind history domain id bytes base fault (inr p) = from_kind fault _ _ p.5 (λ e. cc, λ e. cc, refl)
 
 set_kind : (history : List (ℕ × TemplateEvent)) (domain : ℕ) (bytes : List ℕ) (base : ℕ) (fault : ReadFault) → HasSetFault history domain bytes base fault → Tells fault.kind
-set_kind history domain bytes base fault (inl p) = from_kind fault _ _ p.1 (λ e. cc, λ e. cc)
+set_kind history domain bytes base fault (inl p) = from_kind fault _ _ p.1 (λ e. cc, λ e. cc, refl)
 set_kind history domain bytes base fault (inr p) = content_kind history domain (big_number 2 p.0) (drop 4 p.0) (base + 4) fault p.5
 
 message_kind : (history : List (ℕ × TemplateEvent)) (count : ℕ) (bytes : List ℕ) (base : ℕ) (fault : ReadFault) → HasMessageFault history count bytes base fault → Tells fault.kind

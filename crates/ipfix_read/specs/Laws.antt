@@ -1,10 +1,11 @@
 -- Laws about the definitions.
-use Rattle.std.specs.Prelude.{◌≡◌, ◌≢◌, ℕ, ◌+◌, ◌<◌, ◌⊎◌, List, [], ◌∷◌, ◌++◌, length, Option, Result}
+use Rattle.std.specs.Prelude.{◌≡◌, false, ◌≢◌, ℕ, ◌+◌, ◌<◌, ◌⊎◌, List, [], ◌∷◌, ◌++◌, length, Option, Result}
 use Rattle.ipfix_templates.specs.declared.event.TemplateEvent.{TemplateEvent}
 use Rattle.ipfix_templates.specs.declared.fault.TemplateFaultKind.TheVariants.{NoMemory as NoTemplateMemory}
 use Rattle.ipfix_templates.specs.InForce.{Follows}
 use Rattle.ipfix_read.specs.Message.{ReadFault, MessageView, IsMessage, events_of_message}
 use Rattle.ipfix_read.specs.declared.fault.ReadFaultKind.TheVariants.{BadTemplate, NoMemory}
+use Rattle.ipfix_read.specs.Fault.{is_of_calls}
 use Rattle.ipfix_read.specs.Messages.{ReadsFile, HasFileFault, ProgressView, at_start, AnswersNext, IsReadTo, JoinsFile, ReadsInput}
 
 -- the first message of a File is at the start of its bytes, and the rest is read from the state after it
@@ -26,10 +27,10 @@ OneReading = (history : List (ℕ × TemplateEvent)) (offset count : ℕ) (bytes
     × ((fault other : ReadFault) → HasFileFault history offset count bytes fault → HasFileFault history offset count bytes other → fault ≡ other)
     × ((messages : List MessageView) (fault : ReadFault) → ReadsFile history count bytes messages → HasFileFault history offset count bytes fault → ⊥)
 
--- no bytes have the fault that an allocation failed, not even in a template record
+-- a fault of bytes isn't that an allocation failed, not even in a template record, nor one that only calls return
 abbrev pub MemoryIsNoFault : Type 0
 MemoryIsNoFault = (history : List (ℕ × TemplateEvent)) (offset count : ℕ) (bytes : List ℕ) (fault : ReadFault) → HasFileFault history offset count bytes fault
-    → (fault.kind ≢ NoMemory) × (fault.kind ≢ BadTemplate NoTemplateMemory)
+    → (fault.kind ≢ NoMemory) × (fault.kind ≢ BadTemplate NoTemplateMemory) × (is_of_calls fault.kind ≡ false)
 
 -- before any call nothing is read of the bytes, for each history that the table follows
 abbrev pub CallsBegin : Type 0
