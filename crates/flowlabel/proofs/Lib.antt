@@ -1,15 +1,8 @@
 pub mod AnswerLemmas
-pub mod CheckLemmas
 pub mod DefinitionLemmas
 pub mod EndLemmas
-pub mod EquivalentLemmas
-pub mod ExistenceLemmas
-pub mod HeadlineLemmas
 pub mod LineLemmas
-pub mod LoadingLemmas
-pub mod MinimalLemmas
-pub mod OutputLemmas
-pub mod RecertLemmas
+pub mod MadeLemmas
 pub mod RequestLemmas
 pub mod RowLemmas
 pub mod TakenLemmas

@@ -6,8 +6,6 @@ use Rattle.std.specs.List.{flat_map, zip}
 use Rattle.std.proofs.lemmas.Grind.{flat_map-append}
 use Rattle.std.proofs.lemmas.List.{append-nil, append_assoc, map-append, map_more}
 use Rattle.std.proofs.lemmas.List.Elements.{filter-append}
-use Rattle.prefix_keys.specs.declared.version.Version.{Version}
-use Rattle.pmap_text.specs.MapModel.{Label}
 use Rattle.ipfix_read.specs.Message.{MessageView}
 use Rattle.ipfix_read.specs.declared.record.Record.{Record}
 use Rattle.ipfix_read.specs.declared.set.Set.{Set}
@@ -18,8 +16,9 @@ use Rattle.flow_rows.specs.declared.row.Row.{Row}
 use Rattle.pmap_print.specs.declared.labels.RowLabels.{RowLabels}
 use Rattle.pmap_print.specs.Reports.{LabelTexts, label_fields, label_texts, label_titles, row_fields, row_line, row_titles, title_line}
 use Rattle.pmap_print.specs.Table.{Line}
-use Rattle.label_lookup.specs.Labelling.{Labelling, labelling_lent}
+use Rattle.label_lookup.specs.Labelling.{Labelling, StretchModel}
 use Rattle.flowlabel.specs.Output.{labelled_row_lines, row_labels}
+use Rattle.flowlabel.specs.Reports.{labelling_found}
 
 zip_more : {X Y : Type 0} (f : X → Y) (xs : List X) (x : X) → zip (xs ++ x ∷ []) (map f (xs ++ x ∷ [])) ≡ zip xs (map f xs) ++ (x, f x) ∷ []
 zip_more f [] x = refl
@@ -61,10 +60,10 @@ pub no_rows : (labels : Option Labelling) → title_line (is_some labels) ∷ []
 no_rows None = refl
 no_rows (Some l) = refl
 
-pub is_some-lent : {L : Type 0} (version : L → Version) (label : L → ℕ → Option Label) (labels : Option (Bor L))
-    → is_some labels ≡ is_some (labelling_lent version label labels)
-is_some-lent version label None = refl
-is_some-lent version label (Some l) = refl
+-- an index that is borrowed is there exactly if its labelling is
+pub is_some-found : (labels : Option (Bor StretchModel)) → is_some labels ≡ is_some (labelling_found labels)
+is_some-found None = refl
+is_some-found (Some l) = refl
 
 -- the rows that pass, with those of one more message
 pub passing_more : (condition : Condition) (labels : Option Labelling) (messages : List MessageView) (message : MessageView)

@@ -1,84 +1,63 @@
 -- What a report takes of the messages of a File, call by call.
-use Rattle.std.proofs.Common.{◌≡◌, ◌∙◌, ◌<◌, ◌≤◌, ◌+◌, inl, inr, ℕ, List, [], ◌∷◌, ◌++◌, Option, Some, None, Ok, Err, IfSome, length, refl, sym, ap, subst, arith}
+use Rattle.std.proofs.Common.{◌≡◌, ◌∙◌, ◌<◌, ◌≤◌, ◌+◌, inl, inr, ℕ, List, [], ◌∷◌, ◌++◌, Option, Some, None, Ok, Err, true, false, length, sym, ap, subst, arith}
 use Rattle.std.proofs.lemmas.List.{length_push}
-use Rattle.ipfix_read.specs.Fault.{is_of_reader}
-use Rattle.ipfix_read.specs.Messages.{ReadsFile, AnswersNext, IsReadTo, ProgressView, at_start}
-use Rattle.ipfix_read.specs.Laws.{CallsJoinFile, CallsStart}
+use Rattle.ipfix_read.specs.Fault.{is_of_calls, is_of_reader}
+use Rattle.ipfix_read.specs.Messages.{AnswersNext, IsReadTo, JoinsFile, ProgressView, ReadsInput}
+use Rattle.ipfix_read.specs.Laws.{CallsJoinFile, MemoryIsNoFault}
 use Rattle.ipfix_read.specs.Message.{MessageView}
 use Rattle.ipfix_read.specs.declared.fault.ReadFault.{ReadFault}
-use Rattle.flowlabel.specs.Inner.{HasTaken, IsFaultOfMessages}
+use Rattle.ipfix_read.specs.declared.fault.ReadFaultKind.{ReadFaultKind}
+use Rattle.ipfix_read.specs.declared.fault.ReadFaultKind.TheVariants.{ReadFault as Stopped}
+use Rattle.flowlabel.specs.declared.bytes_fault.BytesFault.TheVariants.{Flows as InFlows}
+use Rattle.flowlabel.specs.BytesFault.{is_want_of_memory}
+use Rattle.flowlabel.specs.Output.{Faulty, NoMemory, OutputFault, Unread}
+use Rattle.flowlabel.specs.Reports.{IsFaultOfCall, TakesFile}
 
--- if the reader reports its bytes, these messages of them are read so far, and it still gives the rest
-abbrev pub AreRead : Option (List ℕ) → Option (List ℕ) → List MessageView → ProgressView → Type 0
-AreRead given now messages p =
-    IfSome given (λ bytes. (left : List ℕ) × (now ≡ Some left) × IsReadTo [] 0 0 bytes messages p left)
-
-none_read : CallsStart → (given : Option (List ℕ)) → AreRead given given [] at_start
-none_read starts None = tt
-none_read starts (Some bytes) = (bytes, refl, starts bytes)
-
--- the result of the next call, joined to what is read so far
-module _ (joins : CallsJoinFile) (now new : Option (List ℕ)) (p p' : ProgressView) (messages : List MessageView) where
-  more_read : (given : Option (List ℕ)) (m : MessageView) → IfSome now (λ left. AnswersNext p left (Ok (Some m)) p' new)
-      → AreRead given now messages p → AreRead given new (messages ++ m ∷ []) p'
-  more_read None m answers read = tt
-  more_read (Some bytes) m answers (left, told, read) =
-      joins [] 0 0 bytes messages left p p' (Ok (Some m)) new read
-      (subst (λ (o : Option (List ℕ)). IfSome o (λ l. AnswersNext p l (Ok (Some m)) p' new)) told answers)
-
-  all_read : (given : Option (List ℕ)) → IfSome now (λ left. AnswersNext p left (Ok None) p' new)
-      → AreRead given now messages p → IfSome given (λ bytes. ReadsFile [] 0 bytes messages)
-  all_read None answers read = tt
-  all_read (Some bytes) answers (left, told, read) =
-      joins [] 0 0 bytes messages left p p' (Ok None) new read
-      (subst (λ (o : Option (List ℕ)). IfSome o (λ l. AnswersNext p l (Ok None) p' new)) told answers)
-
-  fault_read : (given : Option (List ℕ)) (fault : ReadFault) → IfSome now (λ left. AnswersNext p left (Err fault) p' new)
-      → AreRead given now messages p → IsFaultOfMessages given fault
-  fault_read None fault answers read = inr (inr tt)
-  fault_read (Some bytes) fault answers (left, told, read) =
-      elim (joins [] 0 0 bytes messages left p p' (Err fault) new read
-      (subst (λ (o : Option (List ℕ)). IfSome o (λ l. AnswersNext p l (Err fault) p' new)) told answers)) [
-        | inl memory ↦ inl memory
-        | inr (inl reader) ↦ inr (inl (ap (λ (f : ReadFault). is_of_reader f.kind) reader))
-        | inr (inr is) ↦ inr (inr is)
-      ]
+not_of_reader : (kind : ReadFaultKind) → is_of_calls kind ≡ false → is_of_reader kind ≡ true → ⊥
+not_of_reader Stopped calls reader = cc
+not_of_reader kind calls reader = cc
 
 -- the state of a report is that after the messages that are read so far
 module _ {T : Type 0} (is_of : List MessageView → T → Type 0) where
   abbrev pub Held : Option (List ℕ) → Option (List ℕ) → ProgressView → T → Type 0
   Held given now p taken =
-      (messages : List MessageView) × (length messages ≡ p.count) × is_of messages taken × AreRead given now messages p
+      (messages : List MessageView) × (length messages ≡ p.count) × is_of messages taken × IsReadTo [] 0 0 given messages p now
 
-  pub held_first : CallsStart → (given : Option (List ℕ)) (p : ProgressView) (taken : T) → p ≡ at_start → is_of [] taken
-      → Held given given p taken
-  held_first starts given p taken begins is =
-      subst (λ (q : ProgressView). Held given given q taken) (sym begins) ([], refl, is, none_read starts given)
+  -- a fault joined to what is read so far
+  fault_taken : MemoryIsNoFault → (given new : Option (List ℕ)) (messages : List MessageView) (p' : ProgressView) (taken : T) (fault : ReadFault)
+      (made : OutputFault) → IsFaultOfCall fault made → JoinsFile [] 0 0 given messages (Err fault) p' new → TakesFile is_of given new taken (Err made)
+  fault_taken law given new messages p' taken fault NoMemory is joined = tt
+  fault_taken law given new messages p' taken fault (Unread other) (named, reader) (inl memory) =
+      absurd (not_of_reader fault.kind (ap (λ (f : ReadFault). is_of_calls f.kind) memory) reader)
+  fault_taken law given new messages p' taken fault (Unread other) (named, reader) (inr (inl (read, consumed, stops))) = (named, fault, read, consumed, stops)
+  fault_taken law given new messages p' taken fault (Unread other) (named, reader) (inr (inr (bytes, all, has))) =
+      absurd (not_of_reader fault.kind (law [] 0 0 bytes fault has).2 reader)
+  fault_taken law given new messages p' taken fault (Faulty made) (works, is) (inl memory) =
+      let wrong : is_want_of_memory (InFlows fault) ≡ true = ap (λ (f : ReadFault). is_want_of_memory (InFlows f)) memory in
+      let other : is_want_of_memory (InFlows fault) ≡ false = is.1 in cc
+  fault_taken law given new messages p' taken fault (Faulty made) (works, is) (inr (inl (read, consumed, stops))) =
+      let wrong : is_of_reader fault.kind ≡ true = ap (λ (f : ReadFault). is_of_reader f.kind) stops.3.1 in cc
+  fault_taken law given new messages p' taken fault (Faulty made) (works, is) (inr (inr (bytes, all, has))) =
+      subst (λ m. TakesFile is_of given new taken (Err (Faulty m))) (sym is.0) (bytes, all, has)
 
-  pub held_more : CallsJoinFile → (given now new : Option (List ℕ)) (p p' : ProgressView) (m : MessageView) (taken taken' : T)
-      → Held given now p taken → IfSome now (λ left. AnswersNext p left (Ok (Some m)) p' new)
-      → p'.count ≡ p.count + 1 → p'.count ≤ 4294967295
-      → ((messages : List MessageView) → length messages < 4294967295 → is_of messages taken → is_of (messages ++ m ∷ []) taken')
-      → Held given new p' taken'
-  held_more joins given now new p p' m taken taken' (messages, count, is, read) answers counted most next = (
-    messages ++ m ∷ [],
-    length_push messages m ∙ ap (λ k. k + 1) count ∙ sym counted,
-    next messages (omega (arith, count, counted, most)) is,
-    more_read joins now new p p' messages given m answers read,
-  )
+  -- the result of the next call, joined to what is read so far
+  module _ (joins : CallsJoinFile) (given now new : Option (List ℕ)) (p p' : ProgressView) (taken : T) (held : Held given now p taken) where
+    pub held_more : (m : MessageView) (taken' : T) → ReadsInput now new (AnswersNext p (Ok (Some m)) p')
+        → p'.count ≡ p.count + 1 → p'.count ≤ 4294967295
+        → ((messages : List MessageView) → length messages < 4294967295 → is_of messages taken → is_of (messages ++ m ∷ []) taken')
+        → Held given new p' taken'
+    held_more m taken' answers counted most next = (
+      held.0 ++ m ∷ [],
+      length_push held.0 m ∙ ap (λ k. k + 1) held.1 ∙ sym counted,
+      next held.0 (omega (arith, held.1, counted, most)) held.2,
+      joins [] 0 0 given now new held.0 p p' (Ok (Some m)) held.3 answers,
+    )
 
-  -- the report may take one more message
-  pub held_takes : (given now : Option (List ℕ)) (p p' : ProgressView) (taken : T) → Held given now p taken
-      → p'.count ≡ p.count + 1 → p'.count ≤ 4294967295
-      → (messages : List MessageView) × (length messages < 4294967295) × is_of messages taken
-  held_takes given now p p' taken (messages, count, is, read) counted most = (messages, omega (arith, count, counted, most), is)
+    pub held_all : ReadsInput now new (AnswersNext p (Ok None) p') → TakesFile is_of given new taken (Ok tt)
+    held_all answers =
+        let (bytes, all, whole) = joins [] 0 0 given now new held.0 p p' (Ok None) held.3 answers in (held.0, held.2, bytes, all, whole)
 
-  pub held_all : CallsJoinFile → (given now new : Option (List ℕ)) (p p' : ProgressView) (taken : T)
-      → Held given now p taken → IfSome now (λ left. AnswersNext p left (Ok None) p' new) → HasTaken is_of given taken
-  held_all joins given now new p p' taken (messages, count, is, read) answers =
-      (messages, is, all_read joins now new p p' messages given answers read)
-
-  pub held_fault : CallsJoinFile → (given now new : Option (List ℕ)) (p p' : ProgressView) (taken : T) (fault : ReadFault)
-      → Held given now p taken → IfSome now (λ left. AnswersNext p left (Err fault) p' new) → IsFaultOfMessages given fault
-  held_fault joins given now new p p' taken fault (messages, count, is, read) answers =
-      fault_read joins now new p p' messages given fault answers read
+    pub held_fault : MemoryIsNoFault → (fault : ReadFault) (made : OutputFault) → IsFaultOfCall fault made → ReadsInput now new (AnswersNext p (Err fault) p')
+        → TakesFile is_of given new taken (Err made)
+    held_fault law fault made is answers =
+        fault_taken law given new held.0 p' taken fault made is (joins [] 0 0 given now new held.0 p p' (Err fault) held.3 answers)

@@ -1,7 +1,6 @@
 use Rattle.std.specs.Prelude.{ℕ, Bool, true, false, List, codes}
 use Rattle.ipfix_read.specs.declared.fault.ReadFaultKind.{ReadFaultKind}
 use Rattle.ipfix_read.specs.declared.fault.ReadFaultKind.TheVariants as flows
-use Rattle.ipfix_read.specs.Fault.{is_of_calls}
 use Rattle.ipfix_templates.specs.declared.fault.TemplateFaultKind.{TemplateFaultKind}
 use Rattle.ipfix_templates.specs.declared.fault.TemplateFaultKind.TheVariants as template
 use Rattle.pmap_text.specs.declared.fault.MapFaultKind.{MapFaultKind}
@@ -10,6 +9,8 @@ use Rattle.pmap_cert.specs.declared.fault.CertFaultKind.{CertFaultKind}
 use Rattle.pmap_cert.specs.declared.fault.CertFaultKind.TheVariants as certificate
 use Rattle.cert_check.specs.declared.fault.CheckFaultKind.{CheckFaultKind}
 use Rattle.cert_check.specs.declared.fault.CheckFaultKind.TheVariants as check
+use Rattle.flowlabel.specs.declared.by_file.Role.{Role}
+use Rattle.flowlabel.specs.declared.by_file.Role.TheVariants as role
 use Rattle.flowlabel.specs.declared.bytes_fault.BytesFault.{BytesFault}
 use Rattle.flowlabel.specs.declared.bytes_fault.BytesFault.TheVariants.{Map as InMap, List as InList, Flows as InFlows, Certificate as InCertificate, Check as InCheck}
 
@@ -109,8 +110,10 @@ is_want_of_memory (InFlows fault) = is_flows_want fault.kind
 is_want_of_memory (InCertificate fault) = is_certificate_want fault.kind
 is_want_of_memory (InCheck fault) = is_check_want fault.kind
 
--- whether only calls for messages return the fault, as a reader failed or a call before had a fault; it is then not the
--- first fault of a file's bytes
-abbrev pub is_answer_of_calls : BytesFault → Bool
-is_answer_of_calls (InFlows fault) = is_of_calls fault.kind
-is_answer_of_calls fault = false
+-- the file that the fault names; it is the certificate if it doesn't fit the map and the list
+abbrev pub role_of : BytesFault → Role
+role_of (InMap fault) = role.Map
+role_of (InList fault) = role.List
+role_of (InFlows fault) = role.Flows
+role_of (InCertificate fault) = role.Certificate
+role_of (InCheck fault) = role.Certificate

@@ -1,38 +1,31 @@
-use Rattle.std.specs.Prelude.{◌≡◌, ◌⊎◌, ◌++◌, ℕ, Bool, true, List, [], Option, Some, None, Result, Ok, Err, find, option_map}
+use Rattle.std.specs.Prelude.{◌≡◌, ◌⊎◌, ℕ, Bool, true, List, MatchResult, Option, Result, Ok, Err}
+use Rattle.std.specs.declared.io.ErrorKind.{ErrorKind as IoErrorKind}
 use Rattle.std.specs.Io.KnownBytes.{Appends}
-use Rattle.std.specs.Str.{bytes_eq}
 use Rattle.flow_io.specs.declared.last_call.LastCall.{LastCall}
 use Rattle.flow_io.specs.declared.last_call.LastCall.TheVariants.{Flush}
-use Rattle.flow_io.specs.Devices.{InputState, IsUntouched, StopsWriting}
-use Rattle.flowlabel.specs.Answer.{Answers, IsFaultAt}
-use Rattle.flowlabel.specs.Faults.{fault_text}
-use Rattle.flowlabel.specs.Headline.{IsHeadline}
-use Rattle.flowlabel.specs.Inner.{AreOpened, CannotOpenFirst, HaveNames}
-use Rattle.flowlabel.specs.Output.{FileTexts, IsOutput}
+use Rattle.flow_io.specs.Devices.{StopsWriting}
+use Rattle.flowlabel.specs.Answer.{Answers, IsFaultAt, words_fault_of}
+use Rattle.flowlabel.specs.ByFile.{ByFile}
+use Rattle.flowlabel.specs.Faults.{exit_status_of, fault_text}
+use Rattle.flowlabel.specs.Opening.{AreOpened, CannotOpenFirst}
 use Rattle.flowlabel.specs.Request.{Request, Text, files_of}
-use Rattle.flowlabel.specs.Run.{IsFaultOfRun, PrintsThen, RunFault, Usage, CannotOpen, Inputs}
-use Rattle.flowlabel.specs.declared.ending.Stream.{Stream}
-use Rattle.flowlabel.specs.declared.ending.Told.{Told}
-use Rattle.flowlabel.specs.declared.ending.Told.TheVariants.{Lent, Made}
-use Rattle.flowlabel.specs.declared.in_memory.MemoryFile.{MemoryFile}
-use Rattle.flowlabel.specs.declared.ending.Stream.TheVariants as stream
+use Rattle.flowlabel.specs.Run.{CannotOpen, IsRunOf, RunFault, Source, Usage}
 use Rattle.flowlabel.specs.declared.usage.UsageFault.TheVariants as usage
 
--- How the program ends: what its result says about its words and its output, and what it writes to which stream.
+-- What the program does: how it ends for its words, which text it writes to which stream, and its exit status.
 
--- the text that is written at the end: nothing, help, or the line of a fault
-abbrev pub told_text : {A : Type 0} → Result A RunFault → List ℕ
-told_text (Ok done) = []
-told_text (Err (Usage (usage.Help text))) = text
-told_text (Err fault) = fault_text fault
-
-abbrev pub told_bytes : Told → List ℕ
-told_bytes (Lent text) = text.now
-told_bytes (Made line) = line.items
-
-abbrev pub stream_of : {A : Type 0} → Result A RunFault → Stream
-stream_of (Err (Usage (usage.Help text))) = stream.Output
-stream_of result = stream.Error
+module _ {R W : Type 0} (answers : Text → Option R → Type 0) (left : R → Option (List ℕ)) (failed : R → Bool)
+    (taken : W → Option (List ℕ)) (last : W → LastCall) (stuck : W → Bool) where
+  -- A usage fault is a fault of the words. With any other result the words ask for a request. If one of its files can't be
+  -- opened, the result names the first such file. Otherwise the request is run over its opened files.
+  abbrev pub IsEndOf : List Text → W → W → Result (Unit {0}) RunFault → Type 0
+  IsEndOf words old new (Err (Usage fault)) = IsFaultAt words fault × (new ≡ old)
+  IsEndOf words old new (Err (CannotOpen file)) =
+      (request : Request) × Answers words (Ok request) × CannotOpenFirst answers (files_of request) (CannotOpen file) × (new ≡ old)
+  IsEndOf words old new result =
+      (request : Request) × Answers words (Ok request)
+      × (files : ByFile (Option (Source R))) × AreOpened answers (files_of request) files
+      × (files' : ByFile (Option (Source R))) × IsRunOf left failed taken last stuck request files files' old new result
 
 -- the writer took the text whole and was flushed, or it failed before that
 module _ {W : Type 0} (taken : W → Option (List ℕ)) (last : W → LastCall) (failed : W → Bool) where
@@ -40,60 +33,26 @@ module _ {W : Type 0} (taken : W → Option (List ℕ)) (last : W → LastCall) 
   IsWritten old new text =
       (Appends (taken old) (taken new) text × (last new ≡ Flush)) ⊎ (StopsWriting taken last old new text × (failed new ≡ true))
 
+-- help goes to standard output, and the line of a fault to standard error if there is memory for it; nothing else is
+-- written
 module _ {O E : Type 0} (taken : O → Option (List ℕ)) (last : O → LastCall) (failed : O → Bool)
     (taken' : E → Option (List ℕ)) (last' : E → LastCall) (failed' : E → Bool) where
-  -- the text is written to this stream, and there is no call of the other one
-  abbrev pub IsTold : Stream → List ℕ → O → O → E → E → Type 0
-  IsTold stream.Output text output output' error error' =
-      IsWritten taken last failed output output' text × IsUntouched taken' last' error error'
-  IsTold stream.Error text output output' error error' =
-      IsUntouched taken last output output' × IsWritten taken' last' failed' error error' text
+  abbrev pub IsTold : Result (Unit {0}) RunFault → O → O → E → E → Type 0
+  IsTold (Ok done) output output' error error' = (output' ≡ output) × (error' ≡ error)
+  IsTold (Err (Usage (usage.Help text))) output output' error error' =
+      IsWritten taken last failed output output' text × (error' ≡ error)
+  IsTold (Err fault) output output' error error' =
+      (output' ≡ output) × (IsWritten taken' last' failed' error error' (fault_text fault) ⊎ (error' ≡ error))
 
--- the words ask for this request, and the inputs are its files, opened by their names
-pub record IsAsked {R : Type 0} (answers : Text → Option R → Type 0) (words : List Text) (request : Request) (inputs : Inputs R) : Type 0 where
-  pub asked : Answers words (Ok request)
-  pub named : HaveNames (files_of request) inputs
-  pub opened : AreOpened answers inputs
-
-module _ {R W : Type 0} (answers : Text → Option R → Type 0) (left : R → Option (List ℕ)) (failed : R → Bool)
-    (taken : W → Option (List ℕ)) (last : W → LastCall) where
-  -- What the program's result says about its words and its output, from one state of the output to another. A usage
-  -- fault is a fault of the words. With any other result the words ask for a request. If one of its files can't be
-  -- opened, the result names the first such file. Otherwise the request is run over its opened files, and the result is
-  -- that of the run.
-  abbrev pub IsEndOf : List Text → W → W → Result (Unit {0}) RunFault → Type 0
-  IsEndOf words old new (Ok done) =
-      (request : Request) × (inputs : Inputs R) × IsAsked answers words request inputs
-      × PrintsThen left inputs request (Appends (taken old) (taken new))
-  IsEndOf words old new (Err (Usage fault)) = IsFaultAt words fault × IsUntouched taken last old new
-  IsEndOf words old new (Err (CannotOpen file)) =
-      (request : Request) × Answers words (Ok request) × CannotOpenFirst answers (files_of request) (CannotOpen file)
-      × IsUntouched taken last old new
-  IsEndOf words old new (Err fault) =
-      (request : Request) × (inputs : Inputs R) × (inputs' : Inputs R) × IsAsked answers words request inputs
-      × IsFaultOfRun left failed taken last inputs inputs' old new request fault
-
--- The program over files in memory.
-
--- the text of an input: the bytes of the first file with its name; an input without a name has no bytes
-abbrev pub text_in : List MemoryFile → Option Text → Option (List ℕ)
-text_in files None = Some []
-text_in files (Some name) = option_map (λ file. file.bytes.now) (find (λ file. bytes_eq file.name.now name) files)
-
--- opening a name gives a reader of the text of the file, or none if no file has the name
-abbrev pub OpensTo : List MemoryFile → Text → Option InputState → Type 0
-OpensTo files name opened = text_in files (Some name) ≡ option_map (λ input. input.left) opened
-
--- the words ask for a request, and its output over the texts of its files was appended to the old bytes
-pub record IsOutputInMemory (files : List MemoryFile) (words : List Text) (old new : List ℕ) : Type 0 where
-  pub request : Request
-  pub asked : Answers words (Ok request)
-  pub texts : FileTexts
-  pub map : text_in files (files_of request).map ≡ Some texts.map
-  pub list : text_in files (files_of request).list ≡ Some texts.list
-  pub certificate : text_in files (files_of request).certificate ≡ Some texts.certificate
-  pub flows : text_in files (files_of request).flows ≡ Some texts.flows
-  pub out : List ℕ
-  pub output : IsOutput request texts (Ok out)
-  pub headline : IsHeadline request texts out
-  pub written : new ≡ old ++ out
+-- The program for these words, or an error of getting them: a command's outcome, the text that is written for it, and
+-- the exit status. Between the two the output is in this state.
+module _ {R O E : Type 0} (answers : Text → Option R → Type 0) (left : R → Option (List ℕ)) (failed : R → Bool)
+    (taken : O → Option (List ℕ)) (last : O → LastCall) (stuck : O → Bool)
+    (taken' : E → Option (List ℕ)) (last' : E → LastCall) (stuck' : E → Bool) where
+  pub record IsProgram (words : Result (List Text) IoErrorKind) (output output' : O) (error error' : E) (code : ℕ) : Type 0 where
+    pub outcome : Result (Unit {0}) RunFault
+    pub between : O
+    pub ends : MatchResult words (λ list. IsEndOf answers left failed taken last stuck list output between outcome)
+        (λ kind. (outcome ≡ Err (Usage (words_fault_of kind))) × (between ≡ output))
+    pub told : IsTold taken last stuck taken' last' stuck' outcome between output' error error'
+    pub status : code ≡ exit_status_of outcome

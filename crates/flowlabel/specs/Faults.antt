@@ -1,11 +1,10 @@
-use Rattle.std.specs.Prelude.{◌≡◌, ℕ, Bool, true, false, List, [], ◌++◌, Result, Ok, Err, codes, decimal, if◌then◌else◌}
+use Rattle.std.specs.Prelude.{ℕ, Bool, true, false, List, [], ◌++◌, Result, Ok, Err, codes, decimal, if◌then◌else◌}
 use Rattle.flow_filter.specs.declared.fault.FilterFaultKind.{FilterFaultKind}
 use Rattle.flow_filter.specs.declared.fault.FilterFaultKind.TheVariants as filters
 use Rattle.flow_filter.specs.Options.{name_of}
 use Rattle.flow_uniq.specs.declared.fault.KeyFault.{KeyFault}
 use Rattle.flow_uniq.specs.declared.fault.KeyFault.TheVariants as keys
-use Rattle.flowlabel.specs.BytesFault.{bytes_fault_name, bytes_fault_place, is_want_of_memory}
-use Rattle.flowlabel.specs.declared.bytes_fault.BytesFault.{BytesFault}
+use Rattle.flowlabel.specs.BytesFault.{bytes_fault_name, bytes_fault_place}
 use Rattle.flowlabel.specs.declared.fault.RunFault.{RunFault}
 use Rattle.flowlabel.specs.declared.fault.RunFault.TheVariants.{Usage, CannotOpen, CannotRead, CannotWrite, NoMemory, File}
 use Rattle.flowlabel.specs.declared.usage.UsageFault.{UsageFault}
@@ -64,21 +63,15 @@ fault_text (CannotOpen file) = codes "flowlabel: " ++ file.now ++ codes ": canno
 fault_text (CannotRead file) = codes "flowlabel: " ++ file.now ++ codes ": cannot read\n"
 fault_text CannotWrite = codes "flowlabel: output: cannot write\n"
 fault_text NoMemory = out_of_memory
-fault_text (File fault) = place_text fault.file.now (bytes_fault_name fault.fault) (bytes_fault_place fault.fault)
+fault_text (File file fault) = place_text file.now (bytes_fault_name fault) (bytes_fault_place fault)
 
 abbrev pub status_of : RunFault → ℕ
 status_of (Usage (usage.Help text)) = 0
 status_of (Usage fault) = if is_usage_want fault then 3 else 2
 status_of NoMemory = 3
-status_of (File fault) = 1
+status_of (File file fault) = 1
 status_of fault = 4
 
 abbrev pub exit_status_of : {A : Type 0} → Result A RunFault → ℕ
 exit_status_of (Ok done) = 0
 exit_status_of (Err fault) = status_of fault
-
--- the run's fault is this one of a file's bytes, with the file's name, or out of memory, which names no file
-abbrev pub IsInFile : List ℕ → BytesFault → RunFault → Type 0
-IsInFile file fault NoMemory = is_want_of_memory fault ≡ true
-IsInFile file fault (File other) = (other.file.now ≡ file) × (other.fault ≡ fault)
-IsInFile file fault other = ⊥

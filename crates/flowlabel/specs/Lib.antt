@@ -1,10 +1,12 @@
+pub mod ByFile
 pub mod Request
 pub mod Definition
 pub mod Answer
 pub mod BytesFault
 pub mod Faults
 pub mod Output
-pub mod Run
-pub mod Inner
-pub mod Ending
 pub mod Headline
+pub mod Run
+pub mod Reports
+pub mod Opening
+pub mod Ending

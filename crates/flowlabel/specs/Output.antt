@@ -1,12 +1,13 @@
-use Rattle.std.specs.Prelude.{◌≡◌, ◌≤◌, ◌⊎◌, ◌↔◌, ℕ, List, [], ◌∷◌, ◌++◌, Bool, Option, Some, None, Result, Ok, Err, map, option_map, unwrap_or, codes, decimal, length}
+use Rattle.std.specs.Prelude.{◌≡◌, ◌⊎◌, ℕ, List, [], ◌∷◌, ◌++◌, Bool, true, false, Option, Some, None, Result, Ok, Err, map, option_map, unwrap_or, codes, decimal, length}
+use Rattle.std.specs.Global.{Vec}
 use Rattle.prefix_keys.specs.Text.{AddressOf}
-use Rattle.pmap_text.specs.ListModel.{IsEquivalent, ListModel}
+use Rattle.pmap_text.specs.ListModel.{ListModel}
 use Rattle.pmap_text.specs.MapModel.{MapModel}
-use Rattle.pmap_text.specs.Reading.{ReadsList, ReadsMap, label_limit, list_reading, map_reading, mapping_limit}
-use Rattle.pmap_cert.specs.Acceptance.{IsAccepted, IsLeast, IsMinimalPair}
-use Rattle.pmap_cert.specs.CertificateText.{HasFormatText, HasTextForm, certificate_text}
+use Rattle.pmap_text.specs.Reading.{ReadsList, ReadsMap, list_reading, map_reading}
+use Rattle.pmap_cert.specs.Acceptance.{IsMinimalPair}
+use Rattle.pmap_cert.specs.CertificateText.{certificate_text}
 use Rattle.pmap_cert.specs.CertificateModel.{CertificateModel}
-use Rattle.pmap_cert.specs.Compacting.{compact, line_count}
+use Rattle.pmap_cert.specs.Compacting.{compact}
 use Rattle.pmap_cert.specs.FormatReading.{format_reading}
 use Rattle.cert_check.specs.Checking.{first_fault}
 use Rattle.cert_check.specs.declared.fault.CheckFault.{CheckFault}
@@ -18,23 +19,19 @@ use Rattle.flow_filter.specs.Condition.{Condition, passing_rows}
 use Rattle.flow_uniq.specs.declared.field.KeyField.{KeyField}
 use Rattle.flow_uniq.specs.Groups.{groups_of, shown_groups}
 use Rattle.pmap_print.specs.Reports.{groups_text, info_text, LabelTexts, row_lines}
-use Rattle.pmap_print.specs.List.{list_text, labels_of}
+use Rattle.pmap_print.specs.List.{list_text}
 use Rattle.pmap_print.specs.Runs.{IsRunsText}
 use Rattle.pmap_print.specs.Table.{Line, table_text}
 use Rattle.label_lookup.specs.Labelling.{Labelling, label_by, label_where, labelling_of_list, labelling_of_map}
 pub use Rattle.flowlabel.specs.declared.bytes_fault.BytesFault.{BytesFault}
 use Rattle.flowlabel.specs.declared.bytes_fault.BytesFault.TheVariants.{Map as InMap, List as InList, Flows as InFlows, Certificate as InCertificate, Check as InCheck}
+use Rattle.flowlabel.specs.BytesFault.{is_want_of_memory}
+pub use Rattle.flowlabel.specs.declared.output_fault.OutputFault.{OutputFault}
+pub use Rattle.flowlabel.specs.declared.output_fault.OutputFault.TheVariants.{Faulty, NoMemory, Unread}
 use Rattle.flowlabel.specs.Request.{Shrunk, FromList, FromMap, LabelSource, Request, label, info, rows, cat, shrink, check, uniq, recert}
 use Rattle.flowlabel.specs.declared.command.Shrunk.TheVariants as shrunk
 
--- The output of a request: the text that it prints, or the first fault of its files' bytes.
-
--- the bytes of the files that a command reads; an input that it doesn't read has no bytes
-pub record FileTexts : Type 0 where
-  pub map : List ℕ
-  pub list : List ℕ
-  pub certificate : List ℕ
-  pub flows : List ℕ
+-- The output of a request for the texts of its files: the text that it prints, or the first fault of these texts.
 
 -- a text, or the first fault
 abbrev pub Outcome : Type 0
@@ -56,9 +53,9 @@ MapThen rest text = Then (λ fault. map_reading text ≡ Err fault) InMap (Reads
 abbrev pub ListThen : (ListModel → Outcome → Type 0) → List ℕ → Outcome → Type 0
 ListThen rest text = Then (λ fault. list_reading text ≡ Err fault) InList (ReadsList text) rest
 
--- the text is read as the certificate, of either format, if it is the certificate's text
+-- the text is read as the certificate, of either format
 abbrev pub ReadsCertificate : List ℕ → CertificateModel → Type 0
-ReadsCertificate text certificate = HasFormatText certificate × (text ≡ certificate_text certificate)
+ReadsCertificate text certificate = format_reading text ≡ Ok certificate
 
 abbrev pub CertificateThen : (CertificateModel → Outcome → Type 0) → List ℕ → Outcome → Type 0
 CertificateThen rest text = Then (λ fault. format_reading text ≡ Err fault) InCertificate (ReadsCertificate text) rest
@@ -67,9 +64,9 @@ abbrev pub FlowsThen : (List MessageView → Outcome → Type 0) → List ℕ �
 FlowsThen rest bytes = Then (HasFileFault [] 0 0 bytes) InFlows (ReadsFile [] 0 bytes) rest
 
 -- the outcome over the text of a source of labels: its first fault, or the outcome for its labelling
-abbrev pub LabelsThen : LabelSource → (Labelling → Outcome → Type 0) → FileTexts → Outcome → Type 0
-LabelsThen (FromMap file) rest texts = MapThen (λ m. rest (labelling_of_map m)) texts.map
-LabelsThen (FromList file) rest texts = ListThen (λ l. rest (labelling_of_list l)) texts.list
+abbrev pub LabelsThen : (Labelling → Outcome → Type 0) → LabelSource → Outcome → Type 0
+LabelsThen rest (FromMap text) = MapThen (λ m. rest (labelling_of_map m)) text
+LabelsThen rest (FromList text) = ListThen (λ l. rest (labelling_of_list l)) text
 
 -- the line of the label that a labelling gives an address, which is the line feed alone if there is no label
 abbrev pub label_text : AddressOf → Labelling → List ℕ
@@ -89,10 +86,11 @@ shrunk_text shrunk.List l c = list_text l
 shrunk_text shrunk.Certificate l c = certificate_text c
 shrunk_text shrunk.Compact l c = certificate_text (compact c)
 
--- the outcome is the text of the list of the map's minimal pair, or of its certificate, compacted or not
+-- the outcome is the text of the list of the map's minimal pair, or of its certificate, compacted or not; the certificate
+-- is read again from its text
 abbrev pub PrintsMinimal : Shrunk → MapModel → Outcome → Type 0
 PrintsMinimal printed m outcome =
-    (l : ListModel) × (c : CertificateModel) × IsMinimalPair m l c × HasTextForm c × Prints (shrunk_text printed l c) outcome
+    (l : ListModel) × (c : CertificateModel) × IsMinimalPair m l c × ReadsCertificate (certificate_text c) c × Prints (shrunk_text printed l c) outcome
 
 -- the labels of a row's source and destination
 abbrev pub row_labels : Labelling → RowView → LabelTexts
@@ -117,100 +115,53 @@ abbrev pub ReportsOf : (Option Labelling → List MessageView → List ℕ) → 
 ReportsOf text labels = FlowsThen (λ messages. Prints (text labels messages))
 
 -- the report on a File under the labels of a source, or without one
-abbrev pub ReportsThen : (Option Labelling → List MessageView → List ℕ) → Option LabelSource → FileTexts → Outcome → Type 0
-ReportsThen text None texts = ReportsOf text None texts.flows
-ReportsThen text (Some source) texts = LabelsThen source (λ labels. ReportsOf text (Some labels) texts.flows) texts
+abbrev pub ReportsThen : (Option Labelling → List MessageView → List ℕ) → Option LabelSource → List ℕ → Outcome → Type 0
+ReportsThen text None flows = ReportsOf text None flows
+ReportsThen text (Some source) flows = LabelsThen (λ labels. ReportsOf text (Some labels) flows) source
 
 -- `minimal N`, the number of a shortest list's entries
 abbrev pub minimal_text : ℕ → List ℕ
 minimal_text count = codes "minimal " ++ decimal count ++ codes "\n"
 
--- the number of the list's entries if the certificate is accepted for the map and the list, otherwise the first fault
+-- the number of the list's entries, if the certificate has no fault for the map and the list, otherwise the first fault
+abbrev pub checked : Option CheckFault → ℕ → Outcome
+checked None count = Ok (minimal_text count)
+checked (Some fault) count = Err (InCheck fault)
+
 abbrev pub Checks : MapModel → ListModel → CertificateModel → Outcome → Type 0
-Checks m l c outcome =
-    (IsAccepted m l c × Prints (minimal_text (length l.prefixes)) outcome)
-    ⊎ ((fault : CheckFault) × (first_fault m l c ≡ Some fault) × (outcome ≡ Err (InCheck fault)))
+Checks m l c outcome = outcome ≡ checked (first_fault m l c) (length l.prefixes)
 
--- the outcome is an output of the request over its files' texts, read in the order map, list, certificate, flows
-abbrev pub IsOutput : Request → FileTexts → Outcome → Type 0
-IsOutput (label source address) texts = LabelsThen source (λ labels. Prints (label_text address labels)) texts
-IsOutput (info flows) texts = ReportsThen (λ labels messages. info_text (counts_of messages)) None texts
-IsOutput (rows source condition columns flows) texts = ReportsThen (report_of_rows condition columns) source texts
-IsOutput (uniq fields source condition sorted columns flows) texts = ReportsThen (report_of_groups fields condition sorted columns) source texts
-IsOutput (cat source) texts = LabelsThen source PrintsRuns texts
-IsOutput (shrink map printed) texts = MapThen (PrintsMinimal printed) texts.map
-IsOutput (check map list certificate) texts =
-    MapThen (λ m. ListThen (λ l. CertificateThen (Checks m l) texts.certificate) texts.list) texts.map
-IsOutput (recert certificate) texts = CertificateThen PrintsCompact texts.certificate
+-- the outcome is an output of the request for these texts, read in the order map, list, certificate, flows
+abbrev pub IsOutput : Request → Outcome → Type 0
+IsOutput (label source address) = LabelsThen (λ labels. Prints (label_text address labels)) source
+IsOutput (info flows) = ReportsThen (λ labels messages. info_text (counts_of messages)) None flows
+IsOutput (rows source condition columns flows) = ReportsThen (report_of_rows condition columns) source flows
+IsOutput (uniq fields source condition sorted columns flows) = ReportsThen (report_of_groups fields condition sorted columns) source flows
+IsOutput (cat source) = LabelsThen PrintsRuns source
+IsOutput (shrink map printed) = MapThen (PrintsMinimal printed) map
+IsOutput (check map list certificate) = MapThen (λ m. ListThen (λ l. CertificateThen (Checks m l) certificate) list) map
+IsOutput (recert certificate) = CertificateThen PrintsCompact certificate
 
--- a request has at most one output over the texts of its files
-abbrev pub OneOutput : Type 0
-OneOutput = (request : Request) (texts : FileTexts) (outcome other : Outcome) → IsOutput request texts outcome → IsOutput request texts other → outcome ≡ other
+-- a request has exactly one output for any texts
+abbrev pub HasOneOutput : Type 0
+HasOneOutput = (request : Request) → (outcome : Outcome) × IsOutput request outcome × ((other : Outcome) → IsOutput request other → other ≡ outcome)
 
--- a request has an output over any texts of its files
-abbrev pub HasOutput : Type 0
-HasOutput = (request : Request) (texts : FileTexts) → (outcome : Outcome) × IsOutput request texts outcome
+-- the fault of a command for one of bytes, which is out of memory or says something about the bytes
+abbrev pub IsFaultFor : BytesFault → OutputFault → Type 0
+IsFaultFor fault NoMemory = is_want_of_memory fault ≡ true
+IsFaultFor fault (Unread role) = ⊥
+IsFaultFor fault (Faulty other) = (other ≡ fault) × (is_want_of_memory fault ≡ false)
 
--- the request with the labels of this source, if it has labels
-abbrev pub under : LabelSource → Request → Request
-under source (label old address) = label source address
-under source (rows (Some old) condition columns flows) = rows (Some source) condition columns flows
-under source (uniq fields (Some old) condition sorted columns flows) = uniq fields (Some source) condition sorted columns flows
-under source (cat old) = cat source
-under source request = request
+-- What a call returns, by the outcomes that it may have: the text, or the fault. It reads no device.
+abbrev pub Returns : (Outcome → Type 0) → Result (Vec ℕ) OutputFault → Type 0
+Returns Is (Ok out) = Is (Ok out.items)
+Returns Is (Err NoMemory) = Unit {0}
+Returns Is (Err (Unread role)) = ⊥
+Returns Is (Err (Faulty fault)) = Is (Err fault)
 
--- the request can take its labels, if any, from a map or from a list
-abbrev pub TakesEither : Request → Type 0
-TakesEither (shrink map printed) = ⊥
-TakesEither (check map list certificate) = ⊥
-TakesEither (recert certificate) = ⊥
-TakesEither request = Unit {0}
-
--- a request that takes labels from either has the same outputs under a map text and under each equivalent list text
-abbrev pub SameUnderEquivalents : Type 0
-SameUnderEquivalents = (request : Request) (file other : List ℕ) (texts others : FileTexts) (m : MapModel) (l : ListModel) (outcome : Outcome)
-    → TakesEither request → ReadsMap texts.map m → ReadsList others.list l → IsEquivalent l m → texts.flows ≡ others.flows
-    → IsOutput (under (FromMap file) request) texts outcome ↔ IsOutput (under (FromList other) request) others outcome
-
--- the text is the number of entries of the list, which is equivalent to the map and least
-abbrev pub IsCheckedLeast : FileTexts → List ℕ → Type 0
-IsCheckedLeast texts out = (m : MapModel) × (l : ListModel) × ReadsMap texts.map m × ReadsList texts.list l
-    × IsEquivalent l m × IsLeast m l × (out ≡ minimal_text (length l.prefixes))
-
--- each text that `check` prints is such a number, whoever made the three files
-abbrev pub CheckIsEnough : Type 0
-CheckIsEnough = (map list certificate : List ℕ) (texts : FileTexts) (out : List ℕ) → IsOutput (check map list certificate) texts (Ok out)
-    → IsCheckedLeast texts out
-
--- the list has at most 1,000,000 entries, with at most 65,535 label texts
-abbrev pub FitsText : ListModel → Type 0
-FitsText l = (length l.prefixes ≤ mapping_limit) × (length (labels_of l.prefixes) ≤ label_limit)
-
--- the text is that of a certificate, as it is or compacted
-abbrev pub IsPrintedCertificate : CertificateModel → List ℕ → Type 0
-IsPrintedCertificate c text = (text ≡ certificate_text c) ⊎ (text ≡ certificate_text (compact c))
-
--- `check` accepts the printed list and certificate of a minimal pair, if the list is within the limits of a text
-abbrev pub CheckAcceptsMinimal : Type 0
-CheckAcceptsMinimal = (map list certificate : List ℕ) (texts : FileTexts) (m : MapModel) (l : ListModel) (c : CertificateModel)
-    → ReadsMap texts.map m → IsMinimalPair m l c → HasTextForm c → FitsText l
-    → texts.list ≡ list_text l → IsPrintedCertificate c texts.certificate
-    → IsOutput (check map list certificate) texts (Ok (minimal_text (length l.prefixes)))
-
--- A certificate that `recert` prints has no more node lines than the one that it read, `recert` prints it unchanged, and
--- `check` prints a number by the printed one if it does by the one that was read.
-pub record IsAsGood (before after : List ℕ) : Type 0 where
-  pub old : CertificateModel
-  pub new : CertificateModel
-  pub reads_old : ReadsCertificate before old
-  pub reads_new : ReadsCertificate after new
-  pub compacted : new ≡ compact old
-  pub lines : line_count new.root ≤ line_count old.root
-  pub again : (certificate : List ℕ) (texts : FileTexts) → texts.certificate ≡ after → IsOutput (recert certificate) texts (Ok after)
-  pub checks : (map list certificate : List ℕ) (texts : FileTexts) (out : List ℕ) → texts.certificate ≡ before
-      → IsOutput (check map list certificate) texts (Ok out)
-      → IsOutput (check map list certificate) (record texts { certificate = after }) (Ok out)
-
-abbrev pub RecertIsAsGood : Type 0
-RecertIsAsGood = (certificate : List ℕ) (texts : FileTexts) (out : List ℕ) → IsOutput (recert certificate) texts (Ok out)
-    → IsAsGood texts.certificate out
+-- what a call returns that reads a text: a value, or the text's first fault
+abbrev pub Decodes : {F A : Type 0} → (F → Type 0) → (F → BytesFault) → (A → Type 0) → Result A OutputFault → Type 0
+Decodes Fails in_file Reads (Ok value) = Reads value
+Decodes Fails in_file Reads (Err NoMemory) = Unit {0}
+Decodes Fails in_file Reads (Err (Unread role)) = ⊥
+Decodes {F} {A} Fails in_file Reads (Err (Faulty fault)) = (own : F) × Fails own × (fault ≡ in_file own)

@@ -1,20 +1,21 @@
-use Rattle.std.specs.Prelude.{◌^◌, ◌<◌, Bool, List, Option, Some, None, is_some, option_and_then, option_map}
+use Rattle.std.specs.Prelude.{◌^◌, ◌<◌, ℕ, Bool, List, Option, Some, None, is_some, option_and_then, option_map}
+use Rattle.std.specs.Borrow.{Bor}
 use Rattle.prefix_keys.specs.Text.{AddressOf}
 use Rattle.prefix_keys.specs.Block.{width_of}
 use Rattle.flow_filter.specs.Condition.{Condition}
 pub use Rattle.flowlabel.specs.declared.command.Command.{Command}
 pub use Rattle.flowlabel.specs.declared.command.Command.TheVariants.{Cat, Check, Info, Label, Recert, Rows, Shrink, Uniq}
 use Rattle.flow_uniq.specs.declared.field.KeyField.{KeyField}
-use Rattle.flowlabel.specs.declared.command.Files.{Files}
+use Rattle.flowlabel.specs.ByFile.{ByFile, each}
 use Rattle.flowlabel.specs.declared.command.LabelFile.{LabelFile}
 use Rattle.flowlabel.specs.declared.command.LabelFile.TheVariants.{Map, List as Prefixes}
-pub use Rattle.flowlabel.specs.declared.command.Needs.{Needs}
 pub use Rattle.flowlabel.specs.declared.command.Shrunk.{Shrunk}
 pub use Rattle.pmap_print.specs.Table.{Text}
 
--- What a command line may ask for, independent of how the program represents it.
+-- What a command line may ask for, independent of how the program represents it. A request has the name of a file, as the
+-- words name it, or the file's text, as the output depends on it.
 
--- the source of labels: the map in a file, or the prefix list in a file
+-- the source of labels: a map, or a prefix list
 pub data LabelSource : Type 0 where
   FromMap : (file : Text) → LabelSource
   FromList : (file : Text) → LabelSource
@@ -56,20 +57,8 @@ request_of (Shrink map printed) = shrink map.now printed
 request_of (Check map list certificate) = check map.now list.now certificate.now
 request_of (Recert certificate) = recert certificate.now
 
--- the names of the files that a request reads
-pub record FileNames : Type 0 where
-  pub map : Option Text
-  pub list : Option Text
-  pub certificate : Option Text
-  pub flows : Option Text
-
-abbrev pub names_of : Files → FileNames
-names_of files = record {
-  map = option_map (λ s. s.now) files.map;
-  list = option_map (λ s. s.now) files.list;
-  certificate = option_map (λ s. s.now) files.certificate;
-  flows = option_map (λ s. s.now) files.flows;
-}
+abbrev pub names_of : ByFile (Option (Bor (List ℕ))) → ByFile (Option Text)
+names_of = each (option_map (λ s. s.now))
 
 -- the names of the map and of the list of a source, and of all files of a request
 abbrev pub map_in : LabelSource → Option Text
@@ -80,7 +69,7 @@ abbrev pub list_in : LabelSource → Option Text
 list_in (FromMap file) = None
 list_in (FromList file) = Some file
 
-abbrev pub files_named : Option LabelSource → Option Text → FileNames
+abbrev pub files_named : Option LabelSource → Option Text → ByFile (Option Text)
 files_named source flows = record {
   map = option_and_then map_in source;
   list = option_and_then list_in source;
@@ -88,7 +77,7 @@ files_named source flows = record {
   flows = flows;
 }
 
-abbrev pub files_of : Request → FileNames
+abbrev pub files_of : Request → ByFile (Option Text)
 files_of (label source address) = files_named (Some source) None
 files_of (info flows) = files_named None (Some flows)
 files_of (rows source condition columns flows) = files_named source (Some flows)
@@ -98,14 +87,22 @@ files_of (shrink map printed) = files_named (Some (FromMap map)) None
 files_of (check map list certificate) = record { map = Some map; list = Some list; certificate = Some certificate; flows = None }
 files_of (recert certificate) = record { map = None; list = None; certificate = Some certificate; flows = None }
 
--- the inputs that are read are those whose files have names
-abbrev pub needs_named : FileNames → Needs
-needs_named names = record {
-  map = is_some names.map;
-  list = is_some names.list;
-  certificate = is_some names.certificate;
-  flows = is_some names.flows;
-}
+-- a request reads the files that it names
+abbrev pub needs_of : Request → ByFile Bool
+needs_of request = each is_some (files_of request)
 
-abbrev pub needs_of : Request → Needs
-needs_of request = needs_named (files_of request)
+-- the request with the texts of its files in place of their names
+abbrev pub source_with : ByFile Text → LabelSource → LabelSource
+source_with texts (FromMap file) = FromMap texts.map
+source_with texts (FromList file) = FromList texts.list
+
+abbrev pub with_texts : ByFile Text → Request → Request
+with_texts texts (label source address) = label (source_with texts source) address
+with_texts texts (info flows) = info texts.flows
+with_texts texts (rows source condition columns flows) = rows (option_map (source_with texts) source) condition columns texts.flows
+with_texts texts (uniq fields source condition sorted columns flows) =
+    uniq fields (option_map (source_with texts) source) condition sorted columns texts.flows
+with_texts texts (cat source) = cat (source_with texts source)
+with_texts texts (shrink map printed) = shrink texts.map printed
+with_texts texts (check map list certificate) = check texts.map texts.list texts.certificate
+with_texts texts (recert certificate) = recert texts.certificate

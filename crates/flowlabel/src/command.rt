@@ -1,6 +1,7 @@
 ghost use Rattle.std.specs.Prelude.{◌≡◌, option_map};
 ghost use Rattle.flowlabel.specs.Request.{files_named, files_of, names_of, needs_of, request_of, source_of};
 
+use crate::by_file::ByFile;
 use flow_filter::Filter;
 use flow_uniq::Keys;
 use prefix_keys::Addr;
@@ -74,49 +75,30 @@ pub enum Command<'a> {
     },
 }
 
-/// The inputs that a command reads.
-#[derive(Clone, Copy)]
-pub struct Needs {
-    pub map: bool,
-    pub list: bool,
-    pub certificate: bool,
-    pub flows: bool,
-}
-
-/// The names of the files that a command reads, as on the command line.
-#[derive(Clone, Copy)]
-pub struct Files<'a> {
-    pub map: Option<&'a str>,
-    pub list: Option<&'a str>,
-    pub certificate: Option<&'a str>,
-    pub flows: Option<&'a str>,
-}
-
-impl<'a> Files<'a> {
-    fn named(labels: Option<LabelFile<'a>>, flows: Option<&'a str>) -> Files<'a>
-        ensures { names_of result ≡ files_named (option_map source_of labels.entry) (option_map (λ s. s.now) flows.entry) }
-    {
-        let (map, list) = match labels {
-            None => (None, None),
-            Some(LabelFile::Map(file)) => (Some(file), None),
-            Some(LabelFile::List(file)) => (None, Some(file)),
-        };
-        Files {
-            map,
-            list,
-            certificate: None,
-            flows,
-        }
+// The files of a command that may name labels and flows.
+fn files_named<'a>(labels: Option<LabelFile<'a>>, flows: Option<&'a str>) -> ByFile<Option<&'a str>>
+    ensures { names_of result ≡ files_named (option_map source_of labels.entry) (option_map (λ s. s.now) flows.entry) }
+{
+    let (map, list) = match labels {
+        None => (None, None),
+        Some(LabelFile::Map(file)) => (Some(file), None),
+        Some(LabelFile::List(file)) => (None, Some(file)),
+    };
+    ByFile {
+        map,
+        list,
+        certificate: None,
+        flows,
     }
 }
 
 impl<'a> Command<'a> {
     /// Returns which inputs the command reads.
-    pub fn needs(&self) -> Needs
+    pub fn needs(&self) -> ByFile<bool>
         ensures { result ≡ needs_of (request_of self.now) }
     {
         let files = self.files();
-        Needs {
+        ByFile {
             map: files.map.is_some(),
             list: files.list.is_some(),
             certificate: files.certificate.is_some(),
@@ -125,27 +107,27 @@ impl<'a> Command<'a> {
     }
 
     /// Returns the names of the files that the command reads, one for each input that it needs.
-    pub fn files(&self) -> Files<'a>
+    pub fn files(&self) -> ByFile<Option<&'a str>>
         ensures { names_of result ≡ files_of (request_of self.now) }
     {
         match self {
-            Command::Label { labels, .. } => Files::named(Some(*labels), None),
-            Command::Info { flows } => Files::named(None, Some(flows)),
-            Command::Rows { labels, flows, .. } => Files::named(*labels, Some(flows)),
-            Command::Uniq { labels, flows, .. } => Files::named(*labels, Some(flows)),
-            Command::Cat { labels } => Files::named(Some(*labels), None),
-            Command::Shrink { map, .. } => Files::named(Some(LabelFile::Map(map)), None),
+            Command::Label { labels, .. } => files_named(Some(*labels), None),
+            Command::Info { flows } => files_named(None, Some(flows)),
+            Command::Rows { labels, flows, .. } => files_named(*labels, Some(flows)),
+            Command::Uniq { labels, flows, .. } => files_named(*labels, Some(flows)),
+            Command::Cat { labels } => files_named(Some(*labels), None),
+            Command::Shrink { map, .. } => files_named(Some(LabelFile::Map(map)), None),
             Command::Check {
                 map,
                 list,
                 certificate,
-            } => Files {
+            } => ByFile {
                 map: Some(map),
                 list: Some(list),
                 certificate: Some(certificate),
                 flows: None,
             },
-            Command::Recert { certificate } => Files {
+            Command::Recert { certificate } => ByFile {
                 map: None,
                 list: None,
                 certificate: Some(certificate),

@@ -1,10 +1,8 @@
-ghost use Rattle.std.specs.Prelude.{◌≡◌, IfOk, false};
+ghost use Rattle.std.specs.Prelude.{◌≡◌, IfOk};
 ghost use Rattle.std.specs.String.{string_bytes};
-ghost use Rattle.flowlabel.specs.BytesFault.{is_answer_of_calls};
-ghost use Rattle.flowlabel.specs.Faults.{IsInFile, exit_status_of, fault_text, filter_fault_text, key_fault_text, option_text, place_text, status_of, usage_fault_text};
+ghost use Rattle.flowlabel.specs.Faults.{exit_status_of, fault_text, filter_fault_text, key_fault_text, option_text, place_text, status_of, usage_fault_text};
 
 use crate::bytes_fault::BytesFault;
-use crate::file_fault::FileFault;
 use crate::usage::UsageFault;
 use flow_filter::FilterFaultKind;
 use flow_uniq::KeyFault;
@@ -24,21 +22,7 @@ pub enum RunFault<'a> {
     /// An allocation failed.
     NoMemory,
     /// The bytes of a file have a fault.
-    File(FileFault<'a>),
-}
-
-impl<'a> RunFault<'a> {
-    /// Returns the run's fault for a fault of a file's bytes. Out of memory becomes `NoMemory`, without the file.
-    pub fn in_file(file: &'a str, fault: BytesFault) -> RunFault<'a>
-        requires { is_answer_of_calls fault ≡ false }
-        ensures { IsInFile file.now fault result }
-    {
-        if fault.is_want_of_memory() {
-            RunFault::NoMemory
-        } else {
-            RunFault::File(FileFault { file, fault })
-        }
-    }
+    File { file: &'a str, fault: BytesFault },
 }
 
 impl<'a> From<AllocError> for RunFault<'a> {
@@ -124,9 +108,7 @@ fn line_of(alloc: Global, fault: &RunFault<'_>) -> Result<String, AllocError>
         RunFault::CannotRead(file) => format!(in alloc; "flowlabel: {file}: cannot read\n"),
         RunFault::CannotWrite => String::from_str(alloc, "flowlabel: output: cannot write\n"),
         RunFault::NoMemory => String::from_str(alloc, OUT_OF_MEMORY),
-        RunFault::File(fault) => {
-            place_line(alloc, fault.file, fault.fault.name(), fault.fault.place())
-        }
+        RunFault::File { file, fault } => place_line(alloc, file, fault.name(), fault.place()),
     }
 }
 
@@ -148,7 +130,7 @@ pub fn status(fault: &RunFault<'_>) -> u8
         RunFault::Usage(_) => 2,
         RunFault::CannotOpen(_) | RunFault::CannotRead(_) | RunFault::CannotWrite => 4,
         RunFault::NoMemory => 3,
-        RunFault::File(_) => 1,
+        RunFault::File { .. } => 1,
     }
 }
 

@@ -10,39 +10,40 @@
 //! files that the line names, and `run` reads them, makes the whole output and then writes it. Rely on the contract of
 //! `run`: the bytes written are a stated function of the bytes read, a fault is the first one of those bytes, only a
 //! write fault leaves anything written, and device faults come exactly from failed devices. `execute` joins the three.
-//! By its contract it runs the request of the words over the files that they name. `ending_of` returns the text and the
-//! status of an outcome, and `end` writes the text. Tests of the program show that the two streams and the status are
-//! the system's.
+//! By its contract it runs the request of the words over the files that they name. `end` writes help or the line of a
+//! fault, and returns the status. Tests of the program show that the two streams and the status are the system's.
 #![tactic(auto)]
 
-ghost use Rattle.std.specs.Prelude.{◌≡◌, false, map, IfOk, OnOk};
+ghost use Rattle.std.specs.Prelude.{◌≡◌, false, map, IfOk};
+ghost use Rattle.std.specs.Result.{result_map_both};
+ghost use Rattle.std.specs.String.{string_bytes};
 ghost use Rattle.std.specs.Vec.Iter.{into_iter_items};
-ghost use Rattle.flow_io.specs.declared.last_call.LastCall.TheVariants.{Flush};
-ghost use Rattle.flowlabel.specs.Ending.{IsEndOf};
-ghost use Rattle.flowlabel.specs.Run.{is_write_stop};
+ghost use Rattle.flowlabel.specs.Ending.{IsEndOf, IsProgram};
 
+mod by_file;
 mod bytes_fault;
 mod command;
 mod definition;
 mod ending;
 mod fault;
-mod file_fault;
-mod in_memory;
 mod inputs;
 mod opening;
+mod output_fault;
 mod run;
 mod usage;
 mod words;
 
-use ending::{end, ending_of};
+use ending::end;
 use fault::RunFault;
 use flow_io::{Output, Watched};
+use inputs::Inputs;
 use opening::{Opener, open_all};
 use pmap_text::KeyHashing;
-use run::run_with_hashing;
+use run::run;
 use std::alloc::{AllocError, Global};
 use std::convert::AsStr;
 use std::env;
+use std::io::ErrorKind;
 use std::process::ExitCode;
 use usage::UsageFault;
 use words::{parse, words_fault};
@@ -58,14 +59,7 @@ fn listed(alloc: Global, words: env::Args) -> Result<Vec<String>, AllocError>
     Ok(list)
 }
 
-fn arguments(rt: &HostRuntime) -> Result<Vec<String>, UsageFault> {
-    match env::args(rt) {
-        Ok(words) => Ok(listed(rt.alloc(), words)?),
-        Err(error) => Err(words_fault(error.kind())),
-    }
-}
-
-// Runs the command that the words ask for over the files that they name. Labels and groups are hashed by `hashing`.
+// Runs the command that the words ask for over the files that they name.
 fn execute<'a, S: AsStr, O: Opener, W: Output>(
     alloc: Global,
     words: &'a [S],
@@ -74,35 +68,55 @@ fn execute<'a, S: AsStr, O: Opener, W: Output>(
     hashing: KeyHashing,
 ) -> Result<(), RunFault<'a>>
     requires { W.failed output.old ≡ false }
-    ensures end { IsEndOf (O.answers opener.now) O.Reader.bytes_left O.Reader.failed W.bytes_taken W.last_call
+    ensures { IsEndOf (O.answers opener.now) O.Reader.bytes_left O.Reader.failed W.bytes_taken W.last_call W.failed
         (map S.text words.entry.now) output.old output.new result }
-    ensures flushed { OnOk result (W.last_call output.new ≡ Flush) }
-    ensures write_fault { W.failed output.new ≡ is_write_stop result }
 {
     let command = match parse(alloc, words) {
         Ok(command) => command,
         Err(fault) => return Err(RunFault::Usage(fault)),
     };
-    let mut inputs = open_all(opener, command.files())?;
-    run_with_hashing(alloc, &command, &mut inputs, output, hashing)
+    let files = open_all(opener, command.files())?;
+    let mut inputs = Inputs { files, hashing };
+    run(alloc, &command, &mut inputs, output)
 }
 
-fn answer(rt: &HostRuntime) -> u8 {
-    let alloc = rt.alloc();
-    let mut output = Watched::new(rt.stdout());
-    let mut error = Watched::new(rt.stderr());
-    let arguments = match arguments(rt) {
-        Ok(arguments) => arguments,
-        Err(fault) => {
-            let outcome = Err(RunFault::Usage(fault));
-            return end(&ending_of(alloc, &outcome), &mut output, &mut error);
-        }
+// The program: executes the words, or reports the error of getting them, and returns the exit status. Labels and groups
+// are hashed by `hashing`.
+fn program<O: Opener, W: Output, E: Output>(
+    alloc: Global,
+    words: Result<env::Args, ErrorKind>,
+    opener: &O,
+    output: &mut W,
+    error: &mut E,
+    hashing: KeyHashing,
+) -> u8
+    requires output { W.failed output.old ≡ false }
+    requires error { E.failed error.old ≡ false }
+    ensures { IsProgram (O.answers opener.now) O.Reader.bytes_left O.Reader.failed W.bytes_taken W.last_call W.failed
+        E.bytes_taken E.last_call E.failed
+        (result_map_both (λ args. map string_bytes (into_iter_items args)) (λ kind. kind) words) output.old output.new error.old error.new result }
+{
+    let list;
+    let outcome = match words {
+        Ok(words) => match listed(alloc, words) {
+            Ok(words) => {
+                list = words;
+                execute(alloc, list.as_slice(), opener, output, hashing)
+            }
+            Err(_) => Err(RunFault::Usage(UsageFault::NoMemory)),
+        },
+        Err(kind) => Err(RunFault::Usage(words_fault(kind))),
     };
-    let hashing = KeyHashing::drawn(rt);
-    let outcome = execute(alloc, arguments.as_slice(), rt, &mut output, hashing);
-    end(&ending_of(alloc, &outcome), &mut output, &mut error)
+    end(alloc, &outcome, output, error)
 }
 
 fn main(rt: HostRuntime) -> ExitCode {
-    ExitCode::from(answer(&rt))
+    ExitCode::from(program(
+        rt.alloc(),
+        env::args(&rt).map_err(|error| error.kind()),
+        &rt,
+        &mut Watched::new(rt.stdout()),
+        &mut Watched::new(rt.stderr()),
+        KeyHashing::drawn(&rt),
+    ))
 }

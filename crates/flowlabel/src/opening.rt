@@ -1,12 +1,12 @@
 //! Opens the files that a command line names.
 ghost use Rattle.std.specs.Prelude.{◌≡◌, false, IfErr, IfOk, IfSome, List, Option, ℕ, option_map};
-ghost use Rattle.flowlabel.specs.Inner.{AreOpened, CannotOpenFirst, CannotOpenNamed, CanOpen, HaveNames, IsOpened};
+ghost use Rattle.flowlabel.specs.Opening.{AreOpened, CannotOpenFirst, CannotOpenNamed, IsOpened};
 ghost use Rattle.flowlabel.specs.Request.{names_of};
-ghost use Rattle.flowlabel.specs.Run.{any_failed, name_of, source_failed};
+ghost use Rattle.flowlabel.specs.Run.{any_failed, source_failed};
 
-use crate::command::Files;
+use crate::by_file::ByFile;
 use crate::fault::RunFault;
-use crate::inputs::{Inputs, Source};
+use crate::inputs::Source;
 use flow_io::{Buffered, Input, Watched};
 use std::fs::File;
 
@@ -39,9 +39,7 @@ fn open<'a, O: Opener>(
     opener: &O,
     name: Option<&'a str>,
 ) -> Result<Option<Source<'a, O::Reader>>, RunFault<'a>>
-    ensures named { IfOk result (λ source. name_of source ≡ option_map (λ s. s.now) name.entry) }
-    ensures opened { IfOk result (IsOpened (O.answers opener.now)) }
-    ensures can { IfOk result (λ _. CanOpen (O.answers opener.now) (option_map (λ s. s.now) name.entry)) }
+    ensures opened { IfOk result (IsOpened (O.answers opener.now) (option_map (λ s. s.now) name.entry)) }
     ensures fresh { IfOk result (λ source. source_failed O.Reader.failed source ≡ false) }
     ensures err { IfErr result (CannotOpenNamed (O.answers opener.now) (option_map (λ s. s.now) name.entry)) }
 {
@@ -61,17 +59,16 @@ fn open<'a, O: Opener>(
 /// `CannotOpen` with the name of the first file that can't be opened.
 pub fn open_all<'a, O: Opener>(
     opener: &O,
-    files: Files<'a>,
-) -> Result<Inputs<'a, O::Reader>, RunFault<'a>>
-    ensures named { IfOk result (HaveNames (names_of files.entry)) }
-    ensures opened { IfOk result (AreOpened (O.answers opener.now)) }
-    ensures fresh { IfOk result (λ inputs. any_failed O.Reader.failed inputs ≡ false) }
-    ensures err { IfErr result (CannotOpenFirst (O.answers opener.now) (names_of files.entry)) }
+    names: ByFile<Option<&'a str>>,
+) -> Result<ByFile<Option<Source<'a, O::Reader>>>, RunFault<'a>>
+    ensures opened { IfOk result (AreOpened (O.answers opener.now) (names_of names.entry)) }
+    ensures fresh { IfOk result (λ files. any_failed O.Reader.failed files ≡ false) }
+    ensures err { IfErr result (CannotOpenFirst (O.answers opener.now) (names_of names.entry)) }
 {
-    Ok(Inputs {
-        map: open(opener, files.map)?,
-        list: open(opener, files.list)?,
-        certificate: open(opener, files.certificate)?,
-        flows: open(opener, files.flows)?,
+    Ok(ByFile {
+        map: open(opener, names.map)?,
+        list: open(opener, names.list)?,
+        certificate: open(opener, names.certificate)?,
+        flows: open(opener, names.flows)?,
     })
 }

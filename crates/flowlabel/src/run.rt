@@ -1,12 +1,14 @@
-ghost use Rattle.std.specs.Prelude.{◌≡◌, ℕ, List, Ok, false, IfErr, IfOk};
-ghost use Rattle.flowlabel.specs.Inner.{ArePresent, ComesOf, IsFaultOfAnswer};
-ghost use Rattle.flowlabel.specs.Output.{FileTexts, IsOutput};
-ghost use Rattle.flowlabel.specs.Request.{needs_of, request_of};
-ghost use Rattle.flowlabel.specs.Run.{any_failed, is_read_stop, AreNeeded, HasText, HaveTexts, IsFaultOfBytes, IsRunOf};
+ghost use Rattle.std.specs.Prelude.{◌≡◌, false};
+ghost use Rattle.flowlabel.specs.Output.{IsOutput};
+ghost use Rattle.flowlabel.specs.Reports.{IsMade};
+ghost use Rattle.flowlabel.specs.Request.{request_of, with_texts};
+ghost use Rattle.flowlabel.specs.Run.{any_failed, IsRunOf};
 
-use crate::command::Command;
+use crate::by_file::{ByFile, Role};
+use crate::command::{Command, LabelFile};
 use crate::fault::RunFault;
-use crate::inputs::Inputs;
+use crate::inputs::{Inputs, Source};
+use crate::output_fault::OutputFault;
 use flow_io::{Input, Output, WriteFault, write_whole};
 use pmap_text::KeyHashing;
 use std::alloc::Global;
@@ -15,106 +17,81 @@ mod cat;
 mod check;
 mod info;
 mod label;
+mod labels;
 mod laws;
-mod loaded;
-mod loading;
+mod reading;
 mod recert;
 mod report;
 mod rows;
 mod shrink;
 mod uniq;
 
-use cat::runs_text;
-use check::check_loaded;
-use info::InfoReport;
-use label::label_line;
-pub use laws::{
-    check_accepts_minimal, check_is_enough, has_output, minimal_pair_is_shortest, one_output,
-    output_keeps_headline, recert_is_as_good, same_under_equivalents, shrunk_list_is_least,
-};
-use loaded::Loaded;
-use loading::load;
-use recert::recert_text;
-use report::report_under;
-use rows::RowsReport;
-use shrink::shrunk_text;
-use uniq::UniqReport;
+pub use laws::{one_output, output_keeps_headline, shrunk_list_is_least};
+use reading::read;
 
-// Returns the output of a command over its loaded files and its flows, which are read here if it needs them. A map that
-// is only shrunk is taken out of `loaded`.
-fn answer<'a, R: Input>(
+// Returns the output of a command over its files, which are read here: the map, the list, the certificate, the flows.
+fn output<R: Input>(
     alloc: Global,
     command: &Command<'_>,
-    loaded: &mut Loaded,
-    inputs: &mut Inputs<'a, R>,
+    files: &mut ByFile<Option<Source<'_, R>>>,
     hashing: KeyHashing,
-) -> Result<Vec<u8>, RunFault<'a>>
-    requires needed { AreNeeded (needs_of (request_of command.now)) inputs.old }
-    requires present { ArePresent (needs_of (request_of command.now)) loaded.old }
-    requires readers { any_failed R.failed inputs.old ≡ false }
-    ensures ok { IfOk result (λ out. (bytes : List ℕ) → HasText R.bytes_left inputs.old.flows bytes
-        → ComesOf (request_of command.now) loaded.old bytes (Ok out.items)) }
-    ensures err { IfErr result (IsFaultOfAnswer R.bytes_left R.failed inputs.old inputs.new
-        (ComesOf (request_of command.now) loaded.old)) }
-    ensures failed { any_failed R.failed inputs.new ≡ is_read_stop result }
+) -> Result<Vec<u8>, OutputFault>
+    requires { any_failed R.failed files.old ≡ false }
+    ensures { IsMade R.bytes_left R.failed (λ texts. IsOutput (with_texts texts (request_of command.now))) files.old files.new
+        result }
 {
     match command {
-        Command::Label { addr, .. } => Ok(label_line(alloc, loaded.labels().unwrap(), *addr)?),
-        Command::Info { .. } => report_under(alloc, None, inputs, &InfoReport),
+        Command::Label { labels, addr } => match labels {
+            LabelFile::Map(_) => {
+                let map = read(alloc, Role::Map, files)?;
+                label::under_map(alloc, map, *addr, hashing)
+            }
+            LabelFile::List(_) => {
+                let list = read(alloc, Role::List, files)?;
+                label::under_list(alloc, list, *addr, hashing)
+            }
+        },
+        Command::Info { .. } => info::output(alloc, files),
         Command::Rows {
+            labels,
             filter,
             columns,
             ..
-        } => {
-            let columns = *columns;
-            let report = RowsReport { filter, columns };
-            report_under(alloc, loaded.labels(), inputs, &report)
-        }
+        } => rows::output(alloc, *labels, files, filter, *columns, hashing),
         Command::Uniq {
             keys,
+            labels,
             filter,
             sorted,
             columns,
             ..
-        } => {
-            let report = UniqReport {
-                keys,
-                filter,
-                sorted: *sorted,
-                columns: *columns,
-                hashing,
-            };
-            report_under(alloc, loaded.labels(), inputs, &report)
-        }
-        Command::Cat { .. } => Ok(runs_text(alloc, loaded.labels().unwrap())?),
+        } => uniq::output(
+            alloc, keys, *labels, files, filter, *sorted, *columns, hashing,
+        ),
+        Command::Cat { labels } => match labels {
+            LabelFile::Map(_) => {
+                let map = read(alloc, Role::Map, files)?;
+                cat::under_map(alloc, map, hashing)
+            }
+            LabelFile::List(_) => {
+                let list = read(alloc, Role::List, files)?;
+                cat::under_list(alloc, list, hashing)
+            }
+        },
         Command::Shrink { printed, .. } => {
-            Ok(shrunk_text(alloc, loaded.map.take().unwrap(), *printed)?)
+            let map = read(alloc, Role::Map, files)?;
+            shrink::output(alloc, map, *printed, hashing)
         }
-        Command::Check { .. } => check_loaded(alloc, loaded, inputs),
-        Command::Recert { .. } => Ok(recert_text(alloc, loaded.certificate.as_ref().unwrap())?),
+        Command::Check { .. } => check::output(alloc, files, hashing),
+        Command::Recert { .. } => {
+            let certificate = read(alloc, Role::Certificate, files)?;
+            recert::output(alloc, certificate, hashing)
+        }
     }
 }
 
-fn output<'a, R: Input>(
-    alloc: Global,
-    command: &Command<'_>,
-    inputs: &mut Inputs<'a, R>,
-    hashing: KeyHashing,
-) -> Result<Vec<u8>, RunFault<'a>>
-    requires needed { AreNeeded (needs_of (request_of command.now)) inputs.old }
-    requires readers { any_failed R.failed inputs.old ≡ false }
-    ensures ok { IfOk result (λ out. (texts : FileTexts) → HaveTexts R.bytes_left inputs.old texts
-        → IsOutput (request_of command.now) texts (Ok out.items)) }
-    ensures err { IfErr result (IsFaultOfBytes R.bytes_left R.failed inputs.old inputs.new (IsOutput (request_of command.now))) }
-    ensures failed { any_failed R.failed inputs.new ≡ is_read_stop result }
-{
-    let mut loaded = load(alloc, inputs, hashing)?;
-    answer(alloc, command, &mut loaded, inputs, hashing)
-}
-
-/// Runs a command: reads its inputs, makes the whole output, writes it, and flushes the writer last. The map, the list
-/// and the certificate are each read whole and decoded, in this order. The flows are last, and are read message by
-/// message.
+/// Runs a command: reads its inputs, makes the whole output, and then writes it and flushes once. The map, the list and
+/// the certificate are each read whole and decoded, in this order. The flows are last, and are read message by message.
 ///
 /// # Errors
 ///
@@ -127,32 +104,18 @@ pub fn run<'a, R: Input, W: Output>(
     inputs: &mut Inputs<'a, R>,
     writer: &mut W,
 ) -> Result<(), RunFault<'a>>
-    requires needed { AreNeeded (needs_of (request_of command.now)) inputs.old }
-    requires readers { any_failed R.failed inputs.old ≡ false }
+    requires readers { any_failed R.failed inputs.old.files ≡ false }
     requires writer { W.failed writer.old ≡ false }
-    ensures { IsRunOf R.bytes_left R.failed W.bytes_taken W.last_call W.failed (request_of command.now) inputs.old inputs.new
-        writer.old writer.new result }
-{
-    run_with_hashing(alloc, command, inputs, writer, KeyHashing::known())
-}
-
-/// Like [`run`], but hashes labels and groups by `hashing`. What is written doesn't depend on it.
-pub fn run_with_hashing<'a, R: Input, W: Output>(
-    alloc: Global,
-    command: &Command<'_>,
-    inputs: &mut Inputs<'a, R>,
-    writer: &mut W,
-    hashing: KeyHashing,
-) -> Result<(), RunFault<'a>>
-    requires needed { AreNeeded (needs_of (request_of command.now)) inputs.old }
-    requires readers { any_failed R.failed inputs.old ≡ false }
-    requires writer { W.failed writer.old ≡ false }
-    ensures { IsRunOf R.bytes_left R.failed W.bytes_taken W.last_call W.failed (request_of command.now) inputs.old inputs.new
+    ensures { IsRunOf R.bytes_left R.failed W.bytes_taken W.last_call W.failed (request_of command.now) inputs.old.files inputs.new.files
         writer.old writer.new result }
 {
     // Provides the law that each output keeps the headline.
     output_keeps_headline();
-    let out = output(alloc, command, inputs, hashing)?;
+    let names = inputs.names();
+    let out = match output(alloc, command, &mut inputs.files, inputs.hashing) {
+        Ok(out) => out,
+        Err(fault) => return Err(fault.named(&names)),
+    };
     match write_whole(writer, out.as_slice()) {
         Ok(()) => Ok(()),
         Err(WriteFault) => Err(RunFault::CannotWrite),

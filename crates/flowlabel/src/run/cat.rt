@@ -1,40 +1,31 @@
 //! The output of `cat`.
-ghost use Rattle.std.specs.Prelude.{IfOk, Ok};
-ghost use Rattle.pmap_text.specs.MapText.{map_of};
-ghost use Rattle.pmap_text.specs.PrefixList.{list_of};
-ghost use Rattle.label_lookup.specs.Labelling.{labelling_of_list, labelling_of_map};
-ghost use Rattle.flowlabel.specs.Inner.{labelling_of_either};
-ghost use Rattle.flowlabel.specs.Output.{PrintsRuns};
+ghost use Rattle.flowlabel.specs.Output.{IsOutput, Returns};
+ghost use Rattle.flowlabel.specs.Request.{FromList, FromMap, cat};
 
-use crate::run::loaded::LoadedLabels;
+use crate::output_fault::OutputFault;
+use crate::run::reading::{list_in, map_in};
 use pmap_print::{labelling_has_one_runs_text, print_runs};
-use pmap_text::{MapText, PrefixList, Stretches};
-use std::alloc::{AllocError, Global};
+use pmap_text::{KeyHashing, Stretches};
+use std::alloc::Global;
 
-fn runs_of_map(alloc: Global, map: &MapText) -> Result<Vec<u8>, AllocError>
-    ensures { IfOk result (λ out. PrintsRuns (labelling_of_map (map_of map.now)) (Ok out.items)) }
+/// Returns the ranges of addresses with the same label under the text of a map.
+pub fn under_map(alloc: Global, text: Vec<u8>, hashing: KeyHashing) -> Result<Vec<u8>, OutputFault>
+    ensures { Returns (IsOutput (cat (FromMap text.items))) result }
 {
     // Provides the law that labellings that agree on each address have one text of their runs.
     labelling_has_one_runs_text();
-    let stretches = Stretches::of_map(alloc, map)?;
-    print_runs(alloc, &stretches, &map.labels)
+    let map = map_in(alloc, text, hashing)?;
+    let stretches = Stretches::of_map(alloc, &map)?;
+    Ok(print_runs(alloc, &stretches, &map.labels)?)
 }
 
-fn runs_of_list(alloc: Global, list: &PrefixList) -> Result<Vec<u8>, AllocError>
-    ensures { IfOk result (λ out. PrintsRuns (labelling_of_list (list_of list.now)) (Ok out.items)) }
+/// Like [`under_map`], under the text of a list.
+pub fn under_list(alloc: Global, text: Vec<u8>, hashing: KeyHashing) -> Result<Vec<u8>, OutputFault>
+    ensures { Returns (IsOutput (cat (FromList text.items))) result }
 {
     // Provides the law that labellings that agree on each address have one text of their runs.
     labelling_has_one_runs_text();
-    let stretches = Stretches::of_list(alloc, list)?;
-    print_runs(alloc, &stretches, &list.labels)
-}
-
-/// Returns the text of the runs of addresses with the same label under a map or a list.
-pub fn runs_text(alloc: Global, labels: LoadedLabels<'_>) -> Result<Vec<u8>, AllocError>
-    ensures { IfOk result (λ out. PrintsRuns (labelling_of_either labels.entry) (Ok out.items)) }
-{
-    match labels {
-        LoadedLabels::Map(map) => runs_of_map(alloc, map),
-        LoadedLabels::List(list) => runs_of_list(alloc, list),
-    }
+    let list = list_in(alloc, text, hashing)?;
+    let stretches = Stretches::of_list(alloc, &list)?;
+    Ok(print_runs(alloc, &stretches, &list.labels)?)
 }

@@ -1,50 +1,46 @@
 //! The output of `info`.
-use crate::run::report::Report;
+ghost use Rattle.std.specs.Prelude.{◌≡◌, [], false};
+ghost use Rattle.flowlabel.specs.Output.{IsOutput};
+ghost use Rattle.flowlabel.specs.Reports.{IsMade};
+ghost use Rattle.flowlabel.specs.Request.{info, with_texts};
+ghost use Rattle.flowlabel.specs.Run.{any_failed};
+
+use crate::by_file::ByFile;
+use crate::inputs::Source;
+use crate::output_fault::OutputFault;
+use crate::run::report::{Report, take_messages};
+use flow_io::Input;
 use flow_rows::Counts;
 use ipfix_read::Message;
-use label_lookup::Labeller;
 use pmap_print::print_info;
 use std::alloc::{AllocError, Global};
 
-/// The report of `info`: counts of the messages and of what they have.
 #[derive(Clone, Copy)]
-pub struct InfoReport;
+struct InfoReport;
 
 impl Report for InfoReport {
     ghost use Rattle.std.specs.Prelude.{◌≡◌};
     ghost use Rattle.flow_rows.specs.Counts.{counts_of, counts_view};
-    ghost use Rattle.pmap_print.specs.Reports.{info_text};
 
     type Taken = Counts;
 
-    ghost text = { λ report labels messages. info_text (counts_of messages) };
+    ghost is_of = { λ report messages counts. counts_view counts ≡ counts_of messages };
 
-    ghost is_of = { λ report labels messages counts. counts_view counts ≡ counts_of messages };
-
-    fn begin<L: Labeller>(
-        &self,
-        _alloc: Global,
-        _labels: Option<&L>,
-    ) -> Result<Counts, AllocError> {
-        Ok(Counts::new())
-    }
-
-    fn take<L: Labeller>(
-        &self,
-        counts: &mut Counts,
-        message: &Message<'_>,
-        _labels: Option<&L>,
-    ) -> Result<(), AllocError> {
+    fn take(&self, counts: &mut Counts, message: &Message<'_>) -> Result<(), AllocError> {
         counts.add(message);
         Ok(())
     }
+}
 
-    fn finish<L: Labeller>(
-        &self,
-        alloc: Global,
-        counts: Counts,
-        _labels: Option<&L>,
-    ) -> Result<Vec<u8>, AllocError> {
-        print_info(alloc, &counts)
-    }
+/// Returns the counts of the messages of a File and of what they have.
+pub fn output<R: Input>(
+    alloc: Global,
+    files: &mut ByFile<Option<Source<'_, R>>>,
+) -> Result<Vec<u8>, OutputFault>
+    requires { any_failed R.failed files.old ≡ false }
+    ensures { IsMade R.bytes_left R.failed (λ texts. IsOutput (with_texts texts (info []))) files.old files.new result }
+{
+    let mut counts = Counts::new();
+    take_messages(alloc, &mut files.flows, &InfoReport, &mut counts)?;
+    Ok(print_info(alloc, &counts)?)
 }

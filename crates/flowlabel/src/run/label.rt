@@ -1,11 +1,13 @@
 //! The output of `label`.
 ghost use Rattle.std.specs.Prelude.{◌≡◌, ◌++◌, ◌∷◌, [], IfOk, option_map, unwrap_or};
 ghost use Rattle.label_lookup.specs.Labelling.{labelling};
-ghost use Rattle.flowlabel.specs.Inner.{labelling_of_either};
-ghost use Rattle.flowlabel.specs.Output.{label_text};
+ghost use Rattle.flowlabel.specs.Output.{IsOutput, Returns, label_text};
+ghost use Rattle.flowlabel.specs.Request.{FromList, FromMap, label};
 
-use crate::run::loaded::LoadedLabels;
+use crate::output_fault::OutputFault;
+use crate::run::reading::{list_in, map_in};
 use label_lookup::{Labeller, ListScan, Scan};
+use pmap_text::KeyHashing;
 use prefix_keys::{Addr, convert};
 use std::alloc::{AllocError, Global};
 
@@ -30,17 +32,29 @@ fn line_by<L: Labeller>(alloc: Global, labels: &L, addr: Addr) -> Result<Vec<u8>
     }
 }
 
-/// Returns the line of the label that a map or a list gives an address. It searches all statements or entries once,
-/// which takes less time than building an index.
-pub fn label_line(
+/// Returns the line of the label that the text of a map gives an address. It searches all statements once, which takes
+/// less time than building an index.
+pub fn under_map(
     alloc: Global,
-    labels: LoadedLabels<'_>,
+    text: Vec<u8>,
     addr: Addr,
-) -> Result<Vec<u8>, AllocError>
-    ensures { IfOk result (λ out. out.items ≡ label_text (addr.version, addr.value) (labelling_of_either labels.entry)) }
+    hashing: KeyHashing,
+) -> Result<Vec<u8>, OutputFault>
+    ensures { Returns (IsOutput (label (FromMap text.items) (addr.version, addr.value))) result }
 {
-    match labels {
-        LoadedLabels::Map(map) => line_by(alloc, &Scan::new(map), addr),
-        LoadedLabels::List(list) => line_by(alloc, &ListScan::new(list), addr),
-    }
+    let map = map_in(alloc, text, hashing)?;
+    Ok(line_by(alloc, &Scan::new(&map), addr)?)
+}
+
+/// Like [`under_map`], under the text of a list.
+pub fn under_list(
+    alloc: Global,
+    text: Vec<u8>,
+    addr: Addr,
+    hashing: KeyHashing,
+) -> Result<Vec<u8>, OutputFault>
+    ensures { Returns (IsOutput (label (FromList text.items) (addr.version, addr.value))) result }
+{
+    let list = list_in(alloc, text, hashing)?;
+    Ok(line_by(alloc, &ListScan::new(&list), addr)?)
 }

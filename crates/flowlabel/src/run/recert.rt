@@ -1,15 +1,18 @@
 //! The output of `recert`.
-ghost use Rattle.std.specs.Prelude.{Ok, IfOk};
-ghost use Rattle.pmap_cert.specs.Certificate.{certificate_of};
-ghost use Rattle.flowlabel.specs.Output.{PrintsCompact};
+ghost use Rattle.flowlabel.specs.Output.{IsOutput, Returns};
+ghost use Rattle.flowlabel.specs.Request.{recert};
 
-use pmap_cert::{Certificate, compact, write_cert};
-use std::alloc::{AllocError, Global};
+use crate::output_fault::OutputFault;
+use crate::run::reading::certificate_in;
+use pmap_cert::{compact, write_cert};
+use pmap_text::KeyHashing;
+use std::alloc::Global;
 
-/// The text of a certificate compacted.
-pub fn recert_text(alloc: Global, certificate: &Certificate) -> Result<Vec<u8>, AllocError>
-    ensures { IfOk result (λ out. PrintsCompact (certificate_of certificate.now) (Ok out.items)) }
+/// Returns the text of a certificate's text, compacted.
+pub fn output(alloc: Global, text: Vec<u8>, hashing: KeyHashing) -> Result<Vec<u8>, OutputFault>
+    ensures { Returns (IsOutput (recert text.items)) result }
 {
-    let compacted = compact(alloc, certificate)?;
-    write_cert(alloc, &compacted)
+    let certificate = certificate_in(alloc, text, hashing)?;
+    let compacted = compact(alloc, &certificate)?;
+    Ok(write_cert(alloc, &compacted)?)
 }

@@ -1,21 +1,31 @@
 //! The output of `shrink`.
-ghost use Rattle.std.specs.Prelude.{IfOk, Ok};
-ghost use Rattle.pmap_text.specs.MapText.{map_of};
-ghost use Rattle.flowlabel.specs.Output.{PrintsMinimal};
+ghost use Rattle.flowlabel.specs.Output.{IsOutput, Returns};
+ghost use Rattle.flowlabel.specs.Request.{shrink};
 
 use crate::command::Shrunk;
+use crate::output_fault::OutputFault;
+use crate::run::reading::map_in;
+use pmap_cert::text_of_format_is_read_or_has_a_fault;
 use pmap_minimise::{certificate_text, compact_text, shortest};
 use pmap_print::print_list;
-use pmap_text::MapText;
-use std::alloc::{AllocError, Global};
+use pmap_text::KeyHashing;
+use std::alloc::Global;
 
-/// Returns the text of a map's shortest list, or of its certificate, compacted or not.
-pub fn shrunk_text(alloc: Global, map: MapText, printed: Shrunk) -> Result<Vec<u8>, AllocError>
-    ensures { IfOk result (λ out. PrintsMinimal printed (map_of map) (Ok out.items)) }
+/// Returns the text of the shortest list of a map's text, or of its certificate, compacted or not.
+pub fn output(
+    alloc: Global,
+    text: Vec<u8>,
+    printed: Shrunk,
+    hashing: KeyHashing,
+) -> Result<Vec<u8>, OutputFault>
+    ensures { Returns (IsOutput (shrink text.items printed)) result }
 {
+    // Provides the law that a certificate is read again from its text.
+    text_of_format_is_read_or_has_a_fault();
+    let map = map_in(alloc, text, hashing)?;
     match printed {
-        Shrunk::List => print_list(alloc, &shortest(alloc, map)?),
-        Shrunk::Certificate => certificate_text(alloc, map),
-        Shrunk::Compact => compact_text(alloc, map),
+        Shrunk::List => Ok(print_list(alloc, &shortest(alloc, map)?)?),
+        Shrunk::Certificate => Ok(certificate_text(alloc, map)?),
+        Shrunk::Compact => Ok(compact_text(alloc, map)?),
     }
 }

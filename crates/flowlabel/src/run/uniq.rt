@@ -1,71 +1,85 @@
 //! The output of `uniq`.
-use crate::run::report::Report;
+ghost use Rattle.std.specs.Prelude.{◌≡◌, [], false, option_map};
+ghost use Rattle.flowlabel.specs.Output.{IsOutput};
+ghost use Rattle.flowlabel.specs.Reports.{IsMade};
+ghost use Rattle.flowlabel.specs.Request.{source_of, uniq, with_texts};
+ghost use Rattle.flowlabel.specs.Run.{any_failed};
+
+use crate::by_file::ByFile;
+use crate::command::LabelFile;
+use crate::inputs::Source;
+use crate::output_fault::OutputFault;
+use crate::run::labels::LabelsRead;
+use crate::run::report::{Report, take_messages};
 use flow_filter::Filter;
+use flow_io::Input;
 use flow_rows::Row;
 use flow_uniq::{Groups, Keys};
 use ipfix_read::Message;
-use label_lookup::Labeller;
+use label_lookup::StretchIndex;
 use pmap_print::print_groups;
 use pmap_text::KeyHashing;
 use std::alloc::{AllocError, Global};
 
-/// The report of `uniq`: the groups, by fields, of the rows that pass a filter. They are sorted or in the order of
-/// their first rows, and padded to columns or not.
 #[derive(Clone, Copy)]
-pub struct UniqReport<'a> {
-    pub keys: &'a Keys,
-    pub filter: &'a Filter<'a>,
-    pub sorted: bool,
-    pub columns: bool,
-    pub hashing: KeyHashing,
+struct UniqReport<'a> {
+    keys: &'a Keys,
+    filter: &'a Filter<'a>,
+    labels: Option<&'a StretchIndex<'a>>,
 }
 
-/// The groups so far, and room for the rows of a message.
+// The groups so far, and room for the rows of a message.
 #[derive(Drop)]
-pub struct UniqTaken {
+struct UniqTaken {
     groups: Groups,
     rows: Vec<Row>,
 }
 
 impl<'a> Report for UniqReport<'a> {
-    ghost use Rattle.flowlabel.specs.Output.{report_of_groups};
-    ghost use Rattle.flowlabel.specs.Inner.{HasGroups};
+    ghost use Rattle.flowlabel.specs.Reports.{HasGroups, labelling_found};
 
     type Taken = UniqTaken;
 
-    ghost text = { λ report. report_of_groups report.keys.now report.filter.now report.sorted report.columns };
+    ghost is_of = { λ report messages taken.
+        HasGroups report.keys.now report.filter.now (labelling_found report.labels) messages taken.groups };
 
-    ghost is_of = { λ report labels messages taken. HasGroups report.keys.now report.filter.now labels messages taken.groups };
-
-    fn begin<L: Labeller>(
-        &self,
-        alloc: Global,
-        _labels: Option<&L>,
-    ) -> Result<UniqTaken, AllocError> {
-        Ok(UniqTaken {
-            groups: Groups::with_hashing(alloc, self.keys, self.hashing)?,
-            rows: Vec::new(alloc),
-        })
-    }
-
-    fn take<L: Labeller>(
-        &self,
-        taken: &mut UniqTaken,
-        message: &Message<'_>,
-        labels: Option<&L>,
-    ) -> Result<(), AllocError> {
+    fn take(&self, taken: &mut UniqTaken, message: &Message<'_>) -> Result<(), AllocError> {
         taken.rows.clear();
         self.filter
-            .add_passing_rows(message, labels, &mut taken.rows)?;
-        taken.groups.add_rows(taken.rows.as_slice(), labels)
+            .add_passing_rows(message, self.labels, &mut taken.rows)?;
+        taken.groups.add_rows(taken.rows.as_slice(), self.labels)
     }
+}
 
-    fn finish<L: Labeller>(
-        &self,
-        alloc: Global,
-        taken: UniqTaken,
-        _labels: Option<&L>,
-    ) -> Result<Vec<u8>, AllocError> {
-        print_groups(alloc, &taken.groups, self.sorted, self.columns)
-    }
+/// Returns the groups, by fields, of the rows of a File that pass a filter. They are sorted if `sorted`, otherwise in the
+/// order of their first rows, and padded to columns if `columns`.
+pub fn output<R: Input>(
+    alloc: Global,
+    keys: &Keys,
+    labels: Option<LabelFile<'_>>,
+    files: &mut ByFile<Option<Source<'_, R>>>,
+    filter: &Filter<'_>,
+    sorted: bool,
+    columns: bool,
+    hashing: KeyHashing,
+) -> Result<Vec<u8>, OutputFault>
+    requires { any_failed R.failed files.old ≡ false }
+    ensures { IsMade R.bytes_left R.failed
+        (λ texts. IsOutput (with_texts texts (uniq keys.now (option_map source_of labels.entry) filter.now sorted columns [])))
+        files.old files.new result }
+{
+    let read = LabelsRead::of_files(alloc, labels, files, hashing)?;
+    let index = read.index(alloc)?;
+    let labels = index.as_ref();
+    let mut taken = UniqTaken {
+        groups: Groups::with_hashing(alloc, keys, hashing)?,
+        rows: Vec::new(alloc),
+    };
+    let report = UniqReport {
+        keys,
+        filter,
+        labels,
+    };
+    take_messages(alloc, &mut files.flows, &report, &mut taken)?;
+    Ok(print_groups(alloc, &taken.groups, sorted, columns)?)
 }

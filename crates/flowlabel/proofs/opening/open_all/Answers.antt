@@ -1,15 +1,31 @@
-use Rattle.flowlabel.specs.Inner.{CannotOpenFirst}
+use Rattle.std.specs.Prelude.{IfErr}
+use Rattle.flowlabel.specs.ByFile.{at}
+use Rattle.flowlabel.specs.declared.by_file.Role.TheVariants as role
+use Rattle.flowlabel.specs.Opening.{CanOpen, CannotOpenFirst}
 use Rattle.flowlabel.specs.Request.{names_of}
-use Rattle.flowlabel.specs.Run.{CertificateTurn, FlowsTurn}
-use Rattle.flowlabel.proofs.LoadingLemmas.{passed_on}
+use Rattle.flowlabel.proofs.EndLemmas.{before_certificate, before_flows, opens}
+use Rattle.flowlabel.proofs.MadeLemmas.{handed_on}
 use Rattle.flowlabel.proofs.opening.open_all.Goals as goal
 
 pub returns-in_err-open-3-clause-err : goal.returns-in_err-open-3-clause-err
 returns-in_err-open-3-clause-err g c =
-    passed_on (CannotOpenFirst (g.O.Opener.answers c.args.opener.now) (names_of c.args.files)) _ c.in_err-open-3.field-0.0 c.from_residual-in_err-open-3.ensures.1
-    (CertificateTurn, c.in_err-open-3.ensures.err, (c.in_ok-open.ensures.can, c.in_ok-open-2.ensures.can))
+    let answers = g.O.Opener.answers c.args.opener.now in
+    let names = names_of c.args.names in
+    handed_on (λ r. IfErr r (CannotOpenFirst answers names)) c.from_residual-in_err-open-3.result c.in_err-open-3.field-0.0 c.from_residual-in_err-open-3.ensures.1 (
+      role.Certificate,
+      c.in_err-open-3.ensures.err,
+      before_certificate (λ r. CanOpen answers (at r names))
+          (opens answers names.map _ c.in_ok-open.ensures.opened) (opens answers names.list _ c.in_ok-open-2.ensures.opened),
+    )
 
 pub returns-in_err-open-4-clause-err : goal.returns-in_err-open-4-clause-err
 returns-in_err-open-4-clause-err g c =
-    passed_on (CannotOpenFirst (g.O.Opener.answers c.args.opener.now) (names_of c.args.files)) _ c.in_err-open-4.field-0.0 c.from_residual-in_err-open-4.ensures.1
-    (FlowsTurn, c.in_err-open-4.ensures.err, (c.in_ok-open.ensures.can, c.in_ok-open-2.ensures.can, c.in_ok-open-3.ensures.can))
+    let answers = g.O.Opener.answers c.args.opener.now in
+    let names = names_of c.args.names in
+    handed_on (λ r. IfErr r (CannotOpenFirst answers names)) c.from_residual-in_err-open-4.result c.in_err-open-4.field-0.0 c.from_residual-in_err-open-4.ensures.1 (
+      role.Flows,
+      c.in_err-open-4.ensures.err,
+      before_flows (λ r. CanOpen answers (at r names))
+          (opens answers names.map _ c.in_ok-open.ensures.opened) (opens answers names.list _ c.in_ok-open-2.ensures.opened)
+          (opens answers names.certificate _ c.in_ok-open-3.ensures.opened),
+    )

@@ -1,8 +1,125 @@
-use Rattle.flowlabel.proofs.OutputLemmas.{minimal_one, one_output}
+use Rattle.std.proofs.Common.{◌≡◌, ◌∙◌, ◌⊎◌, ℕ, List, [], Option, Some, None, Result, Ok, Err, ap, inl, inr, refl, subst}
+use Rattle.std.specs.Prelude.{◌↔◌, length}
+use Rattle.pmap_text.specs.Reading.{list_reading, map_reading}
+use Rattle.label_lookup.specs.Labelling.{Labelling, labelling_of_list, labelling_of_map}
+use Rattle.pmap_cert.specs.CertificateText.{HasFormatText, HasTextForm, certificate_text}
+use Rattle.pmap_cert.specs.CertificateModel.{CertificateModel}
+use Rattle.pmap_cert.specs.Compacting.{compact}
+use Rattle.pmap_cert.specs.FormatReading.{format_reading}
+use Rattle.cert_check.specs.Checking.{first_fault}
+use Rattle.ipfix_read.specs.Laws.{HasReading, OneReading}
+use Rattle.ipfix_read.specs.Message.{MessageView}
+use Rattle.ipfix_read.specs.Messages.{HasFileFault, ReadsFile}
+use Rattle.flow_rows.specs.Counts.{counts_of}
+use Rattle.pmap_print.specs.Reports.{info_text}
+use Rattle.pmap_print.specs.Runs.{IsRunsText, runs_text}
+use Rattle.flowlabel.specs.Output.{BytesFault, CertificateThen, Checks, LabelsThen, ListThen, Outcome, Prints, PrintsCompact, PrintsMinimal, PrintsRuns, ReadsCertificate, ReportsOf, ReportsThen, Then, checked, label_text, report_of_groups, report_of_rows, shrunk_text}
+use Rattle.flowlabel.specs.declared.bytes_fault.BytesFault.TheVariants.{Map as InMap, List as InList, Flows as InFlows, Certificate as InCertificate}
+use Rattle.flowlabel.specs.Request.{FromList, FromMap, LabelSource, label, info, rows, cat, shrink, check, uniq, recert}
 use Rattle.flowlabel.proofs.run.laws.one_output.Goals as goal
 
+-- exactly one outcome meets the condition
+abbrev One : (Outcome → Type 0) → Type 0
+One Is = (outcome : Outcome) × Is outcome × ((other : Outcome) → Is other → other ≡ outcome)
+
+-- a text is read as one value, or has one fault
+abbrev HasOne : {F A : Type 0} → (F → Type 0) → (A → Type 0) → Type 0
+HasOne {F} {A} Fails Reads =
+    ((value : A) × Reads value × ((other : A) → Reads other → other ≡ value) × ((fault : F) → Fails fault → ⊥))
+    ⊎ ((fault : F) × Fails fault × ((other : F) → Fails other → other ≡ fault) × ((value : A) → Reads value → ⊥))
+
+-- so there is one outcome over it, if there is one for each value
+then_one : {F A : Type 0} (Fails : F → Type 0) (in_file : F → BytesFault) (Reads : A → Type 0) (rest : A → Outcome → Type 0)
+    → HasOne Fails Reads → ((value : A) → Reads value → One (rest value)) → One (Then Fails in_file Reads rest)
+then_one {A = A} Fails in_file Reads rest (inl (value, reads, same, none)) one =
+    let (outcome, is, only) = one value reads in (
+      outcome,
+      inr (value, reads, is),
+      λ other found. elim found [
+        | inl (fault, fails, ends) ↦ absurd (none fault fails)
+        | inr (y, reads', is') ↦ only other (subst (λ (z : A). rest z other) (same y reads') is')
+      ],
+    )
+then_one {F} Fails in_file Reads rest (inr (fault, fails, same, none)) one = (
+  Err (in_file fault),
+  inl (fault, fails, refl),
+  λ other found. elim found [
+    | inl (f, fails', ends) ↦ ends ∙ ap (λ (g : F). Err (in_file g)) (same f fails')
+    | inr (y, reads, is) ↦ absurd (none y reads)
+  ],
+)
+
+-- a text is read as the value of its reading, or has the fault of that
+reading_one : {F A : Type 0} (reading : Result A F) → HasOne (λ (f : F). reading ≡ Err f) (λ (x : A). reading ≡ Ok x)
+reading_one (Ok x) = inl (x, refl, (λ y reads. cc), (λ f fails. cc))
+reading_one (Err f) = inr (f, refl, (λ g fails. cc), (λ y reads. cc))
+
+value_one : {F A : Type 0} (in_file : F → BytesFault) (reading : Result A F) (rest : A → Outcome → Type 0) → ((x : A) → reading ≡ Ok x → One (rest x))
+    → One (Then (λ (f : F). reading ≡ Err f) in_file (λ (x : A). reading ≡ Ok x) rest)
+value_one {F} {A} in_file reading rest = then_one _ in_file (λ (x : A). reading ≡ Ok x) rest (reading_one reading)
+
+labels_one : (rest : Labelling → Outcome → Type 0) (source : LabelSource) → ((labels : Labelling) → One (rest labels)) → One (LabelsThen rest source)
+labels_one rest (FromMap text) one = value_one InMap (map_reading text) (λ m. rest (labelling_of_map m)) (λ m reads. one (labelling_of_map m))
+labels_one rest (FromList text) one = value_one InList (list_reading text) (λ l. rest (labelling_of_list l)) (λ l reads. one (labelling_of_list l))
+
+prints_one : (text : List ℕ) → One (Prints text)
+prints_one text = (Ok text, refl, (λ other is. is))
+
+report_one : HasReading → OneReading → (text : Option Labelling → List MessageView → List ℕ) (labels : Option Labelling) (bytes : List ℕ)
+    → One (ReportsOf text labels bytes)
+report_one has once text labels bytes =
+    let (one, one_fault, either) = once [] 0 0 bytes in
+    then_one (HasFileFault [] 0 0 bytes) InFlows (ReadsFile [] 0 bytes) (λ messages. Prints (text labels messages))
+    (elim (has [] 0 0 bytes) [
+      | inl (ms, reads) ↦ inl (ms, reads, (λ others reads'. one others ms reads' reads), (λ fault. either ms fault reads))
+      | inr (fault, fails) ↦ inr (fault, fails, (λ other fails'. one_fault other fault fails' fails), (λ ms reads. either ms fault reads fails))
+    ])
+    (λ messages reads. prints_one (text labels messages))
+
+reports_one : HasReading → OneReading → (text : Option Labelling → List MessageView → List ℕ) (source : Option LabelSource) (flows : List ℕ)
+    → One (ReportsThen text source flows)
+reports_one has once text None flows = report_one has once text None flows
+reports_one has once text (Some source) flows =
+    labels_one (λ labels. ReportsOf text (Some labels) flows) source (λ labels. report_one has once text (Some labels) flows)
+
+-- a certificate of format 1 that is read again from its text has one there
+has_form : ((text : List ℕ) (c : CertificateModel) → format_reading text ≡ Ok c ↔ (HasFormatText c × (text ≡ certificate_text c)))
+    → (c : CertificateModel) → c.format ≡ 1 → ReadsCertificate (certificate_text c) c → HasTextForm c
+has_form law c first reads = record { first = first; text = ((law (certificate_text c) c).0 reads).0 }
+
 pub returns : goal.returns
-returns c =
-    one_output c.one_reading.ensures c.labelling_has_one_runs_text.ensures.one
-    (minimal_one c.map_text_has_its_labels.ensures c.minimal_pair_is_unique.ensures.lists c.minimal_certificate_is_one.ensures)
-    c.text_of_format_is_read_or_has_a_fault.ensures.read c.no_fault_is_acceptance.ensures.no_fault
+returns c (label source address) = labels_one (λ labels. Prints (label_text address labels)) source (λ labels. prints_one (label_text address labels))
+returns c (info flows) = reports_one c.has_reading.ensures c.one_reading.ensures (λ labels messages. info_text (counts_of messages)) None flows
+returns c (rows source condition columns flows) =
+    reports_one c.has_reading.ensures c.one_reading.ensures (report_of_rows condition columns) source flows
+returns c (uniq fields source condition sorted columns flows) =
+    reports_one c.has_reading.ensures c.one_reading.ensures (report_of_groups fields condition sorted columns) source flows
+returns c (cat source) =
+    labels_one PrintsRuns source (λ labels.
+    let (runs, are) = c.labelling_has_its_runs.ensures.exist labels.version labels.label in
+    let text = runs_text labels.version runs in
+    let is : IsRunsText labels.version labels.label text = record { runs = runs; are = are; is = refl } in (
+      Ok text,
+      (text, is, refl),
+      λ other (text', is', prints).
+          prints ∙ ap Ok (c.labelling_has_one_runs_text.ensures.one labels.version labels.label text' text is' is),
+    ))
+returns c (shrink map printed) =
+    value_one InMap (map_reading map) (PrintsMinimal printed) (λ m reads.
+    let (l, k, pair, form) = c.map_text_has_a_minimal_pair.ensures map m reads in
+    let law = c.text_of_format_is_read_or_has_a_fault.ensures.read in (
+      Ok (shrunk_text printed l k),
+      (l, k, pair, (law (certificate_text k) k).1 (form.text, refl), refl),
+      λ other (l', k', pair', reads', prints).
+          let list : l' ≡ l = c.minimal_pair_is_unique.ensures.lists m l' l k' k pair' pair (c.map_text_has_its_labels.ensures map m reads) in
+          let form' : HasTextForm k' = has_form law k' pair'.certificate_format reads' in
+          let certificate : k' ≡ k = c.minimal_certificate_is_one.ensures m l' l k' k pair' pair form' form in
+          cc,
+    ))
+returns c (check map list certificate) =
+    value_one InMap (map_reading map) (λ m. ListThen (λ l. CertificateThen (Checks m l) certificate) list)
+    (λ m reads. value_one InList (list_reading list) (λ l. CertificateThen (Checks m l) certificate)
+    (λ l reads'. value_one InCertificate (format_reading certificate) (Checks m l)
+    (λ k reads''. (checked (first_fault m l k) (length l.prefixes), refl, (λ other is. is)))))
+returns c (recert certificate) =
+    value_one InCertificate (format_reading certificate) PrintsCompact (λ k reads. prints_one (certificate_text (compact k)))

@@ -1,8 +1,71 @@
-use Rattle.flowlabel.proofs.MinimalLemmas.{shrunk_is_least}
+use Rattle.std.proofs.Common.{◌≡◌, ◌∙◌, ℕ, Ok, None, Option, ap, inl, inr, length, refl, subst, sym}
+use Rattle.pmap_text.specs.ListModel.{ListModel}
+use Rattle.pmap_cert.specs.Acceptance.{IsAccepted, IsInOrder}
+use Rattle.pmap_cert.specs.CertificateText.{HasFormatText, certificate_text}
+use Rattle.pmap_cert.specs.CertificateModel.{CertificateModel}
+use Rattle.pmap_cert.specs.Compacting.{compact}
+use Rattle.cert_check.specs.Checking.{first_fault}
+use Rattle.cert_check.specs.declared.fault.CheckFault.{CheckFault}
+use Rattle.pmap_print.specs.List.{IsListAgain}
+use Rattle.flowlabel.specs.Output.{ReadsCertificate, checked, minimal_text}
 use Rattle.flowlabel.proofs.run.laws.shrunk_list_is_least.Goals as goal
 
 pub returns : goal.returns
-returns c =
-    shrunk_is_least c.check_accepts_minimal.ensures c.map_text_has_a_minimal_pair.ensures
-    c.minimal_pair_is_shortest.ensures c.printed_list_is_read_back.ensures.list c.printed_list_is_equivalent.ensures.list
-    c.printed_order_is_one.ensures.kept
+returns c map m reads =
+    let (l, k, pair, has_form) = c.map_text_has_a_minimal_pair.ensures map m reads in
+    let formed : HasFormatText k = c.compact_has_a_text.ensures.first k has_form in
+    let read = c.text_of_format_is_read_or_has_a_fault.ensures.read in
+    let faultless = c.no_fault_is_acceptance.ensures.no_fault in
+    let has_text = (read (certificate_text k) k).1 (formed, refl) in
+    let compacted = (read (certificate_text (compact k)) (compact k)).1 (c.compact_has_a_text.ensures.text k formed, refl) in
+    let accepted : IsAccepted m l k = c.minimal_pair_is_accepted.ensures.accepted m l k pair in
+    let order : IsInOrder l.prefixes = (c.minimal_list_is_in_order.ensures m l k pair (c.map_text_has_its_labels.ensures map m reads)).order in (
+      l,
+      k,
+      (λ printed. inr (m, reads, (l, k, pair, has_text, refl))),
+      record {
+        equivalent = c.acceptance_is_enough.ensures.equivalent m l k accepted;
+        least = c.acceptance_is_enough.ensures.least m l k accepted;
+        name = pair.list_name;
+        form = c.minimal_list_can_be_read_again.ensures.form map m l k reads pair;
+        order = order;
+        has_text = has_text;
+        accepted = faultless m l k accepted;
+        has_compact_text = compacted;
+        compact_accepted = faultless m l (compact k) (c.compact_keeps_acceptance.ensures m l k formed.format accepted);
+      },
+      λ (few, few_labels).
+          let (again, reads_list, accepted', count) = c.minimal_list_is_accepted_again.ensures map m l k reads pair few few_labels in
+          let (other, reads_other, is_again) =
+          c.printed_list_is_read_back.ensures.list l (c.minimal_list_can_be_read_again.ensures.again map m l k reads pair few few_labels) in
+          let one : other ≡ again = cc in
+          let is : IsListAgain l again = subst (λ (x : ListModel). IsListAgain l x) one is_again in
+          record {
+            again = again;
+            reads = reads_list;
+            version = is.version;
+            name = is.name;
+            prefixes = is.prefixes ∙ c.printed_order_is_one.ensures.kept l.prefixes order;
+            equivalent = c.acceptance_is_enough.ensures.equivalent m again k accepted';
+            checks = λ printed either.
+                let (x, reads', accepts) : (x : CertificateModel) × ReadsCertificate printed x × IsAccepted m again x = elim either [
+                  | inl plain ↦ (k, (read printed k).1 (formed, plain), accepted')
+                  | inr short ↦
+                      (compact k, (read printed (compact k)).1 (c.compact_has_a_text.ensures.text k formed, short), c.compact_keeps_acceptance.ensures m again k formed.format accepted')
+                ] in
+                let none : first_fault m again x ≡ None = faultless m again x accepts in
+                inr (
+                  m,
+                  reads,
+                  inr (
+                    again,
+                    reads_list,
+                    inr (
+                      x,
+                      reads',
+                      ap (λ (n : ℕ). Ok (minimal_text n)) (sym count) ∙ sym (ap (λ (f : Option CheckFault). checked f (length again.prefixes)) none),
+                    ),
+                  ),
+                );
+          },
+    )

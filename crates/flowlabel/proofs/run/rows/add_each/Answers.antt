@@ -3,14 +3,15 @@ use Rattle.std.proofs.lemmas.List.{take_all}
 use Rattle.flow_rows.specs.Elements.{row_view}
 use Rattle.pmap_print.specs.Table.{IsTable, Line}
 use Rattle.pmap_print.specs.Reports.{column_count, label_texts, row_line}
-use Rattle.label_lookup.specs.Labelling.{Labelling, labelling_lent}
+use Rattle.label_lookup.specs.Labelling.{Labelling}
 use Rattle.flowlabel.specs.Output.{labelled_row_lines}
+use Rattle.flowlabel.specs.Reports.{labelling_found}
 use Rattle.flowlabel.proofs.RowLemmas.{rows_more, same_labelled}
 use Rattle.flowlabel.proofs.run.rows.add_each.Goals as goal
 
 pub add_row-requires : goal.add_row-requires
-add_row-requires g c =
-    let labels : Option Labelling = labelling_lent g.L.Labeller.version_of g.L.Labeller.label c.args.labels in
+add_row-requires c =
+    let labels : Option Labelling = labelling_found c.args.labels in
     let lines : List Line = labelled_row_lines labels (c.requires.0 ++ map row_view (take c.loop-row.row-index c.args.rows.now)) in (
       lines,
       subst (λ (b : Bool). IsTable (column_count b) lines c.loop-row.table)
@@ -19,8 +20,8 @@ add_row-requires g c =
     )
 
 pub loop-row-preserved : goal.loop-row-preserved
-loop-row-preserved g c =
-    let labels : Option Labelling = labelling_lent g.L.Labeller.version_of g.L.Labeller.label c.args.labels in
+loop-row-preserved c =
+    let labels : Option Labelling = labelling_found c.args.labels in
     let same = same_labelled labels c.labels_under.result (row_view c.row-item.result) c.labels_under.ensures in
     record {
       columns = c.in_ok-add_row.ensures.columns ∙ c.loop-row.invariant.columns;
@@ -36,4 +37,4 @@ loop-row-preserved g c =
     }
 
 pub returns-clause-rows : goal.returns-clause-rows
-returns-clause-rows g c = λ earlier begins. rw (take_all _ _ c.loop-row-test.false) at (c.loop-row.invariant.rows earlier begins)
+returns-clause-rows c = λ earlier begins. rw (take_all _ _ c.loop-row-test.false) at (c.loop-row.invariant.rows earlier begins)

@@ -1,0 +1,105 @@
+use Rattle.std.specs.Prelude.{◌≡◌, ◌≤◌, ◌*◌, List, [], ℕ, Bool, Option, Some, None, IfSome, is_some, Result, Ok, Err, false, true, length, option_map}
+use Rattle.std.specs.Borrow.{Bor}
+use Rattle.std.specs.Global.{Vec}
+use Rattle.std.specs.Io.KnownBytes.{Consumes}
+use Rattle.pmap_text.specs.MapText.{map_of}
+use Rattle.pmap_text.specs.PrefixList.{list_of}
+use Rattle.pmap_text.specs.ListModel.{ListModel}
+use Rattle.pmap_text.specs.MapModel.{MapModel}
+use Rattle.pmap_text.specs.Reading.{ReadsList, ReadsMap}
+use Rattle.label_lookup.specs.Labelling.{Labelling, StretchModel, label_where, labelling_of_list, labelling_of_map, labelling_of_stretches}
+use Rattle.ipfix_read.specs.Fault.{is_of_reader}
+use Rattle.ipfix_read.specs.Messages.{HasFileFault, ReadsFile, StopsReading}
+use Rattle.ipfix_read.specs.declared.fault.ReadFault.{ReadFault}
+use Rattle.ipfix_read.specs.Message.{MessageView}
+use Rattle.flow_filter.specs.Condition.{Condition, passing_rows}
+use Rattle.flow_uniq.specs.Groups.{GroupsModel, groups_of, record_count}
+use Rattle.flow_uniq.specs.declared.field.KeyField.{KeyField}
+use Rattle.pmap_print.specs.Reports.{column_count}
+use Rattle.pmap_print.specs.Table.{IsTable, has_columns}
+use Rattle.flowlabel.specs.ByFile.{ByFile, Role, at, with_at}
+use Rattle.flowlabel.specs.declared.by_file.Role.TheVariants as roles
+use Rattle.flowlabel.specs.declared.bytes_fault.BytesFault.TheVariants.{Flows as InFlows}
+use Rattle.flowlabel.specs.Output.{Faulty, IsFaultFor, NoMemory, Outcome, OutputFault, ReportsThen, Unread, labelled_row_lines}
+use Rattle.flowlabel.specs.Request.{FromList, FromMap, LabelSource, Text, source_with}
+use Rattle.flowlabel.specs.Run.{AreTexts, IsFaultOf, Source, any_failed, bytes_of, is_unread, source_failed}
+use Rattle.flowlabel.specs.declared.run.labels.LabelsRead.{LabelsRead}
+use Rattle.flowlabel.specs.declared.run.labels.LabelsRead.TheVariants as read
+use Rattle.flowlabel.specs.declared.run.rows.RowsTaken.{RowsTaken}
+
+-- What the parts of a command read of its files.
+
+-- the labels of a report
+
+abbrev pub labelling_read : LabelsRead → Option Labelling
+labelling_read read.None = None
+labelling_read (read.Map map) = Some (labelling_of_map (map_of map))
+labelling_read (read.List list) = Some (labelling_of_list (list_of list))
+
+abbrev pub labelling_found : Option (Bor StretchModel) → Option Labelling
+labelling_found = option_map (λ index. labelling_of_stretches index.now)
+
+-- the texts of a source, if there is one, are read as this labelling
+abbrev pub ReadsLabels : Option LabelSource → Option Labelling → Type 0
+ReadsLabels None labels = labels ≡ None
+ReadsLabels (Some (FromMap text)) labels = (m : MapModel) × ReadsMap text m × (labels ≡ Some (labelling_of_map m))
+ReadsLabels (Some (FromList text)) labels = (l : ListModel) × ReadsList text l × (labels ≡ Some (labelling_of_list l))
+
+-- the fault of a command for that of a call for a message
+abbrev pub IsFaultOfCall : ReadFault → OutputFault → Type 0
+IsFaultOfCall fault (Unread other) = (other ≡ roles.Flows) × (is_of_reader fault.kind ≡ true)
+IsFaultOfCall fault made = (is_of_reader fault.kind ≡ false) × IsFaultFor (InFlows fault) made
+
+-- The messages of a File, given to something whose state is then `taken`. The reader had these bytes before, and has
+-- those now, if it reports them.
+abbrev pub TakesFile : {T : Type 0} → (List MessageView → T → Type 0) → Option (List ℕ) → Option (List ℕ) → T → Result (Unit {0}) OutputFault → Type 0
+TakesFile is_of given gives taken (Ok done) =
+    (messages : List MessageView) × is_of messages taken × (bytes : List ℕ) × IfSome given (λ all. bytes ≡ all) × ReadsFile [] 0 bytes messages
+TakesFile is_of given gives taken (Err NoMemory) = Unit {0}
+TakesFile is_of given gives taken (Err (Unread other)) =
+    (other ≡ roles.Flows) × (stop : ReadFault) × (read : List ℕ) × Consumes given gives read × StopsReading [] 0 0 read stop
+TakesFile is_of given gives taken (Err (Faulty (InFlows fault))) = (bytes : List ℕ) × IfSome given (λ all. bytes ≡ all) × HasFileFault [] 0 0 bytes fault
+TakesFile is_of given gives taken (Err (Faulty fault)) = ⊥
+
+-- a file was read whole, or it stopped as its reader or an allocation failed
+abbrev pub IsWhole : Role → Option (List ℕ) → Result (Vec ℕ) OutputFault → Type 0
+IsWhole role given (Ok text) = IfSome given (λ bytes. text.items ≡ bytes)
+IsWhole role given (Err NoMemory) = Unit {0}
+IsWhole role given (Err (Unread other)) = other ≡ role
+IsWhole role given (Err (Faulty fault)) = ⊥
+
+module _ {R : Type 0} (left : R → Option (List ℕ)) (failed : R → Bool) where
+  -- one file was read whole, and nothing of any other
+  pub record IsReadOf (role : Role) (old new : ByFile (Option (Source R))) (result : Result (Vec ℕ) OutputFault) : Type 0 where
+    pub whole : IsWhole role (bytes_of left (at role old)) result
+    pub others : new ≡ with_at role (at role new) old
+    pub unread : source_failed failed (at role new) ≡ is_unread result
+
+  -- What a command returns, by its outcomes over the texts of its files. No reader had failed before.
+  abbrev pub IsMadeOf : (Outcome → Type 0) → ByFile (Option (Source R)) → ByFile (Option (Source R)) → Result (Vec ℕ) OutputFault → Type 0
+  IsMadeOf Is old new (Ok out) = Is (Ok out.items)
+  IsMadeOf Is old new (Err fault) = IsFaultOf left failed Is old new fault
+
+  pub record IsMade (Is : ByFile Text → Outcome → Type 0) (old new : ByFile (Option (Source R))) (result : Result (Vec ℕ) OutputFault) : Type 0 where
+    pub texts : ByFile Text
+    pub given : AreTexts left old texts
+    pub made : IsMadeOf (Is texts) old new result
+    pub unread : any_failed failed new ≡ is_unread result
+
+  -- The labels of a report are read, if it has labels. A report under a source of labels ends with any fault of them.
+  abbrev pub AreLabels : Option LabelSource → ByFile (Option (Source R)) → ByFile (Option (Source R)) → Result LabelsRead OutputFault → Type 0
+  AreLabels source old new (Ok read) = (texts : ByFile Text) × AreTexts left old texts
+      × ReadsLabels (option_map (source_with texts) source) (labelling_read read) × (new.flows ≡ old.flows) × (any_failed failed new ≡ false)
+  AreLabels source old new (Err fault) = (text : Option Labelling → List MessageView → List ℕ)
+      → IsMade (λ texts. ReportsThen text (option_map (source_with texts) source) texts.flows) old new (Err fault)
+
+-- The state of a report after the messages that it has taken.
+
+pub record HasGroups (keys : List KeyField) (condition : Condition) (labels : Option Labelling) (messages : List MessageView) (had : GroupsModel) : Type 0 where
+  pub fields : had.fields ≡ keys
+  pub count : record_count had.groups ≤ 131070 * length messages
+  pub groups : had.groups ≡ groups_of keys (label_where labels) (passing_rows condition labels messages)
+
+pub record HasRows (condition : Condition) (columns : Bool) (labels : Option Labelling) (messages : List MessageView) (taken : RowsTaken) : Type 0 where
+  pub padded : has_columns taken.table ≡ columns
+  pub lines : IsTable (column_count (is_some labels)) (labelled_row_lines labels (passing_rows condition labels messages)) taken.table

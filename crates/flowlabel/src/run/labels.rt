@@ -1,0 +1,62 @@
+//! The labels of a report.
+ghost use Rattle.std.specs.Prelude.{◌≡◌, IfOk, false, option_map};
+ghost use Rattle.label_lookup.specs.Labelling.{labelling_of_stretches};
+ghost use Rattle.flowlabel.specs.Reports.{AreLabels, labelling_read};
+ghost use Rattle.flowlabel.specs.Request.{source_of};
+ghost use Rattle.flowlabel.specs.Run.{any_failed};
+
+use crate::by_file::{ByFile, Role};
+use crate::command::LabelFile;
+use crate::inputs::Source;
+use crate::output_fault::OutputFault;
+use crate::run::reading::{list_in, map_in, read};
+use flow_io::Input;
+use label_lookup::StretchIndex;
+use pmap_text::{KeyHashing, MapText, PrefixList};
+use std::alloc::{AllocError, Global};
+
+/// A prefix map or a prefix list, or no labels.
+#[derive(Drop)]
+pub enum LabelsRead {
+    None,
+    Map(MapText),
+    List(PrefixList),
+}
+
+impl LabelsRead {
+    /// Reads the map or the list that labels come from, if there is one.
+    pub fn of_files<R: Input>(
+        alloc: Global,
+        labels: Option<LabelFile<'_>>,
+        files: &mut ByFile<Option<Source<'_, R>>>,
+        hashing: KeyHashing,
+    ) -> Result<LabelsRead, OutputFault>
+        requires { any_failed R.failed files.old ≡ false }
+        ensures { AreLabels R.bytes_left R.failed (option_map source_of labels.entry) files.old files.new result }
+    {
+        let Some(labels) = labels else {
+            return Ok(LabelsRead::None);
+        };
+        match labels {
+            LabelFile::Map(_) => {
+                let text = read(alloc, Role::Map, files)?;
+                Ok(LabelsRead::Map(map_in(alloc, text, hashing)?))
+            }
+            LabelFile::List(_) => {
+                let text = read(alloc, Role::List, files)?;
+                Ok(LabelsRead::List(list_in(alloc, text, hashing)?))
+            }
+        }
+    }
+
+    /// Returns the index of the labels.
+    pub fn index(&self, alloc: Global) -> Result<Option<StretchIndex<'_>>, AllocError>
+        ensures { IfOk result (λ index. option_map labelling_of_stretches index ≡ labelling_read self.entry.now) }
+    {
+        match self {
+            LabelsRead::None => Ok(None),
+            LabelsRead::Map(map) => Ok(Some(StretchIndex::of_map(alloc, map)?)),
+            LabelsRead::List(list) => Ok(Some(StretchIndex::of_list(alloc, list)?)),
+        }
+    }
+}

@@ -1,0 +1,104 @@
+//! Reads a file whole, and decodes a text. A text is given away once it is decoded.
+ghost use Rattle.std.specs.Prelude.{◌≡◌, Err, IfErr, IfOk, Ok, false};
+ghost use Rattle.pmap_text.specs.MapText.{map_of};
+ghost use Rattle.pmap_text.specs.PrefixList.{list_of};
+ghost use Rattle.pmap_text.specs.Reading.{ReadsList, ReadsMap, list_reading, map_reading};
+ghost use Rattle.pmap_cert.specs.Certificate.{certificate_of};
+ghost use Rattle.pmap_cert.specs.FormatReading.{format_reading};
+ghost use Rattle.flowlabel.specs.declared.bytes_fault.BytesFault.TheVariants.{Certificate as InCertificate, List as InList, Map as InMap};
+ghost use Rattle.flowlabel.specs.Output.{Decodes, ReadsCertificate};
+ghost use Rattle.flowlabel.specs.Reports.{IsReadOf, IsWhole};
+ghost use Rattle.flowlabel.specs.Run.{any_failed, bytes_of, is_unread, source_failed};
+
+use crate::by_file::{ByFile, Role};
+use crate::bytes_fault::BytesFault;
+use crate::inputs::Source;
+use crate::output_fault::OutputFault;
+use flow_io::{Input, ReadStop, read_whole};
+use pmap_cert::{Certificate, read_cert_with_hashing, text_of_format_is_read_or_has_a_fault};
+use pmap_text::{KeyHashing, MapText, PrefixList, read_list_with_hashing, read_map_with_hashing};
+use std::alloc::Global;
+
+fn text_of_source<R: Input>(
+    alloc: Global,
+    role: Role,
+    source: &mut Source<'_, R>,
+) -> Result<Vec<u8>, OutputFault>
+    requires { R.failed source.old.reader ≡ false }
+    ensures whole { IsWhole role (R.bytes_left source.old.reader) result }
+    ensures failed { R.failed source.new.reader ≡ is_unread result }
+{
+    match read_whole(alloc, &mut source.reader) {
+        Ok(text) => Ok(text),
+        Err(ReadStop::ReadFault) => Err(OutputFault::Unread(role)),
+        Err(ReadStop::NoMemory) => Err(OutputFault::NoMemory),
+    }
+}
+
+fn text_of<R: Input>(
+    alloc: Global,
+    role: Role,
+    source: &mut Option<Source<'_, R>>,
+) -> Result<Vec<u8>, OutputFault>
+    requires { source_failed R.failed source.old ≡ false }
+    ensures whole { IsWhole role (bytes_of R.bytes_left source.old) result }
+    ensures failed { source_failed R.failed source.new ≡ is_unread result }
+{
+    match source {
+        Some(source) => text_of_source(alloc, role, source),
+        None => Ok(Vec::new(alloc)),
+    }
+}
+
+/// Reads the rest of one of the files, and returns its text, which is empty if the file isn't there.
+pub fn read<R: Input>(
+    alloc: Global,
+    role: Role,
+    files: &mut ByFile<Option<Source<'_, R>>>,
+) -> Result<Vec<u8>, OutputFault>
+    requires { any_failed R.failed files.old ≡ false }
+    ensures { IsReadOf R.bytes_left R.failed role files.old files.new result }
+{
+    match role {
+        Role::Map => text_of(alloc, role, &mut files.map),
+        Role::List => text_of(alloc, role, &mut files.list),
+        Role::Certificate => text_of(alloc, role, &mut files.certificate),
+        Role::Flows => text_of(alloc, role, &mut files.flows),
+    }
+}
+
+/// Reads the text of a map.
+pub fn map_in(alloc: Global, text: Vec<u8>, hashing: KeyHashing) -> Result<MapText, OutputFault>
+    ensures { Decodes (λ fault. map_reading text.items ≡ Err fault) InMap (λ map. ReadsMap text.items (map_of map)) result }
+{
+    read_map_with_hashing(alloc, text.as_slice(), hashing).map_err(|fault| OutputFault::of(
+        BytesFault::Map(fault),
+    ))
+}
+
+/// Reads the text of a list.
+pub fn list_in(alloc: Global, text: Vec<u8>, hashing: KeyHashing) -> Result<PrefixList, OutputFault>
+    ensures { Decodes (λ fault. list_reading text.items ≡ Err fault) InList (λ list. ReadsList text.items (list_of list)) result }
+{
+    read_list_with_hashing(alloc, text.as_slice(), hashing).map_err(|fault| OutputFault::of(
+        BytesFault::List(fault),
+    ))
+}
+
+/// Reads the text of a certificate.
+pub fn certificate_in(
+    alloc: Global,
+    text: Vec<u8>,
+    hashing: KeyHashing,
+) -> Result<Certificate, OutputFault>
+    ensures { Decodes (λ fault. format_reading text.items ≡ Err fault) InCertificate
+        (λ certificate. ReadsCertificate text.items (certificate_of certificate)) result }
+{
+    let certificate = read_cert_with_hashing(alloc, text.as_slice(), hashing).map_err(
+        |fault| OutputFault::of(BytesFault::Certificate(fault)),
+    )?;
+    // Each certificate has a text, and is read from it.
+    let _root = certificate.root();
+    text_of_format_is_read_or_has_a_fault();
+    Ok(certificate)
+}
