@@ -14,14 +14,12 @@ opens answers None (Some source) opened = absurd opened
 opens answers (Some name) None opened = absurd opened
 
 -- a property of the first files
-pub before_certificate : (P : Role → Type 0) → P role.Map → P role.List → (r : Role) → turn r < 2 → P r
-before_certificate P map list role.Map before = map
-before_certificate P map list role.List before = list
-before_certificate P map list role.Certificate before = absurd (omega (arith, before))
-before_certificate P map list role.Flows before = absurd (omega (arith, before))
-
 pub before_flows : (P : Role → Type 0) → P role.Map → P role.List → P role.Certificate → (r : Role) → turn r < 3 → P r
 before_flows P map list certificate role.Map before = map
 before_flows P map list certificate role.List before = list
 before_flows P map list certificate role.Certificate before = certificate
 before_flows P map list certificate role.Flows before = absurd (omega (arith, before))
+
+pub before_certificate : (P : Role → Type 0) → P role.Map → P role.List → (r : Role) → turn r < 2 → P r
+before_certificate P map list r before =
+    before_flows (λ q. turn q < 2 → P q) (λ early. map) (λ early. list) (λ early. absurd (omega (arith, early))) r (omega (arith, before)) before

@@ -12,16 +12,14 @@ use Rattle.flowlabel.specs.BytesFault.{role_of}
 use Rattle.flowlabel.specs.ByFile.{ByFile, Role, at, each, turn, with_at}
 use Rattle.flowlabel.specs.declared.by_file.Role.TheVariants as role
 use Rattle.flowlabel.specs.declared.bytes_fault.BytesFault.TheVariants.{Map as InMap, List as InList, Certificate as InCertificate, Flows as InFlows}
-use Rattle.flowlabel.specs.Output.{BytesFault, CertificateThen, Decodes, Faulty, NoMemory, Outcome, OutputFault, ListThen, MapThen, Prints, PrintsCompact, PrintsRuns, label_text, ReportsOf, ReportsThen, Returns, Then, Unread}
+use Rattle.flowlabel.specs.Output.{BytesFault, CertificateThen, Decodes, Faulty, NoMemory, Outcome, OutputFault, ListThen, Prints, PrintsCompact, PrintsRuns, label_text, ReportsOf, ReportsThen, Returns, Then, Unread}
 use Rattle.pmap_text.specs.ListModel.{ListModel}
-use Rattle.pmap_text.specs.MapModel.{MapModel}
 use Rattle.pmap_text.specs.MapText.{map_of}
 use Rattle.pmap_text.specs.PrefixList.{list_of}
-use Rattle.pmap_text.specs.Reading.{ReadsList, ReadsMap, list_reading, map_reading}
-use Rattle.pmap_text.specs.declared.map_text.MapText.{MapText}
-use Rattle.pmap_text.specs.declared.prefix_list.PrefixList.{PrefixList}
-use Rattle.flowlabel.specs.declared.run.labels.LabelsRead.TheVariants as labels_read
-use Rattle.flowlabel.specs.Reports.{AreLabels, IsMade, IsReadOf, IsWhole, ReadsLabels, TakesFile, labelling_found}
+use Rattle.pmap_cert.specs.FormatReading.{format_reading}
+use Rattle.pmap_text.specs.Reading.{list_reading, map_reading}
+use Rattle.flowlabel.specs.declared.run.labels.LabelsRead.{LabelsRead}
+use Rattle.flowlabel.specs.Reports.{AreLabels, IsMade, IsReadOf, IsWhole, ReadsLabels, TakesFile, labelling_found, labelling_read}
 use Rattle.flowlabel.specs.Request.{FromList, FromMap, LabelSource, Text, source_with}
 use Rattle.flowlabel.specs.Run.{AreKeptBehind, AreTexts, IsFaultOf, Source, any_failed, bytes_of, is_unread, source_failed}
 
@@ -101,8 +99,8 @@ source_stays texts bytes (Some (FromList file)) = refl
 labels_then : (text : Option Labelling → List MessageView → List ℕ) (source : Option LabelSource) (labels : Option Labelling) (flows : List ℕ) (outcome : Outcome)
     → ReadsLabels source labels → ReportsOf text labels flows outcome → ReportsThen text source flows outcome
 labels_then text None labels flows outcome reads is = subst (λ (l : Option Labelling). ReportsOf text l flows outcome) reads is
-labels_then text (Some (FromMap map)) labels flows outcome (m, reads, same) is = inr (m, reads, subst (λ (l : Option Labelling). ReportsOf text l flows outcome) same is)
-labels_then text (Some (FromList list)) labels flows outcome (l, reads, same) is = inr (l, reads, subst (λ (l : Option Labelling). ReportsOf text l flows outcome) same is)
+labels_then text (Some (FromMap map)) labels flows outcome (m, reads, same) is = rw reads (subst (λ (l : Option Labelling). ReportsOf text l flows outcome) same is)
+labels_then text (Some (FromList list)) labels flows outcome (l, reads, same) is = rw reads (subst (λ (l : Option Labelling). ReportsOf text l flows outcome) same is)
 
 -- its faults are those of the flows
 flows_only : (text : Option Labelling → List MessageView → List ℕ) (labels : Option Labelling) (flows : List ℕ) (fault : BytesFault)
@@ -111,61 +109,40 @@ flows_only text labels flows (InFlows fault) is = omega arith
 flows_only text labels flows fault (inl (own, has, is)) = cc
 flows_only text labels flows fault (inr (messages, whole, is)) = cc
 
--- the faults of a list and of what comes after it
+-- a fault of a text, or of what comes after it, is of no earlier file
+pub then_first : {F A : Type 0} (in_file : F → BytesFault) (rest : A → Outcome → Type 0) (n : ℕ) (reading : Result A F) (fault : BytesFault)
+    → ((own : F) → n ≤ turn (role_of (in_file own))) → ((value : A) → rest value (Err fault) → n ≤ turn (role_of fault))
+    → Then in_file rest reading (Err fault) → n ≤ turn (role_of fault)
+then_first in_file rest n (Ok value) fault least behind is = behind value is
+then_first in_file rest n (Err own) fault least behind is =
+    let same : fault ≡ in_file own = cc in subst (λ (f : BytesFault). n ≤ turn (role_of f)) (sym same) (least own)
+
 pub list_first : (rest : ListModel → Outcome → Type 0) (text : List ℕ) (fault : BytesFault)
     → ((l : ListModel) → rest l (Err fault) → 1 ≤ turn (role_of fault)) → ListThen rest text (Err fault) → 1 ≤ turn (role_of fault)
-list_first rest text (InList own) behind is = omega arith
-list_first rest text fault behind (inl (own, fails, is)) = cc
-list_first rest text fault behind (inr (l, reads, is)) = behind l is
-
--- what comes of a text that is read
-pub map_back : (rest : MapModel → Outcome → Type 0) (text : List ℕ) (m : MapModel) (outcome : Outcome) → ReadsMap text m → MapThen rest text outcome
-    → rest m outcome
-map_back rest text m outcome reads (inl (own, fails, is)) = cc
-map_back rest text m outcome reads (inr (k, other, is)) = let same : k ≡ m = cc in subst (λ (x : MapModel). rest x outcome) same is
-
-pub list_back : (rest : ListModel → Outcome → Type 0) (text : List ℕ) (l : ListModel) (outcome : Outcome) → ReadsList text l → ListThen rest text outcome
-    → rest l outcome
-list_back rest text l outcome reads (inl (own, fails, is)) = cc
-list_back rest text l outcome reads (inr (k, other, is)) = let same : k ≡ l = cc in subst (λ (x : ListModel). rest x outcome) same is
+list_first rest text fault = then_first InList rest 1 (list_reading text) fault (λ own. omega arith)
 
 pub label_first : (address : AddressOf) (text : List ℕ) (fault : BytesFault)
     → ListThen (λ l. Prints (label_text address (labelling_of_list l))) text (Err fault) → 1 ≤ turn (role_of fault)
-label_first address text (InList own) is = omega arith
-label_first address text fault (inl (own, fails, is)) = cc
-label_first address text fault (inr (l, reads, is)) = cc
+label_first address text fault = list_first (λ l. Prints (label_text address (labelling_of_list l))) text fault (λ l is. cc)
 
 pub runs_first : (text : List ℕ) (fault : BytesFault) → ListThen (λ l. PrintsRuns (labelling_of_list l)) text (Err fault) → 1 ≤ turn (role_of fault)
-runs_first text (InList own) is = omega arith
-runs_first text fault (inl (own, fails, is)) = cc
-runs_first text fault (inr (l, reads, (out, runs, is))) = cc
+runs_first text fault = list_first (λ l. PrintsRuns (labelling_of_list l)) text fault (λ l (out, runs, is). cc)
 
 pub certificate_first : (text : List ℕ) (fault : BytesFault) → CertificateThen PrintsCompact text (Err fault) → 2 ≤ turn (role_of fault)
-certificate_first text (InCertificate own) is = omega arith
-certificate_first text fault (inl (own, fails, is)) = cc
-certificate_first text fault (inr (c, reads, is)) = cc
+certificate_first text fault = then_first InCertificate PrintsCompact 2 (format_reading text) fault (λ own. omega arith) (λ c is. cc)
 
 flows_last : (text : Option Labelling → List MessageView → List ℕ) (source : Option LabelSource) (labels : Option Labelling) (flows : List ℕ) (fault : BytesFault)
     → ReadsLabels source labels → ReportsThen text source flows (Err fault) → 3 ≤ turn (role_of fault)
 flows_last text None labels flows fault reads is = flows_only text None flows fault is
-flows_last text (Some (FromMap map)) labels flows fault (m, reads, same) (inl (own, fails, is)) = cc
-flows_last text (Some (FromMap map)) labels flows fault (m, reads, same) (inr (k, other, is)) = flows_only text _ flows fault is
-flows_last text (Some (FromList list)) labels flows fault (l, reads, same) (inl (own, fails, is)) = cc
-flows_last text (Some (FromList list)) labels flows fault (l, reads, same) (inr (k, other, is)) = flows_only text _ flows fault is
+flows_last text (Some (FromMap map)) labels flows fault (m, reads, same) is = flows_only text (Some (labelling_of_map m)) flows fault (rw reads at is)
+flows_last text (Some (FromList list)) labels flows fault (l, reads, same) is = flows_only text (Some (labelling_of_list l)) flows fault (rw reads at is)
 
--- what comes of reading a text, by its first fault or by its value
-pub fault_returned : {F A B : Type 0} (Fails : F → Type 0) (in_file : F → BytesFault) (Reads : A → Type 0) (Holds : B → Type 0) (rest : A → Outcome → Type 0)
-    (fault : OutputFault) → Decodes Fails in_file Holds (Err fault) → Returns (Then Fails in_file Reads rest) (Err fault)
-fault_returned Fails in_file Reads Holds rest NoMemory is = tt
-fault_returned Fails in_file Reads Holds rest (Unread role) is = absurd is
-fault_returned Fails in_file Reads Holds rest (Faulty fault) (own, fails, is) = inl (own, fails, ap Err is)
-
-pub value_returned : {F A : Type 0} (Fails : F → Type 0) (in_file : F → BytesFault) (Reads : A → Type 0) (rest : A → Outcome → Type 0) (value : A)
-    (result : Result (Vec ℕ) OutputFault) → Reads value → Returns (rest value) result → Returns (Then Fails in_file Reads rest) result
-value_returned Fails in_file Reads rest value (Ok out) reads is = inr (value, reads, is)
-value_returned Fails in_file Reads rest value (Err NoMemory) reads is = tt
-value_returned Fails in_file Reads rest value (Err (Unread role)) reads is = absurd is
-value_returned Fails in_file Reads rest value (Err (Faulty fault)) reads is = inr (value, reads, is)
+-- what comes of a text that has a fault
+pub fault_returned : {F A V : Type 0} (in_file : F → BytesFault) (model : V → A) (rest : A → Outcome → Type 0) (reading : Result A F) (fault : OutputFault)
+    → Decodes in_file model reading (Err fault) → Returns (Then in_file rest reading) (Err fault)
+fault_returned in_file model rest reading NoMemory is = tt
+fault_returned in_file model rest reading (Unread role) is = absurd is
+fault_returned in_file model rest reading (Faulty fault) (own, fails, is) = rw fails (ap Err is)
 
 -- of which file a reader can have failed
 pub unread_at : (q p : Role) (given : Option (List ℕ)) (fault : OutputFault) → IsWhole q given (Err fault)
@@ -339,24 +316,16 @@ module _ {R : Type 0} {left : R → Option (List ℕ)} {failed : R → Bool} whe
         }
 
     -- The labels of a report from a map or a list: they are read, the file can't be read, or its text has a fault.
-    pub map_read : (file : Text) (new : ByFile (Option (Source R))) (text : Vec ℕ) (map : MapText) → IsReadOf left failed role.Map old new (Ok text)
-        → ReadsMap text.items (map_of map) → AreLabels left failed (Some (FromMap file)) old new (Ok (labels_read.Map map))
-    map_read file new text map read reads = (
-      with_at role.Map text.items (texts_of left new),
-      text_given left old new (texts_of left new) role.Map (at role.Map new) text.items read.others (texts_given left new) read.whole,
-      (map_of map, reads, refl),
-      kept_behind old new role.Map (at role.Map new) read.others role.Flows (omega arith),
-      read_tells role.Map new (Ok text) read,
-    )
-
-    pub list_read : (file : Text) (new : ByFile (Option (Source R))) (text : Vec ℕ) (list : PrefixList) → IsReadOf left failed role.List old new (Ok text)
-        → ReadsList text.items (list_of list) → AreLabels left failed (Some (FromList file)) old new (Ok (labels_read.List list))
-    list_read file new text list read reads = (
-      with_at role.List text.items (texts_of left new),
-      text_given left old new (texts_of left new) role.List (at role.List new) text.items read.others (texts_given left new) read.whole,
-      (list_of list, reads, refl),
-      kept_behind old new role.List (at role.List new) read.others role.Flows (omega arith),
-      read_tells role.List new (Ok text) read,
+    pub labels_made : (source : Option LabelSource) (r : Role) (new : ByFile (Option (Source R))) (text : Vec ℕ) (read : LabelsRead)
+        → IsReadOf left failed r old new (Ok text) → turn r < 3
+        → ReadsLabels (option_map (source_with (with_at r text.items (texts_of left new))) source) (labelling_read read)
+        → AreLabels left failed source old new (Ok read)
+    labels_made source r new text read is early reads = (
+      with_at r text.items (texts_of left new),
+      text_given left old new (texts_of left new) r (at r new) text.items is.others (texts_given left new) is.whole,
+      reads,
+      kept_behind old new r (at r new) is.others role.Flows early,
+      read_tells r new (Ok text) is,
     )
 
     pub map_unread : (file : Text) (new : ByFile (Option (Source R))) (fault : OutputFault) → IsReadOf left failed role.Map old new (Err fault)
@@ -372,22 +341,20 @@ module _ {R : Type 0} {left : R → Option (List ℕ)} {failed : R → Bool} whe
         (λ l is. omega (arith, flows_only text (Some (labelling_of_list l)) texts.flows fault is))) read
 
     pub map_faulty : (file : Text) (new : ByFile (Option (Source R))) (text : Vec ℕ) (fault : OutputFault) → IsReadOf left failed role.Map old new (Ok text)
-        → Decodes {A = MapText} (λ own. map_reading text.items ≡ Err own) InMap (λ map. ReadsMap text.items (map_of map)) (Err fault)
+        → Decodes InMap map_of (map_reading text.items) (Err fault)
         → AreLabels left failed (Some (FromMap file)) old new (Err fault)
     map_faulty file new text fault read is report =
         whole_made (λ texts. ReportsThen report (Some (FromMap texts.map)) texts.flows) role.Map new text (Err fault) (λ texts fault is. omega arith) read
-        (fault_returned _ InMap (ReadsMap text.items) (λ map. ReadsMap text.items (map_of map))
-        (λ m. ReportsOf report (Some (labelling_of_map m)) (texts_of left new).flows) fault is)
+        (fault_returned InMap map_of (λ m. ReportsOf report (Some (labelling_of_map m)) (texts_of left new).flows) (map_reading text.items) fault is)
 
     pub list_faulty : (file : Text) (new : ByFile (Option (Source R))) (text : Vec ℕ) (fault : OutputFault) → IsReadOf left failed role.List old new (Ok text)
-        → Decodes {A = PrefixList} (λ own. list_reading text.items ≡ Err own) InList (λ list. ReadsList text.items (list_of list)) (Err fault)
+        → Decodes InList list_of (list_reading text.items) (Err fault)
         → AreLabels left failed (Some (FromList file)) old new (Err fault)
     list_faulty file new text fault read is report =
         whole_made (λ texts. ReportsThen report (Some (FromList texts.list)) texts.flows) role.List new text (Err fault)
         (λ texts fault. list_first (λ l. ReportsOf report (Some (labelling_of_list l)) texts.flows) texts.list fault
         (λ l is. omega (arith, flows_only report (Some (labelling_of_list l)) texts.flows fault is))) read
-        (fault_returned _ InList (ReadsList text.items) (λ list. ReadsList text.items (list_of list))
-        (λ l. ReportsOf report (Some (labelling_of_list l)) (texts_of left new).flows) fault is)
+        (fault_returned InList list_of (λ l. ReportsOf report (Some (labelling_of_list l)) (texts_of left new).flows) (list_reading text.items) fault is)
 
     -- A report on a File, whose labels are read.
     module _ (text : Option Labelling → List MessageView → List ℕ) (source : Option LabelSource) (mid : ByFile (Option (Source R)))

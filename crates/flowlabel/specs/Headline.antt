@@ -6,9 +6,10 @@ use Rattle.pmap_cert.specs.Acceptance.{IsLeast, IsInOrder}
 use Rattle.pmap_cert.specs.CertificateText.{certificate_text}
 use Rattle.pmap_cert.specs.CertificateModel.{CertificateModel}
 use Rattle.pmap_cert.specs.Compacting.{compact, line_count}
+use Rattle.pmap_cert.specs.FormatReading.{format_reading}
 use Rattle.cert_check.specs.Checking.{first_fault}
 use Rattle.pmap_print.specs.List.{list_text, labels_of, IsWellFormed}
-use Rattle.flowlabel.specs.Output.{IsOutput, ReadsCertificate, minimal_text, shrunk_text}
+use Rattle.flowlabel.specs.Output.{IsOutput, minimal_text, shrunk_text}
 use Rattle.flowlabel.specs.Request.{FromList, FromMap, LabelSource, Request, Shrunk, Text, cat, check, label, recert, rows, shrink, uniq}
 
 -- The headline: what a command that ends without a fault has written.
@@ -22,9 +23,9 @@ pub record IsShortest (m : MapModel) (l : ListModel) (c : CertificateModel) : Ty
   pub name : l.name ≡ m.name
   pub form : IsWellFormed l
   pub order : IsInOrder l.prefixes
-  pub has_text : ReadsCertificate (certificate_text c) c
+  pub has_text : format_reading (certificate_text c) ≡ Ok c
   pub accepted : first_fault m l c ≡ None
-  pub has_compact_text : ReadsCertificate (certificate_text (compact c)) (compact c)
+  pub has_compact_text : format_reading (certificate_text (compact c)) ≡ Ok (compact c)
   pub compact_accepted : first_fault m l (compact c) ≡ None
 
 -- If the text is the output under a map text, it is also the output under each list text whose list labels every address
@@ -45,8 +46,8 @@ IsCheckedLeast map list out = (m : MapModel) × (l : ListModel) × ReadsMap map 
 pub record IsAsGood (before after : Text) : Type 0 where
   pub old : CertificateModel
   pub new : CertificateModel
-  pub reads_old : ReadsCertificate before old
-  pub reads_new : ReadsCertificate after new
+  pub reads_old : format_reading before ≡ Ok old
+  pub reads_new : format_reading after ≡ Ok new
   pub compacted : new ≡ compact old
   pub lines : line_count new.root ≤ line_count old.root
   pub again : IsOutput (recert after) (Ok after)

@@ -3,7 +3,7 @@ use Rattle.std.specs.Global.{Vec}
 use Rattle.prefix_keys.specs.Text.{AddressOf}
 use Rattle.pmap_text.specs.ListModel.{ListModel}
 use Rattle.pmap_text.specs.MapModel.{MapModel}
-use Rattle.pmap_text.specs.Reading.{ReadsList, ReadsMap, list_reading, map_reading}
+use Rattle.pmap_text.specs.Reading.{list_reading, map_reading}
 use Rattle.pmap_cert.specs.Acceptance.{IsMinimalPair}
 use Rattle.pmap_cert.specs.CertificateText.{certificate_text}
 use Rattle.pmap_cert.specs.CertificateModel.{CertificateModel}
@@ -13,6 +13,7 @@ use Rattle.cert_check.specs.Checking.{first_fault}
 use Rattle.cert_check.specs.declared.fault.CheckFault.{CheckFault}
 use Rattle.ipfix_read.specs.Messages.{HasFileFault, ReadsFile}
 use Rattle.ipfix_read.specs.Message.{MessageView}
+use Rattle.ipfix_read.specs.declared.fault.ReadFault.{ReadFault}
 use Rattle.flow_rows.specs.Counts.{counts_of}
 use Rattle.flow_rows.specs.Elements.{RowView}
 use Rattle.flow_filter.specs.Condition.{Condition, passing_rows}
@@ -41,27 +42,25 @@ Outcome = Result (List ℕ) BytesFault
 abbrev pub Prints : List ℕ → Outcome → Type 0
 Prints text outcome = outcome ≡ Ok text
 
--- the outcome over a file's text: the text's first fault, or the outcome for the value that the text is read as
-abbrev pub Then : {F A : Type 0} → (F → Type 0) → (F → BytesFault) → (A → Type 0) → (A → Outcome → Type 0) → Outcome → Type 0
-Then {F} {A} Fails in_file Reads rest outcome =
-    ((fault : F) × Fails fault × (outcome ≡ Err (in_file fault))) ⊎ ((value : A) × Reads value × rest value outcome)
+-- the outcome over a file's text, by its reading: the text's first fault, or the outcome for the value that the text is read as
+abbrev pub Then : {F A : Type 0} → (F → BytesFault) → (A → Outcome → Type 0) → Result A F → Outcome → Type 0
+Then in_file rest (Ok value) outcome = rest value outcome
+Then in_file rest (Err fault) outcome = outcome ≡ Err (in_file fault)
 
--- the outcomes over the text of a map, of a list and of a certificate, and over the bytes of an IPFIX File
+-- the outcomes over the text of a map, of a list and of a certificate of either format, and over the bytes of an IPFIX File
 abbrev pub MapThen : (MapModel → Outcome → Type 0) → List ℕ → Outcome → Type 0
-MapThen rest text = Then (λ fault. map_reading text ≡ Err fault) InMap (ReadsMap text) rest
+MapThen rest text = Then InMap rest (map_reading text)
 
 abbrev pub ListThen : (ListModel → Outcome → Type 0) → List ℕ → Outcome → Type 0
-ListThen rest text = Then (λ fault. list_reading text ≡ Err fault) InList (ReadsList text) rest
-
--- the text is read as the certificate, of either format
-abbrev pub ReadsCertificate : List ℕ → CertificateModel → Type 0
-ReadsCertificate text certificate = format_reading text ≡ Ok certificate
+ListThen rest text = Then InList rest (list_reading text)
 
 abbrev pub CertificateThen : (CertificateModel → Outcome → Type 0) → List ℕ → Outcome → Type 0
-CertificateThen rest text = Then (λ fault. format_reading text ≡ Err fault) InCertificate (ReadsCertificate text) rest
+CertificateThen rest text = Then InCertificate rest (format_reading text)
 
 abbrev pub FlowsThen : (List MessageView → Outcome → Type 0) → List ℕ → Outcome → Type 0
-FlowsThen rest bytes = Then (HasFileFault [] 0 0 bytes) InFlows (ReadsFile [] 0 bytes) rest
+FlowsThen rest bytes outcome =
+    ((fault : ReadFault) × HasFileFault [] 0 0 bytes fault × (outcome ≡ Err (InFlows fault)))
+    ⊎ ((messages : List MessageView) × ReadsFile [] 0 bytes messages × rest messages outcome)
 
 -- the outcome over the text of a source of labels: its first fault, or the outcome for its labelling
 abbrev pub LabelsThen : (Labelling → Outcome → Type 0) → LabelSource → Outcome → Type 0
@@ -90,7 +89,7 @@ shrunk_text shrunk.Compact l c = certificate_text (compact c)
 -- is read again from its text
 abbrev pub PrintsMinimal : Shrunk → MapModel → Outcome → Type 0
 PrintsMinimal printed m outcome =
-    (l : ListModel) × (c : CertificateModel) × IsMinimalPair m l c × ReadsCertificate (certificate_text c) c × Prints (shrunk_text printed l c) outcome
+    (l : ListModel) × (c : CertificateModel) × IsMinimalPair m l c × (format_reading (certificate_text c) ≡ Ok c) × Prints (shrunk_text printed l c) outcome
 
 -- the labels of a row's source and destination
 abbrev pub row_labels : Labelling → RowView → LabelTexts
@@ -160,8 +159,8 @@ Returns Is (Err (Unread role)) = ⊥
 Returns Is (Err (Faulty fault)) = Is (Err fault)
 
 -- what a call returns that reads a text: a value, or the text's first fault
-abbrev pub Decodes : {F A : Type 0} → (F → Type 0) → (F → BytesFault) → (A → Type 0) → Result A OutputFault → Type 0
-Decodes Fails in_file Reads (Ok value) = Reads value
-Decodes Fails in_file Reads (Err NoMemory) = Unit {0}
-Decodes Fails in_file Reads (Err (Unread role)) = ⊥
-Decodes {F} {A} Fails in_file Reads (Err (Faulty fault)) = (own : F) × Fails own × (fault ≡ in_file own)
+abbrev pub Decodes : {F A V : Type 0} → (F → BytesFault) → (V → A) → Result A F → Result V OutputFault → Type 0
+Decodes in_file model reading (Ok value) = reading ≡ Ok (model value)
+Decodes in_file model reading (Err NoMemory) = Unit {0}
+Decodes in_file model reading (Err (Unread role)) = ⊥
+Decodes {F} in_file model reading (Err (Faulty fault)) = (own : F) × (reading ≡ Err own) × (fault ≡ in_file own)

@@ -2,11 +2,11 @@
 ghost use Rattle.std.specs.Prelude.{◌≡◌, Err, IfErr, IfOk, Ok, false};
 ghost use Rattle.pmap_text.specs.MapText.{map_of};
 ghost use Rattle.pmap_text.specs.PrefixList.{list_of};
-ghost use Rattle.pmap_text.specs.Reading.{ReadsList, ReadsMap, list_reading, map_reading};
+ghost use Rattle.pmap_text.specs.Reading.{list_reading, map_reading};
 ghost use Rattle.pmap_cert.specs.Certificate.{certificate_of};
 ghost use Rattle.pmap_cert.specs.FormatReading.{format_reading};
 ghost use Rattle.flowlabel.specs.declared.bytes_fault.BytesFault.TheVariants.{Certificate as InCertificate, List as InList, Map as InMap};
-ghost use Rattle.flowlabel.specs.Output.{Decodes, ReadsCertificate};
+ghost use Rattle.flowlabel.specs.Output.{Decodes};
 ghost use Rattle.flowlabel.specs.Reports.{IsReadOf, IsWhole};
 ghost use Rattle.flowlabel.specs.Run.{any_failed, bytes_of, is_unread, source_failed};
 
@@ -69,7 +69,7 @@ pub fn read<R: Input>(
 
 /// Reads the text of a map.
 pub fn map_in(alloc: Global, text: Vec<u8>, hashing: KeyHashing) -> Result<MapText, OutputFault>
-    ensures { Decodes (λ fault. map_reading text.items ≡ Err fault) InMap (λ map. ReadsMap text.items (map_of map)) result }
+    ensures { Decodes InMap map_of (map_reading text.items) result }
 {
     read_map_with_hashing(alloc, text.as_slice(), hashing).map_err(|fault| OutputFault::of(
         BytesFault::Map(fault),
@@ -78,7 +78,7 @@ pub fn map_in(alloc: Global, text: Vec<u8>, hashing: KeyHashing) -> Result<MapTe
 
 /// Reads the text of a list.
 pub fn list_in(alloc: Global, text: Vec<u8>, hashing: KeyHashing) -> Result<PrefixList, OutputFault>
-    ensures { Decodes (λ fault. list_reading text.items ≡ Err fault) InList (λ list. ReadsList text.items (list_of list)) result }
+    ensures { Decodes InList list_of (list_reading text.items) result }
 {
     read_list_with_hashing(alloc, text.as_slice(), hashing).map_err(|fault| OutputFault::of(
         BytesFault::List(fault),
@@ -91,8 +91,7 @@ pub fn certificate_in(
     text: Vec<u8>,
     hashing: KeyHashing,
 ) -> Result<Certificate, OutputFault>
-    ensures { Decodes (λ fault. format_reading text.items ≡ Err fault) InCertificate
-        (λ certificate. ReadsCertificate text.items (certificate_of certificate)) result }
+    ensures { Decodes InCertificate certificate_of (format_reading text.items) result }
 {
     let certificate = read_cert_with_hashing(alloc, text.as_slice(), hashing).map_err(
         |fault| OutputFault::of(BytesFault::Certificate(fault)),

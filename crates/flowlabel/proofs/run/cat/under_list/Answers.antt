@@ -1,4 +1,4 @@
-use Rattle.std.proofs.Common.{inr, refl}
+use Rattle.std.proofs.Common.{refl}
 use Rattle.pmap_text.specs.ListModel.{list_label}
 use Rattle.pmap_text.specs.PrefixList.{list_of}
 use Rattle.pmap_text.specs.Stretches.{text_held}
@@ -11,14 +11,10 @@ returns c =
     let version = c.in_ok-stretches.ensures.version in
     let out = c.in_ok-print_runs.field-0.items in
     let alike = c.labelling_has_one_runs_text.ensures.alike in
-    inr (
-      list_of list,
-      c.in_ok-list.ensures,
-      (
-        out,
-        alike list.version (list_label (list_of list)) _ out (same_at_addresses list.version (list_label (list_of list)))
-            (alike list.version (text_held list.labels c.in_ok-stretches.stretches) (list_label (list_of list)) out
-            c.in_ok-stretches.ensures.labels (rw version at c.in_ok-print_runs.ensures)),
-        refl,
-      ),
+    rw c.in_ok-list.ensures (
+      out,
+      alike list.version (list_label (list_of list)) _ out (same_at_addresses list.version (list_label (list_of list)))
+          (alike list.version (text_held list.labels c.in_ok-stretches.stretches) (list_label (list_of list)) out
+          c.in_ok-stretches.ensures.labels (rw version at c.in_ok-print_runs.ensures)),
+      refl,
     )

@@ -1,11 +1,12 @@
-use Rattle.std.proofs.Common.{◌≡◌, ◌<◌, ◌≤◌, ℕ, Bool, List, Option, None, Some, Result, Err, Ok, false, arith, length, inl, inr, refl, subst, sym}
+use Rattle.std.proofs.Common.{◌≡◌, ◌<◌, ◌≤◌, ℕ, Bool, List, Option, None, Some, Result, Err, Ok, false, arith, length, refl, subst, sym}
 use Rattle.std.specs.Result.{IsErrAnd}
 use Rattle.std.specs.Global.{Vec}
 use Rattle.pmap_text.specs.ListModel.{ListModel}
 use Rattle.pmap_text.specs.MapModel.{MapModel}
 use Rattle.pmap_text.specs.MapText.{map_of}
 use Rattle.pmap_text.specs.PrefixList.{list_of}
-use Rattle.pmap_text.specs.Reading.{ReadsList, ReadsMap}
+use Rattle.pmap_cert.specs.FormatReading.{format_reading}
+use Rattle.pmap_text.specs.Reading.{ReadsList, ReadsMap, list_reading, map_reading}
 use Rattle.pmap_cert.specs.Certificate.{certificate_of}
 use Rattle.cert_check.specs.Checking.{first_fault}
 use Rattle.cert_check.specs.declared.fault.CheckFault.{CheckFault}
@@ -13,11 +14,11 @@ use Rattle.flowlabel.specs.BytesFault.{role_of}
 use Rattle.flowlabel.specs.ByFile.{ByFile, Role, turn}
 use Rattle.flowlabel.specs.declared.by_file.Role.TheVariants as role
 use Rattle.flowlabel.specs.declared.bytes_fault.BytesFault.TheVariants.{Map as InMap, List as InList, Certificate as InCertificate, Check as InCheck}
-use Rattle.flowlabel.specs.Output.{BytesFault, CertificateThen, Checks, ListThen, MapThen, Outcome, OutputFault, ReadsCertificate, Unread, checked}
+use Rattle.flowlabel.specs.Output.{BytesFault, CertificateThen, Checks, ListThen, MapThen, Outcome, OutputFault, Returns, Unread, checked}
 use Rattle.flowlabel.specs.Reports.{IsMade, IsReadOf}
 use Rattle.flowlabel.specs.Request.{Text}
 use Rattle.flowlabel.specs.Run.{Source, any_failed, bytes_of}
-use Rattle.flowlabel.proofs.MadeLemmas.{fault_returned, handed_on, list_back, list_first, map_back, never_unread, read_tells, texts_of, then_made, unread_at, unread_made, value_returned, whole_made}
+use Rattle.flowlabel.proofs.MadeLemmas.{fault_returned, handed_on, list_first, never_unread, read_tells, texts_of, then_first, then_made, unread_at, unread_made, whole_made}
 use Rattle.flowlabel.proofs.run.check.output.Goals as goal
 
 -- the outcomes over all three texts, once the map is read, and once the list is too
@@ -36,10 +37,8 @@ not_checked (Some own) count (InCheck fault) is = omega arith
 not_checked (Some own) count fault is = cc
 
 certificate_behind : (m : MapModel) (l : ListModel) (text : List ℕ) (fault : BytesFault) → CertificateThen (Checks m l) text (Err fault) → 2 ≤ turn (role_of fault)
-certificate_behind m l text (InCertificate own) is = omega arith
-certificate_behind m l text (InCheck own) is = omega arith
-certificate_behind m l text fault (inl (own, fails, is)) = cc
-certificate_behind m l text fault (inr (c, reads, is)) = not_checked (first_fault m l c) (length l.prefixes) fault is
+certificate_behind m l text fault =
+    then_first InCertificate (Checks m l) 2 (format_reading text) fault (λ own. omega arith) (λ c. not_checked (first_fault m l c) (length l.prefixes) fault)
 
 list_behind : (m : MapModel) (texts : ByFile Text) (fault : BytesFault) → OverList m texts (Err fault) → 1 ≤ turn (role_of fault)
 list_behind m texts fault =
@@ -51,8 +50,7 @@ module _ {R : Type 0} {left : R → Option (List ℕ)} {failed : R → Bool} whe
       → ((p : Role) → result ≡ Err (Unread p) → 0 < turn p) → IsMade left failed (OverList m) mid new result → IsMade left failed OverMap old new result
   then_map old none m mid new text result read reads behind =
       then_made old none OverMap (OverList m) role.Map mid new text result (λ texts fault is. omega arith) read
-      (λ texts outcome is. inr (m, reads, is))
-      (λ texts outcome. map_back (λ m. ListThen (λ l. CertificateThen (Checks m l) texts.certificate) texts.list) text.items m outcome reads) behind
+      (λ texts outcome is. rw reads is) (λ texts outcome is. rw reads at is) behind
 
   then_list : (old : ByFile (Option (Source R))) (none : any_failed failed old ≡ false) (m : MapModel) (l : ListModel) (mid new : ByFile (Option (Source R)))
       (text : Vec ℕ) (result : Result (Vec ℕ) OutputFault) → IsReadOf left failed role.List old mid (Ok text) → ReadsList text.items l
@@ -60,8 +58,7 @@ module _ {R : Type 0} {left : R → Option (List ℕ)} {failed : R → Bool} whe
       → IsMade left failed (OverList m) old new result
   then_list old none m l mid new text result read reads behind =
       then_made old none (OverList m) (OverCertificate m l) role.List mid new text result (λ texts fault is. list_behind m texts fault is) read
-      (λ texts outcome is. inr (l, reads, is))
-      (λ texts outcome. list_back (λ l. CertificateThen (Checks m l) texts.certificate) text.items l outcome reads) behind
+      (λ texts outcome is. rw reads is) (λ texts outcome is. rw reads at is) behind
 
 -- a result that passes on the fault of a step
 handed : {R : Type 0} {left : R → Option (List ℕ)} {failed : R → Bool} (old new : ByFile (Option (Source R))) (result : Result (Vec ℕ) OutputFault) (fault : OutputFault)
@@ -83,7 +80,7 @@ returns-in_err-map g c =
     let text = c.in_ok-text.text in
     handed c.args.files.now c.read.new.files c.from_residual-in_err-map.result fault c.from_residual-in_err-map.ensures.1
     (whole_made c.args.files.now c.requires OverMap role.Map c.read.new.files text (Err fault) (λ texts fault is. omega arith) c.in_ok-text.ensures
-    (fault_returned _ InMap (ReadsMap text.items) (λ map. ReadsMap text.items (map_of map)) (λ m. OverList m (texts_of g.R.Input.bytes_left c.read.new.files)) fault
+    (fault_returned InMap map_of (λ m. OverList m (texts_of g.R.Input.bytes_left c.read.new.files)) (map_reading text.items) fault
     c.in_err-map.ensures))
 
 pub returns-in_err-text-2 : goal.returns-in_err-text-2
@@ -102,7 +99,7 @@ returns-in_err-list g c =
     let text = c.in_ok-text-2.text in
     let m = map_of c.in_ok-map.map in
     let none = read_tells c.args.files.now c.requires role.Map c.read.new.files (Ok c.in_ok-text.text) c.in_ok-text.ensures in
-    let returned = fault_returned _ InList (ReadsList text.items) (λ list. ReadsList text.items (list_of list)) (λ l. OverCertificate m l (texts_of g.R.Input.bytes_left c.read-2.new.files)) fault c.in_err-list.ensures in
+    let returned = fault_returned InList list_of (λ l. OverCertificate m l (texts_of g.R.Input.bytes_left c.read-2.new.files)) (list_reading text.items) fault c.in_err-list.ensures in
     handed c.args.files.now c.read-2.new.files c.from_residual-in_err-list.result fault c.from_residual-in_err-list.ensures.1
     (then_map c.args.files.now c.requires m c.read.new.files c.read-2.new.files c.in_ok-text.text (Err fault) c.in_ok-text.ensures
     c.in_ok-map.ensures (λ p e. absurd (never_unread (ListThen (λ l. OverCertificate m l (texts_of g.R.Input.bytes_left c.read-2.new.files)) text.items) (Err fault) p returned e))
@@ -132,7 +129,7 @@ returns-in_err-certificate g c =
     let l = list_of c.in_ok-list.list in
     let none = read_tells c.args.files.now c.requires role.Map c.read.new.files (Ok c.in_ok-text.text) c.in_ok-text.ensures in
     let none' = read_tells c.read.new.files none role.List c.read-2.new.files (Ok c.in_ok-text-2.text) c.in_ok-text-2.ensures in
-    let returned = fault_returned _ InCertificate (ReadsCertificate text.items) (λ certificate. ReadsCertificate text.items (certificate_of certificate)) (Checks m l) fault c.in_err-certificate.ensures in
+    let returned = fault_returned InCertificate certificate_of (Checks m l) (format_reading text.items) fault c.in_err-certificate.ensures in
     handed c.args.files.now c.read-3.new.files c.from_residual-in_err-certificate.result fault c.from_residual-in_err-certificate.ensures.1
     (then_map c.args.files.now c.requires m c.read.new.files c.read-3.new.files c.in_ok-text.text (Err fault) c.in_ok-text.ensures
     c.in_ok-map.ensures (λ p e. absurd (never_unread (CertificateThen (Checks m l) text.items) (Err fault) p returned e))
@@ -148,7 +145,7 @@ returns g c =
     let l = list_of c.in_ok-list.list in
     let none = read_tells c.args.files.now c.requires role.Map c.read.new.files (Ok c.in_ok-text.text) c.in_ok-text.ensures in
     let none' = read_tells c.read.new.files none role.List c.read-2.new.files (Ok c.in_ok-text-2.text) c.in_ok-text-2.ensures in
-    let returned = value_returned _ InCertificate (ReadsCertificate text.items) (Checks m l) (certificate_of c.in_ok-certificate.certificate) c.checked.result c.in_ok-certificate.ensures c.checked.ensures in
+    let returned : Returns (CertificateThen (Checks m l) text.items) c.checked.result = rw c.in_ok-certificate.ensures c.checked.ensures in
     (then_map c.args.files.now c.requires m c.read.new.files c.read-3.new.files c.in_ok-text.text c.checked.result c.in_ok-text.ensures
     c.in_ok-map.ensures (λ p e. absurd (never_unread (CertificateThen (Checks m l) text.items) c.checked.result p returned e))
     (then_list c.read.new.files none m l c.read-2.new.files c.read-3.new.files c.in_ok-text-2.text c.checked.result c.in_ok-text-2.ensures

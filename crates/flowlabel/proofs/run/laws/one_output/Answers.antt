@@ -1,4 +1,4 @@
-use Rattle.std.proofs.Common.{◌≡◌, ◌∙◌, ◌⊎◌, ℕ, List, [], Option, Some, None, Result, Ok, Err, ap, inl, inr, refl, subst}
+use Rattle.std.proofs.Common.{◌≡◌, ◌∙◌, ℕ, List, [], Option, Some, None, Result, Ok, Err, ap, inl, inr, refl}
 use Rattle.std.specs.Prelude.{◌↔◌, length}
 use Rattle.pmap_text.specs.Reading.{list_reading, map_reading}
 use Rattle.label_lookup.specs.Labelling.{Labelling, labelling_of_list, labelling_of_map}
@@ -9,11 +9,11 @@ use Rattle.pmap_cert.specs.FormatReading.{format_reading}
 use Rattle.cert_check.specs.Checking.{first_fault}
 use Rattle.ipfix_read.specs.Laws.{HasReading, OneReading}
 use Rattle.ipfix_read.specs.Message.{MessageView}
-use Rattle.ipfix_read.specs.Messages.{HasFileFault, ReadsFile}
+use Rattle.ipfix_read.specs.declared.fault.ReadFault.{ReadFault}
 use Rattle.flow_rows.specs.Counts.{counts_of}
 use Rattle.pmap_print.specs.Reports.{info_text}
 use Rattle.pmap_print.specs.Runs.{IsRunsText, runs_text}
-use Rattle.flowlabel.specs.Output.{BytesFault, CertificateThen, Checks, LabelsThen, ListThen, Outcome, Prints, PrintsCompact, PrintsMinimal, PrintsRuns, ReadsCertificate, ReportsOf, ReportsThen, Then, checked, label_text, report_of_groups, report_of_rows, shrunk_text}
+use Rattle.flowlabel.specs.Output.{BytesFault, CertificateThen, Checks, LabelsThen, ListThen, Outcome, Prints, PrintsCompact, PrintsMinimal, PrintsRuns, ReportsOf, ReportsThen, Then, checked, label_text, report_of_groups, report_of_rows, shrunk_text}
 use Rattle.flowlabel.specs.declared.bytes_fault.BytesFault.TheVariants.{Map as InMap, List as InList, Flows as InFlows, Certificate as InCertificate}
 use Rattle.flowlabel.specs.Request.{FromList, FromMap, LabelSource, label, info, rows, cat, shrink, check, uniq, recert}
 use Rattle.flowlabel.proofs.run.laws.one_output.Goals as goal
@@ -22,41 +22,11 @@ use Rattle.flowlabel.proofs.run.laws.one_output.Goals as goal
 abbrev One : (Outcome → Type 0) → Type 0
 One Is = (outcome : Outcome) × Is outcome × ((other : Outcome) → Is other → other ≡ outcome)
 
--- a text is read as one value, or has one fault
-abbrev HasOne : {F A : Type 0} → (F → Type 0) → (A → Type 0) → Type 0
-HasOne {F} {A} Fails Reads =
-    ((value : A) × Reads value × ((other : A) → Reads other → other ≡ value) × ((fault : F) → Fails fault → ⊥))
-    ⊎ ((fault : F) × Fails fault × ((other : F) → Fails other → other ≡ fault) × ((value : A) → Reads value → ⊥))
-
--- so there is one outcome over it, if there is one for each value
-then_one : {F A : Type 0} (Fails : F → Type 0) (in_file : F → BytesFault) (Reads : A → Type 0) (rest : A → Outcome → Type 0)
-    → HasOne Fails Reads → ((value : A) → Reads value → One (rest value)) → One (Then Fails in_file Reads rest)
-then_one {A = A} Fails in_file Reads rest (inl (value, reads, same, none)) one =
-    let (outcome, is, only) = one value reads in (
-      outcome,
-      inr (value, reads, is),
-      λ other found. elim found [
-        | inl (fault, fails, ends) ↦ absurd (none fault fails)
-        | inr (y, reads', is') ↦ only other (subst (λ (z : A). rest z other) (same y reads') is')
-      ],
-    )
-then_one {F} Fails in_file Reads rest (inr (fault, fails, same, none)) one = (
-  Err (in_file fault),
-  inl (fault, fails, refl),
-  λ other found. elim found [
-    | inl (f, fails', ends) ↦ ends ∙ ap (λ (g : F). Err (in_file g)) (same f fails')
-    | inr (y, reads, is) ↦ absurd (none y reads)
-  ],
-)
-
--- a text is read as the value of its reading, or has the fault of that
-reading_one : {F A : Type 0} (reading : Result A F) → HasOne (λ (f : F). reading ≡ Err f) (λ (x : A). reading ≡ Ok x)
-reading_one (Ok x) = inl (x, refl, (λ y reads. cc), (λ f fails. cc))
-reading_one (Err f) = inr (f, refl, (λ g fails. cc), (λ y reads. cc))
-
+-- there is one outcome over a text, if there is one for each value
 value_one : {F A : Type 0} (in_file : F → BytesFault) (reading : Result A F) (rest : A → Outcome → Type 0) → ((x : A) → reading ≡ Ok x → One (rest x))
-    → One (Then (λ (f : F). reading ≡ Err f) in_file (λ (x : A). reading ≡ Ok x) rest)
-value_one {F} {A} in_file reading rest = then_one _ in_file (λ (x : A). reading ≡ Ok x) rest (reading_one reading)
+    → One (Then in_file rest reading)
+value_one in_file (Ok x) rest one = one x refl
+value_one in_file (Err f) rest one = (Err (in_file f), refl, (λ other is. is))
 
 labels_one : (rest : Labelling → Outcome → Type 0) (source : LabelSource) → ((labels : Labelling) → One (rest labels)) → One (LabelsThen rest source)
 labels_one rest (FromMap text) one = value_one InMap (map_reading text) (λ m. rest (labelling_of_map m)) (λ m reads. one (labelling_of_map m))
@@ -69,12 +39,24 @@ report_one : HasReading → OneReading → (text : Option Labelling → List Mes
     → One (ReportsOf text labels bytes)
 report_one has once text labels bytes =
     let (one, one_fault, either) = once [] 0 0 bytes in
-    then_one (HasFileFault [] 0 0 bytes) InFlows (ReadsFile [] 0 bytes) (λ messages. Prints (text labels messages))
-    (elim (has [] 0 0 bytes) [
-      | inl (ms, reads) ↦ inl (ms, reads, (λ others reads'. one others ms reads' reads), (λ fault. either ms fault reads))
-      | inr (fault, fails) ↦ inr (fault, fails, (λ other fails'. one_fault other fault fails' fails), (λ ms reads. either ms fault reads fails))
-    ])
-    (λ messages reads. prints_one (text labels messages))
+    elim (has [] 0 0 bytes) [
+      | inl (ms, reads) ↦ (
+        Ok (text labels ms),
+        inr (ms, reads, refl),
+        λ other found. elim found [
+          | inl (fault, fails, is) ↦ absurd (either ms fault reads fails)
+          | inr (y, reads', is) ↦ is ∙ ap (λ (m : List MessageView). Ok (text labels m)) (one y ms reads' reads)
+        ],
+      )
+      | inr (fault, fails) ↦ (
+        Err (InFlows fault),
+        inl (fault, fails, refl),
+        λ other found. elim found [
+          | inl (f, fails', is) ↦ is ∙ ap (λ (g : ReadFault). Err (InFlows g)) (one_fault f fault fails' fails)
+          | inr (y, reads, is) ↦ absurd (either y fault reads fails)
+        ],
+      )
+    ]
 
 reports_one : HasReading → OneReading → (text : Option Labelling → List MessageView → List ℕ) (source : Option LabelSource) (flows : List ℕ)
     → One (ReportsThen text source flows)
@@ -84,7 +66,7 @@ reports_one has once text (Some source) flows =
 
 -- a certificate of format 1 that is read again from its text has one there
 has_form : ((text : List ℕ) (c : CertificateModel) → format_reading text ≡ Ok c ↔ (HasFormatText c × (text ≡ certificate_text c)))
-    → (c : CertificateModel) → c.format ≡ 1 → ReadsCertificate (certificate_text c) c → HasTextForm c
+    → (c : CertificateModel) → c.format ≡ 1 → format_reading (certificate_text c) ≡ Ok c → HasTextForm c
 has_form law c first reads = record { first = first; text = ((law (certificate_text c) c).0 reads).0 }
 
 pub returns : goal.returns

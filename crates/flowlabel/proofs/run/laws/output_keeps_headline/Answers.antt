@@ -1,26 +1,27 @@
-use Rattle.std.proofs.Common.{◌≡◌, ◌∙◌, ℕ, List, Option, None, Some, Ok, ap, inl, inr, refl, subst, sym}
+use Rattle.std.proofs.Common.{◌≡◌, ◌∙◌, ℕ, List, Option, None, Some, Result, Ok, Err, ap, refl, subst, sym}
 use Rattle.std.specs.Prelude.{length}
 use Rattle.pmap_text.specs.ListModel.{ListModel}
 use Rattle.pmap_text.specs.MapModel.{MapModel}
-use Rattle.pmap_text.specs.Reading.{ReadsList, ReadsMap}
+use Rattle.pmap_cert.specs.FormatReading.{format_reading}
+use Rattle.pmap_text.specs.Reading.{ReadsList, ReadsMap, list_reading, map_reading}
 use Rattle.pmap_cert.specs.CertificateText.{certificate_text}
 use Rattle.pmap_cert.specs.CertificateModel.{CertificateModel}
 use Rattle.pmap_cert.specs.Compacting.{compact}
 use Rattle.cert_check.specs.Checking.{first_fault}
 use Rattle.cert_check.specs.declared.fault.CheckFault.{CheckFault}
-use Rattle.label_lookup.specs.Labelling.{Labelling, labelling_of_list, labelling_of_map}
+use Rattle.label_lookup.specs.Labelling.{Labelling}
 use Rattle.label_lookup.proofs.Labellings.{same_labelling}
 use Rattle.flowlabel.specs.Headline.{IsSameUnder}
-use Rattle.flowlabel.specs.Output.{BytesFault, IsOutput, LabelsThen, Outcome, Prints, PrintsCompact, PrintsMinimal, PrintsRuns, ReadsCertificate, ReportsOf, Then, checked, label_text, minimal_text, report_of_groups, report_of_rows, shrunk_text}
+use Rattle.flowlabel.specs.Output.{BytesFault, CertificateThen, Checks, IsOutput, LabelsThen, ListThen, Outcome, Prints, PrintsCompact, PrintsMinimal, PrintsRuns, ReportsOf, Then, checked, label_text, minimal_text, report_of_groups, report_of_rows, shrunk_text}
 use Rattle.flowlabel.specs.Request.{FromList, FromMap, LabelSource, Request, Text, cat, check, label, recert, rows, shrink, uniq}
 use Rattle.flowlabel.specs.declared.bytes_fault.BytesFault.TheVariants.{Map as InMap, List as InList, Certificate as InCertificate}
 use Rattle.flowlabel.proofs.run.laws.output_keeps_headline.Goals as goal
 
 -- a text comes of the value that a file's text is read as
-printed_of : {F A : Type 0} (Fails : F → Type 0) (in_file : F → BytesFault) (Reads : A → Type 0) (rest : A → Outcome → Type 0) (out : List ℕ)
-    → Then Fails in_file Reads rest (Ok out) → (value : A) × Reads value × rest value (Ok out)
-printed_of Fails in_file Reads rest out (inl (fault, fails, is)) = cc
-printed_of Fails in_file Reads rest out (inr found) = found
+printed_of : {F A : Type 0} (in_file : F → BytesFault) (rest : A → Outcome → Type 0) (reading : Result A F) (out : List ℕ)
+    → Then in_file rest reading (Ok out) → (value : A) × (reading ≡ Ok value) × rest value (Ok out)
+printed_of in_file rest (Ok value) out is = (value, refl, is)
+printed_of in_file rest (Err fault) out is = cc
 
 -- a text that `check` prints comes of a certificate without a fault
 faultless : (found : Option CheckFault) (count : ℕ) (out : List ℕ) → Ok out ≡ checked found count → (found ≡ None) × (out ≡ minimal_text count)
@@ -28,13 +29,13 @@ faultless None count out is = (refl, cc)
 faultless (Some fault) count out is = cc
 
 checked_of : (map list certificate : Text) (out : List ℕ) → IsOutput (check map list certificate) (Ok out)
-    → (m : MapModel) × (l : ListModel) × (c : CertificateModel) × ReadsMap map m × ReadsList list l × ReadsCertificate certificate c
+    → (m : MapModel) × (l : ListModel) × (c : CertificateModel) × ReadsMap map m × ReadsList list l × (format_reading certificate ≡ Ok c)
     × (first_fault m l c ≡ None) × (out ≡ minimal_text (length l.prefixes))
-checked_of map list certificate out (inl (fault, fails, is)) = cc
-checked_of map list certificate out (inr (m, map_is, inl (fault, fails, is))) = cc
-checked_of map list certificate out (inr (m, map_is, inr (l, list_is, inl (fault, fails, is)))) = cc
-checked_of map list certificate out (inr (m, map_is, inr (l, list_is, inr (c, certificate_is, is)))) =
-    let (none, text) = faultless (first_fault m l c) (length l.prefixes) out is in (m, l, c, map_is, list_is, certificate_is, none, text)
+checked_of map list certificate out is =
+    let (m, map_is, listed) = printed_of InMap (λ m. ListThen (λ l. CertificateThen (Checks m l) certificate) list) (map_reading map) out is in
+    let (l, list_is, certified) = printed_of InList (λ l. CertificateThen (Checks m l) certificate) (list_reading list) out listed in
+    let (c, certificate_is, found) = printed_of InCertificate (Checks m l) (format_reading certificate) out certified in
+    let (none, text) = faultless (first_fault m l c) (length l.prefixes) out found in (m, l, c, map_is, list_is, certificate_is, none, text)
 
 -- a text under a source of labels is the same under an equivalent one, since the labellings are equal
 same_under : (rest : Labelling → Outcome → Type 0) (request : LabelSource → Request)
@@ -42,16 +43,10 @@ same_under : (rest : Labelling → Outcome → Type 0) (request : LabelSource �
     → (source : LabelSource) (out : List ℕ) → LabelsThen rest source (Ok out) → IsSameUnder request source out
 same_under rest request there (FromMap map) out is =
     λ m l list reads_map reads_list equivalent.
-    let (n, reads, made) = printed_of _ InMap (ReadsMap map) (λ k. rest (labelling_of_map k)) out is in
-    let one : n ≡ m = cc in
-    let same : labelling_of_map n ≡ labelling_of_list l = ap labelling_of_map one ∙ sym (same_labelling l m equivalent) in
-    there (FromList list) (Ok out) (inr (l, reads_list, subst (λ (k : Labelling). rest k (Ok out)) same made))
+    there (FromList list) (Ok out) (rw reads_list (subst (λ (k : Labelling). rest k (Ok out)) (sym (same_labelling l m equivalent)) (rw reads_map at is)))
 same_under rest request there (FromList list) out is =
     λ m l map reads_list reads_map equivalent.
-    let (k, reads, made) = printed_of _ InList (ReadsList list) (λ k. rest (labelling_of_list k)) out is in
-    let one : k ≡ l = cc in
-    let same : labelling_of_list k ≡ labelling_of_map m = ap labelling_of_list one ∙ same_labelling l m equivalent in
-    there (FromMap map) (Ok out) (inr (m, reads_map, subst (λ (k : Labelling). rest k (Ok out)) same made))
+    there (FromMap map) (Ok out) (rw reads_map (subst (λ (k : Labelling). rest k (Ok out)) (same_labelling l m equivalent) (rw reads_list at is)))
 
 pub returns : goal.returns
 returns c (label source address) out is =
@@ -64,7 +59,7 @@ returns c (uniq fields (Some source) condition sorted columns flows) out is =
     (λ other. uniq fields (Some other) condition sorted columns flows) (λ other outcome found. found) source out is
 returns c (cat source) out is = same_under PrintsRuns cat (λ other outcome found. found) source out is
 returns c (shrink map printed) out is =
-    let (m, reads, found) = printed_of _ InMap (ReadsMap map) (PrintsMinimal printed) out is in
+    let (m, reads, found) = printed_of InMap (PrintsMinimal printed) (map_reading map) out is in
     let (l, k, prints, short, again) = c.shrunk_list_is_least.ensures map m reads in
     let (outcome, made, one) = c.one_output.ensures (shrink map printed) in
     let this : Ok out ≡ outcome = one (Ok out) is in
@@ -77,10 +72,10 @@ returns c (check map list certificate) out is =
     let accepted = c.no_fault_is_acceptance.ensures.format m l k form none in
     (m, l, reads_map, reads_list, c.acceptance_is_enough.ensures.equivalent m l k accepted, c.acceptance_is_enough.ensures.least m l k accepted, text)
 returns c (recert before) out is =
-    let (old, reads, prints) = printed_of _ InCertificate (ReadsCertificate before) PrintsCompact out is in
+    let (old, reads, prints) = printed_of InCertificate PrintsCompact (format_reading before) out is in
     let form = ((c.text_of_format_is_read_or_has_a_fault.ensures.read before old).0 reads).0 in
     let same : out ≡ certificate_text (compact old) = cc in
-    let after : ReadsCertificate out (compact old) =
+    let after : format_reading out ≡ Ok (compact old) =
     (c.text_of_format_is_read_or_has_a_fault.ensures.read out (compact old)).1 (c.compact_has_a_text.ensures.text old form, same) in
     record {
       old = old;
@@ -89,29 +84,13 @@ returns c (recert before) out is =
       reads_new = after;
       compacted = refl;
       lines = c.compact_has_no_more_lines.ensures.lines old form.format;
-      again = inr (
-        compact old,
-        after,
-        ap (λ (t : List ℕ). Ok t) (same ∙ ap certificate_text (sym (c.compact_gives_back_equal.ensures.twice old form.format))),
-      );
+      again = rw after (ap (λ (t : List ℕ). Ok t) (same ∙ ap certificate_text (sym (c.compact_gives_back_equal.ensures.twice old form.format))));
       checks = λ map list number told.
           let (m, l, k, reads_map, reads_list, reads', none, text) = checked_of map list before number told in
           let one : k ≡ old = cc in
           let accepted = c.no_fault_is_acceptance.ensures.format m l old form (subst (λ (x : CertificateModel). first_fault m l x ≡ None) one none) in
           let kept : first_fault m l (compact old) ≡ None =
           c.no_fault_is_acceptance.ensures.no_fault m l (compact old) (c.compact_keeps_acceptance.ensures m l old form.format accepted) in
-          inr (
-            m,
-            reads_map,
-            inr (
-              l,
-              reads_list,
-              inr (
-                compact old,
-                after,
-                ap (λ (t : List ℕ). Ok t) text ∙ sym (ap (λ (f : Option CheckFault). checked f (length l.prefixes)) kept),
-              ),
-            ),
-          );
+          rw (reads_map, reads_list, after) (ap (λ (t : List ℕ). Ok t) text ∙ sym (ap (λ (f : Option CheckFault). checked f (length l.prefixes)) kept));
     }
 returns c request out is = tt

@@ -7,7 +7,8 @@ use Rattle.pmap_cert.specs.Compacting.{compact}
 use Rattle.cert_check.specs.Checking.{first_fault}
 use Rattle.cert_check.specs.declared.fault.CheckFault.{CheckFault}
 use Rattle.pmap_print.specs.List.{IsListAgain}
-use Rattle.flowlabel.specs.Output.{ReadsCertificate, checked, minimal_text}
+use Rattle.pmap_cert.specs.FormatReading.{format_reading}
+use Rattle.flowlabel.specs.Output.{checked, minimal_text}
 use Rattle.flowlabel.proofs.run.laws.shrunk_list_is_least.Goals as goal
 
 pub returns : goal.returns
@@ -22,7 +23,7 @@ returns c map m reads =
     let order : IsInOrder l.prefixes = (c.minimal_list_is_in_order.ensures m l k pair (c.map_text_has_its_labels.ensures map m reads)).order in (
       l,
       k,
-      (λ printed. inr (m, reads, (l, k, pair, has_text, refl))),
+      (λ printed. rw reads (l, k, pair, has_text, refl)),
       record {
         equivalent = c.acceptance_is_enough.ensures.equivalent m l k accepted;
         least = c.acceptance_is_enough.ensures.least m l k accepted;
@@ -48,24 +49,12 @@ returns c map m reads =
             prefixes = is.prefixes ∙ c.printed_order_is_one.ensures.kept l.prefixes order;
             equivalent = c.acceptance_is_enough.ensures.equivalent m again k accepted';
             checks = λ printed either.
-                let (x, reads', accepts) : (x : CertificateModel) × ReadsCertificate printed x × IsAccepted m again x = elim either [
+                let (x, reads', accepts) : (x : CertificateModel) × (format_reading printed ≡ Ok x) × IsAccepted m again x = elim either [
                   | inl plain ↦ (k, (read printed k).1 (formed, plain), accepted')
                   | inr short ↦
                       (compact k, (read printed (compact k)).1 (c.compact_has_a_text.ensures.text k formed, short), c.compact_keeps_acceptance.ensures m again k formed.format accepted')
                 ] in
                 let none : first_fault m again x ≡ None = faultless m again x accepts in
-                inr (
-                  m,
-                  reads,
-                  inr (
-                    again,
-                    reads_list,
-                    inr (
-                      x,
-                      reads',
-                      ap (λ (n : ℕ). Ok (minimal_text n)) (sym count) ∙ sym (ap (λ (f : Option CheckFault). checked f (length again.prefixes)) none),
-                    ),
-                  ),
-                );
+                rw (reads, reads_list, reads') (ap (λ (n : ℕ). Ok (minimal_text n)) (sym count) ∙ sym (ap (λ (f : Option CheckFault). checked f (length again.prefixes)) none));
           },
     )

@@ -1,8 +1,12 @@
-use Rattle.std.proofs.Common.{refl}
+use Rattle.std.proofs.Common.{Some, arith, refl}
 use Rattle.std.specs.Prelude.{option_map}
+use Rattle.pmap_text.specs.MapText.{map_of}
+use Rattle.pmap_text.specs.PrefixList.{list_of}
+use Rattle.flowlabel.specs.declared.by_file.Role.TheVariants as role
+use Rattle.flowlabel.specs.declared.run.labels.LabelsRead.TheVariants as labels_read
 use Rattle.flowlabel.specs.Reports.{AreLabels}
-use Rattle.flowlabel.specs.Request.{source_of}
-use Rattle.flowlabel.proofs.MadeLemmas.{handed_on, list_faulty, list_read, list_unread, map_faulty, map_read, map_unread, texts_given, texts_of}
+use Rattle.flowlabel.specs.Request.{FromList, FromMap, source_of}
+use Rattle.flowlabel.proofs.MadeLemmas.{handed_on, labels_made, list_faulty, list_unread, map_faulty, map_unread, texts_given, texts_of}
 use Rattle.flowlabel.proofs.run.labels.LabelsRead.of_files.Goals as goal
 
 pub returns-in_default : goal.returns-in_default
@@ -24,8 +28,8 @@ returns-in_err-map_in-in-Map g c =
 
 pub returns-in_ok-map_in-in-Map : goal.returns-in_ok-map_in-in-Map
 returns-in_ok-map_in-in-Map g c =
-    rw (c.in-Some.is, c.in-Map.is) (map_read c.args.files.now c.requires c.in-Map.field-0.now c.read.new.files c.in_ok-text-in-Map.text c.in_ok-map_in-in-Map.field-0
-    c.in_ok-text-in-Map.ensures c.in_ok-map_in-in-Map.ensures)
+    rw (c.in-Some.is, c.in-Map.is) (labels_made c.args.files.now c.requires (Some (FromMap c.in-Map.field-0.now)) role.Map c.read.new.files c.in_ok-text-in-Map.text (labels_read.Map c.in_ok-map_in-in-Map.field-0)
+    c.in_ok-text-in-Map.ensures (omega arith) (map_of c.in_ok-map_in-in-Map.field-0, c.in_ok-map_in-in-Map.ensures, refl))
 
 pub returns-in_err-text-in-List : goal.returns-in_err-text-in-List
 returns-in_err-text-in-List g c =
@@ -41,5 +45,5 @@ returns-in_err-list_in-in-List g c =
 
 pub returns-in_ok-list_in-in-List : goal.returns-in_ok-list_in-in-List
 returns-in_ok-list_in-in-List g c =
-    rw (c.in-Some.is, c.in-List.is) (list_read c.args.files.now c.requires c.in-List.field-0.now c.read-in-List.new.files c.in_ok-text-in-List.text c.in_ok-list_in-in-List.field-0
-    c.in_ok-text-in-List.ensures c.in_ok-list_in-in-List.ensures)
+    rw (c.in-Some.is, c.in-List.is) (labels_made c.args.files.now c.requires (Some (FromList c.in-List.field-0.now)) role.List c.read-in-List.new.files c.in_ok-text-in-List.text (labels_read.List c.in_ok-list_in-in-List.field-0)
+    c.in_ok-text-in-List.ensures (omega arith) (list_of c.in_ok-list_in-in-List.field-0, c.in_ok-list_in-in-List.ensures, refl))
