@@ -16,13 +16,11 @@ use Rattle.pmap_text.specs.MapText.{text_at}
 use Rattle.pmap_text.specs.Reading.{◌>>=◌}
 use Rattle.pmap_cert.specs.CertificateModel.{CertificateModel, ChainNode, InnerNode, LeafNode, Claim, Tree}
 use Rattle.pmap_cert.specs.CertificateText.{HasFormatText, certificate_lines, certificate_text, format_header, leaf_line, text_of_lines}
-use Rattle.pmap_cert.specs.FormatReading.{ChainLine, DueLine, InnerLine, LeafLine, Place, due_words, ended_by, fault_at, format_header_at, format_header_of, format_reading, is_ended, labels_at, line_due_at, line_value, new_label, nodes_at, or_fault, pieces_of, value_by, words_of, CertFault, CertFaultKind, BadHeader, BadLabelTable, BadNode, NodesLeft, NodesMissing, TooDeep}
-use Rattle.pmap_cert.proofs.ChainLines.{due_words-found}
-use Rattle.pmap_cert.proofs.DueLines.{line-said}
-use Rattle.pmap_cert.proofs.FormatHeaders.{format_header_of-found}
-use Rattle.pmap_cert.proofs.FormatWhole.{Said, certificate_at, due, header_then, labels_then, no_labels, pieces-found, reading-steps, root_then}
+use Rattle.pmap_cert.specs.FormatReading.{ChainLine, DueLine, InnerLine, LeafLine, Place, ended_by, fault_at, fits_header, fits_line, format_header_at, format_reading, header_text, is_ended, labels_at, likely_header, likely_line, line_due_at, line_text, line_value, new_label, nodes_at, or_fault, pieces_of, printed_value, value_by, words_of, CertFault, CertFaultKind, BadHeader, BadLabelTable, BadNode, NodesLeft, NodesMissing, TooDeep}
+use Rattle.pmap_cert.proofs.PrintedLines.{IsNumbered, Said, fits-line, header-fits, line-back, line-fits, line-lacks, value-again, value-found}
+use Rattle.pmap_cert.proofs.FormatWhole.{certificate_at, due, header_then, labels_then, no_labels, pieces-found, reading-steps, root_then}
 use Rattle.pmap_cert.proofs.NewLabels.{decimal-bytes, new-label}
-use Rattle.pmap_cert.proofs.Pieces.{is_ended-two, line-words, line_from-cons, split_some, text_from_pieces}
+use Rattle.pmap_cert.proofs.Pieces.{is_ended-two, line_from-cons, split_some, text_from_pieces}
 use Rattle.pmap_cert.proofs.ReadingSteps.{chain-deep, chain-in, deeper, node-deep, node-fault, node-leaf}
 use Rattle.pmap_cert.proofs.Tables.{table-new, value_at-again}
 
@@ -255,7 +253,7 @@ module _ (can : Type 0) (format most : ℕ) (table : List Label) (few : length t
   due_in = line_due_at format most (length table)
 
   abbrev value_of : List ℕ → Option DueLine
-  value_of line = due_words format most (length table) (words_of line)
+  value_of line = printed_value (fits_line format most (length table)) line_text (likely_line (words_of line)) line
 
   abbrev missing : List (List ℕ) → CertFaultKind
   missing pieces = cond (is_ended pieces) NodesMissing BadNode
@@ -277,7 +275,8 @@ module _ (can : Type 0) (format most : ℕ) (table : List Label) (few : length t
       line-sound value_of missing BadNode same can (nodes_reading room next) failed goes
       (λ k.
       line-ends value_of missing BadNode same can (nodes_reading room next) failed (leaf_line 0) (LeafLine 0) (next (LeafNode (text_at table 0)))
-      (line-said format most (length table) few (LeafLine 0) (some k)) (leaf 0) leaf-bytes ((sound (LeafNode (text_at table 0))).ends k))
+      (value-again (fits_line format most (length table)) line_text likely_line (line-lacks format most (length table) few) (line-back format most (length table) few)
+      (LeafLine 0) (fits-line format most (length table) (LeafLine 0) (some k))) (leaf 0) leaf-bytes ((sound (LeafNode (text_at table 0))).ends k))
     where
       failed : (place : Place) (fault : CertFault) → due_in place ≡ Err fault → nodes_reading room next place ≡ Err fault
       failed place fault e = ap (then_read next) (node-fault due_in table place place room fault e)
@@ -319,8 +318,8 @@ module _ (can : Type 0) (format most : ℕ) (table : List Label) (few : length t
           upper_then : Tree → Reading
           upper_then lower = nodes_reading (room - 1) (node lower)
       goes line (ChainLine cost bits side numbers) h =
-          let found = due_words-found format most (length table) (words_of line) (ChainLine cost bits side numbers) h in
-          let long : 0 < length bits = found.1.2 in
+          let value = value-found (fits_line format most (length table)) line_text likely_line line (ChainLine cost bits side numbers) h in
+          let long : 0 < length bits = (line-fits format most (length table) (ChainLine cost bits side numbers) value.1).2 in
           elim (cases_lt room (length bits)) [
             | inl deep ↦ (
               fail TooDeep,
@@ -359,6 +358,9 @@ body-sound can format version count few some =
 abbrev whole : Reading
 whole place = header_then (format_header_at place)
 
+abbrev header_of : List ℕ → Option Said
+header_of line = printed_value fits_header header_text (likely_header (words_of line)) line
+
 -- the first of the lines is no header with the count 0
 abbrev HasLabels : List (List ℕ) → Type 0
 HasLabels lines = (format : ℕ) (version : Version) (more : List (List ℕ)) → lines ≢ format_header format version 0 ∷ more
@@ -367,15 +369,18 @@ whole-first : (lines rest : List (List ℕ)) (fault : CertFault) → 0 < length 
     → IsFirst (HasLabels lines) whole 0 lines fault
 whole-first [] rest fault long some e = absurd (omega arith)
 whole-first (line ∷ front) rest fault long some e =
-    (line-first (λ line. format_header_of (words_of line)) (λ pieces. BadHeader) BadHeader (λ line rest some. refl) (HasLabels (line ∷ front)) whole
+    (line-first header_of (λ pieces. BadHeader) BadHeader (λ line rest some. refl) (HasLabels (line ∷ front)) whole
     (λ place fault e. ap header_then e) 0 line front rest fault next some e).1
   where
-    next : (x : Said) → format_header_of (words_of line) ≡ Some x → (after : Reading) × AreFirst (HasLabels (line ∷ front)) after
+    said : (x : Said) → header_of line ≡ Some x → IsNumbered x.0 × (x.1.1 ≤ 65536)
+    said x h = header-fits x (value-found fits_header header_text likely_header line x h).1
+
+    next : (x : Said) → header_of line ≡ Some x → (after : Reading) × AreFirst (HasLabels (line ∷ front)) after
         × ((number : ℕ) (line : List ℕ) (rest : List (List ℕ)) → format_header_at (at number (line ∷ rest)) ≡ Ok (x, at (number + 1) rest)
         → whole (at number (line ∷ rest)) ≡ after (at (number + 1) rest))
     next x h = (
       λ place. labels_then x.0 x.1.0 (labels_at x.1.1 [] place),
-      (body-sound (HasLabels (line ∷ front)) x.0 x.1.0 x.1.1 (format_header_of-found (words_of line) x h).1 some_labels).first,
+      (body-sound (HasLabels (line ∷ front)) x.0 x.1.0 x.1.1 (omega (arith, (said x h).1)) some_labels).first,
       λ number line rest e. ap header_then e,
     )
       where
@@ -383,9 +388,8 @@ whole-first (line ∷ front) rest fault long some e =
         some_labels labels = elim (cases_lt 0 x.1.1) [
           | inl more ↦ more
           | inr none ↦
-              let said = format_header_of-found (words_of line) x h in
               let count : x.1.1 ≡ 0 = omega arith in
-              absurd (labels x.0 x.1.0 front (λ i. (line-words line _ said.0 ∙ ap (format_header x.0 x.1.0) count) i ∷ front))
+              absurd (labels x.0 x.1.0 front (λ i. ((value-found fits_header header_text likely_header line x h).0 ∙ ap (format_header x.0 x.1.0) count) i ∷ front))
         ]
 
 abbrev is_feed : ℕ → Bool

@@ -1,28 +1,24 @@
 -- The nodes of a certificate of either format, read and written.
-use Rattle.std.proofs.Common.{◌≡◌, ℕ, zero, suc, ◌+◌, ◌^◌, ◌<◌, ◌≤◌, ◌∙◌, ◌⊎◌, inl, inr, Bool, true, false, List, [], ◌∷◌, ◌++◌, Result, Ok, Err, cond, length, map, nat_le, refl, sym, ap, subst, arith, codes}
-use Rattle.std.specs.Fmt.{decimal}
+use Rattle.std.proofs.Common.{◌≡◌, ℕ, zero, suc, ◌+◌, ◌^◌, ◌<◌, ◌≤◌, ◌∙◌, ◌⊎◌, inl, inr, Bool, true, false, List, [], ◌∷◌, ◌++◌, Result, Ok, Err, cond, length, map, nat_le, refl, sym, ap, subst, arith}
 use Rattle.std.proofs.lemmas.Bool.{cond-false, cond-true, le-leb, leb-true}
 use Rattle.std.proofs.lemmas.List.{append_assoc, length-append}
 use Rattle.pmap_text.specs.Label.{IsLabelTable}
 use Rattle.pmap_text.specs.MapModel.{Label}
 use Rattle.pmap_text.specs.Reading.{◌>>=◌}
 use Rattle.pmap_text.specs.MapText.{text_at}
-use Rattle.pmap_cert.specs.CertificateText.{HasNodeForm, IsAscending, bit_digits, chain_line, inner_line, leaf_line, node_lines, place_of}
+use Rattle.pmap_cert.specs.CertificateText.{HasNodeForm, IsAscending, chain_line, inner_line, leaf_line, node_lines, place_of}
 use Rattle.pmap_cert.specs.CertificateModel.{ChainNode, InnerNode, LeafNode, Claim, Tree, IsPlain}
-use Rattle.pmap_cert.specs.FormatReading.{ChainLine, DueLine, InnerLine, LeafLine, Place, due_node, due_words, fault_at, is_ended, line_due_at, nodes_at, words_of, CertFault, BadNode, NodesMissing, TooDeep}
-use Rattle.pmap_cert.proofs.ChainLines.{due_words-found}
-use Rattle.pmap_cert.proofs.NodeLines.{SaysDue}
+use Rattle.pmap_cert.specs.FormatReading.{ChainLine, DueLine, InnerLine, LeafLine, Place, due_node, fault_at, fits_line, is_ended, likely_line, line_due_at, line_text, nodes_at, CertFault, BadNode, NodesMissing, TooDeep}
 use Rattle.pmap_cert.proofs.ChainWords.{left-room, room-left}
-use Rattle.pmap_cert.proofs.DueLines.{due-again}
-use Rattle.pmap_cert.proofs.Pieces.{line-words}
-use Rattle.pmap_cert.proofs.Tables.{bind_ok, ok_is, place_of-text_at, places-texts, text_at-place_of, texts-places, value_at-found}
+use Rattle.pmap_cert.proofs.PrintedLines.{FitsLine, due-again, line-fits, printed-found}
+use Rattle.pmap_cert.proofs.Tables.{bind_ok, ok_is, place_of-text_at, places-texts, text_at-place_of, texts-places}
 
--- the words of a line that is read are those of the value read
+-- a line that is read is the text of its value, which fits
 pub line_due-found : (format most count : ℕ) (place : Place) (x : DueLine × Place) → line_due_at format most count place ≡ Ok x →
-    (text : List ℕ) × (place.pieces ≡ text ∷ x.1.pieces) × SaysDue format most count x.0 (words_of text)
+    (place.pieces ≡ line_text x.0 ∷ x.1.pieces) × FitsLine format most count x.0
 line_due-found format most count place x e =
-    let found = value_at-found (cond (is_ended place.pieces) NodesMissing BadNode) (λ line. due_words format most count (words_of line)) place x e in
-    (found.0, found.1, due_words-found format most count (words_of found.0) x.0 found.2)
+    let found = printed-found (fits_line format most count) line_text likely_line (cond (is_ended place.pieces) NodesMissing BadNode) place x e in
+    (found.0, line-fits format most count x.0 found.1)
 
 -- the lines that were read are those of the tree, which is well formed and has no chain in format 1
 abbrev pub IsReadIn : List Label → ℕ → ℕ → Place → Tree × Place → Type 0
@@ -61,54 +57,54 @@ module _ (table : List Label) (ok : IsLabelTable table) (format most : ℕ) wher
   abbrev claim_at : ℕ → List ℕ → Claim
   claim_at cost numbers = record { cost = cost; labels = map (text_at table) numbers }
 
-  leaf-read : (room number : ℕ) (text : List ℕ) (place after : Place) (x : Tree × Place) → place.pieces ≡ text ∷ after.pieces →
-      SaysDue format most (length table) (LeafLine number) (words_of text) →
+  -- the line is the next one, and it fits
+  abbrev IsNext : DueLine → Place → Place → Type 0
+  IsNext line place after = (place.pieces ≡ line_text line ∷ after.pieces) × FitsLine format most (length table) line
+
+  leaf-read : (room number : ℕ) (place after : Place) (x : Tree × Place) → IsNext (LeafLine number) place after →
       ◌≡◌ {A = Result (Tree × Place) CertFault} (Ok (LeafNode (text_at table number), after)) (Ok x) → IsReadIn table format room place x
-  leaf-read room number text place after x pieces says e =
-      let place_is : place_of table (text_at table number) ≡ number = place_of-text_at table number ok says.1 in
+  leaf-read room number place after x next e =
+      let place_is : place_of table (text_at table number) ≡ number = place_of-text_at table number ok next.1 in
       subst (IsReadIn table format room place) (ok_is (LeafNode (text_at table number), after) x e) (
-        pieces ∙ ap (λ (t : List ℕ). t ∷ after.pieces) (line-words text (codes "l" ∷ decimal number ∷ []) says.0 ∙ ap leaf_line (sym place_is)),
-        rw place_is says.1,
+        next.0 ∙ ap (λ (n : ℕ). leaf_line n ∷ after.pieces) (sym place_is),
+        rw place_is next.1,
         λ first. tt,
       )
 
-  inner-read : (room cost : ℕ) (numbers : List ℕ) (text : List ℕ) (place after : Place) (x lower upper : Tree × Place) →
-      place.pieces ≡ text ∷ after.pieces → SaysDue format most (length table) (InnerLine cost numbers) (words_of text) →
+  inner-read : (room cost : ℕ) (numbers : List ℕ) (place after : Place) (x lower upper : Tree × Place) → IsNext (InnerLine cost numbers) place after →
       IsReadIn table format room after lower → IsReadIn table format room lower.1 upper →
       (InnerNode (claim_at cost numbers) lower.0 upper.0, upper.1) ≡ x → IsReadIn table format (suc room) place x
-  inner-read room cost numbers text place after x lower upper pieces says low up e =
-      let places = places-texts table 0 numbers ok says.1.1 in
+  inner-read room cost numbers place after x lower upper next low up e =
+      let places = places-texts table 0 numbers ok next.1.1 in
       subst (IsReadIn table format (suc room) place) e (
-        pieces
-            ∙ (λ i. (line-words text (codes "n" ∷ decimal cost ∷ map decimal numbers) says.0 ∙ ap (inner_line cost) (sym places)) i
+        next.0
+            ∙ (λ i. inner_line cost (sym places i)
             ∷ (low.0 ∙ ap (λ (more : List (List ℕ)). node_lines table lower.0 ++ more) up.0
             ∙ sym (append_assoc (node_lines table lower.0) (node_lines table upper.0) upper.1.pieces)) i),
-        (says.1.0, rw places says.1.1, low.1, up.1),
+        (next.1.0, rw places next.1.1, low.1, up.1),
         λ first. (low.2 first, up.2 first),
       )
 
   not-both : format ≡ 1 → format ≡ 2 → ⊥
   not-both one two = omega (arith, one, two)
 
-  chain-read : (room left cost : ℕ) (bits : List Bool) (side : ℕ) (numbers : List ℕ) (text : List ℕ) (place after : Place) (x last : Tree × Place) →
-      place.pieces ≡ text ∷ after.pieces → SaysDue format most (length table) (ChainLine cost bits side numbers) (words_of text) →
+  chain-read : (room left cost : ℕ) (bits : List Bool) (side : ℕ) (numbers : List ℕ) (place after : Place) (x last : Tree × Place) →
+      IsNext (ChainLine cost bits side numbers) place after →
       room ≡ length bits + left → IsReadIn table format left after last →
       (ChainNode (claim_at cost numbers) bits (text_at table side) last.0, last.1) ≡ x → IsReadIn table format room place x
-  chain-read room left cost bits side numbers text place after x last pieces says deep end e =
-      let places = places-texts table 0 numbers ok says.1.5 in
-      let side_is : place_of table (text_at table side) ≡ side = place_of-text_at table side ok says.1.4 in
+  chain-read room left cost bits side numbers place after x last next deep end e =
+      let places = places-texts table 0 numbers ok next.1.5 in
+      let side_is : place_of table (text_at table side) ≡ side = place_of-text_at table side ok next.1.4 in
       subst (IsReadIn table format room place) e (
-        pieces
-            ∙ (λ i. (line-words text (codes "c" ∷ decimal cost ∷ bit_digits bits ∷ decimal side ∷ map decimal numbers) says.0
-            ∙ (λ j. chain_line cost bits (sym side_is j) (sym places j))) i ∷ end.0 i),
+        next.0 ∙ (λ i. chain_line cost bits (sym side_is i) (sym places i) ∷ end.0 i),
         (
-          says.1.1,
-          rw places says.1.5,
-          rw side_is says.1.4,
-          says.1.2,
+          next.1.1,
+          rw places next.1.5,
+          rw side_is next.1.4,
+          next.1.2,
           room-left (HasNodeForm table last.0) bits room left deep end.1,
         ),
-        λ first. absurd (not-both first says.1.0),
+        λ first. absurd (not-both first next.1.0),
       )
 
   -- a node that is read `down` levels below another is well formed in the room that is left
@@ -118,14 +114,14 @@ module _ (table : List Label) (ok : IsLabelTable table) (format most : ℕ) wher
   nodes_at-found zero down left place x deep e =
       let found = bind_ok (due place) (λ (line : DueLine × Place). due_node table zero place (λ deeper after. Err (fault_at place TooDeep)) line.0 line.1) x e in
       let said = line_due-found format most (length table) place found.0 found.1 in
-      by found.0.0 found.0.1 said.0 said.1 said.2 found.2
+      by found.0.0 found.0.1 said found.2
     where
-      by : (line : DueLine) (after : Place) (text : List ℕ) → place.pieces ≡ text ∷ after.pieces → SaysDue format most (length table) line (words_of text) →
+      by : (line : DueLine) (after : Place) → IsNext line place after →
           due_node table zero place (λ deeper after. Err (fault_at place TooDeep)) line after ≡ Ok x → IsReadIn table format left place x
-      by (LeafLine number) after text pieces says e = leaf-read left number text place after x pieces says e
-      by (InnerLine cost numbers) after text pieces says e = absurd cc
-      by (ChainLine cost [] side numbers) after text pieces says e = absurd cc
-      by (ChainLine cost (bit ∷ bits) side numbers) after text pieces says e =
+      by (LeafLine number) after next e = leaf-read left number place after x next e
+      by (InnerLine cost numbers) after next e = absurd cc
+      by (ChainLine cost [] side numbers) after next e = absurd cc
+      by (ChainLine cost (bit ∷ bits) side numbers) after next e =
           absurd (not-ok (fault_at place TooDeep) x
           (sym (either-same (nat_le (suc (length bits)) zero) (Err (fault_at place TooDeep))) ∙ e))
   nodes_at-found (suc room) zero left place x deep e =
@@ -133,22 +129,22 @@ module _ (table : List Label) (ok : IsLabelTable table) (format most : ℕ) wher
       let said = line_due-found format most (length table) place found.0 found.1 in
       let same : suc room ≡ left = omega (arith, deep) in
       subst (λ (r : ℕ). IsReadIn table format r place x) same
-      (by found.0.0 found.0.1 said.0 said.1 said.2 (λ down left place x deep e. nodes_at-found room down left place x deep e) found.2)
+      (by found.0.0 found.0.1 said (λ down left place x deep e. nodes_at-found room down left place x deep e) found.2)
     where
-      by : (line : DueLine) (after : Place) (text : List ℕ) → place.pieces ≡ text ∷ after.pieces → SaysDue format most (length table) line (words_of text) →
+      by : (line : DueLine) (after : Place) → IsNext line place after →
           ((down left : ℕ) (place : Place) (x : Tree × Place) → room ≡ down + left →
           nodes_at due table room down place ≡ Ok x → IsReadIn table format left place x) →
           due_node table (suc room) place (nodes_at due table room) line after ≡ Ok x → IsReadIn table format (suc room) place x
-      by (LeafLine number) after text pieces says below e = leaf-read (suc room) number text place after x pieces says e
-      by (InnerLine cost numbers) after text pieces says below e =
+      by (LeafLine number) after next below e = leaf-read (suc room) number place after x next e
+      by (InnerLine cost numbers) after next below e =
           let claim : Claim = claim_at cost numbers in
           let low = bind_ok (nodes_at due table room 0 after) (λ (lower : Tree × Place). nodes_at due table room 0 lower.1 >>= (λ (upper : Tree × Place). Ok (InnerNode claim lower.0 upper.0, upper.1))) x e in
           let up = bind_ok (nodes_at due table room 0 low.0.1) (λ (upper : Tree × Place). Ok (InnerNode claim low.0.0 upper.0, upper.1)) x low.2 in
-          inner-read room cost numbers text place after x low.0 up.0 pieces says
+          inner-read room cost numbers place after x low.0 up.0 next
           (below 0 room after low.0 (omega arith) low.1) (below 0 room low.0.1 up.0 (omega arith) up.1)
           (ok_is (InnerNode claim low.0.0 up.0.0, up.0.1) x up.2)
-      by (ChainLine cost [] side numbers) after text pieces says below e = absurd cc
-      by (ChainLine cost (bit ∷ bits) side numbers) after text pieces says below e =
+      by (ChainLine cost [] side numbers) after next below e = absurd cc
+      by (ChainLine cost (bit ∷ bits) side numbers) after next below e =
           by_test (nat_le (suc (length bits)) (suc room)) refl
         where
           chain : Tree × Place → Result (Tree × Place) CertFault
@@ -163,7 +159,7 @@ module _ (table : List Label) (ok : IsLabelTable table) (format most : ℕ) wher
               let left : (l : ℕ) × (room ≡ length bits + l) = rest-of room (length bits) (omega (arith, fits)) in
               let last = bind_ok (nodes_at due table room (length bits) after) chain x
               (sym (cond-true (nat_le (suc (length bits)) (suc room)) (nodes_at due table room (length bits) after >>= chain) (Err (fault_at place TooDeep)) h) ∙ e) in
-              chain-read (suc room) left.0 cost (bit ∷ bits) side numbers text place after x last.0 pieces says (omega (arith, left.1))
+              chain-read (suc room) left.0 cost (bit ∷ bits) side numbers place after x last.0 next (omega (arith, left.1))
               (below (length bits) left.0 after last.0 left.1 last.1)
               (ok_is (ChainNode (claim_at cost numbers) (bit ∷ bits) (text_at table side) last.0.0, last.0.1) x last.2)
   nodes_at-found (suc room) (suc down) left place x deep e = nodes_at-found room down left place x (omega (arith, deep)) e

@@ -1,5 +1,5 @@
 -- A text of either format is read exactly if it is the text of a certificate.
-use Rattle.std.proofs.Common.{◌≡◌, ◌≢◌, ℕ, true, false, ◌+◌, ◌<◌, ◌≤◌, ◌∙◌, ◌⊎◌, ◌↔◌, inl, inr, List, [], ◌∷◌, ◌++◌, Result, Ok, Err, length, refl, sym, ap, subst, arith, zero, suc, Bool, map, codes}
+use Rattle.std.proofs.Common.{◌≡◌, ◌≢◌, ℕ, true, false, ◌+◌, ◌<◌, ◌≤◌, ◌∙◌, ◌⊎◌, ◌↔◌, inl, inr, List, [], ◌∷◌, ◌++◌, Result, Ok, Err, length, refl, sym, ap, subst, arith, zero, suc, Bool, map}
 use Rattle.std.specs.Result.{IfErr, IfOk}
 use Rattle.std.proofs.lemmas.Bool.{cond-false, cond-true}
 use Rattle.std.proofs.lemmas.List.{append_assoc, length-append}
@@ -9,21 +9,19 @@ use Rattle.pmap_text.specs.Label.{IsLabelTable}
 use Rattle.pmap_text.specs.MapModel.{Label}
 use Rattle.pmap_text.specs.Reading.{◌>>=◌}
 use Rattle.pmap_cert.specs.Certificate.{certificate_of, Certificate}
-use Rattle.pmap_cert.specs.CertificateText.{HasFormatText, HasNodeForm, certificate_lines, certificate_text, format_header, node_lines, bit_digits, place_of}
+use Rattle.pmap_cert.specs.CertificateText.{HasFormatText, HasNodeForm, certificate_lines, certificate_text, format_header, node_lines, place_of}
 use Rattle.pmap_cert.specs.CertificateModel.{CertificateModel, Tree, ChainNode, InnerNode, LeafNode, IsOfFormat, IsPlain}
-use Rattle.pmap_cert.specs.FormatReading.{DueLine, Place, ended_by, fault_at, format_header_at, format_reading, is_ended, labels_at, line_due_at, nodes_at, pieces_of, start_of, CertFault, CertFaultKind, BadHeader, BadLabelTable, BadNode, NoMemory, NodesLeft, NodesMissing, TooDeep}
+use Rattle.pmap_cert.specs.FormatReading.{ChainLine, DueLine, InnerLine, LeafLine, Place, ended_by, fault_at, fits_header, format_header_at, format_reading, header_text, is_ended, labels_at, likely_header, line_due_at, line_text, nodes_at, pieces_of, start_of, CertFault, CertFaultKind, BadHeader, BadLabelTable, BadNode, NoMemory, NodesLeft, NodesMissing, TooDeep}
 use Rattle.pmap_cert.proofs.Filters.{all-append}
-use Rattle.pmap_cert.proofs.FormatHeaders.{IsNumbered, format_header-no_feed, format_header_at-again, format_header_at-found}
+use Rattle.pmap_cert.proofs.PrintedLines.{FitsLine, IsNumbered, Said, fits-header, fits-line, header-fits, header-read, line-lacks, printed-again, printed-found}
 use Rattle.pmap_cert.proofs.FormatTrees.{IsKind, nodes_at-again, nodes_at-found}
-use Rattle.pmap_cert.proofs.Headers.{table-lacks, Lacks-line, Lacks-tested}
+use Rattle.pmap_cert.proofs.Headers.{table-lacks}
 use Rattle.pmap_cert.proofs.Pieces.{pieces-lines, text_from_pieces}
 use Rattle.pmap_cert.proofs.Tables.{bind_ok, labels_at-again, labels_at-found, ok_is}
-use Rattle.std.specs.Fmt.{decimal}
 use Rattle.std.specs.List.{AllByRecursion}
 use Rattle.std.proofs.lemmas.Option.{none-some}
 use Rattle.prefix_keys.proofs.Printed.{Lacks}
-use Rattle.pmap_cert.proofs.ChainWords.{Lacks-bits, end-room}
-use Rattle.pmap_cert.proofs.Numbers.{Lacks-decimal, Lacks-decimals}
+use Rattle.pmap_cert.proofs.ChainWords.{end-room}
 
 pub no_labels : IsLabelTable []
 no_labels = record { few = omega arith; labels = λ i text e. absurd (none-some text e); places = λ i text e. absurd (none-some text e) }
@@ -46,29 +44,23 @@ ended_by-found c place x e = by (is_ended place.pieces) refl
     by false h = absurd (failed (sym (cond-false (is_ended place.pieces) (Ok c) (Err (fault_at place NodesLeft)) h) ∙ e))
 
 -- no line of a certificate has a line feed inside
-pub nodes-lack : (table : List Label) (tree : Tree) (room : ℕ) → IsLabelTable table → HasNodeForm table tree room → AllByRecursion (Lacks 10) (node_lines table tree)
-nodes-lack table (LeafNode x) room ok form =
-    let few = ok.few in
-    let less : place_of table x < length table = form in
-    (Lacks-line 10 (codes "l" ∷ decimal (place_of table x) ∷ []) refl (Lacks-tested 10 (codes "l") refl, (Lacks-decimal 10 (place_of table x) (omega arith) (omega arith), tt)), tt)
-nodes-lack table (ChainNode claim bits side end) room ok form =
-    let few = ok.few in
-    let last = end-room (HasNodeForm table end) bits room form.4 in (
-      Lacks-line 10 (codes "c" ∷ decimal claim.cost ∷ bit_digits bits ∷ decimal (place_of table side) ∷ map decimal (map (place_of table) claim.labels)) refl
-          (Lacks-tested 10 (codes "c") refl, (Lacks-decimal 10 claim.cost (omega arith) (omega (arith, form.0)), (Lacks-bits 10 bits refl refl, (Lacks-decimal 10 (place_of table side) (omega arith) (omega (arith, form.2)), Lacks-decimals 10 (length table) 0 (map (place_of table) claim.labels) (omega arith) (omega arith) form.1)))),
-      nodes-lack table end last.0 ok last.1,
-    )
-nodes-lack table (InnerNode claim lower upper) zero ok form = absurd form
-nodes-lack table (InnerNode claim lower upper) (suc room) ok form =
-    let few = ok.few in (
-      Lacks-line 10 (codes "n" ∷ decimal claim.cost ∷ map decimal (map (place_of table) claim.labels)) refl
-          (Lacks-tested 10 (codes "n") refl, (Lacks-decimal 10 claim.cost (omega arith) (omega (arith, form.0)), Lacks-decimals 10 (length table) 0 (map (place_of table) claim.labels) (omega arith) (omega arith) form.1)),
-      all-append (Lacks 10) (node_lines table lower) (node_lines table upper) (nodes-lack table lower room ok form.2) (nodes-lack table upper room ok form.3),
-    )
+module _ (table : List Label) (ok : IsLabelTable table) where
+  lacks : (most : ℕ) (line : DueLine) → FitsLine 2 most (length table) line → Lacks 10 (line_text line)
+  lacks most line fits =
+      let few = ok.few in line-lacks 2 most (length table) (omega arith) line (fits-line 2 most (length table) line fits)
 
--- the format, the version and the number of labels of a header
-abbrev pub Said : Type 0
-Said = ℕ × (Version × ℕ)
+  nodes-lack : (tree : Tree) (room : ℕ) → HasNodeForm table tree room → AllByRecursion (Lacks 10) (node_lines table tree)
+  nodes-lack (LeafNode x) room form = (lacks 0 (LeafLine (place_of table x)) form, tt)
+  nodes-lack (ChainNode claim bits side end) room form =
+      let last = end-room (HasNodeForm table end) bits room form.4 in (
+        lacks (length bits) (ChainLine claim.cost bits (place_of table side) (map (place_of table) claim.labels)) (refl, form.0, form.3, omega arith, form.2, form.1),
+        nodes-lack end last.0 last.1,
+      )
+  nodes-lack (InnerNode claim lower upper) zero form = absurd form
+  nodes-lack (InnerNode claim lower upper) (suc room) form = (
+    lacks 0 (InnerLine claim.cost (map (place_of table) claim.labels)) (form.0, form.1),
+    all-append (Lacks 10) (node_lines table lower) (node_lines table upper) (nodes-lack lower room form.2) (nodes-lack upper room form.3),
+  )
 
 abbrev pub certificate_at : ℕ → Version → List Label → Tree → CertificateModel
 certificate_at format version table root = record { format = format; version = version; table = table; root = root }
@@ -117,8 +109,9 @@ pieces-found pieces c e =
     let table : List Label = labels.0.0 in
     let root = bind_ok (nodes_at (due format version table) table (width_of version) 0 labels.0.1) (λ (root : Tree × Place). ended_by (certificate_at format version table root.0) root.1) c labels.2 in
     let end = ended_by-found (certificate_at format version table root.0.0) root.0.1 c root.2 in
-    let head = format_header_at-found start header.0 header.1 in
-    let few : 0 + count ≤ 65536 = omega (arith, head.1) in
+    let head = printed-found fits_header header_text likely_header BadHeader start header.0 header.1 in
+    let fits = header-fits header.0.0 head.1 in
+    let few : 0 + count ≤ 65536 = omega (arith, fits.1) in
     let read = labels_at-found count [] header.0.1 labels.0 labels.1 no_labels few in
     let nodes = nodes_at-found table read.3 format (width_of version) (width_of version) 0 (width_of version) labels.0.1 root.0 (omega arith) root.1 in
     let count_is : count ≡ length table = sym read.4 ∙ ap (λ (t : List Label). length t) (sym read.1) in
@@ -127,7 +120,7 @@ pieces-found pieces c e =
     joined-pieces pieces header.0.1.pieces labels.0.1.pieces root.0.1.pieces format version count table (node_lines table root.0.0)
     head.0 (read.2 ∙ ap (λ (t : List Label). t ++ labels.0.1.pieces) (sym read.1)) nodes.0 end.0 count_is in
     subst (λ (c : CertificateModel). HasFormatText c × (pieces ≡ certificate_lines c ++ [] ∷ [])) {x = made} end.1
-    (record { format = of-format made head.2 nodes.2; table = read.3; root = nodes.1 }, lines)
+    (record { format = of-format made fits.0 nodes.2; table = read.3; root = nodes.1 }, lines)
 
 -- a text that is read is the text of its certificate, which is well formed
 pub format-found : (text : List ℕ) (c : CertificateModel) → format_reading text ≡ Ok c → HasFormatText c × (text ≡ certificate_text c)
@@ -152,15 +145,16 @@ format-again c form =
     let count : ℕ = length table in
     let few : length table ≤ 65536 = form.table.few in
     let nodes : List (List ℕ) = node_lines table c.root in
-    let number = numbered c form.format in
+    let fits = fits-header format version count (numbered c form.format) few in
     let behind : 0 < length (nodes ++ [] ∷ []) = omega (arith, length-append nodes ([] ∷ [])) in
     let pieces : pieces_of (certificate_text c) ≡ format_header format version count ∷ (table ++ (nodes ++ [] ∷ [])) =
     pieces-lines (certificate_lines c) (
-      format_header-no_feed format version count number (omega arith),
-      all-append (Lacks 10) table nodes (table-lacks table form.table) (nodes-lack table c.root (width_of version) form.table form.root),
+      (header-read (format, (version, count)) fits).0,
+      all-append (Lacks 10) table nodes (table-lacks table form.table) (nodes-lack table form.table c.root (width_of version) form.root),
     )
     ∙ ap (λ (rest : List (List ℕ)). format_header format version count ∷ rest) (append_assoc table nodes ([] ∷ [])) in
-    let head = format_header_at-again format version count 0 (table ++ (nodes ++ [] ∷ [])) number (omega arith) (omega (arith, length-append table (nodes ++ [] ∷ []))) in
+    let head = printed-again fits_header header_text likely_header (λ x h. (header-read x h).0) (λ x h. (header-read x h).1) BadHeader (format, (version, count)) 0
+    (table ++ (nodes ++ [] ∷ [])) fits (omega (arith, length-append table (nodes ++ [] ∷ []))) in
     let labels = labels_at-again table [] 1 (nodes ++ [] ∷ []) form.table behind in
     let root = nodes_at-again table form.table format (width_of version) c.root (width_of version) ([] ∷ []) labels.0 (omega arith) form.root
     (kind c form.table form.format) (omega arith) in

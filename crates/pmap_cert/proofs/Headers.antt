@@ -1,18 +1,13 @@
--- The words of a certificate's header, and bytes that lines lack.
-use Rattle.std.proofs.Common.{◌≡◌, ℕ, zero, suc, ◌==◌, ◌∙◌, true, false, not, List, [], ◌∷◌, Some, IsTrue, inl, inr, refl, ap, subst, arith, codes}
+-- Bytes that lines lack.
+use Rattle.std.proofs.Common.{◌≡◌, ℕ, zero, suc, ◌==◌, true, false, not, List, [], ◌∷◌, Some, IsTrue, refl, subst, arith}
 use Rattle.std.specs.List.{AllByRecursion, list_all, slice_get}
 use Rattle.std.proofs.lemmas.Bool.{and_parts, ne_eqb, not-true}
 use Rattle.std.proofs.lemmas.List.Elements.{All-append, All-cons, All-weaker}
 use Rattle.std.proofs.lemmas.List.Sums.{AllPass-from_list_all}
-use Rattle.std.proofs.lemmas.Option.{same_Some}
 use Rattle.prefix_keys.proofs.Printed.{Lacks}
-use Rattle.pmap_cert.proofs.Pieces.{either-word}
-use Rattle.prefix_keys.specs.declared.version.Version.{Version}
-use Rattle.prefix_keys.specs.declared.version.Version.TheVariants.{V4, V6}
 use Rattle.pmap_text.specs.Label.{IsLabelTable, is_label, is_label_byte}
 use Rattle.pmap_text.specs.MapModel.{Label}
-use Rattle.pmap_cert.specs.FormatReading.{named_version}
-use Rattle.pmap_cert.specs.CertificateText.{spaced, version_word}
+use Rattle.pmap_cert.specs.CertificateText.{spaced}
 
 -- a text whose bytes all pass the test lacks the byte
 pub Lacks-tested : (c : ℕ) (text : List ℕ) → list_all (λ b. not (b == c)) text ≡ true → Lacks c text
@@ -48,14 +43,3 @@ labels-lack (x ∷ table) labels = (Lacks-label x (labels zero x refl), labels-l
 
 pub table-lacks : (table : List Label) → IsLabelTable table → AllByRecursion (Lacks 10) table
 table-lacks table ok = labels-lack table ok.labels
-
--- a word that names a version is the version's word
-pub named_version-found : (word : List ℕ) (v : Version) → named_version word ≡ Some v → word ≡ version_word v
-named_version-found word v e = elim (either-word word (codes "ipv4") (codes "ipv6") (Some V4) (Some V6) v e) [
-  | inl four ↦ four.0 ∙ ap version_word (same_Some V4 v four.1)
-  | inr six ↦ six.0 ∙ ap version_word (same_Some V6 v six.1)
-]
-
-pub named_version-word : (v : Version) → named_version (version_word v) ≡ Some v
-named_version-word V4 = refl
-named_version-word V6 = refl

@@ -12,7 +12,6 @@ pub mod ExactClaims
 pub mod Alike
 pub mod Pieces
 pub mod Numbers
-pub mod NodeLines
 pub mod Tables
 pub mod Headers
 pub mod Paths
@@ -21,7 +20,6 @@ pub mod NodeWalk
 pub mod ReadingSteps
 pub mod Written
 pub mod LineTexts
-pub mod DueLines
 pub mod Equal
 pub mod MapLabels
 pub mod MapLimits
@@ -35,8 +33,7 @@ pub mod Plain
 pub mod Compacts
 pub mod ChainWords
 pub mod CompactForms
-pub mod ChainLines
-pub mod FormatHeaders
+pub mod PrintedLines
 pub mod FormatTrees
 pub mod FormatWhole
 pub mod NewLabels

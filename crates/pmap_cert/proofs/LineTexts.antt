@@ -1,24 +1,26 @@
 -- What a text begins with: numbers, bits, sets and the lines of nodes.
-use Rattle.std.proofs.Common.{◌≡◌, ◌≢◌, ℕ, zero, suc, ◌+◌, ◌-◌, ◌*◌, ◌^◌, ◌<◌, ◌≤◌, ◌==◌, ◌&&◌, ◌∙◌, ◌⊎◌, inl, inr, Bool, true, false, List, [], ◌∷◌, ◌++◌, Option, None, Some, cond, drop, fold, get_or, length, map, not, refl, sym, ap, subst, take, arith}
+use Rattle.std.proofs.Common.{◌≡◌, ◌≢◌, ℕ, zero, suc, ◌+◌, ◌-◌, ◌*◌, ◌^◌, ◌<◌, ◌≤◌, ◌==◌, ◌∙◌, ◌⊎◌, inl, inr, Bool, true, false, List, [], ◌∷◌, ◌++◌, Option, None, Some, codes, cond, drop, fold, get_or, length, map, refl, sym, ap, subst, take, arith}
 use Rattle.std.specs.Fmt.{decimal}
 use Rattle.std.specs.List.{flat_map, list_all}
 use Rattle.std.specs.Option.{option_map}
-use Rattle.std.specs.Str.{bytes_eq}
 use Rattle.std.proofs.Math.Seq.{drop-append_seam, take-append_seam}
-use Rattle.std.proofs.lemmas.Bool.{and_from, and_parts, cond-false, cond-true, eq-eqb, eqb-true, false≢true, ne_eqb}
+use Rattle.std.proofs.lemmas.Bool.{and_from, and_parts, cond-false, cond-true, eq-eqb, eqb-true, false≢true, lt-ltb, ltb-true, ne_eqb}
 use Rattle.std.proofs.lemmas.Fmt.{decimal_digit, decimal_nonempty, first_decimal}
 use Rattle.std.proofs.lemmas.List.{append-nil, append_assoc, get_or_append_left, get_or-take, length-map, length-take-le, take-append-drop, take-append-le}
 use Rattle.std.proofs.lemmas.List.Concat.{flat_map-cons}
 use Rattle.std.proofs.lemmas.Option.{none-some, same_Some}
-use Rattle.std.proofs.lemmas.Slice.Eq.{bytes_eq-Decides}
 use Rattle.prefix_keys.specs.Text.{decimal_value, is_digit}
-use Rattle.pmap_cert.specs.CertificateText.{IsAscending, bit_digits, chain_line, inner_line}
+use Rattle.prefix_keys.specs.declared.version.Version.{Version}
+use Rattle.prefix_keys.specs.declared.version.Version.TheVariants.{V4, V6}
+use Rattle.pmap_cert.specs.CertificateText.{IsAscending, bit_digits, chain_line, format_word, inner_line, version_word}
+use Rattle.pmap_cert.specs.Format.{Format, One, Two, format_number}
 use Rattle.std.specs.Prelude.{IfSome}
-use Rattle.pmap_cert.specs.FormatReading.{ChainLine, DueLine, InnerLine, LeafLine}
-use Rattle.pmap_cert.specs.Inner.{BeginsWithBits, BeginsWithChain, BeginsWithClaim, BeginsWithLine, BeginsWithNumber, BeginsWithSet, GoesOnWithout, Reads, Then, after_byte, is_bit}
-use Rattle.pmap_cert.proofs.ChainLines.{bits-back, bits-digits, digits-back}
+use Rattle.pmap_cert.specs.FormatReading.{ChainLine, DueLine, InnerLine, LeafLine, header_text}
+use Rattle.pmap_cert.specs.Inner.{BeginsWithBits, BeginsWithChain, BeginsWithClaim, BeginsWithHeader, BeginsWithLast, BeginsWithLine, BeginsWithNumber, BeginsWithSet, GoesOnWithout, Reads, Then, after_byte, header_name, is_bit}
+use Rattle.pmap_cert.proofs.ChainWords.{bits-back, bits-digits, digits-back}
+use Rattle.pmap_cert.proofs.PrintedLines.{IsNumbered, Said, fits-header, fits-line, header-fits, line-fits}
 use Rattle.pmap_cert.proofs.Written.{joined-numbers}
-use Rattle.pmap_cert.proofs.Numbers.{decimal-digits, decimal_value-decimal, is_decimal-word}
+use Rattle.pmap_cert.proofs.Numbers.{decimal-digits, decimal-word, decimal_value-decimal}
 
 -- a reading finds nothing if the text never begins so
 pub reads_none : {A : Type 0} (Begins : A → List ℕ → Type 0) → ((x : A) (rest : List ℕ) → Begins x rest → ⊥) → Reads Begins None
@@ -109,23 +111,6 @@ grows-take : (ds : List ℕ) (at n : ℕ) → fold step n (take at ds) ≤ fold 
 grows-take ds zero n = grows ds n
 grows-take [] (suc at) n = omega arith
 grows-take (d ∷ ds) (suc at) n = grows-take ds at (step n d)
-
--- digits are the decimal text of their value if there is only one or the first is not 0
-no_zero : (word : List ℕ) → (length word ≡ 1) ⊎ (get_or word 0 0 ≢ 48) → not (not (length word == 1) && (get_or word 0 0 == 48)) ≡ true
-no_zero word (inl one) = rw (eq-eqb (length word) 1 one) refl
-no_zero word (inr other) = rw (ne_eqb (get_or word 0 0) 48 other) (by (not (length word == 1)))
-  where
-    by : (b : Bool) → not (b && false) ≡ true
-    by true = refl
-    by false = refl
-
-decimal-word : (word : List ℕ) (n : ℕ) → n ≡ decimal_value word → list_all is_digit word ≡ true → 0 < length word → n < 2 ^ 32
-    → (length word ≡ 1) ⊎ (get_or word 0 0 ≢ 48) → word ≡ decimal n
-decimal-word word n value digits some small plain =
-    let test = is_decimal-word word some (omega (arith, value, small)) in
-    let same : bytes_eq word (decimal (decimal_value word)) ≡ true =
-    sym test ∙ and_from (not (not (length word == 1) && (get_or word 0 0 == 48))) (list_all is_digit word) (no_zero word plain) digits in
-    (bytes_eq-Decides word (decimal (decimal_value word))).0 same ∙ ap decimal (sym value)
 
 -- no decimal text of two or more digits begins with 0
 decimal-plain : (n : ℕ) → n < 2 ^ 32 → 1 < length (decimal n) → get_or (decimal n) 0 0 ≡ 48 → ⊥
@@ -417,7 +402,7 @@ module _ (format most count : ℕ) (text : List ℕ) where
             whole =
                 after_byte-found 110 text rest letter ∙ ap (◌∷◌ 110) (h.first.whole ∙ ap (λ (t : List ℕ). 32 ∷ (decimal x.0.0 ++ t)) h.second.whole)
                 ∙ sym (inner-text x.0.0 x.0.1 x.1);
-            fits = (h.first.below, h.second.ascending);
+            fits = fits-line format most count (InnerLine x.0.0 x.0.1) (h.first.below, h.second.ascending);
           }
 
           only : (line : DueLine) (r : List ℕ) → Line line r → option_map as_inner found ≡ Some (line, r)
@@ -427,10 +412,10 @@ module _ (format most count : ℕ) (text : List ℕ) where
                 middle = words numbers ++ 10 ∷ r;
                 first = record {
                   whole = follows 110 rest (32 ∷ (decimal cost ++ (words numbers ++ 10 ∷ r))) letter (h.whole ∙ inner-text cost numbers r);
-                  below = h.fits.0;
+                  below = (line-fits format most count (InnerLine cost numbers) h.fits).0;
                   ended = words-ended numbers r;
                 };
-                second = record { whole = refl; ascending = h.fits.1 };
+                second = record { whole = refl; ascending = (line-fits format most count (InnerLine cost numbers) h.fits).1 };
               }))
           only (ChainLine cost bits side numbers) r h =
               absurd (apart 110 99 rest _ letter (h.whole ∙ chain-text cost bits side numbers r) (λ e. omega (arith, e)))
@@ -456,7 +441,9 @@ module _ (format most count : ℕ) (text : List ℕ) where
                       ∙ ap (λ (t : List ℕ). 32 ∷ (bit_digits x.0.1.0 ++ t)) (last.first.whole
                       ∙ ap (λ (t : List ℕ). 32 ∷ (decimal x.0.1.1.0 ++ t)) last.second.whole)))
                       ∙ sym (chain-text x.0.0 x.0.1.0 x.0.1.1.0 x.0.1.1.1 x.1);
-                  fits = (two, h.first.below, bits.some, bits.few, last.first.below, last.second.ascending);
+                  fits =
+                      fits-line format most count (ChainLine x.0.0 x.0.1.0 x.0.1.1.0 x.0.1.1.1)
+                      (two, h.first.below, bits.some, bits.few, last.first.below, last.second.ascending);
                 }
 
             only : (line : DueLine) (r : List ℕ) → Line line r → option_map as_chain found ≡ Some (line, r)
@@ -464,21 +451,22 @@ module _ (format most count : ℕ) (text : List ℕ) where
             only (InnerLine cost numbers) r h = absurd (not-there 110 text _ no_inner (h.whole ∙ inner-text cost numbers r))
             only (ChainLine cost bits side numbers) r h =
                 let last : List ℕ = words numbers ++ 10 ∷ r in
+                let fits = line-fits format most count (ChainLine cost bits side numbers) h.fits in
                 let path : List ℕ = 32 ∷ (bit_digits bits ++ 32 ∷ (decimal side ++ last)) in
                 ap (option_map as_chain) (chain.only (cost, (bits, (side, numbers))) r (record {
                   middle = path;
                   first = record {
                     whole = follows 99 rest (32 ∷ (decimal cost ++ path)) letter (h.whole ∙ chain-text cost bits side numbers r);
-                    below = h.fits.1;
+                    below = fits.1;
                     ended = refl;
                   };
                   second = record {
                     middle = 32 ∷ (decimal side ++ last);
-                    first = record { whole = refl; some = h.fits.2; few = h.fits.3; ended = refl };
+                    first = record { whole = refl; some = fits.2; few = fits.3; ended = refl };
                     second = record {
                       middle = last;
-                      first = record { whole = refl; below = h.fits.4; ended = words-ended numbers r };
-                      second = record { whole = refl; ascending = h.fits.5 };
+                      first = record { whole = refl; below = fits.4; ended = words-ended numbers r };
+                      second = record { whole = refl; ascending = fits.5 };
                     };
                   };
                 }))
@@ -489,3 +477,85 @@ a_bit d (inr e) = ap is_bit e
 
 pub no_bit : (d : ℕ) → d ≢ 48 → d ≢ 49 → is_bit d ≡ false
 no_bit d no_zero no_one = rw (ne_eqb d 48 no_zero, ne_eqb d 49 no_one) refl
+
+-- A header by its name, which says its format and its version.
+header-after : (format : ℕ) (version : Version) (count : ℕ) (r : List ℕ)
+    → header_text (format, (version, count)) ++ 10 ∷ r ≡ header_name format version ++ 32 ∷ (decimal count ++ 10 ∷ r)
+header-after format version count r =
+    ap (λ (t : List ℕ). codes "flowlabel-cert" ++ 32 ∷ t) (append_assoc (format_word format) (32 ∷ (version_word version ++ 32 ∷ decimal count)) (10 ∷ r)
+    ∙ ap (λ (t : List ℕ). format_word format ++ 32 ∷ t) (append_assoc (version_word version) (32 ∷ decimal count) (10 ∷ r))
+    ∙ sym (append_assoc (format_word format) (32 ∷ version_word version) (32 ∷ (decimal count ++ 10 ∷ r))))
+
+numbered-format : (n : ℕ) → IsNumbered n → (f : Format) × (n ≡ format_number f)
+numbered-format n (inl one) = (One, one)
+numbered-format n (inr two) = (Two, two)
+
+format-numbered : (f : Format) → IsNumbered (format_number f)
+format-numbered One = inl refl
+format-numbered Two = inr refl
+
+-- a header that fits begins with the name of a format
+named : (text : List ℕ) (x : Said) (r : List ℕ) → BeginsWithHeader text x r
+    → (f : Format) × (x.0 ≡ format_number f) × (text ≡ header_name (format_number f) x.1.0 ++ 32 ∷ (decimal x.1.1 ++ 10 ∷ r)) × (x.1.1 ≤ 65536)
+named text x r h =
+    let fit = header-fits x h.fits in
+    let found = numbered-format x.0 fit.0 in
+    let behind : List ℕ = 32 ∷ (decimal x.1.1 ++ 10 ∷ r) in (
+      found.0,
+      found.1,
+      h.whole ∙ header-after x.0 x.1.0 x.1.1 r ∙ ap (λ (n : ℕ). header_name n x.1.0 ++ behind) found.1,
+      fit.1,
+    )
+
+pub header-none : (text : List ℕ) → ((format : Format) (version : Version) (rest : List ℕ) → text ≢ header_name (format_number format) version ++ rest)
+    → Reads (BeginsWithHeader text) None
+header-none text never = reads_none (BeginsWithHeader text) (λ x r h. let name = named text x r h in never name.0 x.1.0 _ name.2)
+
+abbrev version-digit : Version → ℕ
+version-digit V4 = 52
+version-digit V6 = 54
+
+same-version : (v w : Version) → version-digit v ≡ version-digit w → v ≡ w
+same-version V4 V4 e = refl
+same-version V4 V6 e = absurd (omega (arith, e))
+same-version V6 V4 e = absurd (omega (arith, e))
+same-version V6 V6 e = refl
+
+-- the digits of a name and what follows it
+parts-of : (f : Format) (v : Version) (xs : List ℕ) → let text : List ℕ = header_name (format_number f) v ++ xs in
+    (get_or text 15 0 ≡ 48 + format_number f) × (get_or text 20 0 ≡ version-digit v) × (drop 21 text ≡ xs)
+parts-of One V4 xs = (refl, refl, refl)
+parts-of One V6 xs = (refl, refl, refl)
+parts-of Two V4 xs = (refl, refl, refl)
+parts-of Two V6 xs = (refl, refl, refl)
+
+module _ (f : Format) (v : Version) (text behind : List ℕ) (name : text ≡ header_name (format_number f) v ++ behind) where
+  abbrev Header : Said → List ℕ → Type 0
+  Header = BeginsWithHeader text
+
+  abbrev as_header : ℕ × List ℕ → Said × List ℕ
+  as_header x = ((format_number f, (v, x.0)), x.1)
+
+  pub header-begins : (found : Option (ℕ × List ℕ)) → Reads (BeginsWithLast 65537 behind) found → Reads Header (option_map as_header found)
+  header-begins found last = record { right = right found last.right; only = only }
+    where
+      right : (o : Option (ℕ × List ℕ)) → IfSome o (λ x. BeginsWithLast 65537 behind x.0 x.1) → IfSome (option_map as_header o) (λ x. Header x.0 x.1)
+      right None h = tt
+      right (Some x) h = record {
+        whole = name ∙ ap (λ (t : List ℕ). header_name (format_number f) v ++ t) h.whole ∙ sym (header-after (format_number f) v x.0 x.1);
+        fits = fits-header (format_number f) v x.0 (format-numbered f) (let less = ltb-true x.0 65537 h.fits in omega (arith, less));
+      }
+
+      only : (x : Said) (r : List ℕ) → Header x r → option_map as_header found ≡ Some (x, r)
+      only x r h =
+          let other = named text x r h in
+          let rest : List ℕ = 32 ∷ (decimal x.1.1 ++ 10 ∷ r) in
+          let here = parts-of f v behind in
+          let there = parts-of other.0 x.1.0 rest in
+          let same : header_name (format_number f) v ++ behind ≡ header_name (format_number other.0) x.1.0 ++ rest = sym name ∙ other.2 in
+          let first : get_or (header_name (format_number f) v ++ behind) 15 0 ≡ _ = ap (λ (t : List ℕ). get_or t 15 0) same in
+          let format : format_number f ≡ x.0 = omega (arith, here.0, there.0, first, other.1) in
+          let version : v ≡ x.1.0 = same-version v x.1.0 (sym here.1 ∙ ap (λ (t : List ℕ). get_or t 20 0) same ∙ there.1) in
+          let after : behind ≡ rest = sym here.2 ∙ ap (λ (t : List ℕ). drop 21 t) same ∙ there.2 in
+          ap (option_map as_header) (last.only x.1.1 r (record { whole = after; fits = lt-ltb x.1.1 65537 (omega (arith, other.3)) }))
+          ∙ (λ i. Some ((format i, (version i, x.1.1)), r))

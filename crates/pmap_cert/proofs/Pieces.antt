@@ -1,18 +1,15 @@
 -- The pieces of a text between its line feeds, and those of a line between its spaces.
-use Rattle.std.proofs.Common.{◌≡◌, ℕ, ◌+◌, ◌<◌, ◌≤◌, ◌==◌, ◌∙◌, Bool, true, false, List, [], ◌∷◌, ◌++◌, ◌⊎◌, inl, inr, Option, Some, None, length, take, drop, refl, sym, ap, subst, arith, cond, ltb}
+use Rattle.std.proofs.Common.{◌≡◌, ℕ, ◌+◌, ◌<◌, ◌≤◌, ◌==◌, ◌∙◌, Bool, true, false, List, [], ◌∷◌, ◌++◌, Some, None, length, take, drop, refl, sym, ap, subst, arith, cond, ltb}
 use Rattle.std.specs.List.{AllByRecursion, after_first, before_first, join_with_byte, onto_first, position_or_len, slice_split}
 use Rattle.std.specs.Prelude.{position}
-use Rattle.std.specs.Str.{bytes_eq}
 use Rattle.std.proofs.lemmas.Bool.{eq-eqb, ltb-false, ltb-true, ne_eqb}
 use Rattle.std.proofs.lemmas.Option.{cond_some, none-some}
 use Rattle.std.proofs.lemmas.List.{append_assoc}
 use Rattle.std.proofs.lemmas.List.Splits.{join_with_byte-slice_split, length-slice_split, slice_split_at, slice_split_first, slice_split_none}
-use Rattle.std.proofs.lemmas.Slice.Eq.{bytes_eq-Decides}
 use Rattle.prefix_keys.proofs.Pieces.{split-whole}
 use Rattle.prefix_keys.proofs.Printed.{Lacks}
 use Rattle.pmap_cert.specs.FormatReading.{is_ended, line_from, pieces_of, words_of}
 use Rattle.pmap_cert.specs.CertificateText.{spaced, text_of_lines}
-use Rattle.pmap_cert.specs.Words.{words_behind}
 
 -- the position of a first element that passes is within the list
 pub found_at : {X : Type 0} (p : X → Bool) (text : List X) (end : ℕ) → position p text ≡ Some end → (position_or_len p text < length text) × (position_or_len p text ≡ end)
@@ -95,28 +92,3 @@ words-line word [] first rest = slice_split_none (λ b. b == 32) word first
 words-line word (next ∷ words) first rest =
     slice_split_at (λ b. b == 32) word 32 (spaced (next ∷ words)) first (eq-eqb 32 32 refl)
     ∙ ap (λ words. word ∷ words) (words-line next words rest.0 rest.1)
-
--- a line is the line of its words
-pub line-words : (line : List ℕ) (words : List (List ℕ)) → words_of line ≡ words → line ≡ spaced words
-line-words line words e = sym (join_with_byte-slice_split 32 line) ∙ ap spaced e
-
--- a value that a word has by one of two names is that of the name which it is
-pub either-word : {A : Type 0} (word a b : List ℕ) (o p : Option A) (z : A) → cond (bytes_eq word a) o (cond (bytes_eq word b) p None) ≡ Some z
-    → ((word ≡ a) × (o ≡ Some z)) ⊎ ((word ≡ b) × (p ≡ Some z))
-either-word word a b o p z e = by (bytes_eq word a) (bytes_eq word b) refl refl
-  where
-    by : (c d : Bool) → bytes_eq word a ≡ c → bytes_eq word b ≡ d → ((word ≡ a) × (o ≡ Some z)) ⊎ ((word ≡ b) × (p ≡ Some z))
-    by true d first second = inl ((bytes_eq-Decides word a).0 first, rw first at e)
-    by false true first second = inr ((bytes_eq-Decides word b).0 second, rw (first, second) at e)
-    by false false first second = absurd (none-some z (rw (first, second) at e))
-
--- the words of a line with a space are the first word and the words after the space
-pub words_of-space : (text : List ℕ) (end : ℕ) → position (λ b. b == 32) text ≡ Some end → words_of text ≡ take end text ∷ words_behind (Some (drop (end + 1) text))
-words_of-space text end e =
-    let p : ℕ → Bool = λ b. b == 32 in
-    let found = found_at p text end e in
-    subst (λ (end : ℕ). words_of text ≡ take end text ∷ words_behind (Some (drop (end + 1) text))) found.1
-    (slice_split_first p text 0 found.0)
-
-pub words_of-whole : (text : List ℕ) → position (λ b. b == 32) text ≡ None → words_of text ≡ text ∷ words_behind None
-words_of-whole text e = split-whole (λ b. b == 32) text (found_nowhere (λ b. b == 32) text e)

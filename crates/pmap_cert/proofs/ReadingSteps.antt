@@ -138,7 +138,7 @@ module _ (format : Format) (most : ℕ) (table : List Label) where
   pub chain-bits : (place after : Place) (cost : ℕ) (bits : List Bool) (side : ℕ) (numbers : List ℕ) → due_in place ≡ Ok (ChainLine cost bits side numbers, after)
       → 0 < length bits
   chain-bits place after cost bits side numbers is =
-      let said = line_due-found (format_number format) most (length table) place (ChainLine cost bits side numbers, after) is in said.2.1.2
+      let said = line_due-found (format_number format) most (length table) place (ChainLine cost bits side numbers, after) is in said.1.2
 
   -- a leaf that was read, and its line after the old ones
   pub read-leaf : (room : ℕ) (place after : Place) (number : ℕ) (old new : List DueLine) → due_in place ≡ Ok (LeafLine number, after)
@@ -147,7 +147,7 @@ module _ (format : Format) (most : ℕ) (table : List Label) where
       let said = line_due-found (format_number format) most (length table) place (LeafLine number, after) due in record {
         node = Leaf number;
         read = node-leaf due_in table place after room number due;
-        form = said.2.1;
+        form = said.1;
         kind = leaf-kind format number;
         lines = is;
       }
@@ -162,7 +162,7 @@ module _ (format : Format) (most : ℕ) (table : List Label) where
       let node : Node = Inner cost numbers low.node up.node in record {
         node = node;
         read = node-inner due_in table place after cost numbers due room some (tree_of table low.node) middle low.read (tree_of table up.node) end up.read;
-        form = subst (HasChainForm (length table) node) more (said.2.1.0, said.2.1.1, low.form, up.form);
+        form = subst (HasChainForm (length table) node) more (said.1.0, said.1.1, low.form, up.form);
         kind = inner-kind format cost numbers low.node up.node low.kind up.kind;
         lines =
             up.lines ∙ ap (λ (ls : List DueLine). ls ++ lines_of up.node) (low.lines ∙ ap (λ (ls : List DueLine). ls ++ lines_of low.node) is)
@@ -175,19 +175,19 @@ module _ (format : Format) (most : ℕ) (table : List Label) where
       → IsReadNode format most table (room - length bits) after first second end → IsReadNode format most table room place old second end
   read-chain room place after end cost bits side numbers old first second due fits is last =
       let said = line_due-found (format_number format) most (length table) place (ChainLine cost bits side numbers, after) due in
-      let some = said.2.1.2 in record {
+      let some = said.1.2 in record {
         node = Chain cost numbers bits side last.node;
         read =
             chain-in due_in table place after cost numbers bits side room due fits some
             ∙ ap (end_then due_in table place after cost numbers bits side) last.read;
         form = (
-          said.2.1.1,
-          said.2.1.5,
-          said.2.1.4,
+          said.1.1,
+          said.1.5,
+          said.1.4,
           some,
           room-left (HasChainForm (length table) last.node) bits room (room - length bits) (omega arith) last.form,
         );
-        kind = chain-kind format cost numbers bits side last.node said.2.1.0;
+        kind = chain-kind format cost numbers bits side last.node said.1.0;
         lines =
             last.lines ∙ ap (λ (ls : List DueLine). ls ++ lines_of last.node) is
             ∙ append_assoc old (ChainLine cost bits side numbers ∷ []) (lines_of last.node);

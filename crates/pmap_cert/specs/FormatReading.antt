@@ -1,6 +1,5 @@
-use Rattle.std.specs.Prelude.{ℕ, zero, suc, ◌+◌, ◌^◌, ◌&&◌, ◌==◌, Bool, true, false, List, [], ◌∷◌, ◌++◌, Option, Some, None, Result, Ok, Err, codes, length, map, nat_le, nat_lt, not, option_map, if◌then◌else◌, ◌||◌}
-use Rattle.std.specs.List.{slice_split, list_all}
-use Rattle.std.specs.Fmt.{decimal}
+use Rattle.std.specs.Prelude.{ℕ, zero, suc, ◌+◌, ◌^◌, ◌&&◌, ◌==◌, Bool, true, false, List, [], ◌∷◌, ◌++◌, Option, Some, None, Result, Ok, Err, codes, length, map, nat_le, nat_lt, not, if◌then◌else◌, ◌||◌}
+use Rattle.std.specs.List.{slice_split}
 use Rattle.std.specs.Str.{bytes_eq}
 use Rattle.prefix_keys.specs.Text.{decimal_value}
 use Rattle.prefix_keys.specs.Block.{width_of}
@@ -11,6 +10,7 @@ use Rattle.pmap_text.specs.MapModel.{Label}
 use Rattle.pmap_text.specs.MapText.{text_at}
 use Rattle.pmap_text.specs.Reading.{◌>>=◌}
 use Rattle.pmap_cert.specs.CertificateModel.{CertificateModel, InnerNode, LeafNode, Tree, ChainNode}
+use Rattle.pmap_cert.specs.CertificateText.{chain_line, format_header, inner_line, leaf_line}
 pub use Rattle.pmap_cert.specs.declared.fault.CertFault.{CertFault}
 pub use Rattle.pmap_cert.specs.declared.fault.CertFaultKind.{CertFaultKind}
 pub use Rattle.pmap_cert.specs.declared.fault.CertFaultKind.TheVariants.{BadHeader, BadLabelTable, BadNode, NoMemory, NodesLeft, NodesMissing, TooDeep}
@@ -59,25 +59,13 @@ value_by fault value_of None = Err fault
 abbrev pub line_value : {A : Type 0} → CertFaultKind → (List ℕ → Option A) → Place → Result (A × Place) CertFault
 line_value kind value_of place = value_by (fault_at place kind) value_of (next_line place)
 
--- the number whose decimal text the word is, if it is below the bound
-abbrev pub number_below : ℕ → List ℕ → Option ℕ
-number_below bound word =
-    if bytes_eq word (decimal (decimal_value word)) && nat_lt (decimal_value word) bound
-    then Some (decimal_value word)
-    else None
-
 -- the words of a line: the pieces between its spaces
 abbrev pub words_of : List ℕ → List (List ℕ)
 words_of line = slice_split (λ b. b == 32) line
 
--- the version that a word names
-abbrev pub named_version : List ℕ → Option Version
-named_version word =
-    if bytes_eq word (codes "ipv4") then Some V4 else (if bytes_eq word (codes "ipv6") then Some V6 else None)
-
-abbrev pub both : {A B : Type 0} → Option A → Option B → Option (A × B)
-both (Some x) (Some y) = Some (x, y)
-both _ _ = None
+-- the value `likely` if it fits and the line is its text
+abbrev pub printed_value : {A : Type 0} → (A → Bool) → (A → List ℕ) → A → List ℕ → Option A
+printed_value fits text_of likely line = if fits likely && bytes_eq line (text_of likely) then Some likely else None
 
 -- the label of a line, if it is one that the table doesn't have yet
 abbrev pub new_label : List Label → List ℕ → Option Label
@@ -89,17 +77,6 @@ labels_at zero table place = Ok (table, place)
 labels_at (suc left) table place =
     line_value BadLabelTable (new_label table) place >>= (λ label. labels_at left (table ++ label.0 ∷ []) label.1)
 
--- a first number that is not below low, and those that follow it
-abbrev pub onto_numbers : ℕ → Option ℕ → (ℕ → Option (List ℕ)) → Option (List ℕ)
-onto_numbers low (Some n) others = if nat_le low n then option_map (λ ns. n ∷ ns) (others (n + 1)) else None
-onto_numbers low None others = None
-
--- the numbers that the words are, if these ascend, are below the bound, and the first is not below low
-abbrev pub ascending_numbers : ℕ → ℕ → List (List ℕ) → Option (List ℕ)
-ascending_numbers bound low [] = Some []
-ascending_numbers bound low (word ∷ words) =
-    onto_numbers low (number_below bound word) (λ next. ascending_numbers bound next words)
-
 -- a line of a leaf with its label's number, of an inner node with its cost and its set's numbers, or of a chain with its
 -- cost, its bits, and the numbers of its side label and its set
 pub data DueLine : Type 0 where
@@ -107,61 +84,63 @@ pub data DueLine : Type 0 where
   InnerLine : (cost : ℕ) (numbers : List ℕ) → DueLine
   ChainLine : (cost : ℕ) (bits : List Bool) (side : ℕ) (numbers : List ℕ) → DueLine
 
--- the line of a leaf, by its words after the first
-abbrev pub leaf_by : ℕ → List (List ℕ) → Option DueLine
-leaf_by count (number ∷ []) = option_map LeafLine (number_below count number)
-leaf_by count _ = None
+-- the text of a node's line
+abbrev pub line_text : DueLine → List ℕ
+line_text (LeafLine number) = leaf_line number
+line_text (InnerLine cost numbers) = inner_line cost numbers
+line_text (ChainLine cost bits side numbers) = chain_line cost bits side numbers
 
--- the line of an inner node, by its words after the first
-abbrev pub inner_by : ℕ → List (List ℕ) → Option DueLine
-inner_by count (cost ∷ numbers) =
-    option_map (λ claim. InnerLine claim.0 claim.1) (both (number_below (2 ^ 32) cost) (ascending_numbers count 0 numbers))
-inner_by count [] = None
+-- the numbers strictly ascend, are below the bound, and not below low
+abbrev pub is_ascending : ℕ → ℕ → List ℕ → Bool
+is_ascending bound low [] = true
+is_ascending bound low (n ∷ ns) = nat_le low n && (nat_lt n bound && is_ascending bound (n + 1) ns)
 
--- the format that a word names
-abbrev pub named_format : List ℕ → Option ℕ
-named_format word = if bytes_eq word (codes "1") then Some 1 else (if bytes_eq word (codes "2") then Some 2 else None)
+-- the line fits a certificate of this format with `count` labels for addresses of `most` bits; only format 2 has chains
+abbrev pub fits_line : ℕ → ℕ → ℕ → DueLine → Bool
+fits_line format most count (LeafLine number) = nat_lt number count
+fits_line format most count (InnerLine cost numbers) = nat_lt cost (2 ^ 32) && is_ascending count 0 numbers
+fits_line format most count (ChainLine cost bits side numbers) =
+    (format == 2) && (nat_lt cost (2 ^ 32) && (nat_le 1 (length bits) && (nat_le (length bits) most
+    && (nat_lt side count && is_ascending count 0 numbers))))
 
--- the format, the version and the number of labels, at most 65536, of a header with these words
-abbrev pub format_header_of : List (List ℕ) → Option (ℕ × (Version × ℕ))
-format_header_of (name ∷ format ∷ version ∷ count ∷ []) =
-    if bytes_eq name (codes "flowlabel-cert")
-    then both (named_format format) (both (named_version version) (number_below 65537 count))
-    else None
-format_header_of _ = None
+-- The only line that could have these words. A comparison with its text decides whether it has them.
+abbrev pub likely_chain : ℕ → List (List ℕ) → DueLine
+likely_chain cost (bits ∷ side ∷ numbers) = ChainLine cost (map (λ d. d == 49) bits) (decimal_value side) (map decimal_value numbers)
+likely_chain cost _ = LeafLine 0
+
+abbrev pub likely_line : List (List ℕ) → DueLine
+likely_line (kind ∷ number ∷ words) =
+    if bytes_eq kind (codes "l") then LeafLine (decimal_value number)
+    else (if bytes_eq kind (codes "n") then InnerLine (decimal_value number) (map decimal_value words)
+    else likely_chain (decimal_value number) words)
+likely_line _ = LeafLine 0
+
+-- the text of a header with this format, version and number of labels
+abbrev pub header_text : ℕ × (Version × ℕ) → List ℕ
+header_text header = format_header header.0 header.1.0 header.1.1
+
+abbrev pub fits_header : ℕ × (Version × ℕ) → Bool
+fits_header header = ((header.0 == 1) || (header.0 == 2)) && nat_le header.1.1 65536
+
+-- the only header that could have these words
+abbrev pub likely_header : List (List ℕ) → ℕ × (Version × ℕ)
+likely_header (name ∷ format ∷ version ∷ count ∷ words) =
+    (decimal_value format, (if bytes_eq version (codes "ipv4") then V4 else V6, decimal_value count))
+likely_header _ = (0, (V4, 0))
+
+-- reads a line as the value that fits and whose text the line is; `likely` is the only one that could have its words
+abbrev pub printed_at : {A : Type 0} → CertFaultKind → (A → Bool) → (A → List ℕ) → (List (List ℕ) → A) → Place → Result (A × Place) CertFault
+printed_at kind fits text_of likely place = line_value kind (λ line. printed_value fits text_of (likely (words_of line)) line) place
 
 -- reads the header
 abbrev pub format_header_at : Place → Result ((ℕ × (Version × ℕ)) × Place) CertFault
-format_header_at place = line_value BadHeader (λ line. format_header_of (words_of line)) place
-
--- the bits of a word of 1 to `most` digits 0 and 1
-abbrev pub bits_of : ℕ → List ℕ → Option (List Bool)
-bits_of most [] = None
-bits_of most (digit ∷ digits) =
-    if nat_le (length (digit ∷ digits)) most && list_all (λ d. (d == 48) || (d == 49)) (digit ∷ digits)
-    then Some (map (λ d. d == 49) (digit ∷ digits))
-    else None
-
--- the line of a chain, by its words after the first, in a certificate of `count` labels for addresses of `most` bits
-abbrev pub chain_by : ℕ → ℕ → List (List ℕ) → Option DueLine
-chain_by most count (cost ∷ bits ∷ side ∷ numbers) =
-    option_map (λ chain. ChainLine chain.0.0 chain.0.1 chain.1.0 chain.1.1)
-    (both (both (number_below (2 ^ 32) cost) (bits_of most bits)) (both (number_below count side) (ascending_numbers count 0 numbers)))
-chain_by most count _ = None
-
--- the line of a node by its words; only format 2 has chains
-abbrev pub due_words : ℕ → ℕ → ℕ → List (List ℕ) → Option DueLine
-due_words format most count (word ∷ words) =
-    if format == 2 && bytes_eq word (codes "c") then chain_by most count words
-    else (if bytes_eq word (codes "l") then leaf_by count words
-    else (if bytes_eq word (codes "n") then inner_by count words else None))
-due_words format most count [] = None
+format_header_at place = printed_at BadHeader fits_header header_text likely_header place
 
 -- reads the line of the next node; if there is no next line because the text has ended, the fault is `NodesMissing`,
 -- otherwise `BadNode`
 abbrev pub line_due_at : ℕ → ℕ → ℕ → Place → Result (DueLine × Place) CertFault
 line_due_at format most count place =
-    line_value (if is_ended place.pieces then NodesMissing else BadNode) (λ line. due_words format most count (words_of line)) place
+    printed_at (if is_ended place.pieces then NodesMissing else BadNode) (fits_line format most count) line_text likely_line place
 
 -- The node of a line, with at most `room` levels below it. `inside d` reads a node that is d + 1 levels below: a half
 -- of an inner node is one level below it, and a chain's end as many levels as the chain has bits.

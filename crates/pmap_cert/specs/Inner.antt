@@ -1,15 +1,16 @@
-use Rattle.std.specs.Prelude.{◌≡◌, ℕ, List, ◌++◌, Ok, Result, length, ◌^◌, ◌<◌, ◌≤◌, ◌==◌, ◌||◌, Bool, false, [], ◌∷◌, Option, None, Some, IfSome, if◌then◌else◌, ◌+◌, true, All, drop, slice_index}
+use Rattle.std.specs.Prelude.{◌≡◌, ℕ, List, ◌++◌, Ok, Result, length, ◌^◌, ◌<◌, ◌≤◌, ◌==◌, ◌||◌, Bool, false, [], ◌∷◌, Option, None, Some, IfSome, if◌then◌else◌, ◌+◌, true, All, codes, drop, nat_lt, slice_index}
 use Rattle.std.specs.Fmt.{decimal}
 use Rattle.std.specs.List.{flat_map}
 use Rattle.std.specs.Option.{option_or}
 use Rattle.prefix_keys.specs.Text.{is_digit}
+use Rattle.prefix_keys.specs.declared.version.Version.{Version}
 use Rattle.pmap_text.specs.MapModel.{Label}
 use Rattle.pmap_text.specs.Label.{IsLabelTable}
 use Rattle.pmap_cert.specs.Format.{IsNodeOf, format_number, Format}
-use Rattle.pmap_cert.specs.FormatReading.{DueLine, Place, line_due_at, nodes_at, ChainLine, InnerLine, LeafLine, CertFault}
-use Rattle.pmap_cert.specs.Node.{HasChainForm, IsPlainNode, Node, lines_of, tree_of, line_text, AreWhole, Inner, Leaf, first_node, label_of, node_of, nodes_of}
+use Rattle.pmap_cert.specs.FormatReading.{DueLine, Place, fits_header, fits_line, header_text, line_due_at, line_text, nodes_at, CertFault}
+use Rattle.pmap_cert.specs.Node.{HasChainForm, IsPlainNode, Node, lines_of, tree_of, AreWhole, Inner, Leaf, first_node, label_of, node_of, nodes_of}
 use Rattle.pmap_cert.specs.CertificateModel.{Tree}
-use Rattle.pmap_cert.specs.CertificateText.{IsAscending, bit_digits}
+use Rattle.pmap_cert.specs.CertificateText.{IsAscending, bit_digits, format_word, spaced, version_word}
 use Rattle.pmap_cert.specs.Compacting.{compacted}
 use Rattle.pmap_cert.specs.declared.compacting.Below.{Below}
 use Rattle.pmap_cert.specs.declared.compacting.Below.TheVariants.{Halves, Nothing}
@@ -64,9 +65,24 @@ pub record BeginsWithSet (bound low : ℕ) (text : List ℕ) (numbers rest : Lis
   pub whole : text ≡ flat_map (λ n. 32 ∷ decimal n) numbers ++ 10 ∷ rest
   pub ascending : IsAscending bound low numbers
 
-pub record BeginsWithLeaf (count : ℕ) (text : List ℕ) (number : ℕ) (rest : List ℕ) : Type 0 where
-  pub whole : text ≡ 32 ∷ (decimal number ++ 10 ∷ rest)
-  pub known : number < count
+-- the text is the text of a value that passes the test, a line feed, and the rest
+pub record BeginsWith {A : Type 0} (test : A → Bool) (text_of : A → List ℕ) (text : List ℕ) (x : A) (rest : List ℕ) : Type 0 where
+  pub whole : text ≡ text_of x ++ 10 ∷ rest
+  pub fits : test x ≡ true
+
+-- the text is a space, a number below the bound, a line feed, and the rest
+abbrev pub BeginsWithLast : ℕ → List ℕ → ℕ → List ℕ → Type 0
+BeginsWithLast bound text = BeginsWith (λ n. nat_lt n bound) (λ n. 32 ∷ decimal n) text
+
+abbrev pub BeginsWithLine : ℕ → ℕ → ℕ → List ℕ → DueLine → List ℕ → Type 0
+BeginsWithLine format most count text = BeginsWith (fits_line format most count) line_text text
+
+abbrev pub BeginsWithHeader : List ℕ → ℕ × (Version × ℕ) → List ℕ → Type 0
+BeginsWithHeader text = BeginsWith fits_header header_text text
+
+-- the part of a header's text before the space and the number of labels
+abbrev pub header_name : ℕ → Version → List ℕ
+header_name format version = spaced (codes "flowlabel-cert" ∷ format_word format ∷ version_word version ∷ [])
 
 pub record Then {A B : Type 0} (First : A → List ℕ → Type 0) (Second : List ℕ → B → List ℕ → Type 0) (both : A × B) (rest : List ℕ) : Type 0 where
   pub middle : List ℕ
@@ -79,17 +95,6 @@ BeginsWithClaim bound count text = Then (BeginsWithNumber bound text) (BeginsWit
 abbrev pub BeginsWithChain : ℕ → ℕ → List ℕ → ℕ × (List Bool × (ℕ × List ℕ)) → List ℕ → Type 0
 BeginsWithChain most count text =
     Then (BeginsWithNumber (2 ^ 32) text) (λ middle. Then (BeginsWithBits most middle) (BeginsWithClaim count count))
-
--- the line fits a certificate of this format with `count` labels for addresses of `most` bits
-abbrev pub FitsLine : ℕ → ℕ → ℕ → DueLine → Type 0
-FitsLine format most count (LeafLine number) = number < count
-FitsLine format most count (InnerLine cost numbers) = (cost < 2 ^ 32) × IsAscending count 0 numbers
-FitsLine format most count (ChainLine cost bits side numbers) =
-    (format ≡ 2) × (cost < 2 ^ 32) × (0 < length bits) × (length bits ≤ most) × (side < count) × IsAscending count 0 numbers
-
-pub record BeginsWithLine (format most count : ℕ) (text : List ℕ) (line : DueLine) (rest : List ℕ) : Type 0 where
-  pub whole : text ≡ line_text line ++ 10 ∷ rest
-  pub fits : FitsLine format most count line
 
 abbrev pub node_from : List DueLine → ℕ → Node
 node_from lines number = first_node (nodes_of (drop number lines))

@@ -5,9 +5,10 @@ use Rattle.std.proofs.lemmas.List.{append_assoc}
 use Rattle.std.specs.Coded.{Coded, code_by, coded_bool, coded_list, coded_ℕ, coded×, coded⊎, le_prop}
 use Rattle.pmap_text.specs.MapModel.{Label}
 use Rattle.pmap_text.specs.MapText.{text_at}
-use Rattle.pmap_cert.specs.CertificateText.{HasRoomBelow, IsAscending, IsAscending-prop, chain_line, inner_line, leaf_line}
+use Rattle.pmap_cert.specs.CertificateText.{HasRoomBelow, IsAscending, IsAscending-prop}
 use Rattle.pmap_cert.specs.CertificateModel.{ChainNode, InnerNode, LeafNode, Tree}
 use Rattle.pmap_cert.specs.FormatReading.{ChainLine, DueLine, InnerLine, LeafLine}
+pub use Rattle.pmap_cert.specs.FormatReading.{line_text}
 
 -- A node with label numbers, as the code has it: a leaf with the number of its label, an inner node with the cost and
 -- the set that it claims and the nodes of its block's halves, or a chain with its claim, its bits, the number of its
@@ -98,11 +99,6 @@ abbrev pub lines_of : Node → List DueLine
 lines_of (Leaf number) = LeafLine number ∷ []
 lines_of (Inner cost set lower upper) = InnerLine cost set ∷ (lines_of lower ++ lines_of upper)
 lines_of (Chain cost set bits side end) = ChainLine cost bits side set ∷ lines_of end
-
-abbrev pub line_text : DueLine → List ℕ
-line_text (LeafLine number) = leaf_line number
-line_text (InnerLine cost numbers) = inner_line cost numbers
-line_text (ChainLine cost bits side numbers) = chain_line cost bits side numbers
 
 -- the node of a line, with placeholders for the nodes below it
 abbrev pub node_of : DueLine → Node

@@ -1,16 +1,11 @@
-use Rattle.std.specs.Prelude.{ℕ, Bool, List, [], Option, Some, None, map}
+use Rattle.std.specs.Prelude.{ℕ, Bool, List, map}
 use Rattle.prefix_keys.specs.declared.version.Version.{Version}
 use Rattle.pmap_text.specs.declared.label.LabelId.{LabelId}
 use Rattle.pmap_cert.specs.Format.{format_number}
-use Rattle.pmap_cert.specs.FormatReading.{ChainLine, DueLine, InnerLine, LeafLine, words_of}
-use Rattle.pmap_cert.specs.declared.certificate_reading.header.Header.{Header}
+use Rattle.pmap_cert.specs.FormatReading.{ChainLine, DueLine, InnerLine, LeafLine}
+use Rattle.pmap_cert.specs.declared.header.Header.{Header}
 use Rattle.pmap_cert.specs.declared.node_line.NodeLine.{NodeLine}
 use Rattle.pmap_cert.specs.declared.node_line.NodeLine.TheVariants.{Chain, Inner, Leaf}
-
--- the words of the text after a space, none if there is no space
-abbrev pub words_behind : Option (List ℕ) → List (List ℕ)
-words_behind None = []
-words_behind (Some rest) = words_of rest
 
 -- the format number, the version and the number of labels of a header
 abbrev pub header_model : Header → ℕ × (Version × ℕ)

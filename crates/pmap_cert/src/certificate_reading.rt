@@ -16,11 +16,8 @@ use crate::node_line::{Frame, Kept, NodeLine};
 use crate::nodes::Nodes;
 use crate::path::Path;
 use crate::root::Root;
-use header::read_header;
 use pmap_text::{KeyHashing, Labels, is_label};
 use std::alloc::Global;
-
-mod header;
 
 fn is_known(labels: &Labels, text: &[u8]) -> bool
     ensures { result ≡ has_label labels.now text.now }
@@ -133,7 +130,7 @@ fn read_all(alloc: Global, text: &[u8], hashing: KeyHashing) -> Result<Certifica
     ensures err { IfErr result (λ fault. fault.kind ≢ NoMemory → format_reading text.now ≡ Err fault) }
     ensures memory { IfErr result (λ fault. fault.kind ≡ NoMemory → fault.line ≡ 0) }
 {
-    let (header, lines) = read_header(&Lines::new(text))?;
+    let (header, lines) = Lines::new(text).header()?;
     let (labels, mut rest) = read_labels(alloc, header.count, lines, hashing)?;
     let frame = Frame {
         format: header.format,

@@ -30,6 +30,7 @@ mod compacting;
 mod cursor;
 mod fault;
 mod format;
+mod header;
 mod laws;
 mod lines;
 mod node_line;
@@ -37,7 +38,6 @@ mod nodes;
 mod path;
 mod pool;
 mod root;
-mod words;
 mod writing;
 
 pub use certificate::Certificate;

@@ -1,10 +1,11 @@
 ghost use Rattle.std.specs.Prelude.{◌≡◌, ◌≢◌, Err, IfErr, IfOk, Ok, length, option_map};
 ghost use Rattle.pmap_cert.specs.Format.{format_number};
-ghost use Rattle.pmap_cert.specs.FormatReading.{fault_at, is_ended, line_due_at, next_line, start_of, NoMemory};
+ghost use Rattle.pmap_cert.specs.FormatReading.{fault_at, format_header_at, is_ended, line_due_at, next_line, start_of, NoMemory};
 ghost use Rattle.pmap_cert.specs.Packed.{bits_in};
-ghost use Rattle.pmap_cert.specs.Words.{line_model};
+ghost use Rattle.pmap_cert.specs.Words.{header_model, line_model};
 
 use crate::fault::{CertFault, CertFaultKind};
+use crate::header::{Header, read_header};
 use crate::node_line::{Frame, Kept, NodeLine, node_line};
 use prefix_keys::find_byte;
 use std::marker::Model;
@@ -48,6 +49,23 @@ impl<'a> Lines<'a> {
             number: self.number + 1,
         };
         Some((&self.rest[..end], after))
+    }
+
+    /// Reads the header and returns it with the lines that follow, or a `BadHeader` fault.
+    pub fn header(&self) -> Result<(Header, Lines<'a>), CertFault>
+        ensures ok { IfOk result (λ x. format_header_at self.now ≡ Ok (header_model x.0, x.1)) }
+        ensures err { IfErr result (λ fault. format_header_at self.now ≡ Err fault) }
+    {
+        match read_header(self.rest) {
+            Some((header, rest)) => {
+                let after = Lines {
+                    rest,
+                    number: self.number + 1,
+                };
+                Ok((header, after))
+            }
+            None => Err(self.fault(CertFaultKind::BadHeader)),
+        }
     }
 
     /// Reads the next line of a node and moves past it. `kept` gets the set of an inner node or a chain, and the bits of

@@ -1,7 +1,7 @@
 //! The lines of nodes, each read in one pass over its bytes.
 ghost use Rattle.std.specs.Prelude.{◌≡◌, ◌≢◌, ◌^◌, ◌<◌, ◌≤◌, ◌⊎◌, ◌∷◌, IfOk, IsTrue, false, length, map, option_map, slice_index};
 ghost use Rattle.pmap_cert.specs.Format.{format_number};
-ghost use Rattle.pmap_cert.specs.Inner.{BeginsWithBits, BeginsWithChain, BeginsWithClaim, BeginsWithLeaf, BeginsWithLine, BeginsWithNumber, BeginsWithSet, Reads, after_byte as after_byte_of};
+ghost use Rattle.pmap_cert.specs.Inner.{BeginsWithBits, BeginsWithChain, BeginsWithClaim, BeginsWithLast, BeginsWithLine, BeginsWithNumber, BeginsWithSet, Reads, after_byte as after_byte_of};
 ghost use Rattle.pmap_cert.specs.Packed.{bits_in};
 ghost use Rattle.pmap_cert.specs.Words.{line_model};
 
@@ -135,15 +135,15 @@ fn set_to_end<'a>(
     }
 }
 
-// Reads a leaf's line after its letter, and returns the label and the text after the line.
+/// Reads a space, a number below the bound and a line feed, and returns the number and the text after the line.
 #[inline(always)]
-fn leaf(text: &[u8], count: u64) -> Option<(LabelId, &[u8])>
-    requires { count ≤ 2 ^ 32 }
-    ensures { Reads (BeginsWithLeaf count text.now) (option_map (λ x. (x.0.0, x.1.now)) result) }
+pub fn last_number(text: &[u8], bound: u64) -> Option<(u32, &[u8])>
+    requires { bound ≤ 2 ^ 32 }
+    ensures { Reads (BeginsWithLast bound text.now) (option_map (λ x. (x.0, x.1.now)) result) }
 {
-    let (number, rest) = number_word(text, count)?;
+    let (number, rest) = number_word(text, bound)?;
     let rest = after_byte(rest, b'\n')?;
-    Some((LabelId(number), rest))
+    Some((number, rest))
 }
 
 // Reads a number below the bound and a set, stores the set, and returns the number and the text after the line.
@@ -208,8 +208,8 @@ pub fn node_line<'a>(
         (option_map (λ x. (line_model kept.new.set.items (bits_in kept.new.path) x.0, x.1.now)) found)) }
 {
     if let Some(rest) = after_byte(text, b'l') {
-        match leaf(rest, count) {
-            Some((id, rest)) => Ok(Some((NodeLine::Leaf(id), rest))),
+        match last_number(rest, count) {
+            Some((number, rest)) => Ok(Some((NodeLine::Leaf(LabelId(number)), rest))),
             None => Ok(None),
         }
     } else if let Some(rest) = after_byte(text, b'n') {
