@@ -1,5 +1,5 @@
 -- The cost of a minimal certificate: at each length no more blocks are halved than mappings have ends inside blocks.
-use Rattle.std.proofs.Common.{◌≡◌, ℕ, zero, suc, ◌+◌, ◌-◌, ◌*◌, ◌^◌, ◌<◌, ◌≤◌, Bool, true, false, ◌&&◌, List, [], ◌∷◌, Option, Some, None, arith, length, nat_le, nat_lt, pow_pos, refl, subst, inl, inr}
+use Rattle.std.proofs.Common.{◌≡◌, ℕ, zero, suc, ◌+◌, ◌-◌, ◌*◌, ◌^◌, ◌<◌, ◌≤◌, Bool, true, false, ◌&&◌, List, [], ◌∷◌, Option, Some, None, arith, length, nat_le, nat_lt, pow_pos, refl, ap, subst, inl, inr}
 use Rattle.std.proofs.Math.Nat.{mul-le-mul_right}
 use Rattle.std.proofs.lemmas.Bool.Decides.{nat_tests}
 use Rattle.std.proofs.lemmas.Nat.{mul-le}
@@ -12,7 +12,7 @@ use Rattle.pmap_text.specs.MapModel.{Label, MapModel, Mapping, last_such, meets,
 use Rattle.pmap_text.specs.Reading.{mapping_limit}
 use Rattle.pmap_cert.proofs.Counts.{one_if}
 use Rattle.pmap_cert.proofs.Sets.{exact_claim-cost}
-use Rattle.pmap_cert.specs.CertificateModel.{ChainNode, InnerNode, LeafNode, Tree, claim_of, exact_claim}
+use Rattle.pmap_cert.specs.CertificateModel.{ChainNode, Claim, InnerNode, LeafNode, Tree, claim_of, exact_claim}
 use Rattle.pmap_cert.specs.Acceptance.{StandsFor}
 
 -- the number of ends of a mapping between two addresses; at an end it covers one of two neighbours and not the other
@@ -129,7 +129,7 @@ cost-ends m (InnerNode p l r) zero n q e stands =
     let below : n < width_of m.version = unsettled-halves m n q (omega arith) stands.0 in
     absurd (omega arith)
 cost-ends m (InnerNode p l r) (suc left) n q e stands =
-    let same : p.cost ≡ (exact_claim (claim_of l) (claim_of r)).cost = stands.1.cost in
+    let same : p.cost ≡ (exact_claim (claim_of l) (claim_of r)).cost = ap (λ (c : Claim). c.cost) stands.1 in
     sum-bound p.cost (claim_of l).cost (claim_of r).cost left (block_ends m (suc n) (2 * q)) (block_ends m (suc n) (2 * q + 1)) (block_ends m n q)
     (omega (arith, same, exact_claim-cost (claim_of l) (claim_of r) None))
     (cost-ends m l left (suc n) (2 * q) (omega arith) stands.2)

@@ -10,7 +10,7 @@ use Rattle.pmap_text.proofs.Blocks.{block_number-first_of, block_number-half}
 use Rattle.pmap_cert.proofs.Counts.{is_within}
 use Rattle.pmap_cert.proofs.Filters.{filter-three}
 use Rattle.pmap_cert.proofs.Handed.{IsInhabited, exact_claim-cost_of, handed_on-has, inhabited}
-use Rattle.pmap_cert.proofs.Sets.{miss}
+use Rattle.pmap_cert.proofs.Sets.{miss, same-listed}
 use Rattle.pmap_text.proofs.Settled.{unsettled-halves}
 
 -- The entries of a node that represents a block: their number, and that they lie within the block.
@@ -49,7 +49,8 @@ length-entries_of m table (InnerNode claim lower upper) h n q stands =
       length-own_entry (width_of m.version) table claim.labels h n q,
       length-entries_of m table lower (handed_on table claim.labels h) (suc n) (2 * q) stands.2,
       length-entries_of m table upper (handed_on table claim.labels h) (suc n) (2 * q + 1) stands.3,
-      halves-cost table claim (claim_of lower) (claim_of upper) h (inhabited m (InnerNode claim lower upper) n q stands) stands.1,
+      halves-cost table claim (claim_of lower) (claim_of upper) h (inhabited m (InnerNode claim lower upper) n q stands)
+          (same-listed m.table claim (exact_claim (claim_of lower) (claim_of upper)) stands.1),
     )
 
 -- a node's own entry is within its block

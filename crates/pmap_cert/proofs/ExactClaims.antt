@@ -44,13 +44,13 @@ exact_by-apart p r (y ∷ ys) both none = absurd (none-common y ys (sym (both y 
 
 pub exact_claim-common : (p r : Claim) (x : Label) → has p.labels x ≡ true → has r.labels x ≡ true →
     IsClaimWith (exact_claim p r) (p.cost + r.cost) (λ y. has p.labels y && has r.labels y)
-exact_claim-common p r x = exact_by-common p r x (common_labels p r) (has-filter r.labels p.labels)
+exact_claim-common p r x = exact_by-common p r x (common_labels p r) (has-filter (has r.labels) p.labels)
 
 pub exact_claim-apart : (p r : Claim) → ((x : Label) → (has p.labels x && has r.labels x) ≡ false) →
     IsClaimWith (exact_claim p r) (p.cost + r.cost + 1) (λ y. has p.labels y || has r.labels y)
-exact_claim-apart p r = exact_by-apart p r (common_labels p r) (has-filter r.labels p.labels)
+exact_claim-apart p r = exact_by-apart p r (common_labels p r) (has-filter (has r.labels) p.labels)
 
 pub same-exact_claim : (p r p' r' : Claim) → IsSameClaim p p' → IsSameClaim r r' → IsSameClaim (exact_claim p r) (exact_claim p' r')
 same-exact_claim p r p' r' same same' =
     same-exact_by p r p' r' (common_labels p r) (common_labels p' r')
-    (λ x. has-filter r.labels p.labels x) (λ x. has-filter r'.labels p'.labels x) same same'
+    (λ x. has-filter (has r.labels) p.labels x) (λ x. has-filter (has r'.labels) p'.labels x) same same'

@@ -3,7 +3,7 @@ use Rattle.prefix_keys.specs.Block.{width_of}
 use Rattle.pmap_text.specs.ListModel.{ListModel}
 use Rattle.pmap_text.specs.MapModel.{Label, MapModel, settled_label}
 use Rattle.pmap_cert.specs.CertificateModel.{CertificateModel, InnerNode, LeafNode, Tree, claim_of, exact_claim}
-use Rattle.pmap_cert.specs.Acceptance.{IsMinimalPair, StandsFor, entries_of}
+use Rattle.pmap_cert.specs.Acceptance.{IsMinimalPair, StandsFor, entries_of, in_table_order}
 use Rattle.pmap_text.proofs.Settled.{unsettled-halves}
 
 -- Each map has a minimal pair: blocks are halved until they are settled, and a block of one address always is.
@@ -16,8 +16,8 @@ NodeFor m n q = (t : Tree) × StandsFor m t n q
 node_over : (m : MapModel) (n q : ℕ) → settled_label m n q ≡ None → NodeFor m (suc n) (2 * q) → NodeFor m (suc n) (2 * q + 1) →
     NodeFor m n q
 node_over m n q unsettled lower upper = (
-  InnerNode (exact_claim (claim_of lower.0) (claim_of upper.0)) lower.0 upper.0,
-  (unsettled, record { cost = refl; labels = λ x. refl }, lower.1, upper.1),
+  InnerNode (in_table_order m.table (exact_claim (claim_of lower.0) (claim_of upper.0))) lower.0 upper.0,
+  (unsettled, refl, lower.1, upper.1),
 )
 
 -- each block has a node that represents it, by recursion on the bits below the block

@@ -4,7 +4,7 @@ use Rattle.pmap_text.specs.MapModel.{Label, MapModel}
 use Rattle.pmap_text.proofs.Finds.{find_passes}
 use Rattle.pmap_cert.specs.CertificateModel.{ChainNode, InnerNode, LeafNode, Claim, Tree, claim_of, has, common_labels, exact_claim, exact_claim_by}
 use Rattle.pmap_cert.specs.Acceptance.{StandsFor, first_label, handed_on, least_label}
-use Rattle.pmap_cert.proofs.Sets.{bytes_eq-same, has-append, has-filter, has-own, has-single, miss}
+use Rattle.pmap_cert.proofs.Sets.{bytes_eq-same, has-append, has-filter, has-own, has-single, miss, same-listed}
 
 -- A node of a minimal certificate passes on a label of its set, so its halves have as many entries as it costs.
 
@@ -53,7 +53,7 @@ inhabited m (ChainNode p bits side end) n q h = absurd h
 inhabited m (InnerNode claim lower upper) n q h =
     let below = inhabited m lower _ _ h.2 in
     let exact = inhabited-exact_claim_by (claim_of lower) (claim_of upper) (common_labels (claim_of lower) (claim_of upper)) below in
-    (exact.0, (h.1).labels exact.0 ∙ exact.1)
+    (exact.0, (same-listed m.table claim (exact_claim (claim_of lower) (claim_of upper)) h.1).labels exact.0 ∙ exact.1)
 
 -- if both halves inherit a label of the exact set, they have as many entries as the exact claim costs
 misses-one : (a b c : Bool) → false ≡ (a && b) → c ≡ (a || b) → c ≡ true → cond a 0 1 + cond b 0 1 ≡ 1
@@ -76,4 +76,4 @@ exact_claim_by-cost_of p r x (y ∷ ys) both h =
 
 pub exact_claim-cost_of : (p r : Claim) (x : Label) → has (exact_claim p r).labels x ≡ true →
     (exact_claim p r).cost ≡ p.cost + miss (Some x) p.labels + (r.cost + miss (Some x) r.labels)
-exact_claim-cost_of p r x h = exact_claim_by-cost_of p r x (common_labels p r) (λ y. has-filter r.labels p.labels y) h
+exact_claim-cost_of p r x h = exact_claim_by-cost_of p r x (common_labels p r) (λ y. has-filter (has r.labels) p.labels y) h

@@ -20,7 +20,6 @@ pub mod NodeWalk
 pub mod ReadingSteps
 pub mod Written
 pub mod LineTexts
-pub mod Equal
 pub mod MapLabels
 pub mod MapLimits
 pub mod Ends

@@ -13,6 +13,7 @@ use Rattle.pmap_cert.proofs.Entries.{filter-entries_of, filter-own_entry, is_wit
 use Rattle.pmap_cert.proofs.Filters.{filter-filter, filter-three, find-filter}
 use Rattle.pmap_cert.proofs.Handed.{handed_on-leaf}
 use Rattle.pmap_cert.proofs.Kernel.{label_below-lower, label_below-upper}
+use Rattle.pmap_cert.proofs.Sets.{same-listed}
 use Rattle.pmap_text.proofs.Settled.{unsettled-halves}
 
 -- A minimal pair is accepted.
@@ -143,7 +144,7 @@ module _ (m : MapModel) (table : List Label) (ps : List Prefix) where
         accepted-node lower passed (suc n) (2 * q) below stands.2 (low ∙ append-nil (entries_of W table lower passed (suc n) (2 * q)))
             (label_below-lower W ps n q below ∙ handed),
         accepted-node upper passed (suc n) (2 * q + 1) below stands.3 up (label_below-upper W ps n q below ∙ handed),
-        within-same claim (exact_claim (claim_of lower) (claim_of upper)) stands.1,
+        within-same claim (exact_claim (claim_of lower) (claim_of upper)) (same-listed m.table claim _ stands.1),
       )
 
 -- a minimal pair's list has as many entries as the root's cost plus one

@@ -72,7 +72,7 @@ exact-within_by p r p' r' (y ∷ ys) (z ∷ zs) both both' e f = record {
 
 pub exact-within : (p r p' r' : Claim) → IsWithinExact p p' → IsWithinExact r r' → IsWithinExact (exact_claim p r) (exact_claim p' r')
 exact-within p r p' r' e f =
-    exact-within_by p r p' r' (common_labels p r) (common_labels p' r') (has-filter r.labels p.labels) (has-filter r'.labels p'.labels) e f
+    exact-within_by p r p' r' (common_labels p r) (common_labels p' r') (has-filter (has r.labels) p.labels) (has-filter (has r'.labels) p'.labels) e f
 
 link-within : (bit : Bool) (side : Label) (p r : Claim) → IsWithinExact p r → IsWithinExact (link_claim bit side p) (link_claim bit side r)
 link-within true side p r within =

@@ -1,9 +1,9 @@
-use Rattle.std.proofs.Common.{◌≡◌, ℕ, ◌+◌, ◌≤◌, Bool, true, false, cond, ◌&&◌, ◌||◌, List, [], ◌∷◌, ◌++◌, Option, Some, None, arith, filter, sym, refl, ap, ◌∙◌, bytes_eq}
+use Rattle.std.proofs.Common.{◌≡◌, ℕ, ◌+◌, ◌≤◌, Bool, true, false, cond, ◌&&◌, ◌||◌, List, [], ◌∷◌, ◌++◌, Option, Some, None, arith, filter, sym, refl, ap, ◌∙◌, bytes_eq, ap₂, not}
 use Rattle.std.proofs.lemmas.Slice.Eq.{bytes_eq-Decides}
 use Rattle.std.proofs.Math.Bool.{or-false, or_assoc}
 use Rattle.pmap_text.specs.MapModel.{Label}
-use Rattle.pmap_cert.specs.CertificateModel.{Claim, has, common_labels, exact_claim, exact_claim_by}
-use Rattle.pmap_cert.specs.Acceptance.{has_inherited}
+use Rattle.pmap_cert.specs.CertificateModel.{Claim, has, IsSameClaim, common_labels, exact_claim, exact_claim_by}
+use Rattle.pmap_cert.specs.Acceptance.{has_inherited, in_table_order}
 
 -- Sets of labels, and the cost of the exact claim of two claims.
 
@@ -32,14 +32,30 @@ has-cond : (c : Bool) (xs ys : List Label) (x : Label) → has (cond c xs ys) x 
 has-cond true xs ys x = refl
 has-cond false xs ys x = refl
 
-pub has-filter : (s xs : List Label) (x : Label) → has (filter (has s) xs) x ≡ (has xs x && has s x)
-has-filter s [] x = refl
-has-filter s (y ∷ xs) x =
-    has-filter-step (bytes_eq x y) (has xs x) (has s y) (has s x) (has (filter (has s) xs) x)
-    (has (filter (has s) (y ∷ xs)) x)
-    (λ e. ap (has s) (sym ((bytes_eq-Decides x y).0 e)))
-    (has-filter s xs x)
-    (has-cond (has s y) (y ∷ filter (has s) xs) (filter (has s) xs) x)
+pub has-filter : (test : Label → Bool) (xs : List Label) (x : Label) → has (filter test xs) x ≡ (has xs x && test x)
+has-filter test [] x = refl
+has-filter test (y ∷ xs) x =
+    has-filter-step (bytes_eq x y) (has xs x) (test y) (test x) (has (filter test xs) x) (has (filter test (y ∷ xs)) x)
+    (λ e. ap test (sym ((bytes_eq-Decides x y).0 e)))
+    (has-filter test xs x)
+    (has-cond (test y) (y ∷ filter test xs) (filter test xs) x)
+
+either-way : (t s : Bool) → ((t && s) || (s && not t)) ≡ s
+either-way true true = refl
+either-way true false = refl
+either-way false true = refl
+either-way false false = refl
+
+-- the order of a claim's set doesn't change the set
+pub same-listed : (table : List Label) (claim e : Claim) → claim ≡ in_table_order table e → IsSameClaim claim e
+same-listed table claim e is = record {
+  cost = ap (λ (p : Claim). p.cost) is;
+  labels = λ x.
+      ap (λ (p : Claim). has p.labels x) is
+      ∙ has-append (filter (has e.labels) table) (filter (λ y. not (has table y)) e.labels) x
+      ∙ ap₂ ◌||◌ (has-filter (has e.labels) table x) (has-filter (λ y. not (has table y)) e.labels x)
+      ∙ either-way (has table x) (has e.labels x);
+}
 
 -- the cost of an inherited label for a block with the set s: 0 if the set has it, otherwise 1 entry
 abbrev pub miss : Option Label → List Label → ℕ
@@ -68,4 +84,4 @@ exact_claim_by-cost p r (Some x) (y ∷ ys) both =
 
 pub exact_claim-cost : (p r : Claim) (h : Option Label) →
     (exact_claim p r).cost + miss h (exact_claim p r).labels ≤ p.cost + miss h p.labels + (r.cost + miss h r.labels)
-exact_claim-cost p r h = exact_claim_by-cost p r h (common_labels p r) (λ x. has-filter r.labels p.labels x)
+exact_claim-cost p r h = exact_claim_by-cost p r h (common_labels p r) (λ x. has-filter (has r.labels) p.labels x)

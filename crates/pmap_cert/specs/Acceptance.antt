@@ -1,9 +1,9 @@
-use Rattle.std.specs.Prelude.{◌≡◌, ℕ, suc, ◌+◌, ◌*◌, ◌<◌, ◌≤◌, Bool, List, [], ◌∷◌, Some, filter, length, IsTrue, false, ◌++◌, Option, None, find, unwrap_or, if◌then◌else◌, All, ◌-◌, ◌%◌, ◌^◌, ◌&&◌, ◌||◌, ◌==◌, nat_lt}
+use Rattle.std.specs.Prelude.{◌≡◌, ℕ, suc, ◌+◌, ◌*◌, ◌<◌, ◌≤◌, Bool, List, [], ◌∷◌, Some, filter, length, IsTrue, false, ◌++◌, Option, None, find, unwrap_or, if◌then◌else◌, All, ◌-◌, ◌%◌, ◌^◌, ◌&&◌, ◌||◌, ◌==◌, nat_lt, not}
 use Rattle.std.specs.List.{AllByRecursion}
 use Rattle.prefix_keys.specs.Block.{first_of, width_of}
 use Rattle.pmap_text.specs.ListModel.{IsEquivalent, ListModel, Prefix, label_below, lies_inside}
 use Rattle.pmap_text.specs.MapModel.{IsSettled, Label, MapModel, settled_label}
-use Rattle.pmap_cert.specs.CertificateModel.{CertificateModel, ChainNode, InnerNode, LeafNode, Claim, Tree, claim_of, has, chain_claim, chosen_half, side_half, exact_claim, IsSameClaim}
+use Rattle.pmap_cert.specs.CertificateModel.{CertificateModel, ChainNode, InnerNode, LeafNode, Claim, Tree, claim_of, has, chain_claim, chosen_half, side_half, exact_claim}
 
 -- When a certificate is accepted for a map and a prefix list. Labels are compared by their texts.
 
@@ -57,12 +57,18 @@ IsLeast m l = (other : ListModel) → IsEquivalent other m → length l.prefixes
 
 -- The minimal pair of a map: its certificate of exact claims and the prefix list read off it.
 
+-- the claim with its set in the order of the table, and any labels that the table lacks after the others
+abbrev pub in_table_order : List Label → Claim → Claim
+in_table_order table claim =
+    record claim { labels = filter (has claim.labels) table ++ filter (λ x. not (has table x)) claim.labels }
+
 -- The node represents the block of n bits with the number q: a leaf if the map settles the block with its label, or,
--- for an unsettled block, an inner node with the exact claim of its nodes, which represent the halves.
+-- for an unsettled block, an inner node with the exact claim of its nodes, which represent the halves, and with its set
+-- in the order of the map's table.
 abbrev pub StandsFor : MapModel → Tree → ℕ → ℕ → Type 0
 StandsFor m (LeafNode x) n q = IsSettled m n q x
 StandsFor m (InnerNode claim lower upper) n q =
-    (settled_label m n q ≡ None) × IsSameClaim claim (exact_claim (claim_of lower) (claim_of upper))
+    (settled_label m n q ≡ None) × (claim ≡ in_table_order m.table (exact_claim (claim_of lower) (claim_of upper)))
     × StandsFor m lower (suc n) (2 * q) × StandsFor m upper (suc n) (2 * q + 1)
 StandsFor m (ChainNode claim bits side end) n q = ⊥
 
@@ -111,19 +117,6 @@ pub record IsMinimalPair (m : MapModel) (l : ListModel) (c : CertificateModel) :
   pub list_name : l.name ≡ m.name
   pub list_table : l.table ≡ m.table
   pub prefixes : l.prefixes ≡ entries_of (width_of m.version) m.table c.root None 0 0
-
--- two nodes have the same shape, labels, costs and sets
-abbrev pub IsSameTree : Tree → Tree → Type 0
-IsSameTree (LeafNode x) (LeafNode y) = x ≡ y
-IsSameTree (InnerNode p l r) (InnerNode p' l' r') = IsSameClaim p p' × IsSameTree l l' × IsSameTree r r'
-IsSameTree _ _ = ⊥
-
--- two certificates are equal except for the order in which their sets are listed
-pub record IsSameCertificate (c c' : CertificateModel) : Type 0 where
-  pub format : c.format ≡ c'.format
-  pub version : c.version ≡ c'.version
-  pub table : c.table ≡ c'.table
-  pub root : IsSameTree c.root c'.root
 
 -- the map's label table has the default and the label of each mapping
 pub record HasItsLabels (m : MapModel) : Type 0 where

@@ -4,7 +4,7 @@ ghost use Rattle.std.specs.Prelude.{◌≡◌, ◌+◌, ◌≤◌, ◌&&◌, ◌
 ghost use Rattle.pmap_text.specs.ListModel.{IsEquivalent, ListModel};
 ghost use Rattle.pmap_text.specs.MapModel.{Label, MapModel};
 ghost use Rattle.pmap_text.specs.Reading.{ReadsMap};
-ghost use Rattle.pmap_cert.specs.Acceptance.{IsAccepted, IsLeast, HasListForm, HasItsLabels, IsMinimalPair, IsSameCertificate};
+ghost use Rattle.pmap_cert.specs.Acceptance.{IsAccepted, IsLeast, HasListForm, HasItsLabels, IsMinimalPair};
 ghost use Rattle.pmap_cert.specs.CertificateText.{HasTextForm};
 ghost use Rattle.pmap_cert.specs.CertificateModel.{CertificateModel, Claim, claim_of, has, IsClaimWith, IsSameClaim, exact_claim};
 ghost use Rattle.pmap_cert.specs.Examples.{four_quarters_certificate, four_quarters_list, four_quarters_map};
@@ -40,19 +40,12 @@ pub fn minimal_pair_is_accepted()
         IsLeast m l }
 {}
 
-/// A map has one minimal pair: all its certificates agree in version, table, shape, labels, costs and sets. If the
-/// map's table has all labels of the map, the lists are equal too.
+/// A map has only one minimal pair.
 pub fn minimal_pair_is_unique()
     ensures certificates { (m : MapModel) (l l' : ListModel) (c c' : CertificateModel) →
-        IsMinimalPair m l c → IsMinimalPair m l' c' → IsSameCertificate c c' }
+        IsMinimalPair m l c → IsMinimalPair m l' c' → c ≡ c' }
     ensures lists { (m : MapModel) (l l' : ListModel) (c c' : CertificateModel) →
-        IsMinimalPair m l c → IsMinimalPair m l' c' → HasItsLabels m → l ≡ l' }
-{}
-
-/// If the certificates of two minimal pairs of a map both have a text, they are equal, and so are their texts.
-pub fn minimal_certificate_is_one()
-    ensures { (m : MapModel) (l l' : ListModel) (c c' : CertificateModel) →
-        IsMinimalPair m l c → IsMinimalPair m l' c' → HasTextForm c → HasTextForm c' → c ≡ c' }
+        IsMinimalPair m l c → IsMinimalPair m l' c' → l ≡ l' }
 {}
 
 /// A map read from a text has all its labels in its table, so it has only one minimal list.

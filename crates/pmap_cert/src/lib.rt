@@ -54,9 +54,8 @@ pub use fault::{CertFault, CertFaultKind};
 pub use format::Format;
 pub use laws::{
     acceptance_is_enough, exact_claim_is_of_sets, four_quarters_pair_is_minimal,
-    map_text_has_a_minimal_pair, map_text_has_its_labels, minimal_certificate_is_one,
-    minimal_list_is_in_order, minimal_pair_exists, minimal_pair_is_accepted,
-    minimal_pair_is_unique,
+    map_text_has_a_minimal_pair, map_text_has_its_labels, minimal_list_is_in_order,
+    minimal_pair_exists, minimal_pair_is_accepted, minimal_pair_is_unique,
 };
 pub use nodes::Nodes;
 pub use path::Path;

@@ -10,13 +10,13 @@ use Rattle.pmap_text.specs.MapModel.{IsSettled, Label, MapModel, settled_label}
 use Rattle.pmap_text.specs.MapText.{text_at}
 use Rattle.pmap_text.specs.declared.label.LabelId.{LabelId}
 use Rattle.pmap_cert.specs.CertificateText.{IsAscending}
-use Rattle.pmap_cert.specs.CertificateModel.{Claim, claim_of, IsSameClaim, exact_claim}
-use Rattle.pmap_cert.specs.Acceptance.{StandsFor}
+use Rattle.pmap_cert.specs.CertificateModel.{claim_of, exact_claim}
+use Rattle.pmap_cert.specs.Acceptance.{StandsFor, in_table_order}
 use Rattle.pmap_cert.specs.Node.{Chain, HasNumberForm, Inner, Leaf, Node, cost_of, set_of, tree_of}
 use Rattle.label_trie.specs.TrieModel.{number_of, IsSettledLeaf, IsUndivided, LeafModel}
 use Rattle.label_trie.specs.Parts.{IsHalf}
 use Rattle.pmap_minimise.specs.Numbers.{IsCertified, IsKnownLeaf, IsExact, IsJoined, IsSound}
-use Rattle.pmap_minimise.proofs.Texts.{exact-cost, exact-ascending, exact-some, same_claim}
+use Rattle.pmap_minimise.proofs.Texts.{exact-cost, exact-ascending, exact-some, listed_claim}
 
 -- what holds of two lists together holds of each
 parts-recursion : {X : Type 0} (P : X → Type 0) (xs ys : List X) → AllByRecursion P (xs ++ ys) → AllByRecursion P xs × AllByRecursion P ys
@@ -113,14 +113,12 @@ module _ (n q room : ℕ) (low_leaves high_leaves : List LeafModel) (low high : 
       (all-right (IsUndivided m) leaves low_leaves high_leaves refl undivided)
 
   claim_same : (m : MapModel) (cost : ℕ) (set : List ℕ) → IsLabelTable m.table → All (IsSettledLeaf m) leaves → IsExact low high cost set
-      → IsSameClaim (record { cost = cost; labels = map (text_at m.table) set }) (exact_claim (claim_of (tree_of m.table low)) (claim_of (tree_of m.table high)))
+      → record { cost = cost; labels = map (text_at m.table) set } ≡ in_table_order m.table (exact_claim (claim_of (tree_of m.table low)) (claim_of (tree_of m.table high)))
   claim_same m cost set ok settled exact =
       let known = known_leaves m settled in
-      let claim : Claim = record { cost = cost; labels = map (text_at m.table) set } in
-      subst (λ (p : Claim). IsSameClaim claim (exact_claim p (claim_of (tree_of m.table high)))) (sym (claim-is m.table low))
-      (subst (λ (p : Claim). IsSameClaim claim (exact_claim (record { cost = cost_of low; labels = map (text_at m.table) (set_of low) }) p)) (sym (claim-is m.table high))
-      (same_claim m.table ok (cost_of low) (cost_of high) (set_of low) (set_of high) cost set
-      (set-ascending (length m.table) low room (low_form (length m.table) known)) (set-ascending (length m.table) high room (high_form (length m.table) known)) exact))
+      listed_claim m.table ok (cost_of low) (cost_of high) (set_of low) (set_of high) cost set
+      (set-ascending (length m.table) low room (low_form (length m.table) known)) (set-ascending (length m.table) high room (high_form (length m.table) known)) exact
+      ∙ (λ i. in_table_order m.table (exact_claim (sym (claim-is m.table low) i) (sym (claim-is m.table high) i)))
 
   ascending : (count : ℕ) (cost : ℕ) (set : List ℕ) → All (IsKnownLeaf count) leaves → IsExact low high cost set → IsAscending count 0 set
   ascending count cost set known exact =
@@ -140,9 +138,8 @@ module _ (n q room : ℕ) (low_leaves high_leaves : List LeafModel) (low high : 
   joined-certified (Inner cost set left right) joined = record {
     stands = λ m ok settled undivided. (
       unsettled m undivided,
-      subst (λ (child : Node). IsSameClaim (record { cost = cost; labels = map (text_at m.table) set }) (exact_claim (claim_of (tree_of m.table child)) (claim_of (tree_of m.table right)))) (sym joined.0)
-          (subst (λ (child : Node). IsSameClaim (record { cost = cost; labels = map (text_at m.table) set }) (exact_claim (claim_of (tree_of m.table low)) (claim_of (tree_of m.table child)))) (sym joined.1)
-          (claim_same m cost set ok settled joined.2)),
+      claim_same m cost set ok settled joined.2
+          ∙ (λ i. in_table_order m.table (exact_claim (claim_of (tree_of m.table (sym joined.0 i))) (claim_of (tree_of m.table (sym joined.1 i))))),
       subst (λ (child : Node). StandsFor m (tree_of m.table child) (suc n) (2 * q)) (sym joined.0) (stands_low m ok settled undivided),
       subst (λ (child : Node). StandsFor m (tree_of m.table child) (suc n) (2 * q + 1)) (sym joined.1) (stands_high m ok settled undivided),
     );

@@ -1,9 +1,11 @@
 -- Numbers of labels and their texts.
-use Rattle.std.proofs.Common.{◌≡◌, ℕ, zero, suc, ◌+◌, ◌^◌, ◌<◌, ◌≤◌, ◌==◌, ◌||◌, ◌∙◌, Bool, true, false, cond, List, [], ◌∷◌, ◌++◌, Option, Some, None, filter, find, map, length, nat_le, get_or, refl, sym, ap, subst, arith, unwrap_or}
+use Rattle.std.proofs.Common.{◌≡◌, ℕ, zero, suc, ◌+◌, ◌^◌, ◌<◌, ◌≤◌, ◌==◌, ◌||◌, ◌∙◌, Bool, true, false, cond, List, [], ◌∷◌, ◌++◌, Option, Some, None, filter, find, map, length, nat_le, get_or, refl, sym, ap, subst, arith, unwrap_or, inl, inr, IsTrue}
 use Rattle.std.specs.List.{list_any}
 use Rattle.std.specs.Option.{ForSome}
 use Rattle.std.specs.Str.{bytes_eq}
-use Rattle.std.proofs.lemmas.Bool.{cond-true, cond-false, false≢true, leb-false, lt-leb, or_from, or_parts}
+use Rattle.std.proofs.lemmas.Bool.{cases_eq, cond-true, cond-false, eq-eqb, false≢true, leb-false, lt-leb, ne_eqb, or_cases, or_from, or_parts}
+use Rattle.std.proofs.lemmas.List.Folds.{list_any_at}
+use Rattle.std.proofs.lemmas.Slice.Eq.{bytes_eq-Decides}
 use Rattle.std.proofs.lemmas.Option.{unwrap_or-slice_get}
 use Rattle.pmap_text.specs.Label.{IsLabelTable}
 use Rattle.pmap_text.specs.MapModel.{Label}
@@ -11,7 +13,8 @@ use Rattle.pmap_text.specs.MapText.{text_at}
 use Rattle.pmap_text.specs.declared.label.LabelId.{LabelId}
 use Rattle.pmap_cert.specs.CertificateText.{IsAscending}
 use Rattle.pmap_cert.specs.CertificateModel.{Claim, has, IsSameClaim, exact_claim, exact_claim_by}
-use Rattle.pmap_cert.specs.Acceptance.{has_inherited, least_label}
+use Rattle.pmap_cert.specs.Acceptance.{has_inherited, least_label, in_table_order}
+use Rattle.pmap_cert.proofs.InTableOrder.{listed-known}
 use Rattle.pmap_cert.proofs.Sets.{bytes_eq-same, has-append}
 use Rattle.pmap_cert.proofs.Tables.{ascending-filter, label-same}
 use Rattle.pmap_minimise.specs.Listing.{text_of}
@@ -81,6 +84,11 @@ find-first p (x ∷ xs) zero inside below here = cond-true (p x) (Some x) (find 
 find-first p (x ∷ xs) (suc n) inside below here =
     cond-false (p x) (Some x) (find p xs) (below 0 (omega arith)) ∙ find-first p xs n (omega arith) (λ i h. below (suc i) (omega arith)) here
 
+pub table-has : (table : List Label) (n : ℕ) → n < length table → IsTrue (has table (text_at table n))
+table-has table n known =
+    list_any_at (bytes_eq (text_at table n)) table n [] known
+    (ap (bytes_eq (text_at table n)) (sym (unwrap_or-slice_get table n [])) ∙ bytes_eq-same (text_at table n))
+
 module _ (table : List Label) (ok : IsLabelTable table) where
   pub texts-has : (low : ℕ) (ns : List ℕ) (n : ℕ) → IsAscending (length table) low ns → n < length table
       → has (map (text_at table) ns) (text_at table n) ≡ has_number ns n
@@ -103,7 +111,7 @@ module _ (table : List Label) (ok : IsLabelTable table) where
       (texts-common (n + 1) low ls hs ascending.2 also)
 
   -- the exact claim by numbers is the exact claim of the texts
-  pub same_claim : (low_cost high_cost : ℕ) (ls hs : List ℕ) (cost : ℕ) (set : List ℕ) → IsAscending (length table) 0 ls → IsAscending (length table) 0 hs
+  same_claim : (low_cost high_cost : ℕ) (ls hs : List ℕ) (cost : ℕ) (set : List ℕ) → IsAscending (length table) 0 ls → IsAscending (length table) 0 hs
       → IsExactBy low_cost high_cost ls hs (common_numbers ls hs) cost set
       → IsSameClaim (record { cost = cost; labels = map (text_at table) set })
       (exact_claim (record { cost = low_cost; labels = map (text_at table) ls }) (record { cost = high_cost; labels = map (text_at table) hs }))
@@ -129,6 +137,65 @@ module _ (table : List Label) (ok : IsLabelTable table) where
       by : (ns : List ℕ) → IsExactBy low_cost high_cost ls hs ns cost set → IsSameClaim claim (exact_claim_by lower upper (map (text_at table) ns))
       by [] exact = record { cost = exact.0; labels = λ x. union x exact.1 }
       by (n ∷ ns) exact = record { cost = exact.0; labels = λ x. ap (λ (s : List ℕ). has (map (text_at table) s) x) exact.1 }
+
+  abbrev AreThose : List Label → ℕ → List ℕ → Type 0
+  AreThose s first ns = (j : ℕ) → first ≤ j → j < length table → has s (text_at table j) ≡ has_number ns j
+
+  -- labels of the table with ascending numbers, taken from the table's labels from `low` on
+  kept-from : (s : List Label) (low : ℕ) (xs : List Label) (ns : List ℕ) → IsAscending (length table) low ns → low + length xs ≡ length table
+      → ((j : ℕ) → j < length xs → get_or xs j [] ≡ text_at table (low + j))
+      → AreThose s low ns → filter (has s) xs ≡ map (text_at table) ns
+  kept-from s low [] [] ascending all at same = refl
+  kept-from s low [] (n ∷ ns) ascending all at same = let from = ascending.0 in let to = ascending.1 in absurd (omega arith)
+  kept-from s low (x ∷ xs) ns ascending all at same =
+      by ns ascending same (ap (has s) here ∙ same low (omega arith) (omega arith)) (λ ms up same'. kept-from s (low + 1) xs ms up (omega arith) later same')
+    where
+      here : x ≡ text_at table low
+      here = let none : low + 0 ≡ low = omega arith in at 0 (omega arith) ∙ ap (text_at table) none
+
+      later : (j : ℕ) → j < length xs → get_or xs j [] ≡ text_at table (low + 1 + j)
+      later j less = let next : low + suc j ≡ low + 1 + j = omega arith in at (suc j) (omega arith) ∙ ap (text_at table) next
+
+      by : (ns : List ℕ) → IsAscending (length table) low ns → AreThose s low ns → has s x ≡ has_number ns low
+          → ((ms : List ℕ) → IsAscending (length table) (low + 1) ms → AreThose s (low + 1) ms → filter (has s) xs ≡ map (text_at table) ms)
+          → filter (has s) (x ∷ xs) ≡ map (text_at table) ns
+      by [] ascending same test go =
+          cond-false (has s x) (x ∷ filter (has s) xs) (filter (has s) xs) test ∙ go [] tt (λ j from to. same j (omega arith) to)
+      by (n ∷ ns) ascending same test go = elim (cases_eq n low) [
+        | inl own ↦
+            let first : has s x ≡ true = test ∙ ap (λ (b : Bool). b || has_number ns low) (eq-eqb low n (sym own)) in
+            let text : x ≡ text_at table n = here ∙ ap (text_at table) (sym own) in
+            let rest = go ns (subst (λ (k : ℕ). IsAscending (length table) (k + 1) ns) own ascending.2)
+            (λ j from to. same j (omega arith) to ∙ ap (λ (b : Bool). b || has_number ns j) (ne_eqb j n (λ e. omega arith))) in
+            cond-true (has s x) (x ∷ filter (has s) xs) (filter (has s) xs) first ∙ (λ i. text i ∷ rest i)
+        | inr other ↦
+            let from = ascending.0 in
+            let up : IsAscending (length table) (low + 1) (n ∷ ns) = (omega arith, ascending.1, ascending.2) in
+            cond-false (has s x) (x ∷ filter (has s) xs) (filter (has s) xs) (test ∙ lacks (length table) (low + 1) (n ∷ ns) low up (omega arith))
+            ∙ go (n ∷ ns) up (λ j from to. same j (omega arith) to)
+      ]
+
+  texts-known : (low : ℕ) (ns : List ℕ) (x : Label) → IsAscending (length table) low ns → has (map (text_at table) ns) x ≡ true → has table x ≡ true
+  texts-known low [] x ascending h = absurd (false≢true h)
+  texts-known low (n ∷ ns) x ascending h = elim (or_cases (bytes_eq x (text_at table n)) (has (map (text_at table) ns) x) h) [
+    | inl same ↦ subst (λ (y : Label). has table y ≡ true) (sym ((bytes_eq-Decides x (text_at table n)).0 same)) (table-has table n ascending.1)
+    | inr later ↦ texts-known (n + 1) ns x ascending.2 later
+  ]
+
+  -- and its set is in the order of the table
+  pub listed_claim : (low_cost high_cost : ℕ) (ls hs : List ℕ) (cost : ℕ) (set : List ℕ) → IsAscending (length table) 0 ls → IsAscending (length table) 0 hs
+      → IsExactBy low_cost high_cost ls hs (common_numbers ls hs) cost set
+      → record { cost = cost; labels = map (text_at table) set }
+      ≡ in_table_order table (exact_claim (record { cost = low_cost; labels = map (text_at table) ls }) (record { cost = high_cost; labels = map (text_at table) hs }))
+  listed_claim low_cost high_cost ls hs cost set up also exact =
+      let e : Claim = exact_claim (record { cost = low_cost; labels = map (text_at table) ls }) (record { cost = high_cost; labels = map (text_at table) hs }) in
+      let same = same_claim low_cost high_cost ls hs cost set up also exact in
+      let ascending = exact-ascending (length table) low_cost high_cost ls hs cost set up also exact in
+      let kept = kept-from e.labels 0 table set ascending (omega arith)
+      (λ j less. let same : j ≡ 0 + j = omega arith in sym (unwrap_or-slice_get table j []) ∙ ap (text_at table) same)
+      (λ j from to. sym (same.labels (text_at table j)) ∙ texts-has 0 set j ascending to) in
+      let labels = sym kept ∙ sym (listed-known table e (λ x h. texts-known 0 set x ascending (same.labels x ∙ h))) in
+      λ i. record { cost = same.cost i; labels = labels i }
 
   -- whether the inherited label is kept is the same by texts and by numbers
   pub keeps-texts : (ids : List LabelId) (inherited : Option LabelId) → IsAscending (length table) 0 (numbers_of ids) → ForSome inherited (λ id. id.0 < length table)

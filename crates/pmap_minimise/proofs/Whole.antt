@@ -1,9 +1,7 @@
 -- What was built for a map is the map's minimal pair.
 use Rattle.std.proofs.Common.{◌≡◌, ℕ, ◌-◌, ◌<◌, ◌∙◌, inl, List, [], ◌∷◌, ◌++◌, None, All, IsTrue, length, map, refl, sym, ap, subst, arith}
 use Rattle.std.proofs.lemmas.List.Elements.{All-from_recursion, All-map, All-weaker}
-use Rattle.std.proofs.lemmas.List.Folds.{list_any_at}
-use Rattle.std.proofs.lemmas.Option.{none-some, unwrap_or-slice_get}
-use Rattle.std.specs.Str.{bytes_eq}
+use Rattle.std.proofs.lemmas.Option.{none-some}
 use Rattle.prefix_keys.specs.Block.{width_of}
 use Rattle.prefix_keys.specs.declared.block.Block.{Block}
 use Rattle.prefix_keys.specs.declared.version.Version.{Version}
@@ -27,7 +25,6 @@ use Rattle.pmap_cert.proofs.Plain.{plain-tree_of}
 use Rattle.pmap_cert.proofs.Written.{node_form, whole_text}
 use Rattle.pmap_text.specs.ListEntries.{HasDistinctBlocks}
 use Rattle.pmap_cert.proofs.InOrder.{list-form}
-use Rattle.pmap_cert.proofs.Sets.{bytes_eq-same}
 use Rattle.pmap_minimise.specs.Listing.{AddsEntries, IsEntryOf, IsWhole, IsListedBy}
 use Rattle.pmap_minimise.proofs.Distinct.{order-distinct}
 use Rattle.pmap_minimise.proofs.Entered.{half-entries}
@@ -35,6 +32,7 @@ use Rattle.pmap_minimise.specs.Numbers.{IsCertified, IsKnownLeaf}
 use Rattle.pmap_minimise.specs.Walks.{IsClaimed}
 use Rattle.pmap_minimise.specs.declared.built.Built.{Built}
 use Rattle.pmap_minimise.proofs.Joined.{settled-known, whole-number}
+use Rattle.pmap_minimise.proofs.Texts.{table-has}
 
 -- the prefix list with these entries, and with the map's name and label table
 abbrev pub list_with : MapText → List Entry → ListModel
@@ -48,11 +46,6 @@ shortest_list m root = record {
   prefixes = entries_of (width_of m.version) m.table root None 0 0;
   table = m.table;
 }
-
-table-has : (table : List Label) (n : ℕ) → n < length table → IsTrue (has table (text_at table n))
-table-has table n known =
-    list_any_at (bytes_eq (text_at table n)) table n [] known
-    (ap (bytes_eq (text_at table n)) (sym (unwrap_or-slice_get table n [])) ∙ bytes_eq-same (text_at table n))
 
 pub own-labels : (map : MapText) → HasItsLabels (map_of map)
 own-labels m = record {

@@ -6,8 +6,8 @@ use label_trie::labelling_has_its_runs;
 use pmap_cert::{
     acceptance_is_enough, compact_gives_back_equal, compact_has_a_text, compact_has_no_more_lines,
     compact_keeps_acceptance, map_text_has_a_minimal_pair, map_text_has_its_labels,
-    minimal_certificate_is_one, minimal_list_is_in_order, minimal_pair_is_accepted,
-    minimal_pair_is_unique, text_of_format_is_read_or_has_a_fault,
+    minimal_list_is_in_order, minimal_pair_is_accepted, minimal_pair_is_unique,
+    text_of_format_is_read_or_has_a_fault,
 };
 use pmap_print::{
     labelling_has_one_runs_text, minimal_list_can_be_read_again, minimal_list_is_accepted_again,
@@ -23,9 +23,7 @@ pub fn one_output()
     labelling_has_its_runs();
     labelling_has_one_runs_text();
     map_text_has_a_minimal_pair();
-    map_text_has_its_labels();
     minimal_pair_is_unique();
-    minimal_certificate_is_one();
     text_of_format_is_read_or_has_a_fault();
 }
 

@@ -2,7 +2,7 @@ use Rattle.std.proofs.Common.{◌≡◌, ◌∙◌, ℕ, List, [], Option, Some,
 use Rattle.std.specs.Prelude.{◌↔◌, length}
 use Rattle.pmap_text.specs.Reading.{list_reading, map_reading}
 use Rattle.label_lookup.specs.Labelling.{Labelling, labelling_of_list, labelling_of_map}
-use Rattle.pmap_cert.specs.CertificateText.{HasFormatText, HasTextForm, certificate_text}
+use Rattle.pmap_cert.specs.CertificateText.{certificate_text}
 use Rattle.pmap_cert.specs.CertificateModel.{CertificateModel}
 use Rattle.pmap_cert.specs.Compacting.{compact}
 use Rattle.pmap_cert.specs.FormatReading.{format_reading}
@@ -64,11 +64,6 @@ reports_one has once text None flows = report_one has once text None flows
 reports_one has once text (Some source) flows =
     labels_one (λ labels. ReportsOf text (Some labels) flows) source (λ labels. report_one has once text (Some labels) flows)
 
--- a certificate of format 1 that is read again from its text has one there
-has_form : ((text : List ℕ) (c : CertificateModel) → format_reading text ≡ Ok c ↔ (HasFormatText c × (text ≡ certificate_text c)))
-    → (c : CertificateModel) → c.format ≡ 1 → format_reading (certificate_text c) ≡ Ok c → HasTextForm c
-has_form law c first reads = record { first = first; text = ((law (certificate_text c) c).0 reads).0 }
-
 pub returns : goal.returns
 returns c (label source address) = labels_one (λ labels. Prints (label_text address labels)) source (λ labels. prints_one (label_text address labels))
 returns c (info flows) = reports_one c.has_reading.ensures c.one_reading.ensures (λ labels messages. info_text (counts_of messages)) None flows
@@ -93,9 +88,8 @@ returns c (shrink map printed) =
       Ok (shrunk_text printed l k),
       (l, k, pair, (law (certificate_text k) k).1 (form.text, refl), refl),
       λ other (l', k', pair', reads', prints).
-          let list : l' ≡ l = c.minimal_pair_is_unique.ensures.lists m l' l k' k pair' pair (c.map_text_has_its_labels.ensures map m reads) in
-          let form' : HasTextForm k' = has_form law k' pair'.certificate_format reads' in
-          let certificate : k' ≡ k = c.minimal_certificate_is_one.ensures m l' l k' k pair' pair form' form in
+          let list : l' ≡ l = c.minimal_pair_is_unique.ensures.lists m l' l k' k pair' pair in
+          let certificate : k' ≡ k = c.minimal_pair_is_unique.ensures.certificates m l' l k' k pair' pair in
           cc,
     ))
 returns c (check map list certificate) =
