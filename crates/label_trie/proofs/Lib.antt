@@ -1,11 +1,9 @@
-pub mod Parted
 pub mod NodeLeaves
 pub mod Lookup
 pub mod Divided
 pub mod Encoded
 pub mod Places
 pub mod Path
-pub mod Sums
 pub mod Grown
 pub mod Built
 pub mod SeenLeaves

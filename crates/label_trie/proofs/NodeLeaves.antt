@@ -7,7 +7,8 @@ use Rattle.prefix_keys.specs.Block.{first_of, last_of, width_of}
 use Rattle.pmap_text.specs.MapModel.{MapModel, settled_label}
 use Rattle.pmap_text.specs.declared.label.LabelId.{LabelId}
 use Rattle.label_trie.specs.TrieModel.{LeafModel, IsCut, IsSettledLeaf, IsUndivided}
-use Rattle.label_trie.specs.Tree.{Tree, Tip, Fork, leaves_of, leaf_count, HasRoom, Settles, Fits, IsLabelled}
+use Rattle.pmap_text.specs.Settled.{Settles}
+use Rattle.label_trie.specs.Tree.{Tree, Tip, Fork, leaves_of, leaf_count, HasRoom, Fits, IsLabelled}
 use Rattle.pmap_text.proofs.BlockHalves.{size_of_halves}
 
 -- a node that fits has room

@@ -10,7 +10,8 @@ use Rattle.pmap_text.specs.declared.label.LabelId.{LabelId}
 use Rattle.pmap_text.proofs.Longest.{AreBlocks, known_seen, label_seen, none_inside}
 use Rattle.pmap_text.proofs.Painted.{IsAscending, IsSeen, painted, painting, seen_by, unmet}
 use Rattle.label_trie.specs.TrieModel.{LeafModel, IsDecidedLeaf}
-use Rattle.label_trie.specs.Tree.{Tree, Tip, Fork, leaves_of, Settles, Fits}
+use Rattle.pmap_text.specs.Settled.{Settles}
+use Rattle.label_trie.specs.Tree.{Tree, Tip, Fork, leaves_of, Fits}
 
 -- the label that settles a block of each such painting is seen there
 seen : (version : Version) (table : List Label) (ps : List Prefix) (label : Option LabelId) (n q : ℕ) → IsAscending (width_of version) ps

@@ -1,12 +1,10 @@
-use Rattle.std.specs.Prelude.{◌≡◌, ℕ, zero, suc, ◌+◌, ◌-◌, ◌≤◌, ◌^◌, List, [], ◌∷◌, ◌++◌, Option, Some, None, length, slice_get, slice_index_or, ◌*◌, ◌<◌, ◌&&◌, All, IsSome, nat_le, if◌then◌else◌}
-use Rattle.std.specs.Option.{ForSome}
-use Rattle.prefix_keys.specs.Block.{width_of, first_of, last_of}
+use Rattle.std.specs.Prelude.{◌≡◌, ℕ, zero, suc, ◌+◌, ◌-◌, ◌≤◌, ◌^◌, List, [], ◌∷◌, ◌++◌, Option, Some, None, length, slice_get, slice_index_or, ◌*◌, ◌<◌, IsSome}
+use Rattle.prefix_keys.specs.Block.{width_of}
 use Rattle.prefix_keys.specs.declared.block.Block.{Block}
-use Rattle.prefix_keys.specs.declared.span.Span.{Span}
 use Rattle.pmap_text.specs.declared.label.LabelId.{LabelId}
 use Rattle.pmap_text.specs.MapModel.{MapModel}
-use Rattle.pmap_text.specs.MapText.{text_at}
-use Rattle.pmap_text.specs.Stretches.{AreStretches, StretchesModel, mappings_of}
+use Rattle.pmap_text.specs.Settled.{IsMapOf, divisions, ends_inside}
+use Rattle.pmap_text.specs.Stretches.{AreStretches, StretchesModel}
 use Rattle.pmap_text.specs.Windows.{number_at}
 use Rattle.pmap_text.specs.declared.window.Window.{Window}
 use Rattle.pmap_text.specs.declared.statement.Statement.{Statement}
@@ -66,48 +64,21 @@ pub record IsPlace (nodes : List Node) (at : ℕ) (block : Block) : Type 0 where
 
 -- How the stretches of statements divide a block.
 
--- A span parts a block if it has some of the block's addresses but not all. This is the number of blocks that the span
--- parts among the block of n bits with the number q, its halves, their halves, and so on. The block has h host bits. A
--- block of a single address isn't parted.
-abbrev pub parted_count : ℕ → ℕ → ℕ → ℕ → Span → ℕ
-parted_count W zero n q s = 0
-parted_count W (suc h) n q s =
-    if nat_le s.low.value (last_of W n q) && nat_le (first_of W n q) s.high.value
-    then (if nat_le s.low.value (first_of W n q) && nat_le (last_of W n q) s.high.value
-    then 0
-    else 1 + (parted_count W h (suc n) (2 * q) s + parted_count W h (suc n) (2 * q + 1) s))
-    else 0
-
-abbrev pub parted_sum : ℕ → ℕ → ℕ → ℕ → List Statement → ℕ
-parted_sum W h n q [] = 0
-parted_sum W h n q (s ∷ ss) = parted_count W h n q s.span + parted_sum W h n q ss
-
--- the map has these statements, and its default is this label of its label table
-pub record IsMapOf (W : ℕ) (ss : List Statement) (default : Option LabelId) (m : MapModel) : Type 0 where
-  pub width : width_of m.version ≡ W
-  pub mappings : m.mappings ≡ mappings_of m.table ss
-  pub known : All (λ s. s.label.0 < length m.table) ss
-  pub fallback : ForSome default (λ id. (id.0 < length m.table) × (text_at m.table id.0 ≡ m.fallback))
-
--- the nodes of a tree for the block of n bits with the number q are added; it has at most one leaf, plus one for each
--- block that a statement parts
+-- the nodes of a tree for the block of n bits with the number q are added; it has at most one leaf, plus one for each end
+-- of a statement inside the block and each host bit
 pub record AddsTree (W : ℕ) (ss : List Statement) (default : Option LabelId) (n q : ℕ) (old new : List Node) : Type 0 where
   pub tree : Tree
   pub nodes : new ≡ old ++ encode (length old) tree
   pub fits : (m : MapModel) → IsMapOf W ss default m → Fits m tree n q
   pub labelled : IsSome default → IsLabelled tree
-  pub few : leaf_count tree ≤ 1 + parted_sum W (W - n) n q ss
-
--- the number of blocks that statements part in a window
-abbrev pub window_sum : StretchesModel → Window → List Statement → ℕ
-window_sum s w ss = parted_sum (width_of s.version) (width_of s.version - w.len) w.len (number_at s w) ss
+  pub few : leaf_count tree ≤ 1 + ends_inside W ss n q * (W - n)
 
 -- after `count` nodes, the number of each node of the window fits 32 bits
 pub record HasRoomFor (s : StretchesModel) (w : Window) (count : ℕ) : Type 0 where
   pub statements : List Statement
   pub default : Option LabelId
   pub are : AreStretches statements default s
-  pub room : count + (1 + 2 * window_sum s w statements) ≤ 2 ^ 32
+  pub room : count + (1 + 2 * divisions s w statements) ≤ 2 ^ 32
 
 -- the nodes of the window are added, for all statements that have these stretches
 abbrev pub GrowsTree : StretchesModel → Window → List Node → List Node → Type 0

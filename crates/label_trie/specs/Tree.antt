@@ -1,7 +1,7 @@
 use Rattle.std.specs.Prelude.{◌≡◌, ℕ, suc, ◌+◌, ◌-◌, ◌*◌, ◌<◌, ◌≤◌, List, [], ◌∷◌, ◌++◌, Option, Some, None, length, option_map, IsSome, slice_get}
 use Rattle.prefix_keys.specs.Block.{width_of}
-use Rattle.pmap_text.specs.MapModel.{MapModel, IsSettled, last_such, meets, settled_label}
-use Rattle.pmap_text.specs.MapText.{text_at}
+use Rattle.pmap_text.specs.MapModel.{MapModel, settled_label}
+use Rattle.pmap_text.specs.Settled.{Settles}
 use Rattle.pmap_text.specs.declared.label.LabelId.{LabelId}
 use Rattle.label_trie.specs.TrieModel.{LeafModel, NodeModel, TrieModel}
 pub use Rattle.label_trie.specs.declared.kind.Kind.{Kind}
@@ -47,12 +47,6 @@ HasNodes nodes at (Fork low high) n q =
 abbrev pub HasRoom : Tree → ℕ → Type 0
 HasRoom (Tip label) host_bits = Unit {0}
 HasRoom (Fork low high) host_bits = (0 < host_bits) × HasRoom low (host_bits - 1) × HasRoom high (host_bits - 1)
-
--- The leaf's block is settled by the map with the text of the label, which is in the map's label table. If the leaf has
--- no label, no mapping of the map meets the block.
-abbrev pub Settles : MapModel → Option LabelId → ℕ → ℕ → Type 0
-Settles m None n q = last_such (meets (width_of m.version) n q) m.mappings ≡ None
-Settles m (Some id) n q = (id.0 < length m.table) × IsSettled m n q (text_at m.table id.0)
 
 abbrev pub IsLabelled : Tree → Type 0
 IsLabelled (Tip label) = IsSome label

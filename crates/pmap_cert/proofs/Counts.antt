@@ -2,6 +2,7 @@ use Rattle.std.proofs.Common.{◌≡◌, ℕ, suc, ◌+◌, ◌*◌, ◌/◌, �
 use Rattle.std.proofs.lemmas.Bool.Decides.{nat_tests}
 use Rattle.prefix_keys.specs.Block.{block_number}
 use Rattle.pmap_text.specs.ListModel.{Prefix}
+use Rattle.pmap_text.specs.Settled.{one_if}
 use Rattle.pmap_text.proofs.Blocks.{block_number-half}
 
 -- The number of entries of a prefix list that pass a test, such as lying at or within a block.
@@ -13,10 +14,6 @@ is_at W n q p = p.bits == n && block_number W n p.start == q
 -- the entry's block is the block of n bits with the number q or lies inside it
 abbrev pub is_within : ℕ → ℕ → ℕ → Prefix → Bool
 is_within W n q p = nat_le n p.bits && block_number W n p.start == q
-
--- 1 if the test passes, otherwise 0
-abbrev pub one_if : Bool → ℕ
-one_if b = cond b 1 0
 
 -- the number of entries that pass the test
 abbrev pub count_of : (Prefix → Bool) → List Prefix → ℕ

@@ -1,5 +1,5 @@
 -- What a block adds to the compact certificate that is built.
-use Rattle.std.proofs.Common.{◌≡◌, ℕ, zero, suc, ◌+◌, ◌-◌, ◌^◌, ◌<◌, ◌≤◌, ◌∙◌, inl, inr, cond, Bool, List, [], ◌∷◌, ◌++◌, Option, Some, None, IsSome, length, slice_get, get_or, refl, sym, ap, subst, arith, length-append}
+use Rattle.std.proofs.Common.{◌≡◌, ℕ, zero, suc, ◌+◌, ◌-◌, ◌*◌, ◌^◌, ◌<◌, ◌≤◌, ◌∙◌, inl, inr, cond, Bool, List, [], ◌∷◌, ◌++◌, Option, Some, None, IsSome, length, slice_get, get_or, refl, sym, ap, subst, arith, length-append}
 use Rattle.std.specs.Option.{option_or}
 use Rattle.std.proofs.Math.Seq.{get_or-append_seam}
 use Rattle.std.proofs.Math.Nat.{mul-le-mul_right, zero-div}
@@ -19,9 +19,10 @@ use Rattle.pmap_cert.specs.Packed.{IsGrown, IsHeld, set_in}
 use Rattle.pmap_cert.specs.Inner.{IsCompactNode, bits_down, end_down, side_below}
 use Rattle.pmap_cert.proofs.PackedLines.{held-more}
 use Rattle.pmap_cert.proofs.CompactNodes.{compact-chain, compact-leaf, compact-none, compact-short}
-use Rattle.label_trie.specs.Inner.{parted_sum}
 use Rattle.label_trie.specs.Tree.{Fork, Tip, Tree, leaves_of}
-use Rattle.label_trie.proofs.Built.{map_layers, parted_most}
+use Rattle.pmap_text.specs.Settled.{divisions, ends_inside}
+use Rattle.pmap_text.proofs.Ends.{ends_most}
+use Rattle.pmap_text.proofs.Settling.{map_is}
 use Rattle.label_trie.proofs.NodeLeaves.{fits_HasRoom, leaves_settled, leaves_undivided, length_leaves}
 use Rattle.pmap_minimise.specs.Runs.{AreCountedHalves, IsCounted, IsChoice, IsMade, IsRun, IsRunTo, IsStop, IsTreeOf, own_label}
 use Rattle.pmap_text.specs.Windows.{IsWindow, number_at}
@@ -192,7 +193,7 @@ leaf-built s a id old new claim is own adds =
 
 -- the sum that bounds the leaves of a block also bounds the cost of its node
 pub made-cost : (s : StretchesModel) (a : Window) (tree : Tree) (node : Node) (is : IsCounted s a) → IsMade s a tree node
-    → cost_of node ≤ parted_sum (width_of s.version) (width_of s.version - a.len) a.len (number_at s a) is.few.statements
+    → cost_of node ≤ divisions s a is.few.statements
 made-cost s a tree node is made =
     let few = (made.tree_of is.few.statements is.few.default is.few.stretches).few in
     omega (arith, few, node-cost tree node made.node_is)
@@ -364,11 +365,11 @@ whole-built m s a old new claim version are first len none built =
     subst (λ (x : Version). IsTreeOf x m.statements (Some m.default) 0 0 built.tree) version
     (subst (λ (n : ℕ). IsTreeOf s.version m.statements (Some m.default) n 0 built.tree) len
     (subst (λ (q : ℕ). IsTreeOf s.version m.statements (Some m.default) a.len q built.tree) number tree_of)) in
-    let layers = map_layers m m.statements refl in
+    let layers = map_is m in
     let fits = tree_is.fits (map_of m) layers in
     let labelled = tree_is.labelled refl in
     let most = mul-le-mul_right (length m.statements) (width-le v) in
-    let few = rw all at tree_is.few in
+    let few = tree_is.few in
     record {
       leaves = leaves_of built.tree 0 0;
       node = built.node;
@@ -377,7 +378,7 @@ whole-built m s a old new claim version are first len none built =
       built = record {
         certified =
             tree-certified built.tree 0 0 W built.node (fits_HasRoom (map_of m) built.tree 0 0 W (omega arith) fits) built.made.node_is
-            (omega (arith, length_leaves built.tree 0 0, few, parted_most W m.statements, most, m.within_limit));
+            (omega (arith, length_leaves built.tree 0 0, few, ends_most W m.statements, most, m.within_limit));
         compact = built.compact;
         compact_is = built.compact_is;
         at = subst (λ (k : ℕ). IsAt new built.compact built.node k (length new.lines.items)) (ap length none) built.at;
@@ -385,12 +386,10 @@ whole-built m s a old new claim version are first len none built =
     }
 
 -- the leaves of the whole address space can be counted
-pub whole-few : (m : MapText) → parted_sum (width_of m.version) (width_of m.version - 0) 0 0 m.statements + 1 < 2 ^ 32
+pub whole-few : (m : MapText) → ends_inside (width_of m.version) m.statements 0 0 * (width_of m.version - 0) + 1 < 2 ^ 32
 whole-few m =
-    let W = width_of m.version in
-    let all : W - 0 ≡ W = omega arith in
     let most = mul-le-mul_right (length m.statements) (width-le m.version) in
-    rw all (omega (arith, parted_most W m.statements, most, m.within_limit))
+    omega (arith, ends_most (width_of m.version) m.statements, most, m.within_limit)
 
 -- a block's first stretch has a label
 pub window-label : (s : StretchesModel) (a : Window) → IsCounted s a → label_at s a.from ≡ None → ⊥

@@ -14,12 +14,13 @@ use Rattle.pmap_text.specs.declared.statement.Statement.{Statement}
 use Rattle.pmap_cert.specs.CertificateText.{IsAscending}
 use Rattle.pmap_cert.specs.Node.{Inner, Leaf, Node, label_of, set_of}
 use Rattle.pmap_cert.specs.Inner.{bits_down, end_down, side_below}
-use Rattle.label_trie.specs.Inner.{window_sum, encode, leaf_node}
 use Rattle.label_trie.specs.Tree.{Fork, Tip, Tree}
-use Rattle.label_trie.proofs.Grown.{IsSplit, halves_sum, leaf_added, window_split}
+use Rattle.pmap_text.specs.Settled.{IsUnsettled, divisions}
+use Rattle.pmap_text.proofs.Ends.{divided-most}
+use Rattle.pmap_text.proofs.Settling.{stretch_labelled, stretch_settles, window_divided, window_most, window_unsettled}
 use Rattle.pmap_text.specs.Windows.{AreHalvesOf, IsWindow, number_at}
 use Rattle.pmap_text.specs.declared.window.Window.{Window}
-use Rattle.pmap_text.proofs.Windows.{block_some, one_index, ordered_window}
+use Rattle.pmap_text.proofs.Windows.{one_index, ordered_window}
 use Rattle.pmap_minimise.specs.Runs.{AreCountedHalves, IsCounted, IsChoice, IsMade, IsRun, IsStep, IsStop, IsTreeOf, own_label}
 use Rattle.pmap_cert.specs.Paths.{digit, path_to}
 use Rattle.pmap_minimise.specs.Built.{cost_above, node_over, set_above, path_node}
@@ -67,11 +68,9 @@ own-single s a n ordered own =
 
 -- a block with addresses of two stretches is divided, and its halves can be counted
 module _ (s : StretchesModel) (a : Window) (is : IsCounted s a) (divided : a.from < a.to) where
-  pub window-split : (ss : List Statement) (default : Option LabelId) → AreStretches ss default s → IsSplit (width_of s.version) a.len (number_at s a) ss
-  window-split ss default are = window_split s a is.window ss default are (λ same. absurd (omega arith))
-
-  pub counted-sum : (low high : Window) → AreHalvesOf s a low high → 1 + (window_sum s low is.few.statements + window_sum s high is.few.statements) ≤ window_sum s a is.few.statements
-  counted-sum low high are = halves_sum s a is.window is.few.statements is.few.default is.few.stretches low high are (λ same. absurd (omega arith))
+  pub counted-sum : (low high : Window) → AreHalvesOf s a low high → 1 + (divisions s low is.few.statements + divisions s high is.few.statements) ≤ divisions s a is.few.statements
+  counted-sum low high are =
+      window_most s a is.window is.few.statements is.few.default is.few.stretches (λ same. absurd (omega arith)) low high are
 
   pub counted-halves : (low high : Window) → AreHalvesOf s a low high → AreCountedHalves s a low high
   counted-halves low high are =
@@ -84,7 +83,7 @@ module _ (s : StretchesModel) (a : Window) (is : IsCounted s a) (divided : a.fro
         high_counted = half high are.high_window (omega arith);
       }
     where
-      half : (h : Window) → IsWindow s h → window_sum s h is.few.statements + 1 < 2 ^ 32 → IsCounted s h
+      half : (h : Window) → IsWindow s h → divisions s h is.few.statements + 1 < 2 ^ 32 → IsCounted s h
       half h window few = record {
         window = window;
         few = record { statements = is.few.statements; default = is.few.default; labelled = is.few.labelled; stretches = is.few.stretches; few = few };
@@ -92,33 +91,24 @@ module _ (s : StretchesModel) (a : Window) (is : IsCounted s a) (divided : a.fro
 
 -- The trees of blocks.
 
--- a tree whose nodes are those of a leaf is that leaf
-one-leaf : (tree : Tree) (label : Option LabelId) → encode 0 tree ≡ leaf_node label ∷ [] → tree ≡ Tip label
-one-leaf (Tip None) None is = refl
-one-leaf (Tip None) (Some y) is = absurd cc
-one-leaf (Tip (Some x)) None is = absurd cc
-one-leaf (Tip (Some x)) (Some y) is = let same : x ≡ y = cc in ap (λ (id : LabelId). Tip (Some id)) same
-one-leaf (Fork low high) None is = absurd cc
-one-leaf (Fork low high) (Some y) is = absurd cc
-
 -- a block within a stretch has the tree of a leaf with its label
 leaf-tree : (v : Version) (ss : List Statement) (default : Option LabelId) (n q first last : ℕ) (label : Option LabelId) → HasStretch (width_of v) ss default first last label
     → n ≤ width_of v → first ≤ first_of (width_of v) n q → last_of (width_of v) n q ≤ last → IsTreeOf v ss default n q (Tip label)
-leaf-tree v ss default n q first last label has within from to =
-    let added = leaf_added (width_of v) n q ss default [] first last label has within (block_some (width_of v) n q) from to in
-    let tree_is : added.tree ≡ Tip label = one-leaf added.tree label (sym added.nodes) in
-    subst (IsTreeOf v ss default n q) tree_is (record { fits = added.fits; labelled = added.labelled; few = added.few })
+leaf-tree v ss default n q first last label has within from to = record {
+  fits = λ m map. (omega (arith, map.width, within), stretch_settles (width_of v) n q ss default first last label has m map from to);
+  labelled = stretch_labelled (width_of v) ss default first last label has;
+  few = omega arith;
+}
 
 -- the tree of a block with addresses of two stretches is built from those of its halves
-fork-tree : (v : Version) (ss : List Statement) (default : Option LabelId) (n q : ℕ) (low high : Tree) → IsSplit (width_of v) n q ss
+fork-tree : (v : Version) (ss : List Statement) (default : Option LabelId) (n q : ℕ) (low high : Tree) → n < width_of v → IsUnsettled (width_of v) ss n q
     → IsTreeOf v ss default (suc n) (2 * q) low → IsTreeOf v ss default (suc n) (2 * q + 1) high → IsTreeOf v ss default n q (Fork low high)
-fork-tree v ss default n q low high split lower upper =
-    let sum = split.sum in
-    let below = split.below in
+fork-tree v ss default n q low high below none lower upper =
+    let sum = divided-most (width_of v) ss n q below none in
     record {
       fits = λ m is. (
         omega (arith, is.width, below),
-        rw (is.width, is.mappings) (split.unsettled m.table m.fallback),
+        rw (is.width, is.mappings) (none m.table m.fallback),
         lower.fits m is,
         upper.fits m is,
       );
@@ -168,7 +158,9 @@ halves-made s a low high low_tree high_tree lower upper cost set is are low_made
       let high_is : IsTreeOf s.version ss default (suc a.len) (2 * number_at s a + 1) high_tree =
       subst (λ (n : ℕ). IsTreeOf s.version ss default n (2 * number_at s a + 1) high_tree) (are.halves.high_len ∙ next)
       (subst (λ (n : ℕ). IsTreeOf s.version ss default high.len n high_tree) are.halves.high_number (high_made.tree_of ss default stretches)) in
-      fork-tree s.version ss default a.len (number_at s a) low_tree high_tree (window-split s a is are.divided ss default stretches) low_is high_is;
+      let other : a.from ≡ a.to → ⊥ = λ same. let divided = are.divided in absurd (omega arith) in
+      fork-tree s.version ss default a.len (number_at s a) low_tree high_tree (window_divided s a is.window ss default stretches other)
+      (window_unsettled s a is.window ss default stretches other) low_is high_is;
   node_is = (lower, upper, low_made.node_is, high_made.node_is, (refl, refl, exact));
   ascending = ascending;
   own = sym (own-none s a are.divided);

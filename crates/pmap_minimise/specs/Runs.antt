@@ -1,7 +1,8 @@
-use Rattle.std.specs.Prelude.{◌≡◌, ◌≢◌, ℕ, zero, suc, ◌+◌, ◌-◌, ◌^◌, ◌<◌, ◌≤◌, ◌==◌, ◌⊎◌, List, Option, None, Some, IsSome, if◌then◌else◌, option_map}
+use Rattle.std.specs.Prelude.{◌≡◌, ◌≢◌, ℕ, zero, suc, ◌+◌, ◌-◌, ◌*◌, ◌^◌, ◌<◌, ◌≤◌, ◌==◌, ◌⊎◌, List, Option, None, Some, IsSome, if◌then◌else◌, option_map}
 use Rattle.prefix_keys.specs.Block.{width_of}
 use Rattle.prefix_keys.specs.declared.version.Version.{Version}
 use Rattle.pmap_text.specs.MapModel.{MapModel}
+use Rattle.pmap_text.specs.Settled.{IsMapOf, divisions, ends_inside}
 use Rattle.pmap_text.specs.Stretches.{AreStretches, StretchesModel, label_at}
 use Rattle.pmap_text.specs.Windows.{AreHalvesOf, IsWindow, number_at}
 use Rattle.pmap_text.specs.declared.window.Window.{Window}
@@ -9,7 +10,6 @@ use Rattle.pmap_text.specs.declared.label.LabelId.{LabelId}
 use Rattle.pmap_text.specs.declared.statement.Statement.{Statement}
 use Rattle.pmap_cert.specs.CertificateText.{IsAscending}
 use Rattle.pmap_cert.specs.Node.{Inner, Leaf, Node, label_of, set_of}
-use Rattle.label_trie.specs.Inner.{IsMapOf, parted_sum, window_sum}
 use Rattle.label_trie.specs.Tree.{Fits, IsLabelled, Tree, leaf_count}
 use Rattle.pmap_minimise.specs.Numbers.{IsNodeFor}
 
@@ -19,7 +19,7 @@ pub record AreFew (s : StretchesModel) (a : Window) : Type 0 where
   pub default : Option LabelId
   pub labelled : IsSome default
   pub stretches : AreStretches statements default s
-  pub few : window_sum s a statements + 1 < 2 ^ 32
+  pub few : divisions s a statements + 1 < 2 ^ 32
 
 -- the stretches are at the window's ends, and its leaves can be counted
 pub record IsCounted (s : StretchesModel) (a : Window) : Type 0 where
@@ -79,7 +79,7 @@ pub record IsRunTo (s : StretchesModel) (side : ℕ) (a end : Window) : Type 0 w
 pub record IsTreeOf (v : Version) (ss : List Statement) (default : Option LabelId) (n q : ℕ) (tree : Tree) : Type 0 where
   pub fits : (m : MapModel) → IsMapOf (width_of v) ss default m → Fits m tree n q
   pub labelled : IsSome default → IsLabelled tree
-  pub few : leaf_count tree ≤ 1 + parted_sum (width_of v) (width_of v - n) n q ss
+  pub few : leaf_count tree ≤ 1 + ends_inside (width_of v) ss n q * (width_of v - n)
 
 -- the node is an inner one, and a half that is a leaf has the label of the block's half
 pub record HasLabelledHalves (s : StretchesModel) (a : Window) (node : Node) : Type 0 where

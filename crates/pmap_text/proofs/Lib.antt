@@ -29,3 +29,5 @@ pub mod Longest
 pub mod ListPainted
 pub mod BlockHalves
 pub mod Windows
+pub mod Ends
+pub mod Settling

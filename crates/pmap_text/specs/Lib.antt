@@ -12,3 +12,4 @@ pub mod Progress
 pub mod Stretches
 pub mod Starting
 pub mod Windows
+pub mod Settled

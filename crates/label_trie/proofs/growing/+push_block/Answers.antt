@@ -2,9 +2,10 @@ use Rattle.std.proofs.Common.{◌≡◌, ◌∙◌, length, ap, arith, length-se
 use Rattle.std.proofs.lemmas.List.{length_push}
 use Rattle.std.proofs.lemmas.Result.{on_ok_weaker}
 use Rattle.prefix_keys.specs.Block.{width_of}
+use Rattle.pmap_text.proofs.Settling.{window_most}
 use Rattle.pmap_text.proofs.Windows.{window_some}
 use Rattle.label_trie.specs.declared.node.Node.TheVariants.{Inner}
-use Rattle.label_trie.proofs.Grown.{added_least, added_most, halves_added, halves_sum, window_leaf}
+use Rattle.label_trie.proofs.Grown.{added_least, added_most, halves_added, window_leaf}
 use Rattle.label_trie.proofs.growing.+push_block.Goals as goal
 
 pub returns-then-window : goal.returns-then-window
@@ -19,7 +20,7 @@ pub push_block-requires : goal.push_block-requires
 push_block-requires t c =
     let room = c.requires.room in
     let halves = c.halves.ensures in
-    let sum = halves_sum c.args.stretches.now c.args.window c.requires.window room.statements room.default room.are _ _ halves c.if-window.false in
+    let sum = window_most c.args.stretches.now c.args.window c.requires.window room.statements room.default room.are c.if-window.false _ _ halves in
     let count = ap length c.in_ok-push-2.ensures.items ∙ length_push c.args.nodes.now.items (Inner 0) in
     let some = window_some c.args.stretches.now room.are.every c.args.window c.requires.window c.if-window.false in (
       omega (arith, some, halves.low_first, halves.low_last, c.decreases),
@@ -30,7 +31,7 @@ pub overflow_cast-high_number : goal.overflow_cast-high_number
 overflow_cast-high_number t c =
     let s = c.args.stretches.now in
     let room = c.requires.room in
-    let sum = halves_sum s c.args.window c.requires.window room.statements room.default room.are _ _ c.halves.ensures c.if-window.false in
+    let sum = window_most s c.args.window c.requires.window room.statements room.default room.are c.if-window.false _ _ c.halves.ensures in
     let count = ap length c.in_ok-push-2.ensures.items ∙ length_push c.args.nodes.now.items (Inner 0) in
     let most = added_most (width_of s.version) _ _ room.statements room.default c.push-2.new.self.items c.push_block.new.nodes.items
     (c.in_ok-push_block.ensures room.statements room.default room.are) in
@@ -49,7 +50,7 @@ push_block-requires-2 t c =
     let s = c.args.stretches.now in
     let room = c.requires.room in
     let halves = c.halves.ensures in
-    let sum = halves_sum s c.args.window c.requires.window room.statements room.default room.are _ _ halves c.if-window.false in
+    let sum = window_most s c.args.window c.requires.window room.statements room.default room.are c.if-window.false _ _ halves in
     let count = ap length c.in_ok-push-2.ensures.items ∙ length_push c.args.nodes.now.items (Inner 0) in
     let most = added_most (width_of s.version) _ _ room.statements room.default c.push-2.new.self.items c.push_block.new.nodes.items
     (c.in_ok-push_block.ensures room.statements room.default room.are) in

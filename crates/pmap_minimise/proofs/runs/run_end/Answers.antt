@@ -1,4 +1,4 @@
-use Rattle.std.proofs.Common.{◌≡◌, ◌+◌, ◌-◌, ◌∙◌, ℕ, inl, inr, ap, arith, max, min, refl, subst, sym, true≢false}
+use Rattle.std.proofs.Common.{◌≡◌, ◌+◌, ◌-◌, ◌^◌, ◌<◌, ◌∙◌, ℕ, inl, inr, ap, arith, max, min, refl, subst, sym, true≢false}
 use Rattle.std.specs.Prelude.{bit_xor}
 use Rattle.std.specs.Int.Count.{count_leading_zeros}
 use Rattle.prefix_keys.specs.Block.{block_number, first_of, width_of}
@@ -6,6 +6,18 @@ use Rattle.prefix_keys.specs.declared.version.Version.{Version}
 use Rattle.pmap_minimise.proofs.RunEnds.{block-last, direct-end, trimmed}
 use Rattle.pmap_minimise.proofs.runs.run_end.Goals as goal
 use Rattle.pmap_minimise.proofs.runs.run_end.Goals.{then-first-low, else-first-low}
+
+pub invariant_of-block_of : goal.invariant_of-block_of
+invariant_of-block_of c =
+    let s = c.args.stretches.now in
+    let a = c.args.window.now in
+    let is = c.requires.counted in
+    let inner = trimmed s c.args.side.0 a is c.requires.divided c.is_side.result c.is_side-2.result c.max-low.result c.min-high.result (a.from + c.from.result) (a.to - c.from-2.result)
+    c.is_side.ensures.0 c.is_side-2.ensures.0 (ap (λ (n : ℕ). a.from + n) c.from.ensures) (ap (λ (n : ℕ). a.to - n) c.from-2.ensures)
+    (c.max-low.ensures ∙ ap (max a.first) c.first.ensures) (c.min-high.ensures ∙ ap (min a.last) c.last.ensures)
+    (λ own. absurd (true≢false (sym (c.is_side-3.ensures.1 own) ∙ c.if-is_side.false))) (λ own. absurd (true≢false (sym (c.is_side-else-is_side.ensures.1 own) ∙ c.if-is_side-2.false))) in
+    let within = (is.few.stretches.each (a.from + c.from.result) inner.inside.low.index).within in
+    record { in_range = subst (λ (v : Version). c.max-low.result < 2 ^ width_of v) (sym c.version-version.ensures) (omega (arith, inner.inside.low.to, within)) }
 
 pub overflow_sub-len-2 : goal.overflow_sub-len-2
 overflow_sub-len-2 c =

@@ -1,8 +1,9 @@
 use Rattle.std.proofs.Common.{Some, refl}
 use Rattle.prefix_keys.specs.Block.{width_of}
 use Rattle.pmap_text.specs.MapText.{map_of}
+use Rattle.pmap_text.proofs.Settling.{map_is}
 use Rattle.label_trie.specs.Inner.{tree_of}
-use Rattle.label_trie.proofs.Built.{grown_trie, map_bounded, map_layers, trie_cut}
+use Rattle.label_trie.proofs.Built.{grown_trie, map_bounded, trie_cut}
 use Rattle.label_trie.proofs.Lookup.{labels_fit}
 use Rattle.label_trie.proofs.NodeLeaves.{leaves_settled, leaves_undivided}
 use Rattle.label_trie.proofs.trie.Trie.build.Goals as goal
@@ -16,7 +17,7 @@ invariant_of-result c =
     let text = c.args.map.now in
     let version = c.in_ok-stretches.ensures.version in
     let added = rw version at (c.in_ok-grow.ensures text.statements (Some text.default) c.in_ok-stretches.ensures.stretches) in
-    let built = grown_trie text.version text.statements (Some text.default) c.in_ok-grow.field-0.items (map_of text) (map_layers text text.statements refl)
+    let built = grown_trie text.version text.statements (Some text.default) c.in_ok-grow.field-0.items (map_of text) (map_is text)
     added text.within_limit in
     built.trie
 
@@ -27,7 +28,7 @@ returns c =
     let nodes = c.in_ok-grow.field-0.items in
     let version = c.in_ok-stretches.ensures.version in
     let added = rw version at (c.in_ok-grow.ensures text.statements (Some text.default) c.in_ok-stretches.ensures.stretches) in
-    let layers = map_layers text ss refl in
+    let layers = map_is text in
     let grown = grown_trie text.version ss (Some text.default) nodes (map_of text) layers added text.within_limit in
     let tree = tree_of nodes in
     let fits = grown.fits (map_of text) layers in

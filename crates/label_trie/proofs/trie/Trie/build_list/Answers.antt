@@ -44,5 +44,5 @@ returns c =
       cut = trie_cut (width_of list.version) nodes grown.trie;
       decided = list_decided list tree seen;
       labels = λ a below. list_labels list tree a grown.trie.room seen below;
-      bounded = list_bounded list ready.sorted ss nodes ready.layers grown;
+      bounded = list_bounded list ready.sorted ss nodes ready.moved ready.layers grown;
     }
