@@ -6,7 +6,6 @@ use Rattle.std.specs.List.{list_any}
 use Rattle.std.proofs.lemmas.Bool.{and_from, and_parts, false_from_ne_true, false≢true, le-leb, leb-true}
 use Rattle.std.proofs.lemmas.Bool.Decides.{nat_tests}
 use Rattle.std.proofs.lemmas.List.Elements.{filter-append, filter_agree}
-use Rattle.std.proofs.lemmas.Nat.{pow_pos}
 use Rattle.prefix_keys.specs.Block.{first_of, last_of, width_of}
 use Rattle.prefix_keys.specs.declared.block.Block.{Block}
 use Rattle.pmap_text.specs.Carried.{entry_covers, from_last, statement_meets, statement_spans}
@@ -14,22 +13,16 @@ use Rattle.pmap_text.specs.ListModel.{lies_inside}
 use Rattle.pmap_text.specs.PrefixList.{prefix_of, number_of_block as number_of}
 use Rattle.pmap_text.specs.declared.entry.Entry.{Entry}
 use Rattle.pmap_text.specs.declared.statement.Statement.{Statement}
+use Rattle.pmap_text.proofs.Windows.{block_some}
 use Rattle.cert_check.specs.Inner.{carried_to, entries_carried_to, covers_whole, greatest, is_inside, meets_block, spans_block}
 use Rattle.cert_check.specs.Checking.{is_same_version}
 use Rattle.cert_check.proofs.Lists.{any-kept, filter_twice, from_last-filter}
-
--- the last address of a block is not before its first
-pub first-last : (W n q : ℕ) → first_of W n q ≤ last_of W n q
-first-last W n q = by (2 ^ (W - n)) (pow_pos (W - n))
-  where
-    by : (p : ℕ) → 0 < p → q * p ≤ (q + 1) * p - 1
-    by p some = omega (arith, some)
 
 -- a statement that covers a block of n bits meets it
 spans-meets : (W n q : ℕ) (s : Statement) → statement_spans W n q s ≡ true → statement_meets W n q s ≡ true
 spans-meets W n q s h =
     let parts = and_parts (nat_le s.span.low.value (first_of W n q)) (nat_le (last_of W n q) s.span.high.value) h in
-    let some = first-last W n q in
+    let some = block_some W n q in
     and_from (nat_le s.span.low.value (last_of W n q)) (nat_le (first_of W n q) s.span.high.value)
     (le-leb _ _ (omega (arith, leb-true s.span.low.value (first_of W n q) parts.0, some)))
     (le-leb _ _ (omega (arith, leb-true (last_of W n q) s.span.high.value parts.1, some)))

@@ -11,3 +11,4 @@ pub mod Settled
 pub mod Sides
 pub mod Nodes
 pub mod Whole
+mod PartEnds

@@ -7,15 +7,15 @@ use Rattle.pmap_text.specs.ListModel.{Prefix}
 use Rattle.pmap_text.specs.MapModel.{Label, MapModel, settled_label}
 use Rattle.pmap_text.specs.MapText.{text_at}
 use Rattle.prefix_keys.specs.Block.{width_of}
-use Rattle.prefix_keys.specs.declared.block.Block.{Block}
-use Rattle.pmap_text.specs.PrefixList.{number_of_block as number_of}
+use Rattle.pmap_text.specs.Stretches.{StretchesModel}
+use Rattle.pmap_text.specs.Windows.{AreHalvesOf, number_at}
+use Rattle.pmap_text.specs.declared.window.Window.{Window}
 use Rattle.pmap_cert.specs.Compacting.{line_count}
 use Rattle.pmap_cert.specs.CertificateText.{HasRoomBelow, IsAscending}
 use Rattle.pmap_cert.specs.CertificateModel.{ChainNode, InnerNode, LeafNode, Claim, Tree, claim_of, has, chain_claim, chosen_half, side_half, exact_claim}
 use Rattle.pmap_cert.specs.Node.{Chain, HasChainForm, Inner, Leaf, Node, bits_of, first_node, from_next_line, label_of, set_of, side_of, tree_of}
 use Rattle.cert_check.specs.Inner.{IsHalf, IsAnswer, answer_of, NodeLine}
 use Rattle.cert_check.specs.Checking.{bits_fault, claim_fault, fault_of_number, is_decided, is_label_of, leaf_fault, node_fault, told, CheckFault, CheckFaultKind, CostTooHigh, LeafNotUniform, ListDiffers, NoMemory, SetTooSmall}
-use Rattle.cert_check.proofs.HalfBlocks.{half-number}
 
 -- the first of two faults is the first if it exists
 pub or-first : {X : Type 0} (a b : Option X) (x : X) → a ≡ Some x → option_or a b ≡ Some x
@@ -42,27 +42,31 @@ later-answer fault below number next count after (Ok line) follows is h = (
 )
 later-answer fault below number next count after (Err found) follows is h = λ k told_is. is k ∙ h (k + 1) (follows k told_is)
 
+pub low-half : {s : StretchesModel} {w low high : Window} → AreHalvesOf s w low high → IsHalf s w low (2 * number_at s w)
+low-half are = record { len = are.low_len; number = are.low_number }
+
+pub high-half : {s : StretchesModel} {w low high : Window} → AreHalvesOf s w low high → IsHalf s w high (2 * number_at s w + 1)
+high-half are = record { len = are.high_len; number = are.high_number }
+
 -- a function of the length and the number of a half
-pub half-is : {X : Type 0} (b half : Block) (q : ℕ) → IsHalf b half q → (f : ℕ → ℕ → X) → f half.len (number_of half) ≡ f (suc b.len) q
-half-is b half q h f =
-    let len : half.len ≡ suc b.len = omega (arith, h.len) in
-    λ i. f (len i) (half-number b half q h i)
+pub half-is : {X : Type 0} (s : StretchesModel) (w half : Window) (q : ℕ) → IsHalf s w half q → (f : ℕ → ℕ → X) → f half.len (number_at s half) ≡ f (suc w.len) q
+half-is s w half q h f =
+    let len : half.len ≡ suc w.len = omega (arith, h.len) in
+    λ i. f (len i) (h.number i)
 
 -- a half has one level less of room than its block
-pub half-room : (b half : Block) (q less : ℕ) → IsHalf b half q → width_of b.version - b.len ≡ suc less → less ≡ width_of half.version - half.len
-half-room b half q less h room =
-    let width : width_of half.version ≡ width_of b.version = ap width_of h.version in
-    omega (arith, width, h.len, room)
+pub half-room : (s : StretchesModel) (w half : Window) (q less : ℕ) → IsHalf s w half q → width_of s.version - w.len ≡ suc less → less ≡ width_of s.version - half.len
+half-room s w half q less h room = omega (arith, h.len, room)
 
 -- the first fault along bits, by that along all but the first bit
-pub path-step : (m : MapModel) (ps : List Prefix) (x : Label) (k : ℕ) (end : ℕ → ℕ → Option CheckFault) (b chosen beside : Block) (bit : Bool) (bits rest : List Bool)
-    → bits ≡ bit ∷ rest → IsHalf b chosen (chosen_half bit (number_of b)) → IsHalf b beside (side_half bit (number_of b))
-    → bits_fault m ps x k end bits b.len (number_of b)
-    ≡ option_or (bits_fault m ps x k end rest chosen.len (number_of chosen)) (option_map (fault_of_number k) (leaf_fault m ps beside.len (number_of beside) x))
-path-step m ps x k end b chosen beside bit bits rest is on off =
-    ap (λ (xs : List Bool). bits_fault m ps x k end xs b.len (number_of b)) is
-    ∙ (λ i. option_or (sym (half-is b chosen (chosen_half bit (number_of b)) on (bits_fault m ps x k end rest)) i)
-    (option_map (fault_of_number k) (sym (half-is b beside (side_half bit (number_of b)) off (λ n q. leaf_fault m ps n q x)) i)))
+pub path-step : (m : MapModel) (ps : List Prefix) (x : Label) (k : ℕ) (end : ℕ → ℕ → Option CheckFault) (s : StretchesModel) (w chosen beside : Window) (bit : Bool) (bits rest : List Bool)
+    → bits ≡ bit ∷ rest → IsHalf s w chosen (chosen_half bit (number_at s w)) → IsHalf s w beside (side_half bit (number_at s w))
+    → bits_fault m ps x k end bits w.len (number_at s w)
+    ≡ option_or (bits_fault m ps x k end rest chosen.len (number_at s chosen)) (option_map (fault_of_number k) (leaf_fault m ps beside.len (number_at s beside) x))
+path-step m ps x k end s w chosen beside bit bits rest is on off =
+    ap (λ (xs : List Bool). bits_fault m ps x k end xs w.len (number_at s w)) is
+    ∙ (λ i. option_or (sym (half-is s w chosen (chosen_half bit (number_at s w)) on (bits_fault m ps x k end rest)) i)
+    (option_map (fault_of_number k) (sym (half-is s w beside (side_half bit (number_at s w)) off (λ n q. leaf_fault m ps n q x)) i)))
 
 -- the set of a node ascends
 pub ascending-of : (node : Node) (count room : ℕ) → HasChainForm count node room → IsAscending count 0 (set_of node)

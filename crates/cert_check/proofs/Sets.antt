@@ -1,8 +1,7 @@
 -- Sets of labels by their numbers in ascending order.
 use Rattle.std.proofs.Common.{◌≡◌, ◌⊎◌, inl, inr, ℕ, zero, suc, ◌+◌, ◌^◌, ◌<◌, ◌≤◌, Bool, true, false, cond, not, ◌&&◌, ◌||◌, ◌==◌, List, [], ◌∷◌, Option, Some, None, drop, filter, get_or, length, map, nat_lt, slice_get, take, refl, sym, ap, ap₂, ◌∙◌, subst, arith}
 use Rattle.std.specs.List.{list_all}
-use Rattle.std.proofs.lemmas.Bool.{eqb-true, false_from_ne_true, false≢true}
-use Rattle.std.proofs.lemmas.Bool.{and_from}
+use Rattle.std.proofs.lemmas.Bool.{and_from, false≢true, ne_eqb}
 use Rattle.std.proofs.lemmas.Cmp.{nat_eq_equiv}
 use Rattle.std.proofs.lemmas.List.Folds.{list_all-append, list_all-map, list_all_at, list_all_more}
 use Rattle.std.proofs.lemmas.Option.{none-some, same_Some}
@@ -26,14 +25,11 @@ pub ascending-bound : (bound wide low : ℕ) (ns : List ℕ) → bound ≤ wide 
 ascending-bound bound wide low [] le h = tt
 ascending-bound bound wide low (n ∷ ns) le h = (h.0, omega (arith, h.1, le), ascending-bound bound wide (n + 1) ns le h.2)
 
-ne-eqb : (a b : ℕ) → (a ≡ b → ⊥) → (a == b) ≡ false
-ne-eqb a b ne = false_from_ne_true (a == b) (λ e. ne (eqb-true a b e))
-
 -- an ascending list has no number below its first
 pub ascending-lacks : (bound low n : ℕ) (ns : List ℕ) → n < low → IsAscending bound low ns → has_number ns n ≡ false
 ascending-lacks bound low n [] less h = refl
 ascending-lacks bound low n (m ∷ ns) less h =
-    ap (λ b. b || has_number ns n) (ne-eqb m n (λ e. absurd (omega (arith, e, h.0, less))))
+    ap (λ b. b || has_number ns n) (ne_eqb m n (λ e. absurd (omega (arith, e, h.0, less))))
     ∙ ascending-lacks bound (m + 1) n ns (omega (arith, h.0, less)) h.2
 
 -- an ascending list without its first number ascends
@@ -45,7 +41,7 @@ pub step-kept : (rest : List LabelId) (first : LabelId) (n : ℕ) → slice_get 
 step-kept [] first n e less = absurd (none-some first e)
 step-kept (r ∷ rest) first n e less =
     let same : r ≡ first = same_Some r first e in
-    sym (ap (λ b. b || has_number (numbers rest) n) (ne-eqb r.0 n (λ f. absurd (omega (arith, f, less, ap (λ (i : LabelId). i.0) same)))))
+    sym (ap (λ b. b || has_number (numbers rest) n) (ne_eqb r.0 n (λ f. absurd (omega (arith, f, less, ap (λ (i : LabelId). i.0) same)))))
 
 -- the first number of a list that ascends from `id` on is `id` exactly if the list has `id`
 pub first-is : (bound : ℕ) (rest : List LabelId) (first id : LabelId) → slice_get rest 0 ≡ Some first → IsAscending bound id.0 (numbers rest) → (first.0 == id.0) ≡ has_number (numbers rest) id.0
@@ -241,7 +237,7 @@ apart-some p [] h = absurd (false≢true (sym h))
 apart-some p (x ∷ ids) h = by (p x) (list_all (λ (i : LabelId). not (p i)) ids) (apart-some p ids) h
   where
     by : (b others : Bool) → (others ≡ false → (length (filter p ids) == 0) ≡ false) → (not b && others) ≡ false → (length (cond b (x ∷ filter p ids) (filter p ids)) == 0) ≡ false
-    by true others rest all = ne-eqb (suc (length (filter p ids))) 0 (λ e. absurd (omega (arith, e)))
+    by true others rest all = ne_eqb (suc (length (filter p ids))) 0 (λ e. absurd (omega (arith, e)))
     by false others rest all = rest all
 
 -- an implication holds if its premise fails or its conclusion holds

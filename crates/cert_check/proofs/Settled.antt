@@ -1,102 +1,102 @@
 -- Whether a map settles a block, by its stretches.
-use Rattle.std.proofs.Common.{◌≡◌, ◌∙◌, ℕ, zero, suc, ◌+◌, ◌-◌, ◌^◌, ◌<◌, ◌≤◌, true, cond, Option, Some, None, List, get_or, length, nat_le, option_map, refl, sym, ap, subst, arith}
-use Rattle.std.proofs.lemmas.Bool.{le-leb, lt-leb}
-use Rattle.std.proofs.lemmas.List.Elements.{All-map}
+use Rattle.std.proofs.Common.{◌≡◌, ◌∙◌, ℕ, suc, ◌+◌, ◌-◌, ◌*◌, ◌<◌, ◌≤◌, true, Option, Some, None, IsSome, length, option_map, refl, sym, ap, subst, arith}
 use Rattle.prefix_keys.specs.Block.{first_of, last_of, width_of}
-use Rattle.pmap_text.specs.MapModel.{Label, label_or, settled_label}
-use Rattle.pmap_text.specs.MapText.{map_of, mapping_of, text_at}
-use Rattle.pmap_text.specs.Stretches.{HaveAddresses, label_seen, HasEveryAddress, HoldsAddress, StretchesModel, first_at, label_at, last_at}
+use Rattle.prefix_keys.specs.declared.version.Version.{Version}
+use Rattle.pmap_text.specs.MapModel.{Label, MapModel, last_such, meets, settled_by, settled_label}
+use Rattle.pmap_text.specs.MapText.{map_of}
+use Rattle.pmap_text.specs.Settled.{IsMapOf, Settles}
+use Rattle.pmap_text.specs.Stretches.{first_at, label_at, last_at, mappings_of}
+use Rattle.pmap_text.specs.Windows.{AreHalvesOf, number_at}
+use Rattle.pmap_text.specs.declared.window.Window.{Window}
+use Rattle.pmap_text.proofs.BlockHalves.{halves_ends}
+use Rattle.pmap_text.proofs.Windows.{block_some}
 use Rattle.pmap_text.specs.declared.label.LabelId.{LabelId}
-use Rattle.pmap_text.specs.declared.map_text.MapText.{MapText}
-use Rattle.pmap_text.specs.declared.statement.Statement.{Statement}
-use Rattle.pmap_text.proofs.Ranges.{held_apart, held_order, next_first, ordered_at}
-use Rattle.pmap_text.proofs.SeenBlocks.{settled_stretch}
-use Rattle.pmap_text.specs.PrefixList.{number_of_block as number_of}
-use Rattle.cert_check.specs.Inner.{AreSources, IsPart, IsSettledBetween, last_in, text_of, Part, Sources}
+use Rattle.pmap_text.proofs.Settling.{map_is, stretch_labelled, stretch_settles, window_settled, window_unsettled}
+use Rattle.cert_check.specs.Inner.{AreSources, IsPart, IsSettledBetween, text_of, Part, Sources}
 use Rattle.cert_check.specs.Checking.{is_label_of}
-use Rattle.cert_check.proofs.Carries.{first-last}
-use Rattle.cert_check.proofs.HalfBlocks.{block-first, block-last}
-
-have-addresses : (m : MapText) → HaveAddresses (map_of m).mappings
-have-addresses m =
-    All-map (λ s. s.low ≤ s.high) (mapping_of m.labels) m.statements (λ i d below. (get_or m.statements i d).span.ordered)
-
--- the label of a statement, or otherwise the default, is the text of the label that is seen
-label-text : (table : List Label) (default : LabelId) (top : Option Statement)
-    → Some (label_or (option_map (mapping_of table) top) (text_at table default.0)) ≡ text_of table (label_seen (Some default) top)
-label-text table default None = refl
-label-text table default (Some s) = refl
-
--- if a stretch begins with an address above 0, the address before is in the stretch before
-pub held-before : (s : StretchesModel) (every : HasEveryAddress s) (a i : ℕ) → 0 < a → HoldsAddress s a i → first_at s i ≡ a → (0 < i) × HoldsAddress s (a - 1) (i - 1)
-held-before s every a zero some at begins = absurd (omega (arith, some, begins, every.zero))
-held-before s every a (suc i) some at begins =
-    let next : i + 1 ≡ suc i = omega arith in
-    let last : last_at s i + 1 ≡ first_at s (suc i) = sym (next_first s every i (omega (arith, at.index))) ∙ ap (first_at s) next in
-    let ordered = ordered_at s every i (omega (arith, at.index)) in
-    let same : i ≡ suc i - 1 = omega arith in
-    (omega arith, subst (HoldsAddress s (a - 1)) same (record { index = omega (arith, at.index); from = omega (arith, ordered, last, begins); to = omega (arith, last, begins) }))
 
 module _ (s : Sources) (are : AreSources s) where
-  -- a block that begins in a stretch is settled, with the stretch's label, exactly if it ends there
-  settled-at : (i j r : ℕ) → i < length s.stretches.firsts → first_at s.stretches i ≤ first_of (width_of s.map.now.version) j r
-      → first_of (width_of s.map.now.version) j r ≤ last_at s.stretches i → last_of (width_of s.map.now.version) j r < 2 ^ width_of s.map.now.version
-      → settled_label (map_of s.map.now) j r
-      ≡ cond (nat_le (last_of (width_of s.map.now.version) j r) (last_at s.stretches i)) (text_of s.map.now.labels (label_at s.stretches i)) None
-  settled-at i j r below from here fits =
-      let m = s.map.now in
-      let held = are.stretches.each i below in
-      let top = option_map (mapping_of m.labels) held.top in
-      let stretch = held.stretch (map_of m) (ap width_of (sym are.version)) refl in
-      settled_stretch (map_of m) j r (first_at s.stretches i) (last_at s.stretches i) top (have-addresses m) stretch from here fits
-      ∙ ap (λ (o : Option Label). cond (nat_le (last_of (width_of m.version) j r) (last_at s.stretches i)) o None)
-      (label-text m.labels m.default held.top ∙ ap (text_of m.labels) (sym held.label_is))
+  abbrev m : MapModel
+  m = map_of s.map.now
 
-  stretch-fits : (i : ℕ) → i < length s.stretches.firsts → last_at s.stretches i < 2 ^ width_of s.map.now.version
-  stretch-fits i below = subst (λ v. last_at s.stretches i < 2 ^ width_of v) are.version (are.stretches.each i below).within
+  is-map : IsMapOf (width_of s.stretches.version) s.map.now.statements (Some s.map.now.default) m
+  is-map = subst (λ (v : Version). IsMapOf (width_of v) s.map.now.statements (Some s.map.now.default) m) (sym are.version) (map_is s.map.now)
+
+  settled-text : (n q : ℕ) (label : Option LabelId) → IsSome label → Settles m label n q → settled_label m n q ≡ text_of s.map.now.labels label
+  settled-text n q None some h = absurd cc
+  settled-text n q (Some id) some h = h.1
 
   -- the map settles all blocks of a stretch with its label
   pub settled-between : (i first stop : ℕ) (x : Label) → i < length s.stretches.firsts → first_at s.stretches i ≤ first → stop ≤ last_at s.stretches i + 1
-      → is_label_of (text_of s.map.now.labels (label_at s.stretches i)) x ≡ true → IsSettledBetween (map_of s.map.now) first stop x
+      → is_label_of (text_of s.map.now.labels (label_at s.stretches i)) x ≡ true → IsSettledBetween m first stop x
   settled-between i first stop x below from to is j r begins ends =
-      let W = width_of s.map.now.version in
-      let some = first-last W j r in
-      let fits = stretch-fits i below in
+      let W = width_of s.stretches.version in
+      let has = are.stretches.each i below in
+      let begins' = subst (λ (v : Version). first ≤ first_of (width_of v) j r) (sym are.version) begins in
+      let ends' = subst (λ (v : Version). last_of (width_of v) j r < stop) (sym are.version) ends in
       ap (λ (o : Option Label). is_label_of o x)
-      (settled-at i j r below (omega (arith, from, begins)) (omega (arith, to, ends, some)) (omega (arith, to, ends, fits))
-      ∙ ap (λ b. cond b (text_of s.map.now.labels (label_at s.stretches i)) None) (le-leb _ _ (omega (arith, to, ends)))) ∙ is
+      (settled-text j r (label_at s.stretches i) (stretch_labelled W s.map.now.statements (Some s.map.now.default) _ _ _ has refl)
+      (stretch_settles W j r s.map.now.statements (Some s.map.now.default) _ _ _ has m is-map (omega (arith, from, begins')) (omega (arith, to, ends')))) ∙ is
+
+  -- no block lies in an empty range of addresses
+  pub settled-empty : (first stop : ℕ) (x : Label) → stop ≤ first → IsSettledBetween m first stop x
+  settled-empty first stop x empty j r begins ends = let some = block_some (width_of m.version) j r in absurd (omega (arith, empty, begins, ends, some))
 
   -- Whether the map settles the block of a part.
   module _ (p : Part) (is : IsPart s p) where
-    version : p.block.version ≡ s.map.now.version
-    version = is.list.version ∙ are.list_version
-
-    pub part-order : p.from ≤ p.to
-    part-order = held_order s.stretches are.stretches.every p.block.value (last_in p.block) p.from p.to is.from is.to (block-last p.block)
-
-    settled-block : settled_label (map_of s.map.now) p.block.len (number_of p.block)
-        ≡ cond (nat_le (last_in p.block) (last_at s.stretches p.from)) (text_of s.map.now.labels (label_at s.stretches p.from)) None
-    settled-block =
-        let m = s.map.now in
-        let b = p.block in
-        let same : width_of b.version ≡ width_of m.version = ap width_of version in
-        let first : first_of (width_of m.version) b.len (number_of b) ≡ b.value =
-        ap (λ (W : ℕ). first_of W b.len (number_of b)) (sym same) ∙ block-first b in
-        let last : last_of (width_of m.version) b.len (number_of b) ≡ last_in b = ap (λ (W : ℕ). last_of W b.len (number_of b)) (sym same) in
-        let fits = stretch-fits p.to is.to.index in
-        settled-at p.from b.len (number_of b) is.from.index (omega (arith, first, is.from.from)) (omega (arith, first, is.from.to)) (omega (arith, last, is.to.to, fits))
-        ∙ ap (λ (k : ℕ). cond (nat_le k (last_at s.stretches p.from)) (text_of m.labels (label_at s.stretches p.from)) None) last
-
-    pub settled-one : p.from ≡ p.to → settled_label (map_of s.map.now) p.block.len (number_of p.block) ≡ text_of s.map.now.labels (label_at s.stretches p.from)
+    pub settled-one : p.window.from ≡ p.window.to
+        → settled_label m p.window.len (number_at s.stretches p.window) ≡ text_of s.map.now.labels (label_at s.stretches p.window.from)
     settled-one same =
-        settled-block
-        ∙ ap (λ b. cond b (text_of s.map.now.labels (label_at s.stretches p.from)) None)
-        (le-leb (last_in p.block) (last_at s.stretches p.from)
-        (subst (λ (i : ℕ). last_in p.block ≤ last_at s.stretches i) (sym same) is.to.to))
+        settled-text p.window.len (number_at s.stretches p.window) (label_at s.stretches p.window.from)
+        (stretch_labelled (width_of s.stretches.version) s.map.now.statements (Some s.map.now.default) _ _ _ (are.stretches.each p.window.from is.window.start.index) refl)
+        (window_settled s.stretches p.window is.window s.map.now.statements (Some s.map.now.default) are.stretches same m is-map)
 
-    pub settled-more : (p.from ≡ p.to → ⊥) → settled_label (map_of s.map.now) p.block.len (number_of p.block) ≡ None
-    settled-more ne =
-        settled-block
-        ∙ ap (λ b. cond b (text_of s.map.now.labels (label_at s.stretches p.from)) None)
-        (lt-leb (last_in p.block) (last_at s.stretches p.from)
-        (held_apart s.stretches are.stretches.every p.block.value (last_in p.block) p.from p.to is.from is.to (block-last p.block) ne))
+    pub settled-more : (p.window.from ≡ p.window.to → ⊥) → settled_label m p.window.len (number_at s.stretches p.window) ≡ None
+    settled-more other =
+        let n = p.window.len in
+        let q = number_at s.stretches p.window in
+        subst (λ (v : Version). settled_by (width_of v) n q m.fallback (last_such (meets (width_of v) n q) (mappings_of s.map.now.labels s.map.now.statements)) ≡ None) are.version
+        (window_unsettled s.stretches p.window is.window s.map.now.statements (Some s.map.now.default) are.stretches other s.map.now.labels m.fallback)
+
+    pub one-version : s.stretches.version ≡ s.list.now.version
+    one-version = are.version ∙ sym are.list_version
+
+    -- the block of a part, among the list's addresses
+    pub part-short : p.window.len ≤ width_of s.list.now.version
+    part-short = subst (λ (v : Version). p.window.len ≤ width_of v) one-version is.window.within
+
+    pub part-first : p.window.first ≡ first_of (width_of s.list.now.version) p.window.len (number_at s.stretches p.window)
+    part-first = subst (λ (v : Version). p.window.first ≡ first_of (width_of v) p.window.len (number_at s.stretches p.window)) one-version is.window.block.first_is
+
+    pub part-last : p.window.last ≡ last_of (width_of s.list.now.version) p.window.len (number_at s.stretches p.window)
+    part-last = subst (λ (v : Version). p.window.last ≡ last_of (width_of v) p.window.len (number_at s.stretches p.window)) one-version is.window.block.last_is
+
+    pub part-room : p.window.len < width_of s.stretches.version → p.window.len < width_of s.list.now.version
+    part-room below = subst (λ (v : Version). p.window.len < width_of v) one-version below
+
+    -- a block of fewer bits than an address has two addresses or more
+    pub part-some : p.window.len < width_of s.stretches.version → p.window.first < p.window.last
+    part-some below =
+        let W = width_of s.stretches.version in
+        let n = p.window.len in
+        let q = number_at s.stretches p.window in
+        let ends = halves_ends W n q p.window.first p.window.last below is.window.block.first_is is.window.block.last_is in
+        let low = block_some W (suc n) (2 * q) in
+        let high = block_some W (suc n) (2 * q + 1) in
+        omega (arith, ends.low_first, ends.low_last, ends.high_first, ends.high_last, low, high)
+
+    pub high-first : (low high : Window) → AreHalvesOf s.stretches p.window low high
+        → high.first ≡ first_of (width_of s.list.now.version) (suc p.window.len) (2 * number_at s.stretches p.window + 1)
+    high-first low high are =
+        let next : high.len ≡ suc p.window.len = omega (arith, are.high_len) in
+        subst (λ (v : Version). high.first ≡ first_of (width_of v) (suc p.window.len) (2 * number_at s.stretches p.window + 1)) one-version
+        (are.high_window.block.first_is ∙ (λ i. first_of (width_of s.stretches.version) (next i) (are.high_number i)))
+
+    -- the map settles the blocks of the part beside an inner one if a stretch at an end of the part has them
+    pub clear-before : (first : ℕ) (x : Label) → p.window.first < first → first - 1 ≤ last_at s.stretches p.window.from
+        → is_label_of (text_of s.map.now.labels (label_at s.stretches p.window.from)) x ≡ true → IsSettledBetween m p.window.first first x
+    clear-before first x some most label = settled-between p.window.from p.window.first first x is.window.start.index is.window.start.from (omega (arith, most, some)) label
+
+    pub clear-after : (last : ℕ) (x : Label) → first_at s.stretches p.window.to ≤ last + 1
+        → is_label_of (text_of s.map.now.labels (label_at s.stretches p.window.to)) x ≡ true → IsSettledBetween m (last + 1) (p.window.last + 1) x
+    clear-after last x least label = settled-between p.window.to (last + 1) (p.window.last + 1) x is.window.end.index least (omega (arith, is.window.end.to)) label

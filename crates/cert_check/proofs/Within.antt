@@ -4,20 +4,22 @@ use Rattle.std.specs.List.Sorted.{IsNonDecreasingBy, IsPermutation}
 use Rattle.std.proofs.lemmas.Bool.{cases_eq, cases_lt}
 use Rattle.std.proofs.lemmas.Bool.Decides.{nat_tests}
 use Rattle.std.proofs.lemmas.Option.{get_or_from_slice_get}
+use Rattle.std.proofs.lemmas.List.Elements.{All-contains}
 use Rattle.std.proofs.lemmas.Map.Keys.{IsDistinct-IsPermutation}
 use Rattle.std.proofs.lemmas.List.Sorted.{Contains-permutation, IsPermutation-sym}
 use Rattle.std.proofs.lemmas.Nat.{pow-add}
 use Rattle.prefix_keys.proofs.Quotients.{whole}
-use Rattle.prefix_keys.specs.Block.{block_number, first_of, width_of}
+use Rattle.prefix_keys.specs.Block.{block_number, first_of, last_of, width_of}
 use Rattle.prefix_keys.specs.declared.block.Block.{Block}
 use Rattle.pmap_text.specs.ListEntries.{HasDistinctBlocks, rank_of, same_block}
 use Rattle.pmap_text.specs.declared.entry.Entry.{Entry}
+use Rattle.pmap_text.specs.declared.prefix_list.PrefixList.{PrefixList}
 use Rattle.pmap_text.proofs.Blocks.{address-between, address-first, address-last}
 use Rattle.pmap_text.proofs.Filed.{flips}
-use Rattle.pmap_text.proofs.ListBlocks.{ranks_ascend, short-block}
+use Rattle.pmap_text.proofs.ListBlocks.{block_start, ranks_ascend, short-block}
 use Rattle.pmap_text.proofs.Finds.{Contains-cases, Contains-first, Contains-later}
 use Rattle.pmap_text.specs.PrefixList.{number_of_block as number_of}
-use Rattle.cert_check.specs.Inner.{AreInOrder, AreAscending, AreWithin, LiesIn, last_in}
+use Rattle.cert_check.specs.Inner.{AreInOrder, AreAscending, AreWithin, LiesIn}
 use Rattle.cert_check.proofs.HalfBlocks.{IsWithin, block-first}
 
 -- the first of entries in order comes before all later ones
@@ -64,46 +66,41 @@ ascending-values es ascending i j d le below =
 pub not-before : (a b : ℕ) → is_lt (nat_cmp a b) ≡ false → b ≤ a
 not-before a b h = grind (arith, nat_tests)
 
--- An entry of n bits or more lies in a block exactly if its first address does.
-module _ (b : Block) (n : ℕ) (e : Entry) where
-  pub lies-from : LiesIn b n e → b.value ≤ e.block.value
-  lies-from lies =
-      let first = block-first b in
-      let from = address-first (width_of b.version) b.len (number_of b) e.block.value lies.number in
-      omega (arith, first, from)
+-- An entry of k bits or more lies in a block exactly if its first address does.
+module _ (W n q k : ℕ) (e : Entry) where
+  pub lies-from : LiesIn W n q k e → first_of W n q ≤ e.block.value
+  lies-from lies = address-first W n q e.block.value lies.number
 
-  pub lies-to : LiesIn b n e → e.block.value ≤ last_in b
-  lies-to lies = address-last (width_of b.version) b.len (number_of b) e.block.value lies.number
+  pub lies-to : LiesIn W n q k e → e.block.value ≤ last_of W n q
+  lies-to lies = address-last W n q e.block.value lies.number
 
-  pub lies-between : n ≤ e.block.len → b.value ≤ e.block.value → e.block.value ≤ last_in b → LiesIn b n e
-  lies-between long from to = record {
-    long = long;
-    number = let first = block-first b in address-between (width_of b.version) b.len (number_of b) e.block.value (omega (arith, first, from)) to;
-  }
+  pub lies-between : k ≤ e.block.len → first_of W n q ≤ e.block.value → e.block.value ≤ last_of W n q → LiesIn W n q k e
+  lies-between long from to = record { long = long; number = address-between W n q e.block.value from to }
 
 -- the entry has this very block
-abbrev pub IsOwn : Block → Entry → Type 0
-IsOwn b e = (e.block.value ≡ b.value) × (e.block.len ≡ b.len)
+abbrev pub IsOwn : ℕ → ℕ → ℕ → Entry → Type 0
+IsOwn W n q e = (e.block.value ≡ first_of W n q) × (e.block.len ≡ n)
 
-module _ (es : List Entry) (b : Block) (same : (e : Entry) → Contains es e → e.block.version ≡ b.version) where
-  own-value : (e : Entry) → Contains es e → LiesIn b b.len e → e.block.len ≡ b.len → IsOwn b e
+module _ (l : PrefixList) (n q : ℕ) where
+  abbrev W : ℕ
+  W = width_of l.version
+
+  pub entry-version : (e : Entry) → Contains l.entries e → e.block.version ≡ l.version
+  entry-version e has = All-contains (λ (d : Entry). d.block.version ≡ l.version) l.entries e l.one_version has
+
+  own-value : (e : Entry) → Contains l.entries e → LiesIn W n q n e → e.block.len ≡ n → IsOwn W n q e
   own-value e has lies len =
-      let v = same e has in (
-        sym (block-first e.block)
-            ∙ (λ i. first_of (width_of (v i)) (len i) (block_number (width_of (v i)) (len i) e.block.value))
-            ∙ ap (first_of (width_of b.version) b.len) lies.number ∙ block-first b,
-        len,
-      )
+      (sym (block_start l.version e (entry-version e has)) ∙ ap (λ (k : ℕ). first_of W k (block_number W k e.block.value)) len ∙ ap (first_of W n) lies.number, len)
 
   -- the entries in a block are those strictly inside it if none is the block's own
-  pub strict : (within : List Entry) → AreWithin es b b.len within → ((e : Entry) → Contains within e → IsOwn b e → ⊥) → AreWithin es b (suc b.len) within
+  pub strict : (within : List Entry) → AreWithin l n q n within → ((e : Entry) → Contains within e → IsOwn W n q e → ⊥) → AreWithin l n q (suc n) within
   strict within are none = record {
     ascending = are.ascending;
     inside = λ e has.
         let lies = are.inside e has in (
           lies.0,
           record {
-            long = elim (cases_eq e.block.len b.len) [
+            long = elim (cases_eq e.block.len n) [
               | inl len ↦ absurd (none e has (own-value e lies.0 lies.1 len))
               | inr ne ↦ omega (arith, lies.1.long, ne)
             ];
@@ -114,24 +111,24 @@ module _ (es : List Entry) (b : Block) (same : (e : Entry) → Contains es e →
   }
 
   -- no entry is the block's own if the first isn't
-  pub first-other : (c : Entry) (rest : List Entry) → AreWithin es b b.len (c ∷ rest) → (IsOwn b c → ⊥) → (e : Entry) → Contains (c ∷ rest) e → IsOwn b e → ⊥
+  pub first-other : (c : Entry) (rest : List Entry) → AreWithin l n q n (c ∷ rest) → (IsOwn W n q c → ⊥) → (e : Entry) → Contains (c ∷ rest) e → IsOwn W n q e → ⊥
   first-other c rest are other e has own =
       let lies = (are.inside c (Contains-first c rest)).1 in
-      let from = lies-from b b.len c lies in
+      let from = lies-from W n q n c lies in
       let few = short-block c.block in
-      let few' = short-block b in
+      let few' = short-block e.block in
       let le = rank-first c rest are.ascending e has in
       other (omega (arith, from, few, few', le, own.0, own.1, lies.long), omega (arith, from, few, few', le, own.0, own.1, lies.long))
 
   -- the entries strictly inside a block are those after the first if that is the block's own
-  pub strict-rest : (c : Entry) (rest : List Entry) → AreWithin es b b.len (c ∷ rest) → IsOwn b c → AreWithin es b (suc b.len) rest
+  pub strict-rest : (c : Entry) (rest : List Entry) → AreWithin l n q n (c ∷ rest) → IsOwn W n q c → AreWithin l n q (suc n) rest
   strict-rest c rest are own = record {
     ascending = λ i j d less below. are.ascending (suc i) (suc j) d (omega (arith, less)) (omega (arith, below));
     inside = λ e has.
         let lies = are.inside e (Contains-later c rest e has) in (
           lies.0,
           record {
-            long = elim (cases_eq e.block.len b.len) [
+            long = elim (cases_eq e.block.len n) [
               | inl len ↦
                   let other = own-value e lies.0 lies.1 len in
                   let less = rank-later c rest are.ascending e has in
@@ -148,19 +145,18 @@ module _ (es : List Entry) (b : Block) (same : (e : Entry) → Contains es e →
   }
 
   -- the entries in an inner block are those in the outer block that lie in the inner one
-  pub narrow : (inner : Block) → IsWithin b inner → (within ys : List Entry) → AreAscending ys
-      → ((e : Entry) → Contains ys e → Contains within e × LiesIn inner inner.len e)
-      → ((e : Entry) → Contains within e → LiesIn inner inner.len e → Contains ys e)
-      → AreWithin es b (suc b.len) within → AreWithin es inner inner.len ys
-  narrow inner w within ys ascending inside every are = record {
+  pub narrow : (k r : ℕ) → IsWithin W n q k r → (within ys : List Entry) → AreAscending ys
+      → ((e : Entry) → Contains ys e → Contains within e × LiesIn W k r k e)
+      → ((e : Entry) → Contains within e → LiesIn W k r k e → Contains ys e)
+      → AreWithin l n q (suc n) within → AreWithin l k r k ys
+  narrow k r w within ys ascending inside every are = record {
     ascending = ascending;
     inside = λ e has. let both = inside e has in ((are.inside e both.0).0, both.1);
     every = λ e has lies.
-        let from = lies-from inner inner.len e lies in
-        let to = lies-to inner inner.len e lies in
+        let from = lies-from W k r k e lies in
+        let to = lies-to W k r k e lies in
         every e
-        (are.every e has
-        (lies-between b (suc b.len) e (omega (arith, w.longer, lies.long)) (omega (arith, w.first, from)) (omega (arith, w.last, to)))) lies;
+        (are.every e has (lies-between W n q (suc n) e (omega (arith, w.longer, lies.long)) (omega (arith, w.first, from)) (omega (arith, w.last, to)))) lies;
   }
 
 -- Entries in order, split at index k by their first addresses.
@@ -225,7 +221,8 @@ begins-longer W k n a le fits free =
     subst (λ (i : ℕ). first_of W n (block_number W n i) ≡ i) all (ap (λ (i : ℕ). i * d) (mul-div_cancel (x * m) (pow_pos (W - n))))
 
 -- an entry that comes no earlier than the block and begins in it lies in it
-pub lies-after : (b : Block) (e : Entry) → e.block.version ≡ b.version → rank_of b ≤ rank_of e.block → e.block.value ≤ last_in b → LiesIn b b.len e
+pub lies-after : (b : Block) (e : Entry) → e.block.version ≡ b.version → rank_of b ≤ rank_of e.block → e.block.value ≤ last_of (width_of b.version) b.len (number_of b)
+    → LiesIn (width_of b.version) b.len (number_of b) b.len e
 lies-after b e same from to =
     let W = width_of b.version in
     let few = short-block e.block in

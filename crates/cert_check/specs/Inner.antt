@@ -12,7 +12,9 @@ use Rattle.pmap_text.specs.ListModel.{lies_inside, label_below}
 use Rattle.pmap_text.specs.MapModel.{Label, MapModel, settled_label}
 use Rattle.pmap_text.specs.PrefixList.{prefix_of, list_of, number_of_block as number_of}
 use Rattle.pmap_text.specs.declared.label.LabelId.{LabelId}
-use Rattle.pmap_text.specs.Stretches.{AreLabelsBelow, AreStretches, HoldsAddress}
+use Rattle.pmap_text.specs.Stretches.{AreLabelsBelow, AreStretches, StretchesModel}
+use Rattle.pmap_text.specs.Windows.{IsWindow, number_at}
+use Rattle.pmap_text.specs.declared.window.Window.{Window}
 use Rattle.pmap_text.specs.MapText.{text_at, map_of}
 use Rattle.pmap_text.specs.declared.prefix_list.PrefixList.{PrefixList}
 use Rattle.pmap_cert.specs.Compacting.{line_count}
@@ -38,15 +40,10 @@ abbrev pub entries_carried_to : Block → List Entry → List Entry
 entries_carried_to block es =
     carried_entries (width_of block.version) block.len (number_of block) (filter (λ e. is_same_version e.block.version block.version) es)
 
-pub record IsHalf (b half : Block) (q : ℕ) : Type 0 where
-  pub version : half.version ≡ b.version
-  pub len : half.len ≡ b.len + 1
-  pub number : block_number (width_of b.version) (b.len + 1) half.value ≡ q
-
-pub record AreHalves (b low high : Block) : Type 0 where
-  pub lower : IsHalf b low (2 * number_of b)
-  pub upper : IsHalf b high (2 * number_of b + 1)
-  pub begins : low.value ≡ b.value
+-- the window is the half of a block with this number
+pub record IsHalf (s : StretchesModel) (w half : Window) (q : ℕ) : Type 0 where
+  pub len : half.len ≡ w.len + 1
+  pub number : number_at s half ≡ q
 
 abbrev pub meets_block : Block → Statement → Bool
 meets_block b s =
@@ -87,22 +84,20 @@ pub record AreSources (s : Sources) : Type 0 where
   pub stretches : AreStretches s.map.now.statements (Some s.map.now.default) s.stretches
   pub known : AreLabelsBelow (length s.map.now.labels) s.stretches
 
-abbrev pub last_in : Block → ℕ
-last_in b = last_of (width_of b.version) b.len (number_of b)
-
 abbrev pub AreAscending : List Entry → Type 0
 AreAscending es = (i j : ℕ) (d : Entry) → i < j → j < length es → rank_of (slice_index_or es i d).block < rank_of (slice_index_or es j d).block
 
--- the entry's block has n bits or more, and lies in the block or is it
-pub record LiesIn (b : Block) (n : ℕ) (e : Entry) : Type 0 where
-  pub long : n ≤ e.block.len
-  pub number : block_number (width_of b.version) b.len e.block.value ≡ number_of b
+-- among addresses of W bits, the entry's block has k bits or more, and lies in the block of n bits with the number q or
+-- is it
+pub record LiesIn (W n q k : ℕ) (e : Entry) : Type 0 where
+  pub long : k ≤ e.block.len
+  pub number : block_number W n e.block.value ≡ q
 
--- `within` has exactly the entries of a list that lie in the block and have n bits or more, in order
-pub record AreWithin (es : List Entry) (b : Block) (n : ℕ) (within : List Entry) : Type 0 where
+-- `within` has exactly the entries of a list that lie in the block and have k bits or more, in order
+pub record AreWithin (l : PrefixList) (n q k : ℕ) (within : List Entry) : Type 0 where
   pub ascending : AreAscending within
-  pub inside : (e : Entry) → Contains within e → Contains es e × LiesIn b n e
-  pub every : (e : Entry) → Contains es e → LiesIn b n e → Contains within e
+  pub inside : (e : Entry) → Contains within e → Contains l.entries e × LiesIn (width_of l.version) n q k e
+  pub every : (e : Entry) → Contains l.entries e → LiesIn (width_of l.version) n q k e → Contains within e
 
 abbrev pub text_of : List Label → Option LabelId → Option Label
 text_of table label = option_map (λ id. text_at table id.0) label
@@ -112,18 +107,16 @@ pub record IsHandedDown (l : PrefixList) (n a : ℕ) (label : Option LabelId) : 
   pub known : ForSome label (λ id. id.0 < length l.labels)
   pub text : text_of l.labels label ≡ label_below (width_of l.version) (list_of l).prefixes n a
 
--- the part of a list in a block: the entries of n bits or more in it, and the label of the longest entry of fewer bits
+-- the part of a list in a block: the entries of k bits or more in it, and the label of the longest entry of fewer bits
 -- that covers it
-pub record IsListPart (l : PrefixList) (b : Block) (n : ℕ) (es : List Entry) (label : Option LabelId) : Type 0 where
-  pub version : b.version ≡ l.version
-  pub within : AreWithin l.entries b n es
-  pub above : IsHandedDown l n b.value label
+pub record IsListPart (l : PrefixList) (n q k : ℕ) (es : List Entry) (label : Option LabelId) : Type 0 where
+  pub within : AreWithin l n q k es
+  pub above : IsHandedDown l k (first_of (width_of l.version) n q) label
 
 -- the part has what the map and the list have in its block
 pub record IsPart (s : Sources) (p : Part) : Type 0 where
-  pub from : HoldsAddress s.stretches p.block.value p.from
-  pub to : HoldsAddress s.stretches (last_in p.block) p.to
-  pub list : IsListPart s.list.now p.block p.block.len p.entries.now p.above
+  pub window : IsWindow s.stretches p.window
+  pub list : IsListPart s.list.now p.window.len (number_at s.stretches p.window) p.window.len p.entries.now p.above
 
 -- the map settles with the label each block whose addresses are all at least `first` and below `stop`
 abbrev pub IsSettledBetween : MapModel → ℕ → ℕ → Label → Type 0
@@ -141,27 +134,27 @@ tree_at s line = tree_of s.certificate.now.labels (first_node line.node)
 -- The first fault of the node at a line with the number k, for the part's block.
 abbrev pub line_fault : Sources → NodeLine → Part → ℕ → Option CheckFault
 line_fault s line p k =
-    node_fault (map_of s.map.now) (list_of s.list.now).prefixes (tree_at s line) k p.block.len (number_of p.block)
+    node_fault (map_of s.map.now) (list_of s.list.now).prefixes (tree_at s line) k p.window.len (number_at s.stretches p.window)
 
 -- The first fault along the bits of a chain with the number k, from the part's block to the node at the line `end`.
 abbrev pub path_fault : Sources → NodeLine → ℕ → List Bool → Part → ℕ → Option CheckFault
 path_fault s end side bits p k =
     bits_fault (map_of s.map.now) (list_of s.list.now).prefixes (text_at s.certificate.now.labels side) k
-    (node_fault (map_of s.map.now) (list_of s.list.now).prefixes (tree_at s end) (k + 1)) bits p.block.len (number_of p.block)
+    (node_fault (map_of s.map.now) (list_of s.list.now).prefixes (tree_at s end) (k + 1)) bits p.window.len (number_at s.stretches p.window)
 
 -- The line has a node that fits the part's block.
 pub record IsAtNode (s : Sources) (line : NodeLine) (p : Part) : Type 0 where
   pub sources : AreSources s
   pub part : IsPart s p
   pub here : 0 < length line.node
-  pub form : HasChainForm (length s.certificate.now.labels) (first_node line.node) (width_of p.block.version - p.block.len)
+  pub form : HasChainForm (length s.certificate.now.labels) (first_node line.node) (width_of s.stretches.version - p.window.len)
 
 -- The line has the node at the end of a chain with this number, side label and bits from the part's block on.
 pub record IsAtEnd (s : Sources) (end : NodeLine) (number side : ℕ) (bits : List Bool) (p : Part) : Type 0 where
   pub sources : AreSources s
   pub part : IsPart s p
   pub here : 0 < length end.node
-  pub form : HasRoomBelow (HasChainForm (length s.certificate.now.labels) (first_node end.node)) bits (width_of p.block.version - p.block.len)
+  pub form : HasRoomBelow (HasChainForm (length s.certificate.now.labels) (first_node end.node)) bits (width_of s.stretches.version - p.window.len)
   pub known : side < length s.certificate.now.labels
   pub next : (k : ℕ) → told k ≡ number → told (k + 1) ≡ end.number
 

@@ -17,8 +17,7 @@ use crate::laws::no_fault_is_acceptance;
 use crate::part::Part;
 use crate::sources::Sources;
 use pmap_cert::{Certificate, Cursor, Path, acceptance_is_enough};
-use pmap_text::{Entry, LabelId, MapText, PrefixList, Stretches, in_order};
-use prefix_keys::whole_space;
+use pmap_text::{Entry, LabelId, MapText, PrefixList, Stretches, Window, in_order};
 use std::alloc::Global;
 
 /// A position among the certificate's node lines, or their end, with its number, from 1.
@@ -167,9 +166,7 @@ fn check_nodes_by(sources: &Sources, entries: &[Entry]) -> Result<(), CheckFault
         number: 1,
     };
     let space = Part {
-        block: whole_space(sources.map.version),
-        from: 0,
-        to: sources.stretches.len() - 1,
+        window: Window::whole(&sources.stretches),
         entries,
         above: None,
     };

@@ -1,32 +1,29 @@
 //! The part of the map and the list that affects a block.
-ghost use Rattle.std.specs.Prelude.{◌≡◌, ℕ, suc, ◌+◌, ◌-◌, ◌<◌, ◌≤◌, Option, Contains, IfSome, IsTrue, length};
-ghost use Rattle.prefix_keys.specs.Block.{width_of};
+ghost use Rattle.std.specs.Prelude.{◌≡◌, ℕ, suc, ◌+◌, ◌<◌, ◌≤◌, ◌∷◌, [], Option, Contains, IfSome, IsTrue, length};
+ghost use Rattle.prefix_keys.specs.Block.{first_of, width_of};
 ghost use Rattle.pmap_text.specs.MapModel.{settled_label};
 ghost use Rattle.pmap_text.specs.MapText.{map_of, text_at};
-ghost use Rattle.pmap_text.specs.PrefixList.{list_of, number_of_block as number_of};
+ghost use Rattle.pmap_text.specs.PrefixList.{list_of, number_of_block};
+ghost use Rattle.pmap_text.specs.Stretches.{HoldsAddress};
+ghost use Rattle.pmap_text.specs.Windows.{AreHalvesOf, number_at};
 ghost use Rattle.pmap_text.specs.declared.entry.Entry.{Entry};
 ghost use Rattle.pmap_text.specs.declared.prefix_list.PrefixList.{PrefixList};
 ghost use Rattle.pmap_cert.specs.CertificateModel.{chosen_half, side_half};
 ghost use Rattle.pmap_cert.specs.Packed.{bits_in};
-ghost use Rattle.pmap_cert.specs.Paths.{LeadsTo};
-ghost use Rattle.pmap_text.specs.Stretches.{HoldsAddress};
-ghost use Rattle.cert_check.specs.Inner.{AreHalves, IsHalf, AreSources, AreAscending, IsListPart, IsPart, IsSettledBetween, LiesIn, last_in};
+ghost use Rattle.cert_check.specs.Inner.{IsHalf, AreSources, AreAscending, IsListPart, IsPart, IsSettledBetween, LiesIn};
 ghost use Rattle.cert_check.specs.Checking.{bits_fault, is_decided as is_decided_of, is_label_of, leaf_fault as leaf_fault_of, CheckFault};
 
 use crate::fault::CheckFaultKind;
 use crate::sources::Sources;
 use pmap_cert::Path;
-use pmap_text::{Entry, LabelId, by_rank};
+use pmap_text::{Entry, LabelId, Window, by_rank};
 use prefix_keys::Block;
 
-/// A block with what affects it: the indices of the map's stretches with its first and its last address, the list's
-/// entries for the block itself and for blocks inside it, in order, and the label of the longest entry with fewer bits
-/// that covers it.
+/// A block with what affects it: the stretches of the map at its ends, the list's entries for the block itself and for
+/// blocks inside it, in order, and the label of the longest entry with fewer bits that covers it.
 #[derive(Drop)]
 pub struct Part<'a> {
-    pub block: Block,
-    pub from: usize,
-    pub to: usize,
+    pub window: Window,
     pub entries: &'a [Entry],
     pub above: Option<LabelId>,
 }
@@ -35,7 +32,8 @@ pub struct Part<'a> {
 fn lie_in(entries: &[Entry], block: &Block) -> bool
     requires versions { (e : Entry) → Contains entries.now e → e.block.version ≡ block.now.version }
     requires ascending { AreAscending entries.now }
-    ensures { IsTrue result → (e : Entry) → Contains entries.now e → LiesIn block.now block.now.len e }
+    ensures { IsTrue result → (e : Entry) → Contains entries.now e →
+        LiesIn (width_of block.now.version) block.now.len (number_of_block block.now) block.now.len e }
 {
     let (Some(first), Some(last)) = (entries.first(), entries.last()) else {
         return true;
@@ -49,15 +47,16 @@ fn lie_in(entries: &[Entry], block: &Block) -> bool
 impl<'a> Part<'a> {
     // Returns the entries for blocks strictly inside the block, and the label of the longest that covers the block.
     fn inside(&self) -> (&'a [Entry], Option<LabelId>)
-        ensures { (l : PrefixList) →
-            IsListPart l self.now.block self.now.block.len self.now.entries.now self.now.above →
-            IsListPart l self.now.block (suc self.now.block.len) result.0.now result.1 }
+        ensures { (l : PrefixList) (q : ℕ) → self.now.window.len ≤ width_of l.version →
+            self.now.window.first ≡ first_of (width_of l.version) self.now.window.len q →
+            IsListPart l self.now.window.len q self.now.window.len self.now.entries.now self.now.above →
+            IsListPart l self.now.window.len q (suc self.now.window.len) result.0.now result.1 }
     {
         let entries = self.entries;
         let Some(first) = entries.first() else {
             return (entries, self.above);
         };
-        if first.block.value != self.block.value || first.block.len != self.block.len {
+        if first.block.value != self.window.first || first.block.len != self.window.len {
             return (entries, self.above);
         }
         (&entries[1..], Some(first.label))
@@ -68,10 +67,10 @@ impl<'a> Part<'a> {
         requires sources { AreSources sources.now }
         requires part { IsPart sources.now self.now }
         requires known { id.0 < length sources.now.certificate.now.labels }
-        ensures { result ≡ is_label_of (settled_label (map_of sources.now.map.now) self.now.block.len
-            (number_of self.now.block)) (text_at sources.now.certificate.now.labels id.0) }
+        ensures { result ≡ is_label_of (settled_label (map_of sources.now.map.now) self.now.window.len
+            (number_at sources.now.stretches self.now.window)) (text_at sources.now.certificate.now.labels id.0) }
     {
-        self.from == self.to && sources.is_of_map(self.from, id)
+        self.window.from == self.window.to && sources.is_of_map(self.window.from, id)
     }
 
     fn is_decided(&self, sources: &Sources, id: LabelId) -> bool
@@ -79,8 +78,8 @@ impl<'a> Part<'a> {
         requires part { IsPart sources.now self.now }
         requires known { id.0 < length sources.now.certificate.now.labels }
         ensures { result ≡ is_decided_of (width_of sources.now.map.now.version)
-            (list_of sources.now.list.now).prefixes self.now.block.len (number_of self.now.block)
-            (text_at sources.now.certificate.now.labels id.0) }
+            (list_of sources.now.list.now).prefixes self.now.window.len
+            (number_at sources.now.stretches self.now.window) (text_at sources.now.certificate.now.labels id.0) }
     {
         let (inside, covering) = self.inside();
         inside.is_empty() && sources.is_of_list(covering, id)
@@ -92,7 +91,8 @@ impl<'a> Part<'a> {
         requires part { IsPart sources.now self.now }
         requires known { id.0 < length sources.now.certificate.now.labels }
         ensures { result ≡ leaf_fault_of (map_of sources.now.map.now) (list_of sources.now.list.now).prefixes
-            self.now.block.len (number_of self.now.block) (text_at sources.now.certificate.now.labels id.0) }
+            self.now.window.len (number_at sources.now.stretches self.now.window)
+            (text_at sources.now.certificate.now.labels id.0) }
     {
         if !self.is_settled(sources, id) {
             return Some(CheckFaultKind::LeafNotUniform);
@@ -107,28 +107,21 @@ impl<'a> Part<'a> {
     pub fn halves(&self, sources: &Sources) -> (Part<'a>, Part<'a>)
         requires sources { AreSources sources.now }
         requires part { IsPart sources.now self.now }
-        requires room { self.now.block.len < width_of self.now.block.version }
-        ensures halves { AreHalves self.now.block result.0.block result.1.block }
+        requires room { self.now.window.len < width_of sources.now.stretches.version }
+        ensures halves { AreHalvesOf sources.now.stretches self.now.window result.0.window result.1.window }
         ensures lower { IsPart sources.now result.0 }
         ensures upper { IsPart sources.now result.1 }
     {
-        let Some((low, high)) = self.block.halves() else {
-            unreachable!()
-        };
-        let (to, from) = self.cut(sources, high.value);
+        let (low, high) = self.window.halves(&sources.stretches);
         let (inside, above) = self.inside();
-        let begun = inside.partition_point(|entry| entry.block.value < high.value);
+        let begun = inside.partition_point(|entry| entry.block.value < high.first);
         let lower = Part {
-            block: low,
-            from: self.from,
-            to,
+            window: low,
             entries: &inside[..begun],
             above,
         };
         let upper = Part {
-            block: high,
-            from,
-            to: self.to,
+            window: high,
             entries: &inside[begun..],
             above,
         };
@@ -139,9 +132,11 @@ impl<'a> Part<'a> {
     pub fn step(&self, sources: &Sources, bit: bool) -> (Part<'a>, Part<'a>)
         requires sources { AreSources sources.now }
         requires part { IsPart sources.now self.now }
-        requires room { self.now.block.len < width_of self.now.block.version }
-        ensures chosen_half { IsHalf self.now.block result.0.block (chosen_half bit (number_of self.now.block)) }
-        ensures side_half { IsHalf self.now.block result.1.block (side_half bit (number_of self.now.block)) }
+        requires room { self.now.window.len < width_of sources.now.stretches.version }
+        ensures chosen_half { let s = sources.now.stretches in
+            IsHalf s self.now.window result.0.window (chosen_half bit (number_at s self.now.window)) }
+        ensures side_half { let s = sources.now.stretches in
+            IsHalf s self.now.window result.1.window (side_half bit (number_at s self.now.window)) }
         ensures chosen { IsPart sources.now result.0 }
         ensures beside { IsPart sources.now result.1 }
     {
@@ -149,66 +144,34 @@ impl<'a> Part<'a> {
         if bit { (high, low) } else { (low, high) }
     }
 
-    // Returns the indices of the stretches with the address before this one and with this one.
-    fn cut(&self, sources: &Sources, address: u128) -> (usize, usize)
+    // Whether the map settles with the label each block of the part before `first`.
+    fn is_clear_before(&self, sources: &Sources, first: u128, side: LabelId) -> bool
         requires sources { AreSources sources.now }
         requires part { IsPart sources.now self.now }
-        requires after { self.now.block.value < address }
-        requires within { address ≤ last_in self.now.block }
-        ensures before { HoldsAddress sources.now.stretches (address - 1) result.0 }
-        ensures at { HoldsAddress sources.now.stretches address result.1 }
+        requires known { side.0 < length sources.now.certificate.now.labels }
+        ensures { IsTrue result → IsSettledBetween (map_of sources.now.map.now) self.now.window.first first
+            (text_at sources.now.certificate.now.labels side.0) }
     {
-        let at = sources.stretches.find(self.from, self.to, address);
-        if sources.stretches.first(at) == address {
-            (at - 1, at)
-        } else {
-            (at, at)
+        let from = self.window.from;
+        if first <= self.window.first {
+            return true;
         }
+        first - 1 <= sources.stretches.last(from) && sources.is_of_map(from, side)
     }
 
-    // Returns the index of the stretch with the address if the map settles each earlier block of the part with the
-    // label.
-    fn clear_before(&self, sources: &Sources, address: u128, side: LabelId) -> Option<usize>
+    // Whether the map settles with the label each block of the part after `last`.
+    fn is_clear_after(&self, sources: &Sources, last: u128, side: LabelId) -> bool
         requires sources { AreSources sources.now }
         requires part { IsPart sources.now self.now }
-        requires from { self.now.block.value ≤ address }
-        requires within { address ≤ last_in self.now.block }
         requires known { side.0 < length sources.now.certificate.now.labels }
-        ensures at { IfSome result (HoldsAddress sources.now.stretches address) }
-        ensures clear { IfSome result (λ _. IsSettledBetween (map_of sources.now.map.now) self.now.block.value address
-            (text_at sources.now.certificate.now.labels side.0)) }
+        ensures { IsTrue result → IsSettledBetween (map_of sources.now.map.now) (last + 1) (self.now.window.last + 1)
+            (text_at sources.now.certificate.now.labels side.0) }
     {
-        if address == self.block.value {
-            return Some(self.from);
+        let to = self.window.to;
+        if last >= self.window.last {
+            return true;
         }
-        let (before, at) = self.cut(sources, address);
-        if before == self.from && sources.is_of_map(before, side) {
-            Some(at)
-        } else {
-            None
-        }
-    }
-
-    // Returns the index of the stretch with the address if the map settles each later block of the part with the label.
-    fn clear_after(&self, sources: &Sources, address: u128, side: LabelId) -> Option<usize>
-        requires sources { AreSources sources.now }
-        requires part { IsPart sources.now self.now }
-        requires from { self.now.block.value ≤ address }
-        requires within { address ≤ last_in self.now.block }
-        requires known { side.0 < length sources.now.certificate.now.labels }
-        ensures at { IfSome result (HoldsAddress sources.now.stretches address) }
-        ensures clear { IfSome result (λ _. IsSettledBetween (map_of sources.now.map.now) (address + 1)
-            (last_in self.now.block + 1) (text_at sources.now.certificate.now.labels side.0)) }
-    {
-        if address == self.block.high().value {
-            return Some(self.to);
-        }
-        let (at, after) = self.cut(sources, address + 1);
-        if after == self.to && sources.is_of_map(after, side) {
-            Some(at)
-        } else {
-            None
-        }
+        sources.stretches.first(to) <= last + 1 && sources.is_of_map(to, side)
     }
 
     /// Returns the part of the block that the bits lead to if one look shows that the blocks beside the path have no
@@ -217,28 +180,52 @@ impl<'a> Part<'a> {
         requires sources { AreSources sources.now }
         requires part { IsPart sources.now self.now }
         requires some { 0 < length (bits_in path.now) }
-        requires room { self.now.block.len + path.now.count ≤ width_of self.now.block.version }
+        requires room { self.now.window.len + path.now.count ≤ width_of sources.now.stretches.version }
         requires known { side.0 < length sources.now.certificate.now.labels }
         ensures part { IfSome result (IsPart sources.now) }
-        ensures path { IfSome result (λ end. LeadsTo self.now.block end.block (bits_in path.now)) }
+        ensures len { IfSome result (λ end. end.window.len ≡ self.now.window.len + length (bits_in path.now)) }
         ensures clear { IfSome result (λ end. (k : ℕ) (below : ℕ → ℕ → Option CheckFault) →
             bits_fault (map_of sources.now.map.now) (list_of sources.now.list.now).prefixes
-            (text_at sources.now.certificate.now.labels side.0) k below (bits_in path.now) self.now.block.len
-            (number_of self.now.block) ≡ below end.block.len (number_of end.block)) }
+            (text_at sources.now.certificate.now.labels side.0) k below (bits_in path.now) self.now.window.len
+            (number_at sources.now.stretches self.now.window)
+            ≡ below end.window.len (number_at sources.now.stretches end.window)) }
     {
-        let end = path.end(&self.block);
-        let (inside, above) = self.inside();
-        if !lie_in(inside, &end) || !sources.is_of_list(above, side) {
+        let end = path.end(&self.block(sources));
+        let (first, last) = (end.value, end.high().value);
+        let (entries, above) = self.inside();
+        if !lie_in(entries, &end)
+            || !sources.is_of_list(above, side)
+            || !self.is_clear_before(sources, first, side)
+            || !self.is_clear_after(sources, last, side)
+        {
             return None;
         }
-        let from = self.clear_before(sources, end.value, side)?;
-        let to = self.clear_after(sources, end.high().value, side)?;
+        let window = Window {
+            first,
+            last,
+            len: end.len,
+            from: self.window.index_of(&sources.stretches, first),
+            to: self.window.index_of(&sources.stretches, last),
+        };
         Some(Part {
-            block: end,
-            from,
-            to,
-            entries: inside,
+            window,
+            entries,
             above,
         })
+    }
+
+    // Returns the block.
+    fn block(&self, sources: &Sources) -> Block
+        requires sources { AreSources sources.now }
+        requires part { IsPart sources.now self.now }
+        ensures version { result.version ≡ sources.now.stretches.version }
+        ensures value { result.value ≡ self.now.window.first }
+        ensures len { result.len ≡ self.now.window.len }
+    {
+        Block {
+            version: sources.stretches.version(),
+            value: self.window.first,
+            len: self.window.len,
+        }
     }
 }

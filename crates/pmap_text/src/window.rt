@@ -49,9 +49,9 @@ impl Window {
         }
     }
 
-    // Returns the index of the stretch with this address of the block. It is most often the first or the last one.
+    /// Returns the index of the stretch with this address of the block. It is most often the first or the last one.
     #[inline(always)]
-    fn index_of(&self, stretches: &Stretches, address: u128) -> usize
+    pub fn index_of(&self, stretches: &Stretches, address: u128) -> usize
         requires window { IsWindow stretches.now self.now }
         requires from { self.now.first ≤ address }
         requires to { address ≤ self.now.last }

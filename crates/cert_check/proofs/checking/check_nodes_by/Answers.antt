@@ -10,8 +10,8 @@ use Rattle.cert_check.proofs.checking.check_nodes_by.Goals as goal
 pub check_node-requires : goal.check_node-requires
 check_node-requires c =
     record {
-      node = root-at c.args.sources.now c.requires.sources c.whole_space.result c.whole_space.ensures.version c.whole_space.ensures.value c.whole_space.ensures.len
-          c.root.result c.root.ensures.value c.root.ensures.numbers c.len.result c.len.ensures.value c.args.entries c.requires.entries;
+      node = root-at c.args.sources.now c.requires.sources c.whole.result c.whole.ensures.window c.whole.ensures.first c.whole.ensures.len
+          c.root.result c.root.ensures.value c.root.ensures.numbers c.args.entries c.requires.entries;
     }
 
 pub returns-in_err-check_node : goal.returns-in_err-check_node
@@ -22,7 +22,7 @@ returns-in_err-check_node c =
     let labels = s.certificate.now.labels in
     let found = c.in_err-check_node.field-0.0 in
     let is =
-    whole-fault m ps labels c.whole_space.result c.whole_space.ensures.value c.whole_space.ensures.len (first_node c.root.result) s.certificate.now.root 1
+    whole-fault m ps labels s.stretches c.whole.result c.whole.ensures.first c.whole.ensures.len (first_node c.root.result) s.certificate.now.root 1
     (ap first_node c.root.ensures.value) ∙ c.in_err-check_node.ensures 1 refl in
     let e = err_from_is_err_and c.from_residual.result c.from_residual.ensures.1 in
     rw (e.1, e.2)

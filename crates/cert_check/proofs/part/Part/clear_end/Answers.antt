@@ -1,65 +1,66 @@
-use Rattle.std.proofs.Common.{◌∙◌, ◌+◌, ℕ, arith, subst, sym}
-use Rattle.pmap_text.specs.MapText.{map_of, text_at}
-use Rattle.cert_check.specs.Inner.{IsSettledBetween, last_in}
+use Rattle.std.proofs.Common.{◌≡◌, ◌∙◌, ◌≤◌, arith, sym}
+use Rattle.pmap_text.specs.MapText.{text_at}
+use Rattle.pmap_text.specs.Windows.{number_at}
 use Rattle.pmap_cert.specs.Packed.{bits_in}
-use Rattle.pmap_text.specs.Stretches.{HoldsAddress}
-use Rattle.cert_check.proofs.HalfBlocks.{block-last}
-use Rattle.cert_check.proofs.Handed.{entry-version}
-use Rattle.cert_check.proofs.Sides.{clear-path, end-part, path-within}
+use Rattle.cert_check.proofs.PartEnds.{end-clear, end-is-part, part-end}
+use Rattle.cert_check.proofs.Settled.{part-first, part-short}
+use Rattle.cert_check.proofs.Within.{entry-version}
 use Rattle.cert_check.proofs.part.Part.clear_end.Goals as goal
 
-pub lie_in-requires-clause-versions : goal.lie_in-requires-clause-versions
-lie_in-requires-clause-versions c = λ e has.
-    let l = c.args.sources.now.list.now in
-    let inside = c.inside-above.ensures l c.requires.part.list in
-    entry-version l c.args.self.now.block inside.version e (inside.within.inside e has).0 ∙ sym c.end-end.ensures.version
-
-pub clear_before-requires-clause-from : goal.clear_before-requires-clause-from
-clear_before-requires-clause-from c = (path-within c.args.self.now.block c.end-end.result (bits_in c.args.path.now) c.end-end.ensures c.requires.some).first
-
-pub clear_before-requires-clause-within : goal.clear_before-requires-clause-within
-clear_before-requires-clause-within c =
-    let within = path-within c.args.self.now.block c.end-end.result (bits_in c.args.path.now) c.end-end.ensures c.requires.some in
-    let some = block-last c.end-end.result in
-    omega (arith, within.last, some)
-
-pub clear_after-requires-clause-from : goal.clear_after-requires-clause-from
-clear_after-requires-clause-from c =
-    let within = path-within c.args.self.now.block c.end-end.result (bits_in c.args.path.now) c.end-end.ensures c.requires.some in
-    let some = block-last c.end-end.result in
-    let last = c.high.ensures.last in
-    omega (arith, within.first, some, last)
-
-pub clear_after-requires-clause-within : goal.clear_after-requires-clause-within
-clear_after-requires-clause-within c =
-    let within = path-within c.args.self.now.block c.end-end.result (bits_in c.args.path.now) c.end-end.ensures c.requires.some in
-    let last = c.high.ensures.last in
-    omega (arith, within.last, last)
-
-pub returns-clause-part : goal.returns-clause-part
-returns-clause-part c =
+pub lie_in-requires : goal.lie_in-requires
+lie_in-requires c =
     let s = c.args.sources.now in
-    let b = c.args.self.now.block in
-    let end = c.end-end.result in
-    let inside = c.inside-above.ensures s.list.now c.requires.part.list in
-    let within = path-within b end (bits_in c.args.path.now) c.end-end.ensures c.requires.some in
-    let all = c.lie_in.ensures c.if-not-lie_in.false in
+    let p = c.args.self.now in
+    let is = c.requires.part in
+    let are = c.requires.sources in
+    let end = part-end s are p is c.block.result c.end-end.result c.block.ensures.version c.block.ensures.value c.block.ensures.len (bits_in c.args.path.now) c.end-end.ensures c.requires.some in
+    let inside = c.inside-above.ensures s.list.now (number_at s.stretches p.window) (part-short s are p is) (part-first s are p is) is.list in
     record {
-      from = c.in_ok-from.ensures.at;
-      to = subst (λ (a : ℕ). HoldsAddress s.stretches a c.in_ok-to.to) c.high.ensures.last c.in_ok-to.ensures.at;
-      list = end-part s.list.now b inside.version end within c.inside-above.result.0.now c.inside-above.result.1 inside all;
+      versions = λ e has. entry-version s.list.now p.window.len (number_at s.stretches p.window) e (inside.within.inside e has).0 ∙ sym end.version;
+      ascending = inside.within.ascending;
     }
 
-pub returns-clause-clear : goal.returns-clause-clear
-returns-clause-clear c = λ k below.
+pub is_of_list-requires-clause-own : goal.is_of_list-requires-clause-own
+is_of_list-requires-clause-own c =
     let s = c.args.sources.now in
-    let m = map_of s.map.now in
-    let b = c.args.self.now.block in
-    let end = c.end-end.result in
-    let x = text_at s.certificate.now.labels c.args.side.0 in
-    let inside = c.inside-above.ensures s.list.now c.requires.part.list in
-    let within = path-within b end (bits_in c.args.path.now) c.end-end.ensures c.requires.some in
+    let p = c.args.self.now in
+    let is = c.requires.part in
+    let are = c.requires.sources in
+    (c.inside-above.ensures s.list.now (number_at s.stretches p.window) (part-short s are p is) (part-first s are p is) is.list).above.known
+
+pub index_of-requires : goal.index_of-requires
+index_of-requires c =
+    let s = c.args.sources.now in
+    let p = c.args.self.now in
+    let is = c.requires.part in
+    let are = c.requires.sources in
+    let end = part-end s are p is c.block.result c.end-end.result c.block.ensures.version c.block.ensures.value c.block.ensures.len (bits_in c.args.path.now) c.end-end.ensures c.requires.some in
+    record { window = is.window; from = end.from; to = omega (arith, end.order, end.to, c.high.ensures.last) }
+
+pub index_of-requires-2 : goal.index_of-requires-2
+index_of-requires-2 c =
+    let s = c.args.sources.now in
+    let p = c.args.self.now in
+    let is = c.requires.part in
+    let are = c.requires.sources in
+    let end = part-end s are p is c.block.result c.end-end.result c.block.ensures.version c.block.ensures.value c.block.ensures.len (bits_in c.args.path.now) c.end-end.ensures c.requires.some in
+    record { window = is.window; from = omega (arith, end.from, end.order, c.high.ensures.last); to = omega (arith, end.to, c.high.ensures.last) }
+
+pub returns : goal.returns
+returns c =
+    let s = c.args.sources.now in
+    let p = c.args.self.now in
+    let is = c.requires.part in
+    let are = c.requires.sources in
+    let end = part-end s are p is c.block.result c.end-end.result c.block.ensures.version c.block.ensures.value c.block.ensures.len (bits_in c.args.path.now) c.end-end.ensures c.requires.some in
+    let inside = c.inside-above.ensures s.list.now (number_at s.stretches p.window) (part-short s are p is) (part-first s are p is) is.list in
     let all = c.lie_in.ensures c.if-not-lie_in.false in
-    clear-path s.list.now b inside.version end within c.inside-above.result.0.now c.inside-above.result.1 inside all (bits_in c.args.path.now) c.end-end.ensures m x
-    (sym (inside.version ∙ c.requires.sources.list_version)) (sym c.is_of_list.ensures ∙ c.if-not-is_of_list.false) c.in_ok-from.ensures.clear
-    (subst (λ (a : ℕ). IsSettledBetween m (a + 1) (last_in b + 1) x) c.high.ensures.last c.in_ok-to.ensures.clear) k below
+    let x = text_at s.certificate.now.labels c.args.side.0 in
+    record {
+      part = end-is-part s are p is c.end-end.result (bits_in c.args.path.now) end c.high.result.value c.high.ensures.last c.inside-above.result.0 c.inside-above.result.1 inside all
+          c.index_of.result c.index_of-2.result c.index_of.ensures.holds c.index_of-2.ensures.holds;
+      len = end.is.len;
+      clear = end-clear s are p is c.end-end.result (bits_in c.args.path.now) end c.high.result.value c.high.ensures.last c.inside-above.result.0 c.inside-above.result.1 inside all
+          c.index_of.result c.index_of-2.result c.index_of.ensures.holds c.index_of-2.ensures.holds x (sym c.is_of_list.ensures ∙ c.if-not-is_of_list.false)
+          (c.is_clear_before.ensures c.if-not-is_clear_before.false) (c.is_clear_after.ensures c.if-not-is_clear_after.false);
+    }

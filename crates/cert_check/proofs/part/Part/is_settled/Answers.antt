@@ -14,6 +14,6 @@ returns-then-self c =
 pub returns-else-self : goal.returns-else-self
 returns-else-self c =
     let x = text_at c.args.sources.now.certificate.now.labels c.args.id.0 in
-    let p = c.args.self.now in
-    false_from_ne_true _ (λ t. absurd (c.if-self.false (eqb-true p.from p.to t)))
-    ∙ sym (ap (λ (o : _). is_label_of o x) (settled-more c.args.sources.now c.requires.sources p c.requires.part c.if-self.false))
+    let w = c.args.self.now.window in
+    false_from_ne_true _ (λ t. absurd (c.if-self.false (eqb-true w.from w.to t)))
+    ∙ sym (ap (λ (o : _). is_label_of o x) (settled-more c.args.sources.now c.requires.sources c.args.self.now c.requires.part c.if-self.false))
