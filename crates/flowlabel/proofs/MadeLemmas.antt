@@ -6,6 +6,7 @@ use Rattle.std.specs.Result.{IsErrAnd}
 use Rattle.std.specs.Global.{Vec}
 use Rattle.std.specs.Io.KnownBytes.{Consumes}
 use Rattle.ipfix_read.specs.Message.{MessageView}
+use Rattle.ipfix_read.specs.Messages.{file_reading}
 use Rattle.label_lookup.specs.Labelling.{Labelling, StretchModel, labelling_of_list, labelling_of_map, labelling_of_stretches}
 use Rattle.prefix_keys.specs.Text.{AddressOf}
 use Rattle.flowlabel.specs.BytesFault.{role_of}
@@ -102,13 +103,6 @@ labels_then text None labels flows outcome reads is = subst (λ (l : Option Labe
 labels_then text (Some (FromMap map)) labels flows outcome (m, reads, same) is = rw reads (subst (λ (l : Option Labelling). ReportsOf text l flows outcome) same is)
 labels_then text (Some (FromList list)) labels flows outcome (l, reads, same) is = rw reads (subst (λ (l : Option Labelling). ReportsOf text l flows outcome) same is)
 
--- its faults are those of the flows
-flows_only : (text : Option Labelling → List MessageView → List ℕ) (labels : Option Labelling) (flows : List ℕ) (fault : BytesFault)
-    → ReportsOf text labels flows (Err fault) → 3 ≤ turn (role_of fault)
-flows_only text labels flows (InFlows fault) is = omega arith
-flows_only text labels flows fault (inl (own, has, is)) = cc
-flows_only text labels flows fault (inr (messages, whole, is)) = cc
-
 -- a fault of a text, or of what comes after it, is of no earlier file
 pub then_first : {F A : Type 0} (in_file : F → BytesFault) (rest : A → Outcome → Type 0) (n : ℕ) (reading : Result A F) (fault : BytesFault)
     → ((own : F) → n ≤ turn (role_of (in_file own))) → ((value : A) → rest value (Err fault) → n ≤ turn (role_of fault))
@@ -130,6 +124,12 @@ runs_first text fault = list_first (λ l. PrintsRuns (labelling_of_list l)) text
 
 pub certificate_first : (text : List ℕ) (fault : BytesFault) → CertificateThen PrintsCompact text (Err fault) → 2 ≤ turn (role_of fault)
 certificate_first text fault = then_first InCertificate PrintsCompact 2 (format_reading text) fault (λ own. omega arith) (λ c is. cc)
+
+-- its faults are those of the flows
+flows_only : (text : Option Labelling → List MessageView → List ℕ) (labels : Option Labelling) (flows : List ℕ) (fault : BytesFault)
+    → ReportsOf text labels flows (Err fault) → 3 ≤ turn (role_of fault)
+flows_only text labels flows fault =
+    then_first InFlows (λ messages. Prints (text labels messages)) 3 (file_reading flows) fault (λ own. omega arith) (λ messages is. cc)
 
 flows_last : (text : Option Labelling → List MessageView → List ℕ) (source : Option LabelSource) (labels : Option Labelling) (flows : List ℕ) (fault : BytesFault)
     → ReadsLabels source labels → ReportsThen text source flows (Err fault) → 3 ≤ turn (role_of fault)
@@ -368,7 +368,7 @@ module _ {R : Type 0} {left : R → Option (List ℕ)} {failed : R → Bool} whe
       report_done is_of taken out (messages, is, bytes, all, whole) works says = record {
         texts = with_at role.Flows bytes texts;
         given = with_flows left old mid texts bytes given same all;
-        made = flows_made text source labels texts bytes (Ok out.items) reads (inr (messages, whole, ap Ok (says messages is)));
+        made = flows_made text source labels texts bytes (Ok out.items) reads (rw whole (ap Ok (says messages is)));
         unread = one_tells failed mid still role.Flows flows ∙ works;
       }
 
@@ -391,7 +391,7 @@ module _ {R : Type 0} {left : R → Option (List ℕ)} {failed : R → Bool} whe
       report_stopped is_of taken (Faulty (InFlows fault)) (bytes, all, has) works = record {
         texts = with_at role.Flows bytes texts;
         given = with_flows left old mid texts bytes given same all;
-        made = (flows_made text source labels texts bytes (Err (InFlows fault)) reads (inl (fault, has, refl)), λ later behind. absurd (none_behind later behind));
+        made = (flows_made text source labels texts bytes (Err (InFlows fault)) reads (rw has (refl {a = Err {A = List ℕ} (InFlows fault)})), λ later behind. absurd (none_behind later behind));
         unread = one_tells failed mid still role.Flows flows ∙ works;
       }
       report_stopped is_of taken (Faulty fault) is works = absurd is

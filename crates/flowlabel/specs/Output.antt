@@ -1,4 +1,4 @@
-use Rattle.std.specs.Prelude.{◌≡◌, ◌⊎◌, ℕ, List, [], ◌∷◌, ◌++◌, Bool, true, false, Option, Some, None, Result, Ok, Err, map, option_map, unwrap_or, codes, decimal, length}
+use Rattle.std.specs.Prelude.{◌≡◌, ℕ, List, [], ◌∷◌, ◌++◌, Bool, true, false, Option, Some, None, Result, Ok, Err, map, option_map, unwrap_or, codes, decimal, length}
 use Rattle.std.specs.Global.{Vec}
 use Rattle.prefix_keys.specs.Text.{AddressOf}
 use Rattle.pmap_text.specs.ListModel.{ListModel}
@@ -11,9 +11,8 @@ use Rattle.pmap_cert.specs.Compacting.{compact}
 use Rattle.pmap_cert.specs.FormatReading.{format_reading}
 use Rattle.cert_check.specs.Checking.{first_fault}
 use Rattle.cert_check.specs.declared.fault.CheckFault.{CheckFault}
-use Rattle.ipfix_read.specs.Messages.{HasFileFault, ReadsFile}
+use Rattle.ipfix_read.specs.Messages.{file_reading}
 use Rattle.ipfix_read.specs.Message.{MessageView}
-use Rattle.ipfix_read.specs.declared.fault.ReadFault.{ReadFault}
 use Rattle.flow_rows.specs.Counts.{counts_of}
 use Rattle.flow_rows.specs.Elements.{RowView}
 use Rattle.flow_filter.specs.Condition.{Condition, passing_rows}
@@ -58,9 +57,7 @@ abbrev pub CertificateThen : (CertificateModel → Outcome → Type 0) → List 
 CertificateThen rest text = Then InCertificate rest (format_reading text)
 
 abbrev pub FlowsThen : (List MessageView → Outcome → Type 0) → List ℕ → Outcome → Type 0
-FlowsThen rest bytes outcome =
-    ((fault : ReadFault) × HasFileFault [] 0 0 bytes fault × (outcome ≡ Err (InFlows fault)))
-    ⊎ ((messages : List MessageView) × ReadsFile [] 0 bytes messages × rest messages outcome)
+FlowsThen rest bytes = Then InFlows rest (file_reading bytes)
 
 -- the outcome over the text of a source of labels: its first fault, or the outcome for its labelling
 abbrev pub LabelsThen : (Labelling → Outcome → Type 0) → LabelSource → Outcome → Type 0
@@ -85,11 +82,10 @@ shrunk_text shrunk.List l c = list_text l
 shrunk_text shrunk.Certificate l c = certificate_text c
 shrunk_text shrunk.Compact l c = certificate_text (compact c)
 
--- the outcome is the text of the list of the map's minimal pair, or of its certificate, compacted or not; the certificate
--- is read again from its text
+-- the outcome is the text of the list of the map's minimal pair, or of its certificate, compacted or not
 abbrev pub PrintsMinimal : Shrunk → MapModel → Outcome → Type 0
 PrintsMinimal printed m outcome =
-    (l : ListModel) × (c : CertificateModel) × IsMinimalPair m l c × (format_reading (certificate_text c) ≡ Ok c) × Prints (shrunk_text printed l c) outcome
+    (l : ListModel) × (c : CertificateModel) × IsMinimalPair m l c × Prints (shrunk_text printed l c) outcome
 
 -- the labels of a row's source and destination
 abbrev pub row_labels : Labelling → RowView → LabelTexts

@@ -9,7 +9,7 @@ use Rattle.pmap_text.specs.MapModel.{MapModel}
 use Rattle.pmap_text.specs.Reading.{ReadsList, ReadsMap}
 use Rattle.label_lookup.specs.Labelling.{Labelling, StretchModel, label_where, labelling_of_list, labelling_of_map, labelling_of_stretches}
 use Rattle.ipfix_read.specs.Fault.{is_of_reader}
-use Rattle.ipfix_read.specs.Messages.{HasFileFault, ReadsFile, StopsReading}
+use Rattle.ipfix_read.specs.Messages.{StopsReading, file_reading}
 use Rattle.ipfix_read.specs.declared.fault.ReadFault.{ReadFault}
 use Rattle.ipfix_read.specs.Message.{MessageView}
 use Rattle.flow_filter.specs.Condition.{Condition, passing_rows}
@@ -54,11 +54,11 @@ IsFaultOfCall fault made = (is_of_reader fault.kind ≡ false) × IsFaultFor (In
 -- those now, if it reports them.
 abbrev pub TakesFile : {T : Type 0} → (List MessageView → T → Type 0) → Option (List ℕ) → Option (List ℕ) → T → Result (Unit {0}) OutputFault → Type 0
 TakesFile is_of given gives taken (Ok done) =
-    (messages : List MessageView) × is_of messages taken × (bytes : List ℕ) × IfSome given (λ all. bytes ≡ all) × ReadsFile [] 0 bytes messages
+    (messages : List MessageView) × is_of messages taken × (bytes : List ℕ) × IfSome given (λ all. bytes ≡ all) × (file_reading bytes ≡ Ok messages)
 TakesFile is_of given gives taken (Err NoMemory) = Unit {0}
 TakesFile is_of given gives taken (Err (Unread other)) =
-    (other ≡ roles.Flows) × (stop : ReadFault) × (read : List ℕ) × Consumes given gives read × StopsReading [] 0 0 read stop
-TakesFile is_of given gives taken (Err (Faulty (InFlows fault))) = (bytes : List ℕ) × IfSome given (λ all. bytes ≡ all) × HasFileFault [] 0 0 bytes fault
+    (other ≡ roles.Flows) × (stop : ReadFault) × (read : List ℕ) × Consumes given gives read × StopsReading read stop
+TakesFile is_of given gives taken (Err (Faulty (InFlows fault))) = (bytes : List ℕ) × IfSome given (λ all. bytes ≡ all) × (file_reading bytes ≡ Err fault)
 TakesFile is_of given gives taken (Err (Faulty fault)) = ⊥
 
 -- a file was read whole, or it stopped as its reader or an allocation failed

@@ -73,7 +73,7 @@ module _ {R : Type 0} where
   IsFaultOf left failed Is old new (Unread role) =
       (source_failed failed (at role new) ≡ true) × AreKeptBehind role old new
       × ((fault : BytesFault) → Is (Err fault) → turn role ≤ turn (role_of fault))
-      × (role ≡ roles.Flows → (given : List ℕ) × (stop : ReadFault) × StopsReading [] 0 0 given stop × Consumes (bytes_of left old.flows) (bytes_of left new.flows) given)
+      × (role ≡ roles.Flows → (given : List ℕ) × (stop : ReadFault) × StopsReading given stop × Consumes (bytes_of left old.flows) (bytes_of left new.flows) given)
   IsFaultOf left failed Is old new (Faulty fault) = Is (Err fault) × AreKeptBehind (role_of fault) old new
 
 -- What a run of a request does, if neither a reader nor the writer has failed before.

@@ -1,5 +1,5 @@
 -- Headers, whatever bytes follow them, and headers whose following bytes are known.
-use Rattle.std.proofs.Common.{◌≡◌, ℕ, ◌<◌, ◌≤◌, List, ◌++◌, length, Option, Some, None, inl, inr, refl, sym, ap, ◌∙◌, arith, ◌+◌, take, length-take, ◌-◌, Ok, Err, subst, length-append, [], unwrap_or}
+use Rattle.std.proofs.Common.{◌≡◌, false, ℕ, ◌<◌, ◌≤◌, List, ◌++◌, length, Option, Some, None, inl, inr, refl, sym, ap, ◌∙◌, arith, ◌+◌, take, length-take, ◌-◌, Ok, Err, subst, length-append, [], unwrap_or}
 use Rattle.std.proofs.lemmas.Grind.{common_steps}
 use Rattle.std.proofs.lemmas.Bool.Decides.{nat_tests}
 use Rattle.std.proofs.lemmas.Bool.{lt-ltb, le-ltb}
@@ -7,6 +7,7 @@ use Rattle.std.proofs.lemmas.List.{append-nil, take_at, take_all, length-take-le
 use Rattle.byteorder.specs.Endian.{big_number}
 use Rattle.ipfix_read.specs.Message.{ReadFaultKind, header_fault, own_fault, HasHeader}
 use Rattle.ipfix_read.specs.declared.fault.ReadFaultKind.TheVariants.{TruncatedHeader, TruncatedMessage, ReadFault as Unread}
+use Rattle.ipfix_read.specs.Fault.{is_of_calls}
 use Rattle.ipfix_read.specs.Set.{written_length}
 use Rattle.ipfix_read.proofs.Sets.{front_number, front_length}
 use lib.Seq.{take-append-add, take-append-le, take-append_seam}
@@ -121,16 +122,16 @@ module _ (o n : Option (List ℕ)) (count head : ℕ) (ys : List ℕ) (given : C
   pub short_header : 0 < head → head < 16 → head ≤ length ys → IsAtEnd n → ReadsInput o n (Gathers count (Err TruncatedHeader))
   short_header some short within end =
       let long = length-take-le head ys within in
-      (take head ys, given, inr (omega (arith, long, some), ap (λ (l : List ℕ). header_fault count l) (none_follow (take head ys) n end) ∙ header_short count (take head ys) (omega (arith, long, short))))
+      (take head ys, given, inr (refl, omega (arith, long, some), ap (λ (l : List ℕ). header_fault count l) (none_follow (take head ys) n end) ∙ header_short count (take head ys) (omega (arith, long, short))))
 
   module _ (xs : List ℕ) (sixteen : length ys ≡ 16) (whole : 16 ≤ head) where
     all_given : Consumes o n ys
     all_given = subst (λ (l : List ℕ). Consumes o n l) (take_all head ys (omega (arith, sixteen, whole))) given
 
-    pub faulty_header : (kind : ReadFaultKind) → own_fault count (head_of xs ys) ≡ Some kind → ReadsInput o n (Gathers count (Err kind))
-    faulty_header kind own =
+    pub faulty_header : (kind : ReadFaultKind) → is_of_calls kind ≡ false → own_fault count (head_of xs ys) ≡ Some kind → ReadsInput o n (Gathers count (Err kind))
+    faulty_header kind calls own =
         let left = unwrap_or n [] in
-        (ys, all_given, inr (omega (arith, sixteen), header_own count (ys ++ left) kind (omega (arith, sixteen, length-append ys left)) (same_fault count xs ys left sixteen ∙ own)))
+        (ys, all_given, inr (calls, omega (arith, sixteen), header_own count (ys ++ left) kind (omega (arith, sixteen, length-append ys left)) (same_fault count xs ys left sixteen ∙ own)))
 
     -- both reads
     module _ (size : ℕ) (m : Option (List ℕ)) (own : own_fault count (head_of xs ys) ≡ None) (written : size ≡ written_length (head_of xs ys)) where
@@ -148,7 +149,7 @@ module _ (o n : Option (List ℕ)) (count head : ℕ) (ys : List ℕ) (given : C
             let more = take got zs in (
               ys ++ more,
               Consumes-trans o n m ys more all_given then,
-              inr (omega (arith, sixteen, length-append ys more), ap (λ (l : List ℕ). header_fault count l) (none_follow (ys ++ more) m end) ∙ cut_off more (omega (arith, length-take-le got zs within, short))),
+              inr (refl, omega (arith, sixteen, length-append ys more), ap (λ (l : List ℕ). header_fault count l) (none_follow (ys ++ more) m end) ∙ cut_off more (omega (arith, length-take-le got zs within, short))),
             )
 
         pub gathered : size ≡ 16 + length zs → size ≤ 16 + got → ReadsInput o m (Gathers count (Ok (Some (take size (both_in size xs ys zs)))))

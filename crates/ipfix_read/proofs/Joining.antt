@@ -1,18 +1,17 @@
 -- The result of a call for a message, from what it gathered and read.
-use Rattle.std.proofs.Common.{◌≡◌, ◌∙◌, ℕ, false, ◌+◌, ◌-◌, ◌<◌, List, ◌++◌, ◌∷◌, length, drop, Option, None, Some, IfSome, Result, Ok, Err, ◌⊎◌, inl, inr, refl, sym, subst, ap, append_assoc, arith, length-append, [], unwrap_or}
+use Rattle.std.proofs.Common.{◌≡◌, ◌∙◌, ℕ, ◌+◌, ◌<◌, List, ◌++◌, length, Option, None, Some, IfSome, Result, Ok, Err, inl, inr, refl, sym, subst, ap, append_assoc, arith, length-append, [], unwrap_or}
 use Rattle.std.specs.Io.KnownBytes.{Consumes}
+use Rattle.std.specs.Result.{result_map_both}
 use Rattle.std.proofs.KnownBytes.{Consumes-nil, Consumes-trans}
-use Rattle.byteorder.specs.Endian.{big_number}
-use Rattle.ipfix_read.specs.Message.{ReadFault, ReadFaultKind, MessageView, IsMessage, HasHeader, events_of_message, HasMessageFault, header_fault}
-use Rattle.ipfix_read.specs.Messages.{Going, Ended, Failed, ProgressView, AnswersNext, Gathers, ReadsInput, at_start, ReadsMessage}
-use Rattle.ipfix_read.specs.declared.fault.ReadFaultKind.TheVariants.{ReadFault as Unread}
-use Rattle.ipfix_read.specs.Fault.{read_fault, is_of_calls}
-use Rattle.ipfix_read.specs.Set.{HasSetsFault, IsReadAfter, IsRefused}
+use Rattle.std.proofs.lemmas.List.{flat_map_more, length_push}
+use Rattle.ipfix_read.specs.Message.{ReadFault, ReadFaultKind, MessageView, HasHeader, events_of_message, message_next, whole_reading}
+use Rattle.ipfix_read.specs.Messages.{Going, Ended, Failed, ProgressView, AnswersNext, Gathers, IsIncomplete, ReadsInput, events_of_messages, file_reading}
+use Rattle.ipfix_read.specs.Set.{ReadsUnder}
+use Rattle.ipfix_templates.specs.declared.event.TemplateEvent.{TemplateEvent}
 use Rattle.ipfix_templates.specs.InForce.{in_force, Follows}
-use Rattle.ipfix_templates.specs.Reading.{Reads}
-use Rattle.ipfix_templates.proofs.Reading.{reads_more}
-use Rattle.ipfix_read.specs.Laws.{CallsBegin, CallsJoinFile, CallsStart}
-use Rattle.ipfix_read.proofs.Gathering.{header_whole}
+use Rattle.ipfix_templates.specs.Template.{TemplateView}
+use Rattle.ipfix_read.specs.Laws.{CallsJoinFile, CallsStart}
+use Rattle.ipfix_read.proofs.Readings.{front_read, message_cut, messages_end, messages_fault, messages_more, stops_after}
 
 -- The results, by the parts of the state between two calls, which are the view of the old state.
 module _ {view old : ProgressView} (same : view ≡ old) (o n : Option (List ℕ)) where
@@ -31,58 +30,47 @@ module _ {view old : ProgressView} (same : view ≡ old) (o n : Option (List ℕ
         refl,
         elim there [
           | inl unread ↦ let e = unread.0 in inr (inl (λ i. record { kind = e i; offset = view.offset }, unread.1))
-          | inr found ↦ inr (inr (found.0, λ history follows. inl (kind, found.1, refl)))
+          | inr found ↦ inr (inr (found.0, found.1, λ history follows. message_cut history view.count view.offset (taken ++ left) kind found.2))
         ],
       ))
 
-  module _ (front : List ℕ) (is : ReadsInput o n (Gathers view.count (Ok (Some front)))) (counted : view.count < 4294967295) where
+  module _ (front : List ℕ) (is : ReadsInput o n (Gathers view.count (Ok (Some front)))) (counted : view.count < 4294967295) (header : HasHeader front) where
+    -- the message that was gathered, whatever follows it
+    there_read : (taken rest : List ℕ) (history : List (ℕ × TemplateEvent)) → front ≡ taken
+        → message_next history view.count view.offset (taken ++ rest) ≡ result_map_both (λ m. (m, rest)) (λ fault. fault) (whole_reading history view.offset front)
+    there_read taken rest history there =
+        ap (λ (l : List ℕ). message_next history view.count view.offset (l ++ rest)) (sym there) ∙ front_read history view.count view.offset front rest counted header
+
     -- a fault of the sets, or a failed allocation
-    pub answers_fault_of_sets : (fault : ReadFault) → HasHeader front
-        → IsRefused view.table (λ history. HasSetsFault history (big_number 4 (drop 12 front)) (drop 16 front) (view.offset + 16)) fault
+    pub answers_fault_of_sets : (fault : ReadFault) (table : List ((ℕ × ℕ) × TemplateView)) → ReadsUnder view.table table events_of_message (λ history. whole_reading history view.offset front) (Err fault)
         → ReadsInput o n (AnswersNext old (Err fault) (record view { state = Failed }))
-    answers_fault_of_sets fault header refused =
+    answers_fault_of_sets fault table refused =
         by_taken (Ok (Some front)) (Err fault) (record view { state = Failed }) is (λ taken left there. (
           refl,
           elim refused.1 [
             | inl memory ↦ inl memory
-            | inr sets ↦
-                let none = header_whole view.count front left counted header.least header.version header.whole in
-                inr (inr (
-                  omega (arith, ap length there, header.least),
-                  λ history follows. inr (front, left, ap (λ (l : List ℕ). l ++ left) (sym there), ap (λ (l : List ℕ). header_fault view.count (l ++ left)) (sym there) ∙ none, header.least, header.whole, sets history follows),
-                ))
+            | inr found ↦ inr (inr (refused.0, omega (arith, ap length there, header.least), λ history follows. there_read taken left history there ∙ rw (found history follows) refl))
           ],
         ))
 
-    pub answers_message : (new : ProgressView) (m : MessageView) → IsReadAfter view.table new.table (events_of_message m) (λ history. IsMessage history front m)
+    pub answers_message : (new : ProgressView) (m : MessageView) → ReadsUnder view.table new.table events_of_message (λ history. whole_reading history view.offset front) (Ok m)
         → new.offset ≡ view.offset + length front → new.count ≡ view.count + 1 → new.state ≡ Going → ReadsInput o n (AnswersNext old (Ok (Some m)) new)
     answers_message new m read offset count state =
         by_taken (Ok (Some front)) (Ok (Some m)) new is (λ taken left there. (
-          counted,
-          subst (λ (l : List ℕ). IsReadAfter view.table new.table (events_of_message m) (λ history. IsMessage history l m)) there read,
+          (λ history follows. ((λ rest. there_read taken rest history there ∙ rw (read history follows).0 refl), (read history follows).1)),
           offset ∙ ap (λ (l : List ℕ). view.offset + length l) there,
           count,
           state,
         ))
 
--- whether the reader reports its bytes or not: it failed, or the fault is not one of calls
-pub fault_of_header : {view old : ProgressView} (same : view ≡ old) (kind : ReadFaultKind) → (kind ≡ Unread) ⊎ (is_of_calls kind ≡ false)
-    → (record { kind = kind; offset = view.offset } ≡ read_fault old.offset) ⊎ (is_of_calls kind ≡ false)
-fault_of_header same kind (inl unread) = inl (λ i. record { kind = unread i; offset = (same i).offset })
-fault_of_header same kind (inr none) = inr none
-
 -- ---- calls for messages join to the whole File
-
-pub calls_begin : CallsBegin
-calls_begin history given p follows =
-    record { taken = []; consumed = Consumes-nil given; later = history; read = λ rest. refl; follows = follows; placed = omega arith }
 
 nothing_follows : Follows [] []
 unfolding in_force
 nothing_follows domain id = refl
 
 pub calls_start : CallsStart
-calls_start given = calls_begin [] given at_start nothing_follows
+calls_start given = record { taken = []; consumed = Consumes-nil given; read = λ rest. refl; follows = nothing_follows; counted = refl; placed = refl }
 
 -- all bytes that the reader gives, if it reports them
 all_bytes : (given now gives : Option (List ℕ)) (bytes taken : List ℕ) → Consumes given now bytes → Consumes now gives taken → IfSome given (λ all. bytes ++ (taken ++ unwrap_or gives []) ≡ all)
@@ -92,37 +80,38 @@ all_bytes (Some all) (Some left) None bytes taken first second = absurd second
 all_bytes (Some all) (Some left) (Some rest) bytes taken first second = sym (first ∙ ap (λ (l : List ℕ). bytes ++ l) second)
 
 pub calls_join_file : CallsJoinFile
-calls_join_file history offset count given now gives messages old new (Ok (Some m)) so_far (taken, consumed, a) =
-    let is = a.1 so_far.later so_far.follows in
-    let later = so_far.later ++ events_of_message m in
+calls_join_file given now gives messages old new (Ok (Some m)) so_far (taken, consumed, a) =
+    let is = a.0 (events_of_messages messages) so_far.follows in
     record {
       taken = so_far.taken ++ taken;
       consumed = Consumes-trans _ _ _ _ _ so_far.consumed consumed;
-      later = later;
-      read = λ rest. subst (λ (l : List ℕ). Reads ReadsMessage (history, count, l) (messages ++ m ∷ []) (later, new.count, rest)) (sym (append_assoc so_far.taken taken rest))
-          (reads_more ReadsMessage (history, count, so_far.taken ++ (taken ++ rest)) messages (so_far.later, old.count, taken ++ rest) m (later, new.count, rest)
-          (so_far.read (taken ++ rest)) (taken, refl, a.0, is.0, refl, a.3));
-      follows = is.1;
-      placed = omega (arith, a.2, so_far.placed, length-append so_far.taken taken);
+      read = λ rest.
+          ap file_reading (append_assoc so_far.taken taken rest) ∙ so_far.read (taken ++ rest)
+          ∙ messages_more messages old.offset (taken ++ rest) m rest new.offset
+          (subst (λ (n : ℕ). message_next (events_of_messages messages) n old.offset (taken ++ rest) ≡ Ok (m, rest)) so_far.counted (is.0 rest))
+          (omega (arith, a.1, length-append taken rest));
+      follows = subst (Follows new.table) (flat_map_more events_of_message [] messages m) is.1;
+      counted = omega (arith, a.2, so_far.counted, length_push messages m);
+      placed = omega (arith, a.1, so_far.placed, length-append so_far.taken taken);
     }
-calls_join_file history offset count given now gives messages old new (Ok None) so_far (taken, consumed, a) =
+calls_join_file given now gives messages old new (Ok None) so_far (taken, consumed, a) =
     let left = taken ++ unwrap_or gives [] in
-    (so_far.taken ++ left, all_bytes _ _ _ _ _ so_far.consumed consumed, ((so_far.later, old.count, left), so_far.read left, a.0))
-calls_join_file history offset count given now gives messages old new (Err fault) so_far (taken, consumed, a) =
-    let placed = λ (l : List ℕ). let place : old.offset ≡ offset + (length (so_far.taken ++ l) - length l) = omega (arith, so_far.placed, length-append so_far.taken l) in place in
+    (so_far.taken ++ left, all_bytes _ _ _ _ _ so_far.consumed consumed, so_far.read left ∙ messages_end messages old.offset left a.0)
+calls_join_file given now gives messages old new (Err fault) so_far (taken, consumed, a) =
     elim a.1 [
       | inl memory ↦ inl memory
-      | inr (inl unread) ↦ inr (inl (
-        so_far.taken ++ taken,
-        Consumes-trans _ _ _ _ _ so_far.consumed consumed,
-        (messages, (so_far.later, old.count, taken), so_far.read taken, (unread.1, unread.0 ∙ ap read_fault (placed taken))),
-      ))
+      | inr (inl unread) ↦
+          let size = length (so_far.taken ++ taken) in
+          let incomplete = subst (λ (n : ℕ). IsIncomplete n taken) so_far.counted unread.1 in
+          let stops = stops_after messages old.offset size taken fault incomplete (omega (arith, so_far.placed, length-append so_far.taken taken)) unread.0 in
+          inr (inl (so_far.taken ++ taken, Consumes-trans _ _ _ _ _ so_far.consumed consumed, rw (so_far.read taken) stops))
       | inr (inr found) ↦
           let left = taken ++ unwrap_or gives [] in
-          let here = subst (λ (k : ℕ). HasMessageFault so_far.later old.count left k fault) (placed left) (found.1 so_far.later so_far.follows) in
+          let here = subst (λ (n : ℕ). message_next (events_of_messages messages) n old.offset left ≡ Err fault) so_far.counted (found.2 (events_of_messages messages) so_far.follows) in
           inr (inr (
+            found.0,
             so_far.taken ++ left,
             all_bytes _ _ _ _ _ so_far.consumed consumed,
-            (messages, (so_far.later, old.count, left), so_far.read left, (omega (arith, found.0, length-append taken (unwrap_or gives [])), here)),
+            so_far.read left ∙ messages_fault messages old.offset left fault (omega (arith, found.1, length-append taken (unwrap_or gives []))) here,
           ))
     ]

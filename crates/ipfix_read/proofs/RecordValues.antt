@@ -1,24 +1,28 @@
 -- The values at the start of bytes, and the bytes that they take.
-use Rattle.std.proofs.Common.{◌≡◌, ℕ, ◌+◌, ◌-◌, ◌<◌, ◌≤◌, Bool, true, false, not, cond, ltb, eqb, List, [], ◌∷◌, ◌++◌, length, take, drop, Option, Some, None, inl, inr, refl, sym, ap, subst, ◌∙◌, append_assoc, take-append-drop, length-append, length-drop, drop-drop, arith, zero, suc, ◌*◌, ◌/◌, All, map, is_some}
-use Rattle.std.specs.Prelude.{filter, option_and_then, option_map}
+use Rattle.std.proofs.Common.{◌≡◌, ℕ, ◌+◌, ◌-◌, ◌<◌, ◌≤◌, Bool, true, false, not, cond, ltb, eqb, List, [], ◌∷◌, ◌++◌, length, take, drop, Option, Some, None, Result, Ok, Err, inl, inr, refl, sym, ap, subst, ◌∙◌, append_assoc, take-append-drop, length-append, length-drop, drop-drop, arith, zero, suc, ◌*◌, ◌/◌, All, map}
+use Rattle.std.specs.Prelude.{filter, ok_or, option_and_then, option_map, ◌||◌}
 use Rattle.std.specs.Option.{option_map_or}
-use Rattle.std.proofs.lemmas.Bool.{ltb-true, ltb-false, lt-ltb, le-ltb, eqb-true}
+use Rattle.std.proofs.lemmas.Bool.{cases_lt, ltb-true, ltb-false, lt-ltb, le-ltb, eqb-true}
+use Rattle.std.proofs.lemmas.Bool.Decides.{nat_tests}
+use Rattle.std.proofs.lemmas.Grind.{common_steps}
 use Rattle.std.proofs.lemmas.List.{append-nil, take_at, drop_at, length-take-le, length-map}
 use Rattle.byteorder.specs.Endian.{big_number}
 use Rattle.ipfix_templates.specs.declared.field.Field.{Field}
 use Rattle.ipfix_templates.specs.Field.{has_bytes, is_variable, least_field_length, least_length}
 use Rattle.ipfix_templates.specs.Runs.{runs_behind, last_run_behind}
+use Rattle.ipfix_templates.specs.Reading.{items_from}
 use Rattle.ipfix_read.specs.Value.{FieldValueView, bytes_at, variable_at, value_at, values_at, whole_values}
 use Rattle.ipfix_templates.proofs.Choice.{chosen, gave, some_is, mapped}
+use Rattle.ipfix_templates.proofs.Reading.{at_end, at_fault, at_item}
 use Rattle.std.proofs.lemmas.List.Sums.{sum_by-cons}
 use Rattle.ipfix_templates.specs.Template.{TemplateView}
-use Rattle.ipfix_templates.specs.Reading.{Reads}
-use Rattle.ipfix_read.specs.Record.{Record, record_at, ReadsRecord, HasRecord}
-use Rattle.ipfix_templates.proofs.Reading.{reads_shorter}
+use Rattle.ipfix_read.specs.declared.fault.ReadFault.{ReadFault}
+use Rattle.ipfix_read.specs.Fault.{BadRecord}
+use Rattle.ipfix_read.specs.Record.{Record, data_set_reading, is_padding, record_at, record_next}
 use Rattle.std.proofs.Math.Nat.{add-mul, le-div_iff_mul-le, suc-mul}
 use Rattle.std.proofs.lemmas.List.Elements.{All-cons, All-nil}
 use Rattle.ipfix_templates.specs.declared.kind.Kind.{Kind}
-use Rattle.ipfix_read.specs.WholeRecords.{packed_records, whole_records}
+use Rattle.ipfix_read.specs.WholeRecords.{ArePacked, packed_records, whole_records}
 
 -- the value that was read is at the start, and is read in the same way whatever follows it
 abbrev pub Front : {A : Type 0} → (List ℕ → Option (A × List ℕ)) → List ℕ → A × List ℕ → Type 0
@@ -285,10 +289,77 @@ record_shorter t bytes x e =
     let a = mapped (values_at t.fields bytes) (λ v. (record { kind = t.kind; fields = v.0 }, v.1)) x e in
     omega (arith, values_shorter t.fields bytes a.0 a.1, ap (λ (y : Record × List ℕ). length y.1) a.2)
 
+-- ---- records, one after another
+
+-- there are as many bytes as the shortest record has, and a record isn't empty
+abbrev pub HasRoom : TemplateView → List ℕ → Type 0
+HasRoom t bytes = (0 < least_length t.fields) × (least_length t.fields ≤ length bytes)
+
+abbrev pub ReadsRecord : TemplateView → List ℕ → Record → List ℕ → Type 0
+ReadsRecord t bytes r after = HasRoom t bytes × (record_at t bytes ≡ Some (r, after))
+
+-- these records are at the start of the bytes, followed by the rest
+abbrev pub ReadsRecords : TemplateView → List ℕ → List Record → List ℕ → Type 0
+ReadsRecords t bytes [] rest = bytes ≡ rest
+ReadsRecords t bytes (r ∷ rs) rest = (next : List ℕ) × ReadsRecord t bytes r next × ReadsRecords t next rs rest
+
+-- one record more
+pub records_more : (t : TemplateView) (bytes : List ℕ) (records : List Record) (at : List ℕ) (r : Record) (rest : List ℕ) → ReadsRecords t bytes records at → ReadsRecord t at r rest
+    → ReadsRecords t bytes (records ++ r ∷ []) rest
+records_more t bytes [] at r rest done one = (rest, subst (λ (bs : List ℕ). ReadsRecord t bs r rest) (sym done) one, refl)
+records_more t bytes (s ∷ ss) at r rest done one = (done.0, done.1, records_more t done.0 ss at r rest done.2 one)
+
 -- records take at least one byte each
-pub records_shorter : (t : TemplateView) (bytes : List ℕ) (records : List Record) (rest : List ℕ) → Reads (ReadsRecord t) bytes records rest → length records + length rest ≤ length bytes
-records_shorter t bytes records rest read =
-    omega (arith, reads_shorter (ReadsRecord t) length 1 (λ s r after h. let has = h.0 in omega (arith, has.0, record_shorter t s (r, after) h.1)) bytes records rest read)
+pub records_shorter : (t : TemplateView) (bytes : List ℕ) (records : List Record) (rest : List ℕ) → ReadsRecords t bytes records rest → length records + length rest ≤ length bytes
+records_shorter t bytes [] rest done = omega (arith, ap length done)
+records_shorter t bytes (r ∷ rs) rest done =
+    let one = done.1 in
+    let room = one.0 in
+    omega (arith, room.0, record_shorter t bytes (r, done.0) one.1, records_shorter t done.0 rs rest done.2)
+
+goes : (least many : ℕ) → 0 < least → least ≤ many → (eqb least 0 || ltb many least) ≡ false
+goes least many some enough = grind (arith, nat_tests, common_steps)
+
+pub few_end : (least many : ℕ) → many < least → (eqb least 0 || ltb many least) ≡ true
+few_end least many few = grind (arith, nat_tests, common_steps)
+
+pub none_end : (least many : ℕ) → least ≡ 0 → (eqb least 0 || ltb many least) ≡ true
+none_end least many none = rw none refl
+
+nothing_ends : (least : ℕ) → (eqb least 0 || ltb 0 least) ≡ true
+nothing_ends least = grind (arith, nat_tests, common_steps)
+
+some_bytes : (least many : ℕ) → (eqb least 0 || ltb many least) ≡ false → 0 < least
+some_bytes least many e = grind (arith, nat_tests, common_steps)
+
+record_here : (o : Option (Record × List ℕ)) (fault : ReadFault) (x : Record × List ℕ) → ok_or o fault ≡ Ok x → o ≡ Some x
+record_here None fault x e = absurd (cc)
+record_here (Some y) fault x e = cc
+
+record_smaller : (t : TemplateView) (records : List Record) (offset : ℕ) (bytes : List ℕ) (r : Record) (after : List ℕ) → is_padding t bytes ≡ false → record_next t offset bytes ≡ Ok (r, after)
+    → length after < length bytes
+record_smaller t records offset bytes r after more e =
+    omega (arith, some_bytes (least_length t.fields) (length bytes) more, record_shorter t bytes (r, after) (record_here (record_at t bytes) _ (r, after) e))
+
+abbrev pub records_from : TemplateView → List Record → ℕ → List ℕ → Result (List Record) ReadFault
+records_from t = items_from (is_padding t) (λ records. record_next t)
+
+-- reading goes on after records that are read
+reads_on : (t : TemplateView) (earlier : List Record) (offset : ℕ) (bytes : List ℕ) (records : List Record) (rest : List ℕ) (later : ℕ) → ReadsRecords t bytes records rest
+    → later ≡ offset + (length bytes - length rest) → records_from t earlier offset bytes ≡ records_from t (earlier ++ records) later rest
+reads_on t earlier offset bytes [] rest later done e =
+    let same : offset ≡ later = omega (arith, ap length done, e) in
+    λ i. records_from t (sym (append-nil earlier) i) (same i) (done i)
+reads_on t earlier offset bytes (r ∷ rs) rest later done e =
+    let one = done.1 in
+    let room = one.0 in
+    let next = done.0 in
+    let middle = offset + (length bytes - length next) in
+    at_item (is_padding t) (λ records. record_next t) (nothing_ends (least_length t.fields)) (record_smaller t) earlier offset bytes r next middle
+    (goes (least_length t.fields) (length bytes) room.0 room.1) (rw one.1 refl) refl
+    ∙ reads_on t (earlier ++ r ∷ []) middle next rs rest later done.2
+    (omega (arith, e, record_shorter t bytes (r, next) one.1, records_shorter t next rs rest done.2))
+    ∙ ap (λ (xs : List Record). records_from t xs later rest) (append_assoc earlier (r ∷ []) rs)
 
 -- ---- records that are stored as their bytes, their fields and their number
 
@@ -353,7 +424,7 @@ values_of t bytes after r e =
     (m.0, m.1, ap (λ (y : Record × List ℕ). y.0) (sym m.2), ap (λ (y : Record × List ℕ). y.1) (sym m.2))
 
 -- the records that are read are at the start, and are read in the same way whatever follows them
-reads_front : (t : TemplateView) (bytes : List ℕ) (records : List Record) (rest : List ℕ) → Reads (ReadsRecord t) bytes records rest
+reads_front : (t : TemplateView) (bytes : List ℕ) (records : List Record) (rest : List ℕ) → ReadsRecords t bytes records rest
     → (front : List ℕ) × (bytes ≡ front ++ rest) × ((more : List ℕ) → whole_records t.kind t.fields (length records) (front ++ more) ≡ records)
 reads_front t bytes [] rest done = ([], done, λ more. no_count t.kind t.fields more)
 reads_front t bytes (r ∷ rs) rest done =
@@ -371,7 +442,7 @@ reads_front t bytes (r ∷ rs) rest done =
     )
 
 -- the bytes before the remaining ones are the records
-pub packed : (t : TemplateView) (bytes : List ℕ) (records : List Record) (rest : List ℕ) (count n : ℕ) → Reads (ReadsRecord t) bytes records rest → length records ≡ count
+pub packed : (t : TemplateView) (bytes : List ℕ) (records : List Record) (rest : List ℕ) (count n : ℕ) → ReadsRecords t bytes records rest → length records ≡ count
     → n ≡ length bytes - length rest → whole_records t.kind t.fields count (take n bytes) ≡ records
 packed t bytes records rest count n done counted is =
     let g = reads_front t bytes records rest done in
@@ -380,14 +451,25 @@ packed t bytes records rest count n done counted is =
     ∙ ap (λ (ys : List ℕ). whole_records t.kind t.fields (length records) ys) (front ∙ sym (append-nil g.0))
     ∙ g.2 []
 
-pub packed_length : (t : TemplateView) (bytes : List ℕ) (records : List Record) (rest : List ℕ) (count n : ℕ) → Reads (ReadsRecord t) bytes records rest → length records ≡ count
-    → n ≡ length bytes - length rest → length (whole_records t.kind t.fields count (take n bytes)) ≡ count
-packed_length t bytes records rest count n done counted is = ap length (packed t bytes records rest count n done counted is) ∙ counted
+-- the records before the padding are all
+pub packed_set : (t : TemplateView) (offset : ℕ) (bytes : List ℕ) (records : List Record) (rest : List ℕ) (count : ℕ) → ReadsRecords t bytes records rest → length records ≡ count
+    → is_padding t rest ≡ true → ArePacked t offset bytes count rest
+packed_set t offset bytes records rest count done counted end =
+    let same = packed t bytes records rest count (length bytes - length rest) done counted refl in (
+      omega (arith, records_shorter t bytes records rest done, counted),
+      ap length same ∙ counted,
+      reads_on t [] offset bytes records rest _ done refl
+          ∙ at_end (is_padding t) (λ records. record_next t) (nothing_ends (least_length t.fields)) (record_smaller t) records _ rest end
+          ∙ ap (λ (rs : List Record). Ok rs) (sym same),
+    )
 
--- if there are records, the first is complete at the start
-pub first_stands : (t : TemplateView) (bytes : List ℕ) (records : List Record) (rest : List ℕ) (count : ℕ) → Reads (ReadsRecord t) bytes records rest → length records ≡ count → 0 < count → HasRecord t bytes
-first_stands t bytes [] rest count done counted some = absurd (omega (arith, counted, some))
-first_stands t bytes (r ∷ rs) rest count done counted some = let one = done.1 in ([], bytes, refl, one.0, ap is_some one.1)
+-- a record that extends beyond the end
+pub cut_off : (t : TemplateView) (offset : ℕ) (bytes : List ℕ) (records : List Record) (rest : List ℕ) → ReadsRecords t bytes records rest → HasRoom t rest → record_at t rest ≡ None
+    → data_set_reading t offset bytes ≡ Err (record { kind = BadRecord; offset = offset + (length bytes - length rest) })
+cut_off t offset bytes records rest done room none =
+    reads_on t [] offset bytes records rest _ done refl
+    ∙ at_fault (is_padding t) (λ records. record_next t) (nothing_ends (least_length t.fields)) (record_smaller t) records _ rest _
+    (goes (least_length t.fields) (length rest) room.0 room.1) (rw none refl)
 
 -- ---- without variable fields
 
@@ -418,7 +500,7 @@ fixed_values fields bytes none enough =
 
 -- as many records as fit
 pub fixed_records : (t : TemplateView) (count : ℕ) (bytes : List ℕ) → runs_behind 0 t.fields ≡ [] → 0 < least_length t.fields → count * least_length t.fields ≤ length bytes
-    → (records : List Record) × (length records ≡ count) × Reads (ReadsRecord t) bytes records (drop (count * least_length t.fields) bytes)
+    → (records : List Record) × (length records ≡ count) × ReadsRecords t bytes records (drop (count * least_length t.fields) bytes)
 fixed_records t zero bytes none some room =
     let nothing : 0 ≡ 0 * least_length t.fields = omega arith in
     ([], refl, ap (λ (n : ℕ). drop n bytes) nothing)
@@ -430,14 +512,18 @@ fixed_records t (suc count) bytes none some room =
     let behind : drop (count * least) v.0.1 ≡ drop (suc count * least) bytes = ap (drop (count * least)) v.2 ∙ drop-drop (count * least) least bytes ∙ ap (λ (n : ℕ). drop n bytes) (omega (arith, split)) in (
       record { kind = t.kind; fields = v.0.0 } ∷ more.0,
       ap (λ (n : ℕ). suc n) more.1,
-      (v.0.1, ((some, omega (arith, room, split)), record_is t bytes v.0 v.1), subst (λ (rest : List ℕ). Reads (ReadsRecord t) v.0.1 more.0 rest) behind more.2),
+      (v.0.1, ((some, omega (arith, room, split)), record_is t bytes v.0 v.1), subst (λ (rest : List ℕ). ReadsRecords t v.0.1 more.0 rest) behind more.2),
     )
 
 -- after as many records as fit, there is no room for one more
-pub few_left : (n least : ℕ) → 0 < least → n / least * least + least ≤ n → ⊥
-few_left n least some room =
-    let one_more : (n / least + 1) * least ≤ n = omega (arith, room, add-mul (n / least) 1 least) in
-    omega (arith, (le-div_iff_mul-le {k = least} {x = n / least + 1} {y = n} some).1 one_more)
+pub few_left : (n least : ℕ) → 0 < least → n < n / least * least + least
+few_left n least some =
+    elim (cases_lt n (n / least * least + least)) [
+      | inl few ↦ few
+      | inr room ↦
+          let one_more : (n / least + 1) * least ≤ n = omega (arith, room, add-mul (n / least) 1 least) in
+          absurd (omega (arith, (le-div_iff_mul-le {k = least} {x = n / least + 1} {y = n} some).1 one_more))
+    ]
 
 -- ---- a record, from the bytes after its values
 

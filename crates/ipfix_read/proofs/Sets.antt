@@ -1,15 +1,24 @@
--- The template events of consecutive sets.
-use Rattle.std.proofs.Common.{◌≡◌, ℕ, ◌+◌, ◌<◌, List, [], ◌∷◌, ◌++◌, length, get_or, take, sym, ap, ◌∙◌, append_assoc, ◌-◌, ◌≤◌, false, eqb, drop, refl, subst, inl, inr, arith, take-append-drop, length-drop}
-use Rattle.std.proofs.lemmas.List.{map_push, take_more, append-nil, take_all, get_or-take, get_or-drop, length-take-le}
-use Rattle.ipfix_templates.specs.declared.event.TemplateEvent.{TemplateEvent}
-use Rattle.ipfix_read.specs.Set.{in_domain, events_of_set, events_of_sets, written_length, IsContent, HasContentFault, IsSet, HasSetFault, MessageState, ReadsSet, IsRefused, IsSets, HasSetsFault, Set}
-use Rattle.std.proofs.lemmas.List.Concat.{flat_map-cons}
+-- The content of a set, and consecutive sets.
+use Rattle.std.proofs.Common.{◌≡◌, ℕ, ◌+◌, ◌<◌, List, [], ◌∷◌, ◌++◌, length, get_or, take, sym, ap, ◌∙◌, append_assoc, ◌-◌, ◌≤◌, true, false, eqb, ltb, drop, refl, subst, inl, inr, arith, length-drop, Some, None, Result, Ok, Err}
+use Rattle.std.specs.Prelude.{◌==◌, ◌||◌}
+use Rattle.std.specs.Result.{result_map_both}
+use Rattle.std.proofs.lemmas.Bool.{le-ltb}
+use Rattle.std.proofs.lemmas.Bool.Decides.{nat_tests}
+use Rattle.std.proofs.lemmas.Grind.{common_steps}
+use Rattle.std.proofs.lemmas.List.{map_push, take_more, append-nil, take_all, get_or-take, get_or-drop}
 use Rattle.std.proofs.lemmas.List.Sums.{sum_by-append, sum_by-cons}
 use Rattle.byteorder.specs.Endian.{big_number}
-use Rattle.ipfix_templates.specs.Reading.{Reads}
+use Rattle.ipfix_templates.specs.declared.event.TemplateEvent.{TemplateEvent}
+use Rattle.ipfix_templates.specs.declared.kind.Kind.{Kind}
 use Rattle.ipfix_templates.specs.Template.{TemplateView}
-use Rattle.ipfix_templates.specs.InForce.{Follows}
-use Rattle.ipfix_read.specs.Message.{ReadFault, set_size, message_size, MessageView, IsMessage, HasHeader}
+use Rattle.ipfix_templates.specs.Reading.{items_from, template_set_reading}
+use Rattle.ipfix_templates.specs.InForce.{in_force, Follows}
+use Rattle.ipfix_templates.proofs.Choice.{chosen}
+use Rattle.ipfix_templates.proofs.Reading.{at_end, at_fault, at_item}
+use Rattle.ipfix_read.specs.Fault.{BadSetLength}
+use Rattle.ipfix_read.specs.Record.{data_set_reading}
+use Rattle.ipfix_read.specs.Set.{Set, Templates, Values, in_domain, in_file, events_of_sets, template_kind, content_reading, written_length, set_next}
+use Rattle.ipfix_read.specs.Message.{ReadFault, set_size, message_size}
 
 -- a history with one more event
 pub in_domain_more : (history : List (ℕ × TemplateEvent)) (domain : ℕ) (events : List TemplateEvent) (i : ℕ) (d : TemplateEvent) → i < length events
@@ -18,20 +27,6 @@ in_domain_more history domain events i d lt =
     let more : in_domain domain (take (i + 1) events) ≡ in_domain domain (take i events) ++ (domain, get_or events i d) ∷ [] =
     ap (in_domain domain) (take_more events i d lt) ∙ map_push (λ (event : TemplateEvent). (domain, event)) (take i events) (get_or events i d) in
     append_assoc history (in_domain domain (take i events)) ((domain, get_or events i d) ∷ []) ∙ ap (λ (es : List (ℕ × TemplateEvent)). history ++ es) (sym more)
-
--- ---- consecutive sets
-
--- a fault of a part is a fault of the whole
-pub refused : (old at : List ((ℕ × ℕ) × TemplateView)) (has other : List (ℕ × TemplateEvent) → ReadFault → Type 0) (fault : ReadFault)
-    → ((history : List (ℕ × TemplateEvent)) → Follows old history → (later : List (ℕ × TemplateEvent)) × Follows at later × (has later fault → other history fault))
-    → IsRefused at has fault → IsRefused old other fault
-refused old at has other fault step r = (
-  r.0,
-  elim r.1 [
-    | inl memory ↦ inl memory
-    | inr found ↦ inr (λ history follows. let s = step history follows in s.2 (found s.0 s.1))
-  ],
-)
 
 -- bytes that are not empty
 pub not_empty : (xs : List ℕ) → eqb (length xs) 0 ≡ false → 0 < length xs
@@ -50,82 +45,76 @@ pub front_length : (n : ℕ) (xs : List ℕ) → 4 ≤ n → written_length (tak
 front_length n xs h =
     rw (get_or-drop 2 (take n xs) 0 0, get_or-drop 2 (take n xs) 1 0, get_or-drop 2 xs 0 0, get_or-drop 2 xs 1 0, get_or-take n xs 2 0 (omega arith), get_or-take n xs 3 0 (omega arith)) refl
 
--- the front that a length cuts off
-pub record Cut (bytes front after : List ℕ) (n : ℕ) : Type 0 where
-  pub front_is : front ≡ take n bytes
-  pub after_is : after ≡ drop n bytes
-  pub least : 4 ≤ n
-  pub within : n ≤ length bytes
-  pub whole : n ≡ written_length bytes
+-- the result of a step that was changed
+pub result_mapped : {A B F : Type 0} (r : Result A F) (f : A → B) (y : B) → result_map_both f (λ (fault : F). fault) r ≡ Ok y → (x : A) × (r ≡ Ok x) × (f x ≡ y)
+result_mapped (Ok x) f y e = (x, refl, cc)
+result_mapped (Err fault) f y e = absurd (cc)
 
-module _ {bytes front after : List ℕ} {n : ℕ} (cut : Cut bytes front after n) where
-  pub cut_parts : bytes ≡ front ++ after
-  cut_parts = rw (cut.front_is, cut.after_is) (sym (take-append-drop n bytes))
+pub same_history : (table : List ((ℕ × ℕ) × TemplateView)) (history : List (ℕ × TemplateEvent)) → Follows table history → Follows table (history ++ [])
+same_history table history follows = subst (λ (h : List (ℕ × TemplateEvent)). Follows table h) (sym (append-nil history)) follows
 
-  pub cut_length : length front ≡ n
-  cut_length = ap length cut.front_is ∙ length-take-le n bytes cut.within
+-- ---- the content of a set
 
-  pub cut_written : written_length front ≡ length front
-  cut_written = ap written_length cut.front_is ∙ front_length n bytes cut.least ∙ sym cut.whole ∙ sym cut_length
+module _ (history : List (ℕ × TemplateEvent)) (domain id offset : ℕ) (bytes : List ℕ) where
+  pub templates_read : (kind : Kind) → template_kind id ≡ Some kind
+      → content_reading history domain id offset bytes ≡ result_map_both (Templates kind) (in_file offset) (template_set_reading kind bytes)
+  templates_read kind is = rw is refl
 
-  pub set_read : (history : List (ℕ × TemplateEvent)) (domain id : ℕ) (set : Set) → id ≡ big_number 2 front → IsContent history domain id (take (length front - 4) (drop 4 front)) set → IsSet history domain front set
-  set_read history domain id set is content =
-      let at : IsContent history domain (big_number 2 front) (drop 4 front) set = subst (λ (xs : List ℕ). IsContent history domain (big_number 2 front) xs set) (from_place 4 front) (subst (λ (i : ℕ). IsContent history domain i (take (length front - 4) (drop 4 front)) set) is content) in
-      (omega (arith, cut_length, cut.least), cut_written, at)
+  pub records_read : template_kind id ≡ None → (t : TemplateView) → 256 ≤ id → in_force history domain id ≡ Some t
+      → content_reading history domain id offset bytes ≡ result_map_both (Values t.kind) (λ fault. fault) (data_set_reading t offset bytes)
+  records_read no_templates t high is = rw (no_templates, le-ltb id 256 high, is) refl
 
-  pub set_fault : (history : List (ℕ × TemplateEvent)) (domain id base : ℕ) (fault : ReadFault) → id ≡ big_number 2 front → HasContentFault history domain id (take (length front - 4) (drop 4 front)) (base + 4) fault
-      → HasSetFault history domain bytes base fault
-  set_fault history domain id base fault is content =
-      let at : HasContentFault history domain (big_number 2 front) (drop 4 front) (base + 4) fault = subst (λ (xs : List ℕ). HasContentFault history domain (big_number 2 front) xs (base + 4) fault) (from_place 4 front) (subst (λ (i : ℕ). HasContentFault history domain i (take (length front - 4) (drop 4 front)) (base + 4) fault) is content) in
-      inr (front, after, cut_parts, omega (arith, cut_length, cut.least), cut_written, at)
+-- ---- a set
+
+fits : (many size : ℕ) → (ltb many 4 || (ltb size 4 || ltb many size)) ≡ false → (4 ≤ size) × (size ≤ many)
+fits many size e = (grind (arith, nat_tests, common_steps), grind (arith, nat_tests, common_steps))
+
+module _ (history : List (ℕ × TemplateEvent)) (domain offset : ℕ) (bytes : List ℕ) where
+  -- the length in the header cuts off a set
+  pub set_read : (size id : ℕ) (front after : List ℕ) (read : Result Set ReadFault) → size ≡ written_length bytes → 4 ≤ length bytes → 4 ≤ size → size ≤ length bytes
+      → front ≡ take size bytes → after ≡ drop size bytes → id ≡ big_number 2 bytes
+      → content_reading history domain id (offset + 4) (take (length front - 4) (drop 4 front)) ≡ read
+      → set_next history domain offset bytes ≡ result_map_both (λ set. (set, after)) (λ fault. fault) read
+  set_read size id front after read is long least within front_is after_is id_is e =
+      let content : drop 4 (take (written_length bytes) bytes) ≡ take (length front - 4) (drop 4 front) =
+      ap (λ (n : ℕ). drop 4 (take n bytes)) (sym is) ∙ ap (drop 4) (sym front_is) ∙ sym (from_place 4 front) in
+      let there : content_reading history domain (big_number 2 bytes) (offset + 4) (drop 4 (take (written_length bytes) bytes)) ≡ read =
+      ap (λ (n : ℕ). content_reading history domain n (offset + 4) (drop 4 (take (written_length bytes) bytes))) (sym id_is)
+      ∙ ap (λ (xs : List ℕ). content_reading history domain id (offset + 4) xs) content ∙ e in
+      let behind : after ≡ drop (written_length bytes) bytes = after_is ∙ ap (λ (n : ℕ). drop n bytes) is in
+      rw (le-ltb (length bytes) 4 long, le-ltb (written_length bytes) 4 (omega (arith, is, least)), le-ltb (length bytes) (written_length bytes) (omega (arith, is, within)), there, behind) refl
+
+set_smaller : (history : List (ℕ × TemplateEvent)) (domain offset : ℕ) (bytes : List ℕ) (set : Set) (after : List ℕ) → set_next history domain offset bytes ≡ Ok (set, after) → length after < length bytes
+set_smaller history domain offset bytes set after e =
+    let size = written_length bytes in
+    elim (chosen (ltb (length bytes) 4 || (ltb size 4 || ltb (length bytes) size)) (Err (record { kind = BadSetLength; offset = offset })) _ (Ok (set, after)) e) [
+      | inl p ↦ absurd (cc)
+      | inr p ↦
+          let read = result_mapped (content_reading history domain (big_number 2 bytes) (offset + 4) (drop 4 (take size bytes))) (λ (s : Set). (s, drop size bytes)) (set, after) p.1 in
+          omega (arith, fits (length bytes) size p.0, ap (λ (x : Set × List ℕ). length x.1) read.2, length-drop size bytes)
+    ]
 
 -- ---- several sets
 
--- the history after sets has their events
-pub sets_history : (domain : ℕ) (start : MessageState) (sets : List Set) (end : MessageState) → Reads (ReadsSet domain) start sets end → end.0 ≡ start.0 ++ events_of_sets domain sets
-sets_history domain start [] end done = ap (λ (at : MessageState). at.0) (sym done) ∙ sym (append-nil start.0)
-sets_history domain start (set ∷ sets) end done =
-    let one = done.1 in
-    sets_history domain done.0 sets end done.2
-    ∙ ap (λ (h : List (ℕ × TemplateEvent)). h ++ events_of_sets domain sets) one.3
-    ∙ append_assoc start.0 (events_of_set domain set) (events_of_sets domain sets)
-    ∙ ap (λ (es : List (ℕ × TemplateEvent)). start.0 ++ es) (sym (flat_map-cons (events_of_set domain) set sets))
+abbrev pub sets_from : List (ℕ × TemplateEvent) → ℕ → List Set → ℕ → List ℕ → Result (List Set) ReadFault
+sets_from history domain = items_from (λ rest. length rest == 0) (λ sets. set_next (history ++ events_of_sets domain sets) domain)
+
+module _ (history : List (ℕ × TemplateEvent)) (domain : ℕ) (sets : List Set) (offset : ℕ) (rest : List ℕ) where
+  abbrev Next : List Set → ℕ → List ℕ → Result (Set × List ℕ) ReadFault
+  Next earlier = set_next (history ++ events_of_sets domain earlier) domain
+
+  smaller : (earlier : List Set) (place : ℕ) (bytes : List ℕ) (set : Set) (after : List ℕ) → eqb (length bytes) 0 ≡ false → Next earlier place bytes ≡ Ok (set, after) → length after < length bytes
+  smaller earlier place bytes set after some e = set_smaller (history ++ events_of_sets domain earlier) domain place bytes set after e
+
+  pub sets_more : (set : Set) (after : List ℕ) (later : ℕ) → eqb (length rest) 0 ≡ false → Next sets offset rest ≡ Ok (set, after) → later ≡ offset + (length rest - length after)
+      → sets_from history domain sets offset rest ≡ sets_from history domain (sets ++ set ∷ []) later after
+  sets_more = at_item (λ rest. length rest == 0) Next refl smaller sets offset rest
+
+  pub sets_fault : (fault : ReadFault) → eqb (length rest) 0 ≡ false → Next sets offset rest ≡ Err fault → sets_from history domain sets offset rest ≡ Err fault
+  sets_fault = at_fault (λ rest. length rest == 0) Next refl smaller sets offset rest
+
+  pub sets_end : eqb (length rest) 0 ≡ true → sets_from history domain sets offset rest ≡ Ok sets
+  sets_end = at_end (λ rest. length rest == 0) Next refl smaller sets offset rest
 
 pub message_size_push : (sets : List Set) (set : Set) → message_size (sets ++ set ∷ []) ≡ message_size sets + set_size set
 message_size_push sets set = omega (arith, sum_by-append set_size sets (set ∷ []), sum_by-cons set_size set [])
-
--- ---- consecutive messages
-
--- the front that is cut off has a header with its length
-pub front_header : {bytes front after : List ℕ} {n : ℕ} → Cut bytes front after n → 16 ≤ n → n ≤ 65535 → big_number 2 bytes ≡ 10 → HasHeader front
-front_header {bytes = bytes} {n = n} cut least most version = record {
-  least = omega (arith, cut_length cut);
-  most = omega (arith, cut_length cut);
-  version = ap (λ (xs : List ℕ). big_number 2 xs) cut.front_is ∙ front_number n bytes (omega arith) ∙ version;
-  whole = cut_written cut;
-}
-
--- bytes with such a header are the message that is read from them
-pub message_read : (bytes : List ℕ) (history : List (ℕ × TemplateEvent)) (m : MessageView) → HasHeader bytes
-    → m.export_time ≡ big_number 4 (take (length bytes - 4) (drop 4 bytes))
-    → m.sequence ≡ big_number 4 (take (length bytes - 8) (drop 8 bytes))
-    → m.domain ≡ big_number 4 (take (length bytes - 12) (drop 12 bytes))
-    → IsSets history m.domain (take (length bytes - 16) (drop 16 bytes)) m.sets → IsMessage history bytes m
-message_read bytes history m header time sequence domain sets = record {
-  header = header.least;
-  version = header.version;
-  whole = header.whole;
-  export_time = time ∙ ap (λ (xs : List ℕ). big_number 4 xs) (from_place 4 bytes);
-  sequence = sequence ∙ ap (λ (xs : List ℕ). big_number 4 xs) (from_place 8 bytes);
-  domain = domain ∙ ap (λ (xs : List ℕ). big_number 4 xs) (from_place 12 bytes);
-  sets = subst (λ (xs : List ℕ). IsSets history m.domain xs m.sets) (from_place 16 bytes) sets;
-}
-
--- or have the fault of the sets there
-pub sets_fault : (bytes : List ℕ) (history : List (ℕ × TemplateEvent)) (domain base : ℕ) (fault : ReadFault)
-    → domain ≡ big_number 4 (take (length bytes - 12) (drop 12 bytes))
-    → HasSetsFault history domain (take (length bytes - 16) (drop 16 bytes)) base fault → HasSetsFault history (big_number 4 (drop 12 bytes)) (drop 16 bytes) base fault
-sets_fault bytes history domain base fault is found =
-    let at : HasSetsFault history (big_number 4 (drop 12 bytes)) (take (length bytes - 16) (drop 16 bytes)) base fault =
-    subst (λ (d : ℕ). HasSetsFault history d (take (length bytes - 16) (drop 16 bytes)) base fault) (is ∙ ap (λ (xs : List ℕ). big_number 4 xs) (from_place 12 bytes)) found in
-    subst (λ (xs : List ℕ). HasSetsFault history (big_number 4 (drop 12 bytes)) xs base fault) (from_place 16 bytes) at

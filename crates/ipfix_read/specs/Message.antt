@@ -1,9 +1,10 @@
 -- Messages (RFC 7011 section 3.1).
-use Rattle.std.specs.Prelude.{◌≡◌, ℕ, ◌+◌, ◌≤◌, ◌⊎◌, List, ◌++◌, length, drop, sum_by, Option, Some, None, nat_lt, ◌==◌, if◌then◌else◌}
+use Rattle.std.specs.Prelude.{◌≡◌, ℕ, ◌+◌, ◌≤◌, List, length, take, drop, sum_by, Option, Some, None, Result, Err, nat_lt, ◌==◌, if◌then◌else◌}
 use Rattle.std.specs.Option.{option_or}
+use Rattle.std.specs.Result.{result_map_both}
 use Rattle.byteorder.specs.Endian.{big_number}
 use Rattle.ipfix_templates.specs.declared.event.TemplateEvent.{TemplateEvent}
-use Rattle.ipfix_read.specs.Set.{Set, Templates, Values, Skipped, written_length, IsSets, HasSetsFault, events_of_sets}
+use Rattle.ipfix_read.specs.Set.{Set, Templates, Values, Skipped, written_length, sets_reading, events_of_sets}
 pub use Rattle.ipfix_read.specs.declared.fault.ReadFault.{ReadFault}
 pub use Rattle.ipfix_read.specs.declared.fault.ReadFaultKind.{ReadFaultKind}
 use Rattle.ipfix_read.specs.declared.fault.ReadFaultKind.TheVariants.{TruncatedHeader, BadVersion, BadMessageLength, TruncatedMessage, TooManyMessages}
@@ -29,16 +30,6 @@ message_size sets = sum_by set_size sets
 abbrev pub events_of_message : MessageView → List (ℕ × TemplateEvent)
 events_of_message m = events_of_sets m.domain m.sets
 
--- bytes are a message after a history of template events: a header with version 10 and their length, and the sets
-pub record IsMessage (history : List (ℕ × TemplateEvent)) (bytes : List ℕ) (m : MessageView) : Type 0 where
-  pub header : 16 ≤ length bytes
-  pub version : big_number 2 bytes ≡ 10
-  pub whole : written_length bytes ≡ length bytes
-  pub export_time : m.export_time ≡ big_number 4 (drop 4 bytes)
-  pub sequence : m.sequence ≡ big_number 4 (drop 8 bytes)
-  pub domain : m.domain ≡ big_number 4 (drop 12 bytes)
-  pub sets : IsSets history m.domain (drop 16 bytes) m.sets
-
 -- bytes have a header with version 10 and their length, which a message can have
 pub record HasHeader (bytes : List ℕ) : Type 0 where
   pub least : 16 ≤ length bytes
@@ -62,9 +53,21 @@ header_fault count bytes =
     if nat_lt (length bytes) 16 then Some TruncatedHeader
     else option_or (own_fault count bytes) (if nat_lt (length bytes) (written_length bytes) then Some TruncatedMessage else None)
 
--- the first fault of the message at the start of the bytes, which begin at this offset of the File
-abbrev pub HasMessageFault : List (ℕ × TemplateEvent) → ℕ → List ℕ → ℕ → ReadFault → Type 0
-HasMessageFault history count bytes base fault =
-    ((kind : ReadFaultKind) × (header_fault count bytes ≡ Some kind) × (fault ≡ record { kind = kind; offset = base }))
-    ⊎ ((front : List ℕ) × (after : List ℕ) × (bytes ≡ front ++ after) × (header_fault count bytes ≡ None) × (16 ≤ length front) × (written_length front ≡ length front)
-    × HasSetsFault history (big_number 4 (drop 12 front)) (drop 16 front) (base + 16) fault)
+-- the message whose header has no fault and which is exactly these bytes, or the first fault of its sets
+abbrev pub whole_reading : List (ℕ × TemplateEvent) → ℕ → List ℕ → Result MessageView ReadFault
+whole_reading history offset bytes =
+    let domain = big_number 4 (drop 12 bytes) in
+    result_map_both
+    (λ sets. record { export_time = big_number 4 (drop 4 bytes); sequence = big_number 4 (drop 8 bytes); domain = domain; sets = sets }) (λ fault. fault)
+    (sets_reading history domain (offset + 16) (drop 16 bytes))
+
+-- the message at the start of bytes at this offset, and the bytes after it, or its first fault; a history of template
+-- events and `count` messages precede it
+abbrev pub message_next : List (ℕ × TemplateEvent) → ℕ → ℕ → List ℕ → Result (MessageView × List ℕ) ReadFault
+message_next history count offset bytes = of (header_fault count bytes)
+  where
+    of : Option ReadFaultKind → Result (MessageView × List ℕ) ReadFault
+    of (Some kind) = Err (record { kind = kind; offset = offset })
+    of None =
+        let size = written_length bytes in
+        result_map_both (λ m. (m, drop size bytes)) (λ fault. fault) (whole_reading history offset (take size bytes))

@@ -1,18 +1,20 @@
 -- The sets of a message (RFC 7011 section 3.3).
-use Rattle.std.specs.Prelude.{◌≡◌, ◌≢◌, false, ℕ, ◌+◌, ◌-◌, ◌<◌, ◌≤◌, ◌⊎◌, List, [], ◌++◌, length, drop, map, Some, None}
+use Rattle.std.specs.Prelude.{◌≡◌, false, ℕ, ◌+◌, ◌⊎◌, List, [], ◌++◌, length, take, drop, map, Option, Some, None, Result, Ok, Err, nat_lt, ◌==◌, ◌||◌, if◌then◌else◌}
 use Rattle.std.specs.List.{flat_map}
+use Rattle.std.specs.Result.{result_map_both}
 use Rattle.byteorder.specs.Endian.{big_number}
-use Rattle.ipfix_templates.specs.declared.kind.Kind.{Kind}
 use Rattle.ipfix_templates.specs.declared.event.TemplateEvent.{TemplateEvent}
 use Rattle.ipfix_templates.specs.declared.fault.TemplateFault.{TemplateFault}
+use Rattle.ipfix_templates.specs.declared.kind.Kind.{Kind}
+use Rattle.ipfix_templates.specs.declared.kind.Kind.TheVariants.{Flow, Options}
 use Rattle.ipfix_templates.specs.Template.{set_id, TemplateView}
-use Rattle.ipfix_templates.specs.Reading.{ReadsWhole, StopsAt, IsTemplateSet, HasTemplateFault}
+use Rattle.ipfix_templates.specs.Reading.{items_from, template_set_reading}
 use Rattle.ipfix_templates.specs.InForce.{in_force, Follows}
 pub use Rattle.ipfix_read.specs.declared.set.Set.{Set}
 pub use Rattle.ipfix_read.specs.declared.set.Set.TheVariants.{Skipped, Templates, Values}
 use Rattle.ipfix_read.specs.declared.fault.ReadFault.{ReadFault}
-use Rattle.ipfix_read.specs.Fault.{BadSetLength, BadTemplate, BadRecord, is_of_calls, out_of_memory}
-use Rattle.ipfix_read.specs.Record.{IsDataSet, HasRecordFault}
+use Rattle.ipfix_read.specs.Fault.{BadSetLength, BadTemplate, is_of_calls, out_of_memory}
+use Rattle.ipfix_read.specs.Record.{data_set_reading}
 
 -- template events, each with its domain
 abbrev pub in_domain : ℕ → List TemplateEvent → List (ℕ × TemplateEvent)
@@ -27,75 +29,50 @@ events_of_set domain (Skipped id) = []
 abbrev pub events_of_sets : ℕ → List Set → List (ℕ × TemplateEvent)
 events_of_sets domain sets = flat_map (events_of_set domain) sets
 
--- the bytes after the header of a set with this ID, after a history of template events: a set of templates, records
--- under the template in force, or a skipped set, whose ID has no meaning or no template in force
-abbrev pub IsContent : List (ℕ × TemplateEvent) → ℕ → ℕ → List ℕ → Set → Type 0
-IsContent history domain id bytes (Templates kind events) = (id ≡ set_id kind) × IsTemplateSet kind bytes events
-IsContent history domain id bytes (Values kind records) =
-    (256 ≤ id) × (t : TemplateView) × (in_force history domain id ≡ Some t) × (kind ≡ t.kind) × IsDataSet t bytes records
-IsContent history domain id bytes (Skipped skipped) =
-    (skipped ≡ id) × (id ≢ 2) × (id ≢ 3) × (256 ≤ id → in_force history domain id ≡ None)
+-- the kind of the templates that a set with this ID holds, if it holds templates
+abbrev pub template_kind : ℕ → Option Kind
+template_kind id = if id == set_id Flow then Some Flow else (if id == set_id Options then Some Options else None)
 
 -- the fault of a template set as a fault of the File; the set's records begin at this offset
 abbrev pub in_file : ℕ → TemplateFault → ReadFault
 in_file base fault = record { kind = BadTemplate fault.kind; offset = base + fault.offset }
 
--- the first fault of such bytes, which begin at this offset of the File
-abbrev pub HasContentFault : List (ℕ × TemplateEvent) → ℕ → ℕ → List ℕ → ℕ → ReadFault → Type 0
-HasContentFault history domain id bytes base fault =
-    ((kind : Kind) × (of : TemplateFault) × (id ≡ set_id kind) × HasTemplateFault kind bytes of
-    × (fault ≡ in_file base of))
-    ⊎ ((t : TemplateView) × (place : ℕ) × (256 ≤ id) × (in_force history domain id ≡ Some t) × HasRecordFault t bytes place
-    × (fault ≡ record { kind = BadRecord; offset = base + place }))
+-- The content of a set with this ID, after a history of template events, or the first fault. Its bytes begin at this
+-- offset. It consists of templates, or of records under the template in force. It is skipped if its ID has no meaning or
+-- no template in force.
+abbrev pub content_reading : List (ℕ × TemplateEvent) → ℕ → ℕ → ℕ → List ℕ → Result Set ReadFault
+content_reading history domain id offset bytes = of (template_kind id) (if nat_lt id 256 then None else in_force history domain id)
+  where
+    of : Option Kind → Option TemplateView → Result Set ReadFault
+    of (Some kind) template = result_map_both (Templates kind) (in_file offset) (template_set_reading kind bytes)
+    of None (Some t) = result_map_both (Values t.kind) (λ fault. fault) (data_set_reading t offset bytes)
+    of None None = Ok (Skipped id)
 
 -- the length in a set's header, and in a message's header
 abbrev pub written_length : List ℕ → ℕ
 written_length bytes = big_number 2 (drop 2 bytes)
 
--- bytes are a set: a header with their length, followed by the content
-abbrev pub IsSet : List (ℕ × TemplateEvent) → ℕ → List ℕ → Set → Type 0
-IsSet history domain bytes set =
-    (4 ≤ length bytes) × (written_length bytes ≡ length bytes) × IsContent history domain (big_number 2 bytes) (drop 4 bytes) set
+-- The set at the start of bytes at this offset, and the bytes after it, or its first fault. Its length is at least that
+-- of its header and at most that of the bytes.
+abbrev pub set_next : List (ℕ × TemplateEvent) → ℕ → ℕ → List ℕ → Result (Set × List ℕ) ReadFault
+set_next history domain offset bytes =
+    let size = written_length bytes in
+    if nat_lt (length bytes) 4 || (nat_lt size 4 || nat_lt (length bytes) size) then Err (record { kind = BadSetLength; offset = offset })
+    else result_map_both (λ set. (set, drop size bytes)) (λ fault. fault)
+    (content_reading history domain (big_number 2 bytes) (offset + 4) (drop 4 (take size bytes)))
 
--- the bytes start with a set's header, whose length is at least the header's and at most that of the bytes
-abbrev pub HasSetLength : List ℕ → Type 0
-HasSetLength bytes = (4 ≤ length bytes) × (4 ≤ written_length bytes) × (written_length bytes ≤ length bytes)
+-- the sets of a message, given the bytes after its header, which begin at this offset; or the first fault
+abbrev pub sets_reading : List (ℕ × TemplateEvent) → ℕ → ℕ → List ℕ → Result (List Set) ReadFault
+sets_reading history domain offset bytes =
+    items_from (λ rest. length rest == 0) (λ sets. set_next (history ++ events_of_sets domain sets) domain) [] offset bytes
 
--- the first fault of the set at the start of the bytes, which begin at this offset of the File
-abbrev pub HasSetFault : List (ℕ × TemplateEvent) → ℕ → List ℕ → ℕ → ReadFault → Type 0
-HasSetFault history domain bytes base fault =
-    ((HasSetLength bytes → ⊥) × (fault ≡ record { kind = BadSetLength; offset = base }))
-    ⊎ ((front : List ℕ) × (after : List ℕ) × (bytes ≡ front ++ after) × (4 ≤ length front) × (written_length front ≡ length front)
-    × HasContentFault history domain (big_number 2 front) (drop 4 front) (base + 4) fault)
-
--- a state of reading a message: the template events so far, and the remaining bytes
-abbrev pub MessageState : Type 0
-MessageState = List (ℕ × TemplateEvent) × List ℕ
-
--- the set at the start of the remaining bytes, and the state after it, with the set's events
-abbrev pub ReadsSet : ℕ → MessageState → Set → MessageState → Type 0
-ReadsSet domain at set next =
-    (front : List ℕ) × (at.1 ≡ front ++ next.1) × IsSet at.0 domain front set × (next.0 ≡ at.0 ++ events_of_set domain set)
-
--- the bytes are exactly these consecutive sets
-abbrev pub IsSets : List (ℕ × TemplateEvent) → ℕ → List ℕ → List Set → Type 0
-IsSets history domain bytes sets = ReadsWhole (ReadsSet domain) (λ at. at.1 ≡ []) (history, bytes) sets
-
--- bytes remain, the whole bytes begin at this offset of the File, and this is the fault of the next set
-abbrev pub IsSetFault : ℕ → ℕ → ℕ → MessageState → ReadFault → Type 0
-IsSetFault domain size base at fault = (0 < length at.1) × HasSetFault at.0 domain at.1 (base + (size - length at.1)) fault
-
--- after some sets this is the first fault
-abbrev pub HasSetsFault : List (ℕ × TemplateEvent) → ℕ → List ℕ → ℕ → ReadFault → Type 0
-HasSetsFault history domain bytes base fault = StopsAt (ReadsSet domain) (IsSetFault domain (length bytes) base) (history, bytes) fault
-
--- This is read, with these events, and changes the table from the old one to the new one. It holds for each history
--- that the old table follows, and then the new table follows the history with the events.
-abbrev pub IsReadAfter : List ((ℕ × ℕ) × TemplateView) → List ((ℕ × ℕ) × TemplateView) → List (ℕ × TemplateEvent) → (List (ℕ × TemplateEvent) → Type 0) → Type 0
-IsReadAfter old new events is = (history : List (ℕ × TemplateEvent)) → Follows old history → is history × Follows new (history ++ events)
-
--- the fault is not one of calls: an allocation failed, or it is found after each history that the table follows
-abbrev pub IsRefused : List ((ℕ × ℕ) × TemplateView) → (List (ℕ × TemplateEvent) → ReadFault → Type 0) → ReadFault → Type 0
-IsRefused table found fault =
+-- The result of reading under a table, and the table after it. It holds for each history that the old table follows. An
+-- item is the reading, and the new table follows the history with the item's events. A fault is that of the reading, or
+-- that an allocation failed. It is not one of calls.
+abbrev pub ReadsUnder : {A : Type 0} → List ((ℕ × ℕ) × TemplateView) → List ((ℕ × ℕ) × TemplateView) → (A → List (ℕ × TemplateEvent))
+    → (List (ℕ × TemplateEvent) → Result A ReadFault) → Result A ReadFault → Type 0
+ReadsUnder old new events reading (Ok item) =
+    (history : List (ℕ × TemplateEvent)) → Follows old history → (reading history ≡ Ok item) × Follows new (history ++ events item)
+ReadsUnder old new events reading (Err fault) =
     (is_of_calls fault.kind ≡ false)
-    × ((fault ≡ out_of_memory) ⊎ ((history : List (ℕ × TemplateEvent)) → Follows table history → found history fault))
+    × ((fault ≡ out_of_memory) ⊎ ((history : List (ℕ × TemplateEvent)) → Follows old history → reading history ≡ Err fault))

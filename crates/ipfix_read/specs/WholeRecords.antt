@@ -1,10 +1,9 @@
 -- How the records of a data set are stored: their bytes, the fields of their template, and their number.
-use Rattle.std.specs.Prelude.{◌≡◌, ℕ, zero, suc, List, [], ◌∷◌, length, Option, Some, None}
+use Rattle.std.specs.Prelude.{◌≡◌, ℕ, zero, suc, ◌+◌, ◌-◌, ◌≤◌, List, [], ◌∷◌, length, take, Option, Some, None, Ok}
 use Rattle.std.specs.Option.{option_map_or}
 use Rattle.ipfix_templates.specs.declared.field.Field.{Field}
 use Rattle.ipfix_templates.specs.declared.kind.Kind.{Kind}
-use Rattle.ipfix_templates.specs.Reading.{Reads}
-use Rattle.ipfix_read.specs.Record.{Record, HasRoom, ReadsRecord}
+use Rattle.ipfix_read.specs.Record.{Record, data_set_reading}
 use Rattle.ipfix_templates.specs.Template.{TemplateView}
 use Rattle.ipfix_read.specs.Value.{values_at}
 
@@ -19,6 +18,8 @@ abbrev pub packed_records : Kind → Option (List Field) → ℕ → List ℕ �
 packed_records kind None count bytes = []
 packed_records kind (Some fields) count bytes = whole_records kind fields count bytes
 
--- `count` records at the start of the bytes after the header of a data set, followed by its padding
-abbrev pub SkipsRecords : TemplateView → List ℕ → ℕ → List ℕ → Type 0
-SkipsRecords t bytes count padding = (records : List Record) × (length records ≡ count) × Reads (ReadsRecord t) bytes records padding × ¬ HasRoom t padding
+-- the bytes of a data set before the padding are `count` records, which are all
+abbrev pub ArePacked : TemplateView → ℕ → List ℕ → ℕ → List ℕ → Type 0
+ArePacked t offset bytes count padding =
+    let records = whole_records t.kind t.fields count (take (length bytes - length padding) bytes) in
+    (count + length padding ≤ length bytes) × (length records ≡ count) × (data_set_reading t offset bytes ≡ Ok records)

@@ -1,7 +1,6 @@
-ghost use Rattle.std.specs.Prelude.{◌≡◌, ◌<◌, ◌⊎◌, false, IfErr, IfOk, IfSome, MatchResult, OnSome, length, option_map, vec_len};
+ghost use Rattle.std.specs.Prelude.{◌≡◌, ◌<◌, false, IfOk, IfSome, MatchResult, OnSome, length, option_map, vec_len};
 ghost use Rattle.std.specs.Result.{result_map_both};
-ghost use Rattle.ipfix_read.specs.declared.fault.ReadFaultKind.TheVariants.{ReadFault as Unread};
-ghost use Rattle.ipfix_read.specs.Fault.{is_of_calls, is_of_reader};
+ghost use Rattle.ipfix_read.specs.Fault.{is_of_reader};
 ghost use Rattle.ipfix_read.specs.Message.{HasHeader};
 ghost use Rattle.ipfix_read.specs.Messages.{Gathers, ReadsInput};
 
@@ -41,7 +40,6 @@ pub fn gather<'b, R: Input>(
         (Gathers count (result_map_both (option_map (λ bytes. bytes.now)) (λ kind. kind) result)) }
     ensures whole { IfOk result (λ next. IfSome next (λ bytes. HasHeader bytes.now)) }
     ensures counted { IfOk result (λ next. OnSome next (count < 4294967295)) }
-    ensures fault { IfErr result (λ kind. (kind ≡ Unread) ⊎ (is_of_calls kind ≡ false)) }
     ensures device { R.failed reader.old ≡ false → MatchResult result (λ _. R.failed reader.new ≡ false)
         (λ kind. R.failed reader.new ≡ is_of_reader kind) }
 {

@@ -1,18 +1,25 @@
 //! Data sets.
-ghost use Rattle.std.specs.Prelude.{IfErr, IfOk, OnErr, MatchResult};
-ghost use Rattle.ipfix_read.specs.Record.{IsDataSet, HasRecord, HasRecordFault};
-ghost use Rattle.ipfix_read.specs.WholeRecords.{SkipsRecords};
+ghost use Rattle.std.specs.Prelude.{◌≡◌, ◌^◌, ◌+◌, ◌<◌, ◌≤◌, false, length, Err, IfErr, IfOk, Ok};
+ghost use Rattle.ipfix_templates.specs.Reading.{IsFault};
+ghost use Rattle.ipfix_read.specs.Fault.{is_of_calls, out_of_memory};
+ghost use Rattle.ipfix_read.specs.Record.{data_set_reading};
+ghost use Rattle.ipfix_read.specs.WholeRecords.{ArePacked};
 
+use crate::fault::{ReadFault, ReadFaultKind};
 use crate::record::RecordList;
 use crate::value::skip_values;
 use ipfix_templates::Template;
-use std::alloc::AllocError;
 
-// Returns the number of consecutive records, and the padding after them. If a record extends beyond the end of the
-// bytes, returns the offset at which that record begins.
-fn skip_records<'a>(template: &Template, bytes: &'a [u8]) -> Result<(usize, &'a [u8]), usize>
-    ensures ok { IfOk result (λ read. SkipsRecords template.now bytes.now read.0 read.1.now) }
-    ensures err { IfErr result (HasRecordFault template.now bytes.now) }
+// Returns the number of consecutive records, and the padding after them. `base` is the offset of the bytes in the File.
+fn skip_records<'a>(
+    template: &Template,
+    bytes: &'a [u8],
+    base: u64,
+) -> Result<(usize, &'a [u8]), ReadFault>
+    requires { base + length bytes.now < 2 ^ 64 }
+    ensures ok { IfOk result (λ read. ArePacked template.now base bytes.now read.0 read.1.now) }
+    ensures bytes { IfErr result (λ fault. is_of_calls fault.kind ≡ false) }
+    ensures fault { IfErr result (λ fault. data_set_reading template.now base bytes.now ≡ Err fault) }
 {
     let least = template.least_length() as usize;
     if least == 0 {
@@ -27,7 +34,11 @@ fn skip_records<'a>(template: &Template, bytes: &'a [u8]) -> Result<(usize, &'a 
     let mut rest = bytes;
     while rest.len() >= least {
         let Some(after) = skip_values(fields, rest) else {
-            return Err(bytes.len() - rest.len());
+            let offset = base + (bytes.len() - rest.len()) as u64;
+            return Err(ReadFault {
+                kind: ReadFaultKind::BadRecord,
+                offset,
+            });
         };
         count += 1;
         rest = after;
@@ -35,23 +46,25 @@ fn skip_records<'a>(template: &Template, bytes: &'a [u8]) -> Result<(usize, &'a 
     Ok((count, rest))
 }
 
-/// Returns the records of a data set under its template, given the bytes after the set's header. If a record extends
-/// beyond the end of the bytes, returns the offset at which that record begins. Trailing bytes that are too few for a
-/// record are padding.
+/// Returns the records of a data set under its template, given the bytes after the set's header. `base` is the offset of
+/// these bytes in the File. Trailing bytes that are too few for a record are padding.
+///
+/// # Errors
+///
+/// Returns `BadRecord` with the offset of the first record that extends beyond the end of the bytes, or `NoMemory` if an
+/// allocation fails.
 pub fn read_data_set<'a>(
     template: &Template,
     bytes: &'a [u8],
-) -> Result<Result<RecordList<'a>, usize>, AllocError>
-    ensures read { IfOk result (λ read. MatchResult read (λ records. IsDataSet template.now bytes.now records)
-        (λ place. HasRecordFault template.now bytes.now place)) }
-
-    // An allocation fails only if there is a well-formed record.
-    ensures memory { OnErr result (HasRecord template.now bytes.now) }
+    base: u64,
+) -> Result<RecordList<'a>, ReadFault>
+    requires { base + length bytes.now < 2 ^ 64 }
+    ensures ok { IfOk result (λ records. data_set_reading template.now base bytes.now ≡ Ok records) }
+    ensures few { IfOk result (λ records. length records ≤ length bytes.now) }
+    ensures bytes { IfErr result (λ fault. is_of_calls fault.kind ≡ false) }
+    ensures fault { IfErr result (IsFault out_of_memory (data_set_reading template.now base bytes.now)) }
 {
-    let (count, padding) = match skip_records(template, bytes) {
-        Ok(read) => read,
-        Err(place) => return Ok(Err(place)),
-    };
+    let (count, padding) = skip_records(template, bytes, base)?;
     let whole = &bytes[..bytes.len() - padding.len()];
-    Ok(Ok(RecordList::new(template.kind(), template.fields(), count, whole)?))
+    Ok(RecordList::new(template.kind(), template.fields(), count, whole)?)
 }

@@ -1,10 +1,9 @@
-ghost use Rattle.std.specs.Prelude.{◌≡◌, ◌≢◌, ◌≤◌, [], ◌⊎◌, length, false, IfOk, IfErr};
-ghost use Rattle.ipfix_templates.specs.declared.fault.TemplateFaultKind.TheVariants.{NoMemory};
-ghost use Rattle.ipfix_read.specs.Fault.{BadTemplate, out_of_memory, is_of_calls};
-ghost use Rattle.ipfix_read.specs.Messages.{ReadsFile, HasFileFault};
+ghost use Rattle.std.specs.Prelude.{◌≡◌, ◌≤◌, length, false, IfErr, IfOk, Ok};
+ghost use Rattle.ipfix_templates.specs.Reading.{IsFault};
+ghost use Rattle.ipfix_read.specs.Fault.{out_of_memory, is_of_calls};
+ghost use Rattle.ipfix_read.specs.Messages.{file_reading};
 
 use crate::fault::ReadFault;
-use crate::laws::memory_is_no_fault;
 use crate::message::{MessageList, read_message};
 use ipfix_templates::TemplateTable;
 use std::alloc::Global;
@@ -24,17 +23,12 @@ pub struct FileEvents<'a> {
 ///
 /// Returns the first fault, in byte order, or `NoMemory` if an allocation fails.
 pub fn read_file(alloc: Global, bytes: &[u8]) -> Result<FileEvents<'_>, ReadFault>
-    ensures ok { IfOk result (λ file. ReadsFile [] 0 bytes.now file.messages) }
-    ensures fault { IfErr result (λ fault. (fault ≡ out_of_memory) ⊎ HasFileFault [] 0 0 bytes.now fault) }
-
-    // A malformed template record is reported by its own fault.
-    ensures template { IfErr result (λ fault. fault.kind ≢ BadTemplate NoMemory) }
+    ensures ok { IfOk result (λ file. file_reading bytes.now ≡ Ok file.messages) }
+    ensures fault { IfErr result (IsFault out_of_memory (file_reading bytes.now)) }
 
     // The fault is not that of a failed reader or of an earlier failed call, as there are none.
     ensures of_bytes { IfErr result (λ fault. is_of_calls fault.kind ≡ false) }
 {
-    // Provides the law that no bytes have the fault that an allocation failed.
-    memory_is_no_fault();
     let mut table = TemplateTable::new(alloc);
     let mut messages = MessageList::new(alloc);
     let mut rest = bytes;

@@ -13,9 +13,8 @@
 //! File, each with its sets: template events, data records whose values are slices of the File, and skipped sets.
 //! Callers may rely on this: the File is the concatenation of the messages' bytes. A message is its header and the
 //! concatenation of its sets. A data set is its records and padding, under the template that the events before it put
-//! in force. For any other bytes, the fault is the first one in byte order. Reading may begin after any history of
-//! template events, at any offset, and after any number of messages: a first message, and the rest read from the state
-//! after it, are the whole. Any bytes have either such messages or such a fault, and only one of them.
+//! in force. For any other bytes, the fault is the first one in byte order. The messages or the fault are a function of
+//! the bytes (`file_reading`), which can be computed. The rest of a File may be read after any of its messages.
 //!
 //! `Messages` reads the same messages from a reader, one at a time, into one buffer from which the message borrows. A
 //! call returns the message that consists of the bytes that it takes from the reader, or the first fault of the File if
@@ -39,9 +38,7 @@ mod value;
 pub use buffer::Buffer;
 pub use fault::{ReadFault, ReadFaultKind};
 pub use file::{FileEvents, read_file};
-pub use laws::{
-    calls_join_file, first_message_and_rest, has_reading, memory_is_no_fault, one_reading,
-};
+pub use laws::{calls_join_file, first_message_and_rest};
 pub use message::{Message, MessageList};
 pub use messages::Messages;
 pub use progress::{Progress, State};

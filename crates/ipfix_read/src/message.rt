@@ -1,9 +1,8 @@
-ghost use Rattle.std.specs.Prelude.{◌≡◌, ◌^◌, ◌+◌, ◌<◌, ◌≤◌, ◌++◌, length, drop, false, IfOk, IfErr, OnOk, None, Some};
+ghost use Rattle.std.specs.Prelude.{◌≡◌, ◌^◌, ◌+◌, ◌<◌, ◌≤◌, length, false, IfOk, IfErr, OnOk, None, Some};
+ghost use Rattle.std.specs.Result.{result_map_both};
 ghost use Rattle.ipfix_read.specs.Fault.{is_of_calls};
-ghost use Rattle.ipfix_read.specs.Messages.{ReadsMessage};
-ghost use Rattle.ipfix_read.specs.Message.{header_fault, own_fault, events_of_message, message_size, IsMessage, HasHeader, HasMessageFault};
-ghost use Rattle.ipfix_read.specs.Set.{written_length, HasSetsFault, IsReadAfter, IsRefused};
-ghost use Rattle.byteorder.specs.Endian.{big_number};
+ghost use Rattle.ipfix_read.specs.Message.{header_fault, own_fault, events_of_message, message_next, message_size, whole_reading, HasHeader};
+ghost use Rattle.ipfix_read.specs.Set.{written_length, ReadsUnder};
 
 use crate::fault::{ReadFault, ReadFaultKind};
 use crate::set::{SetList, read_sets};
@@ -93,9 +92,7 @@ pub fn whole_message<'a>(
 ) -> Result<Message<'a>, ReadFault>
     requires header { HasHeader bytes.now }
     requires room { base + length bytes.now < 2 ^ 64 }
-    ensures ok { IfOk result (λ m. IsReadAfter table.old table.new (events_of_message m) (λ history. IsMessage history bytes.now m)) }
-    ensures fault { IfErr result (IsRefused table.old (λ history.
-        HasSetsFault history (big_number 4 (drop 12 bytes.now)) (drop 16 bytes.now) (base + 16))) }
+    ensures { ReadsUnder table.old table.new events_of_message (λ history. whole_reading history base bytes.now) result }
 {
     let export_time = BigEndian::read_u32(&bytes[4..]);
     let sequence = BigEndian::read_u32(&bytes[8..]);
@@ -140,11 +137,11 @@ pub fn read_message<'a>(
     base: u64,
 ) -> Result<(Message<'a>, &'a [u8]), ReadFault>
     requires { base + length bytes.now < 2 ^ 64 }
-    ensures ok { IfOk result (λ read. let events = events_of_message read.0 in IsReadAfter table.old table.new events
-        (λ history. ReadsMessage (history, count, bytes.now) read.0 (history ++ events, count + 1, read.1.now))) }
+    ensures read { ReadsUnder table.old table.new (λ read. events_of_message read.0)
+        (λ history. message_next history count base bytes.now)
+        (result_map_both (λ read. (read.0, read.1.now)) (λ fault. fault) result) }
     ensures counted { OnOk result (count < 4294967295) }
     ensures shorter { IfOk result (λ read. length read.1.now < length bytes.now) }
-    ensures fault { IfErr result (IsRefused table.old (λ history. HasMessageFault history count bytes.now base)) }
 {
     let size = match message_length(count, bytes) {
         Ok(size) => size,

@@ -1,6 +1,6 @@
-ghost use Rattle.std.specs.Prelude.{◌≡◌, ◌≤◌, ◌+◌, ◌⊎◌, false, IfErr, IfOk, OnSome, Ok, Err, None};
+ghost use Rattle.std.specs.Prelude.{◌≡◌, ◌≤◌, ◌+◌, false, IfOk, OnSome, Ok, Err, None};
 ghost use Rattle.ipfix_read.specs.Messages.{Going, Ended, Failed, AnswersNext, ReadsInput, at_start, is_read_fault};
-ghost use Rattle.ipfix_read.specs.Fault.{failed_before, is_of_calls, read_fault};
+ghost use Rattle.ipfix_read.specs.Fault.{failed_before};
 
 use crate::buffer::{Buffer, gather};
 use crate::fault::{ReadFault, ReadFaultKind};
@@ -77,9 +77,7 @@ impl Progress {
         ensures failed { self.old.state ≡ Failed
             → (result ≡ Err failed_before) × (self.new ≡ self.old) × (reader.new ≡ reader.old) }
 
-        // `fault` and `counted` say less than `going`, in a form that is simpler to use.
-        ensures fault { self.old.state ≡ Going → IfErr result (λ fault.
-            (fault ≡ read_fault self.old.offset) ⊎ (is_of_calls fault.kind ≡ false)) }
+        // `counted` says less than `going`, in a form that is simpler to use.
         ensures counted { IfOk result (λ next. OnSome next ((self.new.count ≡ self.old.count + 1)
             × (self.new.count ≤ 4294967295) × (self.new.state ≡ Going))) }
         ensures device { R.failed reader.old ≡ false → R.failed reader.new ≡ is_read_fault result }

@@ -1,4 +1,4 @@
-ghost use Rattle.std.specs.Prelude.{◌≡◌, ◌<◌, ◌≤◌, [], All, IfOk, IfSome, MatchOption, OnErr, length, map};
+ghost use Rattle.std.specs.Prelude.{◌≡◌, ◌≤◌, [], All, IfOk, IfSome, MatchOption, length, map};
 ghost use Rattle.std.specs.Iterator.{YieldsFirst, item_count};
 ghost use Rattle.ipfix_read.specs.WholeRecords.{whole_records};
 
@@ -49,8 +49,7 @@ impl<'a> RecordList<'a> {
         bytes: &'a [u8],
     ) -> Result<Self, AllocError>
         requires { length (whole_records kind fields.now count bytes.now) ≡ count }
-        ensures ok { IfOk result (λ records. records ≡ whole_records kind fields.now count bytes.now) }
-        ensures err { OnErr result (0 < count) }
+        ensures { IfOk result (λ records. records ≡ whole_records kind fields.now count bytes.now) }
     {
         if count == 0 {
             return Ok(RecordList {

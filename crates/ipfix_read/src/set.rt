@@ -1,7 +1,8 @@
-ghost use Rattle.std.specs.Prelude.{◌≢◌, ◌^◌, ◌+◌, ◌<◌, ◌≤◌, ◌++◌, ℕ, List, length, IfOk, IfErr, OnOk};
+ghost use Rattle.std.specs.Prelude.{◌≡◌, ◌^◌, ◌+◌, ◌<◌, ◌≤◌, ◌++◌, ℕ, List, length, IfOk, None, OnOk};
+ghost use Rattle.std.specs.Result.{result_map_both};
 ghost use Rattle.ipfix_templates.specs.declared.event.TemplateEvent.{TemplateEvent as Event};
 ghost use Rattle.ipfix_templates.specs.InForce.{Follows};
-ghost use Rattle.ipfix_read.specs.Set.{in_domain, events_of_set, events_of_sets, IsContent, HasContentFault, ReadsSet, HasSetFault, IsSets, HasSetsFault, IsReadAfter, IsRefused};
+ghost use Rattle.ipfix_read.specs.Set.{in_domain, events_of_set, events_of_sets, content_reading, set_next, sets_reading, template_kind, ReadsUnder};
 ghost use Rattle.ipfix_read.specs.Message.{set_size, message_size};
 
 use crate::data_set::read_data_set;
@@ -61,6 +62,19 @@ fn apply_events(
     Ok(())
 }
 
+// Returns the kind of the templates that a set with this ID holds, if it holds templates.
+fn template_kind(id: u16) -> Option<Kind>
+    ensures { result ≡ template_kind id }
+{
+    if id == Kind::Flow.set_id() {
+        Some(Kind::Flow)
+    } else if id == Kind::Options.set_id() {
+        Some(Kind::Options)
+    } else {
+        None
+    }
+}
+
 // Reads the content of a set with this ID, which isn't the ID of template sets or options template sets.
 fn read_values_of<'a>(
     table: &TemplateTable,
@@ -70,12 +84,10 @@ fn read_values_of<'a>(
     base: u64,
 ) -> Result<Set<'a>, ReadFault>
     requires room { base + length bytes.now < 2 ^ 64 }
-    requires flow { id ≢ 2 }
-    requires options { id ≢ 3 }
-    ensures ok { IfOk result (λ set. IsReadAfter table.now table.now (events_of_set domain set)
-        (λ history. IsContent history domain id bytes.now set)) }
+    requires values { template_kind id ≡ None }
+    ensures read { ReadsUnder table.now table.now (events_of_set domain)
+        (λ history. content_reading history domain id base bytes.now) result }
     ensures size { IfOk result (λ set. set_size set ≤ 1 + length bytes.now) }
-    ensures fault { IfErr result (IsRefused table.now (λ history. HasContentFault history domain id bytes.now base)) }
 {
     if id < FIRST_DATA_SET_ID {
         return Ok(Set::Skipped(id));
@@ -83,13 +95,8 @@ fn read_values_of<'a>(
     let Some(template) = table.get(domain, id) else {
         return Ok(Set::Skipped(id));
     };
-    match read_data_set(template, bytes)? {
-        Ok(records) => Ok(Set::Values(template.kind(), records)),
-        Err(place) => Err(ReadFault {
-            kind: ReadFaultKind::BadRecord,
-            offset: base + place as u64,
-        }),
-    }
+    let records = read_data_set(template, bytes, base)?;
+    Ok(Set::Values(template.kind(), records))
 }
 
 // Reads the content of a set with this ID. The events of a template set change the table, even if an allocation fails
@@ -103,16 +110,11 @@ fn read_content<'a>(
     base: u64,
 ) -> Result<Set<'a>, ReadFault>
     requires { base + length bytes.now < 2 ^ 64 }
-    ensures ok { IfOk result (λ set. IsReadAfter table.old table.new (events_of_set domain set)
-        (λ history. IsContent history domain id bytes.now set)) }
+    ensures read { ReadsUnder table.old table.new (events_of_set domain)
+        (λ history. content_reading history domain id base bytes.now) result }
     ensures size { IfOk result (λ set. set_size set ≤ 1 + length bytes.now) }
-    ensures fault { IfErr result (IsRefused table.old (λ history. HasContentFault history domain id bytes.now base)) }
 {
-    let kind = if id == Kind::Flow.set_id() {
-        Kind::Flow
-    } else if id == Kind::Options.set_id() {
-        Kind::Options
-    } else {
+    let Some(kind) = template_kind(id) else {
         return read_values_of(table, domain, id, bytes, base);
     };
     let events = match read_template_set(alloc, bytes, kind) {
@@ -139,10 +141,10 @@ fn read_set<'a>(
     base: u64,
 ) -> Result<(Set<'a>, &'a [u8]), ReadFault>
     requires { base + length bytes.now < 2 ^ 64 }
-    ensures ok { IfOk result (λ read. let events = events_of_set domain read.0 in IsReadAfter table.old table.new events
-        (λ history. ReadsSet domain (history, bytes.now) read.0 (history ++ events, read.1.now))) }
+    ensures read { ReadsUnder table.old table.new (λ read. events_of_set domain read.0)
+        (λ history. set_next history domain base bytes.now)
+        (result_map_both (λ read. (read.0, read.1.now)) (λ fault. fault) result) }
     ensures size { IfOk result (λ read. set_size read.0 + length read.1.now < length bytes.now) }
-    ensures fault { IfErr result (IsRefused table.old (λ history. HasSetFault history domain bytes.now base)) }
 {
     let bad_length = ReadFault {
         kind: ReadFaultKind::BadSetLength,
@@ -156,7 +158,7 @@ fn read_set<'a>(
         return Err(bad_length);
     }
     let (front, after) = bytes.split_at(length);
-    let id = BigEndian::read_u16(front);
+    let id = BigEndian::read_u16(bytes);
     let set = read_content(alloc, table, domain, id, &front[HEADER_LENGTH..], base + 4)?;
     Ok((set, after))
 }
@@ -171,10 +173,9 @@ pub fn read_sets<'a>(
     base: u64,
 ) -> Result<SetList<'a>, ReadFault>
     requires { base + length bytes.now < 2 ^ 64 }
-    ensures ok { IfOk result (λ sets. IsReadAfter table.old table.new (events_of_sets domain sets)
-        (λ history. IsSets history domain bytes.now sets)) }
+    ensures read { ReadsUnder table.old table.new (events_of_sets domain)
+        (λ history. sets_reading history domain base bytes.now) result }
     ensures size { IfOk result (λ sets. message_size sets ≤ length bytes.now) }
-    ensures fault { IfErr result (IsRefused table.old (λ history. HasSetsFault history domain bytes.now base)) }
 {
     let mut sets = SetList::new(alloc);
     let mut rest = bytes;

@@ -1,4 +1,5 @@
-use Rattle.std.specs.Prelude.{◌≡◌, List, [], ◌∷◌, ℕ, zero, suc, ◌+◌, ◌-◌, ◌<◌, ◌≤◌, length, drop, Option, Some, None, Result, Ok, Err, IsOk, option_and_then, nat_lt, ◌==◌, ◌||◌, if◌then◌else◌}
+use Rattle.std.specs.Prelude.{◌≡◌, ◌⊎◌, List, [], ◌∷◌, ◌++◌, ℕ, zero, suc, ◌+◌, ◌-◌, Bool, true, false, length, drop, Option, Some, None, Result, Ok, Err, option_and_then, nat_lt, ◌==◌, ◌||◌, if◌then◌else◌}
+use Rattle.std.specs.Result.{result_map_both}
 use Rattle.byteorder.specs.Endian.{big_number}
 pub use Rattle.ipfix_templates.specs.declared.fault.TemplateFault.{TemplateFault}
 pub use Rattle.ipfix_templates.specs.declared.fault.TemplateFaultKind.TheVariants.{BadScope, BadTemplateId, NoMemory, Truncated}
@@ -11,20 +12,28 @@ pub use Rattle.ipfix_templates.specs.declared.fault.TemplateFaultKind.{TemplateF
 abbrev pub out_of_memory : TemplateFault
 out_of_memory = record { kind = NoMemory; offset = 0 }
 
--- Reading one item after another: a step reads one item in one state and leads to the next state.
-module _ {S A : Type 0} (step : S → A → S → Type 0) where
-  -- steps from the start read these items, and lead to the end
-  abbrev pub Reads : S → List A → S → Type 0
-  Reads start [] end = start ≡ end
-  Reads start (x ∷ xs) end = (next : S) × step start x next × Reads next xs end
+-- Reading one item after another. `next` takes the items so far, and the remaining bytes with their offset. It reads the
+-- item at the start of the bytes, and gives it with the bytes after it, or gives a fault. The items end at bytes that pass
+-- the test `ends`.
+module _ {A F : Type 0} (ends : List ℕ → Bool) (next : List A → ℕ → List ℕ → Result (A × List ℕ) F) where
+  -- these items and at most `most` more, or the first fault
+  abbrev pub items_by : ℕ → List A → ℕ → List ℕ → Result (List A) F
+  items_by zero items offset bytes = Ok items
+  items_by (suc most) items offset bytes = on (items_by most) (ends bytes) (next items offset bytes)
+    where
+      on : (List A → ℕ → List ℕ → Result (List A) F) → Bool → Result (A × List ℕ) F → Result (List A) F
+      on rest true read = Ok items
+      on rest false (Err fault) = Err fault
+      on rest false (Ok (item, after)) = rest (items ++ item ∷ []) (offset + (length bytes - length after)) after
 
-  -- these items are read, and then reading may end
-  abbrev pub ReadsWhole : (S → Type 0) → S → List A → Type 0
-  ReadsWhole ends start xs = (end : S) × Reads start xs end × ends end
+  -- these items and all that follow them, or the first fault; an item has at least one byte, so there are at most as
+  -- many as bytes
+  abbrev pub items_from : List A → ℕ → List ℕ → Result (List A) F
+  items_from items offset bytes = items_by (length bytes) items offset bytes
 
-  -- some items are read, and then there is this fault
-  abbrev pub StopsAt : {F : Type 0} → (S → F → Type 0) → S → F → Type 0
-  StopsAt faulty start fault = (xs : List A) × (at : S) × Reads start xs at × faulty at fault
+-- a fault of reading: an allocation failed, or the bytes have this fault
+abbrev pub IsFault : {A F : Type 0} → F → Result A F → F → Type 0
+IsFault memory reading fault = (fault ≡ memory) ⊎ (reading ≡ Err fault)
 
 -- Consecutive template records (RFC 7011 sections 3.2 and 3.4).
 
@@ -74,24 +83,11 @@ template_record_at kind bytes =
     else (if nat_lt id 256 then Err BadTemplateId
     else definition_at kind id count (drop 4 bytes))
 
--- a record at the start is this event, and is followed by these bytes
-abbrev pub ReadsEvent : Kind → List ℕ → TemplateEvent → List ℕ → Type 0
-ReadsEvent kind bytes event after = (4 ≤ length bytes) × (template_record_at kind bytes ≡ Ok (event, after))
+-- the template record at the start of bytes at this offset, and the bytes after it, or its fault
+abbrev pub template_next : Kind → ℕ → List ℕ → Result (TemplateEvent × List ℕ) TemplateFault
+template_next kind offset bytes = result_map_both (λ read. read) (λ fault. record { kind = fault; offset = offset }) (template_record_at kind bytes)
 
--- the bytes after the header of a template set are these records, followed by fewer bytes than a record has, which are
+-- the records of a template set, given the bytes after its header, or the first fault; fewer bytes than a record has are
 -- padding
-abbrev pub IsTemplateSet : Kind → List ℕ → List TemplateEvent → Type 0
-IsTemplateSet kind bytes events = ReadsWhole (ReadsEvent kind) (λ rest. length rest < 4) bytes events
-
--- after some records there is no padding, but another record
-abbrev pub HasTemplateRecord : Kind → List ℕ → Type 0
-HasTemplateRecord kind bytes =
-    (events : List TemplateEvent) × (rest : List ℕ) × Reads (ReadsEvent kind) bytes events rest × (4 ≤ length rest) × IsOk (template_record_at kind rest)
-
--- at the start of the rest of this many bytes there is no padding and no record, but this fault
-abbrev pub IsRecordFault : Kind → ℕ → List ℕ → TemplateFault → Type 0
-IsRecordFault kind size rest fault = (4 ≤ length rest) × (template_record_at kind rest ≡ Err fault.kind) × (fault.offset + length rest ≡ size)
-
--- after some records this is the first fault
-abbrev pub HasTemplateFault : Kind → List ℕ → TemplateFault → Type 0
-HasTemplateFault kind bytes fault = StopsAt (ReadsEvent kind) (IsRecordFault kind (length bytes)) bytes fault
+abbrev pub template_set_reading : Kind → List ℕ → Result (List TemplateEvent) TemplateFault
+template_set_reading kind bytes = items_from (λ rest. nat_lt (length rest) 4) (λ events. template_next kind) [] 0 bytes

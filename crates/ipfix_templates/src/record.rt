@@ -1,5 +1,5 @@
-ghost use Rattle.std.specs.Prelude.{◌≡◌, ◌≤◌, ◌<◌, length, is_some, IfOk, IfSome, IsOk, IsSome, OnErr, Ok, Err, MatchResult, option_map};
-ghost use Rattle.ipfix_templates.specs.Reading.{field_at, fields_at, template_record_at, definition_at};
+ghost use Rattle.std.specs.Prelude.{◌≡◌, ◌≤◌, ◌<◌, ◌⊎◌, length, IfErr, IfOk, Ok, None, Some, option_map};
+ghost use Rattle.ipfix_templates.specs.Reading.{NoMemory, Truncated, IsFault, field_at, fields_at, template_record_at, definition_at};
 
 use crate::event::TemplateEvent;
 use crate::fault::TemplateFaultKind;
@@ -8,9 +8,10 @@ use crate::fields::Fields;
 use crate::kind::Kind;
 use crate::template::Template;
 use byteorder::{BigEndian, ByteOrder};
-use std::alloc::{AllocError, Global};
+use std::alloc::Global;
 
-/// A value that was read from the start of some bytes, and the bytes after it; or the fault of these bytes.
+/// A value that was read from the start of some bytes, and the bytes after it. Or the fault of these bytes, or that an
+/// allocation failed.
 pub type Read<'a, T> = Result<(T, &'a [u8]), TemplateFaultKind>;
 
 // The bit of a field specifier's first two bytes that is set if an enterprise number follows.
@@ -46,113 +47,87 @@ fn read_field(bytes: &[u8]) -> Option<(Field, &[u8])>
     Some((field, rest))
 }
 
-// Returns `true` if the bytes start with `count` field specifiers.
-fn has_fields(count: u16, bytes: &[u8]) -> bool
-    ensures { result ≡ is_some (fields_at count bytes.now) }
+// Reads `count` field specifiers from the start of the bytes, and returns them with the bytes after them.
+fn read_fields(alloc: Global, count: u16, bytes: &[u8]) -> Read<'_, Fields>
+    ensures ok { IfOk result (λ x. fields_at count bytes.now ≡ Some (x.0, x.1.now)) }
+    ensures counted { IfOk result (λ x. length x.0 ≡ count) }
+    ensures fault { IfErr result (λ fault. (fault ≡ NoMemory) ⊎ ((fault ≡ Truncated) × (fields_at count bytes.now ≡ None))) }
 {
-    let mut rest = bytes;
-    for _ in 0..count {
-        let Some(read) = read_field(rest) else {
-            return false;
-        };
-        rest = read.1;
-    }
-    true
-}
-
-// Reads `count` field specifiers from the start of the bytes, and returns them with the bytes after them. Returns
-// `None` if the input is too short. Nothing is allocated in this case.
-fn read_fields(
-    alloc: Global,
-    count: u16,
-    bytes: &[u8],
-) -> Result<Option<(Fields, &[u8])>, AllocError>
-    ensures read { IfOk result (λ read. option_map (λ x. (x.0, x.1.now)) read ≡ fields_at count bytes.now) }
-    ensures counted { IfOk result (λ read. IfSome read (λ x. length x.0 ≡ count)) }
-    ensures memory { OnErr result (IsSome (fields_at count bytes.now)) }
-{
-    if !has_fields(count, bytes) {
-        return Ok(None);
-    }
     let mut fields = Vec::new(alloc);
     let mut rest = bytes;
     for _ in 0..count {
         let Some(read) = read_field(rest) else {
-            return Ok(None);
+            return Err(TemplateFaultKind::Truncated);
         };
-        fields.push(read.0)?;
+        let Ok(()) = fields.push(read.0) else {
+            return Err(TemplateFaultKind::NoMemory);
+        };
         rest = read.1;
     }
-    Ok(Some((Fields::from_vec(fields)?, rest)))
+    let Ok(fields) = Fields::from_vec(fields) else {
+        return Err(TemplateFaultKind::NoMemory);
+    };
+    Ok((fields, rest))
 }
 
 // Reads the definition that follows an ID and a field count.
 #[tactic(auto, unfolding(crate::specs::Reading::definition_at))]
-fn read_definition<'a>(
+fn read_definition(
     alloc: Global,
     kind: Kind,
     id: u16,
     count: u16,
-    bytes: &'a [u8],
-) -> Result<Read<'a, TemplateEvent>, AllocError>
+    bytes: &[u8],
+) -> Read<'_, TemplateEvent>
     requires numbered { 256 ≤ id }
     requires some_field { 0 < count }
-    ensures read { IfOk result (λ read. MatchResult read (λ x. definition_at kind id count bytes.now
-        ≡ Ok (x.0, x.1.now))
-        (λ fault. definition_at kind id count bytes.now ≡ Err fault)) }
-    ensures memory { OnErr result (IsOk (definition_at kind id count bytes.now)) }
+    ensures ok { IfOk result (λ x. definition_at kind id count bytes.now ≡ Ok (x.0, x.1.now)) }
+    ensures fault { IfErr result (IsFault NoMemory (definition_at kind id count bytes.now)) }
 {
     let mut rest = bytes;
     let mut scope_count = 0;
     if let Kind::Options = kind {
         if bytes.len() < 2 {
-            return Ok(Err(TemplateFaultKind::Truncated));
+            return Err(TemplateFaultKind::Truncated);
         }
         scope_count = BigEndian::read_u16(bytes);
         if scope_count == 0 || scope_count > count {
-            return Ok(Err(TemplateFaultKind::BadScope));
+            return Err(TemplateFaultKind::BadScope);
         }
         rest = &bytes[2..];
     }
-    let Some((fields, rest)) = read_fields(alloc, count, rest)? else {
-        return Ok(Err(TemplateFaultKind::Truncated));
-    };
+    let (fields, rest) = read_fields(alloc, count, rest)?;
     let template = Template {
         id,
         kind,
         scope_count,
         fields,
     };
-    Ok(Ok((TemplateEvent::Define(template), rest)))
+    Ok((TemplateEvent::Define(template), rest))
 }
 
 /// Reads the template record at the start of the bytes (RFC 7011 sections 3.4.1 and 3.4.2), and returns it with the
-/// bytes after it. Nothing is allocated if the record has a fault.
+/// bytes after it.
 #[tactic(auto, unfolding(crate::specs::Reading::template_record_at))]
-pub fn read_record<'a>(
-    alloc: Global,
-    kind: Kind,
-    bytes: &'a [u8],
-) -> Result<Read<'a, TemplateEvent>, AllocError>
+pub fn read_record(alloc: Global, kind: Kind, bytes: &[u8]) -> Read<'_, TemplateEvent>
     requires { 4 ≤ length bytes.now }
-    ensures read { IfOk result (λ read. MatchResult read (λ x. template_record_at kind bytes.now ≡ Ok (x.0, x.1.now))
-        (λ fault. template_record_at kind bytes.now ≡ Err fault)) }
-    ensures memory { OnErr result (IsOk (template_record_at kind bytes.now)) }
+    ensures ok { IfOk result (λ x. template_record_at kind bytes.now ≡ Ok (x.0, x.1.now)) }
+    ensures fault { IfErr result (IsFault NoMemory (template_record_at kind bytes.now)) }
 {
     let id = BigEndian::read_u16(bytes);
     let count = BigEndian::read_u16(&bytes[2..]);
     let rest = &bytes[4..];
     if count == 0 {
         if id == kind.set_id() {
-            return Ok(Ok((TemplateEvent::WithdrawAll(kind), rest)));
+            return Ok((TemplateEvent::WithdrawAll(kind), rest));
         }
         if id < FIRST_TEMPLATE_ID {
-            return Ok(Err(TemplateFaultKind::BadTemplateId));
+            return Err(TemplateFaultKind::BadTemplateId);
         }
-        return Ok(Ok((TemplateEvent::Withdraw(id), rest)));
+        return Ok((TemplateEvent::Withdraw(id), rest));
     }
     if id < FIRST_TEMPLATE_ID {
-        return Ok(Err(TemplateFaultKind::BadTemplateId));
+        return Err(TemplateFaultKind::BadTemplateId);
     }
     read_definition(alloc, kind, id, count, rest)
 }

@@ -1,12 +1,12 @@
 //! Template sets.
-ghost use Rattle.std.specs.Prelude.{◌≡◌, IfOk, IfErr, ◌⊎◌};
-ghost use Rattle.ipfix_templates.specs.Reading.{IsTemplateSet, HasTemplateFault, HasTemplateRecord, out_of_memory};
+ghost use Rattle.std.specs.Prelude.{◌≡◌, ◌≤◌, length, IfErr, IfOk, Ok};
+ghost use Rattle.ipfix_templates.specs.Reading.{IsFault, template_set_reading, out_of_memory};
 
 use crate::event::TemplateEvents;
-use crate::fault::TemplateFault;
+use crate::fault::{TemplateFault, TemplateFaultKind};
 use crate::kind::Kind;
 use crate::record::read_record;
-use std::alloc::Global;
+use std::alloc::{AllocError, Global};
 
 /// Reads the bytes after the header of a template set, or of an options template set if the kind is `Options` (RFC 7011
 /// section 3.3). Records are read while at least 4 bytes remain. Fewer bytes are padding.
@@ -20,25 +20,24 @@ pub fn read_template_set(
     bytes: &[u8],
     kind: Kind,
 ) -> Result<TemplateEvents, TemplateFault>
-    ensures ok { IfOk result (λ events. IsTemplateSet kind bytes.now events) }
-    ensures fault { IfErr result (λ fault. (fault ≡ out_of_memory) ⊎ HasTemplateFault kind bytes.now fault) }
-
-    // An allocation fails only at a well-formed record, and all records before it are well formed.
-    ensures memory { IfErr result (λ fault. fault ≡ out_of_memory → HasTemplateRecord kind bytes.now) }
+    ensures ok { IfOk result (λ events. template_set_reading kind bytes.now ≡ Ok events) }
+    ensures few { IfOk result (λ events. length events ≤ length bytes.now) }
+    ensures place { IfErr result (λ fault. fault.offset ≤ length bytes.now) }
+    ensures fault { IfErr result (IsFault out_of_memory (template_set_reading kind bytes.now)) }
 {
     let mut events = TemplateEvents::new(alloc);
     let mut rest = bytes;
     while rest.len() >= 4 {
-        match read_record(alloc, kind, rest)? {
-            Ok((event, after)) => {
-                events.push(event)?;
-                rest = after;
-            }
+        let (event, after) = match read_record(alloc, kind, rest) {
+            Ok(read) => read,
+            Err(fault) if fault == TemplateFaultKind::NoMemory => return Err(AllocError.into()),
             Err(kind) => {
                 let offset = (bytes.len() - rest.len()) as u64;
                 return Err(TemplateFault { kind, offset });
             }
-        }
+        };
+        events.push(event)?;
+        rest = after;
     }
     Ok(events)
 }

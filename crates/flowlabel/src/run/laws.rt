@@ -18,13 +18,10 @@ use pmap_print::{
 pub fn one_output()
     ensures { HasOneOutput }
 {
-    ipfix_read::has_reading();
-    ipfix_read::one_reading();
     labelling_has_its_runs();
     labelling_has_one_runs_text();
     map_text_has_a_minimal_pair();
     minimal_pair_is_unique();
-    text_of_format_is_read_or_has_a_fault();
 }
 
 /// For each map text, `shrink` prints a shortest list, or its certificate. If the list is within the limits of a text,

@@ -48,10 +48,8 @@ fn take_from_reader<R: Input, P: Report>(
     ensures taken { TakesFile (P.is_of report.now) (R.bytes_left reader.old) (R.bytes_left reader.new) taken.new result }
     ensures failed { R.failed reader.new ≡ is_unread result }
 {
-    // Provides the laws that the calls so far and the next one read the whole File, and that no fault of its bytes is one
-    // of a reader or of an allocation.
+    // Provides the law that the calls so far and the next one read the whole File.
     ipfix_read::calls_join_file();
-    ipfix_read::memory_is_no_fault();
     let mut buffer = Buffer::new(alloc)?;
     let mut progress = Progress::new(alloc);
     loop {

@@ -5,7 +5,6 @@ ghost use Rattle.flowlabel.specs.Request.{shrink};
 use crate::command::Shrunk;
 use crate::output_fault::OutputFault;
 use crate::run::reading::map_in;
-use pmap_cert::text_of_format_is_read_or_has_a_fault;
 use pmap_minimise::{certificate_text, compact_text, shortest};
 use pmap_print::print_list;
 use pmap_text::KeyHashing;
@@ -20,8 +19,6 @@ pub fn output(
 ) -> Result<Vec<u8>, OutputFault>
     ensures { Returns (IsOutput (shrink text.items printed)) result }
 {
-    // Provides the law that a certificate is read again from its text.
-    text_of_format_is_read_or_has_a_fault();
     let map = map_in(alloc, text, hashing)?;
     match printed {
         Shrunk::List => Ok(print_list(alloc, &shortest(alloc, map)?)?),

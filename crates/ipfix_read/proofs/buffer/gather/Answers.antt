@@ -1,4 +1,4 @@
-use Rattle.std.proofs.Common.{rules, ◌∙◌, inl, inr, refl, sym, arith}
+use Rattle.std.proofs.Common.{rules, ◌∙◌, sym, arith}
 use Rattle.std.proofs.lemmas.Result.{err_from_is_err_and}
 use Rattle.ipfix_read.proofs.Gathering.{own_sound, head_of, unread_header, unread_rest, nothing_left, short_header, faulty_header, short_message, gathered, holds_message}
 use Rattle.ipfix_read.proofs.Readings.{not_of_reader}
@@ -34,7 +34,7 @@ pub returns-in_err-head : goal.returns-in_err-head
 returns-in_err-head g c =
     let p = err_from_is_err_and c.from_residual.result c.from_residual.ensures.1 in
     let failed = c.in_err-head.ensures.err in
-    rw (p.1, p.2, failed.0) (record { gathers = unread_header _ _ c.args.count c.fill.new.bytes (search rules) c.in_err-head.ensures.short; whole = tt; counted = tt; fault = inl refl; device = λ none. failed.1 })
+    rw (p.1, p.2, failed.0) (record { gathers = unread_header _ _ c.args.count c.fill.new.bytes (search rules) c.in_err-head.ensures.short; whole = tt; counted = tt; device = λ none. failed.1 })
 
 pub returns-in_err-got : goal.returns-in_err-got
 returns-in_err-got g c =
@@ -45,7 +45,6 @@ returns-in_err-got g c =
           c.in_ok-size.size _ c.in_ok-size.ensures.ok c.in_ok-size.ensures.whole c.fill-2.new.bytes (search rules) c.in_err-got.ensures.short;
       whole = tt;
       counted = tt;
-      fault = inl refl;
       device = λ none. failed.1;
     })
 
@@ -54,9 +53,8 @@ returns-in_err-size g c =
     let p = err_from_is_err_and c.from_residual-in_err-size.result c.from_residual-in_err-size.ensures.1 in
     let found = c.in_err-size.ensures.fault in
     rw (p.1, p.2) (record {
-      gathers = faulty_header _ _ c.args.count c.in_ok-head.head c.fill.new.bytes c.in_ok-head.ensures.given c.args.buffer.now (search rules) (search rules) c.in_err-size.field-0.0 found.0;
+      gathers = faulty_header _ _ c.args.count c.in_ok-head.head c.fill.new.bytes c.in_ok-head.ensures.given c.args.buffer.now (search rules) (search rules) c.in_err-size.field-0.0 found.1 found.0;
       whole = tt;
       counted = tt;
-      fault = inr found.1;
       device = λ none. c.in_ok-head.ensures.ok ∙ none ∙ sym (not_of_reader c.in_err-size.field-0.0 found.1);
     })

@@ -1,8 +1,5 @@
-use Rattle.ipfix_read.proofs.Joining.{calls_begin, calls_join_file, calls_start}
+use Rattle.ipfix_read.proofs.Joining.{calls_join_file, calls_start}
 use Rattle.ipfix_read.proofs.laws.calls_join_file.Goals as goal
-
-pub returns-clause-begin : goal.returns-clause-begin
-returns-clause-begin c = calls_begin
 
 pub returns-clause-start : goal.returns-clause-start
 returns-clause-start c = calls_start

@@ -1,6 +1,9 @@
-use Rattle.std.proofs.Common.{arith}
-use Rattle.ipfix_templates.proofs.Records.{events_fit}
+use Rattle.std.proofs.Common.{refl, sym, ◌∙◌}
+use Rattle.ipfix_read.proofs.Sets.{templates_read}
 use Rattle.ipfix_read.proofs.set.read_content.Goals as goal
 
-pub returns-clause-size : goal.returns-clause-size
-returns-clause-size c = omega (arith, events_fit c.if-id-set_id.kind c.args.bytes.now c.in-Ok.events c.in-Ok.ensures.ok)
+pub returns-clause-read : goal.returns-clause-read
+returns-clause-read c = λ history follows. (
+  templates_read history c.args.domain c.args.id c.args.base c.args.bytes.now c.in-Some.kind (sym c.in-Some.ensures) ∙ rw c.in-Ok.ensures.ok refl,
+  c.in_ok-apply_events.ensures history follows,
+)

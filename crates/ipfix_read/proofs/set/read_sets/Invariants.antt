@@ -1,16 +1,17 @@
-use Rattle.std.proofs.Common.{ℕ, ◌+◌, ◌≤◌, List, length}
+use Rattle.std.proofs.Common.{◌≡◌, ℕ, ◌+◌, ◌-◌, ◌≤◌, List, ◌++◌, length}
 use Rattle.ipfix_templates.specs.declared.event.TemplateEvent.{TemplateEvent}
-use Rattle.ipfix_templates.specs.Reading.{Reads}
 use Rattle.ipfix_templates.specs.InForce.{Follows}
-use Rattle.ipfix_read.specs.Set.{ReadsSet}
+use Rattle.ipfix_read.specs.Set.{events_of_sets, sets_reading}
 use Rattle.ipfix_read.specs.Message.{message_size}
+use Rattle.ipfix_read.proofs.Sets.{sets_from}
 use Rattle.ipfix_read.proofs.set.read_sets.Given as goal
 
 abbrev pub invariant-loop-rest : goal.invariant-loop-rest
 invariant-loop-rest l = record {
   within : message_size l.sets + length l.rest ≤ length l.bytes;
   read : (history : List (ℕ × TemplateEvent)) → Follows l.initial.table history
-      → (later : List (ℕ × TemplateEvent)) × Reads (ReadsSet l.domain) (history, l.bytes) l.sets (later, l.rest) × Follows l.table later;
+      → (sets_reading history l.domain l.base l.bytes ≡ sets_from history l.domain l.sets (l.base + (length l.bytes - length l.rest)) l.rest)
+      × Follows l.table (history ++ events_of_sets l.domain l.sets);
 }
 
 abbrev pub decreases-loop-rest : goal.decreases-loop-rest

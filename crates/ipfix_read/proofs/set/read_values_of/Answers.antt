@@ -1,8 +1,11 @@
-use Rattle.std.proofs.Common.{arith}
-use Rattle.ipfix_read.proofs.RecordValues.{records_shorter}
+use Rattle.std.proofs.Common.{refl, sym, ◌∙◌}
+use Rattle.ipfix_read.proofs.Sets.{records_read, same_history}
 use Rattle.ipfix_read.proofs.set.read_values_of.Goals as goal
 
-pub returns-in-Ok-clause-size : goal.returns-in-Ok-clause-size
-returns-in-Ok-clause-size c =
-    let is = rw c.in-Ok.is at c.in_ok-records.ensures.read in
-    omega (arith, records_shorter c.in-Some.template.now c.args.bytes.now c.in-Ok.records is.0 is.1)
+pub returns-clause-read : goal.returns-clause-read
+returns-clause-read c = λ history follows.
+    let is = sym (c.in-Some.ensures.found ∙ follows c.args.domain c.args.id) in (
+      records_read history c.args.domain c.args.id c.args.base c.args.bytes.now c.requires.values c.in-Some.template.now c.if-id-lt-FIRST_DATA_SET_ID.false is
+          ∙ rw (c.in_ok-records.ensures.ok, c.kind.ensures) refl,
+      same_history c.args.table.now history follows,
+    )

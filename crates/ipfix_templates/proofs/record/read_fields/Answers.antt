@@ -1,29 +1,23 @@
-use Rattle.std.proofs.Common.{◌≡◌, [], ◌∷◌, ◌++◌, ◌+◌, ◌-◌, rules, arith, sym, ◌∙◌}
+use Rattle.std.proofs.Common.{◌≡◌, [], ◌∷◌, ◌++◌, ◌+◌, ◌-◌, rules, arith, inr, refl, sym, ◌∙◌}
 use Rattle.std.proofs.lemmas.Grind.{common_steps}
 use Rattle.std.proofs.lemmas.List.{append-nil}
 use Rattle.ipfix_templates.specs.Reading.{fields_at}
 use Rattle.ipfix_templates.proofs.Records.{regroup, next_field, no_field, all_fields}
 use Rattle.ipfix_templates.proofs.record.read_fields.Goals as goal
 
-pub returns-in_default-clause-read : goal.returns-in_default-clause-read
-returns-in_default-clause-read c = rw (no_field c.args.count c.loop.counter c.loop.rest.now c.loop-test.true (search rules)) at c.loop.invariant.read
+pub returns-in_default-clause-fault : goal.returns-in_default-clause-fault
+returns-in_default-clause-fault c = inr (refl, sym (rw (no_field c.args.count c.loop.counter c.loop.rest.now c.loop-test.true (search rules)) at c.loop.invariant.read))
 
 pub loop-preserved : goal.loop-preserved
 loop-preserved c = record {
   read =
       let f = c.in-Some.read.0 in let after = c.in-Some.read.1.now in
-      let items : c.push.new.self.items ≡ c.loop.fields.items ++ f ∷ [] = c.in_ok-push.ensures.items in
+      let items : c.push.new.self.items ≡ c.loop.fields.items ++ f ∷ [] = c.in-Ok.ensures.items in
       rw items (sym (regroup c.loop.fields.items f (fields_at (c.args.count - (c.loop.counter + 1)) after))
       ∙ (rw (next_field c.args.count c.loop.counter c.loop.rest.now f after c.loop-test.true (search rules)) at c.loop.invariant.read));
   counted = grind (arith, common_steps);
 }
 
-pub returns-clause-read : goal.returns-clause-read
-returns-clause-read c =
-    rw c.in_ok-from_vec.ensures (rw (all_fields c.args.count c.loop.counter c.loop.rest.now c.loop-test.false, append-nil c.loop.fields.items) at c.loop.invariant.read)
-
-pub returns-in_err-push-clause-memory : goal.returns-in_err-push-clause-memory
-returns-in_err-push-clause-memory c = grind (arith, common_steps)
-
-pub returns-in_err-from_vec-clause-memory : goal.returns-in_err-from_vec-clause-memory
-returns-in_err-from_vec-clause-memory c = grind (arith, common_steps)
+pub returns-clause-ok : goal.returns-clause-ok
+returns-clause-ok c =
+    rw c.in-Ok-from_vec.ensures (sym (rw (all_fields c.args.count c.loop.counter c.loop.rest.now c.loop-test.false, append-nil c.loop.fields.items) at c.loop.invariant.read))

@@ -1,28 +1,23 @@
-use Rattle.std.proofs.Common.{Err, inr, ap, ◌∙◌, arith}
-use Rattle.ipfix_templates.specs.Reading.{TemplateFault, ReadsEvent}
-use Rattle.ipfix_templates.proofs.Reading.{reads_more}
-use Rattle.ipfix_templates.proofs.Records.{record_fault, record_shorter, events_shorter}
+use Rattle.std.proofs.Common.{ℕ, ◌-◌, [], length, ap, arith, ◌∙◌}
+use Rattle.std.proofs.lemmas.List.{length_push}
+use Rattle.ipfix_templates.proofs.Records.{event_more, events_end, events_from, record_shorter}
 use Rattle.ipfix_templates.proofs.set.read_template_set.Goals as goal
+
+pub loop-rest-init : goal.loop-rest-init
+loop-rest-init c = rw c.new-events.ensures (record { fits = omega arith; read = ap (λ (n : ℕ). events_from c.args.kind [] n c.args.bytes.now) (omega arith) })
+
+pub loop-rest-smaller : goal.loop-rest-smaller
+loop-rest-smaller c = omega (arith, record_shorter c.args.kind c.loop-rest.rest.now (c.in-Ok.read.0, c.in-Ok.read.1.now) c.loop-rest-test.true c.in-Ok.ensures.ok)
 
 pub loop-rest-preserved : goal.loop-rest-preserved
 loop-rest-preserved c =
-    let read = rw c.in-Ok.is at c.in_ok-event.ensures.read in
-    rw c.in_ok-push-in-Ok.ensures.ok (reads_more (ReadsEvent c.args.kind) c.args.bytes.now c.loop-rest.events c.loop-rest.rest.now c.in-Ok.event c.in-Ok.after.now c.loop-rest.invariant (c.loop-rest-test.true, read))
+    let less = record_shorter c.args.kind c.loop-rest.rest.now (c.in-Ok.read.0, c.in-Ok.read.1.now) c.loop-rest-test.true c.in-Ok.ensures.ok in
+    rw c.in_ok-push.ensures.ok (record {
+      fits = omega (arith, less, c.loop-rest.invariant.fits, length_push c.loop-rest.events c.in-Ok.read.0);
+      read = c.loop-rest.invariant.read
+          ∙ event_more c.args.kind c.loop-rest.events (length c.args.bytes.now - length c.loop-rest.rest.now) c.loop-rest.rest.now c.in-Ok.read.0 c.in-Ok.read.1.now _ c.loop-rest-test.true c.in-Ok.ensures.ok
+          (omega (arith, less, c.loop-rest.invariant.fits));
+    })
 
-pub overflow_sub-offset : goal.overflow_sub-offset
-overflow_sub-offset c = omega (arith, events_shorter _ _ _ _ c.loop-rest.invariant)
-
-pub returns-in-Err-clause-fault : goal.returns-in-Err-clause-fault
-returns-in-Err-clause-fault c =
-    let read = rw c.in-Err.is at c.in_ok-event.ensures.read in
-    inr (c.loop-rest.events, c.loop-rest.rest.now, c.loop-rest.invariant, (c.loop-rest-test.true, read, omega (arith, events_shorter _ _ _ _ c.loop-rest.invariant)))
-
-pub returns-in-Err-clause-memory : goal.returns-in-Err-clause-memory
-returns-in-Err-clause-memory c =
-    let read = rw c.in-Err.is at c.in_ok-event.ensures.read in
-    λ e. absurd (record_fault c.args.kind c.loop-rest.rest.now (read ∙ ap (λ (fault : TemplateFault). Err fault.kind) e))
-
-pub loop-rest-smaller : goal.loop-rest-smaller
-loop-rest-smaller c =
-    let read = rw c.in-Ok.is at c.in_ok-event.ensures.read in
-    omega (arith, record_shorter c.args.kind c.loop-rest.rest.now (c.in-Ok.event, c.in-Ok.after.now) c.loop-rest-test.true read)
+pub returns-clause-ok : goal.returns-clause-ok
+returns-clause-ok c = c.loop-rest.invariant.read ∙ events_end c.args.kind c.loop-rest.events _ c.loop-rest.rest.now (c.loop-rest-test.false)

@@ -7,9 +7,8 @@ use Rattle.pmap_cert.specs.CertificateModel.{CertificateModel}
 use Rattle.pmap_cert.specs.Compacting.{compact}
 use Rattle.pmap_cert.specs.FormatReading.{format_reading}
 use Rattle.cert_check.specs.Checking.{first_fault}
-use Rattle.ipfix_read.specs.Laws.{HasReading, OneReading}
 use Rattle.ipfix_read.specs.Message.{MessageView}
-use Rattle.ipfix_read.specs.declared.fault.ReadFault.{ReadFault}
+use Rattle.ipfix_read.specs.Messages.{file_reading}
 use Rattle.flow_rows.specs.Counts.{counts_of}
 use Rattle.pmap_print.specs.Reports.{info_text}
 use Rattle.pmap_print.specs.Runs.{IsRunsText, runs_text}
@@ -35,42 +34,19 @@ labels_one rest (FromList text) one = value_one InList (list_reading text) (λ l
 prints_one : (text : List ℕ) → One (Prints text)
 prints_one text = (Ok text, refl, (λ other is. is))
 
-report_one : HasReading → OneReading → (text : Option Labelling → List MessageView → List ℕ) (labels : Option Labelling) (bytes : List ℕ)
-    → One (ReportsOf text labels bytes)
-report_one has once text labels bytes =
-    let (one, one_fault, either) = once [] 0 0 bytes in
-    elim (has [] 0 0 bytes) [
-      | inl (ms, reads) ↦ (
-        Ok (text labels ms),
-        inr (ms, reads, refl),
-        λ other found. elim found [
-          | inl (fault, fails, is) ↦ absurd (either ms fault reads fails)
-          | inr (y, reads', is) ↦ is ∙ ap (λ (m : List MessageView). Ok (text labels m)) (one y ms reads' reads)
-        ],
-      )
-      | inr (fault, fails) ↦ (
-        Err (InFlows fault),
-        inl (fault, fails, refl),
-        λ other found. elim found [
-          | inl (f, fails', is) ↦ is ∙ ap (λ (g : ReadFault). Err (InFlows g)) (one_fault f fault fails' fails)
-          | inr (y, reads, is) ↦ absurd (either y fault reads fails)
-        ],
-      )
-    ]
-
-reports_one : HasReading → OneReading → (text : Option Labelling → List MessageView → List ℕ) (source : Option LabelSource) (flows : List ℕ)
-    → One (ReportsThen text source flows)
-reports_one has once text None flows = report_one has once text None flows
-reports_one has once text (Some source) flows =
-    labels_one (λ labels. ReportsOf text (Some labels) flows) source (λ labels. report_one has once text (Some labels) flows)
+reports_one : (text : Option Labelling → List MessageView → List ℕ) (source : Option LabelSource) (flows : List ℕ) → One (ReportsThen text source flows)
+reports_one text None flows = value_one InFlows (file_reading flows) _ (λ messages reads. prints_one (text None messages))
+reports_one text (Some source) flows =
+    labels_one (λ labels. ReportsOf text (Some labels) flows) source (λ labels.
+    value_one InFlows (file_reading flows) _ (λ messages reads. prints_one (text (Some labels) messages)))
 
 pub returns : goal.returns
 returns c (label source address) = labels_one (λ labels. Prints (label_text address labels)) source (λ labels. prints_one (label_text address labels))
-returns c (info flows) = reports_one c.has_reading.ensures c.one_reading.ensures (λ labels messages. info_text (counts_of messages)) None flows
+returns c (info flows) = reports_one (λ labels messages. info_text (counts_of messages)) None flows
 returns c (rows source condition columns flows) =
-    reports_one c.has_reading.ensures c.one_reading.ensures (report_of_rows condition columns) source flows
+    reports_one (report_of_rows condition columns) source flows
 returns c (uniq fields source condition sorted columns flows) =
-    reports_one c.has_reading.ensures c.one_reading.ensures (report_of_groups fields condition sorted columns) source flows
+    reports_one (report_of_groups fields condition sorted columns) source flows
 returns c (cat source) =
     labels_one PrintsRuns source (λ labels.
     let (runs, are) = c.labelling_has_its_runs.ensures.exist labels.version labels.label in
@@ -83,11 +59,10 @@ returns c (cat source) =
     ))
 returns c (shrink map printed) =
     value_one InMap (map_reading map) (PrintsMinimal printed) (λ m reads.
-    let (l, k, pair, form) = c.map_text_has_a_minimal_pair.ensures map m reads in
-    let law = c.text_of_format_is_read_or_has_a_fault.ensures.read in (
+    let (l, k, pair, form) = c.map_text_has_a_minimal_pair.ensures map m reads in (
       Ok (shrunk_text printed l k),
-      (l, k, pair, (law (certificate_text k) k).1 (form.text, refl), refl),
-      λ other (l', k', pair', reads', prints).
+      (l, k, pair, refl),
+      λ other (l', k', pair', prints).
           let list : l' ≡ l = c.minimal_pair_is_unique.ensures.lists m l' l k' k pair' pair in
           let certificate : k' ≡ k = c.minimal_pair_is_unique.ensures.certificates m l' l k' k pair' pair in
           cc,

@@ -23,7 +23,7 @@ returns c map m reads =
     let order : IsInOrder l.prefixes = (c.minimal_list_is_in_order.ensures m l k pair (c.map_text_has_its_labels.ensures map m reads)).order in (
       l,
       k,
-      (λ printed. rw reads (l, k, pair, has_text, refl)),
+      (λ printed. rw reads (l, k, pair, refl)),
       record {
         equivalent = c.acceptance_is_enough.ensures.equivalent m l k accepted;
         least = c.acceptance_is_enough.ensures.least m l k accepted;

@@ -8,7 +8,7 @@ use Rattle.flowlabel.proofs.run.report.take_from_reader.Goals as goal
 pub returns-in-Err-clause-taken : goal.returns-in-Err-clause-taken
 returns-in-Err-clause-taken g c =
     held_fault (g.P.Report.is_of c.args.report.now) c.calls_join_file.ensures.join _ _ _ c.loop-message.progress c.next.new.self c.loop-message.taken
-    c.loop-message.invariant.held c.memory_is_no_fault.ensures c.in-Err.fault c.fault_of.result c.fault_of.ensures
+    c.loop-message.invariant.held c.in-Err.fault c.fault_of.result c.fault_of.ensures
     (c.in-Err.ensures.going c.loop-message.invariant.going)
 
 pub returns-in_default-clause-taken : goal.returns-in_default-clause-taken
