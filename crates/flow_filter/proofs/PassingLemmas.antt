@@ -12,8 +12,7 @@ use Rattle.ipfix_read.specs.declared.record.Record.{Record}
 use Rattle.ipfix_read.specs.declared.set.Set.{Set}
 use Rattle.ipfix_read.specs.declared.set.Set.TheVariants.{Templates, Values, Skipped}
 use Rattle.flow_rows.specs.Counts.{records_in, records_of, rows_of}
-use Rattle.flow_rows.specs.Elements.{first_row, rows_of_record, second_row, RowView, row_view}
-use Rattle.flow_rows.specs.declared.row.Row.{Row}
+use Rattle.flow_rows.specs.Elements.{first_row, rows_of_record, second_row, RowView}
 
 -- the rows at the start are unchanged when more are added
 pub front_stays : {X : Type 0} (a b c : List X) → take (length a) b ≡ a → take (length b) c ≡ b → take (length a) c ≡ a
@@ -58,20 +57,18 @@ rows_within p sets =
     omega (arith, length-filter p (rows_of sets), count_by-le-length p (rows_of sets), records_within (records_of sets), sets_within sets)
 
 -- the maximum number of rows that are added
-few_more : (p : RowView → Bool) (sets : List Set) (old new : List Row) → message_size sets ≤ 65535
-    → map row_view new ≡ map row_view old ++ filter p (rows_of sets) → length new ≤ length old + 131070
+few_more : (p : RowView → Bool) (sets : List Set) (old new : List RowView) → message_size sets ≤ 65535
+    → new ≡ old ++ filter p (rows_of sets) → length new ≤ length old + 131070
 few_more p sets old new size added =
     omega (
       arith,
-      length-map new row_view,
-      length-map old row_view,
       ap (λ (rows : List RowView). length rows) added,
-      length-append (map row_view old) (filter p (rows_of sets)),
+      length-append old (filter p (rows_of sets)),
       rows_within p sets,
       size,
     )
 
-pub few_added : {E A : Type 0} (r : Result (Unit {0}) E) (p : RowView → Bool) (sets : List Set) (old new : List Row) → is_err r ≡ false
-    → message_size sets ≤ 65535 → OnOk r A → (A → map row_view new ≡ map row_view old ++ filter p (rows_of sets)) → length new ≤ length old + 131070
+pub few_added : {E A : Type 0} (r : Result (Unit {0}) E) (p : RowView → Bool) (sets : List Set) (old new : List RowView) → is_err r ≡ false
+    → message_size sets ≤ 65535 → OnOk r A → (A → new ≡ old ++ filter p (rows_of sets)) → length new ≤ length old + 131070
 few_added (Ok x) p sets old new is size added keeps = few_more p sets old new size (keeps added)
 few_added (Err e) p sets old new is size added keeps = absurd (true≢false is)

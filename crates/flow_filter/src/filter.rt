@@ -1,5 +1,4 @@
 ghost use Rattle.std.specs.Prelude.{◌≡◌, [], IfErr, IfOk, Ok, true};
-ghost use Rattle.flow_rows.specs.Elements.{row_view};
 ghost use Rattle.flow_filter.specs.Condition.{filter_of, needs_map, row_passes};
 ghost use Rattle.label_lookup.specs.Labelling.{label_where, labelling_lent};
 ghost use Rattle.flow_filter.specs.Filters.{IsFault, texts_of};
@@ -54,7 +53,7 @@ impl<'a> Filter<'a> {
     /// Returns `true` if the row meets each condition given. Without a labeller no address has a label.
     pub fn passes<L: Labeller>(&self, row: &Row, labeller: Option<&L>) -> bool
         ensures { result ≡ row_passes self.now
-            (label_where (labelling_lent L.version_of L.label labeller.entry)) (row_view row.now) }
+            (label_where (labelling_lent L.version_of L.label labeller.entry)) row.now }
     {
         self.parts.iter().all(|part| part.meets(row, labeller))
     }

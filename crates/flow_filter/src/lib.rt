@@ -9,7 +9,7 @@
 //! let words = FilterWords { texts: ALL_OPTIONS.map(protocols) };
 //! let filter = Filter::read(alloc, &words).expect(&rt, "a filter");
 //! let passes = filter.passes(&row, None::<&Scan<'_>>);
-//! assert!(rt; passes == (row.protocol == 6 || row.protocol == 17));
+//! assert!(rt; passes == (row.protocol() == 6 || row.protocol() == 17));
 //! ```
 //!
 //! This crate uses flow_rows (rows), ipfix_read (the messages with the rows), label_lookup (the labels of their

@@ -1,5 +1,4 @@
 ghost use Rattle.std.specs.Prelude.{◌≡◌, ◌++◌, ◌∷◌, [], IfErr, OnOk, false};
-ghost use Rattle.flow_rows.specs.Elements.{row_view};
 ghost use Rattle.label_lookup.specs.Labelling.{label_where, labelling_lent};
 ghost use Rattle.flow_filter.specs.Condition.{is_malformed, is_this_label, meets};
 ghost use Rattle.flow_filter.specs.Filters.{IsRefused, number_of};
@@ -38,16 +37,16 @@ impl<'a> Model for ReadPart<'a> {
 
 // Returns the number that an option compares. That of an address is its number as an IPv6 address.
 fn number_of(option: FilterOption, row: &Row) -> u128
-    ensures { result ≡ number_of option (row_view row.now) }
+    ensures { result ≡ number_of option row.now }
 {
     match option {
-        FilterOption::Protocol => u128::from(row.protocol),
-        FilterOption::SourcePort => u128::from(row.sport),
-        FilterOption::DestinationPort => u128::from(row.dport),
-        FilterOption::SourceAddress => place_of(row.src),
-        FilterOption::DestinationAddress => place_of(row.dst),
-        FilterOption::Packets => u128::from(row.packets),
-        FilterOption::Bytes => u128::from(row.octets),
+        FilterOption::Protocol => u128::from(row.protocol()),
+        FilterOption::SourcePort => u128::from(row.sport()),
+        FilterOption::DestinationPort => u128::from(row.dport()),
+        FilterOption::SourceAddress => place_of(row.src()),
+        FilterOption::DestinationAddress => place_of(row.dst()),
+        FilterOption::Packets => u128::from(row.packets()),
+        FilterOption::Bytes => u128::from(row.octets()),
         _ => 0,
     }
 }
@@ -85,13 +84,14 @@ pub fn add_part<'a>(
 impl<'a> ReadPart<'a> {
     /// Whether the row meets the condition that the option states. Without a labeller no address has a label.
     pub fn meets<L: Labeller>(&self, row: &Row, labeller: Option<&L>) -> bool
-        ensures { result ≡ meets (label_where (labelling_lent L.version_of L.label labeller.entry)) (row_view row.now) self.now }
+        ensures { result ≡ meets (label_where (labelling_lent L.version_of L.label labeller.entry)) row.now self.now }
     {
         match self.option {
-            FilterOption::SourceLabel => has_label(self.text, labeller, row.src),
-            FilterOption::DestinationLabel => has_label(self.text, labeller, row.dst),
+            FilterOption::SourceLabel => has_label(self.text, labeller, row.src()),
+            FilterOption::DestinationLabel => has_label(self.text, labeller, row.dst()),
             FilterOption::AnyLabel => {
-                has_label(self.text, labeller, row.src) || has_label(self.text, labeller, row.dst)
+                has_label(self.text, labeller, row.src())
+                    || has_label(self.text, labeller, row.dst())
             }
             option => self.ranges.covers(number_of(option, row)),
         }

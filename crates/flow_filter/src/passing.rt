@@ -3,7 +3,7 @@ ghost use Rattle.std.specs.Prelude.{◌≡◌, ◌+◌, ◌≤◌, ◌++◌, IsS
 ghost use Rattle.std.specs.List.{flat_map};
 ghost use Rattle.std.specs.Option.{option_to_list};
 ghost use Rattle.flow_rows.specs.Counts.{rows_of};
-ghost use Rattle.flow_rows.specs.Elements.{first_row, rows_of_record, second_row, RowView, row_view};
+ghost use Rattle.flow_rows.specs.Elements.{first_row, rows_of_record, second_row, RowView};
 ghost use Rattle.label_lookup.specs.Labelling.{labelling_lent};
 ghost use Rattle.flow_filter.specs.Condition.{passing};
 
@@ -23,9 +23,9 @@ fn add_second_row(
     at: usize,
 ) -> Result<(), AllocError>
     requires fields { map (λ v. v.field) data_record.now.fields ≡ plan.now }
-    requires first { IsSomeAnd (slice_get rows.old.items at) (λ row. first_row data_record.now ≡ Some (row_view row)) }
-    ensures ok { OnOk result (map row_view rows.new.items
-        ≡ map row_view rows.old.items ++ option_to_list (second_row data_record.now)) }
+    requires first { IsSomeAnd (slice_get rows.old.items at) (λ row. first_row data_record.now ≡ Some row) }
+    ensures ok { OnOk result (rows.new.items
+        ≡ rows.old.items ++ option_to_list (second_row data_record.now)) }
     ensures front { take (length rows.old.items) rows.new.items ≡ rows.old.items }
 {
     if let Some(second) = plan.row_back_of(data_record, &rows[at]) {
@@ -43,8 +43,8 @@ fn add_rows_of_record(
     rows: &mut Vec<Row>,
 ) -> Result<(), AllocError>
     requires { map (λ v. v.field) data_record.now.fields ≡ plan.now }
-    ensures ok { OnOk result (map row_view rows.new.items
-        ≡ map row_view rows.old.items ++ rows_of_record data_record.now) }
+    ensures ok { OnOk result (rows.new.items
+        ≡ rows.old.items ++ rows_of_record data_record.now) }
     ensures front { take (length rows.old.items) rows.new.items ≡ rows.old.items }
 {
     let at = rows.len();
@@ -58,8 +58,8 @@ fn add_rows_of_record(
 #[inline(never)]
 #[tactic(auto, using(crate::proofs::PassingLemmas::front_stays))]
 fn add_rows_of_records(records: &RecordList<'_>, rows: &mut Vec<Row>) -> Result<(), AllocError>
-    ensures ok { OnOk result (map row_view rows.new.items
-        ≡ map row_view rows.old.items ++ flat_map rows_of_record records.now) }
+    ensures ok { OnOk result (rows.new.items
+        ≡ rows.old.items ++ flat_map rows_of_record records.now) }
     ensures front { take (length rows.old.items) rows.new.items ≡ rows.old.items }
 {
     let Some(fields) = records.fields() else {
@@ -75,7 +75,7 @@ fn add_rows_of_records(records: &RecordList<'_>, rows: &mut Vec<Row>) -> Result<
 // Adds the rows of sets.
 #[tactic(auto, using(crate::proofs::PassingLemmas::front_stays))]
 fn add_rows_of_sets(sets: &[Set<'_>], rows: &mut Vec<Row>) -> Result<(), AllocError>
-    ensures ok { OnOk result (map row_view rows.new.items ≡ map row_view rows.old.items ++ rows_of sets.now) }
+    ensures ok { OnOk result (rows.new.items ≡ rows.old.items ++ rows_of sets.now) }
     ensures front { take (length rows.old.items) rows.new.items ≡ rows.old.items }
 {
     for set in sets {
@@ -97,15 +97,15 @@ fn keep_passing<L: Labeller>(
 )
     requires { before ≤ length rows.old.items }
     ensures { let labelling = labelling_lent L.version_of L.label labeller.entry in (earlier added : List RowView)
-        → length earlier ≡ before → map row_view rows.old.items ≡ earlier ++ added
-        → map row_view rows.new.items ≡ earlier ++ passing filter.now labelling added }
+        → length earlier ≡ before → rows.old.items ≡ earlier ++ added
+        → rows.new.items ≡ earlier ++ passing filter.now labelling added }
 {
     if filter.passes_all() {
         return;
     }
     let mut kept = before;
     for at in before..rows.len() {
-        let row = rows[at];
+        let row = rows[at].copy();
         if filter.passes(&row, labeller) {
             rows[kept] = row;
             kept += 1;
@@ -129,8 +129,8 @@ impl<'a> Filter<'a> {
         rows: &mut Vec<Row>,
     ) -> Result<(), AllocError>
         ensures ok { let labelling = labelling_lent L.version_of L.label labeller.entry in
-            OnOk result (map row_view rows.new.items
-            ≡ map row_view rows.old.items ++ passing self.now labelling (rows_of message.now.sets)) }
+            OnOk result (rows.new.items
+            ≡ rows.old.items ++ passing self.now labelling (rows_of message.now.sets)) }
         ensures few { length rows.new.items ≤ length rows.old.items + 131070 }
         ensures err { OnErr result (rows.new.items ≡ rows.old.items) }
     {

@@ -9,11 +9,9 @@ use Rattle.ipfix_templates.specs.declared.kind.Kind.{Kind}
 use Rattle.ipfix_templates.specs.declared.kind.Kind.TheVariants.{Flow, Options}
 use Rattle.ipfix_read.specs.Value.{FieldValueView}
 use Rattle.ipfix_read.specs.declared.record.Record.{Record}
-use Rattle.flow_rows.specs.declared.row.Row.{Row}
 
 -- A flow row as contracts see it.
 
--- a row without the proofs that its addresses are of its version
 pub record RowView : Type 0 where
   pub version : Version
   pub src : ℕ
@@ -26,21 +24,6 @@ pub record RowView : Type 0 where
   pub octets : ℕ
   pub start_ms : ℕ
   pub end_ms : ℕ
-
-abbrev pub row_view : Row → RowView
-row_view row = record {
-  version = row.version;
-  src = row.src.value;
-  dst = row.dst.value;
-  sport = row.sport;
-  dport = row.dport;
-  protocol = row.protocol;
-  flags = row.flags;
-  packets = row.packets;
-  octets = row.octets;
-  start_ms = row.start_ms;
-  end_ms = row.end_ms;
-}
 
 -- The information elements of a row, and their numbers in a record (RFC 7012, and IANA's registry of IPFIX elements),
 -- in the record's own direction and in the reverse one (RFC 5103).
@@ -157,6 +140,5 @@ abbrev pub rows_of_record : Record → List RowView
 rows_of_record r = option_to_list (first_row r) ++ option_to_list (second_row r)
 
 -- the rows before stay, a row is added after them if there is one, and `there` says whether there is one
-abbrev pub AddsRow : Option RowView → List Row → List Row → Bool → Type 0
-AddsRow row old new there =
-    (there ≡ is_some row) × (map row_view new ≡ map row_view old ++ option_to_list row) × (take (length old) new ≡ old)
+abbrev pub AddsRow : Option RowView → List RowView → List RowView → Bool → Type 0
+AddsRow row old new there = (there ≡ is_some row) × (new ≡ old ++ option_to_list row) × (take (length old) new ≡ old)

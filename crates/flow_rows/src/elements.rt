@@ -2,7 +2,7 @@ ghost use Rattle.std.specs.Prelude.{◌≡◌, ◌+◌, ◌<◌, ◌^◌, ◌&&�
 ghost use Rattle.prefix_keys.specs.Block.{width_of};
 ghost use Rattle.prefix_keys.specs.declared.version.Version.TheVariants.{V4, V6};
 ghost use Rattle.ipfix_read.specs.Value.{whole_values};
-ghost use Rattle.flow_rows.specs.Elements.{AddsRow, element, octets_of, packets_of, row_back, row_between, row_of_elements, row_view};
+ghost use Rattle.flow_rows.specs.Elements.{AddsRow, element, octets_of, packets_of, row_back, row_between, row_of_elements};
 ghost use Rattle.flow_rows.specs.Inner.{AreThere, elements_at, given, kept, place_in, place_of, said_there};
 
 use crate::place::{Place, time_there, u8_there, u16_there, u32_there, u64_there, u128_there};
@@ -177,7 +177,7 @@ impl Elements {
         requires src { src < 2 ^ width_of version }
         requires dst { dst < 2 ^ width_of version }
         requires there { AreThere self.now (length bytes.now) }
-        ensures { Some (row_view result) ≡ row_between version (Some src) (Some dst) (said_there self.now bytes.now) }
+        ensures { Some result ≡ row_between version (Some src) (Some dst) (said_there self.now bytes.now) }
     {
         Row {
             version,
@@ -205,7 +205,7 @@ impl Elements {
     fn row_v4(&self, bytes: &[u8]) -> Option<Row>
         requires { AreThere self.now (length bytes.now) }
         ensures { let said = said_there self.now bytes.now in
-            option_map row_view result ≡ row_between V4 (said 8) (said 12) said }
+            result ≡ row_between V4 (said 8) (said 12) said }
     {
         let src = u128::from(u32_there(self.src_v4, bytes)?);
         let dst = u128::from(u32_there(self.dst_v4, bytes)?);
@@ -217,7 +217,7 @@ impl Elements {
     fn row_v6(&self, bytes: &[u8]) -> Option<Row>
         requires { AreThere self.now (length bytes.now) }
         ensures { let said = said_there self.now bytes.now in
-            option_map row_view result ≡ row_between V6 (said 27) (said 28) said }
+            result ≡ row_between V6 (said 27) (said 28) said }
     {
         let src = u128_there(self.src_v6, bytes)?;
         let dst = u128_there(self.dst_v6, bytes)?;
@@ -228,7 +228,7 @@ impl Elements {
     /// precedence.
     pub fn row(&self, bytes: &[u8]) -> Option<Row>
         requires { AreThere self.now (length bytes.now) }
-        ensures { option_map row_view result ≡ row_of_elements (said_there self.now bytes.now) }
+        ensures { result ≡ row_of_elements (said_there self.now bytes.now) }
     {
         match self.row_v4(bytes) {
             Some(row) => Some(row),
@@ -261,7 +261,7 @@ impl Elements {
     #[inline(always)]
     pub fn row_back(&self, row: &Row, bytes: &[u8]) -> Option<Row>
         requires { AreThere self.now (length bytes.now) }
-        ensures { option_map row_view result ≡ row_back (said_there self.now bytes.now) (row_view row.now) }
+        ensures { result ≡ row_back (said_there self.now bytes.now) row.now }
     {
         let packets = self.packets(bytes);
         if packets == 0 {

@@ -7,7 +7,7 @@
 //! // The octets of the flow that a data record describes, if the record has both addresses of a version.
 //! fn octets_of(record: &Record<'_, '_>) -> u64 {
 //!     match row_of(record) {
-//!         Some(row) => row.octets,
+//!         Some(row) => row.octets(),
 //!         None => 0,
 //!     }
 //! }

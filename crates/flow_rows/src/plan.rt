@@ -2,7 +2,7 @@ ghost use Rattle.std.specs.Prelude.{◌≡◌, ◌+◌, ◌<◌, ◌≤◌, ◌^
 ghost use Rattle.std.specs.List.{flat_map};
 ghost use Rattle.ipfix_read.specs.Value.{whole_values};
 ghost use Rattle.ipfix_read.specs.declared.record.Record.{Record as RecordView};
-ghost use Rattle.flow_rows.specs.Elements.{AddsRow, back, element, forward, first_row, packets_of, row_of_elements, rows_of_record, second_row, row_view};
+ghost use Rattle.flow_rows.specs.Elements.{AddsRow, back, element, forward, first_row, packets_of, row_of_elements, rows_of_record, second_row};
 
 use crate::elements::Elements;
 use crate::row::Row;
@@ -118,8 +118,8 @@ impl<'f> Plan<'f> {
     /// template's length fits its element. A time without a field is that of the first row.
     pub fn row_back_of(&self, source: &Record<'_, '_>, first: &Row) -> Option<Row>
         requires fields { map (λ v. v.field) source.now.fields ≡ self.now }
-        requires first { first_row source.now ≡ Some (row_view first.now) }
-        ensures { option_map row_view result ≡ second_row source.now }
+        requires first { first_row source.now ≡ Some first.now }
+        ensures { result ≡ second_row source.now }
     {
         let bytes = source.fields.bytes();
         if self.is_fixed {

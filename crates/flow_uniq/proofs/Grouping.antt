@@ -12,8 +12,7 @@ use Rattle.std.specs.List.{list_any}
 use Rattle.prefix_keys.specs.Text.{AddressOf}
 use Rattle.pmap_text.proofs.LabelTexts.{list_any-map}
 use Rattle.pmap_text.specs.MapModel.{Label}
-use Rattle.flow_rows.specs.Elements.{RowView, row_view}
-use Rattle.flow_rows.specs.declared.row.Row.{Row}
+use Rattle.flow_rows.specs.Elements.{RowView}
 use Rattle.flow_uniq.specs.Key.{KeyField, Key, key_of, part_numbers, same_key}
 use Rattle.flow_uniq.specs.Groups.{Totals, GroupModel, KeyedRow, distinct_keys, groups_of_keyed, keyed, rows_with, totals_of}
 use Rattle.flow_uniq.specs.Inner.{with_row}
@@ -124,22 +123,22 @@ module _ (rows : List KeyedRow) (k : Key) (row : RowView) where
       known = sym (list_any-map (group_of rows) (λ g. same_key k g.key) (distinct_keys keys) ∙ stands-distinct k keys)
 
 -- the rows before the next index
-take_more : (all : List Row) (i : ℕ) (row : Row) → row ≡ get_or all i row → i < length all
-    → map row_view (take (i + 1) all) ≡ map row_view (take i all) ++ row_view row ∷ []
+take_more : (all : List RowView) (i : ℕ) (row : RowView) → row ≡ get_or all i row → i < length all
+    → take (i + 1) all ≡ take i all ++ row ∷ []
 take_more all i row is within = grind (arith, common_steps)
 
 -- the groups of earlier rows and of the rows before an index, with the row there, are those of the rows before the next
 -- index
-pub then_row : (fields given : List KeyField) (label : AddressOf → Option Label) (all : List Row) (i : ℕ) (row : Row) (old new : List GroupModel)
+pub then_row : (fields given : List KeyField) (label : AddressOf → Option Label) (all : List RowView) (i : ℕ) (row : RowView) (old new : List GroupModel)
     → given ≡ fields → row ≡ get_or all i row → i < length all
-    → ((before : List KeyedRow) → old ≡ groups_of_keyed before → new ≡ groups_of_keyed (before ++ (key_of label given (row_view row), row_view row) ∷ []))
-    → (earlier : List KeyedRow) → old ≡ groups_of_keyed (earlier ++ keyed fields label (map row_view (take i all)))
-    → new ≡ groups_of_keyed (earlier ++ keyed fields label (map row_view (take (i + 1) all)))
+    → ((before : List KeyedRow) → old ≡ groups_of_keyed before → new ≡ groups_of_keyed (before ++ (key_of label given row, row) ∷ []))
+    → (earlier : List KeyedRow) → old ≡ groups_of_keyed (earlier ++ keyed fields label (take i all))
+    → new ≡ groups_of_keyed (earlier ++ keyed fields label (take (i + 1) all))
 then_row fields given label all i row old new same is within added earlier so_far =
-    added (earlier ++ keyed fields label (map row_view (take i all))) so_far
-    ∙ (λ j. groups_of_keyed ((earlier ++ keyed fields label (map row_view (take i all))) ++ (key_of label (same j) (row_view row), row_view row) ∷ []))
+    added (earlier ++ keyed fields label (take i all)) so_far
+    ∙ (λ j. groups_of_keyed ((earlier ++ keyed fields label (take i all)) ++ (key_of label (same j) row, row) ∷ []))
     ∙ ap groups_of_keyed
-    (append_assoc earlier (keyed fields label (map row_view (take i all))) ((key_of label fields (row_view row), row_view row) ∷ [])
+    (append_assoc earlier (keyed fields label (take i all)) ((key_of label fields row, row) ∷ [])
     ∙ ap (λ (rows : List KeyedRow). earlier ++ rows)
-    (sym (map_push (λ (r : RowView). (key_of label fields r, r)) (map row_view (take i all)) (row_view row))
+    (sym (map_push (λ (r : RowView). (key_of label fields r, r)) (take i all) row)
     ∙ ap (λ (rows : List RowView). keyed fields label rows) (sym (take_more all i row is within))))

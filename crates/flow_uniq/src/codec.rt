@@ -1,6 +1,5 @@
 //! Keys as bytes: the bytes that are written for the key of a row are read back as this key, part by part.
 ghost use Rattle.std.specs.Prelude.{◌≡◌, ◌++◌, ◌∷◌, ◌<◌, ◌^◌, ◌↔◌, [], IfNone, IfOk, IfSome, OnOk, Some, length, option_copied};
-ghost use Rattle.flow_rows.specs.Elements.{row_view};
 ghost use Rattle.label_lookup.specs.Labelling.{label_where, labelling_lent};
 ghost use Rattle.flow_uniq.specs.Key.{AddressPart, Key as Parts, LabelPart, key_of, key_part};
 ghost use Rattle.flow_uniq.specs.Inner.{AreSmall, IsSmall, front_bytes, key_code, length_code, part_after, part_code, part_model, text_front};
@@ -100,17 +99,17 @@ impl Hash for Code {
 // Returns the part for this field of the row.
 fn part_of<'a, L: Labeller>(field: KeyField, row: &Row, labeller: Option<&'a L>) -> KeyPart<'a>
     ensures { let label = label_where (labelling_lent L.version_of L.label labeller.entry) in
-        part_model result ≡ key_part label (row_view row.now) field }
+        part_model result ≡ key_part label row.now field }
 {
     match field {
-        KeyField::SourceAddress => KeyPart::Address(row.src),
-        KeyField::DestinationAddress => KeyPart::Address(row.dst),
-        KeyField::SourcePort => KeyPart::Number(row.sport),
-        KeyField::DestinationPort => KeyPart::Number(row.dport),
-        KeyField::Protocol => KeyPart::Number(u16::from(row.protocol)),
-        KeyField::Flags => KeyPart::Number(row.flags),
-        KeyField::SourceLabel => KeyPart::Label(label_row_under(labeller, row.src)),
-        KeyField::DestinationLabel => KeyPart::Label(label_row_under(labeller, row.dst)),
+        KeyField::SourceAddress => KeyPart::Address(row.src()),
+        KeyField::DestinationAddress => KeyPart::Address(row.dst()),
+        KeyField::SourcePort => KeyPart::Number(row.sport()),
+        KeyField::DestinationPort => KeyPart::Number(row.dport()),
+        KeyField::Protocol => KeyPart::Number(u16::from(row.protocol())),
+        KeyField::Flags => KeyPart::Number(row.flags()),
+        KeyField::SourceLabel => KeyPart::Label(label_row_under(labeller, row.src())),
+        KeyField::DestinationLabel => KeyPart::Label(label_row_under(labeller, row.dst())),
     }
 }
 
@@ -177,7 +176,7 @@ impl Code {
         labeller: Option<&L>,
     ) -> Result<Code, AllocError>
         ensures key { let label = label_where (labelling_lent L.version_of L.label labeller.entry) in
-            IfOk result (λ code. code ≡ key_of label fields.now (row_view row.now)) }
+            IfOk result (λ code. code ≡ key_of label fields.now row.now) }
         ensures small { IfOk result AreSmall }
     {
         let mut bytes = SmallVec::new(alloc);

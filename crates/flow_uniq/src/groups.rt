@@ -1,6 +1,5 @@
 ghost use Rattle.std.specs.Prelude.{All, ◌≡◌, ◌++◌, ℕ, ◌∷◌, [], ◌+◌, ◌-◌, ◌^◌, ◌<◌, List, IfOk, OnOk, OnErr, length, map, option_map, slice_get, take};
 ghost use Rattle.std.specs.List.Sorted.{IsPermutation, IsSortedBy};
-ghost use Rattle.flow_rows.specs.Elements.{row_view};
 ghost use Rattle.label_lookup.specs.Labelling.{label_where, labelling_lent};
 ghost use Rattle.flow_uniq.specs.Groups.{AreOfNoRows, KeyedRow, groups_of_keyed, keyed, record_count, is_before, sorted_groups};
 ghost use Rattle.flow_uniq.specs.Key.{key_of};
@@ -94,7 +93,7 @@ impl Groups {
         ensures fields { self.new.fields ≡ self.old.fields }
         // If these were the groups of some rows with their keys, they are now those of the rows followed by this one.
         ensures ok { let label = label_where (labelling_lent L.version_of L.label labeller.entry) in
-            let added = row_view row.now in
+            let added = row.now in
             OnOk result ((rows : List KeyedRow) → self.old.groups ≡ groups_of_keyed rows → self.new.groups
             ≡ groups_of_keyed (rows ++ (key_of label self.old.fields added, added) ∷ [])) }
         ensures count { OnOk result (record_count self.new.groups ≡ record_count self.old.groups + 1) }
@@ -122,12 +121,12 @@ impl Groups {
         // ones.
         ensures ok { let label = label_where (labelling_lent L.version_of L.label labeller.entry) in
             OnOk result ((earlier : List KeyedRow) → self.old.groups ≡ groups_of_keyed earlier
-            → self.new.groups ≡ groups_of_keyed (earlier ++ keyed self.old.fields label (map row_view rows.now))) }
+            → self.new.groups ≡ groups_of_keyed (earlier ++ keyed self.old.fields label rows.now)) }
         ensures count { OnOk result (record_count self.new.groups ≡ record_count self.old.groups + length rows.now) }
         // If an allocation failed at one of them, the added ones are those before it.
         ensures err { let label = label_where (labelling_lent L.version_of L.label labeller.entry) in
             OnErr result ((count : ℕ) × (count < length rows.now) × ((earlier : List KeyedRow) → self.old.groups ≡ groups_of_keyed earlier
-            → self.new.groups ≡ groups_of_keyed (earlier ++ keyed self.old.fields label (map row_view (take count rows.now))))) }
+            → self.new.groups ≡ groups_of_keyed (earlier ++ keyed self.old.fields label (take count rows.now)))) }
     {
         for row in rows {
             self.add(row, labeller)?;

@@ -14,19 +14,18 @@ pub struct Totals {
 }
 
 impl Totals {
-    ghost use Rattle.flow_rows.specs.Elements.{row_view};
     ghost use Rattle.flow_uniq.specs.Inner.{IsBounded, with_row};
 
     /// Adds a row to the totals.
     pub fn add(&mut self, row: &Row)
         requires bounded { IsBounded self.old }
         requires few { self.old.records < 2 ^ 64 - 1 }
-        ensures value { self.new ≡ with_row self.old (row_view row.now) }
+        ensures value { self.new ≡ with_row self.old row.now }
         ensures packets { row.now.packets ≤ 2 ^ 64 - 1 }
         ensures octets { row.now.octets ≤ 2 ^ 64 - 1 }
     {
         self.records += 1;
-        self.packets += u128::from(row.packets);
-        self.octets += u128::from(row.octets);
+        self.packets += u128::from(row.packets());
+        self.octets += u128::from(row.octets());
     }
 }

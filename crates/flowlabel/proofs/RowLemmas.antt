@@ -4,15 +4,14 @@ use Rattle.std.specs.Prelude.{option_map}
 use Rattle.std.specs.Borrow.{Bor}
 use Rattle.std.specs.List.{flat_map, zip}
 use Rattle.std.proofs.lemmas.Grind.{flat_map-append}
-use Rattle.std.proofs.lemmas.List.{append-nil, append_assoc, map-append, map_more}
+use Rattle.std.proofs.lemmas.List.{append-nil, append_assoc, map-append, take_more}
 use Rattle.std.proofs.lemmas.List.Elements.{filter-append}
 use Rattle.ipfix_read.specs.Message.{MessageView}
 use Rattle.ipfix_read.specs.declared.record.Record.{Record}
 use Rattle.ipfix_read.specs.declared.set.Set.{Set}
 use Rattle.flow_rows.specs.Counts.{records_in, records_of, rows_of, rows_of_messages, sets_of}
-use Rattle.flow_rows.specs.Elements.{rows_of_record, RowView, row_view}
+use Rattle.flow_rows.specs.Elements.{rows_of_record, RowView}
 use Rattle.flow_filter.specs.Condition.{Condition, passes, passing, passing_rows}
-use Rattle.flow_rows.specs.declared.row.Row.{Row}
 use Rattle.pmap_print.specs.declared.labels.RowLabels.{RowLabels}
 use Rattle.pmap_print.specs.Reports.{LabelTexts, label_fields, label_texts, label_titles, row_fields, row_line, row_titles, title_line}
 use Rattle.pmap_print.specs.Table.{Line}
@@ -35,17 +34,17 @@ lines_more (Some l) shown row =
     ∙ ap (λ (lines : List Line). (row_titles ++ label_titles) ∷ lines) (map-append fields (zip shown (map (row_labels l) shown)) ((row, row_labels l row) ∷ []))
 
 -- the lines of earlier rows and of the first rows of a list, with that of the list's next row
-pub rows_more : (labels : Option Labelling) (earlier : List RowView) (rows : List Row) (i : ℕ) (row : Row) (own : Option LabelTexts)
-    → row ≡ get_or rows i row → i < length rows → own ≡ option_map (λ l. row_labels l (row_view row)) labels
-    → labelled_row_lines labels (earlier ++ map row_view (take i rows)) ++ row_line (row_view row) own ∷ []
-    ≡ labelled_row_lines labels (earlier ++ map row_view (take (i + 1) rows))
+pub rows_more : (labels : Option Labelling) (earlier : List RowView) (rows : List RowView) (i : ℕ) (row : RowView) (own : Option LabelTexts)
+    → row ≡ get_or rows i row → i < length rows → own ≡ option_map (λ l. row_labels l row) labels
+    → labelled_row_lines labels (earlier ++ take i rows) ++ row_line row own ∷ []
+    ≡ labelled_row_lines labels (earlier ++ take (i + 1) rows)
 rows_more labels earlier rows i row own is within same =
-    let before = map row_view (take i rows) in
-    (λ j. labelled_row_lines labels (earlier ++ before) ++ row_line (row_view row) (same j) ∷ [])
-    ∙ sym (lines_more labels (earlier ++ before) (row_view row))
+    let before = take i rows in
+    (λ j. labelled_row_lines labels (earlier ++ before) ++ row_line row (same j) ∷ [])
+    ∙ sym (lines_more labels (earlier ++ before) row)
     ∙ ap (labelled_row_lines labels)
-    (append_assoc earlier before (row_view row ∷ [])
-    ∙ ap (λ (xs : List RowView). earlier ++ xs) (ap (λ (r : Row). before ++ row_view r ∷ []) is ∙ sym (map_more row_view rows i row within)))
+    (append_assoc earlier before (row ∷ [])
+    ∙ ap (λ (xs : List RowView). earlier ++ xs) (ap (λ (r : RowView). before ++ r ∷ []) is ∙ sym (take_more rows i row within)))
 
 -- rows have labels exactly if there is a labelling
 pub same_labelled : (labels : Option Labelling) (own : Option RowLabels) (row : RowView)

@@ -3,7 +3,6 @@ ghost use Rattle.std.specs.Prelude.{◌≡◌, ℕ, ◌+◌, ◌<◌, ◌≤◌,
 ghost use Rattle.std.specs.Fmt.{decimal};
 ghost use Rattle.std.specs.List.{join_with_byte};
 ghost use Rattle.std.specs.Option.{ForSome};
-ghost use Rattle.flow_rows.specs.Elements.{row_view};
 ghost use Rattle.pmap_print.specs.Table.{has_columns, IsTable, sizes, Line, line_text};
 ghost use Rattle.pmap_print.specs.Reports.{column_count, labels_at, given_labels, label_fields, label_texts, row_fields, row_line, rows_text, title_line};
 
@@ -63,23 +62,23 @@ fn print_fields(
     last: u8,
 ) -> Result<[usize; COLUMNS_WITH_LABELS], AllocError>
     ensures text { OnOk result (out.new.items
-        ≡ out.old.items ++ (join_with_byte 124 (row_fields (row_view row.now)) ++ last ∷ [])) }
-    ensures lengths { IfOk result (λ lengths. lengths ≡ sizes (row_fields (row_view row.now)) ++ 0 ∷ 0 ∷ []) }
+        ≡ out.old.items ++ (join_with_byte 124 (row_fields row.now) ++ last ∷ [])) }
+    ensures lengths { IfOk result (λ lengths. lengths ≡ sizes (row_fields row.now) ++ 0 ∷ 0 ∷ []) }
 {
     let mut line = [0; LINE];
     let last_at = LINE - 1;
     line[last_at] = last;
-    let end = write_number(row.end_ms, &mut line, last_at);
-    let start = write_number(row.start_ms, &mut line, end);
-    let octets = write_number(row.octets, &mut line, start);
-    let packets = write_number(row.packets, &mut line, octets);
-    let flags = write_number(u64::from(row.flags), &mut line, packets);
-    let protocol = write_number(u64::from(row.protocol), &mut line, flags);
-    let dport = write_number(u64::from(row.dport), &mut line, protocol);
-    let sport = write_number(u64::from(row.sport), &mut line, dport);
-    let dst = write_addr(row.dst, &mut line, sport) - 1;
+    let end = write_number(row.end_ms(), &mut line, last_at);
+    let start = write_number(row.start_ms(), &mut line, end);
+    let octets = write_number(row.octets(), &mut line, start);
+    let packets = write_number(row.packets(), &mut line, octets);
+    let flags = write_number(u64::from(row.flags()), &mut line, packets);
+    let protocol = write_number(u64::from(row.protocol()), &mut line, flags);
+    let dport = write_number(u64::from(row.dport()), &mut line, protocol);
+    let sport = write_number(u64::from(row.sport()), &mut line, dport);
+    let dst = write_addr(row.dst(), &mut line, sport) - 1;
     line[dst] = b'|';
-    let src = write_addr(row.src, &mut line, dst);
+    let src = write_addr(row.src(), &mut line, dst);
     out.extend_from_slice(&line[src..])?;
     Ok([
         dst - src + 1,
@@ -124,9 +123,9 @@ fn print_row(
     labels: Option<RowLabels<'_>>,
 ) -> Result<[usize; COLUMNS_WITH_LABELS], AllocError>
     ensures text { OnOk result (out.new.items
-        ≡ out.old.items ++ line_text (row_line (row_view row.now) (option_map label_texts labels.entry))) }
+        ≡ out.old.items ++ line_text (row_line row.now (option_map label_texts labels.entry))) }
     ensures lengths { IfOk result (λ lengths. take (column_count (is_some labels.entry)) lengths
-        ≡ sizes (row_line (row_view row.now) (option_map label_texts labels.entry))) }
+        ≡ sizes (row_line row.now (option_map label_texts labels.entry))) }
 {
     let last = if labels.is_some() { b'|' } else { b'\n' };
     let mut lengths = print_fields(out, row, last)?;
@@ -176,7 +175,7 @@ impl Table {
         ensures columns { has_columns self.new ≡ has_columns self.old }
         ensures line { OnOk result ((lines : List Line) → IsTable (column_count (is_some labels.entry)) lines self.old
             → IsTable (column_count (is_some labels.entry))
-            (lines ++ row_line (row_view row.now) (option_map label_texts labels.entry) ∷ []) self.new) }
+            (lines ++ row_line row.now (option_map label_texts labels.entry) ∷ []) self.new) }
     {
         if self.columns.is_none() {
             print_row(&mut self.text, row, labels)?;
@@ -216,7 +215,7 @@ pub fn print_rows(
 ) -> Result<Vec<u8>, AllocError>
     requires { ForSome labels (λ given. length given.now ≡ length rows.now) }
     ensures { IfOk result (λ out. out.items
-        ≡ rows_text (map row_view rows.now) (given_labels labels.entry) columns) }
+        ≡ rows_text rows.now (given_labels labels.entry) columns) }
 {
     let mut table = Table::of_rows(alloc, labels.is_some(), columns)?;
     for (i, row) in rows.iter().enumerate() {

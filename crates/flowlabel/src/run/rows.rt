@@ -1,6 +1,6 @@
 //! The output of `rows`.
 ghost use Rattle.std.specs.Prelude.{◌≡◌, ◌++◌, List, OnOk, [], false, is_some, map, option_map};
-ghost use Rattle.flow_rows.specs.Elements.{RowView, row_view};
+ghost use Rattle.flow_rows.specs.Elements.{RowView};
 ghost use Rattle.pmap_print.specs.Table.{IsTable, has_columns};
 ghost use Rattle.pmap_print.specs.Reports.{column_count, label_texts};
 ghost use Rattle.flowlabel.specs.Output.{IsOutput, labelled_row_lines, row_labels};
@@ -62,7 +62,7 @@ fn add_each(
     ensures columns { has_columns table.new ≡ has_columns table.old }
     ensures rows { let labelling = labelling_found labels.entry in OnOk result ((earlier : List RowView)
         → IsTable (column_count (is_some labelling)) (labelled_row_lines labelling earlier) table.old
-        → IsTable (column_count (is_some labelling)) (labelled_row_lines labelling (earlier ++ map row_view rows.now)) table.new) }
+        → IsTable (column_count (is_some labelling)) (labelled_row_lines labelling (earlier ++ rows.now)) table.new) }
 {
     for row in rows {
         table.add_row(row, labels_under(labels, row))?;
@@ -72,12 +72,12 @@ fn add_each(
 
 fn labels_under<'l>(labels: Option<&'l StretchIndex<'_>>, row: &Row) -> Option<RowLabels<'l>>
     ensures { option_map label_texts result
-        ≡ option_map (λ l. row_labels l (row_view row.now)) (labelling_found labels.entry) }
+        ≡ option_map (λ l. row_labels l row.now) (labelling_found labels.entry) }
 {
     let labels = labels?;
     Some(RowLabels {
-        src: label_row(labels, row.src),
-        dst: label_row(labels, row.dst),
+        src: label_row(labels, row.src()),
+        dst: label_row(labels, row.dst()),
     })
 }
 

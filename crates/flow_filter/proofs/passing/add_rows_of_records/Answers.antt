@@ -3,7 +3,7 @@ use Rattle.std.proofs.Math.Seq.{take-length}
 use Rattle.std.proofs.lemmas.List.{append-nil}
 use Rattle.std.proofs.lemmas.List.Elements.{All-head, All-tail}
 use Rattle.std.specs.List.{flat_map}
-use Rattle.flow_rows.specs.Elements.{rows_of_record, RowView, row_view}
+use Rattle.flow_rows.specs.Elements.{rows_of_record, RowView}
 use Rattle.ipfix_read.specs.declared.record.Record.{Record}
 use Rattle.flow_filter.proofs.PassingLemmas.{front_stays}
 use Rattle.flow_filter.proofs.passing.add_rows_of_records.Goals as goal
@@ -28,8 +28,8 @@ loop-record-preserved c = record {
   ok =
       let more = flat_map rows_of_record c.next.new.self in
       ap (λ (added : List RowView). added ++ more) c.in_ok-add_rows_of_record.ensures.ok
-      ∙ append_assoc (map row_view c.loop-record.rows.items) (rows_of_record c.in-Some-record.record) more
-      ∙ ap (λ (left : List Record). map row_view c.loop-record.rows.items ++ flat_map rows_of_record left) (sym c.in-Some-record.ensures.steps)
+      ∙ append_assoc c.loop-record.rows.items (rows_of_record c.in-Some-record.record) more
+      ∙ ap (λ (left : List Record). c.loop-record.rows.items ++ flat_map rows_of_record left) (sym c.in-Some-record.ensures.steps)
       ∙ c.loop-record.invariant.ok;
   front =
       front_stays c.args.rows.now.items c.loop-record.rows.items c.add_rows_of_record.new.rows.items
@@ -38,6 +38,6 @@ loop-record-preserved c = record {
 
 pub returns-clause-ok : goal.returns-clause-ok
 returns-clause-ok c =
-    sym (append-nil (map row_view c.loop-record.rows.items))
-    ∙ ap (λ (left : List Record). map row_view c.loop-record.rows.items ++ flat_map rows_of_record left) (sym c.in-None.ensures.steps.0)
+    sym (append-nil c.loop-record.rows.items)
+    ∙ ap (λ (left : List Record). c.loop-record.rows.items ++ flat_map rows_of_record left) (sym c.in-None.ensures.steps.0)
     ∙ c.loop-record.invariant.ok

@@ -1,6 +1,6 @@
 use Rattle.std.proofs.Common.{◌∙◌, ◌++◌, List, ap, drop, arith, refl, sym, take}
-use Rattle.std.proofs.lemmas.List.{drop-map, drop_at, take-map, take_at}
-use Rattle.flow_rows.specs.Elements.{RowView, row_view}
+use Rattle.std.proofs.lemmas.List.{drop_at, take_at}
+use Rattle.flow_rows.specs.Elements.{RowView}
 use Rattle.label_lookup.specs.Labelling.{label_where, labelling_lent}
 use Rattle.flow_filter.specs.Condition.{Condition, passes, passing, row_passes}
 use Rattle.flow_filter.proofs.PassingLemmas.{all_pass}
@@ -18,7 +18,7 @@ loop-at-init g c = record {
   long = refl;
   kept = λ earlier added long are.
       let those = passing c.args.filter.now (labelling_lent g.L.Labeller.version_of g.L.Labeller.label c.args.labeller) in
-      let front = sym (take-map row_view c.args.before c.args.rows.now.items) ∙ ap (take c.args.before) are ∙ take_at earlier added c.args.before long in
-      let back = sym (drop-map row_view c.args.before c.args.rows.now.items) ∙ ap (drop c.args.before) are ∙ drop_at earlier added c.args.before long in
+      let front = ap (take c.args.before) are ∙ take_at earlier added c.args.before long in
+      let back = ap (drop c.args.before) are ∙ drop_at earlier added c.args.before long in
       λ i. front i ++ those (back i);
 }

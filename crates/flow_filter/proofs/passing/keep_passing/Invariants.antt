@@ -1,6 +1,6 @@
 -- The rows that are kept, with those that are left and pass, are all that pass.
 use Rattle.std.proofs.Common.{◌≡◌, ◌≤◌, ◌++◌, List, drop, length, map, take}
-use Rattle.flow_rows.specs.Elements.{RowView, row_view}
+use Rattle.flow_rows.specs.Elements.{RowView}
 use Rattle.label_lookup.specs.Labelling.{labelling_lent}
 use Rattle.flow_filter.specs.Condition.{passing}
 use Rattle.flow_filter.proofs.passing.keep_passing.Given as goal
@@ -11,6 +11,6 @@ invariant-loop-at g l =
     record {
       within : l.kept ≤ l.at;
       long : length l.rows.items ≡ length l.initial.rows.items;
-      kept : (earlier added : List RowView) → length earlier ≡ l.before → map row_view l.initial.rows.items ≡ earlier ++ added
-          → map row_view (take l.kept l.rows.items) ++ those (map row_view (drop l.at l.rows.items)) ≡ earlier ++ those added;
+      kept : (earlier added : List RowView) → length earlier ≡ l.before → l.initial.rows.items ≡ earlier ++ added
+          → take l.kept l.rows.items ++ those (drop l.at l.rows.items) ≡ earlier ++ those added;
     }

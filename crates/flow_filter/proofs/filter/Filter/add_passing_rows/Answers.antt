@@ -1,8 +1,6 @@
 use Rattle.std.proofs.Common.{◌≤◌, ◌∙◌, ap, arith, map, sym}
-use Rattle.std.proofs.lemmas.List.{length-map}
 use Rattle.ipfix_read.specs.Message.{message_size}
 use Rattle.flow_rows.specs.Counts.{rows_of}
-use Rattle.flow_rows.specs.Elements.{row_view}
 use Rattle.label_lookup.specs.Labelling.{labelling_lent}
 use Rattle.flow_filter.specs.Condition.{passes}
 use Rattle.flow_filter.proofs.PassingLemmas.{few_added}
@@ -16,4 +14,4 @@ returns-else-is_err-clause-few g c =
     few_added c.add_rows_of_sets-added.result
     (passes c.args.self.now (labelling_lent g.L.Labeller.version_of g.L.Labeller.label c.args.labeller))
     sets old c.keep_passing.new.rows.items (sym c.is_err.ensures.value ∙ c.if-is_err.false) size c.add_rows_of_sets-added.ensures.ok
-    (c.keep_passing.ensures (map row_view old) (rows_of sets) (omega (arith, length-map old row_view)))
+    (c.keep_passing.ensures old (rows_of sets) (omega arith))

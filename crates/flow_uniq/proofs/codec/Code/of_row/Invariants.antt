@@ -1,6 +1,5 @@
 -- The bytes are those of the parts so far.
 use Rattle.std.proofs.Common.{◌≡◌, take}
-use Rattle.flow_rows.specs.Elements.{row_view}
 use Rattle.label_lookup.specs.Labelling.{label_where, labelling_lent}
 use Rattle.flow_uniq.specs.Key.{key_of}
 use Rattle.flow_uniq.specs.Inner.{AreSmall, key_code}
@@ -9,6 +8,6 @@ use Rattle.flow_uniq.proofs.codec.Code.of_row.Given as goal
 abbrev pub invariant-loop-field : goal.invariant-loop-field
 invariant-loop-field g l = record {
   code : l.bytes.items
-      ≡ key_code (key_of (label_where (labelling_lent g.L.Labeller.version_of g.L.Labeller.label l.labeller)) (take l.field-index l.fields) (row_view l.row));
-  small : AreSmall (key_of (label_where (labelling_lent g.L.Labeller.version_of g.L.Labeller.label l.labeller)) (take l.field-index l.fields) (row_view l.row));
+      ≡ key_code (key_of (label_where (labelling_lent g.L.Labeller.version_of g.L.Labeller.label l.labeller)) (take l.field-index l.fields) l.row);
+  small : AreSmall (key_of (label_where (labelling_lent g.L.Labeller.version_of g.L.Labeller.label l.labeller)) (take l.field-index l.fields) l.row);
 }

@@ -1,6 +1,5 @@
 -- The groups are those of the earlier rows and of the rows before the index.
 use Rattle.std.proofs.Common.{◌≡◌, ◌+◌, ◌++◌, List, map, take}
-use Rattle.flow_rows.specs.Elements.{row_view}
 use Rattle.label_lookup.specs.Labelling.{label_where, labelling_lent}
 use Rattle.flow_uniq.specs.Groups.{KeyedRow, groups_of_keyed, keyed, record_count}
 use Rattle.flow_uniq.proofs.groups.Groups.add_rows.Given as goal
@@ -14,5 +13,5 @@ invariant-loop-row g l = record {
       ≡ groups_of_keyed
       (earlier
       ++ keyed l.initial.self.fields (label_where (labelling_lent g.L.Labeller.version_of g.L.Labeller.label l.fn.labeller))
-      (map row_view (take l.row-index l.rows)));
+      (take l.row-index l.rows));
 }

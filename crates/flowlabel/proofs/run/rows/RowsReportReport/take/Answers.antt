@@ -1,8 +1,7 @@
 use Rattle.std.proofs.Common.{◌≡◌, ◌∙◌, ◌++◌, List, Option, ap, is_some, map, subst, sym}
 use Rattle.std.proofs.lemmas.Result.{IfOk-weaker}
 use Rattle.flow_rows.specs.Counts.{rows_of}
-use Rattle.flow_rows.specs.Elements.{RowView, row_view}
-use Rattle.flow_rows.specs.declared.row.Row.{Row}
+use Rattle.flow_rows.specs.Elements.{RowView}
 use Rattle.flow_filter.specs.Condition.{Condition, passing, passing_rows}
 use Rattle.pmap_print.specs.Table.{IsTable}
 use Rattle.pmap_print.specs.Reports.{column_count}
@@ -16,9 +15,9 @@ pub returns : goal.returns
 returns c = λ messages few has.
     let labels : Option Labelling = labelling_found c.args.self.now.labels in
     let condition : Condition = c.args.self.now.filter.now in
-    let added : map row_view c.as_slice.result.now ≡ passing condition labels (rows_of c.args.message.now.sets) =
-    ap (map row_view) c.as_slice.ensures.value ∙ c.in_ok-add_passing_rows.ensures.ok
-    ∙ ap (λ (rows : List Row). map row_view rows ++ passing condition labels (rows_of c.args.message.now.sets)) c.clear.ensures.items in
+    let added : c.as_slice.result.now ≡ passing condition labels (rows_of c.args.message.now.sets) =
+    c.as_slice.ensures.value ∙ c.in_ok-add_passing_rows.ensures.ok
+    ∙ ap (λ (rows : List RowView). rows ++ passing condition labels (rows_of c.args.message.now.sets)) c.clear.ensures.items in
     IfOk-weaker c.add_each.result _ _ (λ done rows. record {
       padded = c.add_each.ensures.columns ∙ has.padded;
       lines =
