@@ -1,0 +1,12 @@
+//! Worked examples of the definitions in `specs/` of the other crates.
+//!
+//! The functions do nothing. Each clause of their contracts is a claim that a definition gives a certain result for a
+//! certain input. The prover computes the result, and so a wrong definition breaks a claim. The results are from
+//! FORMATS.md, from RFCs, or from other programs such as Python's `ipaddress`, and never from `flowlabel`.
+#![tactic(auto)]
+
+pub mod addresses;
+pub mod lists;
+pub mod map_faults;
+pub mod maps;
+pub mod printed_addresses;
