@@ -1,8 +1,12 @@
-use Rattle.std.specs.Prelude.{ℕ, List, false}
+use Rattle.std.specs.Prelude.{ℕ, List, Result}
 use Rattle.std.specs.Fmt.{digits}
+use Rattle.pmap_cert.specs.CertificateModel.{CertificateModel}
+use Rattle.pmap_cert.specs.Compacting.{compacted_in}
+use Rattle.pmap_cert.specs.FormatReading.{format_reading, nodes_at}
+use Rattle.pmap_cert.specs.declared.fault.CertFault.{CertFault}
 
 -- Some definitions are opaque: they compute only where they are unfolded. Examples that need them name `opened`, and
 -- with it unfold all definitions that are named here after `unfolding`.
-unfoldable pub opened : ℕ → List ℕ
-unfolding digits
-opened number = digits 10 false number
+unfoldable pub opened : List ℕ → Result CertificateModel CertFault
+unfolding compacted_in digits format_reading nodes_at
+opened text = format_reading text

@@ -6,6 +6,9 @@
 #![tactic(auto)]
 
 pub mod addresses;
+pub mod certificate_faults;
+pub mod certificates;
+pub mod checks;
 pub mod lists;
 pub mod map_faults;
 pub mod maps;
