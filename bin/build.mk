@@ -3,7 +3,8 @@
 # bin/flowlabel runs it at the top of the repository. A line of crates.txt is a rule: a crate follows what it depends on.
 include crates.txt
 
-crates := $(shell sed -n 's/^\([a-z_]*\):.*/\1/p' crates.txt)
+# The examples of the definitions are no part of the program.
+crates := $(filter-out definition_examples,$(shell sed -n 's/^\([a-z_]*\):.*/\1/p' crates.txt))
 log := out/build.log
 .PHONY: $(crates)
 

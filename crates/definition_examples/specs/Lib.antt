@@ -1,3 +1,4 @@
+pub mod Flows
 pub mod Opened
 pub mod Shown
 pub mod Texts

@@ -1,11 +1,11 @@
-use Rattle.std.specs.Prelude.{ℕ, List, Option, option_and_then, option_map, Result, Ok, Err, Some, None, length}
-use Rattle.prefix_keys.specs.Conversion.{converted}
+use Rattle.std.specs.Prelude.{ℕ, List, Option, option_and_then, Result, Ok, Err, Some, None, length}
 use Rattle.prefix_keys.specs.Text.{address_of}
-use Rattle.pmap_text.specs.ListModel.{ListModel, list_label}
-use Rattle.pmap_text.specs.MapModel.{Label, MapModel, map_label}
+use Rattle.pmap_text.specs.ListModel.{ListModel}
+use Rattle.pmap_text.specs.MapModel.{Label, MapModel}
 use Rattle.pmap_text.specs.Reading.{◌>>=◌, list_reading, map_reading}
 use Rattle.pmap_text.specs.declared.fault.MapFault.{MapFault}
 use Rattle.pmap_text.specs.declared.fault.MapFaultKind.{MapFaultKind}
+use Rattle.label_lookup.specs.Labelling.{label_by, labelling_of_list, labelling_of_map}
 use Rattle.pmap_cert.specs.CertificateModel.{CertificateModel}
 use Rattle.pmap_cert.specs.CertificateText.{certificate_text}
 use Rattle.pmap_cert.specs.Compacting.{compact}
@@ -20,13 +20,11 @@ use Rattle.cert_check.specs.declared.fault.CheckFaultKind.{CheckFaultKind}
 
 -- the label of the address that a text represents, under the map that another text represents
 abbrev pub under_map : List ℕ → List ℕ → Result (Option Label) MapFault
-under_map text address = map_reading text
-    >>= (λ m. Ok (option_map (λ a. map_label m a.1) (option_and_then (converted m.version) (address_of address))))
+under_map text address = map_reading text >>= (λ m. Ok (option_and_then (label_by (labelling_of_map m)) (address_of address)))
 
 -- like `under_map`, but under a list
 abbrev pub under_list : List ℕ → List ℕ → Result (Option Label) MapFault
-under_list text address = list_reading text
-    >>= (λ l. Ok (option_and_then (λ a. list_label l a.1) (option_and_then (converted l.version) (address_of address))))
+under_list text address = list_reading text >>= (λ l. Ok (option_and_then (label_by (labelling_of_list l)) (address_of address)))
 
 -- a part of the map, or of the list, that a text represents
 abbrev pub of_map : {A : Type 0} → (MapModel → A) → List ℕ → Result A MapFault
