@@ -1,4 +1,6 @@
-pub mod Flows
-pub mod Opened
-pub mod Shown
-pub mod Texts
+pub mod Addresses
+pub mod Certificates
+pub mod Filters
+pub mod Maps
+pub mod Reports
+pub mod Rows

@@ -1,8 +1,7 @@
 //! The faults of certificates, each with its line: FORMATS.md, "Faults of certificates".
-#![tactic(auto, unfolding(crate::specs::Opened::opened))]
+#![tactic(auto, unfolding(crate::specs::Certificates::opened))]
 
-ghost use Rattle.definition_examples.specs.Shown.{at_certificate_line};
-ghost use Rattle.definition_examples.specs.Texts.{head, lines, quarters};
+ghost use Rattle.definition_examples.specs.Certificates.{at_certificate_line, head, lines, quarters};
 ghost use Rattle.pmap_cert.specs.FormatReading.{format_reading};
 ghost use Rattle.pmap_cert.specs.declared.fault.CertFaultKind.TheVariants.{BadHeader, BadLabelTable, BadNode, NodesLeft, NodesMissing, TooDeep};
 ghost use Rattle.std.specs.Prelude.{◌≡◌, ◌++◌, ◌∷◌, [], codes, Err, replicate};

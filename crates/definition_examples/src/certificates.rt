@@ -1,8 +1,7 @@
 //! Certificates: their texts, both ways, and compacting. The trees are written down by hand.
-#![tactic(auto, unfolding(crate::specs::Opened::opened))]
+#![tactic(auto, unfolding(crate::specs::Certificates::opened))]
 
-ghost use Rattle.definition_examples.specs.Shown.{compacted_text};
-ghost use Rattle.definition_examples.specs.Texts.{last, nested, nested_tree, quarters};
+ghost use Rattle.definition_examples.specs.Certificates.{compacted_text, last, nested, nested_tree, quarters};
 ghost use Rattle.pmap_cert.specs.CertificateModel.{ChainNode, InnerNode, LeafNode};
 ghost use Rattle.pmap_cert.specs.CertificateText.{certificate_text};
 ghost use Rattle.pmap_cert.specs.FormatReading.{format_reading};

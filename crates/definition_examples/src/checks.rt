@@ -1,9 +1,8 @@
 //! Verdicts of `check`: FORMATS.md, "What `check` reports".
-#![tactic(auto, unfolding(crate::specs::Opened::opened))]
+#![tactic(auto, unfolding(crate::specs::Certificates::opened))]
 
 ghost use Rattle.cert_check.specs.declared.fault.CheckFaultKind.TheVariants.{BoundNotMet, CostTooHigh, LeafNotUniform, ListDiffers, SetTooSmall, VersionDiffers};
-ghost use Rattle.definition_examples.specs.Shown.{minimal, refused, verdict};
-ghost use Rattle.definition_examples.specs.Texts.{head, last, last_list, last_map, quarters, quarters_list, quarters_map};
+ghost use Rattle.definition_examples.specs.Certificates.{head, last, last_list, last_map, minimal, quarters, quarters_list, quarters_map, refused, verdict};
 ghost use Rattle.std.specs.Prelude.{◌≡◌, ◌++◌, codes, None};
 
 /// The certificates of the page are accepted, and others that claim no more than the exact claims.

@@ -1,7 +1,9 @@
 //! Filters: which rows pass an option, and which texts are malformed. The row `tcp` goes from 10.0.0.0, port 1804, to
 //! 198.51.100.228, port 443, with protocol 6, 5 packets and 546 bytes.
 
-ghost use Rattle.definition_examples.specs.Flows.{by_map, of_option, passes, passes_all, tcp, tcp_back};
+ghost use Rattle.definition_examples.specs.Filters.{of_option, passes, passes_all};
+ghost use Rattle.definition_examples.specs.Maps.{by_map};
+ghost use Rattle.definition_examples.specs.Rows.{tcp, tcp_back};
 ghost use Rattle.flow_filter.specs.declared.fault.FilterFaultKind.TheVariants.{BadBlock, BadNumberList, BadRange};
 ghost use Rattle.flow_filter.specs.declared.option.FilterOption.TheVariants.{AnyLabel, Bytes, DestinationAddress, DestinationLabel, DestinationPort, Packets, Protocol, SourceAddress, SourceLabel, SourcePort};
 ghost use Rattle.prefix_keys.specs.declared.version.Version.TheVariants.{V6};

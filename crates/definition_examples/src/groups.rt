@@ -1,7 +1,9 @@
 //! Groups, as `uniq` prints them. The lines were added up and sorted by a few lines of Python.
-#![tactic(auto, unfolding(crate::specs::Opened::opened))]
+#![tactic(auto, unfolding(crate::specs::Rows::opened))]
 
-ghost use Rattle.definition_examples.specs.Flows.{by_map, tcp, tcp_back, uniq, unlabelled};
+ghost use Rattle.definition_examples.specs.Maps.{by_map};
+ghost use Rattle.definition_examples.specs.Reports.{uniq, unlabelled};
+ghost use Rattle.definition_examples.specs.Rows.{tcp, tcp_back};
 ghost use Rattle.flow_uniq.specs.declared.fault.KeyFault.TheVariants.{BadField, FieldRepeated};
 ghost use Rattle.prefix_keys.specs.declared.version.Version.TheVariants.{V4, V6};
 ghost use Rattle.std.specs.Prelude.{◌≡◌, ◌∷◌, [], codes, Err, false, Ok, true};

@@ -11,6 +11,7 @@ pub mod certificates;
 pub mod checks;
 pub mod filters;
 pub mod groups;
+pub mod limits;
 pub mod lists;
 pub mod map_faults;
 pub mod maps;

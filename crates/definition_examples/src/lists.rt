@@ -1,7 +1,6 @@
 //! Lists: how the lines of a text are read, and the label of an address under the list.
 
-ghost use Rattle.definition_examples.specs.Shown.{of_list, under_list};
-ghost use Rattle.definition_examples.specs.Texts.{office_list};
+ghost use Rattle.definition_examples.specs.Maps.{of_list, office_list, under_list};
 ghost use Rattle.pmap_text.specs.ListModel.{list_label};
 ghost use Rattle.prefix_keys.specs.declared.version.Version.TheVariants.{V4, V6};
 ghost use Rattle.std.specs.Prelude.{◌≡◌, ◌∷◌, [], codes, None, Ok, Some};

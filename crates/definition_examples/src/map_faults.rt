@@ -1,6 +1,6 @@
 //! The faults of maps and lists, each with its line: FORMATS.md, "Faults of maps and lists".
 
-ghost use Rattle.definition_examples.specs.Shown.{at_line};
+ghost use Rattle.definition_examples.specs.Maps.{at_line};
 ghost use Rattle.pmap_text.specs.Reading.{list_reading, map_reading};
 ghost use Rattle.pmap_text.specs.declared.fault.MapFaultKind.TheVariants.{BadAddress, BadLabel, BadLength, BadMode, BadStatement, DuplicateBlock, LabelConflict, LowAboveHigh, MissingLabel, ModeLate, ModeRepeated, NotAList, WrongVersion};
 ghost use Rattle.std.specs.Prelude.{◌≡◌, ◌++◌, ◌∷◌, [], codes, Err, replicate};

@@ -1,7 +1,6 @@
 //! Maps: how the lines of a text are read, and the label of an address under the map.
 
-ghost use Rattle.definition_examples.specs.Shown.{of_map, under_map};
-ghost use Rattle.definition_examples.specs.Texts.{offices};
+ghost use Rattle.definition_examples.specs.Maps.{of_map, offices, under_map};
 ghost use Rattle.prefix_keys.specs.declared.version.Version.TheVariants.{V4, V6};
 ghost use Rattle.std.specs.Prelude.{◌≡◌, ◌++◌, ◌∷◌, [], codes, None, Ok, replicate, Some};
 

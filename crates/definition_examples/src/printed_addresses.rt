@@ -1,5 +1,5 @@
 //! Addresses and blocks as they are printed. The texts are those of Python's `ipaddress`, and of RFC 5952.
-#![tactic(auto, unfolding(crate::specs::Opened::opened))]
+#![tactic(auto, unfolding(crate::specs::Addresses::opened))]
 
 ghost use Rattle.prefix_keys.specs.Print.{address_text, block_text};
 ghost use Rattle.prefix_keys.specs.declared.version.Version.TheVariants.{V4, V6};

@@ -1,7 +1,7 @@
 //! Rows of records. The elements are those of IANA's registry, and bytes are in network byte order (RFC 7011).
-#![tactic(auto, unfolding(crate::specs::Opened::opened))]
+#![tactic(auto, unfolding(crate::specs::Rows::opened))]
 
-ghost use Rattle.definition_examples.specs.Flows.{field, hex, plain, reverse, rows_of, tcp, tcp_back, value};
+ghost use Rattle.definition_examples.specs.Rows.{field, hex, plain, reverse, rows_of, tcp, tcp_back, value};
 ghost use Rattle.flow_rows.specs.Elements.{rows_of_record};
 ghost use Rattle.ipfix_read.specs.Value.{values_at};
 ghost use Rattle.ipfix_templates.specs.declared.kind.Kind.TheVariants.{Flow, Options};

@@ -1,8 +1,9 @@
 //! Printed tables, lists, runs and counts: FORMATS.md, "Printed texts".
-#![tactic(auto, unfolding(crate::specs::Opened::opened))]
+#![tactic(auto, unfolding(crate::specs::Rows::opened))]
 
-ghost use Rattle.definition_examples.specs.Flows.{groups_in, info, plain, printed_list, rows, tcp, tcp_back, unlabelled, value};
-ghost use Rattle.definition_examples.specs.Texts.{office_list};
+ghost use Rattle.definition_examples.specs.Maps.{office_list};
+ghost use Rattle.definition_examples.specs.Reports.{groups_in, info, printed_list, rows, unlabelled};
+ghost use Rattle.definition_examples.specs.Rows.{plain, tcp, tcp_back, value};
 ghost use Rattle.ipfix_read.specs.declared.set.Set.TheVariants.{Skipped, Templates, Values};
 ghost use Rattle.ipfix_templates.specs.declared.event.TemplateEvent.TheVariants.{Define, Withdraw, WithdrawAll};
 ghost use Rattle.ipfix_templates.specs.declared.kind.Kind.TheVariants.{Flow, Options};

@@ -1,0 +1,40 @@
+use Rattle.std.specs.Prelude.{ℕ, List, [], ◌∷◌, ◌==◌, Bool, Option, None, Result, Ok, find, map, option_map}
+use Rattle.prefix_keys.specs.Text.{AddressOf}
+use Rattle.pmap_text.specs.MapModel.{Label}
+use Rattle.pmap_text.specs.Reading.{◌>>=◌}
+use Rattle.flow_rows.specs.Elements.{RowView}
+use Rattle.flow_filter.specs.Condition.{filter_of, row_passes}
+use Rattle.flow_filter.specs.declared.fault.FilterFault.{FilterFault}
+use Rattle.flow_filter.specs.declared.fault.FilterFaultKind.{FilterFaultKind}
+use Rattle.flow_filter.specs.declared.option.FilterOption.{FilterOption}
+use Rattle.flow_filter.specs.declared.option.FilterOption.TheVariants.{AnyLabel, Bytes, DestinationAddress, DestinationLabel, DestinationPort, Packets, Protocol, SourceAddress, SourceLabel, SourcePort}
+
+-- What examples ask of filters.
+
+-- the index of an option in the table of filters
+abbrev pub place : FilterOption → ℕ
+place Protocol = 0
+place SourcePort = 1
+place DestinationPort = 2
+place SourceAddress = 3
+place DestinationAddress = 4
+place Packets = 5
+place Bytes = 6
+place SourceLabel = 7
+place DestinationLabel = 8
+place AnyLabel = 9
+
+-- the texts of all options, by those given
+abbrev pub texts_of : List (FilterOption × List ℕ) → List (Option (List ℕ))
+texts_of given = map (λ index. option_map (λ part. part.1) (find (λ part. place part.0 == index) given))
+    (0 ∷ 1 ∷ 2 ∷ 3 ∷ 4 ∷ 5 ∷ 6 ∷ 7 ∷ 8 ∷ 9 ∷ [])
+
+-- whether a row passes the options given, with these labels of addresses, or the fault of the options
+abbrev pub passes_all : List (FilterOption × List ℕ) → (AddressOf → Option Label) → RowView → Result Bool FilterFault
+passes_all given label row = filter_of (texts_of given) >>= (λ condition. Ok (row_passes condition label row))
+
+abbrev pub passes : FilterOption → List ℕ → RowView → Result Bool FilterFault
+passes option text row = passes_all ((option, text) ∷ []) (λ address. None) row
+
+abbrev pub of_option : FilterOption → FilterFaultKind → FilterFault
+of_option option kind = record { option = option; kind = kind }

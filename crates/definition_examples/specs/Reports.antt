@@ -1,0 +1,39 @@
+use Rattle.std.specs.Prelude.{ℕ, List, Bool, false, Option, None, Result, Ok, map}
+use Rattle.prefix_keys.specs.Text.{AddressOf}
+use Rattle.pmap_text.specs.MapModel.{Label}
+use Rattle.pmap_text.specs.Reading.{◌>>=◌, list_reading}
+use Rattle.pmap_text.specs.declared.fault.MapFault.{MapFault}
+use Rattle.ipfix_read.specs.declared.set.Set.{Set}
+use Rattle.flow_rows.specs.Counts.{counts_of}
+use Rattle.flow_rows.specs.Elements.{RowView}
+use Rattle.flow_uniq.specs.Groups.{groups_of, shown_groups}
+use Rattle.flow_uniq.specs.Key.{keys_reading}
+use Rattle.flow_uniq.specs.declared.fault.KeyFault.{KeyFault}
+use Rattle.pmap_print.specs.List.{list_text}
+use Rattle.pmap_print.specs.Reports.{groups_text, info_text, rows_text}
+
+-- What commands print of groups, rows, counts and lists.
+
+-- no address has a label
+abbrev pub unlabelled : AddressOf → Option Label
+unlabelled address = None
+
+-- what `uniq` prints of rows, by the text of `--fields`, sorted or not, and in columns or not
+abbrev pub groups_in : Bool → List ℕ → Bool → (AddressOf → Option Label) → List RowView → Result (List ℕ) KeyFault
+groups_in columns names sorted label rows =
+    keys_reading names >>= (λ fields. Ok (groups_text fields (shown_groups sorted (groups_of fields label rows)) columns))
+
+abbrev pub uniq : List ℕ → Bool → (AddressOf → Option Label) → List RowView → Result (List ℕ) KeyFault
+uniq = groups_in false
+
+-- what `rows` prints of rows without labels
+abbrev pub rows : Bool → List RowView → List ℕ
+rows columns all = rows_text all None columns
+
+-- what `info` prints of messages with these sets
+abbrev pub info : List (List Set) → List ℕ
+info messages = info_text (counts_of (map (λ sets. record { export_time = 0; sequence = 0; domain = 1; sets = sets }) messages))
+
+-- the list that a text represents, printed
+abbrev pub printed_list : List ℕ → Result (List ℕ) MapFault
+printed_list text = list_reading text >>= (λ l. Ok (list_text l))
