@@ -1,5 +1,5 @@
 -- The bytes that are written for a key are read back as this key.
-use Rattle.std.proofs.Common.{◌≡◌, ℕ, zero, suc, ◌+◌, ◌^◌, ◌<◌, ◌≤◌, Bool, true, false, if◌then◌else◌, List, [], ◌∷◌, ◌++◌, length, take, drop, nat_lt, slice_index, get_or, map, Option, Some, None, refl, sym, ap, subst, ◌∙◌, arith}
+use Rattle.std.proofs.Common.{◌≡◌, ℕ, zero, suc, ◌+◌, ◌^◌, ◌<◌, ◌≤◌, false, List, [], ◌∷◌, ◌++◌, length, take, drop, nat_lt, get_or, map, Option, Some, None, refl, sym, ap, subst, ◌∙◌, arith}
 use Rattle.std.proofs.lemmas.List.{append-nil, append_assoc, drop_all, drop-append-le, length-append, length-drop, take_all, take-append-le}
 use Rattle.std.proofs.lemmas.Bool.Decides.{nat_tests}
 use Rattle.std.proofs.lemmas.Grind.{common_steps}
@@ -43,20 +43,12 @@ parts_in-back (NumberPart n) most r h =
     ap (λ (c : List ℕ × List ℕ). NumberPart (from_be_bytes w16 c.0) ∷ parts_in most c.1) (front_bytes-back 2 (to_be_bytes w16 n) r refl)
     ∙ ap (λ (m : ℕ). NumberPart m ∷ parts_in most r) (from_be_bytes-to_be_bytes_2 n h)
 parts_in-back (LabelPart None) most r h = refl
-parts_in-back (LabelPart (Some t)) most r h = by (nat_lt (length t) 256)
-  where
-    by : (b : Bool)
-        → parts_in (suc most) (((if b then 2 ∷ length t ∷ [] else 3 ∷ to_be_bytes w64 (length t)) ++ t) ++ r) ≡ LabelPart (Some t) ∷ parts_in most r
-    by true =
-        ap (λ (c : List ℕ × List ℕ). let f = text_front (slice_index c.0 0) c.1 in LabelPart f.0 ∷ parts_in most f.1)
-        (front_bytes-back 1 (length t ∷ []) (t ++ r) refl)
-        ∙ ap (λ (f : Option Label × List ℕ). LabelPart f.0 ∷ parts_in most f.1) (text_front-back t r)
-    by false =
-        ap (λ (l : List ℕ). parts_in (suc most) (3 ∷ l)) (append_assoc (to_be_bytes w64 (length t)) t r)
-        ∙ ap (λ (c : List ℕ × List ℕ). let f = text_front (from_be_bytes w64 c.0) c.1 in LabelPart f.0 ∷ parts_in most f.1)
-        (front_bytes-back 8 (to_be_bytes w64 (length t)) (t ++ r) refl)
-        ∙ ap (λ (n : ℕ). let f = text_front n (t ++ r) in LabelPart f.0 ∷ parts_in most f.1) (from_be_bytes-to_be_bytes_8 (length t) h)
-        ∙ ap (λ (f : Option Label × List ℕ). LabelPart f.0 ∷ parts_in most f.1) (text_front-back t r)
+parts_in-back (LabelPart (Some t)) most r h =
+    ap (λ (l : List ℕ). parts_in (suc most) (2 ∷ l)) (append_assoc (to_be_bytes w64 (length t)) t r)
+    ∙ ap (λ (c : List ℕ × List ℕ). let f = text_front (from_be_bytes w64 c.0) c.1 in LabelPart f.0 ∷ parts_in most f.1)
+    (front_bytes-back 8 (to_be_bytes w64 (length t)) (t ++ r) refl)
+    ∙ ap (λ (n : ℕ). let f = text_front n (t ++ r) in LabelPart f.0 ∷ parts_in most f.1) (from_be_bytes-to_be_bytes_8 (length t) h)
+    ∙ ap (λ (f : Option Label × List ℕ). LabelPart f.0 ∷ parts_in most f.1) (text_front-back t r)
 parts_in-back (AddressPart (V4, v)) most r h =
     ap (λ (c : List ℕ × List ℕ). AddressPart (V4, from_be_bytes w32 c.0) ∷ parts_in most c.1) (front_bytes-back 4 (to_be_bytes w32 v) r refl)
     ∙ ap (λ (m : ℕ). AddressPart (V4, m) ∷ parts_in most r) (from_be_bytes-to_be_bytes_4 v h)
@@ -67,7 +59,7 @@ parts_in-back (AddressPart (V6, v)) most r h =
 one_byte : (p : KeyPartModel) → 1 ≤ length (part_code p)
 one_byte (NumberPart n) = omega arith
 one_byte (LabelPart None) = omega arith
-one_byte (LabelPart (Some t)) = grind (arith, nat_tests)
+one_byte (LabelPart (Some t)) = omega arith
 one_byte (AddressPart (V4, v)) = omega arith
 one_byte (AddressPart (V6, v)) = omega arith
 
@@ -102,10 +94,7 @@ rest_shorter kind code =
     let front : List ℕ × List ℕ = front_bytes 8 code in
     let text : length (text_front (from_be_bytes w64 front.0) front.1).1 ≤ length code
     = omega (arith, text_shorter (from_be_bytes w64 front.0) front.1, front_shorter 8 code) in
-    let first : List ℕ × List ℕ = front_bytes 1 code in
-    let short : length (text_front (slice_index first.0 0) first.1).1 ≤ length code
-    = omega (arith, text_shorter (slice_index first.0 0) first.1, front_shorter 1 code) in
-    grind (arith, front_shorter 2 code, front_shorter 4 code, front_shorter 16 code, short, text)
+    grind (arith, front_shorter 2 code, front_shorter 4 code, front_shorter 16 code, text)
 
 -- a limit of as many parts as there are bytes omits no part
 enough : (m n : ℕ) (code : List ℕ) → length code ≤ m → length code ≤ n → parts_in m code ≡ parts_in n code

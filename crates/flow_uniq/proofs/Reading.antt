@@ -1,80 +1,91 @@
--- The result of reading a text that names fields.
-use Rattle.std.proofs.Common.{◌≡◌, ℕ, ◌+◌, Bool, false, true≢false, cond, ◌||◌, if◌then◌else◌, List, [], ◌∷◌, Option, Some, None, Result, Ok, Err, map, arith, refl, sym, ap, ◌∙◌}
-use Rattle.std.proofs.lemmas.Bool.Decides.{nat_tests}
-use Rattle.std.specs.Prelude.{IfErr, count_by, find, is_none, is_some, nat_lt, option_map, filter, length}
-use Rattle.std.specs.List.{cons_option, list_any, slice_get}
-use Rattle.std.specs.Str.{bytes_eq}
-use Rattle.std.proofs.lemmas.List.Folds.{fold-map}
-use Rattle.std.proofs.lemmas.List.Sums.{length-filter}
-use Rattle.std.proofs.lemmas.Slice.Eq.{bytes_eq-Decides}
-use Rattle.pmap_text.proofs.Finds.{find_passes}
-use Rattle.pmap_text.proofs.LabelTexts.{list_any-map}
-use Rattle.flow_uniq.specs.Key.{KeyField, KeyFault, BadField, FieldRepeated, NoMemory, all_fields, field_name, field_named, has_repeated, has_repetition, has_unnamed, is_repeated, items_of, keys_reading, named_fields}
+-- The fields of a text, item by item.
+use Rattle.std.proofs.Common.{◌≡◌, ℕ, ◌<◌, Bool, false, true, not, true≢false, if◌then◌else◌, List, [], ◌∷◌, ◌++◌, Some, None, length, refl, sym, ap, ◌∙◌, arith}
+use Rattle.std.proofs.lemmas.Cmp.{nat_list_eq_equiv, on_equiv}
+use Rattle.std.proofs.lemmas.List.{length_push}
+use Rattle.std.proofs.lemmas.List.Elements.{filter_map-append}
+use Rattle.std.proofs.lemmas.List.Folds.{list_any-append}
+use Rattle.std.proofs.lemmas.List.Sums.{fold_push}
+use Rattle.std.proofs.lemmas.Map.Keys.{IsDistinct-push}
+use Rattle.std.proofs.lemmas.Map.Made.{length-le_from_is_member}
+use Rattle.std.specs.Cmp.{IsEquivalence}
+use Rattle.std.specs.List.{IsDistinct, cons_option, list_any}
+use Rattle.std.specs.Prelude.{Result, Ok, Err, is_none, ok_or, ◌||◌}
+use Rattle.std.specs.Set.{is_member}
+use Rattle.flow_uniq.specs.Key.{KeyField, KeyFault, BadField, FieldRepeated, all_fields, each_once, field_name, field_named, has_unnamed, items_of, keys_reading, named_fields, same_field, with_field}
+use Rattle.flow_uniq.specs.declared.field.KeyField.TheVariants.{SourceAddress, DestinationAddress, SourcePort, DestinationPort, Protocol, Flags, SourceLabel, DestinationLabel}
 
-count_by-map : {X Y : Type 0} (f : X → Y) (p : Y → Bool) (xs : List X) → count_by p (map f xs) ≡ count_by (λ x. p (f x)) xs
-count_by-map f p xs = fold-map (λ n y. n + cond (p y) 1 0) f 0 xs
+same_field-equiv : IsEquivalence same_field
+same_field-equiv = on_equiv field_name nat_list_eq_equiv
 
--- a field occurs more than once if and only if its name does
-repetition_is : (fields : List KeyField) → has_repetition fields ≡ has_repeated (map field_name fields)
-repetition_is fields =
-    ap (λ (p : KeyField → Bool). list_any p fields)
-    (λ i field. nat_lt 1 (sym (count_by-map field_name (λ other. bytes_eq other (field_name field)) fields) i))
-    ∙ sym (list_any-map field_name (is_repeated (map field_name fields)) fields)
+is_field : (field : KeyField) → is_member same_field all_fields field ≡ true
+is_field SourceAddress = refl
+is_field DestinationAddress = refl
+is_field SourcePort = refl
+is_field DestinationPort = refl
+is_field Protocol = refl
+is_field Flags = refl
+is_field SourceLabel = refl
+is_field DestinationLabel = refl
 
--- a field that is found by a text has this name
-has_name : (text : List ℕ) (fields : List KeyField) (found : KeyField) → find (λ field. bytes_eq (field_name field) text) fields ≡ Some found
-    → field_name found ≡ text
-has_name text fields found is =
-    (bytes_eq-Decides (field_name found) text).0 (find_passes (λ field. bytes_eq (field_name field) text) fields found is).1
+pub none_there : IsDistinct same_field []
+unfolding IsDistinct
+none_there = tt
 
--- if items all name fields, they are the names of these fields
-names_are : (items : List (List ℕ)) → has_unnamed items ≡ false → map field_name (named_fields items) ≡ items
-names_are [] all = refl
-names_are (item ∷ items) all = by (field_named item) refl (names_are items)
-  where
-    by : (o : Option KeyField) → field_named item ≡ o → (has_unnamed items ≡ false → map field_name (named_fields items) ≡ items)
-        → map field_name (named_fields (item ∷ items)) ≡ item ∷ items
-    by None e rest = absurd (true≢false (ap (λ (o : Option KeyField). is_none o || has_unnamed items) (sym e) ∙ all))
-    by (Some field) e rest =
-        ap (λ (o : Option KeyField). map field_name (cons_option o (named_fields items))) e
-        ∙ ap (λ (name : List ℕ). name ∷ map field_name (named_fields items)) (has_name item all_fields field e)
-        ∙ ap (λ (names : List (List ℕ)). item ∷ names)
-        (rest (ap (λ (o : Option KeyField). is_none o || has_unnamed items) (sym e) ∙ all))
+-- fields that are distinct, and another one, are at most eight
+module _ (fields : List KeyField) (field : KeyField) (once : IsDistinct same_field fields) (new : list_any (same_field field) fields ≡ false) where
+  pub once_more : IsDistinct same_field (fields ++ field ∷ [])
+  once_more = IsDistinct-push same_field-equiv fields field once new
+
+  pub at_most_eight : length fields < 8
+  at_most_eight =
+      omega (
+        arith,
+        length_push fields field,
+        length-le_from_is_member same_field-equiv (fields ++ field ∷ []) all_fields once_more (λ other _. is_field other),
+      )
+
+-- the items name fields, which are these unless one occurs twice
+pub record IsRead (names : List (List ℕ)) (twice : Bool) (keys : List KeyField) : Type 0 where
+  pub named : has_unnamed names ≡ false
+  pub fields : (if twice then None else Some keys) ≡ each_once (named_fields names)
+
+-- the items are followed by the name of a field, which was added to the fields or is one of them
+module _ (names : List (List ℕ)) (name : List ℕ) (field : KeyField) (twice : Bool) (keys new : List KeyField) where
+  one : (added here : Bool) → added ≡ not here → new ≡ (if added then keys ++ field ∷ [] else keys)
+      → (if (if added then false else true) then None else Some new) ≡ (if here then None else Some (keys ++ field ∷ []))
+  one true true at grown = absurd (true≢false at)
+  one true false at grown = ap Some grown
+  one false true at grown = refl
+  one false false at grown = absurd (true≢false (sym at))
+
+  by : (b added : Bool) → added ≡ not (list_any (same_field field) keys) → new ≡ (if added then keys ++ field ∷ [] else keys)
+      → (if (if added then b else true) then None else Some new) ≡ with_field (if b then None else Some keys) field
+  by true true at grown = refl
+  by true false at grown = refl
+  by false added at grown = one added (list_any (same_field field) keys) at grown
+
+  pub read_more : field_named name ≡ Some field → IsRead names twice keys → (added now : Bool) → added ≡ not (list_any (same_field field) keys)
+      → new ≡ (if added then keys ++ field ∷ [] else keys) → now ≡ (if added then twice else true) → IsRead (names ++ name ∷ []) now new
+  read_more is before added now at grown flagged = record {
+    named =
+        list_any-append (λ item. is_none (field_named item)) names (name ∷ []) ∙ (λ i. before.named i || (is_none (is i) || false));
+    fields =
+        ap (λ b. if b then None else Some new) flagged ∙ by twice added at grown ∙ ap (λ o. with_field o field) before.fields
+        ∙ sym (ap each_once (filter_map-append field_named names (name ∷ []) ∙ ap (λ o. named_fields names ++ cons_option o []) is)
+        ∙ fold_push with_field (Some []) (named_fields names) field);
+  }
 
 module _ (text : List ℕ) where
-  module _ (all : has_unnamed (items_of text) ≡ false) where
-    repeats : has_repetition (named_fields (items_of text)) ≡ has_repeated (items_of text)
-    repeats = repetition_is (named_fields (items_of text)) ∙ ap has_repeated (names_are (items_of text) all)
+  pub not_read : has_unnamed (items_of text) ≡ true → Err BadField ≡ keys_reading text
+  not_read unnamed = ap (λ b. if b then Err BadField else ok_or (each_once (named_fields (items_of text))) FieldRepeated) (sym unnamed)
 
-    pub read_as : (b : Bool) → has_repeated (items_of text) ≡ b
-        → keys_reading text ≡ (if b then Err FieldRepeated else Ok (named_fields (items_of text)))
-    read_as b is =
-        ap (λ (c : Bool). let R : Result (List KeyField) KeyFault = if c then Err BadField
-        else if has_repetition (named_fields (items_of text)) then Err FieldRepeated else Ok (named_fields (items_of text)) in R) all
-        ∙ ap (λ (c : Bool). let R : Result (List KeyField) KeyFault = if c then Err FieldRepeated else Ok (named_fields (items_of text)) in R)
-        (repeats ∙ is)
+  pub read_all : (names : List (List ℕ)) (twice : Bool) (keys : List KeyField) → names ≡ items_of text → IsRead names twice keys
+      → ok_or (if twice then None else Some keys) FieldRepeated ≡ keys_reading text
+  read_all names twice keys same is =
+      (λ i. if sym is.named i then Err BadField else ok_or (is.fields i) FieldRepeated)
+      ∙ ap (λ items. if has_unnamed items then Err BadField else ok_or (each_once (named_fields items)) FieldRepeated) same
 
-    pub names_each_once : has_repeated (items_of text) ≡ false → has_repetition (named_fields (items_of text)) ≡ false
-    names_each_once is = repeats ∙ is
-
--- a text that is read has fields, whatever the fault
-pub had_fields : {A : Type 0} (text : List ℕ) (r : Result A KeyFault) → keys_reading text ≡ Ok (named_fields (items_of text))
-    → IfErr r (λ fault. fault ≡ NoMemory → (fields : List KeyField) × (keys_reading text ≡ Ok fields))
-had_fields text (Ok done) is = tt
-had_fields text (Err fault) is = λ _. (named_fields (items_of text), is)
-
--- there is a second element if and only if there is more than one
-second_of : {X : Type 0} (xs : List X) → is_some (slice_get xs 1) ≡ nat_lt 1 (length xs)
-second_of [] = refl
-second_of (x ∷ []) = refl
-second_of (x ∷ y ∷ zs) = grind (arith, nat_tests)
-
-is_some-map : {X Y : Type 0} (f : X → Y) (o : Option X) → is_some o ≡ is_some (option_map f o)
-is_some-map f None = refl
-is_some-map f (Some x) = refl
-
--- the second of the elements that pass exists if and only if more than one passes
-pub second_passes : {X Y : Type 0} (f : X → Y) (p : Y → Bool) (ys : List Y) (o : Option X) → option_map f o ≡ slice_get (filter p ys) 1
-    → is_some o ≡ nat_lt 1 (count_by p ys)
-second_passes f p ys o is =
-    is_some-map f o ∙ ap is_some is ∙ second_of (filter p ys) ∙ ap (nat_lt 1) (length-filter p ys)
+-- the fault, if there is one
+abbrev pub fault_of : Result KeyField KeyFault → KeyFault
+fault_of (Ok field) = BadField
+fault_of (Err fault) = fault

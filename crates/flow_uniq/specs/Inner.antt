@@ -1,4 +1,4 @@
-use Rattle.std.specs.Prelude.{◌≡◌, ℕ, zero, suc, ◌^◌, ◌<◌, ◌==◌, ◌++◌, Bool, List, [], ◌∷◌, Option, Some, None, length, take, drop, nat_lt, slice_index, option_copied, replicate, if◌then◌else◌, ◌+◌, ◌-◌, ◌*◌, ◌≤◌, map}
+use Rattle.std.specs.Prelude.{◌≡◌, ℕ, zero, suc, ◌^◌, ◌<◌, ◌==◌, ◌++◌, Bool, List, [], ◌∷◌, Option, Some, None, length, take, drop, nat_lt, option_copied, replicate, if◌then◌else◌, ◌+◌, ◌-◌, ◌*◌, ◌≤◌, map}
 use Rattle.std.specs.Int.{w16, w32, w64, w128, from_be_bytes, to_be_bytes}
 use Rattle.std.specs.List.{AllByRecursion, flat_map}
 use Rattle.std.specs.Str.{bytes_eq}
@@ -21,16 +21,12 @@ part_model (part.Address addr) = AddressPart (addr.version, addr.value)
 part_model (part.Number number) = NumberPart number
 part_model (part.Label label) = LabelPart (option_copied label)
 
--- the kind of a label and the length of its text, in one byte if it fits
-abbrev pub length_code : ℕ → List ℕ
-length_code len = if nat_lt len 256 then 2 ∷ len ∷ [] else 3 ∷ to_be_bytes w64 len
-
 -- a part as bytes, which begin with its kind: numbers have their highest byte first, and a label has its length before
 -- its text
 abbrev pub part_code : KeyPartModel → List ℕ
 part_code (NumberPart number) = 0 ∷ to_be_bytes w16 number
 part_code (LabelPart None) = 1 ∷ []
-part_code (LabelPart (Some text)) = length_code (length text) ++ text
+part_code (LabelPart (Some text)) = 2 ∷ to_be_bytes w64 (length text) ++ text
 part_code (AddressPart (V4, value)) = 4 ∷ to_be_bytes w32 value
 part_code (AddressPart (V6, value)) = 6 ∷ to_be_bytes w128 value
 
@@ -61,12 +57,10 @@ text_front len code = if nat_lt (length code) len then (None, code) else (Some (
 -- the part of this kind, and the bytes after it
 abbrev pub part_after : ℕ → List ℕ → KeyPartModel × List ℕ
 part_after kind code =
-    let short = text_front (slice_index (front_bytes 1 code).0 0) (front_bytes 1 code).1 in
-    let long = text_front (from_be_bytes w64 (front_bytes 8 code).0) (front_bytes 8 code).1 in
+    let label = text_front (from_be_bytes w64 (front_bytes 8 code).0) (front_bytes 8 code).1 in
     if kind == 0 then (NumberPart (from_be_bytes w16 (front_bytes 2 code).0), (front_bytes 2 code).1)
     else if kind == 1 then (LabelPart None, code)
-    else if kind == 2 then (LabelPart short.0, short.1)
-    else if kind == 3 then (LabelPart long.0, long.1)
+    else if kind == 2 then (LabelPart label.0, label.1)
     else if kind == 4 then (AddressPart (V4, from_be_bytes w32 (front_bytes 4 code).0), (front_bytes 4 code).1)
     else (AddressPart (V6, from_be_bytes w128 (front_bytes 16 code).0), (front_bytes 16 code).1)
 

@@ -1,4 +1,4 @@
-use Rattle.std.specs.Prelude.{ℕ, ◌==◌, Bool, true, false, List, [], ◌∷◌, Option, Result, Ok, Err, codes, count_by, find, filter_map, is_none, nat_lt, if◌then◌else◌, Some, None, map}
+use Rattle.std.specs.Prelude.{ℕ, ◌==◌, Bool, true, false, List, [], ◌∷◌, ◌++◌, Option, Result, Err, codes, find, filter_map, fold, is_none, ok_or, if◌then◌else◌, Some, None, map}
 use Rattle.std.specs.List.{list_any, slice_split}
 use Rattle.std.specs.Str.{bytes_eq}
 use Rattle.std.specs.Cmp.Lexicographic.{pointwise}
@@ -56,24 +56,23 @@ has_unnamed items = list_any (λ item. is_none (field_named item)) items
 abbrev pub named_fields : List (List ℕ) → List KeyField
 named_fields items = filter_map field_named items
 
--- whether a field occurs more than once
-abbrev pub has_repetition : List KeyField → Bool
-has_repetition fields =
-    list_any (λ field. nat_lt 1 (count_by (λ other. bytes_eq (field_name other) (field_name field)) fields)) fields
+-- whether both have the same name, and so are the same field
+abbrev pub same_field : KeyField → KeyField → Bool
+same_field a b = bytes_eq (field_name a) (field_name b)
 
--- whether an item occurs more than once, and whether some item does
-abbrev pub is_repeated : List (List ℕ) → List ℕ → Bool
-is_repeated items item = nat_lt 1 (count_by (λ other. bytes_eq other item) items)
+-- fields followed by another one, or none if that field is one of them
+abbrev pub with_field : Option (List KeyField) → KeyField → Option (List KeyField)
+with_field None field = None
+with_field (Some fields) field = if list_any (same_field field) fields then None else Some (fields ++ field ∷ [])
 
-abbrev pub has_repeated : List (List ℕ) → Bool
-has_repeated items = list_any (is_repeated items) items
+-- the fields, if each occurs once
+abbrev pub each_once : List KeyField → Option (List KeyField)
+each_once fields = fold with_field (Some []) fields
 
 -- the result of reading a text: the fields that its items name, or its fault
 abbrev pub keys_reading : List ℕ → Result (List KeyField) KeyFault
 keys_reading text =
-    if has_unnamed (items_of text) then Err BadField
-    else if has_repetition (named_fields (items_of text)) then Err FieldRepeated
-    else Ok (named_fields (items_of text))
+    if has_unnamed (items_of text) then Err BadField else ok_or (each_once (named_fields (items_of text))) FieldRepeated
 
 -- The key of a row.
 

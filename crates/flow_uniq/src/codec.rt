@@ -2,7 +2,7 @@
 ghost use Rattle.std.specs.Prelude.{◌≡◌, ◌++◌, ◌∷◌, ◌<◌, ◌^◌, ◌↔◌, [], IfNone, IfOk, IfSome, OnOk, Some, length, option_copied};
 ghost use Rattle.label_lookup.specs.Labelling.{label_where, labelling_lent};
 ghost use Rattle.flow_uniq.specs.Key.{AddressPart, Key as Parts, LabelPart, key_of, key_part};
-ghost use Rattle.flow_uniq.specs.Inner.{AreSmall, IsSmall, front_bytes, key_code, length_code, part_after, part_code, part_model, text_front};
+ghost use Rattle.flow_uniq.specs.Inner.{AreSmall, IsSmall, front_bytes, key_code, part_after, part_code, part_model, text_front};
 
 use crate::field::KeyField;
 use flow_rows::Row;
@@ -130,21 +130,6 @@ fn append_address(out: &mut Bytes, addr: Addr) -> Result<(), AllocError>
     Ok(())
 }
 
-// Appends the kind of a label and the length of its text, in one byte if it fits. If an allocation fails, the kind may
-// have been appended.
-fn append_length(out: &mut Bytes, len: usize) -> Result<(), AllocError>
-    ensures { OnOk result (out.new.items ≡ out.old.items ++ length_code len) }
-{
-    if len < 256 {
-        out.push(2)?;
-        out.push(len as u8)?;
-    } else {
-        out.push(3)?;
-        out.extend_from_slice(&(len as u64).to_be_bytes())?;
-    }
-    Ok(())
-}
-
 // Appends the bytes of a part. If an allocation fails, some of them may have been appended. Inlined into its one
 // caller, so that no part is copied.
 #[inline(always)]
@@ -160,7 +145,8 @@ fn append_part(out: &mut Bytes, part: KeyPart<'_>) -> Result<(), AllocError>
         }
         KeyPart::Label(None) => out.push(1)?,
         KeyPart::Label(Some(text)) => {
-            append_length(out, text.len())?;
+            out.push(2)?;
+            out.extend_from_slice(&(text.len() as u64).to_be_bytes())?;
             out.extend_from_slice(text)?;
         }
     }
@@ -218,11 +204,6 @@ fn part_after(kind: u8, code: &[u8]) -> (KeyPart<'_>, &[u8])
         }
         1 => (KeyPart::Label(None), code),
         2 => {
-            let (len, text_and_rest) = front_bytes::<1>(code);
-            let (label, rest) = text_front(u64::from(len[0]), text_and_rest);
-            (KeyPart::Label(label), rest)
-        }
-        3 => {
             let (len, text_and_rest) = front_bytes(code);
             let (label, rest) = text_front(u64::from_be_bytes(len), text_and_rest);
             (KeyPart::Label(label), rest)

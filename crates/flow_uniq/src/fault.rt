@@ -1,7 +1,3 @@
-ghost use Rattle.std.specs.Prelude.{◌≡◌};
-ghost use Rattle.flow_uniq.specs.declared.fault.KeyFault.TheVariants.{NoMemory};
-
-use std::alloc::AllocError;
 use thiserror::Error;
 
 /// The reason why a text does not name the fields of keys.
@@ -13,15 +9,7 @@ pub enum KeyFault {
     /// Each item is the name of a field, and one occurs twice.
     #[error("a field that was named before")]
     FieldRepeated,
-    /// An allocation failed.
+    /// An allocation failed. [`Keys::read`](crate::Keys::read) allocates nothing and never returns it.
     #[error("out of memory")]
     NoMemory,
-}
-
-impl From<AllocError> for KeyFault {
-    ghost from_gives = { λ _ fault. fault ≡ NoMemory };
-
-    fn from(_error: AllocError) -> KeyFault {
-        KeyFault::NoMemory
-    }
 }

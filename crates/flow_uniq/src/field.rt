@@ -1,9 +1,10 @@
 ghost use Rattle.std.specs.Prelude.{◌≡◌};
 
 /// A field of a row that a key may have.
-#[derive(Clone, Copy)]
+#[derive(Clone, Copy, Default)]
 pub enum KeyField {
     /// `sip`: the source address.
+    #[default]
     SourceAddress,
     /// `dip`: the destination address.
     DestinationAddress,

@@ -5,7 +5,7 @@
 //! use label_lookup::Scan;
 //!
 //! // `row` is a row of flow_rows, and no label is needed.
-//! let keys = Keys::read(alloc, "sip,proto")?;
+//! let keys = Keys::read("sip,proto")?;
 //! let mut groups = Groups::new(alloc, &keys)?;
 //! groups.add(&row, None::<&Scan<'_>>)?;
 //! assert!(rt; groups.group_count() == 1);

@@ -13,7 +13,7 @@ use crate::usage::{ClapText, UsageFault};
 use clap::ArgMatches;
 use clap::error::ErrorKind;
 use flow_filter::{ALL_OPTIONS, Filter, FilterFaultKind, FilterWords};
-use flow_uniq::{KeyFault, Keys};
+use flow_uniq::Keys;
 use prefix_keys::{Addr, read_addr};
 use std::alloc::Global;
 use std::convert::AsStr;
@@ -124,13 +124,12 @@ fn rows_command<'a>(alloc: Global, entries: &ArgMatches<'a>) -> Result<Command<'
     })
 }
 
-fn keys_in(alloc: Global, entries: &ArgMatches<'_>) -> Result<Keys, UsageFault>
+fn keys_in(entries: &ArgMatches<'_>) -> Result<Keys, UsageFault>
     ensures ok { IfOk result (λ keys. fields_in_rows (rows_of (found_of entries.now)) ≡ Ok keys) }
     ensures err { IfErr result (λ fault. fault ≢ NoMemory → fields_in_rows (rows_of (found_of entries.now)) ≡ Err fault) }
 {
-    match Keys::read(alloc, needed_text(entries, "fields")) {
+    match Keys::read(needed_text(entries, "fields")) {
         Ok(keys) => Ok(keys),
-        Err(KeyFault::NoMemory) => Err(UsageFault::NoMemory),
         Err(fault) => Err(UsageFault::Key(fault)),
     }
 }
@@ -141,7 +140,7 @@ fn uniq_command<'a>(alloc: Global, entries: &ArgMatches<'a>) -> Result<Command<'
 {
     let labels = labels_in(entries)?;
     let filter = filter_in(alloc, entries)?;
-    let keys = keys_in(alloc, entries)?;
+    let keys = keys_in(entries)?;
     if (filter.needs_map() || keys.needs_map()) && labels.is_none() {
         return Err(UsageFault::LabelNeedsMap);
     }
