@@ -1,5 +1,5 @@
 -- How a row changes the groups that are stored.
-use Rattle.std.proofs.Common.{◌≡◌, ℕ, ◌+◌, ◌-◌, ◌*◌, ◌^◌, ◌≤◌, Bool, true, false, ◌||◌, cond, if◌then◌else◌, List, [], ◌∷◌, ◌++◌, length, map, All, None, Some, unwrap_or, refl, sym, ap, subst, ◌∙◌, arith}
+use Rattle.std.proofs.Common.{◌≡◌, ℕ, ◌+◌, ◌-◌, ◌*◌, ◌^◌, ◌≤◌, Bool, true, false, ◌||◌, cond, if◌then◌else◌, List, [], ◌∷◌, ◌++◌, length, map, All, None, Some, option_map, unwrap_or, refl, sym, ap, subst, ◌∙◌, arith}
 use Rattle.std.proofs.lemmas.Cmp.{nat_list_eq_equiv, on_equiv}
 use Rattle.std.proofs.lemmas.List.{append-nil}
 use Rattle.std.proofs.lemmas.List.Elements.{All-cons, All-head, All-map, All-nil, All-tail}
@@ -7,16 +7,18 @@ use Rattle.std.proofs.lemmas.List.Sums.{sum_by-cons}
 use Rattle.std.proofs.lemmas.Map.{lookup-none}
 use Rattle.std.proofs.lemmas.Map.Entries.{none_past_head}
 use Rattle.std.proofs.lemmas.Map.Keys.{IsDistinct-tail}
-use Rattle.std.proofs.lemmas.Option.{none-some}
-use Rattle.std.specs.List.{IsDistinct, list_any}
-use Rattle.std.specs.Map.{keys_of, lookup}
-use Rattle.indexmap.specs.IndexMap.{IndexMap, IsUnique, get, insert_entry}
+use Rattle.std.proofs.lemmas.Option.{none-some, slice_get-map}
+use Rattle.std.specs.List.{IsDistinct, list_any, slice_get}
+use Rattle.std.specs.Map.{keys_of, lookup, values_of}
+use Rattle.indexmap.proofs.MapLemmas.{insert_entry-first}
+use Rattle.indexmap.proofs.RemoveLemmas.{own_first}
+use Rattle.indexmap.specs.IndexMap.{insert_entry, set_value_at}
 use Rattle.flow_rows.specs.Elements.{RowView}
 use Rattle.flow_uniq.specs.Groups.{Totals, GroupModel, KeyedRow, groups_of_keyed, record_count}
-use Rattle.flow_uniq.specs.Inner.{AreSmall, IsBounded, IsKept, kept_groups, key_code, same_code, with_row}
+use Rattle.flow_uniq.specs.Inner.{AreSmall, HasRow, IsBounded, IsKept, kept_groups, key_code, none, same_code, with_row}
 use Rattle.flow_uniq.specs.Key.{Key, same_key}
 use Rattle.flow_uniq.proofs.Codes.{same_code-small}
-use Rattle.flow_uniq.proofs.Grouping.{entered, fresh, grown, groups-push, none}
+use Rattle.flow_uniq.proofs.Grouping.{entered, fresh, grown, groups-push}
 
 abbrev Entries : Type 0
 Entries = List (Key × Totals)
@@ -114,11 +116,29 @@ module _ (n : ℕ) (k : Key) (row : RowView) (small : AreSmall k) where
           count = omega (arith, count-cons e es, count-cons e (with_entry es), ih.count);
         }
 
-    -- if the totals of the key grew by the row
-    pub after_row : {S : Type 0} (m : IndexMap Key Totals S) (t w : Totals) (new : Entries) → All (IsKept n) m.entries → IsUnique same_code m
-        → t ≡ unwrap_or (get same_code m k) none → w ≡ with_row t row → new ≡ insert_entry same_code m.entries k w → AfterRow m.entries new
-    after_row m t w new all once was grew is =
-        subst (AfterRow m.entries) (sym (is ∙ ap (insert_entry same_code m.entries k) (grew ∙ ap (λ x. with_row x row) was))) (after m.entries all once)
+  pub after_row : (es new : Entries) → All (IsKept n) es → HasRow k row es new → AfterRow es new
+  after_row es new all has = subst (AfterRow es) (sym has.is) (after has.packets has.octets es all has.once)
+
+-- the value at an index
+pub value_at : (es : Entries) (i : ℕ) (k : Key) (t value : Totals) → slice_get es i ≡ Some (k, t) → Some value ≡ slice_get (values_of es) i → value ≡ t
+value_at es i k t value at is = ap (λ o. unwrap_or o value) (is ∙ slice_get-map (λ (e : Key × Totals). e.1) es i ∙ ap (option_map (λ e. e.1)) at)
+
+-- the totals of the key, which is stored as another of the same code or is new, grew by the row
+module _ (k key : Key) (row : RowView) (es new : Entries) (t w : Totals) (once : IsDistinct same_code (keys_of es)) (same : k ≡ key)
+    (grew : w ≡ with_row t row) (p : row.packets ≤ 2 ^ 64 - 1) (o : row.octets ≤ 2 ^ 64 - 1) where
+  pub row_in : t ≡ unwrap_or (lookup (same_code k) es) none → new ≡ insert_entry same_code es k w → HasRow key row es new
+  row_in was is =
+      subst (λ (x : Key). HasRow x row es new) same
+      (record { is = is ∙ ap (insert_entry same_code es k) (grew ∙ ap (λ x. with_row x row) was); once = once; packets = p; octets = o })
+
+  -- the key is at an index
+  pub row_at : (i : ℕ) → slice_get es i ≡ Some (k, t) → lookup (same_code k) es ≡ Some t → new ≡ set_value_at es i w → HasRow key row es new
+  row_at i at there is =
+      row_in (ap (λ o. unwrap_or o none) (sym there))
+      (is ∙ sym (insert_entry-first same_code k w es i (own_first same_code (on_equiv key_code nat_list_eq_equiv) es i k t once at)))
+
+pub row_later : (key : Key) (row : RowView) (es old new : Entries) → es ≡ old → HasRow key row es new → HasRow key row old new
+row_later key row es old new same has = subst (λ l. HasRow key row l new) same has
 
 pub then_groups : (rows : List KeyedRow) (k given : Key) (row : RowView) (kept old new : List GroupModel) → new ≡ entered k row kept → k ≡ given
     → kept ≡ old → old ≡ groups_of_keyed rows → new ≡ groups_of_keyed (rows ++ (given, row) ∷ [])

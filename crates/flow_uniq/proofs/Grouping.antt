@@ -15,16 +15,12 @@ use Rattle.pmap_text.specs.MapModel.{Label}
 use Rattle.flow_rows.specs.Elements.{RowView}
 use Rattle.flow_uniq.specs.Key.{KeyField, Key, key_of, part_numbers, same_key}
 use Rattle.flow_uniq.specs.Groups.{Totals, GroupModel, KeyedRow, distinct_keys, groups_of_keyed, keyed, rows_with, totals_of}
-use Rattle.flow_uniq.specs.Inner.{with_row}
+use Rattle.flow_uniq.specs.Inner.{none, with_row}
 
 same_key-equiv : IsEquivalence same_key
 same_key-equiv = lists_equiv (on_equiv part_numbers nat_list_eq_equiv)
 
--- the totals of no rows, the group of a new key, a group with one more row if it is of its key, and groups with one more
--- row
-abbrev pub none : Totals
-none = record { records = 0; packets = 0; octets = 0 }
-
+-- the group of a new key, a group with one more row if it is of its key, and groups with one more row
 abbrev pub fresh : Key → RowView → GroupModel
 fresh k row = record { key = k; totals = with_row none row }
 

@@ -1,7 +1,9 @@
-use Rattle.std.specs.Prelude.{◌≡◌, ℕ, zero, suc, ◌^◌, ◌<◌, ◌==◌, ◌++◌, Bool, List, [], ◌∷◌, Option, Some, None, length, take, drop, nat_lt, option_copied, replicate, if◌then◌else◌, ◌+◌, ◌-◌, ◌*◌, ◌≤◌, map}
+use Rattle.std.specs.Prelude.{◌≡◌, ℕ, zero, suc, ◌^◌, ◌<◌, ◌==◌, ◌++◌, Bool, List, [], ◌∷◌, Option, Some, None, length, take, drop, nat_lt, option_copied, replicate, if◌then◌else◌, ◌+◌, ◌-◌, ◌*◌, ◌≤◌, map, unwrap_or}
 use Rattle.std.specs.Int.{w16, w32, w64, w128, from_be_bytes, to_be_bytes}
-use Rattle.std.specs.List.{AllByRecursion, flat_map}
+use Rattle.std.specs.List.{AllByRecursion, IsDistinct, flat_map}
+use Rattle.std.specs.Map.{keys_of, lookup}
 use Rattle.std.specs.Str.{bytes_eq}
+use Rattle.indexmap.specs.IndexMap.{insert_entry}
 use Rattle.prefix_keys.specs.Block.{width_of}
 use Rattle.prefix_keys.specs.declared.version.Version.TheVariants.{V4, V6}
 use Rattle.pmap_text.specs.MapModel.{Label}
@@ -96,13 +98,23 @@ kept_groups entries = map (λ e. record { key = e.0; totals = e.1 }) entries
 abbrev pub IsBounded : Totals → Type 0
 IsBounded t = (t.packets ≤ (2 ^ 64 - 1) * t.records) × (t.octets ≤ (2 ^ 64 - 1) * t.records)
 
--- totals with one more row
+-- the totals of no rows, and totals with one more row
+abbrev pub none : Totals
+none = record { records = 0; packets = 0; octets = 0 }
+
 abbrev pub with_row : Totals → RowView → Totals
 with_row t row = record {
   records = t.records + 1;
   packets = t.packets + row.packets;
   octets = t.octets + row.octets;
 }
+
+-- the new entries have one more row in the group of the key, or a new group at the end if there was none
+pub record HasRow (key : Key) (row : RowView) (old new : List (Key × Totals)) : Type 0 where
+  pub is : new ≡ insert_entry same_code old key (with_row (unwrap_or (lookup (same_code key) old) none) row)
+  pub once : IsDistinct same_code (keys_of old)
+  pub packets : row.packets ≤ 2 ^ 64 - 1
+  pub octets : row.octets ≤ 2 ^ 64 - 1
 
 -- the key has `count` parts, which fit in their bytes, and is paired with bounded totals
 pub record IsKept (count : ℕ) (entry : Key × Totals) : Type 0 where

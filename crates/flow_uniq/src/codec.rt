@@ -1,8 +1,8 @@
 //! Keys as bytes: the bytes that are written for the key of a row are read back as this key, part by part.
-ghost use Rattle.std.specs.Prelude.{◌≡◌, ◌++◌, ◌∷◌, ◌<◌, ◌^◌, ◌↔◌, [], IfNone, IfOk, IfSome, OnOk, Some, length, option_copied};
+ghost use Rattle.std.specs.Prelude.{◌≡◌, ◌++◌, ◌∷◌, ◌<◌, ◌^◌, ◌↔◌, [], IfNone, IfOk, IfSome, IsTrue, OnOk, Some, length, option_copied};
 ghost use Rattle.label_lookup.specs.Labelling.{label_where, labelling_lent};
 ghost use Rattle.flow_uniq.specs.Key.{AddressPart, Key as Parts, LabelPart, key_of, key_part};
-ghost use Rattle.flow_uniq.specs.Inner.{AreSmall, IsSmall, front_bytes, key_code, part_after, part_code, part_model, text_front};
+ghost use Rattle.flow_uniq.specs.Inner.{AreSmall, IsCode, IsSmall, front_bytes, key_code, key_in, part_after, part_code, part_model, text_front};
 
 use crate::field::KeyField;
 use flow_rows::Row;
@@ -31,12 +31,9 @@ pub struct Key<'a> {
     code: &'a [u8],
 }
 
-// The bytes of a key. Most keys have few bytes, which are stored inline.
-type Bytes = SmallVec<u8, 24>;
-
-/// A key as bytes, which are hashed and compared in one piece.
+/// A key as bytes, which are hashed and compared in one piece. Most keys have few bytes, which are stored inline.
 pub struct Code {
-    bytes: Bytes,
+    bytes: SmallVec<u8, 24>,
 }
 
 // A drop is one call, so the proofs of functions that drop this type have one step instead of one for each part.
@@ -114,7 +111,7 @@ fn part_of<'a, L: Labeller>(field: KeyField, row: &Row, labeller: Option<&'a L>)
 }
 
 // Appends the bytes of an address. If an allocation fails, some of them may have been appended.
-fn append_address(out: &mut Bytes, addr: Addr) -> Result<(), AllocError>
+fn append_address(out: &mut Vec<u8>, addr: Addr) -> Result<(), AllocError>
     ensures { OnOk result (out.new.items ≡ out.old.items ++ part_code (AddressPart (addr.version, addr.value))) }
 {
     match addr.version {
@@ -133,7 +130,7 @@ fn append_address(out: &mut Bytes, addr: Addr) -> Result<(), AllocError>
 // Appends the bytes of a part. If an allocation fails, some of them may have been appended. Inlined into its one
 // caller, so that no part is copied.
 #[inline(always)]
-fn append_part(out: &mut Bytes, part: KeyPart<'_>) -> Result<(), AllocError>
+fn append_part(out: &mut Vec<u8>, part: KeyPart<'_>) -> Result<(), AllocError>
     ensures bytes { OnOk result (out.new.items ≡ out.old.items ++ part_code (part_model part.entry)) }
     ensures small { OnOk result (IsSmall (part_model part.entry)) }
 {
@@ -153,23 +150,41 @@ fn append_part(out: &mut Bytes, part: KeyPart<'_>) -> Result<(), AllocError>
     Ok(())
 }
 
+/// Replaces the bytes by those of the key of a row. If an allocation fails, they may be any bytes.
+pub fn write_key<L: Labeller>(
+    out: &mut Vec<u8>,
+    fields: &[KeyField],
+    row: &Row,
+    labeller: Option<&L>,
+) -> Result<(), AllocError>
+    ensures code { OnOk result (IsCode out.new.items) }
+    ensures key { let label = label_where (labelling_lent L.version_of L.label labeller.entry) in
+        OnOk result (key_in out.new.items ≡ key_of label fields.now row.now) }
+{
+    out.clear();
+    for field in fields {
+        append_part(out, part_of(*field, row, labeller))?;
+    }
+    Ok(())
+}
+
 impl Code {
-    /// Returns the key of a row.
-    pub fn of_row<L: Labeller>(
-        alloc: Global,
-        fields: &[KeyField],
-        row: &Row,
-        labeller: Option<&L>,
-    ) -> Result<Code, AllocError>
-        ensures key { let label = label_where (labelling_lent L.version_of L.label labeller.entry) in
-            IfOk result (λ code. code ≡ key_of label fields.now row.now) }
-        ensures small { IfOk result AreSmall }
+    /// Returns the key with these bytes.
+    pub fn new(alloc: Global, bytes: &[u8]) -> Result<Code, AllocError>
+        requires { IsCode bytes.now }
+        ensures { IfOk result (λ code. code ≡ key_in bytes.now) }
     {
-        let mut bytes = SmallVec::new(alloc);
-        for field in fields {
-            append_part(&mut bytes, part_of(*field, row, labeller))?;
-        }
-        Ok(Code { bytes })
+        Ok(Code {
+            bytes: SmallVec::from_slice(alloc, bytes)?,
+        })
+    }
+
+    /// Returns `true` if the key has these bytes.
+    #[inline(always)]
+    pub fn has_bytes(&self, bytes: &[u8]) -> bool
+        ensures { IsTrue result → self.now ≡ key_in bytes.now }
+    {
+        self.bytes.as_slice() == bytes
     }
 }
 

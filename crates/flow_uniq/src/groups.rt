@@ -1,11 +1,11 @@
-ghost use Rattle.std.specs.Prelude.{All, ◌≡◌, ◌++◌, ℕ, ◌∷◌, [], ◌+◌, ◌-◌, ◌^◌, ◌<◌, List, IfOk, OnOk, OnErr, length, map, option_map, slice_get, take};
+ghost use Rattle.std.specs.Prelude.{All, ◌≡◌, ◌++◌, ℕ, ◌∷◌, [], ◌+◌, ◌-◌, ◌^◌, ◌<◌, false, IsTrue, List, IfOk, OnOk, OnErr, length, map, option_map, slice_get, take};
 ghost use Rattle.std.specs.List.Sorted.{IsPermutation, IsSortedBy};
 ghost use Rattle.label_lookup.specs.Labelling.{label_where, labelling_lent};
 ghost use Rattle.flow_uniq.specs.Groups.{AreOfNoRows, KeyedRow, groups_of_keyed, keyed, record_count, is_before, sorted_groups};
 ghost use Rattle.flow_uniq.specs.Key.{key_of};
-ghost use Rattle.flow_uniq.specs.Inner.{group_model};
+ghost use Rattle.flow_uniq.specs.Inner.{HasRow, IsCode, IsKept, group_model, kept_groups, key_in};
 
-use crate::codec::{Code, Key};
+use crate::codec::{Code, Key, write_key};
 use crate::field::KeyField;
 use crate::group::Group;
 use crate::keys::Keys;
@@ -18,11 +18,21 @@ use pmap_text::KeyHashing;
 use std::alloc::{AllocError, Global};
 use std::marker::Model;
 
+// The totals of groups by their keys.
+type Entries = IndexMap<Code, Totals, KeyHashing>;
+
+// How many groups are remembered.
+const RECENT: usize = 256;
+
 /// The groups of rows by their keys, in the order of the first rows, with their totals.
 pub struct Groups {
     alloc: Global,
     fields: Vec<KeyField>,
-    totals: IndexMap<Code, Totals, KeyHashing>,
+    totals: Entries,
+    // The bytes of the key of the last row.
+    key: Vec<u8>,
+    // The indices of the groups of recent rows, by the last bytes of their keys: guesses, which are checked before use.
+    recent: [usize; RECENT],
 }
 
 // A drop is one call, so the proofs of functions that drop this type have one step instead of one for each part.
@@ -32,6 +42,8 @@ impl Drop for Groups {
             alloc: _,
             fields: _,
             totals: _,
+            key: _,
+            recent: _,
         } = self;
     }
 }
@@ -49,14 +61,77 @@ impl Model for Groups {
     ghost invariant = { λ g. All (IsKept (length g.fields.items)) g.totals.entries };
 }
 
+// Returns the index in `recent` for a key with these bytes.
+#[inline(always)]
+fn recent_index(key: &[u8]) -> usize
+    ensures { result < 256 }
+{
+    match key {
+        [.., a, b] => (usize::from(*a) * 31 + usize::from(*b)) % RECENT,
+        _ => 0,
+    }
+}
+
+// Adds a row to the group at an index if the group's key has these bytes. Returns whether it has.
+#[inline(always)]
+fn add_at(totals: &mut Entries, index: usize, key: &[u8], row: &Row) -> bool
+    requires { (count : ℕ) × All (IsKept count) totals.old.entries
+        × (record_count (kept_groups totals.old.entries) < 2 ^ 64 - 1) }
+    ensures added { IsTrue result → HasRow (key_in key.now) row.now totals.old.entries totals.new.entries }
+    ensures other { result ≡ false → totals.new ≡ totals.old }
+{
+    let Some((code, _)) = totals.get_index(index) else {
+        return false;
+    };
+    if !code.has_bytes(key) {
+        return false;
+    }
+    let Some(found) = totals.get_index_mut(index) else {
+        return false;
+    };
+    found.add(row);
+    true
+}
+
+// Adds a row to the group whose key has these bytes, or to a new group, which comes last. If an allocation fails, the
+// groups are unchanged.
+fn add_row(
+    totals: &mut Entries,
+    recent: &mut [usize; RECENT],
+    alloc: Global,
+    key: &[u8],
+    row: &Row,
+) -> Result<(), AllocError>
+    requires code { IsCode key.now }
+    requires kept { (count : ℕ) × All (IsKept count) totals.old.entries
+        × (record_count (kept_groups totals.old.entries) < 2 ^ 64 - 1) }
+    ensures ok { OnOk result (HasRow (key_in key.now) row.now totals.old.entries totals.new.entries) }
+    ensures err { OnErr result (totals.new.entries ≡ totals.old.entries) }
+{
+    let slot = recent_index(key);
+    if add_at(totals, recent[slot], key, row) {
+        return Ok(());
+    }
+    let code = Code::new(alloc, key)?;
+    let none = Totals {
+        records: 0,
+        packets: 0,
+        octets: 0,
+    };
+    let entry = totals.entry(code)?;
+    recent[slot] = entry.index();
+    entry.or_insert(none).add(row);
+    Ok(())
+}
+
 // Returns the groups in the order of their first rows. Memory for all groups is allocated once: if that fails,
 // `collect` would try a smaller allocation.
 fn listed(alloc: Global, groups: &Groups) -> Result<Vec<Group<'_>>, AllocError>
     ensures { IfOk result (λ listed. map group_model listed.items ≡ groups.now.groups) }
 {
     let mut listed = Vec::with_capacity(alloc, groups.group_count())?;
-    for place in 0..groups.group_count() {
-        if let Some(group) = groups.group(place) {
+    for index in 0..groups.group_count() {
+        if let Some(group) = groups.group(index) {
             listed.push(group)?;
         }
     }
@@ -83,6 +158,8 @@ impl Groups {
             alloc,
             fields: Vec::from_slice(alloc, keys.fields())?,
             totals: IndexMap::with_hasher(alloc, hashing),
+            key: Vec::new(alloc),
+            recent: [0; RECENT],
         })
     }
 
@@ -99,13 +176,9 @@ impl Groups {
         ensures count { OnOk result (record_count self.new.groups ≡ record_count self.old.groups + 1) }
         ensures err { OnErr result (self.new ≡ self.old) }
     {
-        let code = Code::of_row(self.alloc, self.fields.as_slice(), row, labeller)?;
-        let none = Totals {
-            records: 0,
-            packets: 0,
-            octets: 0,
-        };
-        self.totals.entry(code)?.or_insert(none).add(row);
+        write_key(&mut self.key, self.fields.as_slice(), row, labeller)?;
+        let key = self.key.as_slice();
+        add_row(&mut self.totals, &mut self.recent, self.alloc, key, row)?;
         Ok(())
     }
 
@@ -150,10 +223,10 @@ impl Groups {
     }
 
     /// Returns the group at an index, in the order of the first rows.
-    pub fn group(&self, place: usize) -> Option<Group<'_>>
-        ensures { option_map group_model result ≡ slice_get self.now.groups place }
+    pub fn group(&self, index: usize) -> Option<Group<'_>>
+        ensures { option_map group_model result ≡ slice_get self.now.groups index }
     {
-        let (code, totals) = self.totals.get_index(place)?;
+        let (code, totals) = self.totals.get_index(index)?;
         Some(Group {
             key: Key::of_code(code),
             totals: *totals,

@@ -2,7 +2,7 @@
 ghost use Rattle.std.specs.Prelude.{◌≡◌, option_copied};
 ghost use Rattle.std.specs.Cmp.Lexicographic.{slice_cmp};
 ghost use Rattle.std.specs.Ordering.{nat_cmp};
-ghost use Rattle.flow_uniq.specs.Key.{AddressPart, label_numbers, version_number};
+ghost use Rattle.flow_uniq.specs.Key.{AddressPart, label_numbers};
 ghost use Rattle.flow_uniq.specs.Inner.{key_model, part_model};
 ghost use Rattle.flow_uniq.specs.Groups.{key_order, part_order};
 
@@ -22,23 +22,15 @@ fn compare_labels(a: Option<&[u8]>, b: Option<&[u8]>) -> Ordering
     }
 }
 
-// Returns the number by which a version is ordered.
-fn version_number(version: Version) -> u128
-    ensures { result ≡ version_number version }
-{
-    match version {
-        Version::V4 => 4,
-        Version::V6 => 6,
-    }
-}
-
 // Compares two addresses: those of IPv4 are before those of IPv6, and addresses of one version compare by value.
 fn compare_addresses(a: Addr, b: Addr) -> Ordering
     ensures { result ≡ part_order (AddressPart (a.version, a.value)) (AddressPart (b.version, b.value)) }
 {
-    match version_number(a.version).cmp(&version_number(b.version)) {
-        Ordering::Equal => a.value.cmp(&b.value),
-        order => order,
+    match (a.version, b.version) {
+        (Version::V4, Version::V6) => Ordering::Less,
+        (Version::V6, Version::V4) => Ordering::Greater,
+        (Version::V4, Version::V4) => a.value.cmp(&b.value),
+        (Version::V6, Version::V6) => a.value.cmp(&b.value),
     }
 }
 

@@ -26,9 +26,9 @@ pieces [] = []
 pieces (f ∷ []) = (f ++ 10 ∷ []) ∷ []
 pieces (f ∷ g ∷ fs) = (f ++ 124 ∷ []) ∷ pieces (g ∷ fs)
 
--- a line that is filled as if its first field had this place
+-- a line that is filled as if its first field had this index
 filled_from : (ℕ → ℕ) → ℕ → Line → Line
-filled_from width place fields = map (λ e. filled (width e.0) e.1) (enumerate_from place fields)
+filled_from width index fields = map (λ e. filled (width e.0) e.1) (enumerate_from index fields)
 
 length-pieces : (line : Line) → map length (pieces line) ≡ sizes line
 length-pieces [] = refl

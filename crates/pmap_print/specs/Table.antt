@@ -19,7 +19,7 @@ line_text fields = join_with_byte 124 fields ++ 10 ∷ []
 
 -- the width of a column: the length of its longest field
 abbrev pub column_width : List Line → ℕ → ℕ
-column_width lines place = fold max 0 (map (λ fields. length (slice_index_or fields place [])) lines)
+column_width lines index = fold max 0 (map (λ fields. length (slice_index_or fields index [])) lines)
 
 -- a field with spaces on the left that make it this wide
 abbrev pub filled : ℕ → Text → Text

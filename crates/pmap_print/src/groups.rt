@@ -153,8 +153,8 @@ pub fn print_groups(
         }
         return table.into_text();
     }
-    for place in 0..groups.group_count() {
-        if let Some(group) = groups.group(place) {
+    for index in 0..groups.group_count() {
+        if let Some(group) = groups.group(index) {
             add_group(&mut table, &mut lengths, &group)?;
         }
     }

@@ -68,19 +68,19 @@ returns-then-sorted c =
 
 pub add_group-requires-in-Some : goal.add_group-requires-in-Some
 add_group-requires-in-Some c =
-    let at : slice_get c.args.groups.now.groups c.loop-place.place ≡ Some (group_model c.in-Some.group) =
+    let at : slice_get c.args.groups.now.groups c.loop-index.index ≡ Some (group_model c.in-Some.group) =
     sym c.group.ensures ∙ ap (option_map group_model) c.in-Some.is in (
       length c.args.groups.now.fields + 3,
-      first_lines c.args.groups.now.fields c.args.groups.now.groups c.loop-place.place,
-      c.loop-place.invariant.lines,
-      parts_at c.args.groups.now.groups (length c.args.groups.now.fields) c.loop-place.place (group_model c.in-Some.group) c.fields.ensures.parts at,
+      first_lines c.args.groups.now.fields c.args.groups.now.groups c.loop-index.index,
+      c.loop-index.invariant.lines,
+      parts_at c.args.groups.now.groups (length c.args.groups.now.fields) c.loop-index.index (group_model c.in-Some.group) c.fields.ensures.parts at,
     )
 
-pub loop-place-preserved : goal.loop-place-preserved
-loop-place-preserved c =
+pub loop-index-preserved : goal.loop-index-preserved
+loop-index-preserved c =
     let count : ℕ = length c.args.groups.now.fields in
     let groups : List GroupModel = c.args.groups.now.groups in
-    let i : ℕ = c.loop-place.place in
+    let i : ℕ = c.loop-index.index in
     elim c.match-group.branch [
       | in-Some+in_ok-add_group-2 w ↦
           let at : slice_get groups i ≡ Some (group_model w.in-Some.group) = sym c.group.ensures ∙ ap (option_map group_model) w.in-Some.is in
@@ -89,24 +89,24 @@ loop-place-preserved c =
                 subst (λ t. IsTable (count + 3) (first_lines c.args.groups.now.fields groups (i + 1)) t) (sym w.table-is)
                 (subst (λ (ls : List Line). IsTable (count + 3) ls w.add_group-in-Some.new.table)
                 (line_added c.args.groups.now.fields groups i (group_model w.in-Some.group) at)
-                (w.in_ok-add_group-2.ensures.line (count + 3) (first_lines c.args.groups.now.fields groups i) c.loop-place.invariant.lines
+                (w.in_ok-add_group-2.ensures.line (count + 3) (first_lines c.args.groups.now.fields groups i) c.loop-index.invariant.lines
                 (parts_at groups count i (group_model w.in-Some.group) c.fields.ensures.parts at)));
-            columns = ap has_columns w.table-is ∙ w.in_ok-add_group-2.ensures.columns ∙ c.loop-place.invariant.columns;
+            columns = ap has_columns w.table-is ∙ w.in_ok-add_group-2.ensures.columns ∙ c.loop-index.invariant.columns;
           }
       | in_default w ↦
           let at : slice_get groups i ≡ None = sym c.group.ensures ∙ ap (option_map group_model) w.in_default.is in
-          absurd (omega (arith, none_past groups i at, c.group_count-place-end.ensures, c.loop-place-test.true))
+          absurd (omega (arith, none_past groups i at, c.group_count-index-end.ensures, c.loop-index-test.true))
     ]
 
 pub returns : goal.returns
 returns c =
     let fields : List KeyField = c.args.groups.now.fields in
     let gs : List GroupModel = c.args.groups.now.groups in
-    let i : ℕ = c.loop-place.place in
+    let i : ℕ = c.loop-index.index in
     let whole : first_lines fields gs i ≡ group_titles fields ∷ map group_fields (shown_groups c.args.sorted gs) =
     ap (λ (l : List GroupModel). group_titles fields ∷ map group_fields l)
-    (take_all i gs (omega (arith, c.loop-place-test.false, c.group_count-place-end.ensures))
+    (take_all i gs (omega (arith, c.loop-index-test.false, c.group_count-index-end.ensures))
     ∙ ap (λ (b : Bool). shown_groups b gs) (sym c.if-sorted.false)) in
     subst (λ (ls : List Line). IfOk c.into_text-2.result (λ out. out.items ≡ table_text c.args.columns ls)) whole
-    (subst (λ (b : Bool). IfOk c.into_text-2.result (λ out. out.items ≡ table_text b (first_lines fields gs i))) c.loop-place.invariant.columns
-    (c.into_text-2.ensures (length fields + 3) (first_lines fields gs i) c.loop-place.invariant.lines))
+    (subst (λ (b : Bool). IfOk c.into_text-2.result (λ out. out.items ≡ table_text b (first_lines fields gs i))) c.loop-index.invariant.columns
+    (c.into_text-2.ensures (length fields + 3) (first_lines fields gs i) c.loop-index.invariant.lines))

@@ -11,8 +11,8 @@ invariant-loop-group l = record {
   columns : has_columns l.table ≡ l.columns;
 }
 
-abbrev pub invariant-loop-place : goal.invariant-loop-place
-invariant-loop-place l = record {
-  lines : IsTable (length l.groups.fields + 3) (first_lines l.groups.fields l.groups.groups l.place) l.table;
+abbrev pub invariant-loop-index : goal.invariant-loop-index
+invariant-loop-index l = record {
+  lines : IsTable (length l.groups.fields + 3) (first_lines l.groups.fields l.groups.groups l.index) l.table;
   columns : has_columns l.table ≡ l.columns;
 }
