@@ -46,13 +46,13 @@ fn skip_records<'a>(
     Ok((count, rest))
 }
 
-/// Returns the records of a data set under its template, given the bytes after the set's header. `base` is the offset of
-/// these bytes in the File. Trailing bytes that are too few for a record are padding.
+/// Returns the records of a data set under its template, given the bytes after the set's header. `base` is the offset
+/// of these bytes in the File. Trailing bytes that are too few for a record are padding.
 ///
 /// # Errors
 ///
-/// Returns `BadRecord` with the offset of the first record that extends beyond the end of the bytes, or `NoMemory` if an
-/// allocation fails.
+/// Returns `BadRecord` with the offset of the first record that extends beyond the end of the bytes, or `NoMemory` if
+/// an allocation fails.
 pub fn read_data_set<'a>(
     template: &Template,
     bytes: &'a [u8],

@@ -92,7 +92,8 @@ pub fn whole_message<'a>(
 ) -> Result<Message<'a>, ReadFault>
     requires header { HasHeader bytes.now }
     requires room { base + length bytes.now < 2 ^ 64 }
-    ensures { ReadsUnder table.old table.new events_of_message (λ history. whole_reading history base bytes.now) result }
+    ensures { ReadsUnder table.old table.new events_of_message
+        (λ history. whole_reading history base bytes.now) result }
 {
     let export_time = BigEndian::read_u32(&bytes[4..]);
     let sequence = BigEndian::read_u32(&bytes[8..]);

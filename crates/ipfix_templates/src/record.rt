@@ -51,7 +51,8 @@ fn read_field(bytes: &[u8]) -> Option<(Field, &[u8])>
 fn read_fields(alloc: Global, count: u16, bytes: &[u8]) -> Read<'_, Fields>
     ensures ok { IfOk result (λ x. fields_at count bytes.now ≡ Some (x.0, x.1.now)) }
     ensures counted { IfOk result (λ x. length x.0 ≡ count) }
-    ensures fault { IfErr result (λ fault. (fault ≡ NoMemory) ⊎ ((fault ≡ Truncated) × (fields_at count bytes.now ≡ None))) }
+    ensures fault { IfErr result (λ fault.
+        (fault ≡ NoMemory) ⊎ ((fault ≡ Truncated) × (fields_at count bytes.now ≡ None))) }
 {
     let mut fields = Vec::new(alloc);
     let mut rest = bytes;
