@@ -528,34 +528,3 @@ parts-of One V4 xs = (refl, refl, refl)
 parts-of One V6 xs = (refl, refl, refl)
 parts-of Two V4 xs = (refl, refl, refl)
 parts-of Two V6 xs = (refl, refl, refl)
-
-module _ (f : Format) (v : Version) (text behind : List ℕ) (name : text ≡ header_name (format_number f) v ++ behind) where
-  abbrev Header : Said → List ℕ → Type 0
-  Header = BeginsWithHeader text
-
-  abbrev as_header : ℕ × List ℕ → Said × List ℕ
-  as_header x = ((format_number f, (v, x.0)), x.1)
-
-  pub header-begins : (found : Option (ℕ × List ℕ)) → Reads (BeginsWithLast 65537 behind) found → Reads Header (option_map as_header found)
-  header-begins found last = record { right = right found last.right; only = only }
-    where
-      right : (o : Option (ℕ × List ℕ)) → IfSome o (λ x. BeginsWithLast 65537 behind x.0 x.1) → IfSome (option_map as_header o) (λ x. Header x.0 x.1)
-      right None h = tt
-      right (Some x) h = record {
-        whole = name ∙ ap (λ (t : List ℕ). header_name (format_number f) v ++ t) h.whole ∙ sym (header-after (format_number f) v x.0 x.1);
-        fits = fits-header (format_number f) v x.0 (format-numbered f) (let less = ltb-true x.0 65537 h.fits in omega (arith, less));
-      }
-
-      only : (x : Said) (r : List ℕ) → Header x r → option_map as_header found ≡ Some (x, r)
-      only x r h =
-          let other = named text x r h in
-          let rest : List ℕ = 32 ∷ (decimal x.1.1 ++ 10 ∷ r) in
-          let here = parts-of f v behind in
-          let there = parts-of other.0 x.1.0 rest in
-          let same : header_name (format_number f) v ++ behind ≡ header_name (format_number other.0) x.1.0 ++ rest = sym name ∙ other.2 in
-          let first : get_or (header_name (format_number f) v ++ behind) 15 0 ≡ _ = ap (λ (t : List ℕ). get_or t 15 0) same in
-          let format : format_number f ≡ x.0 = omega (arith, here.0, there.0, first, other.1) in
-          let version : v ≡ x.1.0 = same-version v x.1.0 (sym here.1 ∙ ap (λ (t : List ℕ). get_or t 20 0) same ∙ there.1) in
-          let after : behind ≡ rest = sym here.2 ∙ ap (λ (t : List ℕ). drop 21 t) same ∙ there.2 in
-          ap (option_map as_header) (last.only x.1.1 r (record { whole = after; fits = lt-ltb x.1.1 65537 (omega (arith, other.3)) }))
-          ∙ (λ i. Some ((format i, (version i, x.1.1)), r))
