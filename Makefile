@@ -6,11 +6,12 @@
 # need no other program.
 # make examples: all examples of the pages. make scripts: the scripts of examples/ and the packages of make package.
 # Whatever needs a missing package is skipped.
+# make definitions: changes of definitions, each of which must break an example of crates/definition_examples.
 # make bench: the speed of the program.
 # make install, make uninstall: the proved program with its manual pages, completions, pages and examples, below DESTDIR
 # and PREFIX.
 # make package: these in out/flowlabel-VERSION-x86_64-linux.tar.gz and out/flowlabel_VERSION_amd64.deb.
-.PHONY: test examples scripts bench install uninstall package
+.PHONY: test examples scripts definitions bench install uninstall package
 
 PREFIX = /usr/local
 DESTDIR =
@@ -52,6 +53,9 @@ scripts:
 	tests/package
 	tests/routes
 	tests/table
+
+definitions:
+	tests/definitions
 
 bench:
 	bench/run

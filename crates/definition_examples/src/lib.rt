@@ -17,4 +17,5 @@ pub mod map_faults;
 pub mod maps;
 pub mod printed_addresses;
 pub mod rows;
+pub mod runs;
 pub mod tables;

@@ -1,4 +1,4 @@
-//! Printed tables, lists, runs and counts: FORMATS.md, "Printed texts".
+//! Printed tables, lists and counts: FORMATS.md, "Printed texts".
 #![tactic(auto, unfolding(crate::specs::Rows::opened))]
 
 ghost use Rattle.definition_examples.specs.Maps.{office_list};
@@ -8,8 +8,7 @@ ghost use Rattle.ipfix_read.specs.declared.set.Set.TheVariants.{Skipped, Templat
 ghost use Rattle.ipfix_templates.specs.declared.event.TemplateEvent.TheVariants.{Define, Withdraw, WithdrawAll};
 ghost use Rattle.ipfix_templates.specs.declared.kind.Kind.TheVariants.{Flow, Options};
 ghost use Rattle.pmap_print.specs.Reports.{rows_text};
-ghost use Rattle.pmap_print.specs.Runs.{runs_text};
-ghost use Rattle.prefix_keys.specs.declared.version.Version.TheVariants.{V4, V6};
+ghost use Rattle.prefix_keys.specs.declared.version.Version.TheVariants.{V6};
 ghost use Rattle.std.specs.Prelude.{◌≡◌, ◌∷◌, [], codes, false, None, Ok, Some, true};
 
 /// The lines of softflowd's record are in FORMATS.md, "Records of both directions".
@@ -50,16 +49,6 @@ pub fn columns_are_padded_on_the_left()
         ≡ codes "     sip|           dip|sport|dport|proto|flags|packets|bytes|        stime|        etime|    src-label|dst-label\n10.0.0.0|198.51.100.228| 1804|  443|    6|   27|      5|  546|1700000067030|1700000067362|Guest network|         \n10.0.0.1|      10.0.0.2|    0|    0|    0|    0|      0|    0|            0|            0|            A|        B\n" }
     ensures groups { groups_in true (codes "proto") false unlabelled (tcp ∷ record tcp { protocol = 17; octets = 123456789 } ∷ [])
         ≡ Ok (codes "proto|records|packets|    bytes\n    6|      1|      5|      546\n   17|      1|      5|123456789\n") }
-{}
-
-/// FORMATS.md, "Maps and lists" under "Troubleshooting", has the first.
-pub fn runs_are_a_table()
-    ensures of_the_page { runs_text V4 (record { low = 0x0000; high = 0x09ff_ffff; label = Some (codes "UNKNOWN") } ∷ record { low = 0x0a00_0000; high = 0x0a00_0000; label = Some (codes "- 10.0.0.255 DE") } ∷ record { low = 0x0a00_0001; high = 0xffff_ffff; label = Some (codes "UNKNOWN") } ∷ [])
-        ≡ codes "low|high|label\n0.0.0.0|9.255.255.255|UNKNOWN\n10.0.0.0|10.0.0.0|- 10.0.0.255 DE\n10.0.0.1|255.255.255.255|UNKNOWN\n" }
-    ensures without_a_label { runs_text V4 (record { low = 0x0000; high = 0xffff_ffff; label = None } ∷ [])
-        ≡ codes "low|high|label\n0.0.0.0|255.255.255.255|\n" }
-    ensures ipv6 { runs_text V6 (record { low = 0x0000; high = 0x2001_0db7_ffff_ffff_ffff_ffff_ffff_ffff; label = Some (codes "A") } ∷ record { low = 0x2001_0db8_0000_0000_0000_0000_0000_0000; high = 0xffff_ffff_ffff_ffff_ffff_ffff_ffff_ffff; label = None } ∷ [])
-        ≡ codes "low|high|label\n::|2001:db7:ffff:ffff:ffff:ffff:ffff:ffff|A\n2001:db8::|ffff:ffff:ffff:ffff:ffff:ffff:ffff:ffff|\n" }
 {}
 
 /// FORMATS.md, "Printed texts", `shrink`: entries are sorted by first address and then by length.
