@@ -391,7 +391,7 @@ module _ {R : Type 0} {left : R → Option (List ℕ)} {failed : R → Bool} whe
       report_stopped is_of taken (Faulty (InFlows fault)) (bytes, all, has) works = record {
         texts = with_at role.Flows bytes texts;
         given = with_flows left old mid texts bytes given same all;
-        made = (flows_made text source labels texts bytes (Err (InFlows fault)) reads (rw has (refl {a = Err {A = List ℕ} (InFlows fault)})), λ later behind. absurd (none_behind later behind));
+        made = (flows_made text source labels texts bytes (Err (InFlows fault)) reads (rw has refl), λ later behind. absurd (none_behind later behind));
         unread = one_tells failed mid still role.Flows flows ∙ works;
       }
       report_stopped is_of taken (Faulty fault) is works = absurd is

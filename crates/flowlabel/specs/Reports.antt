@@ -1,4 +1,4 @@
-use Rattle.std.specs.Prelude.{◌≡◌, ◌≤◌, ◌*◌, List, [], ℕ, Bool, Option, Some, None, IfSome, is_some, Result, Ok, Err, false, true, length, option_map}
+use Rattle.std.specs.Prelude.{◌≡◌, ◌≤◌, ◌*◌, List, ℕ, Bool, Option, Some, None, IfSome, is_some, Result, Ok, Err, false, true, length, option_map}
 use Rattle.std.specs.Borrow.{Bor}
 use Rattle.std.specs.Global.{Vec}
 use Rattle.std.specs.Io.KnownBytes.{Consumes}

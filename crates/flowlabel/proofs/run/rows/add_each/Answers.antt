@@ -1,4 +1,4 @@
-use Rattle.std.proofs.Common.{◌∙◌, ◌++◌, ◌∷◌, [], List, Option, Bool, is_some, map, option_map, subst, sym, take}
+use Rattle.std.proofs.Common.{◌∙◌, ◌++◌, ◌∷◌, [], List, Option, Bool, is_some, option_map, subst, sym, take}
 use Rattle.std.proofs.lemmas.List.{take_all}
 use Rattle.pmap_print.specs.Table.{IsTable, Line}
 use Rattle.pmap_print.specs.Reports.{column_count, label_texts, row_line}

@@ -1,5 +1,5 @@
 -- The lines of the rows before the index are added.
-use Rattle.std.proofs.Common.{◌≡◌, ◌++◌, List, is_some, map, take}
+use Rattle.std.proofs.Common.{◌≡◌, ◌++◌, List, is_some, take}
 use Rattle.flow_rows.specs.Elements.{RowView}
 use Rattle.pmap_print.specs.Table.{IsTable, has_columns}
 use Rattle.pmap_print.specs.Reports.{column_count}
