@@ -15,6 +15,7 @@ use std::alloc::Global;
 
 mod cat;
 mod check;
+mod examples;
 mod info;
 mod label;
 mod labels;
