@@ -4,3 +4,4 @@ pub mod Filters
 pub mod Maps
 pub mod Reports
 pub mod Rows
+pub mod Files

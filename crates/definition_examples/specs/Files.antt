@@ -1,0 +1,77 @@
+use Rattle.std.specs.Prelude.{ℕ, List, [], ◌∷◌, ◌++◌, Result, Ok, Err, codes, map}
+use Rattle.ipfix_templates.specs.InForce.{in_force}
+use Rattle.ipfix_templates.specs.Reading.{definition_at, field_at, fields_at, template_record_at}
+use Rattle.ipfix_templates.specs.Template.{TemplateView}
+use Rattle.ipfix_templates.specs.declared.event.TemplateEvent.TheVariants.{Define}
+use Rattle.ipfix_templates.specs.declared.kind.Kind.TheVariants.{Flow, Options}
+use Rattle.ipfix_read.specs.Message.{MessageView}
+use Rattle.ipfix_read.specs.Messages.{file_reading}
+use Rattle.ipfix_read.specs.Value.{value_at, values_at}
+use Rattle.ipfix_read.specs.declared.fault.ReadFault.{ReadFault}
+use Rattle.ipfix_read.specs.declared.record.Record.{Record}
+use Rattle.ipfix_read.specs.declared.set.Set.TheVariants.{Templates, Values}
+use Rattle.flow_rows.specs.Counts.{CountsView, counts_of, records_of, sets_of}
+use Rattle.flow_rows.specs.Elements.{fits}
+use Rattle.definition_examples.specs.Rows.{field, hex, value}
+
+-- IPFIX Files.
+
+-- The examples of Files unfold `opened`, and with it the opaque definitions that are named here after `unfolding`.
+unfoldable pub opened : List ℕ → Result (List MessageView) ReadFault
+unfolding definition_at field_at fields_at fits in_force template_record_at value_at values_at
+opened bytes = file_reading bytes
+
+-- the values of the records of a File of these bytes in hexadecimal
+abbrev pub values_of : Result (List MessageView) ReadFault → Result (List (List (List ℕ))) ReadFault
+values_of (Ok messages) = Ok (map (λ r. map (λ v. v.value) r.fields) (records_of (sets_of messages)))
+values_of (Err fault) = Err fault
+
+abbrev pub values : List ℕ → Result (List (List (List ℕ))) ReadFault
+values text = values_of (file_reading (hex text))
+
+-- the counts of such a File in the order of `info`
+abbrev pub numbers : CountsView → List ℕ
+numbers c =
+    c.messages ∷ c.templates ∷ c.options_templates ∷ c.withdrawals ∷ c.data_sets ∷ c.skipped_sets ∷ c.records ∷ c.options_records ∷ c.rows ∷ []
+
+abbrev pub counted : Result (List MessageView) ReadFault → Result (List ℕ) ReadFault
+counted (Ok messages) = Ok (numbers (counts_of messages))
+counted (Err fault) = Err fault
+
+abbrev pub counts : List ℕ → Result (List ℕ) ReadFault
+counts text = counted (file_reading (hex text))
+
+-- the message of RFC 7011, appendix A, and what it contains
+abbrev pub rfc_message : List ℕ
+rfc_message = hex (codes "000a0098 00000000 00000000 00000001 0002001c 01000005 00080004 000c0004 000f0004 00020004 00010004 01000040 c000020c c00002fe c0000201 00001391 00518c81 c000021b c0000217 c0000202 000002ec 0005ef46 c0000238 c0000241 c0000203 00000005 00001986 00030018 01010003 0001008d 00040029 0002002a 00020000 01010014 00000001 015927d9 00000002 02b24fb2")
+
+abbrev pub rfc_flow_template : TemplateView
+rfc_flow_template = record { id = 256; kind = Flow; scope_count = 0; fields = field 8 4 ∷ field 12 4 ∷ field 15 4 ∷ field 2 4 ∷ field 1 4 ∷ [] }
+
+abbrev pub rfc_options_template : TemplateView
+rfc_options_template = record { id = 257; kind = Options; scope_count = 1; fields = field 141 4 ∷ field 41 2 ∷ field 42 2 ∷ [] }
+
+abbrev pub rfc_flow : List ℕ → List ℕ → List ℕ → List ℕ → List ℕ → Record
+rfc_flow src dst hop packets octets =
+    record { kind = Flow; fields = value 8 src ∷ value 12 dst ∷ value 15 hop ∷ value 2 packets ∷ value 1 octets ∷ [] }
+
+abbrev pub rfc_card : List ℕ → List ℕ → List ℕ → Record
+rfc_card card messages flows = record { kind = Options; fields = value 141 card ∷ value 41 messages ∷ value 42 flows ∷ [] }
+
+abbrev pub rfc_decoded : MessageView
+rfc_decoded = record {
+  export_time = 0;
+  sequence = 0;
+  domain = 1;
+  sets =
+      Templates Flow (Define rfc_flow_template ∷ [])
+      ∷ Values Flow (
+      rfc_flow (codes "c000020c") (codes "c00002fe") (codes "c0000201") (codes "00001391") (codes "00518c81")
+      ∷ rfc_flow (codes "c000021b") (codes "c0000217") (codes "c0000202") (codes "000002ec") (codes "0005ef46")
+      ∷ rfc_flow (codes "c0000238") (codes "c0000241") (codes "c0000203") (codes "00000005") (codes "00001986") ∷ []
+      )
+      ∷ Templates Options (Define rfc_options_template ∷ [])
+      ∷ Values Options (
+      rfc_card (codes "00000001") (codes "0159") (codes "27d9") ∷ rfc_card (codes "00000002") (codes "02b2") (codes "4fb2") ∷ []
+      ) ∷ [];
+}
