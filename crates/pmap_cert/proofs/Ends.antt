@@ -1,5 +1,5 @@
 -- The cost of a minimal certificate: at each length no more blocks are halved than mappings have ends inside blocks.
-use Rattle.std.proofs.Common.{◌≡◌, ℕ, zero, suc, ◌+◌, ◌-◌, ◌*◌, ◌^◌, ◌<◌, ◌≤◌, Bool, true, false, ◌&&◌, List, [], ◌∷◌, Option, Some, None, arith, length, nat_le, nat_lt, pow_pos, refl, ap, subst, inl, inr}
+use Rattle.std.proofs.Common.{◌≡◌, ℕ, zero, suc, ◌+◌, ◌*◌, ◌^◌, ◌<◌, ◌≤◌, None, arith, length, refl, ap}
 use Rattle.std.proofs.lemmas.Nat.{mul-le}
 use Rattle.prefix_keys.specs.Block.{first_of, last_of, width_of}
 use Rattle.prefix_keys.proofs.Groups.{width-le}

@@ -4,21 +4,20 @@ use Rattle.std.specs.Fmt.{decimal}
 use Rattle.std.specs.List.{flat_map, list_all}
 use Rattle.std.specs.Option.{option_map}
 use Rattle.std.proofs.Math.Seq.{drop-append_seam, take-append_seam}
-use Rattle.std.proofs.lemmas.Bool.{and_from, and_parts, cond-false, cond-true, eq-eqb, eqb-true, false≢true, lt-ltb, ltb-true, ne_eqb}
+use Rattle.std.proofs.lemmas.Bool.{and_from, and_parts, cond-false, cond-true, eq-eqb, eqb-true, false≢true, ne_eqb}
 use Rattle.std.proofs.lemmas.Fmt.{decimal_digit, decimal_nonempty, first_decimal}
 use Rattle.std.proofs.lemmas.List.{append-nil, append_assoc, get_or_append_left, get_or-take, length-map, length-take-le, take-append-drop, take-append-le}
 use Rattle.std.proofs.lemmas.List.Concat.{flat_map-cons}
 use Rattle.std.proofs.lemmas.Option.{none-some, same_Some}
 use Rattle.prefix_keys.specs.Text.{decimal_value, is_digit}
 use Rattle.prefix_keys.specs.declared.version.Version.{Version}
-use Rattle.prefix_keys.specs.declared.version.Version.TheVariants.{V4, V6}
 use Rattle.pmap_cert.specs.CertificateText.{IsAscending, bit_digits, chain_line, format_word, inner_line, version_word}
 use Rattle.pmap_cert.specs.Format.{Format, One, Two, format_number}
 use Rattle.std.specs.Prelude.{IfSome}
 use Rattle.pmap_cert.specs.FormatReading.{ChainLine, DueLine, InnerLine, LeafLine, header_text}
-use Rattle.pmap_cert.specs.Inner.{BeginsWithBits, BeginsWithChain, BeginsWithClaim, BeginsWithHeader, BeginsWithLast, BeginsWithLine, BeginsWithNumber, BeginsWithSet, GoesOnWithout, Reads, Then, after_byte, header_name, is_bit}
+use Rattle.pmap_cert.specs.Inner.{BeginsWithBits, BeginsWithChain, BeginsWithClaim, BeginsWithHeader, BeginsWithLine, BeginsWithNumber, BeginsWithSet, GoesOnWithout, Reads, Then, after_byte, header_name, is_bit}
 use Rattle.pmap_cert.proofs.ChainWords.{bits-back, bits-digits, digits-back}
-use Rattle.pmap_cert.proofs.PrintedLines.{IsNumbered, Said, fits-header, fits-line, header-fits, line-fits}
+use Rattle.pmap_cert.proofs.PrintedLines.{IsNumbered, fits-line, header-fits, line-fits}
 use Rattle.pmap_cert.proofs.Written.{joined-numbers}
 use Rattle.pmap_cert.proofs.Numbers.{decimal-digits, decimal-word, decimal_value-decimal}
 
@@ -490,41 +489,9 @@ numbered-format : (n : ℕ) → IsNumbered n → (f : Format) × (n ≡ format_n
 numbered-format n (inl one) = (One, one)
 numbered-format n (inr two) = (Two, two)
 
-format-numbered : (f : Format) → IsNumbered (format_number f)
-format-numbered One = inl refl
-format-numbered Two = inr refl
-
--- a header that fits begins with the name of a format
-named : (text : List ℕ) (x : Said) (r : List ℕ) → BeginsWithHeader text x r
-    → (f : Format) × (x.0 ≡ format_number f) × (text ≡ header_name (format_number f) x.1.0 ++ 32 ∷ (decimal x.1.1 ++ 10 ∷ r)) × (x.1.1 ≤ 65536)
-named text x r h =
-    let fit = header-fits x h.fits in
-    let found = numbered-format x.0 fit.0 in
-    let behind : List ℕ = 32 ∷ (decimal x.1.1 ++ 10 ∷ r) in (
-      found.0,
-      found.1,
-      h.whole ∙ header-after x.0 x.1.0 x.1.1 r ∙ ap (λ (n : ℕ). header_name n x.1.0 ++ behind) found.1,
-      fit.1,
-    )
-
 pub header-none : (text : List ℕ) → ((format : Format) (version : Version) (rest : List ℕ) → text ≢ header_name (format_number format) version ++ rest)
     → Reads (BeginsWithHeader text) None
-header-none text never = reads_none (BeginsWithHeader text) (λ x r h. let name = named text x r h in never name.0 x.1.0 _ name.2)
-
-abbrev version-digit : Version → ℕ
-version-digit V4 = 52
-version-digit V6 = 54
-
-same-version : (v w : Version) → version-digit v ≡ version-digit w → v ≡ w
-same-version V4 V4 e = refl
-same-version V4 V6 e = absurd (omega (arith, e))
-same-version V6 V4 e = absurd (omega (arith, e))
-same-version V6 V6 e = refl
-
--- the digits of a name and what follows it
-parts-of : (f : Format) (v : Version) (xs : List ℕ) → let text : List ℕ = header_name (format_number f) v ++ xs in
-    (get_or text 15 0 ≡ 48 + format_number f) × (get_or text 20 0 ≡ version-digit v) × (drop 21 text ≡ xs)
-parts-of One V4 xs = (refl, refl, refl)
-parts-of One V6 xs = (refl, refl, refl)
-parts-of Two V4 xs = (refl, refl, refl)
-parts-of Two V6 xs = (refl, refl, refl)
+header-none text never = reads_none (BeginsWithHeader text) (λ x r h.
+    let format = numbered-format x.0 (header-fits x h.fits).0 in
+    let rest : List ℕ = 32 ∷ (decimal x.1.1 ++ 10 ∷ r) in
+    never format.0 x.1.0 rest (h.whole ∙ header-after x.0 x.1.0 x.1.1 r ∙ ap (λ (n : ℕ). header_name n x.1.0 ++ rest) format.1))

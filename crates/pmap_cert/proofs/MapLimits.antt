@@ -1,27 +1,29 @@
--- A map read from a text has a label table and at most as many mappings as a text may have, and its name is a label.
-use Rattle.std.proofs.Common.{◌≡◌, ℕ, ◌+◌, ◌<◌, ◌≤◌, ◌==◌, ◌&&◌, Bool, true, false, cond, List, [], ◌∷◌, ◌++◌, All, Option, Some, None, Result, Ok, Err, IsTrue, IfOk, find, length, arith, refl, sym, subst, nat_le, nat_lt, option_map, unwrap_or, codes}
+-- A map read from a text has a label table with all its labels and at most as many mappings as a text may have, and its
+-- name is a label.
+use Rattle.std.proofs.Common.{◌≡◌, ℕ, ◌+◌, ◌<◌, ◌≤◌, ◌==◌, ◌&&◌, Bool, true, false, cond, List, [], ◌∷◌, ◌++◌, All, Option, Some, None, Result, Ok, Err, IsTrue, IfOk, find, length, arith, refl, ◌∙◌, sym, subst, nat_le, nat_lt, option_map, unwrap_or, codes}
 use Rattle.std.specs.List.{list_all, list_any}
 use Rattle.std.specs.Option.{ForSome}
 use Rattle.std.specs.Str.{bytes_eq}
-use Rattle.std.proofs.lemmas.Bool.{and_parts, ltb-true}
+use Rattle.std.proofs.lemmas.Bool.{and_parts, ltb-true, or_left}
 use Rattle.std.proofs.lemmas.List.{length-append}
-use Rattle.std.proofs.lemmas.List.Elements.{All-contains, All-nil, All-push}
+use Rattle.std.proofs.lemmas.List.Elements.{All-contains, All-nil, All-push, All-weaker}
 use Rattle.std.proofs.lemmas.Option.{none-some, same_Some}
 use Rattle.prefix_keys.specs.Text.{AddressOf, BlockOf, address_of, block_of_text, is_digit}
 use Rattle.prefix_keys.specs.declared.text.BlockFault.{BlockFault}
 use Rattle.prefix_keys.specs.declared.text.BlockFault.TheVariants as block_faults
 use Rattle.prefix_keys.specs.declared.version.Version.{Version}
 use Rattle.pmap_text.proofs.Finds.{find_passes}
-use Rattle.pmap_text.proofs.LabelTexts.{IsLabelTable-with_label, with_label-known, with_label-new}
+use Rattle.pmap_text.proofs.LabelTexts.{IsLabelTable-with_label, has_label-with_label, with_label-known, with_label-new}
 use Rattle.pmap_text.proofs.LineEntries.{earlier_of-push}
 use Rattle.pmap_text.specs.Label.{conflicts, label_number, meant_text, text_of_number, with_declared, IsLabelTable, has_label, is_label, with_label}
 use Rattle.pmap_text.specs.Reading.{◌>>=◌, behind_word, content_of, first_word, lines_of, Decides, Declares, Defaults, Earlier, Entry, Lists, Maps, Names, Nothing, ReadsMap, address_line, at_line, block_line, content_line, decided, declared_line, default_line, earlier_of, entries_from, full_table, has_mapping, has_room, label_limit, label_line, label_of, line_entry, map_from, mapping_limit, mode_line, mode_version, name_line, number_in, one_or_two, span_line, statement_line, unknown, version_at}
-use Rattle.pmap_text.specs.MapModel.{Label, MapModel}
+use Rattle.pmap_text.specs.MapModel.{Label, MapModel, Mapping}
 use Rattle.pmap_text.specs.Inner.{added}
 use Rattle.pmap_text.specs.declared.fault.MapFault.{MapFault}
 use Rattle.pmap_text.specs.declared.fault.MapFaultKind.{MapFaultKind}
 use Rattle.pmap_text.specs.declared.form.Form.TheVariants as form
 use Rattle.pmap_cert.proofs.FormatWhole.{no_labels}
+use Rattle.pmap_cert.proofs.Sets.{has-append}
 use Rattle.pmap_cert.proofs.Tables.{bind_ok, ok_is}
 
 abbrev IsText : Label → Type 0
@@ -137,13 +139,29 @@ module _ (e : Earlier) (declared : All IsDeclared e.declared) where
       by [] = tt
       by (b ∷ bs) = statement-fits (first_word (b ∷ bs)) (behind_word (b ∷ bs))
 
--- the lines so far keep the limits of a text
+-- a table keeps its labels when one is added, and has the added one
+has-kept : (table : List Label) (y x : Label) → has_label table x ≡ true → has_label (with_label table y) x ≡ true
+has-kept table y x h = by (has_label table y) refl
+  where
+    by : (b : Bool) → has_label table y ≡ b → has_label (with_label table y) x ≡ true
+    by true e = rw e h
+    by false e = rw e (has-append table (y ∷ []) x ∙ or_left (has_label table x) (has_label (y ∷ []) x) h)
+
+abbrev HasLabel : List Label → Mapping → Type 0
+HasLabel table m = has_label table m.label ≡ true
+
+all-kept : (table : List Label) (y : Label) (ms : List Mapping) → All (HasLabel table) ms → All (HasLabel (with_label table y)) ms
+all-kept table y ms = All-weaker (HasLabel table) (HasLabel (with_label table y)) (λ m h. has-kept table y m.label h) ms
+
+-- the lines so far keep the limits of a text, and the table has their labels
 record IsWithin (e : Earlier) : Type 0 where
   name : ForSome e.name IsText
   table : IsLabelTable e.table
   room : length e.table ≤ label_limit
   declared : All IsDeclared e.declared
   mappings : length e.mappings ≤ mapping_limit
+  fallback : ForSome e.fallback (λ x. has_label e.table x ≡ true)
+  labels : All (HasLabel e.table) e.mappings
 
 room-kept : (table : List Label) (x : Label) → length table ≤ label_limit → has_room table x ≡ true → length (with_label table x) ≤ label_limit
 room-kept table x few room = by (has_label table x) refl
@@ -172,6 +190,8 @@ module _ (e : Earlier) (so_far : IsWithin e) where
     room = room-kept e.table text so_far.room fits.1;
     declared = declared-more e.declared (number, text) so_far.declared fits.0;
     mappings = so_far.mappings;
+    fallback = λ x is. has-kept e.table text x (so_far.fallback x is);
+    labels = all-kept e.table text e.mappings so_far.labels;
   }
   within-added (Defaults label) fits = record {
     name = so_far.name;
@@ -179,6 +199,8 @@ module _ (e : Earlier) (so_far : IsWithin e) where
     room = room-kept e.table label so_far.room fits.1;
     declared = so_far.declared;
     mappings = so_far.mappings;
+    fallback = λ x is. subst (λ (y : Label). has_label (with_label e.table label) y ≡ true) (same_Some label x is) (has_label-with_label e.table label);
+    labels = all-kept e.table label e.mappings so_far.labels;
   }
   within-added (Maps version m) fits = record {
     name = so_far.name;
@@ -186,6 +208,10 @@ module _ (e : Earlier) (so_far : IsWithin e) where
     room = room-kept e.table m.label so_far.room fits.1;
     declared = so_far.declared;
     mappings = omega (arith, fits.2, length-append e.mappings (m ∷ []));
+    fallback = λ x is. has-kept e.table m.label x (so_far.fallback x is);
+    labels =
+        All-push (HasLabel (with_label e.table m.label)) e.mappings m (all-kept e.table m.label e.mappings so_far.labels)
+        (has_label-with_label e.table m.label);
   }
   within-added (Lists version p) fits = absurd fits
   within-added Nothing fits = so_far
@@ -195,6 +221,8 @@ module _ (e : Earlier) (so_far : IsWithin e) where
     room = so_far.room;
     declared = so_far.declared;
     mappings = so_far.mappings;
+    fallback = so_far.fallback;
+    labels = so_far.labels;
   }
   within-added (Decides version) fits = record {
     name = so_far.name;
@@ -202,6 +230,8 @@ module _ (e : Earlier) (so_far : IsWithin e) where
     room = so_far.room;
     declared = so_far.declared;
     mappings = so_far.mappings;
+    fallback = so_far.fallback;
+    labels = so_far.labels;
   }
 
   -- the table of the whole map, with the default, is a label table
@@ -209,8 +239,21 @@ module _ (e : Earlier) (so_far : IsWithin e) where
   full-table (Some label) = so_far.table
   full-table None = table-kept unknown refl
 
+  -- the whole map has its labels in this table
+  has-labels : (o : Option Label) → e.fallback ≡ o → IsTrue (has_label (full_table e.table o) (unwrap_or o unknown)) × All (HasLabel (full_table e.table o)) e.mappings
+  has-labels (Some label) is = (so_far.fallback label is, so_far.labels)
+  has-labels None is = (has_label-with_label e.table unknown, all-kept e.table unknown e.mappings so_far.labels)
+
 within-none : IsWithin (earlier_of [])
-within-none = record { name = λ x e. absurd (none-some x e); table = no_labels; room = omega arith; declared = All-nil IsDeclared; mappings = omega arith }
+within-none = record {
+  name = λ x e. absurd (none-some x e);
+  table = no_labels;
+  room = omega arith;
+  declared = All-nil IsDeclared;
+  mappings = omega arith;
+  fallback = λ x e. absurd (none-some x e);
+  labels = All-nil (HasLabel []);
+}
 
 abbrev AreWithin : List Entry → Type 0
 AreWithin entries = IsWithin (earlier_of entries)
@@ -234,10 +277,26 @@ pub record IsLimited (m : MapModel) : Type 0 where
   pub mappings : length m.mappings ≤ mapping_limit
   pub name : ForSome m.name (λ name. IsTrue (is_label name))
 
+-- the lines of a map text keep the limits
+read-within : (text : List ℕ) (m : MapModel) → ReadsMap text m → (entries : List Entry) × AreWithin entries × (map_from (earlier_of entries) ≡ m)
+read-within text m read =
+    let r : Result (List Entry) MapFault = entries_from form.Map [] 0 (lines_of text) in
+    let found = bind_ok r (λ (entries : List Entry). Ok (map_from (earlier_of entries))) m read in (
+      found.0,
+      subst (λ (r : Result (List Entry) MapFault). IfOk r AreWithin) found.1 (within-entries (lines_of text) [] 0 within-none),
+      ok_is (map_from (earlier_of found.0)) m found.2,
+    )
+
 pub limits-read : (text : List ℕ) (m : MapModel) → ReadsMap text m → IsLimited m
 limits-read text m read =
-    let r : Result (List Entry) MapFault = entries_from form.Map [] 0 (lines_of text) in
-    let found = bind_ok r (λ (entries : List Entry). Ok (map_from (earlier_of entries))) m read in
-    let within : AreWithin found.0 = subst (λ (r : Result (List Entry) MapFault). IfOk r AreWithin) found.1 (within-entries (lines_of text) [] 0 within-none) in
-    subst IsLimited (ok_is (map_from (earlier_of found.0)) m found.2)
+    let found = read-within text m read in
+    let within = found.1 in
+    subst IsLimited found.2
     (record { table = full-table (earlier_of found.0) within (earlier_of found.0).fallback; mappings = within.mappings; name = within.name })
+
+pub labels-known : (text : List ℕ) (m : MapModel) → ReadsMap text m
+    → IsTrue (has_label m.table m.fallback) × All (λ p. IsTrue (has_label m.table p.label)) m.mappings
+labels-known text m read =
+    let found = read-within text m read in
+    subst (λ (m : MapModel). IsTrue (has_label m.table m.fallback) × All (λ p. IsTrue (has_label m.table p.label)) m.mappings) found.2
+    (has-labels (earlier_of found.0) found.1 (earlier_of found.0).fallback refl)
