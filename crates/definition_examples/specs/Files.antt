@@ -1,45 +1,48 @@
-use Rattle.std.specs.Prelude.{ℕ, List, [], ◌∷◌, ◌++◌, Result, Ok, Err, codes, map}
+use Rattle.std.specs.Prelude.{ℕ, List, [], ◌∷◌, Result, Ok, Err, codes}
 use Rattle.ipfix_templates.specs.InForce.{in_force}
 use Rattle.ipfix_templates.specs.Reading.{definition_at, field_at, fields_at, template_record_at}
-use Rattle.ipfix_templates.specs.Template.{TemplateView}
-use Rattle.ipfix_templates.specs.declared.event.TemplateEvent.TheVariants.{Define}
-use Rattle.ipfix_templates.specs.declared.kind.Kind.TheVariants.{Flow, Options}
 use Rattle.ipfix_read.specs.Message.{MessageView}
 use Rattle.ipfix_read.specs.Messages.{file_reading}
 use Rattle.ipfix_read.specs.Value.{value_at, values_at}
 use Rattle.ipfix_read.specs.declared.fault.ReadFault.{ReadFault}
+use Rattle.ipfix_read.specs.declared.fault.ReadFaultKind.{ReadFaultKind}
+use Rattle.flow_rows.specs.Counts.{CountsView, counts_of, rows_of_messages}
+use Rattle.flow_rows.specs.Elements.{RowView, fits}
+use Rattle.ipfix_templates.specs.Template.{TemplateView}
+use Rattle.ipfix_templates.specs.declared.event.TemplateEvent.TheVariants.{Define}
+use Rattle.ipfix_templates.specs.declared.kind.Kind.TheVariants.{Flow, Options}
 use Rattle.ipfix_read.specs.declared.record.Record.{Record}
 use Rattle.ipfix_read.specs.declared.set.Set.TheVariants.{Templates, Values}
-use Rattle.flow_rows.specs.Counts.{CountsView, counts_of, records_of, sets_of}
-use Rattle.flow_rows.specs.Elements.{fits}
 use Rattle.definition_examples.specs.Rows.{field, hex, value}
 
--- IPFIX Files.
+-- What examples ask of IPFIX Files.
 
--- The examples of Files unfold `opened`, and with it the opaque definitions that are named here after `unfolding`.
+-- Unfolds the opaque definitions on which the reading of Files rests.
 unfoldable pub opened : List ℕ → Result (List MessageView) ReadFault
 unfolding definition_at field_at fields_at fits in_force template_record_at value_at values_at
 opened bytes = file_reading bytes
 
--- the values of the records of a File of these bytes in hexadecimal
-abbrev pub values_of : Result (List MessageView) ReadFault → Result (List (List (List ℕ))) ReadFault
-values_of (Ok messages) = Ok (map (λ r. map (λ v. v.value) r.fields) (records_of (sets_of messages)))
-values_of (Err fault) = Err fault
-
-abbrev pub values : List ℕ → Result (List (List (List ℕ))) ReadFault
-values text = values_of (file_reading (hex text))
-
--- the counts of such a File in the order of `info`
+-- the nine counts in the order of `info`
 abbrev pub numbers : CountsView → List ℕ
 numbers c =
-    c.messages ∷ c.templates ∷ c.options_templates ∷ c.withdrawals ∷ c.data_sets ∷ c.skipped_sets ∷ c.records ∷ c.options_records ∷ c.rows ∷ []
+    c.messages ∷ c.templates ∷ c.options_templates ∷ c.withdrawals ∷ c.data_sets ∷ c.skipped_sets ∷ c.records
+    ∷ c.options_records ∷ c.rows ∷ []
 
-abbrev pub counted : Result (List MessageView) ReadFault → Result (List ℕ) ReadFault
-counted (Ok messages) = Ok (numbers (counts_of messages))
-counted (Err fault) = Err fault
+-- something of the messages of a File
+abbrev pub of_messages : {A : Type 0} → (List MessageView → A) → Result (List MessageView) ReadFault → Result A ReadFault
+of_messages part (Ok messages) = Ok (part messages)
+of_messages part (Err fault) = Err fault
 
+-- the counts, and the rows, of a File given in hexadecimal
 abbrev pub counts : List ℕ → Result (List ℕ) ReadFault
-counts text = counted (file_reading (hex text))
+counts text = of_messages (λ messages. numbers (counts_of messages)) (file_reading (hex text))
+
+abbrev pub rows : List ℕ → Result (List RowView) ReadFault
+rows text = of_messages rows_of_messages (file_reading (hex text))
+
+-- the fault at an offset
+abbrev pub at_offset : ReadFaultKind → ℕ → ReadFault
+at_offset kind offset = record { kind = kind; offset = offset }
 
 -- the message of RFC 7011, appendix A, and what it contains
 abbrev pub rfc_message : List ℕ
