@@ -1,4 +1,5 @@
 use Rattle.std.specs.Prelude.{ℕ, List, [], ◌∷◌, Result, Ok, Err, codes}
+use Rattle.ipfix_templates.specs.Elements.{fits}
 use Rattle.ipfix_templates.specs.InForce.{in_force}
 use Rattle.ipfix_templates.specs.Reading.{definition_at, field_at, fields_at, template_record_at}
 use Rattle.ipfix_read.specs.Message.{MessageView}
@@ -7,7 +8,7 @@ use Rattle.ipfix_read.specs.Value.{value_at, values_at}
 use Rattle.ipfix_read.specs.declared.fault.ReadFault.{ReadFault}
 use Rattle.ipfix_read.specs.declared.fault.ReadFaultKind.{ReadFaultKind}
 use Rattle.flow_rows.specs.Counts.{CountsView, counts_of, rows_of_messages}
-use Rattle.flow_rows.specs.Elements.{RowView, fits}
+use Rattle.flow_rows.specs.Elements.{RowView}
 use Rattle.ipfix_templates.specs.Template.{TemplateView}
 use Rattle.ipfix_templates.specs.declared.event.TemplateEvent.TheVariants.{Define}
 use Rattle.ipfix_templates.specs.declared.kind.Kind.TheVariants.{Flow, Options}

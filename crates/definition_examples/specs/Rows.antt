@@ -5,7 +5,8 @@ use Rattle.prefix_keys.specs.declared.version.Version.TheVariants.{V4}
 use Rattle.ipfix_templates.specs.declared.field.Field.{Field}
 use Rattle.ipfix_templates.specs.declared.kind.Kind.TheVariants.{Flow}
 use Rattle.ipfix_read.specs.Value.{FieldValueView, value_at, values_at}
-use Rattle.flow_rows.specs.Elements.{RowView, fits, rows_of_record}
+use Rattle.ipfix_templates.specs.Elements.{fits}
+use Rattle.flow_rows.specs.Elements.{RowView, rows_of_record}
 
 -- Records and rows of examples.
 

@@ -6,9 +6,7 @@ use Rattle.prefix_keys.specs.Block.{block_number, width_of}
 use Rattle.prefix_keys.specs.Conversion.{converted}
 use Rattle.prefix_keys.specs.Text.{AddressOf, BlockOf}
 use Rattle.label_lookup.specs.Labelling.{Labelling, label_where}
-use Rattle.ipfix_read.specs.Message.{MessageView}
 use Rattle.flow_rows.specs.Elements.{RowView}
-use Rattle.flow_rows.specs.Counts.{rows_of_messages}
 use Rattle.flow_filter.specs.Options.{FilterOption, is_list, is_on_labels, kind_of, AnyLabel, Bytes, DestinationAddress, DestinationLabel, DestinationPort, Packets, Protocol, SourceAddress, SourceLabel, SourcePort}
 use Rattle.flow_filter.specs.Texts.{address_item, each_some, number_range}
 pub use Rattle.flow_filter.specs.declared.fault.FilterFault.{FilterFault}
@@ -106,12 +104,9 @@ needs_map condition = list_any (λ part. is_on_labels part.0) condition
 abbrev pub passes : Condition → Option Labelling → RowView → Bool
 passes condition labels row = row_passes condition (label_where labels) row
 
--- the rows that meet the condition, and those of the rows of messages
+-- the rows that meet the condition
 abbrev pub passing : Condition → Option Labelling → List RowView → List RowView
 passing condition labels all = filter (passes condition labels) all
-
-abbrev pub passing_rows : Condition → Option Labelling → List MessageView → List RowView
-passing_rows condition labels messages = passing condition labels (rows_of_messages messages)
 
 -- the options that have a text, with their texts
 abbrev pub given : List (Option (List ℕ)) → List FilterOption → Condition

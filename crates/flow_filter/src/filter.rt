@@ -1,4 +1,4 @@
-ghost use Rattle.std.specs.Prelude.{◌≡◌, [], IfErr, IfOk, Ok, true};
+ghost use Rattle.std.specs.Prelude.{◌≡◌, IfErr, IfOk, Ok};
 ghost use Rattle.flow_filter.specs.Condition.{filter_of, needs_map, row_passes};
 ghost use Rattle.label_lookup.specs.Labelling.{label_where, labelling_lent};
 ghost use Rattle.flow_filter.specs.Filters.{IsFault, texts_of};
@@ -51,18 +51,11 @@ impl<'a> Filter<'a> {
     }
 
     /// Returns `true` if the row meets each condition given. Without a labeller no address has a label.
-    pub fn passes<L: Labeller>(&self, row: &Row, labeller: Option<&L>) -> bool
+    pub fn passes<L: Labeller>(&self, row: &Row<'_>, labeller: Option<&L>) -> bool
         ensures { result ≡ row_passes self.now
             (label_where (labelling_lent L.version_of L.label labeller.entry)) row.now }
     {
         self.parts.iter().all(|part| part.meets(row, labeller))
-    }
-
-    /// Whether no condition is given, so that each row passes.
-    pub(crate) fn passes_all(&self) -> bool
-        ensures { result ≡ true → self.now ≡ [] }
-    {
-        self.parts.is_empty()
     }
 
     /// Whether a condition on labels is given, which needs a map or a list.

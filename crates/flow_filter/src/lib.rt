@@ -12,14 +12,12 @@
 //! assert!(rt; passes == (row.protocol() == 6 || row.protocol() == 17));
 //! ```
 //!
-//! This crate uses flow_rows (rows), ipfix_read (the messages with the rows), label_lookup (the labels of their
-//! addresses) and prefix_keys (addresses and blocks). `Filter::read` reads the texts of the options once. Callers may
-//! rely on this: a filter is read if and only if each text given is well formed, and otherwise the fault is that of the
-//! first malformed text, in the order of the options. `passes` returns whether the row meets each condition given.
-//! `add_passing_rows` appends the rows of a message that pass to other rows, each once and in order, and leaves those
-//! rows unchanged if an allocation fails. `needs_map` returns whether a condition is on a label. Contracts see a filter
-//! as its condition: the options given, each with its text. How the numbers that a text allows are stored is private. A
-//! row is looked up in them by a search in sorted ranges, which allocates nothing.
+//! This crate uses flow_rows (rows), label_lookup (the labels of their addresses) and prefix_keys (addresses and
+//! blocks). `Filter::read` reads the texts of the options once. Callers may rely on this: a filter is read if and only
+//! if each text given is well formed, and otherwise the fault is that of the first malformed text, in the order of the
+//! options. `passes` returns whether the row meets each condition given. `needs_map` returns whether a condition is on
+//! a label. Contracts see a filter as its condition: the options given, each with its text. How the numbers that a text
+//! allows are stored is private. A row is looked up in them by a search in sorted ranges, which allocates nothing.
 #![tactic(auto)]
 
 mod blocks;
@@ -30,7 +28,6 @@ mod items;
 mod number;
 mod option;
 mod part;
-mod passing;
 mod range;
 mod ranges;
 mod words;

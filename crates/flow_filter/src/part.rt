@@ -36,7 +36,7 @@ impl<'a> Model for ReadPart<'a> {
 }
 
 // Returns the number that an option compares. That of an address is its number as an IPv6 address.
-fn number_of(option: FilterOption, row: &Row) -> u128
+fn number_of(option: FilterOption, row: &Row<'_>) -> u128
     ensures { result ≡ number_of option row.now }
 {
     match option {
@@ -83,7 +83,7 @@ pub fn add_part<'a>(
 
 impl<'a> ReadPart<'a> {
     /// Whether the row meets the condition that the option states. Without a labeller no address has a label.
-    pub fn meets<L: Labeller>(&self, row: &Row, labeller: Option<&L>) -> bool
+    pub fn meets<L: Labeller>(&self, row: &Row<'_>, labeller: Option<&L>) -> bool
         ensures { result ≡ meets (label_where (labelling_lent L.version_of L.label labeller.entry)) row.now self.now }
     {
         match self.option {

@@ -1,3 +1,4 @@
 pub mod Usable
 pub mod Reading
 pub mod Rows
+pub mod Walking

@@ -1,312 +1,125 @@
 -- What is read at the places of elements is what the values of a record say of them.
-use Rattle.std.proofs.Common.{◌≡◌, ◌∙◌, ℕ, ◌+◌, ◌-◌, ◌≤◌, true, false, not, cond, ltb, List, [], ◌∷◌, ◌++◌, length, take, drop, map, Option, Some, None, is_some, inl, inr, refl, sym, ap, subst, arith, append_assoc, length-append, take-append-drop}
-use Rattle.std.specs.Prelude.{◌==◌, filter, option_and_then, option_map, slice_range}
-use Rattle.std.specs.Map.{lookup}
+use Rattle.std.proofs.Common.{◌≡◌, ◌∙◌, ℕ, suc, ◌+◌, ◌≤◌, Bool, true, false, cond, ltb, List, [], ◌∷◌, ◌++◌, length, take, drop, Option, Some, None, inl, inr, refl, sym, ap, subst, arith, append_assoc, length-append, take-append-drop}
+use Rattle.std.specs.Prelude.{option_and_then, option_map, unwrap_or}
 use Rattle.std.specs.Option.{option_map_or}
-use Rattle.std.proofs.lemmas.Bool.{eqb-true, ltb-false}
-use Rattle.std.proofs.lemmas.List.{drop_at, length-take-le}
+use Rattle.std.proofs.lemmas.Bool.{le-ltb, ltb-false}
+use Rattle.std.proofs.lemmas.List.{append-nil, drop_at, length-take-le, take_at}
 use Rattle.ipfix_templates.proofs.Choice.{chosen, gave, some_is}
-use Rattle.ipfix_templates.specs.declared.field.Field.{Field}
-use Rattle.ipfix_templates.specs.Field.{has_bytes, is_variable}
+use Rattle.ipfix_templates.specs.Elements.{is_usable}
+use Rattle.ipfix_templates.specs.Field.{FieldView, is_variable}
+use Rattle.ipfix_templates.specs.Layout.{place}
 use Rattle.ipfix_templates.specs.Runs.{runs_behind}
-use Rattle.ipfix_read.specs.Value.{FieldValueView, value_at, values_at, whole_values}
-use Rattle.ipfix_read.proofs.RecordValues.{filled_values, values_with_bytes, whole_is}
-use Rattle.flow_rows.specs.Elements.{big_endian, element, element_lengths, is_usable}
-use Rattle.flow_rows.specs.Inner.{AreThere, IsThere, elements_at, given, kept, number_there, place, place_in, place_of, said_there, Elements, Place}
-use Rattle.flow_rows.proofs.Usable.{IsListed, element-passed, element-unlisted, element-used, element-with_bytes, has_other_length, usable_within}
+use Rattle.ipfix_read.specs.Value.{FieldValueView, bytes_at, value_at, values_at, variable_at}
+use Rattle.flow_rows.specs.Elements.{big_endian, element}
+use Rattle.flow_rows.specs.Inner.{behind_values, bytes_there, number_there}
+use Rattle.flow_rows.proofs.Usable.{has_other_length}
 
--- ---- the table of elements
+-- the bytes that are there are the first ones
+cut : (count : ℕ) (front more : List ℕ) → length front ≡ count → bytes_at count (front ++ more) ≡ Some (front, more)
+cut count front more long =
+    rw (le-ltb (length (front ++ more)) count (omega (arith, length-append front more, long)), take_at front more count long, drop_at front more count long) refl
 
-looked_up : (place : ℕ → Option Place) (number : ℕ) (table : List (ℕ × (ℕ × ℕ)))
-    → option_and_then (λ p. p) (lookup (λ n. n == number) (map (λ e. (e.0, place e.0)) table))
-    ≡ option_and_then (λ range. place number) (lookup (λ n. n == number) table)
-looked_up place number [] = refl
-looked_up place number (e ∷ table) =
-    elim (e.0 == number) as (λ b. (e.0 == number) ≡ b
-    → option_and_then (λ p. p) (cond b (Some (place e.0)) (lookup (λ n. n == number) (map (λ e. (e.0, place e.0)) table)))
-    ≡ option_and_then (λ range. place number) (cond b (Some e.1) (lookup (λ n. n == number) table))) [
-      | true ↦ λ is. ap place (eqb-true e.0 number is)
-      | false ↦ λ _. looked_up place number table
-    ]
-    refl
-
-pub place_in-elements_at : (place : ℕ → Option Place) (number : ℕ) (range : ℕ × ℕ) → IsListed number range
-    → place_in (elements_at place) number ≡ place number
-place_in-elements_at place number range listed =
-    looked_up place number element_lengths ∙ ap (λ (o : Option (ℕ × ℕ)). option_and_then (λ range. place number) o) listed
-
--- what is read of each element of a row is all that is read
-pub said_all : (direction : Option ℕ) (e : Elements) (bytes : List ℕ) (values : List FieldValueView)
-    → ((number : ℕ) (range : ℕ × ℕ) → IsListed number range → said_there e bytes number ≡ element direction values number)
-    → (number : ℕ) → said_there e bytes number ≡ element direction values number
-said_all direction e bytes values reads number =
-    elim (lookup (λ n. n == number) element_lengths) as (λ o. lookup (λ n. n == number) element_lengths ≡ o
-    → said_there e bytes number ≡ element direction values number) [
-      | None ↦ λ none.
-          ap (λ (p : Option Place). number_there p bytes)
-          (looked_up (place_in e) number element_lengths ∙ ap (λ (o : Option (ℕ × ℕ)). option_and_then (λ range. place_in e number) o) none)
-          ∙ sym (element-unlisted direction number none values)
-      | Some range ↦ λ listed. reads number range listed
-    ]
-    refl
-
--- there are as many bytes as the element may have at the place of each element
-abbrev pub IsThereAt : Elements → ℕ → Type 0
-IsThereAt e len = (number : ℕ) (range : ℕ × ℕ) → IsListed number range → IsThere range len (place_in e number)
-
-pub are_there : (e : Elements) (len : ℕ) → IsThereAt e len → AreThere e len
-are_there e len there = record {
-  octets = there 1 (1, 8) refl;
-  packets = there 2 (1, 8) refl;
-  protocol = there 4 (1, 1) refl;
-  flags = there 6 (1, 2) refl;
-  sport = there 7 (1, 2) refl;
-  src_v4 = there 8 (4, 4) refl;
-  dport = there 11 (1, 2) refl;
-  dst_v4 = there 12 (4, 4) refl;
-  src_v6 = there 27 (16, 16) refl;
-  dst_v6 = there 28 (16, 16) refl;
-  total_octets = there 85 (1, 8) refl;
-  total_packets = there 86 (1, 8) refl;
-  start_ms = there 152 (8, 8) refl;
-  end_ms = there 153 (8, 8) refl;
-}
-
--- ---- the value of a field of fixed length
-
-value_was : (f : Field) (bytes : List ℕ) (v : List ℕ × List ℕ) → is_variable f ≡ false → value_at f bytes ≡ Some v
-    → (f.length ≤ length bytes) × (v ≡ (take f.length bytes, drop f.length bytes))
+-- a value of fixed length is the first bytes
+fixed_value : (f : FieldView) (bytes : List ℕ) (v : List ℕ × List ℕ) → is_variable f ≡ false → value_at f bytes ≡ Some v
+    → (length v.0 ≡ f.length) × (bytes ≡ v.0 ++ v.1)
 unfolding value_at
-value_was f bytes v fixed read =
+fixed_value f bytes v fixed read =
     elim (chosen (ltb (length bytes) f.length) None (Some (take f.length bytes, drop f.length bytes)) (Some v) (rw fixed at read)) [
       | inl p ↦ absurd (cc)
-      | inr p ↦ (ltb-false (length bytes) f.length p.0, sym (some_is _ _ p.1))
+      | inr p ↦
+          subst (λ (v : List ℕ × List ℕ). (length v.0 ≡ f.length) × (bytes ≡ v.0 ++ v.1)) (some_is _ _ p.1)
+          (length-take-le f.length bytes (ltb-false (length bytes) f.length p.0), sym (take-append-drop f.length bytes))
     ]
 
--- the bytes after others
-slice_behind : (front rest : List ℕ) (size : ℕ) → slice_range (front ++ rest) (length front) (length front + size) ≡ take size rest
-slice_behind front rest size =
-    let size_is : length front + size - length front ≡ size = omega arith in
-    λ i. take (size_is i) (drop_at front rest (length front) refl i)
+variable_value : (f : FieldView) (bytes : List ℕ) → is_variable f ≡ true → value_at f bytes ≡ variable_at bytes
+unfolding value_at
+variable_value f bytes is = rw is refl
 
--- if no field is variable, neither the first is nor any after it
-fixed_first : (sum : ℕ) (f : Field) (fs : List Field) → runs_behind sum (f ∷ fs) ≡ [] → (is_variable f ≡ false) × (runs_behind (sum + f.length) fs ≡ [])
-fixed_first sum f fs e =
-    elim (is_variable f) as (λ b. cond b (sum ∷ runs_behind 0 fs) (runs_behind (sum + f.length) fs) ≡ [] → (b ≡ false) × (runs_behind (sum + f.length) fs ≡ [])) [
-      | true ↦ λ p. absurd (cc)
-      | false ↦ λ p. (refl, p)
-    ]
-    e
+-- one more value of variable length, after a run of bytes
+one_more_value : (runs : List ℕ) (run : ℕ) (bytes gap rest : List ℕ) (v : List ℕ × List ℕ) → behind_values runs bytes ≡ Some (gap ++ rest)
+    → length gap ≡ run → variable_at rest ≡ Some v → behind_values (runs ++ run ∷ []) bytes ≡ Some v.1
+one_more_value [] run bytes gap rest v is long read =
+    rw (some_is bytes (gap ++ rest) is, cut run gap rest long, read) refl
+one_more_value (n ∷ runs) run bytes gap rest v is long read =
+    let a = gave (bytes_at n bytes) (λ f. option_and_then (λ v. behind_values runs v.1) (variable_at f.1)) (gap ++ rest) is in
+    let b = gave (variable_at a.0.1) (λ v. behind_values runs v.1) (gap ++ rest) a.2 in
+    rw (a.1, b.1) (one_more_value runs run b.0.1 gap rest v b.2 long read)
 
--- what is said at a place that is known, and otherwise what the values that are left say
-abbrev pub known : Option ℕ → ℕ → Option Place → List ℕ → List FieldValueView → Option ℕ
-known direction number place bytes left = cond (is_some place) (number_there place bytes) (element direction left number)
+-- the bytes of a value, after the values that are skipped and a gap
+found_there : (front more : List ℕ) (bytes gap value after : List ℕ) → behind_values front bytes ≡ Some (gap ++ (value ++ after))
+    → bytes_there (record { offset = length gap; skips = length front; length = length value }) (front ++ more) bytes ≡ Some value
+found_there front more bytes gap value after is =
+    rw (take_at front more (length front) refl, is, cut (length gap) gap (value ++ after) refl, cut (length value) value after refl) refl
 
-module _ (direction : Option ℕ) (number : ℕ) (range : ℕ × ℕ) (listed : IsListed number range) where
-  module _ (f : Field) (fs : List Field) (front rest : List ℕ) (v : List ℕ × List ℕ) (read : value_at f rest ≡ Some v) where
-    value_of : is_usable direction number f ≡ true → (f.length ≤ length rest) × (v ≡ (take f.length rest, drop f.length rest))
-    value_of usable = value_was f rest v (has_other_length 65535 refl direction number f usable) read
+missing_there : (runs bytes : List ℕ) → number_there (record { offset = 0; skips = 0; length = 0 }) runs bytes ≡ 0
+missing_there runs bytes = rw (cut 0 [] bytes refl, cut 0 [] bytes refl) refl
 
-    one_more : (was : Option Place)
-        → known direction number (kept was (given direction (length front) f number)) (front ++ rest) (whole_values fs v.1)
-        ≡ known direction number was (front ++ rest) (whole_values (f ∷ fs) rest)
-    one_more None =
-        elim (is_usable direction number f) as (λ b. is_usable direction number f ≡ b
-        → known direction number (kept None (cond b (Some (place_of (length front) f)) None)) (front ++ rest) (whole_values fs v.1)
-        ≡ element direction (whole_values (f ∷ fs) rest) number) [
-          | true ↦ λ usable.
-              ap (λ (bytes : List ℕ). Some (big_endian bytes)) (slice_behind front rest f.length ∙ ap (λ (v : List ℕ × List ℕ). v.0) (sym (value_of usable).1))
-              ∙ sym (element-used direction number f fs rest usable ∙ ap (λ (o : Option (List ℕ × List ℕ)). option_map (λ v. big_endian v.0) o) read)
-          | false ↦ λ unusable.
-              sym (element-passed direction number f fs rest unusable
-              ∙ ap (λ (o : Option (List ℕ × List ℕ)). option_map_or (λ v. element direction (whole_values fs v.1) number) o None) read)
-        ]
-        refl
-    one_more (Some p) =
-        elim (is_usable direction number f) as (λ b.
-        known direction number (kept (Some p) (cond b (Some (place_of (length front) f)) None)) (front ++ rest) (whole_values fs v.1)
-        ≡ number_there (Some p) (front ++ rest)) [
-          | true ↦ refl
-          | false ↦ refl
-        ]
+-- the first value's number if its field is usable, otherwise that of the values after it
+element-used : (direction : Option ℕ) (number : ℕ) (v : FieldValueView) (vs : List FieldValueView) → is_usable direction number v.field ≡ true
+    → element direction (v ∷ vs) number ≡ Some (big_endian v.value)
+element-used direction number v vs usable = rw usable refl
 
-    one_more_there : (was : Option Place) → IsThere range (length (front ++ rest)) was
-        → IsThere range (length (front ++ rest)) (kept was (given direction (length front) f number))
-    one_more_there None there =
-        elim (is_usable direction number f) as (λ b. is_usable direction number f ≡ b
-        → IsThere range (length (front ++ rest)) (kept None (cond b (Some (place_of (length front) f)) None))) [
-          | true ↦ λ usable.
-              let size = usable_within direction number range f listed usable in
-              (omega (arith, size.0), omega (arith, size.1), omega (arith, length-append front rest, (value_of usable).0))
-          | false ↦ λ _. tt
-        ]
-        refl
-    one_more_there (Some p) there =
-        elim (is_usable direction number f) as (λ b. IsThere range (length (front ++ rest)) (kept (Some p) (cond b (Some (place_of (length front) f)) None))) [
-          | true ↦ there
-          | false ↦ there
-        ]
+element-passed : (direction : Option ℕ) (number : ℕ) (v : FieldValueView) (vs : List FieldValueView) → is_usable direction number v.field ≡ false
+    → element direction (v ∷ vs) number ≡ element direction vs number
+element-passed direction number v vs unusable = rw unusable refl
 
-  none_left : (place : Option Place) (bytes : List ℕ) → number_there place bytes ≡ known direction number place bytes []
-  none_left None bytes = refl
-  none_left (Some p) bytes = refl
+module _ (direction : Option ℕ) (number : ℕ) (bytes : List ℕ) where
+  -- the number at a place, given the runs before it and those after them
+  abbrev said_at : List ℕ → ℕ → ℕ → List FieldView → ℕ
+  said_at front skips offset fields = number_there (place direction number skips offset fields) (front ++ runs_behind offset fields) bytes
 
--- what is said at the places that are known, which are all there, with what the values that are left say, is what all
--- values say
-pub record IsKnown (direction : Option ℕ) (e : Elements) (bytes : List ℕ) (left values : List FieldValueView) : Type 0 where
-  pub there : IsThereAt e (length bytes)
-  pub at : (number : ℕ) (range : ℕ × ℕ) → IsListed number range
-      → known direction number (place_in e number) bytes left ≡ element direction values number
+  said_behind : (fields : List FieldView) (front gap rest : List ℕ) (skips offset : ℕ) (x : List FieldValueView × List ℕ)
+      → skips ≡ length front → offset ≡ length gap → behind_values front bytes ≡ Some (gap ++ rest) → values_at fields rest ≡ Some x
+      → said_at front skips offset fields ≡ unwrap_or (element direction x.0 number) 0
+  unfolding values_at
+  said_behind [] front gap rest skips offset x skips_are offset_is behind read =
+      missing_there (front ++ runs_behind offset []) bytes
+      ∙ ap (λ (vs : List FieldValueView). unwrap_or (element direction vs number) 0) (ap (λ (y : List FieldValueView × List ℕ). y.0) (some_is ([], rest) x read))
+  said_behind (f ∷ fs) front gap rest skips offset x skips_are offset_is behind read =
+      let a = gave (value_at f rest) (λ v. option_and_then (λ vs. Some (record { field = f; value = v.0 } ∷ vs.0, vs.1)) (values_at fs v.1)) x read in
+      let b = gave (values_at fs a.0.1) (λ vs. Some (record { field = f; value = a.0.0 } ∷ vs.0, vs.1)) x a.2 in
+      let first : FieldValueView = record { field = f; value = a.0.0 } in
+      let are : first ∷ b.0.0 ≡ x.0 = ap (λ (y : List FieldValueView × List ℕ). y.0) (some_is _ _ b.2) in
+      let said = λ (vs : List FieldValueView). unwrap_or (element direction vs number) 0 in
+      elim (is_usable direction number f) as (λ b. is_usable direction number f ≡ b → said_at front skips offset (f ∷ fs) ≡ said x.0) [
+        | true ↦ λ usable.
+            let fixed : is_variable f ≡ false = has_other_length 65535 refl direction number f usable in
+            let v = fixed_value f rest a.0 fixed a.1 in
+            let there : bytes_there (record { offset = length gap; skips = length front; length = length a.0.0 }) (front ++ runs_behind offset (f ∷ fs)) bytes ≡ Some a.0.0 =
+            found_there front (runs_behind offset (f ∷ fs)) bytes gap a.0.0 a.0.1 (behind ∙ ap (λ (r : List ℕ). Some (gap ++ r)) v.1) in
+            rw usable
+            ((λ i. number_there (record { offset = offset_is i; skips = skips_are i; length = sym v.0 i }) (front ++ runs_behind offset (f ∷ fs)) bytes)
+            ∙ ap (λ (o : Option (List ℕ)). option_map_or big_endian o 0) there
+            ∙ sym (ap (λ (o : Option ℕ). unwrap_or o 0) (element-used direction number first b.0.0 usable)) ∙ ap said are)
+        | false ↦ λ unusable.
+            let passed : said b.0.0 ≡ said x.0 = sym (ap (λ (o : Option ℕ). unwrap_or o 0) (element-passed direction number first b.0.0 unusable)) ∙ ap said are in
+            rw unusable
+            (elim (is_variable f) as (λ c. is_variable f ≡ c
+            → number_there (cond c (place direction number (skips + 1) 0 fs) (place direction number skips (offset + f.length) fs))
+            (front ++ cond c (offset ∷ runs_behind 0 fs) (runs_behind (offset + f.length) fs)) bytes
+            ≡ said x.0) [
+              | true ↦ λ variable.
+                  let next : behind_values (front ++ offset ∷ []) bytes ≡ Some a.0.1 =
+                  one_more_value front offset bytes gap rest a.0 behind (sym offset_is) (sym (variable_value f rest variable) ∙ a.1) in
+                  ap (λ (runs : List ℕ). number_there (place direction number (skips + 1) 0 fs) runs bytes) (sym (append_assoc front (offset ∷ []) (runs_behind 0 fs)))
+                  ∙ said_behind fs (front ++ offset ∷ []) [] a.0.1 (skips + 1) 0 b.0
+                  (omega (arith, skips_are, length-append front (offset ∷ []))) refl next b.1
+                  ∙ passed
+              | false ↦ λ fixed.
+                  let v = fixed_value f rest a.0 fixed a.1 in
+                  said_behind fs front (gap ++ a.0.0) a.0.1 skips (offset + f.length) b.0 skips_are
+                  (omega (arith, offset_is, v.0, length-append gap a.0.0))
+                  (behind ∙ ap (λ (r : List ℕ). Some (gap ++ r)) v.1 ∙ ap (λ (r : List ℕ). Some r) (sym (append_assoc gap a.0.0 a.0.1)))
+                  b.1
+                  ∙ passed
+            ]
+            refl)
+      ]
+      refl
 
-pub known_first : (direction : Option ℕ) (e : Elements) (bytes : List ℕ) (values : List FieldValueView)
-    → e ≡ elements_at (λ number. None) → IsKnown direction e bytes values values
-known_first direction e bytes values is =
-    let none = λ (number : ℕ) (range : ℕ × ℕ) (listed : IsListed number range).
-    ap (λ (e : Elements). place_in e number) is ∙ place_in-elements_at (λ n. None) number range listed in
-    record {
-      there = λ number range listed. subst (IsThere range (length bytes)) (sym (none number range listed)) tt;
-      at = λ number range listed. ap (λ (place : Option Place). known direction number place bytes values) (none number range listed);
-    }
-
-pub known_more : (direction : Option ℕ) (e new : Elements) (f : Field) (fs : List Field) (front rest bytes : List ℕ) (at : ℕ)
-    (v : List ℕ × List ℕ) (values : List FieldValueView) → value_at f rest ≡ Some v → bytes ≡ front ++ rest → at ≡ length front
-    → new ≡ elements_at (λ number. kept (place_in e number) (given direction at f number))
-    → IsKnown direction e bytes (whole_values (f ∷ fs) rest) values → IsKnown direction new bytes (whole_values fs v.1) values
-known_more direction e new f fs front rest bytes at v values read are at_is is before =
-    let place_is : (number : ℕ) (range : ℕ × ℕ) → IsListed number range
-    → place_in new number ≡ kept (place_in e number) (given direction (length front) f number) =
-    λ number range listed.
-    ap (λ (e : Elements). place_in e number) is
-    ∙ place_in-elements_at (λ n. kept (place_in e n) (given direction at f n)) number range listed
-    ∙ ap (λ (n : ℕ). kept (place_in e number) (given direction n f number)) at_is in
-    record {
-      there = λ number range listed.
-          subst (λ (p : Option Place). IsThere range (length bytes) p) (sym (place_is number range listed))
-          (subst (λ (bs : List ℕ). IsThere range (length bs) (kept (place_in e number) (given direction (length front) f number))) (sym are)
-          (one_more_there direction number range listed f fs front rest v read (place_in e number)
-          (subst (λ (bs : List ℕ). IsThere range (length bs) (place_in e number)) are (before.there number range listed))));
-      at = λ number range listed.
-          (λ i. known direction number (place_is number range listed i) (are i) (whole_values fs v.1))
-          ∙ one_more direction number range listed f fs front rest v read (place_in e number)
-          ∙ ap (λ (bs : List ℕ). known direction number (place_in e number) bs (whole_values (f ∷ fs) rest)) (sym are)
-          ∙ before.at number range listed;
-    }
-
-pub known_last : (direction : Option ℕ) (e : Elements) (bytes : List ℕ) (left values : List FieldValueView) → left ≡ []
-    → IsKnown direction e bytes left values → (number : ℕ) → said_there e bytes number ≡ element direction values number
-known_last direction e bytes left values none known_all =
-    said_all direction e bytes values
-    (λ number range listed.
-    none_left direction number range listed (place_in e number) bytes
-    ∙ ap (λ (vs : List FieldValueView). known direction number (place_in e number) bytes vs) (sym none)
-    ∙ known_all.at number range listed)
-
--- ---- offsets that are determined once
-
-kept-none : (x : Option Place) → kept None x ≡ x
-kept-none None = refl
-kept-none (Some p) = refl
-
-kept-given : (x : Option Place) (direction : Option ℕ) (at : ℕ) (f : Field) (fs : List Field) (number : ℕ)
-    → kept (kept x (given direction at f number)) (place direction (at + f.length) fs number) ≡ kept x (place direction at (f ∷ fs) number)
-kept-given x direction at f fs number =
-    elim (is_usable direction number f) as (λ b.
-    kept (kept x (cond b (Some (place_of at f)) None)) (place direction (at + f.length) fs number)
-    ≡ kept x (cond b (Some (place_of at f)) (place direction (at + f.length) fs number))) [
-      | true ↦ kept_twice x (place_of at f) (place direction (at + f.length) fs number)
-      | false ↦ refl
-    ]
-  where
-    kept_twice : (x : Option Place) (p : Place) (more : Option Place) → kept (kept x (Some p)) more ≡ kept x (Some p)
-    kept_twice None p None = refl
-    kept_twice None p (Some q) = refl
-    kept_twice (Some x) p None = refl
-    kept_twice (Some x) p (Some q) = refl
-
--- the known offsets, together with those of more fields
-pub with_places : Option ℕ → Elements → ℕ → List Field → Elements
-with_places direction e at fields = elements_at (λ number. kept (place_in e number) (place direction at fields number))
-
-pub with_places-none : (direction : Option ℕ) (e : Elements) (fields : List Field) → e ≡ elements_at (λ number. None)
-    → with_places direction e 0 fields ≡ elements_at (place direction 0 fields)
-unfolding with_places
-with_places-none direction e fields is = rw is (simp kept-none)
-
-pub with_places-cons : (direction : Option ℕ) (e new : Elements) (at : ℕ) (f : Field) (fs : List Field)
-    → new ≡ elements_at (λ number. kept (place_in e number) (given direction at f number))
-    → with_places direction new (at + f.length) fs ≡ with_places direction e at (f ∷ fs)
-unfolding with_places
-with_places-cons direction e new at f fs is = rw is (simp kept-given)
-
-pub with_places-nil : (direction : Option ℕ) (e : Elements) (at : ℕ) → with_places direction e at [] ≡ e
-unfolding with_places
-with_places-nil direction e at = refl
-
--- of fields of fixed length, all of whose values are there, the places of those that take bytes are known
-known_all : (direction : Option ℕ) (fields : List Field) (sum : ℕ) (e : Elements) (front rest bytes : List ℕ) (values : List FieldValueView)
-    (x : List FieldValueView × List ℕ) → runs_behind sum fields ≡ [] → values_at fields rest ≡ Some x → bytes ≡ front ++ rest
-    → IsKnown direction e bytes (whole_values (filter has_bytes fields) rest) values
-    → IsKnown direction (with_places direction e (length front) (filter has_bytes fields)) bytes [] values
-unfolding values_at whole_values with_places
-known_all direction [] sum e front rest bytes values x fixed read are = λ known. known
-known_all direction (f ∷ fs) sum e front rest bytes values x fixed read are =
-    let first = fixed_first sum f fs fixed in
-    let a = gave (value_at f rest) (λ v. option_and_then (λ vs. Some (record { field = f; value = v.0 } ∷ vs.0, vs.1)) (values_at fs v.1)) x read in
-    let b = gave (values_at fs a.0.1) (λ vs. Some (record { field = f; value = a.0.0 } ∷ vs.0, vs.1)) x a.2 in
-    let was = value_was f rest a.0 first.0 a.1 in
-    let filled = filter has_bytes fs in
-    elim (f.length == 0) as (λ b. (f.length == 0) ≡ b → IsKnown direction e bytes (whole_values (cond (not b) (f ∷ filled) filled) rest) values
-    → IsKnown direction (with_places direction e (length front) (cond (not b) (f ∷ filled) filled)) bytes [] values) [
-      | true ↦ λ none.
-          let same : a.0.1 ≡ rest = ap (λ (v : List ℕ × List ℕ). v.1) was.1 ∙ ap (λ (n : ℕ). drop n rest) (eqb-true f.length 0 none) in
-          known_all direction fs (sum + f.length) e front rest bytes values b.0 first.1
-          (subst (λ (bs : List ℕ). values_at fs bs ≡ Some b.0) same b.1) are
-      | false ↦ λ _ known.
-          let value = take f.length rest in
-          let new = elements_at (λ number. kept (place_in e number) (given direction (length front) f number)) in
-          let bytes_are : bytes ≡ (front ++ value) ++ a.0.1 =
-          are ∙ ap (λ (bs : List ℕ). front ++ bs) (sym (take-append-drop f.length rest)) ∙ sym (append_assoc front value (drop f.length rest))
-          ∙ ap (λ (v : List ℕ × List ℕ). (front ++ value) ++ v.1) (sym was.1) in
-          let at_is : length (front ++ value) ≡ length front + f.length =
-          omega (arith, length-append front value, length-take-le f.length rest was.0) in
-          subst (λ (e : Elements). IsKnown direction e bytes [] values)
-          (ap (λ (n : ℕ). with_places direction new n filled) at_is ∙ with_places-cons direction e new (length front) f filled refl)
-          (known_all direction fs (sum + f.length) new (front ++ value) a.0.1 bytes values b.0 first.1 b.1 bytes_are
-          (known_more direction e new f filled front rest bytes (length front) a.0 values a.1 are refl refl known))
-    ]
-    refl
-
--- the numbers of a record with these fields and values
-module _ (direction : Option ℕ) (fields : List Field) (bytes : List ℕ) (values : List FieldValueView)
-    (same : map (λ v. v.field) values ≡ fields) (read : values_at (map (λ v. v.field) values) bytes ≡ Some (values, [])) where
-  whole : values_at fields bytes ≡ Some (values, [])
-  whole = ap (λ (fs : List Field). values_at fs bytes) (sym same) ∙ read
-
-  -- what its values say, those of its fields that take bytes say
-  pub filled_said : (filled : List Field) → filled ≡ filter has_bytes fields
-      → (number : ℕ) → element direction (whole_values filled bytes) number ≡ element direction values number
-  filled_said filled are number =
-      ap (λ (vs : List FieldValueView). element direction vs number)
-      (
-      ap (λ (fs : List Field). whole_values fs bytes) are ∙ filled_values fields bytes
-      ∙ ap values_with_bytes (whole_is fields bytes (values, []) whole)
-      )
-      ∙ element-with_bytes direction number values
-
-  -- and it is read at places that were looked for once, if no field is variable
-  module _ (e : Elements) (is : e ≡ elements_at (place direction 0 (filter has_bytes fields))) (fixed : runs_behind 0 fields ≡ []) where
-    known_there : IsKnown direction e bytes [] (whole_values (filter has_bytes fields) bytes)
-    known_there =
-        let filled = filter has_bytes fields in
-        let none = elements_at (λ number. None) in
-        subst (λ (e : Elements). IsKnown direction e bytes [] (whole_values filled bytes)) (with_places-none direction none filled refl ∙ sym is)
-        (known_all direction fields 0 none [] bytes bytes (whole_values filled bytes) (values, []) fixed whole refl
-        (known_first direction none bytes (whole_values filled bytes) refl))
-
-    pub fixed_are_there : AreThere e (length bytes)
-    fixed_are_there = are_there e (length bytes) known_there.there
-
-    pub fixed_said : (number : ℕ) → said_there e bytes number ≡ element direction values number
-    fixed_said number =
-        known_last direction e bytes [] (whole_values (filter has_bytes fields) bytes) refl known_there number
-        ∙ filled_said (filter has_bytes fields) refl number
+-- the number at the place of an element is that of the record's values
+pub said_there : (direction : Option ℕ) (number : ℕ) (fields : List FieldView) (bytes : List ℕ) (values : List FieldValueView)
+    → values_at fields bytes ≡ Some (values, [])
+    → number_there (place direction number 0 0 fields) (runs_behind 0 fields) bytes ≡ unwrap_or (element direction values number) 0
+said_there direction number fields bytes values read =
+    said_behind direction number bytes fields [] [] bytes 0 0 (values, []) refl refl refl read

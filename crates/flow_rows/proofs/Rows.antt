@@ -1,159 +1,364 @@
--- The rows of records with the same fields: whether there are any follows from the fields, or from the packets that
--- went back.
-use Rattle.std.proofs.Common.{◌≡◌, get_or, suc, ◌∙◌, ℕ, ◌+◌, All, Bool, true, false, not, cond, List, [], ◌∷◌, ◌++◌, length, map, Option, Some, None, is_some, refl, sym, ap, arith}
-use Rattle.std.specs.Prelude.{◌&&◌, ◌||◌, ◌==◌, count_by, filter, option_and_then}
+-- The rows at the places of a layout are those of the record's values.
+use Rattle.std.proofs.Common.{◌≡◌, get_or, suc, ◌∙◌, ℕ, ◌+◌, ◌≤◌, ◌*◌, All, Bool, true, false, cond, List, [], ◌∷◌, ◌++◌, length, map, Option, Some, None, is_some, refl, sym, ap, subst, arith}
+use Rattle.std.specs.Prelude.{◌&&◌, ◌||◌, ◌==◌, count_by, option_and_then, option_map, unwrap_or}
 use Rattle.std.specs.List.{flat_map}
 use Rattle.std.specs.Option.{option_or, option_to_list}
+use Rattle.std.proofs.lemmas.Bool.{and_parts, true≢false}
 use Rattle.std.proofs.lemmas.List.{length-append}
 use Rattle.std.proofs.lemmas.List.Elements.{All-head, All-tail}
 use Rattle.std.proofs.lemmas.List.Sums.{sum_by-cons}
 use Rattle.prefix_keys.specs.declared.version.Version.{Version}
 use Rattle.prefix_keys.specs.declared.version.Version.TheVariants.{V4, V6}
-use Rattle.ipfix_templates.specs.Field.{has_bytes}
+use Rattle.ipfix_templates.proofs.Choice.{some_is}
+use Rattle.ipfix_templates.specs.Elements.{back, forward}
+use Rattle.ipfix_templates.specs.Field.{FieldView}
+use Rattle.ipfix_templates.specs.declared.layout.Place.{Place}
+use Rattle.ipfix_templates.specs.declared.layout.Places.{Places}
+use Rattle.ipfix_templates.specs.declared.layout.RowLayout.{RowLayout}
+use Rattle.ipfix_templates.specs.Layout.{first_places, is_there, layout_of, place, place_or, places_between, second_places}
+use Rattle.ipfix_templates.specs.Runs.{runs_behind}
 use Rattle.ipfix_templates.specs.Template.{same_kind}
-use Rattle.ipfix_templates.specs.declared.field.Field.{Field}
 use Rattle.ipfix_templates.specs.declared.kind.Kind.{Kind}
 use Rattle.ipfix_templates.specs.declared.kind.Kind.TheVariants.{Flow, Options}
-use Rattle.ipfix_read.specs.Value.{FieldValueView}
+use Rattle.ipfix_read.specs.Value.{FieldValueView, values_at}
 use Rattle.ipfix_read.specs.declared.record.Record.{Record}
 use Rattle.flow_rows.specs.Counts.{is_of_kind}
-use Rattle.flow_rows.specs.Elements.{back, element, forward, is_usable, first_row, first_row_of, packets_of, row_back, row_between, row_of_elements, rows_of_record, second_row, RowView}
-use Rattle.flow_rows.specs.Inner.{elements_at, place, Elements}
-use Rattle.flow_rows.proofs.Usable.{has_bytes_usable}
+use Rattle.flow_rows.specs.Elements.{RowView, element, first_row, first_row_of, packets_of, row_back, row_between, row_of_elements, rows_of_record, second_row}
+use Rattle.flow_rows.specs.Inner.{AreUsable, number_there, row_at, version_of}
+use Rattle.flow_rows.proofs.Reading.{said_there}
+use Rattle.flow_rows.proofs.Usable.{IsListed, fields_of, length-place, there-place}
 
 -- the row of a flow record is that of its values
-pub first_row_of-flow : (kind : Kind) (values : List FieldValueView) → (kind ≡ Options → ⊥)
+first_row_of-flow : (kind : Kind) (values : List FieldValueView) → (kind ≡ Options → ⊥)
     → first_row_of kind values ≡ row_of_elements (element forward values)
 first_row_of-flow Flow values h = refl
 first_row_of-flow Options values h = absurd (h refl)
 
-abbrev fields_of : List FieldValueView → List Field
-fields_of values = map (λ v. v.field) values
+-- one of two numbers
+either : (num : Place → ℕ) (p q : Place) (said : Option ℕ) → num p ≡ unwrap_or said 0 → is_there p ≡ is_some said
+    → num (place_or p q) ≡ unwrap_or said (num q)
+either num p q None is there = rw there refl
+either num p q (Some x) is there = rw there is
 
--- ---- whether an element exists follows from the fields that take bytes
+both_missing : (a b : Option ℕ) → unwrap_or a (unwrap_or b 0) ≡ unwrap_or (option_or a b) 0
+both_missing None b = refl
+both_missing (Some x) b = refl
 
-placed_behind : (direction : Option ℕ) (number at : ℕ) (f : Field) (b x : Bool) (fs : List Field) → is_usable direction number f ≡ false
-    → ((n : ℕ) → is_some (place direction n fs number) ≡ x) → is_some (place direction at (cond b (f ∷ fs) fs) number) ≡ x
-placed_behind direction number at f true x fs unusable later = rw unusable (later (at + f.length))
-placed_behind direction number at f false x fs unusable later = later at
+abbrev layout_with : (ℕ → Place) → Places → RowLayout
+layout_with at first = record { first = first; second = second_places first at }
 
-placed-said : (direction : Option ℕ) (number at : ℕ) (values : List FieldValueView)
-    → is_some (place direction at (filter has_bytes (fields_of values)) number) ≡ is_some (element direction values number)
-placed-said direction number at [] = refl
-placed-said direction number at (v ∷ vs) =
-    elim (is_usable direction number v.field) as (λ b. is_usable direction number v.field ≡ b
-    → is_some (place direction at (filter has_bytes (fields_of (v ∷ vs))) number) ≡ is_some (element direction (v ∷ vs) number)) [
-      | true ↦ λ usable. rw (has_bytes_usable direction number v.field usable, usable) refl
-      | false ↦ λ unusable.
-          let passed : is_some (element direction vs number) ≡ is_some (element direction (v ∷ vs) number) = rw unusable refl in
-          placed_behind direction number at v.field (has_bytes v.field) (is_some (element direction vs number)) (filter has_bytes (fields_of vs)) unusable
-          (λ n. placed-said direction number n vs)
-          ∙ passed
+-- places at which numbers are read that are said of elements
+module _ (num : Place → ℕ) where
+  -- the place is that of a number which may be missing
+  abbrev IsOf : Place → Option ℕ → Type 0
+  IsOf p said = (num p ≡ unwrap_or said 0) × (is_there p ≡ is_some said)
+
+  either_of : (p q : Place) (a b : Option ℕ) → IsOf p a → IsOf q b → num (place_or p q) ≡ unwrap_or (option_or a b) 0
+  either_of p q a b of_p of_q = either num p q a of_p.0 of_p.1 ∙ ap (unwrap_or a) of_q.0 ∙ both_missing a b
+
+  module _ (at : ℕ → Place) (said : ℕ → Option ℕ) (of : (number : ℕ) → IsOf (at number) (said number)) where
+    between_is : (is_v4 : Bool) (src dst : Place) (a b : Option ℕ) → IsOf src a → IsOf dst b
+        → option_map (λ places. row_at places num) (cond (is_there src && is_there dst) (Some (places_between is_v4 src dst at)) None)
+        ≡ row_between (version_of is_v4) a b said
+    between_is is_v4 src dst None b of_src of_dst = rw (of_src.1) refl
+    between_is is_v4 src dst (Some x) None of_src of_dst = rw (of_src.1, of_dst.1) refl
+    between_is is_v4 src dst (Some x) (Some y) of_src of_dst =
+        rw (of_src.1, of_dst.1)
+        (λ i. Some (record {
+          version = version_of is_v4;
+          src = of_src.0 i;
+          dst = of_dst.0 i;
+          sport = (of 7).0 i;
+          dport = (of 11).0 i;
+          protocol = (of 4).0 i;
+          flags = (of 6).0 i;
+          packets = either_of (at 2) (at 86) (said 2) (said 86) (of 2) (of 86) i;
+          octets = either_of (at 1) (at 85) (said 1) (said 85) (of 1) (of 85) i;
+          start_ms = (of 152).0 i;
+          end_ms = (of 153).0 i;
+        }))
+
+    one_or_other : (c : Bool) (x : Places) (more : Option Places)
+        → option_map (λ places. row_at places num) (cond c (Some x) more)
+        ≡ option_or (option_map (λ places. row_at places num) (cond c (Some x) None)) (option_map (λ places. row_at places num) more)
+    one_or_other true x more = refl
+    one_or_other false x more = refl
+
+    first_is : option_map (λ places. row_at places num) (first_places at) ≡ row_of_elements said
+    first_is =
+        one_or_other (is_there (at 8) && is_there (at 12)) (places_between true (at 8) (at 12) at)
+        (cond (is_there (at 27) && is_there (at 28)) (Some (places_between false (at 27) (at 28) at)) None)
+        ∙ (λ i.
+        option_or (between_is true (at 8) (at 12) (said 8) (said 12) (of 8) (of 12) i)
+        (between_is false (at 27) (at 28) (said 27) (said 28) (of 27) (of 28) i))
+
+    -- the second row of places, if there are packets
+    abbrev second_at : Places → Option RowView
+    second_at places = cond (num places.packets == 0) None (Some (row_at places num))
+
+    back_is : (first : Places) → second_at (second_places first at) ≡ row_back said (row_at first num)
+    back_is first =
+        let packets = either_of (at 2) (at 86) (said 2) (said 86) (of 2) (of 86) in
+        λ i. cond (packets i == 0) None (Some (record {
+          version = version_of first.is_v4;
+          src = num first.dst;
+          dst = num first.src;
+          sport = num first.dport;
+          dport = num first.sport;
+          protocol = num first.protocol;
+          flags = (of 6).0 i;
+          packets = packets i;
+          octets = either_of (at 1) (at 85) (said 1) (said 85) (of 1) (of 85) i;
+          start_ms = either num (at 152) first.start_ms (said 152) (of 152).0 (of 152).1 i;
+          end_ms = either num (at 153) first.end_ms (said 153) (of 153).0 (of 153).1 i;
+        }))
+
+-- a record with these values and bytes
+module _ (values : List FieldValueView) (bytes : List ℕ) (read : values_at (fields_of values) bytes ≡ Some (values, [])) where
+  abbrev num : Place → ℕ
+  num p = number_there p (runs_behind 0 (fields_of values)) bytes
+
+  abbrev at : Option ℕ → ℕ → Place
+  at direction number = place direction number 0 0 (fields_of values)
+
+  of : (direction : Option ℕ) (number : ℕ)
+      → (num (at direction number) ≡ unwrap_or (element direction values number) 0)
+      × (is_there (at direction number) ≡ is_some (element direction values number))
+  of direction number = (said_there direction number (fields_of values) bytes values read, there-place direction number 0 0 values)
+
+  first_there : option_map (λ places. row_at places num) (first_places (at forward)) ≡ row_of_elements (element forward values)
+  first_there = first_is num (at forward) (element forward values) (of forward)
+
+  then_back : (first : Option Places) (row : Option RowView) → option_map (λ places. row_at places num) first ≡ row
+      → option_and_then (λ (l : RowLayout). cond (num l.second.packets == 0) None (Some (row_at l.second num)))
+      (option_map (layout_with (at back)) first)
+      ≡ option_and_then (row_back (element back values)) row
+  then_back None row is = ap (option_and_then (row_back (element back values))) is
+  then_back (Some first) row is =
+      back_is num (at back) (element back values) (of back) first ∙ ap (option_and_then (row_back (element back values))) is
+
+  to_first : (first : Option Places) → option_map (λ (l : RowLayout). row_at l.first num) (option_map (layout_with (at back)) first)
+      ≡ option_map (λ places. row_at places num) first
+  to_first None = refl
+  to_first (Some first) = refl
+
+  module _ (kind : Kind) (is_flow : kind ≡ Options → ⊥) where
+    pub no_rows : layout_of (fields_of values) ≡ None → (None ≡ first_row_of kind values) × (None ≡ option_and_then (row_back (element back values)) (first_row_of kind values))
+    unfolding layout_of
+    no_rows none =
+        let first : None ≡ first_row_of kind values =
+        ap (option_map (λ (l : RowLayout). row_at l.first num)) (sym none) ∙ to_first (first_places (at forward)) ∙ first_there ∙ sym (first_row_of-flow kind values is_flow) in
+        (first, ap (option_and_then (row_back (element back values))) first)
+
+    pub first_found : (l : RowLayout) → layout_of (fields_of values) ≡ Some l → Some (row_at l.first num) ≡ first_row_of kind values
+    unfolding layout_of
+    first_found l found =
+        ap (option_map (λ (l : RowLayout). row_at l.first num)) (sym found) ∙ to_first (first_places (at forward)) ∙ first_there ∙ sym (first_row_of-flow kind values is_flow)
+
+    pub second_found : (l : RowLayout) → layout_of (fields_of values) ≡ Some l
+        → cond (num l.second.packets == 0) None (Some (row_at l.second num)) ≡ option_and_then (row_back (element back values)) (first_row_of kind values)
+    unfolding layout_of
+    second_found l found =
+        ap (option_and_then (λ (l : RowLayout). cond (num l.second.packets == 0) None (Some (row_at l.second num)))) (sym found)
+        ∙ then_back (first_places (at forward)) (row_of_elements (element forward values)) first_there
+        ∙ ap (option_and_then (row_back (element back values))) (sym (first_row_of-flow kind values is_flow))
+
+-- ---- the lengths at places
+
+shorter_of : (p q : Place) (most : ℕ) → p.length ≤ most → q.length ≤ most → (place_or p q).length ≤ most
+shorter_of p q most short also =
+    elim (is_there p) as (λ b. (cond b p q).length ≤ most) [
+      | true ↦ short
+      | false ↦ also
     ]
-    refl
 
--- ---- first rows
+module _ (fields : List FieldView) where
+  abbrev place_at : Option ℕ → ℕ → Place
+  place_at direction number = place direction number 0 0 fields
 
-is_some-between : (version : Version) (a b : Option ℕ) (said : ℕ → Option ℕ)
-    → is_some (row_between version a b said) ≡ (is_some a && is_some b)
-is_some-between version None b said = refl
-is_some-between version (Some a) None said = refl
-is_some-between version (Some a) (Some b) said = refl
+  -- the length of a number that there is, and of any
+  is_long : (direction : Option ℕ) (number size : ℕ) → ((place_at direction number).length ≤ size) × (is_there (place_at direction number) ≡ true → size ≤ (place_at direction number).length)
+      → is_there (place_at direction number) ≡ true → (place_at direction number).length ≡ size
+  is_long direction number size within there = omega (arith, within.0, within.1 there)
 
-is_some-or : (x y : Option RowView) → is_some (option_or x y) ≡ (is_some x || is_some y)
-is_some-or None y = refl
-is_some-or (Some x) y = refl
+  most : (direction : Option ℕ) (number : ℕ) (range : ℕ × ℕ) → IsListed number range → (place_at direction number).length ≤ range.1
+  most direction number range listed = (length-place direction number 0 0 range fields listed).0
 
-is_some-row : (said : ℕ → Option ℕ)
-    → is_some (row_of_elements said) ≡ ((is_some (said 8) && is_some (said 12)) || (is_some (said 27) && is_some (said 28)))
-is_some-row said =
-    is_some-or (row_between V4 (said 8) (said 12) said) (row_between V6 (said 27) (said 28) said)
-    ∙ (λ i. is_some-between V4 (said 8) (said 12) said i || is_some-between V6 (said 27) (said 28) said i)
+  usable_between : (is_v4 : Bool) (src dst : Place) → src.length ≡ cond is_v4 4 16 → dst.length ≡ cond is_v4 4 16
+      → AreUsable (places_between is_v4 src dst (place_at forward))
+  usable_between is_v4 src dst of_src of_dst = record {
+    src = of_src;
+    dst = of_dst;
+    sport = most forward 7 (1, 2) refl;
+    dport = most forward 11 (1, 2) refl;
+    protocol = most forward 4 (1, 1) refl;
+    flags = most forward 6 (1, 2) refl;
+    packets = shorter_of (place_at forward 2) (place_at forward 86) 8 (most forward 2 (1, 8) refl) (most forward 86 (1, 8) refl);
+    octets = shorter_of (place_at forward 1) (place_at forward 85) 8 (most forward 1 (1, 8) refl) (most forward 85 (1, 8) refl);
+    start_ms = most forward 152 (8, 8) refl;
+    end_ms = most forward 153 (8, 8) refl;
+  }
 
-abbrev pub have_addresses : Elements → Bool
-have_addresses e = (is_some e.src_v4 && is_some e.dst_v4) || (is_some e.src_v6 && is_some e.dst_v6)
+  usable_second : (first : Places) → AreUsable first → AreUsable (second_places first (place_at back))
+  usable_second first usable = record {
+    src = usable.dst;
+    dst = usable.src;
+    sport = usable.dport;
+    dport = usable.sport;
+    protocol = usable.protocol;
+    flags = most back 6 (1, 2) refl;
+    packets = shorter_of (place_at back 2) (place_at back 86) 8 (most back 2 (1, 8) refl) (most back 86 (1, 8) refl);
+    octets = shorter_of (place_at back 1) (place_at back 85) 8 (most back 1 (1, 8) refl) (most back 85 (1, 8) refl);
+    start_ms = shorter_of (place_at back 152) first.start_ms 8 (most back 152 (8, 8) refl) usable.start_ms;
+    end_ms = shorter_of (place_at back 153) first.end_ms 8 (most back 153 (8, 8) refl) usable.end_ms;
+  }
 
-first_row_of-has : (kind : Kind) (values : List FieldValueView)
-    → is_some (first_row_of kind values)
-    ≡ (same_kind kind Flow && have_addresses (elements_at (place forward 0 (filter has_bytes (fields_of values)))))
-first_row_of-has Flow values =
-    is_some-row (element forward values)
-    ∙ (λ i.
-    (sym (placed-said forward 8 0 values) i && sym (placed-said forward 12 0 values) i)
-    || (sym (placed-said forward 27 0 values) i && sym (placed-said forward 28 0 values) i))
-first_row_of-has Options values = refl
+  of_first : (first : Places) → first_places (place_at forward) ≡ Some first → AreUsable first
+  of_first first found =
+      let at = place_at forward in
+      elim (is_there (at 8) && is_there (at 12)) as (λ b. (is_there (at 8) && is_there (at 12)) ≡ b
+      → cond b (Some (places_between true (at 8) (at 12) at))
+      (cond (is_there (at 27) && is_there (at 28)) (Some (places_between false (at 27) (at 28) at)) None) ≡ Some first
+      → AreUsable first) [
+        | true ↦ λ both is.
+            let parts = and_parts (is_there (at 8)) (is_there (at 12)) both in
+            subst AreUsable (some_is _ _ is)
+            (usable_between true (at 8) (at 12) (is_long forward 8 4 (length-place forward 8 0 0 (4, 4) fields refl) parts.0)
+            (is_long forward 12 4 (length-place forward 12 0 0 (4, 4) fields refl) parts.1))
+        | false ↦ λ _.
+            elim (is_there (at 27) && is_there (at 28)) as (λ b. (is_there (at 27) && is_there (at 28)) ≡ b
+            → cond b (Some (places_between false (at 27) (at 28) at)) None ≡ Some first → AreUsable first) [
+              | true ↦ λ both is.
+                  let parts = and_parts (is_there (at 27)) (is_there (at 28)) both in
+                  subst AreUsable (some_is _ _ is)
+                  (usable_between false (at 27) (at 28) (is_long forward 27 16 (length-place forward 27 0 0 (16, 16) fields refl) parts.0)
+                  (is_long forward 28 16 (length-place forward 28 0 0 (16, 16) fields refl) parts.1))
+              | false ↦ λ _ is. absurd (cc)
+            ]
+            refl
+      ]
+      refl found
 
--- ---- second rows
+  then_usable : (first : Option Places) → ((p : Places) → first ≡ Some p → AreUsable p) → (l : RowLayout)
+      → option_map (layout_with (place_at back)) first ≡ Some l
+      → AreUsable l.first × AreUsable l.second
+  then_usable None each l is = absurd (cc)
+  then_usable (Some first) each l is =
+      let usable = each first refl in
+      subst (λ (l : RowLayout). AreUsable l.first × AreUsable l.second) (some_is _ _ is) (usable, usable_second first usable)
 
--- whether there are packets in the reverse direction
-abbrev pub went_back : Record → Bool
-went_back r = not (packets_of (element back r.fields) == 0)
+  pub layout_usable : (l : RowLayout) → layout_of fields ≡ Some l → AreUsable l.first × AreUsable l.second
+  unfolding layout_of
+  layout_usable l found = then_usable (first_places (place_at forward)) of_first l found
 
-absent : {X : Type 0} (o : Option X) → is_some o ≡ false → o ≡ None
-absent None e = refl
-absent (Some x) e = cc
+-- ---- in terms of a record's fields, as they are kept
 
--- if no field counts packets in the reverse direction, there are none
-pub none_back : (e : Elements) (fields : List Field) (values : List FieldValueView) → fields_of values ≡ fields
-    → e ≡ elements_at (place back 0 (filter has_bytes fields)) → is_some e.packets ≡ false → is_some e.total_packets ≡ false
-    → packets_of (element back values) ≡ 0
-none_back e fields values same is none no_total =
-    let placed : elements_at (place back 0 (filter has_bytes (fields_of values))) ≡ e =
-    ap (λ (fs : List Field). elements_at (place back 0 (filter has_bytes fs))) same ∙ sym is in
-    let packets : element back values 2 ≡ None =
-    absent (element back values 2) (sym (placed-said back 2 0 values) ∙ ap (λ (e : Elements). is_some e.packets) placed ∙ none) in
-    let total_packets : element back values 86 ≡ None =
-    absent (element back values 86) (sym (placed-said back 86 0 values) ∙ ap (λ (e : Elements). is_some e.total_packets) placed ∙ no_total) in
-    rw (packets, total_packets) refl
+module _ (kind : Kind) (is_flow : kind ≡ Options → ⊥) (values : List FieldValueView) (fields : List FieldView) (runs bytes : List ℕ)
+    (same : fields ≡ fields_of values) (runs_are : runs ≡ runs_behind 0 fields)
+    (read : values_at (fields_of values) bytes ≡ Some (values, [])) where
+  abbrev said : Place → ℕ
+  said p = number_there p runs bytes
 
-no_row_back : (said : ℕ → Option ℕ) (first : Option RowView) → packets_of said ≡ 0 → option_and_then (row_back said) first ≡ None
-no_row_back said None none = refl
-no_row_back said (Some row) none = rw none refl
+  runs_of : runs ≡ runs_behind 0 (fields_of values)
+  runs_of = runs_are ∙ ap (runs_behind 0) same
 
-pub no_second_row : (r : Record) → packets_of (element back r.fields) ≡ 0 → second_row r ≡ None
-no_second_row r none = no_row_back (element back r.fields) (first_row r) none
+  pub row_missing : None ≡ layout_of fields → (None ≡ first_row_of kind values) × (None ≡ option_and_then (row_back (element back values)) (first_row_of kind values))
+  row_missing none = no_rows values bytes read kind is_flow (ap layout_of (sym same) ∙ sym none)
+
+  pub row_found : (l : RowLayout) → Some l ≡ layout_of fields → Some (row_at l.first said) ≡ first_row_of kind values
+  row_found l found =
+      ap (λ (rs : List ℕ). Some (row_at l.first (λ p. number_there p rs bytes))) runs_of
+      ∙ first_found values bytes read kind is_flow l (ap layout_of (sym same) ∙ sym found)
+
+  pub reverse_found : (l : RowLayout) → Some l ≡ layout_of fields
+      → cond (said l.second.packets == 0) None (Some (row_at l.second said)) ≡ option_and_then (row_back (element back values)) (first_row_of kind values)
+  reverse_found l found =
+      ap (λ (rs : List ℕ). cond (number_there l.second.packets rs bytes == 0) None (Some (row_at l.second (λ p. number_there p rs bytes)))) runs_of
+      ∙ second_found values bytes read kind is_flow l (ap layout_of (sym same) ∙ sym found)
 
 -- ---- the number of rows
 
-length_chosen : (b : Bool) (row : RowView) → length (option_to_list (cond b None (Some row))) ≡ cond (not b) 1 0
-length_chosen true row = refl
-length_chosen false row = refl
+-- a layout says whether there are first rows, and whether there may be second ones
+first_row-there : (first : Option Places) (kind : Kind) (values : List FieldValueView)
+    → first ≡ first_places (λ number. place forward number 0 0 (fields_of values))
+    → is_some (first_row_of kind values) ≡ (same_kind kind Flow && is_some first)
+first_row-there first Options values is = refl
+first_row-there first Flow values is =
+    let at = λ (number : ℕ). place forward number 0 0 (fields_of values) in
+    is_some-row (element forward values)
+    ∙ (λ i.
+    (sym (there-place forward 8 0 0 values) i && sym (there-place forward 12 0 0 values) i)
+    || (sym (there-place forward 27 0 0 values) i && sym (there-place forward 28 0 0 values) i))
+    ∙ sym (is_some-places (is_there (at 8) && is_there (at 12)) (is_there (at 27) && is_there (at 28)) (places_between true (at 8) (at 12) at) (places_between false (at 27) (at 28) at))
+    ∙ ap is_some (sym is)
+  where
+    is_some-places : (a b : Bool) (p q : Places) → is_some (cond a (Some p) (cond b (Some q) None)) ≡ (a || b)
+    is_some-places true b p q = refl
+    is_some-places false true p q = refl
+    is_some-places false false p q = refl
 
-rows_with_first : (first : Option RowView) (said : ℕ → Option ℕ) → is_some first ≡ true
-    → length (option_to_list first ++ option_to_list (option_and_then (row_back said) first)) ≡ suc (cond (not (packets_of said == 0)) 1 0)
-rows_with_first None said has = cc
-rows_with_first (Some row) said has = ap suc (length_chosen (packets_of said == 0) _)
+    is_some-between : (version : Version) (a b : Option ℕ) (said : ℕ → Option ℕ)
+        → is_some (row_between version a b said) ≡ (is_some a && is_some b)
+    is_some-between version None b said = refl
+    is_some-between version (Some a) None said = refl
+    is_some-between version (Some a) (Some b) said = refl
 
-rows_without_first : (first : Option RowView) (said : ℕ → Option ℕ) → is_some first ≡ false
-    → length (option_to_list first ++ option_to_list (option_and_then (row_back said) first)) ≡ 0
-rows_without_first None said none = refl
-rows_without_first (Some row) said none = cc
+    is_some-or : (x y : Option RowView) → is_some (option_or x y) ≡ (is_some x || is_some y)
+    is_some-or None y = refl
+    is_some-or (Some x) y = refl
 
-one_more_record : (r : Record) (records : List Record)
-    → length (flat_map rows_of_record (r ∷ records)) ≡ length (rows_of_record r) + length (flat_map rows_of_record records)
-one_more_record r records = length-append (rows_of_record r) (flat_map rows_of_record records)
+    is_some-row : (said : ℕ → Option ℕ)
+        → is_some (row_of_elements said) ≡ ((is_some (said 8) && is_some (said 12)) || (is_some (said 27) && is_some (said 28)))
+    is_some-row said =
+        is_some-or (row_between V4 (said 8) (said 12) said) (row_between V6 (said 27) (said 28) said)
+        ∙ (λ i. is_some-between V4 (said 8) (said 12) said i || is_some-between V6 (said 27) (said 28) said i)
 
-pub rows_counted : (records : List Record) → All (λ r. is_some (first_row r) ≡ true) records
-    → length (flat_map rows_of_record records) ≡ length records + count_by went_back records
+absent : {X : Type 0} (o : Option X) → is_some o ≡ false → o ≡ None
+absent None is = refl
+absent (Some x) is = absurd (cc)
+
+-- without a place for the packets of the reverse direction there is no second row
+neither_there : (p q : Place) → is_there (place_or p q) ≡ false → (is_there p ≡ false) × (is_there q ≡ false)
+neither_there p q none =
+    elim (is_there p) as (λ b. is_there p ≡ b → is_there (cond b p q) ≡ false → (b ≡ false) × (is_there q ≡ false)) [
+      | true ↦ λ there none. absurd (true≢false (sym there ∙ none))
+      | false ↦ λ _ none. (refl, none)
+    ]
+    refl none
+
+no_second : (r : Record) → is_there (place_or (place back 2 0 0 (fields_of r.fields)) (place back 86 0 0 (fields_of r.fields))) ≡ false
+    → is_some (second_row r) ≡ false
+no_second r none =
+    let both = neither_there (place back 2 0 0 (fields_of r.fields)) (place back 86 0 0 (fields_of r.fields)) none in
+    let packets : element back r.fields 2 ≡ None = absent (element back r.fields 2) (sym (there-place back 2 0 0 r.fields) ∙ both.0) in
+    let total : element back r.fields 86 ≡ None = absent (element back r.fields 86) (sym (there-place back 86 0 0 r.fields) ∙ both.1) in
+    without (first_row r) (rw (packets, total) refl)
+  where
+    without : (first : Option RowView) → packets_of (element back r.fields) ≡ 0 → is_some (option_and_then (row_back (element back r.fields)) first) ≡ false
+    without None none = refl
+    without (Some row) none = rw none refl
+
+rows_counted : (records : List Record) → All (λ r. is_some (first_row r) ≡ true) records
+    → length (flat_map rows_of_record records) ≡ length records + count_by (λ r. is_some (second_row r)) records
 rows_counted [] all = refl
 rows_counted (r ∷ records) all =
     omega (
       arith,
-      one_more_record r records,
-      rows_with_first (first_row r) (element back r.fields) (All-head (λ (r : Record). is_some (first_row r) ≡ true) r records all),
+      length-append (rows_of_record r) (flat_map rows_of_record records),
+      length-append (option_to_list (first_row r)) (option_to_list (second_row r)),
+      one_there (first_row r) (All-head (λ (r : Record). is_some (first_row r) ≡ true) r records all),
+      one_or_none (second_row r),
       rows_counted records (All-tail (λ (r : Record). is_some (first_row r) ≡ true) r records all),
-      sum_by-cons (λ r. cond (went_back r) 1 0) r records,
+      sum_by-cons (λ r. cond (is_some (second_row r)) 1 0) r records,
     )
+  where
+    one_or_none : (o : Option RowView) → length (option_to_list o) ≡ cond (is_some o) 1 0
+    one_or_none None = refl
+    one_or_none (Some row) = refl
 
-pub rows_none : (records : List Record) → All (λ r. is_some (first_row r) ≡ false) records → length (flat_map rows_of_record records) ≡ 0
-rows_none [] all = refl
-rows_none (r ∷ records) all =
-    omega (
-      arith,
-      one_more_record r records,
-      rows_without_first (first_row r) (element back r.fields) (All-head (λ (r : Record). is_some (first_row r) ≡ false) r records all),
-      rows_none records (All-tail (λ (r : Record). is_some (first_row r) ≡ false) r records all),
-    )
+    one_there : (o : Option RowView) → is_some o ≡ true → length (option_to_list o) ≡ 1
+    one_there None is = absurd (cc)
+    one_there (Some row) is = refl
 
 -- if one test decides for all, either all or none pass
 together : (c : Bool) (n : ℕ) → cond c 1 0 + cond c n 0 ≡ cond c (suc n) 0
@@ -173,17 +378,69 @@ pub of_kind_counted : (kind : Kind) (records : List Record) (of : Kind) → All 
 of_kind_counted kind records of all =
     count_alike (is_of_kind kind) (same_kind of kind) records (λ k d within. ap (λ (x : Kind). same_kind x kind) (all k d within))
 
--- facts in terms of a plan for records with these fields
-module _ (fields : List Field) (records : List Record) (of_fields : All (λ r. fields_of r.fields ≡ fields) records) where
-  pub first_rows : (kind : Kind) (e : Elements) → All (λ r. r.kind ≡ kind) records → e ≡ elements_at (place forward 0 (filter has_bytes fields))
-      → All (λ r. is_some (first_row r) ≡ (same_kind kind Flow && have_addresses e)) records
-  first_rows kind e of_kind is = λ k d within.
-      let r = get_or records k d in
-      first_row_of-has r.kind r.fields
-      ∙ (λ i. same_kind (of_kind k d within i) Flow
-      && have_addresses (elements_at (place forward 0 (filter has_bytes (of_fields k d within i)))))
-      ∙ ap (λ (e : Elements). same_kind kind Flow && have_addresses e) (sym is)
+rows_none : (records : List Record) → All (λ r. is_some (first_row r) ≡ false) records → length (flat_map rows_of_record records) ≡ 0
+rows_none [] all = refl
+rows_none (r ∷ records) all =
+    omega (
+      arith,
+      length-append (rows_of_record r) (flat_map rows_of_record records),
+      no_rows_of (first_row r) (All-head (λ (r : Record). is_some (first_row r) ≡ false) r records all),
+      rows_none records (All-tail (λ (r : Record). is_some (first_row r) ≡ false) r records all),
+    )
+  where
+    no_rows_of : (first : Option RowView) → is_some first ≡ false
+        → length (option_to_list first ++ option_to_list (option_and_then (row_back (element back r.fields)) first)) ≡ 0
+    no_rows_of None is = refl
+    no_rows_of (Some row) is = absurd (cc)
 
-  pub none_went_back : ((r : Record) → fields_of r.fields ≡ fields → packets_of (element back r.fields) ≡ 0) → count_by went_back records ≡ 0
-  none_went_back none =
-      count_alike went_back false records (λ k d within. rw (none (get_or records k d) (of_fields k d within)) refl)
+-- records of a kind with these fields
+module _ (fields : List FieldView) (records : List Record) (kind : Kind) (of_kind : All (λ r. r.kind ≡ kind) records)
+    (of_fields : All (λ r. fields_of r.fields ≡ fields) records) where
+  abbrev first : Option Places
+  first = first_places (λ number. place forward number 0 0 fields)
+
+  first_rows : All (λ r. is_some (first_row r) ≡ (same_kind kind Flow && is_some first)) records
+  first_rows = λ k d within.
+      let r = get_or records k d in
+      first_row-there (first_places (λ number. place forward number 0 0 (fields_of r.fields))) r.kind r.fields refl
+      ∙ (λ i. same_kind (of_kind k d within i) Flow && is_some (first_places (λ number. place forward number 0 0 (of_fields k d within i))))
+
+  layout_first : (first : Option Places) (at : ℕ → Place) → is_some (option_map (layout_with at) first) ≡ is_some first
+  layout_first None at = refl
+  layout_first (Some first) at = refl
+
+  is_laid_out : is_some (layout_of fields) ≡ is_some first
+  unfolding layout_of
+  is_laid_out = layout_first first (λ number. place back number 0 0 fields)
+
+  pub no_layout : None ≡ layout_of fields → length (flat_map rows_of_record records) ≡ 0
+  no_layout none =
+      rows_none records
+      (λ k d within. first_rows k d within ∙ ap (λ (b : Bool). same_kind kind Flow && b) (sym is_laid_out ∙ ap is_some (sym none)) ∙ never (same_kind kind Flow))
+    where
+      never : (b : Bool) → (b && false) ≡ false
+      never true = refl
+      never false = refl
+
+  pub no_flows : same_kind kind Flow ≡ false → length (flat_map rows_of_record records) ≡ 0
+  no_flows other = rows_none records (λ k d within. first_rows k d within ∙ ap (λ (b : Bool). b && is_some first) other)
+
+  pub all_rows : (l : RowLayout) → Some l ≡ layout_of fields → same_kind kind Flow ≡ true
+      → length (flat_map rows_of_record records) ≡ length records + count_by (λ r. is_some (second_row r)) records
+  all_rows l found is_flow =
+      rows_counted records
+      (λ k d within. first_rows k d within ∙ (λ i. is_flow i && (sym is_laid_out ∙ ap is_some (sym found)) i))
+
+  second_place : (first : Option Places) (at : ℕ → Place) (l : RowLayout) → option_map (layout_with at) first ≡ Some l → l.second.packets ≡ place_or (at 2) (at 86)
+  second_place None at l is = absurd (cc)
+  second_place (Some first) at l is = ap (λ (l : RowLayout). l.second.packets) (sym (some_is _ _ is))
+
+  pub none_back : (l : RowLayout) → Some l ≡ layout_of fields → is_there l.second.packets ≡ false → count_by (λ r. is_some (second_row r)) records ≡ 0
+  unfolding layout_of
+  none_back l found none =
+      count_alike (λ r. is_some (second_row r)) false records
+      (λ k d within.
+      let r = get_or records k d in
+      no_second r
+      (ap (λ (fs : List FieldView). is_there (place_or (place back 2 0 0 fs) (place back 86 0 0 fs))) (of_fields k d within)
+      ∙ ap is_there (sym (second_place first (λ number. place back number 0 0 fields) l (sym found))) ∙ none))

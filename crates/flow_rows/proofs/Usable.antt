@@ -1,27 +1,26 @@
--- Fields that are usable for an element: their lengths, and the element's number in the values.
-use Rattle.std.proofs.Common.{arith, ◌≡◌, ◌∙◌, ℕ, ◌≤◌, Bool, true, false, not, cond, List, [], ◌∷◌, Option, Some, None, refl, sym, ap}
-use Rattle.std.specs.Prelude.{◌&&◌, ◌==◌, nat_eq, nat_le, option_map}
+-- Fields that are usable for an element, and their lengths.
+use Rattle.std.proofs.Common.{arith, ◌≡◌, ◌∙◌, ℕ, ◌+◌, ◌≤◌, Bool, true, false, not, cond, List, [], ◌∷◌, Option, Some, None, is_some, map, refl, sym, ap}
+use Rattle.std.specs.Prelude.{◌&&◌, ◌==◌, find, nat_eq, nat_le}
 use Rattle.std.specs.List.{list_all}
-use Rattle.std.specs.Map.{lookup}
 use Rattle.std.specs.Option.{option_eq, option_map_or}
-use Rattle.std.proofs.lemmas.Bool.Decides.{nat_tests}
 use Rattle.std.proofs.lemmas.Bool.{and_parts, eqb-true, false_from_ne_true, leb-true, not-true, true≢false}
-use Rattle.ipfix_templates.specs.declared.field.Field.{Field}
-use Rattle.ipfix_templates.specs.Field.{has_bytes}
-use Rattle.ipfix_read.specs.Value.{FieldValueView, value_at, whole_values}
-use Rattle.ipfix_read.proofs.RecordValues.{values_with_bytes}
-use Rattle.flow_rows.specs.Elements.{big_endian, element, element_lengths, fits, is_usable}
+use Rattle.ipfix_templates.specs.declared.layout.TheConstants.{ELEMENTS}
+use Rattle.ipfix_templates.specs.Elements.{fits, is_usable}
+use Rattle.ipfix_templates.specs.Field.{FieldView, is_variable}
+use Rattle.ipfix_templates.specs.Layout.{is_there, place}
+use Rattle.ipfix_read.specs.Value.{FieldValueView}
+use Rattle.flow_rows.specs.Elements.{element}
 
 -- an element of a row, with the lengths that its fields may have
 abbrev pub IsListed : ℕ → ℕ × ℕ → Type 0
-IsListed number range = lookup (λ n. n == number) element_lengths ≡ Some range
+IsListed number range = find (λ e. e.0 == number) ELEMENTS ≡ Some (number, range)
 
 -- a field of an element has a length that its element may have
-pub usable_fits : (direction : Option ℕ) (number : ℕ) (f : Field) → is_usable direction number f ≡ true → fits number f.length ≡ true
+usable_fits : (direction : Option ℕ) (number : ℕ) (f : FieldView) → is_usable direction number f ≡ true → fits number f.length ≡ true
 usable_fits direction number f usable =
     (and_parts (option_eq nat_eq f.enterprise direction) _ (and_parts (f.number == number) _ usable).1).1
 
-pub usable_within : (direction : Option ℕ) (number : ℕ) (range : ℕ × ℕ) (f : Field) → IsListed number range
+usable_within : (direction : Option ℕ) (number : ℕ) (range : ℕ × ℕ) (f : FieldView) → IsListed number range
     → is_usable direction number f ≡ true → (range.0 ≤ f.length) × (f.length ≤ range.1)
 unfolding fits
 usable_within direction number range f listed usable =
@@ -30,19 +29,19 @@ usable_within direction number range f listed usable =
     (leb-true range.0 f.length both.0, leb-true f.length range.1 both.1)
 
 -- a test that no entry passes
-none_passes : (f : ℕ × ℕ → Bool) (key : ℕ → Bool) (table : List (ℕ × (ℕ × ℕ)))
-    → list_all (λ e. not (f e.1)) table ≡ true → option_map_or f (lookup key table) false ≡ false
+none_passes : (f : ℕ × (ℕ × ℕ) → Bool) (key : ℕ × (ℕ × ℕ) → Bool) (table : List (ℕ × (ℕ × ℕ)))
+    → list_all (λ e. not (f e)) table ≡ true → option_map_or f (find key table) false ≡ false
 none_passes f key [] h = refl
 none_passes f key (e ∷ table) h =
-    let parts = and_parts (not (f e.1)) (list_all (λ e. not (f e.1)) table) h in
-    elim (key e.0) as (λ b. option_map_or f (cond b (Some e.1) (lookup key table)) false ≡ false) [
-      | true ↦ not-true (f e.1) parts.0
+    let parts = and_parts (not (f e)) (list_all (λ e. not (f e)) table) h in
+    elim (key e) as (λ b. option_map_or f (cond b (Some e) (find key table)) false ≡ false) [
+      | true ↦ not-true (f e) parts.0
       | false ↦ none_passes f key table parts.1
     ]
 
 -- the length of a usable field is one that some element may have
-pub has_other_length : (len : ℕ) → list_all (λ e. not (nat_le e.1.0 len && nat_le len e.1.1)) element_lengths ≡ true
-    → (direction : Option ℕ) (number : ℕ) (f : Field) → is_usable direction number f ≡ true → (f.length == len) ≡ false
+pub has_other_length : (len : ℕ) → list_all (λ e. not (nat_le e.1.0 len && nat_le len e.1.1)) ELEMENTS ≡ true
+    → (direction : Option ℕ) (number : ℕ) (f : FieldView) → is_usable direction number f ≡ true → (f.length == len) ≡ false
 unfolding fits
 has_other_length len unlisted direction number f usable =
     false_from_ne_true (f.length == len)
@@ -50,65 +49,48 @@ has_other_length len unlisted direction number f usable =
     true≢false
     (
     sym (usable_fits direction number f usable) ∙ ap (fits number) (eqb-true f.length len is)
-    ∙ none_passes (λ range. nat_le range.0 len && nat_le len range.1) (λ n. n == number) element_lengths unlisted
+    ∙ none_passes (λ e. nat_le e.1.0 len && nat_le len e.1.1) (λ e. e.0 == number) ELEMENTS unlisted
     ))
 
-pub has_bytes_usable : (direction : Option ℕ) (number : ℕ) (f : Field) → is_usable direction number f ≡ true → has_bytes f ≡ true
-has_bytes_usable direction number f usable = ap not (has_other_length 0 refl direction number f usable)
+-- ---- the place of an element
 
--- a number that isn't an element's has no value
-not_usable : (p q : Bool) → (p && (q && false)) ≡ false
-not_usable p q = grind (arith, nat_tests)
+abbrev pub fields_of : List FieldValueView → List FieldView
+fields_of values = map (λ v. v.field) values
 
-pub element-unlisted : (direction : Option ℕ) (number : ℕ) → lookup (λ n. n == number) element_lengths ≡ None
-    → (values : List FieldValueView) → element direction values number ≡ None
-unfolding fits
-element-unlisted direction number none [] = refl
-element-unlisted direction number none (v ∷ vs) =
-    rw (none, not_usable (v.field.number == number) (option_eq nat_eq v.field.enterprise direction))
-    (element-unlisted direction number none vs)
-
--- the number in the value of a field if it is usable, otherwise that of the values after it
-abbrev first_and_more : Field → List Field → Option (List ℕ × List ℕ) → List FieldValueView
-first_and_more f fs read = option_map_or (λ v. record { field = f; value = v.0 } ∷ whole_values fs v.1) read []
-
-module _ (direction : Option ℕ) (number : ℕ) (f : Field) (fs : List Field) where
-  first_used : (read : Option (List ℕ × List ℕ)) → is_usable direction number f ≡ true
-      → element direction (first_and_more f fs read) number ≡ option_map (λ v. big_endian v.0) read
-  first_used None usable = refl
-  first_used (Some v) usable = rw usable refl
-
-  first_passed : (read : Option (List ℕ × List ℕ)) → is_usable direction number f ≡ false
-      → element direction (first_and_more f fs read) number ≡ option_map_or (λ v. element direction (whole_values fs v.1) number) read None
-  first_passed None unusable = refl
-  first_passed (Some v) unusable = rw unusable refl
-
-  pub element-used : (bytes : List ℕ) → is_usable direction number f ≡ true
-      → element direction (whole_values (f ∷ fs) bytes) number ≡ option_map (λ v. big_endian v.0) (value_at f bytes)
-  unfolding whole_values
-  element-used bytes usable = first_used (value_at f bytes) usable
-
-  pub element-passed : (bytes : List ℕ) → is_usable direction number f ≡ false
-      → element direction (whole_values (f ∷ fs) bytes) number
-      ≡ option_map_or (λ v. element direction (whole_values fs v.1) number) (value_at f bytes) None
-  unfolding whole_values
-  element-passed bytes unusable = first_passed (value_at f bytes) unusable
-
--- the number of an element is that of the values with bytes
-passed_over : (direction : Option ℕ) (number : ℕ) (v : FieldValueView) (b : Bool) (vs : List FieldValueView)
-    → is_usable direction number v.field ≡ false → element direction (cond b (v ∷ vs) vs) number ≡ element direction vs number
-passed_over direction number v true vs unusable = rw unusable refl
-passed_over direction number v false vs unusable = refl
-
-pub element-with_bytes : (direction : Option ℕ) (number : ℕ) (values : List FieldValueView)
-    → element direction (values_with_bytes values) number ≡ element direction values number
-element-with_bytes direction number [] = refl
-element-with_bytes direction number (v ∷ vs) =
+-- it is there exactly if the values have the element
+pub there-place : (direction : Option ℕ) (number skips offset : ℕ) (values : List FieldValueView)
+    → is_there (place direction number skips offset (fields_of values)) ≡ is_some (element direction values number)
+there-place direction number skips offset [] = refl
+there-place direction number skips offset (v ∷ vs) =
     elim (is_usable direction number v.field) as (λ b. is_usable direction number v.field ≡ b
-    → element direction (values_with_bytes (v ∷ vs)) number ≡ element direction (v ∷ vs) number) [
-      | true ↦ λ usable. rw (has_bytes_usable direction number v.field usable, usable) refl
-      | false ↦ λ unusable.
-          passed_over direction number v (has_bytes v.field) (values_with_bytes vs) unusable
-          ∙ element-with_bytes direction number vs ∙ sym (passed_over direction number v true vs unusable)
+    → is_there (place direction number skips offset (fields_of (v ∷ vs))) ≡ is_some (element direction (v ∷ vs) number)) [
+      | true ↦ λ usable. rw usable (ap not (has_other_length 0 refl direction number v.field usable))
+      | false ↦ λ unusable. rw unusable
+          (elim (is_variable v.field) as (λ b.
+          is_there (cond b (place direction number (skips + 1) 0 (fields_of vs)) (place direction number skips (offset + v.field.length) (fields_of vs)))
+          ≡ is_some (element direction vs number)) [
+            | true ↦ there-place direction number (skips + 1) 0 vs
+            | false ↦ there-place direction number skips (offset + v.field.length) vs
+          ])
+    ]
+    refl
+
+-- its length is one that the element may have, unless it is missing
+pub length-place : (direction : Option ℕ) (number skips offset : ℕ) (range : ℕ × ℕ) (fields : List FieldView) → IsListed number range
+    → ((place direction number skips offset fields).length ≤ range.1)
+    × (is_there (place direction number skips offset fields) ≡ true → range.0 ≤ (place direction number skips offset fields).length)
+length-place direction number skips offset range [] listed = (omega arith, λ is. absurd (cc))
+length-place direction number skips offset range (f ∷ fs) listed =
+    elim (is_usable direction number f) as (λ b. is_usable direction number f ≡ b
+    → ((place direction number skips offset (f ∷ fs)).length ≤ range.1)
+    × (is_there (place direction number skips offset (f ∷ fs)) ≡ true → range.0 ≤ (place direction number skips offset (f ∷ fs)).length)) [
+      | true ↦ λ usable. let within = usable_within direction number range f listed usable in rw usable (within.1, λ _. within.0)
+      | false ↦ λ unusable. rw unusable
+          (elim (is_variable f) as (λ b.
+          let p = cond b (place direction number (skips + 1) 0 fs) (place direction number skips (offset + f.length) fs) in
+          (p.length ≤ range.1) × (is_there p ≡ true → range.0 ≤ p.length)) [
+            | true ↦ length-place direction number (skips + 1) 0 range fs listed
+            | false ↦ length-place direction number skips (offset + f.length) range fs listed
+          ])
     ]
     refl

@@ -1,10 +1,9 @@
-use Rattle.std.specs.Prelude.{◌≡◌, ℕ, List, [], ◌∷◌, length, Bool, false, Option, Some, None, option_map, find, is_some, map, take, nat_eq, nat_le, ◌==◌, ◌&&◌, ◌++◌, option_and_then, unwrap_or, if◌then◌else◌}
-use Rattle.std.specs.Option.{option_eq, option_map_or, option_or, option_to_list}
-use Rattle.std.specs.Map.{lookup}
+use Rattle.std.specs.Prelude.{ℕ, List, length, Option, Some, None, option_map, find, ◌==◌, ◌++◌, option_and_then, unwrap_or, if◌then◌else◌}
+use Rattle.std.specs.Option.{option_or, option_to_list}
 use Rattle.byteorder.specs.Endian.{big_number}
 use Rattle.prefix_keys.specs.declared.version.Version.{Version}
 use Rattle.prefix_keys.specs.declared.version.Version.TheVariants.{V4, V6}
-use Rattle.ipfix_templates.specs.declared.field.Field.{Field}
+use Rattle.ipfix_templates.specs.Elements.{back, forward, is_usable}
 use Rattle.ipfix_templates.specs.declared.kind.Kind.{Kind}
 use Rattle.ipfix_templates.specs.declared.kind.Kind.TheVariants.{Flow, Options}
 use Rattle.ipfix_read.specs.Value.{FieldValueView}
@@ -25,46 +24,7 @@ pub record RowView : Type 0 where
   pub start_ms : ℕ
   pub end_ms : ℕ
 
--- The information elements of a row, and their numbers in a record (RFC 7012, and IANA's registry of IPFIX elements),
--- in the record's own direction and in the reverse one (RFC 5103).
-
--- the elements by their numbers, each with the minimum and the maximum length of its field; a number may be sent in
--- fewer bytes than its type has (RFC 7011 section 6.2)
-abbrev pub element_lengths : List (ℕ × (ℕ × ℕ))
-element_lengths =
-    (1, (1, 8))  -- octetDeltaCount
-    ∷ (2, (1, 8))  -- packetDeltaCount
-    ∷ (4, (1, 1))  -- protocolIdentifier
-    ∷ (6, (1, 2))  -- tcpControlBits
-    ∷ (7, (1, 2))  -- sourceTransportPort
-    ∷ (8, (4, 4))  -- sourceIPv4Address
-    ∷ (11, (1, 2))  -- destinationTransportPort
-    ∷ (12, (4, 4))  -- destinationIPv4Address
-    ∷ (27, (16, 16))  -- sourceIPv6Address
-    ∷ (28, (16, 16))  -- destinationIPv6Address
-    ∷ (85, (1, 8))  -- octetTotalCount
-    ∷ (86, (1, 8))  -- packetTotalCount
-    ∷ (152, (8, 8))  -- flowStartMilliseconds
-    ∷ (153, (8, 8))  -- flowEndMilliseconds
-    ∷ []
-
--- the element belongs to a row, and a field of it may have this length
-unfoldable pub fits : ℕ → ℕ → Bool
-fits number len =
-    option_map_or (λ range. nat_le range.0 len && nat_le len range.1) (lookup (λ n. n == number) element_lengths) false
-
--- the enterprise number of the elements of the record's own direction, which is missing, and of the reverse direction
--- (RFC 5103 section 6.1)
-abbrev pub forward : Option ℕ
-forward = None
-
-abbrev pub back : Option ℕ
-back = Some 29305
-
--- a field is usable for the element with this number in a direction: it has the element's number and the direction's
--- enterprise number, and its length fits the element
-abbrev pub is_usable : Option ℕ → ℕ → Field → Bool
-is_usable direction number f = (f.number == number) && (option_eq nat_eq f.enterprise direction && fits number f.length)
+-- The numbers of a row's information elements in a record.
 
 -- the number of bytes in network byte order
 abbrev pub big_endian : List ℕ → ℕ
@@ -138,7 +98,3 @@ second_row r = option_and_then (row_back (element back r.fields)) (first_row r)
 -- the rows of a record in order: none, one or two
 abbrev pub rows_of_record : Record → List RowView
 rows_of_record r = option_to_list (first_row r) ++ option_to_list (second_row r)
-
--- the rows before stay, a row is added after them if there is one, and `there` says whether there is one
-abbrev pub AddsRow : Option RowView → List RowView → List RowView → Bool → Type 0
-AddsRow row old new there = (there ≡ is_some row) × (new ≡ old ++ option_to_list row) × (take (length old) new ≡ old)

@@ -1,96 +1,58 @@
-use Rattle.std.specs.Prelude.{◌≡◌, ℕ, ◌+◌, ◌≤◌, List, [], ◌∷◌, slice_range, filter, Bool, true, Option, Some, None, option_and_then, option_map, ◌==◌, if◌then◌else◌}
-use Rattle.std.specs.Map.{lookup}
-use Rattle.ipfix_templates.specs.declared.field.Field.{Field}
-use Rattle.ipfix_templates.specs.Field.{has_bytes}
-use Rattle.ipfix_templates.specs.Runs.{runs_behind}
-pub use Rattle.flow_rows.specs.declared.elements.Elements.{Elements}
-pub use Rattle.flow_rows.specs.declared.place.Place.{Place}
-use Rattle.flow_rows.specs.Elements.{back, big_endian, forward, is_usable}
+use Rattle.std.specs.Prelude.{◌≡◌, ℕ, ◌≤◌, List, [], ◌∷◌, take, Bool, Option, Some, None, option_and_then, option_map, if◌then◌else◌}
+use Rattle.std.specs.Option.{option_map_or}
+use Rattle.prefix_keys.specs.declared.version.Version.{Version}
+use Rattle.prefix_keys.specs.declared.version.Version.TheVariants.{V4, V6}
+use Rattle.ipfix_templates.specs.declared.layout.Place.{Place}
+use Rattle.ipfix_templates.specs.declared.layout.Places.{Places}
+use Rattle.ipfix_read.specs.Value.{bytes_at, variable_at}
+use Rattle.flow_rows.specs.Elements.{RowView, big_endian}
 
--- The offsets of the values of a row's elements in a record, and what is read there. This is private, and callers of
--- the crate need not read it.
+-- What is read at the places of a row's numbers. This is private, and callers of the crate need not read it.
 
--- the offsets of the value of a field, after this many bytes
-abbrev pub place_of : ℕ → Field → Place
-place_of at f = record { begin = at; end = at + f.length }
+-- the bytes after values of variable length, each after a run of bytes
+abbrev pub behind_values : List ℕ → List ℕ → Option (List ℕ)
+behind_values [] bytes = Some bytes
+behind_values (run ∷ runs) bytes =
+    option_and_then (λ f. option_and_then (λ v. behind_values runs v.1) (variable_at f.1)) (bytes_at run bytes)
 
--- the known offsets if there are any, otherwise the new ones
-abbrev pub kept : Option Place → Option Place → Option Place
-kept known None = known
-kept None (Some new) = Some new
-kept (Some known) (Some new) = Some known
+-- the bytes at a place in a record, given the runs of bytes before its values of variable length
+abbrev pub bytes_there : Place → List ℕ → List ℕ → Option (List ℕ)
+bytes_there p runs bytes =
+    option_and_then (λ rest. option_and_then (λ f. option_map (λ v. v.0) (bytes_at p.length f.1)) (bytes_at p.offset rest))
+    (behind_values (take p.skips runs) bytes)
 
--- the offsets that a field after this many bytes gives to an element of a direction
-abbrev pub given : Option ℕ → ℕ → Field → ℕ → Option Place
-given direction at f number = if is_usable direction number f then Some (place_of at f) else None
+-- the number there, or 0
+abbrev pub number_there : Place → List ℕ → List ℕ → ℕ
+number_there p runs bytes = option_map_or big_endian (bytes_there p runs bytes) 0
 
--- the offsets of an element of a direction: those of the first usable field
-abbrev pub place : Option ℕ → ℕ → List Field → ℕ → Option Place
-place direction at [] number = None
-place direction at (f ∷ fs) number =
-    if is_usable direction number f then Some (place_of at f) else place direction (at + f.length) fs number
+abbrev pub version_of : Bool → Version
+version_of is_v4 = if is_v4 then V4 else V6
 
--- the table of elements by their numbers, and the table of these offsets
-abbrev pub places_in : Elements → List (ℕ × Option Place)
-places_in e =
-    (1, e.octets) ∷ (2, e.packets) ∷ (4, e.protocol) ∷ (6, e.flags) ∷ (7, e.sport) ∷ (8, e.src_v4) ∷ (11, e.dport)
-    ∷ (12, e.dst_v4) ∷ (27, e.src_v6) ∷ (28, e.dst_v6) ∷ (85, e.total_octets) ∷ (86, e.total_packets) ∷ (152, e.start_ms)
-    ∷ (153, e.end_ms) ∷ []
-
-abbrev pub place_in : Elements → ℕ → Option Place
-place_in e number = option_and_then (λ p. p) (lookup (λ n. n == number) (places_in e))
-
-abbrev pub elements_at : (ℕ → Option Place) → Elements
-elements_at place = record {
-  octets = place 1;
-  packets = place 2;
-  protocol = place 4;
-  flags = place 6;
-  sport = place 7;
-  src_v4 = place 8;
-  dport = place 11;
-  dst_v4 = place 12;
-  src_v6 = place 27;
-  dst_v6 = place 28;
-  total_octets = place 85;
-  total_packets = place 86;
-  start_ms = place 152;
-  end_ms = place 153;
+-- the row of the numbers at places
+abbrev pub row_at : Places → (Place → ℕ) → RowView
+row_at places number = record {
+  version = version_of places.is_v4;
+  src = number places.src;
+  dst = number places.dst;
+  sport = number places.sport;
+  dport = number places.dport;
+  protocol = number places.protocol;
+  flags = number places.flags;
+  packets = number places.packets;
+  octets = number places.octets;
+  start_ms = number places.start_ms;
+  end_ms = number places.end_ms;
 }
 
--- the number of the bytes at a place
-abbrev pub number_there : Option Place → List ℕ → Option ℕ
-number_there p bytes = option_map (λ p. big_endian (slice_range bytes p.begin p.end)) p
-
--- the number of each element in a record with these bytes, given these offsets
-abbrev pub said_there : Elements → List ℕ → ℕ → Option ℕ
-said_there e bytes number = number_there (place_in e number) bytes
-
--- if the place is known, its length is in this range, and it lies within this many bytes
-abbrev pub IsThere : ℕ × ℕ → ℕ → Option Place → Type 0
-IsThere range len None = Unit {0}
-IsThere range len (Some p) = (p.begin + range.0 ≤ p.end) × (p.end ≤ p.begin + range.1) × (p.end ≤ len)
-
--- at each place that is known there are as many bytes as its element may have
-pub record AreThere (e : Elements) (len : ℕ) : Type 0 where
-  pub octets : IsThere (1, 8) len e.octets
-  pub packets : IsThere (1, 8) len e.packets
-  pub protocol : IsThere (1, 1) len e.protocol
-  pub flags : IsThere (1, 2) len e.flags
-  pub sport : IsThere (1, 2) len e.sport
-  pub src_v4 : IsThere (4, 4) len e.src_v4
-  pub dport : IsThere (1, 2) len e.dport
-  pub dst_v4 : IsThere (4, 4) len e.dst_v4
-  pub src_v6 : IsThere (16, 16) len e.src_v6
-  pub dst_v6 : IsThere (16, 16) len e.dst_v6
-  pub total_octets : IsThere (1, 8) len e.total_octets
-  pub total_packets : IsThere (1, 8) len e.total_packets
-  pub start_ms : IsThere (8, 8) len e.start_ms
-  pub end_ms : IsThere (8, 8) len e.end_ms
-
--- the offsets are those of both directions among the fields that take bytes, and if `is_fixed` is true, no field is
--- variable
-pub record IsPlanned (fields : List Field) (forward_places back_places : Elements) (is_fixed : Bool) : Type 0 where
-  pub forward_is : forward_places ≡ elements_at (place forward 0 (filter has_bytes fields))
-  pub back_is : back_places ≡ elements_at (place back 0 (filter has_bytes fields))
-  pub fixed : is_fixed ≡ true → runs_behind 0 fields ≡ []
+-- the numbers are as long as a row's numbers are at most
+pub record AreUsable (places : Places) : Type 0 where
+  pub src : places.src.length ≡ (if places.is_v4 then 4 else 16)
+  pub dst : places.dst.length ≡ (if places.is_v4 then 4 else 16)
+  pub sport : places.sport.length ≤ 2
+  pub dport : places.dport.length ≤ 2
+  pub protocol : places.protocol.length ≤ 1
+  pub flags : places.flags.length ≤ 2
+  pub packets : places.packets.length ≤ 8
+  pub octets : places.octets.length ≤ 8
+  pub start_ms : places.start_ms.length ≤ 8
+  pub end_ms : places.end_ms.length ≤ 8

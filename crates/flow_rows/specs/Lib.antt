@@ -1,3 +1,4 @@
 pub mod Elements
 pub mod Counts
+pub mod Walk
 pub mod Inner

@@ -4,7 +4,7 @@ ghost use Rattle.std.specs.List.{flat_map};
 ghost use Rattle.flow_rows.specs.Counts.{defines, is_of_kind, is_withdrawal};
 ghost use Rattle.flow_rows.specs.Elements.{rows_of_record};
 
-use crate::plan::Plan;
+use crate::record::reverse_row_of;
 use ipfix_read::RecordList;
 use ipfix_templates::{Kind, TemplateEvent};
 
@@ -24,10 +24,13 @@ pub fn definitions(events: &[TemplateEvent], kind: Kind) -> u64
 pub fn withdrawals(events: &[TemplateEvent]) -> u64
     ensures { result ≡ count_by is_withdrawal events.now }
 {
-    events
-        .iter()
-        .filter(|event| !matches!(event, TemplateEvent::Define(_)))
-        .count() as u64
+    let mut count = 0u64;
+    for event in events {
+        if !matches!(event, TemplateEvent::Define(_)) {
+            count += 1;
+        }
+    }
+    count
 }
 
 /// Returns the number of records that are described by a template of the kind: all of them, or none.
@@ -41,14 +44,30 @@ pub fn of_kind(records: &RecordList<'_>, kind: Kind) -> u64
     }
 }
 
-/// Returns the number of rows of the records.
+/// Returns the number of rows of the records. Whether they have first rows follows from the fields. If a field counts
+/// packets in the reverse direction, each record is examined for a second row.
 pub fn row_count(records: &RecordList<'_>) -> u64
     requires { length records.now < 2 ^ 63 }
     ensures value { result ≡ length (flat_map rows_of_record records.now) }
     ensures bound { result ≤ length records.now + length records.now }
 {
-    match records.fields() {
-        Some(fields) => Plan::new(fields).row_count(records),
-        None => 0,
+    let kind = records.kind();
+    let Some(fields) = records.fields() else {
+        return 0;
+    };
+    let Some(layout) = fields.row_layout() else {
+        return 0;
+    };
+    if !kind.is(Kind::Flow) {
+        return 0;
     }
+    let mut count = records.len() as u64;
+    if layout.second.packets.is_there() {
+        for source in records.iter() {
+            if reverse_row_of(&source).is_some() {
+                count += 1;
+            }
+        }
+    }
+    count
 }

@@ -1,90 +1,124 @@
-//! Places of values in the bytes of records.
-ghost use Rattle.std.specs.Prelude.{◌≡◌, ◌≤◌, length};
+//! The numbers at places in the bytes of records.
+ghost use Rattle.std.specs.Prelude.{◌≡◌, ◌≤◌, IfSome, length, option_map, take};
 ghost use Rattle.flow_rows.specs.Elements.{big_endian};
-ghost use Rattle.flow_rows.specs.Inner.{IsThere, number_there};
+ghost use Rattle.flow_rows.specs.Inner.{behind_values, bytes_there, number_there};
 
 use byteorder::{BigEndian, ByteOrder};
+use ipfix_read::{read_bytes, read_variable};
+use ipfix_templates::Place;
 
-/// The offsets of a value in the bytes of a record.
-#[derive(Clone, Copy)]
-pub struct Place {
-    /// The offset of its first byte.
-    pub begin: usize,
-    /// The offset after its last byte.
-    pub end: usize,
+// Returns the bytes after values of variable length, given the number of bytes between each of them and the one before
+// it. Returns `None` if the input is too short.
+fn behind_values<'a>(runs: &[u32], bytes: &'a [u8]) -> Option<&'a [u8]>
+    ensures { option_map (λ x. x.now) result ≡ behind_values runs.now bytes.now }
+{
+    let mut rest = bytes;
+    for run in runs {
+        let (_fixed, behind) = read_bytes(*run as usize, rest)?;
+        let (_value, after) = read_variable(behind)?;
+        rest = after;
+    }
+    Some(rest)
 }
 
-// The number of 1 byte to 8, by one read if there is one of their width.
-#[inline]
-fn number_u64(bytes: &[u8]) -> u64
-    requires least { 1 ≤ length bytes.now }
-    requires most { length bytes.now ≤ 8 }
-    ensures { result ≡ big_endian bytes.now }
+// Returns the bytes after this many values of variable length. Out of line, since most numbers are before all of them.
+#[inline(never)]
+fn skip_values<'a>(skips: u16, runs: &[u32], bytes: &'a [u8]) -> Option<&'a [u8]>
+    ensures { option_map (λ x. x.now) result ≡ behind_values (take skips runs.now) bytes.now }
 {
-    match bytes.len() {
-        1 => u64::from(bytes[0]),
-        2 => u64::from(BigEndian::read_u16(bytes)),
-        4 => u64::from(BigEndian::read_u32(bytes)),
-        8 => BigEndian::read_u64(bytes),
-        length => BigEndian::read_uint(bytes, length),
+    let count = usize::from(skips);
+    if count < runs.len() {
+        return behind_values(&runs[..count], bytes);
+    }
+    behind_values(runs, bytes)
+}
+
+// Returns the bytes at a place in a record, or `None` if the record is too short.
+#[inline(always)]
+fn bytes_there<'a>(place: Place, runs: &[u32], bytes: &'a [u8]) -> Option<&'a [u8]>
+    ensures there { option_map (λ x. x.now) result ≡ bytes_there place runs.now bytes.now }
+    ensures size { IfSome result (λ x. length x.now ≡ place.length) }
+{
+    let rest = if place.skips == 0 {
+        bytes
+    } else {
+        skip_values(place.skips, runs, bytes)?
+    };
+    let (_before, from) = read_bytes(place.offset as usize, rest)?;
+    let (value, _after) = read_bytes(usize::from(place.length), from)?;
+    Some(value)
+}
+
+/// Returns the number of up to 8 bytes at a place in a record, or 0 if there is none.
+#[inline(always)]
+pub fn u64_there(place: Place, runs: &[u32], bytes: &[u8]) -> u64
+    requires { place.length ≤ 8 }
+    ensures { result ≡ number_there place runs.now bytes.now }
+{
+    let Some(value) = bytes_there(place, runs, bytes) else {
+        return 0;
+    };
+    match value.len() {
+        0 => 0,
+        1 => u64::from(value[0]),
+        2 => u64::from(BigEndian::read_u16(value)),
+        4 => u64::from(BigEndian::read_u32(value)),
+        8 => BigEndian::read_u64(value),
+        length => BigEndian::read_uint(value, length),
     }
 }
 
-/// The number of 1 byte to 8.
+/// Returns the number of up to 2 bytes at a place in a record, or 0 if there is none.
 #[inline(always)]
-pub fn u64_there(place: Option<Place>, bytes: &[u8]) -> Option<u64>
-    requires { IsThere (1, 8) (length bytes.now) place }
-    ensures { result ≡ number_there place bytes.now }
+pub fn u16_there(place: Place, runs: &[u32], bytes: &[u8]) -> u16
+    requires { place.length ≤ 2 }
+    ensures { result ≡ number_there place runs.now bytes.now }
 {
-    let Place { begin, end } = place?;
-    Some(number_u64(&bytes[begin..end]))
-}
-
-/// The number of 1 byte or 2.
-#[inline(always)]
-pub fn u16_there(place: Option<Place>, bytes: &[u8]) -> Option<u16>
-    requires { IsThere (1, 2) (length bytes.now) place }
-    ensures { result ≡ number_there place bytes.now }
-{
-    let Place { begin, end } = place?;
-    if end - begin == 1 {
-        return Some(u16::from(bytes[begin]));
+    let Some(value) = bytes_there(place, runs, bytes) else {
+        return 0;
+    };
+    match value.len() {
+        0 => 0,
+        1 => u16::from(value[0]),
+        _ => BigEndian::read_u16(value),
     }
-    Some(BigEndian::read_u16(&bytes[begin..]))
 }
 
-/// The number of 1 byte.
+/// Returns the number of up to 1 byte at a place in a record, or 0 if there is none.
 #[inline(always)]
-pub fn u8_there(place: Option<Place>, bytes: &[u8]) -> Option<u8>
-    requires { IsThere (1, 1) (length bytes.now) place }
-    ensures { result ≡ number_there place bytes.now }
+pub fn u8_there(place: Place, runs: &[u32], bytes: &[u8]) -> u8
+    requires { place.length ≤ 1 }
+    ensures { result ≡ number_there place runs.now bytes.now }
 {
-    Some(bytes[place?.begin])
+    let Some(value) = bytes_there(place, runs, bytes) else {
+        return 0;
+    };
+    match value.len() {
+        0 => 0,
+        _ => value[0],
+    }
 }
 
-/// The number of 4 bytes.
+/// Returns the number of 4 bytes at a place in a record.
 #[inline(always)]
-pub fn u32_there(place: Option<Place>, bytes: &[u8]) -> Option<u32>
-    requires { IsThere (4, 4) (length bytes.now) place }
-    ensures { result ≡ number_there place bytes.now }
+pub fn u32_there(place: Place, runs: &[u32], bytes: &[u8]) -> u32
+    requires { place.length ≡ 4 }
+    ensures { result ≡ number_there place runs.now bytes.now }
 {
-    Some(BigEndian::read_u32(&bytes[place?.begin..]))
+    match bytes_there(place, runs, bytes) {
+        Some(value) => BigEndian::read_u32(value),
+        None => 0,
+    }
 }
 
-/// The number of 8 bytes.
+/// Returns the number of 16 bytes at a place in a record.
 #[inline(always)]
-pub fn time_there(place: Option<Place>, bytes: &[u8]) -> Option<u64>
-    requires { IsThere (8, 8) (length bytes.now) place }
-    ensures { result ≡ number_there place bytes.now }
+pub fn u128_there(place: Place, runs: &[u32], bytes: &[u8]) -> u128
+    requires { place.length ≡ 16 }
+    ensures { result ≡ number_there place runs.now bytes.now }
 {
-    Some(BigEndian::read_u64(&bytes[place?.begin..]))
-}
-
-/// The number of 16 bytes.
-#[inline(always)]
-pub fn u128_there(place: Option<Place>, bytes: &[u8]) -> Option<u128>
-    requires { IsThere (16, 16) (length bytes.now) place }
-    ensures { result ≡ number_there place bytes.now }
-{
-    Some(BigEndian::read_u128(&bytes[place?.begin..]))
+    match bytes_there(place, runs, bytes) {
+        Some(value) => BigEndian::read_u128(value),
+        None => 0,
+    }
 }

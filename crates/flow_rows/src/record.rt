@@ -1,28 +1,48 @@
 //! The rows of data records.
-ghost use Rattle.std.specs.Prelude.{◌≡◌, option_map};
+ghost use Rattle.std.specs.Prelude.{◌≡◌};
 ghost use Rattle.flow_rows.specs.Elements.{first_row, second_row};
 
-use crate::elements::Elements;
-use crate::plan::Plan;
 use crate::row::Row;
 use ipfix_read::Record;
 use ipfix_templates::Kind;
 
-/// Returns the first row of a data record, like [`Plan::add_row_of`], which is for several records with the same fields.
-pub fn row_of(source: &Record<'_, '_>) -> Option<Row>
+/// Returns the first row of a data record. Each number is that of the first usable field of its element (RFC 7012). A
+/// field is usable if it has no enterprise number and the template's length fits its element. An options record has no
+/// row, nor has a record with neither both IPv4 addresses nor both IPv6 addresses.
+#[inline(always)]
+pub fn row_of<'r>(source: &Record<'r, 'r>) -> Option<Row<'r>>
     ensures { result ≡ first_row source.now }
 {
     if let Kind::Options = source.kind {
         return None;
     }
+    let fields = source.fields.specifiers();
     let bytes = source.fields.bytes();
-    Elements::of_record(None, source.fields.specifiers().filled(), bytes).row(bytes)
+    let Some(layout) = fields.row_layout() else {
+        return None;
+    };
+    Some(Row::new(&layout.first, fields.runs(), bytes))
 }
 
-/// Returns the second row of a data record, like [`Plan::row_back_of`], if it has a first row.
-pub fn reverse_row_of(source: &Record<'_, '_>) -> Option<Row>
+/// Returns the second row of a data record: the row of the reverse direction (RFC 5103 section 4), if there is a first
+/// row and the packets in that direction are counted and not 0. Addresses and ports are those of the first row,
+/// exchanged. A field of the reverse direction is usable if its enterprise number is 29305 and the template's length
+/// fits its element. A time without a field is that of the first row.
+#[inline(always)]
+pub fn reverse_row_of<'r>(source: &Record<'r, 'r>) -> Option<Row<'r>>
     ensures { result ≡ second_row source.now }
 {
-    let first = row_of(source)?;
-    Plan::new(source.fields.specifiers()).row_back_of(source, &first)
+    if let Kind::Options = source.kind {
+        return None;
+    }
+    let fields = source.fields.specifiers();
+    let bytes = source.fields.bytes();
+    let Some(layout) = fields.row_layout() else {
+        return None;
+    };
+    let row = Row::new(&layout.second, fields.runs(), bytes);
+    if row.packets() == 0 {
+        return None;
+    }
+    Some(row)
 }

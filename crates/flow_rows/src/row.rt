@@ -1,64 +1,62 @@
-ghost use Rattle.std.specs.Prelude.{◌≡◌};
+ghost use Rattle.std.specs.Prelude.{◌≡◌, ◌≤◌, if◌then◌else◌};
+ghost use Rattle.flow_rows.specs.Inner.{AreUsable, number_there, row_at, version_of};
 
+use crate::place::{u8_there, u16_there, u32_there, u64_there, u128_there};
+use ipfix_templates::{Place, Places};
 use prefix_keys::{Addr, Version};
 use std::marker::Model;
 
-/// A flow row: the flow that a data record describes. A missing number is 0.
+/// A flow row: the flow that a data record describes. It borrows the record's bytes, and each number is read when it is
+/// requested. A missing number is 0.
 #[derive(Drop)]
-pub struct Row {
-    pub(crate) src: Addr,
-    pub(crate) dst: Addr,
-    pub(crate) sport: u16,
-    pub(crate) dport: u16,
-    pub(crate) protocol: u8,
-    pub(crate) version: Version,
-    pub(crate) flags: u16,
-    pub(crate) packets: u64,
-    pub(crate) octets: u64,
-    pub(crate) start_ms: u64,
-    pub(crate) end_ms: u64,
+pub struct Row<'a> {
+    places: &'a Places,
+    // For each value of variable length, the number of bytes between it and the one before it.
+    runs: &'a [u32],
+    bytes: &'a [u8],
 }
 
-impl Model for Row {
-    ghost use Rattle.std.specs.Prelude.{◌≡◌};
+impl<'a> Model for Row<'a> {
     ghost use Rattle.flow_rows.specs.Elements.{RowView};
+    ghost use Rattle.flow_rows.specs.Inner.{AreUsable, number_there, row_at};
 
     ghost Value = { RowView };
 
-    ghost view = { λ row. record {
-      version = row.version;
-      src = row.src.value;
-      dst = row.dst.value;
-      sport = row.sport;
-      dport = row.dport;
-      protocol = row.protocol;
-      flags = row.flags;
-      packets = row.packets;
-      octets = row.octets;
-      start_ms = row.start_ms;
-      end_ms = row.end_ms;
-    } };
+    ghost view = { λ row. row_at row.places.now (λ place. number_there place row.runs.now row.bytes.now) };
 
-    ghost invariant = { λ row. (row.src.version ≡ row.version) × (row.dst.version ≡ row.version) };
+    ghost invariant = { λ row. AreUsable row.places.now };
 }
 
-impl Row {
-    /// A copy of the row.
-    pub fn copy(&self) -> Row
-        ensures { result ≡ self.now }
+// Returns the address at a place in a record.
+#[inline(always)]
+fn address_there(is_v4: bool, place: Place, runs: &[u32], bytes: &[u8]) -> Addr
+    requires { place.length ≡ (if is_v4 then 4 else 16) }
+    ensures version { result.version ≡ version_of is_v4 }
+    ensures value { result.value ≡ number_there place runs.now bytes.now }
+{
+    if is_v4 {
+        return Addr {
+            version: Version::V4,
+            value: u128::from(u32_there(place, runs, bytes)),
+        };
+    }
+    Addr {
+        version: Version::V6,
+        value: u128_there(place, runs, bytes),
+    }
+}
+
+impl<'a> Row<'a> {
+    // Returns the row with the numbers at these places in a record.
+    #[inline(always)]
+    pub(crate) fn new(places: &'a Places, runs: &'a [u32], bytes: &'a [u8]) -> Row<'a>
+        requires { AreUsable places.now }
+        ensures { result ≡ row_at places.now (λ place. number_there place runs.now bytes.now) }
     {
         Row {
-            src: self.src,
-            dst: self.dst,
-            sport: self.sport,
-            dport: self.dport,
-            protocol: self.protocol,
-            version: self.version,
-            flags: self.flags,
-            packets: self.packets,
-            octets: self.octets,
-            start_ms: self.start_ms,
-            end_ms: self.end_ms,
+            places,
+            runs,
+            bytes,
         }
     }
 
@@ -67,7 +65,11 @@ impl Row {
     pub fn version(&self) -> Version
         ensures { result ≡ self.now.version }
     {
-        self.version
+        if self.places.is_v4 {
+            Version::V4
+        } else {
+            Version::V6
+        }
     }
 
     /// The source address.
@@ -76,7 +78,7 @@ impl Row {
         ensures version { result.version ≡ self.now.version }
         ensures value { result.value ≡ self.now.src }
     {
-        self.src
+        address_there(self.places.is_v4, self.places.src, self.runs, self.bytes)
     }
 
     /// The destination address.
@@ -85,7 +87,7 @@ impl Row {
         ensures version { result.version ≡ self.now.version }
         ensures value { result.value ≡ self.now.dst }
     {
-        self.dst
+        address_there(self.places.is_v4, self.places.dst, self.runs, self.bytes)
     }
 
     /// The source port.
@@ -93,7 +95,7 @@ impl Row {
     pub fn sport(&self) -> u16
         ensures { result ≡ self.now.sport }
     {
-        self.sport
+        u16_there(self.places.sport, self.runs, self.bytes)
     }
 
     /// The destination port.
@@ -101,7 +103,7 @@ impl Row {
     pub fn dport(&self) -> u16
         ensures { result ≡ self.now.dport }
     {
-        self.dport
+        u16_there(self.places.dport, self.runs, self.bytes)
     }
 
     /// The number of the protocol above IP, such as 6 for TCP.
@@ -109,7 +111,7 @@ impl Row {
     pub fn protocol(&self) -> u8
         ensures { result ≡ self.now.protocol }
     {
-        self.protocol
+        u8_there(self.places.protocol, self.runs, self.bytes)
     }
 
     /// The union of the TCP flags of all packets.
@@ -117,7 +119,7 @@ impl Row {
     pub fn flags(&self) -> u16
         ensures { result ≡ self.now.flags }
     {
-        self.flags
+        u16_there(self.places.flags, self.runs, self.bytes)
     }
 
     /// The number of packets.
@@ -125,7 +127,7 @@ impl Row {
     pub fn packets(&self) -> u64
         ensures { result ≡ self.now.packets }
     {
-        self.packets
+        u64_there(self.places.packets, self.runs, self.bytes)
     }
 
     /// The number of bytes of the packets, including IP headers.
@@ -133,7 +135,7 @@ impl Row {
     pub fn octets(&self) -> u64
         ensures { result ≡ self.now.octets }
     {
-        self.octets
+        u64_there(self.places.octets, self.runs, self.bytes)
     }
 
     /// The time of the first packet, in milliseconds since 1970.
@@ -141,7 +143,7 @@ impl Row {
     pub fn start_ms(&self) -> u64
         ensures { result ≡ self.now.start_ms }
     {
-        self.start_ms
+        u64_there(self.places.start_ms, self.runs, self.bytes)
     }
 
     /// The time of the last packet, in milliseconds since 1970.
@@ -149,6 +151,6 @@ impl Row {
     pub fn end_ms(&self) -> u64
         ensures { result ≡ self.now.end_ms }
     {
-        self.end_ms
+        u64_there(self.places.end_ms, self.runs, self.bytes)
     }
 }

@@ -94,7 +94,7 @@ impl Hash for Code {
 }
 
 // Returns the part for this field of the row.
-fn part_of<'a, L: Labeller>(field: KeyField, row: &Row, labeller: Option<&'a L>) -> KeyPart<'a>
+fn part_of<'a, L: Labeller>(field: KeyField, row: &Row<'_>, labeller: Option<&'a L>) -> KeyPart<'a>
     ensures { let label = label_where (labelling_lent L.version_of L.label labeller.entry) in
         part_model result ≡ key_part label row.now field }
 {
@@ -154,7 +154,7 @@ fn append_part(out: &mut Vec<u8>, part: KeyPart<'_>) -> Result<(), AllocError>
 pub fn write_key<L: Labeller>(
     out: &mut Vec<u8>,
     fields: &[KeyField],
-    row: &Row,
+    row: &Row<'_>,
     labeller: Option<&L>,
 ) -> Result<(), AllocError>
     ensures code { OnOk result (IsCode out.new.items) }

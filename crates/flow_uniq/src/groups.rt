@@ -74,7 +74,7 @@ fn recent_index(key: &[u8]) -> usize
 
 // Adds a row to the group at an index if the group's key has these bytes. Returns whether it has.
 #[inline(always)]
-fn add_at(totals: &mut Entries, index: usize, key: &[u8], row: &Row) -> bool
+fn add_at(totals: &mut Entries, index: usize, key: &[u8], row: &Row<'_>) -> bool
     requires { (count : ℕ) × All (IsKept count) totals.old.entries
         × (record_count (kept_groups totals.old.entries) < 2 ^ 64 - 1) }
     ensures added { IsTrue result → HasRow (key_in key.now) row.now totals.old.entries totals.new.entries }
@@ -100,7 +100,7 @@ fn add_row(
     recent: &mut [usize; RECENT],
     alloc: Global,
     key: &[u8],
-    row: &Row,
+    row: &Row<'_>,
 ) -> Result<(), AllocError>
     requires code { IsCode key.now }
     requires kept { (count : ℕ) × All (IsKept count) totals.old.entries
@@ -165,7 +165,7 @@ impl Groups {
 
     /// Adds a row to the group with its key, or to a new group, which comes last. The labels of its addresses are those
     /// of the labeller. Without a labeller no address has a label. If an allocation fails, the groups are unchanged.
-    pub fn add<L: Labeller>(&mut self, row: &Row, labeller: Option<&L>) -> Result<(), AllocError>
+    pub fn add<L: Labeller>(&mut self, row: &Row<'_>, labeller: Option<&L>) -> Result<(), AllocError>
         requires { record_count self.old.groups < 2 ^ 64 - 1 }
         ensures fields { self.new.fields ≡ self.old.fields }
         // If these were the groups of some rows with their keys, they are now those of the rows followed by this one.
@@ -185,7 +185,7 @@ impl Groups {
     /// Adds rows in order, each as `add` does. If an allocation fails at one of them, those before it have been added.
     pub fn add_rows<L: Labeller>(
         &mut self,
-        rows: &[Row],
+        rows: &[Row<'_>],
         labeller: Option<&L>,
     ) -> Result<(), AllocError>
         requires { record_count self.old.groups + length rows.now < 2 ^ 64 }

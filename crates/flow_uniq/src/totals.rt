@@ -17,7 +17,7 @@ impl Totals {
     ghost use Rattle.flow_uniq.specs.Inner.{IsBounded, with_row};
 
     /// Adds a row to the totals.
-    pub fn add(&mut self, row: &Row)
+    pub fn add(&mut self, row: &Row<'_>)
         requires bounded { IsBounded self.old }
         requires few { self.old.records < 2 ^ 64 - 1 }
         ensures value { self.new ≡ with_row self.old row.now }

@@ -1,30 +1,31 @@
 -- The lines of rows, one by one.
-use Rattle.std.proofs.Common.{◌≡◌, ◌∙◌, ◌+◌, ◌<◌, ℕ, List, [], ◌∷◌, ◌++◌, Option, Some, None, is_some, length, map, take, get_or, refl, sym, ap}
+use Rattle.std.proofs.Common.{◌≡◌, ◌∙◌, ◌+◌, ◌*◌, ◌<◌, ◌≤◌, Bool, true, false, cond, List, [], ◌∷◌, ◌++◌, Option, Some, None, is_some, length, length-append, map, refl, subst, sym, ap, arith}
 use Rattle.std.specs.Prelude.{option_map}
 use Rattle.std.specs.Borrow.{Bor}
 use Rattle.std.specs.List.{flat_map, zip}
 use Rattle.std.proofs.lemmas.Grind.{flat_map-append}
-use Rattle.std.proofs.lemmas.List.{append-nil, append_assoc, map-append, take_more}
+use Rattle.std.proofs.lemmas.List.{append-nil, map-append}
 use Rattle.std.proofs.lemmas.List.Elements.{filter-append}
 use Rattle.ipfix_read.specs.Message.{MessageView}
 use Rattle.ipfix_read.specs.declared.record.Record.{Record}
 use Rattle.ipfix_read.specs.declared.set.Set.{Set}
 use Rattle.flow_rows.specs.Counts.{records_in, records_of, rows_of, rows_of_messages, sets_of}
 use Rattle.flow_rows.specs.Elements.{rows_of_record, RowView}
-use Rattle.flow_filter.specs.Condition.{Condition, passes, passing, passing_rows}
+use Rattle.flow_rows.specs.Walk.{CanTake, Takes}
+use Rattle.flow_filter.specs.Condition.{Condition, passes, passing}
 use Rattle.pmap_print.specs.declared.labels.RowLabels.{RowLabels}
 use Rattle.pmap_print.specs.Reports.{LabelTexts, label_fields, label_texts, label_titles, row_fields, row_line, row_titles, title_line}
 use Rattle.pmap_print.specs.Table.{Line}
 use Rattle.label_lookup.specs.Labelling.{Labelling, StretchModel}
 use Rattle.flowlabel.specs.Output.{labelled_row_lines, row_labels}
-use Rattle.flowlabel.specs.Reports.{labelling_found}
+use Rattle.flowlabel.specs.Reports.{IsAfter, labelling_found}
 
 zip_more : {X Y : Type 0} (f : X → Y) (xs : List X) (x : X) → zip (xs ++ x ∷ []) (map f (xs ++ x ∷ [])) ≡ zip xs (map f xs) ++ (x, f x) ∷ []
 zip_more f [] x = refl
 zip_more f (y ∷ ys) x = ap (λ (pairs : List (_ × _)). (y, f y) ∷ pairs) (zip_more f ys x)
 
 -- the lines of rows, with that of one more row
-lines_more : (labels : Option Labelling) (shown : List RowView) (row : RowView)
+pub lines_more : (labels : Option Labelling) (shown : List RowView) (row : RowView)
     → labelled_row_lines labels (shown ++ row ∷ [])
     ≡ labelled_row_lines labels shown ++ row_line row (option_map (λ l. row_labels l row) labels) ∷ []
 lines_more None shown row = ap (λ (lines : List Line). row_titles ∷ lines) (map-append row_fields shown (row ∷ []))
@@ -32,19 +33,6 @@ lines_more (Some l) shown row =
     let fields : RowView × LabelTexts → Line = λ p. row_fields p.0 ++ label_fields p.1 in
     ap (λ (ps : List (RowView × LabelTexts)). (row_titles ++ label_titles) ∷ map fields ps) (zip_more (row_labels l) shown row)
     ∙ ap (λ (lines : List Line). (row_titles ++ label_titles) ∷ lines) (map-append fields (zip shown (map (row_labels l) shown)) ((row, row_labels l row) ∷ []))
-
--- the lines of earlier rows and of the first rows of a list, with that of the list's next row
-pub rows_more : (labels : Option Labelling) (earlier : List RowView) (rows : List RowView) (i : ℕ) (row : RowView) (own : Option LabelTexts)
-    → row ≡ get_or rows i row → i < length rows → own ≡ option_map (λ l. row_labels l row) labels
-    → labelled_row_lines labels (earlier ++ take i rows) ++ row_line row own ∷ []
-    ≡ labelled_row_lines labels (earlier ++ take (i + 1) rows)
-rows_more labels earlier rows i row own is within same =
-    let before = take i rows in
-    (λ j. labelled_row_lines labels (earlier ++ before) ++ row_line row (same j) ∷ [])
-    ∙ sym (lines_more labels (earlier ++ before) row)
-    ∙ ap (labelled_row_lines labels)
-    (append_assoc earlier before (row ∷ [])
-    ∙ ap (λ (xs : List RowView). earlier ++ xs) (ap (λ (r : RowView). before ++ r ∷ []) is ∙ sym (take_more rows i row within)))
 
 -- rows have labels exactly if there is a labelling
 pub same_labelled : (labels : Option Labelling) (own : Option RowLabels) (row : RowView)
@@ -64,13 +52,49 @@ pub is_some-found : (labels : Option (Bor StretchModel)) → is_some labels ≡ 
 is_some-found None = refl
 is_some-found (Some l) = refl
 
--- the rows that pass, with those of one more message
-pub passing_more : (condition : Condition) (labels : Option Labelling) (messages : List MessageView) (message : MessageView)
-    → passing_rows condition labels (messages ++ message ∷ [])
-    ≡ passing_rows condition labels messages ++ passing condition labels (rows_of message.sets)
-passing_more condition labels messages message =
-    ap (λ (sets : List Set). passing condition labels (rows_of sets))
+-- the rows that pass, with one more row
+passing_one : (condition : Condition) (labels : Option Labelling) (rows : List RowView) (row : RowView)
+    → passing condition labels (rows ++ row ∷ []) ≡ passing condition labels rows ++ passing condition labels (row ∷ [])
+passing_one condition labels rows row = filter-append (passes condition labels) rows (row ∷ [])
+
+pub with_passing : (condition : Condition) (labels : Option Labelling) (rows : List RowView) (row : RowView) → passes condition labels row ≡ true
+    → passing condition labels (rows ++ row ∷ []) ≡ passing condition labels rows ++ row ∷ []
+with_passing condition labels rows row passed =
+    passing_one condition labels rows row ∙ ap (λ (b : Bool). passing condition labels rows ++ cond b (row ∷ []) []) passed
+
+pub without_failing : (condition : Condition) (labels : Option Labelling) (rows : List RowView) (row : RowView) → passes condition labels row ≡ false
+    → passing condition labels (rows ++ row ∷ []) ≡ passing condition labels rows
+without_failing condition labels rows row failed =
+    passing_one condition labels rows row ∙ ap (λ (b : Bool). passing condition labels rows ++ cond b (row ∷ []) []) failed
+    ∙ append-nil (passing condition labels rows)
+
+-- the rows of messages, with those of one more message
+messages_more : (messages : List MessageView) (message : MessageView)
+    → rows_of_messages (messages ++ message ∷ []) ≡ rows_of_messages messages ++ rows_of message.sets
+messages_more messages message =
+    ap rows_of
     (flat_map-append (λ (m : MessageView). m.sets) messages (message ∷ []) ∙ ap (λ (sets : List Set). sets_of messages ++ sets) (append-nil message.sets))
-    ∙ ap (λ (records : List Record). passing condition labels (flat_map rows_of_record records)) (flat_map-append records_in (sets_of messages) message.sets)
-    ∙ ap (passing condition labels) (flat_map-append rows_of_record (records_of (sets_of messages)) (records_of message.sets))
-    ∙ filter-append (passes condition labels) (rows_of_messages messages) (rows_of message.sets)
+    ∙ ap (λ (records : List Record). flat_map rows_of_record records) (flat_map-append records_in (sets_of messages) message.sets)
+    ∙ flat_map-append rows_of_record (records_of (sets_of messages)) (records_of message.sets)
+
+-- a report that takes the rows of one more message
+module _ {T : Type 0} (has : List RowView → T → Type 0) (messages : List MessageView) (few : length messages < 4294967295) (old : T) (is : IsAfter has messages old) where
+  pub can_take : CanTake has 131070 old
+  can_take = (rows_of_messages messages, omega (arith, few, is.few), is.rows)
+
+  pub after_message : (message : MessageView) (new : T) → length (rows_of message.sets) ≤ 131070 → Takes has (rows_of message.sets) old new
+      → IsAfter has (messages ++ message ∷ []) new
+  after_message message new small takes = record {
+    few =
+        omega (
+          arith,
+          ap length (messages_more messages message),
+          length-append (rows_of_messages messages) (rows_of message.sets),
+          length-append messages (message ∷ []),
+          small,
+          is.few,
+        );
+    rows =
+        subst (λ (rows : List RowView). has rows new) (sym (messages_more messages message))
+        (takes (rows_of_messages messages) (omega (arith, small, few, is.few)) is.rows);
+  }

@@ -13,9 +13,9 @@ use Rattle.cert_check.specs.Checking.{first_fault}
 use Rattle.cert_check.specs.declared.fault.CheckFault.{CheckFault}
 use Rattle.ipfix_read.specs.Messages.{file_reading}
 use Rattle.ipfix_read.specs.Message.{MessageView}
-use Rattle.flow_rows.specs.Counts.{counts_of}
+use Rattle.flow_rows.specs.Counts.{counts_of, rows_of_messages}
 use Rattle.flow_rows.specs.Elements.{RowView}
-use Rattle.flow_filter.specs.Condition.{Condition, passing_rows}
+use Rattle.flow_filter.specs.Condition.{Condition, passing}
 use Rattle.flow_uniq.specs.declared.field.KeyField.{KeyField}
 use Rattle.flow_uniq.specs.Groups.{groups_of, shown_groups}
 use Rattle.pmap_print.specs.Reports.{groups_text, info_text, LabelTexts, row_lines}
@@ -94,6 +94,10 @@ row_labels l row = (label_by l (row.version, row.src), label_by l (row.version, 
 -- the lines of rows, with the labels of their addresses where there is a labelling
 abbrev pub labelled_row_lines : Option Labelling → List RowView → List Line
 labelled_row_lines labels shown = row_lines shown (option_map (λ l. map (row_labels l) shown) labels)
+
+-- the rows of messages that meet a condition
+abbrev pub passing_rows : Condition → Option Labelling → List MessageView → List RowView
+passing_rows condition labels messages = passing condition labels (rows_of_messages messages)
 
 -- the text of the rows that meet a condition
 abbrev pub report_of_rows : Condition → Bool → Option Labelling → List MessageView → List ℕ

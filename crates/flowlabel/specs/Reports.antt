@@ -12,7 +12,9 @@ use Rattle.ipfix_read.specs.Fault.{is_of_reader}
 use Rattle.ipfix_read.specs.Messages.{StopsReading, file_reading}
 use Rattle.ipfix_read.specs.declared.fault.ReadFault.{ReadFault}
 use Rattle.ipfix_read.specs.Message.{MessageView}
-use Rattle.flow_filter.specs.Condition.{Condition, passing_rows}
+use Rattle.flow_rows.specs.Counts.{rows_of_messages}
+use Rattle.flow_rows.specs.Elements.{RowView}
+use Rattle.flow_filter.specs.Condition.{Condition, passing}
 use Rattle.flow_uniq.specs.Groups.{GroupsModel, groups_of, record_count}
 use Rattle.flow_uniq.specs.declared.field.KeyField.{KeyField}
 use Rattle.pmap_print.specs.Reports.{column_count}
@@ -25,7 +27,7 @@ use Rattle.flowlabel.specs.Request.{FromList, FromMap, LabelSource, Text, source
 use Rattle.flowlabel.specs.Run.{AreTexts, IsFaultOf, Source, any_failed, bytes_of, is_unread, source_failed}
 use Rattle.flowlabel.specs.declared.run.labels.LabelsRead.{LabelsRead}
 use Rattle.flowlabel.specs.declared.run.labels.LabelsRead.TheVariants as read
-use Rattle.flowlabel.specs.declared.run.rows.RowsTaken.{RowsTaken}
+use Rattle.pmap_print.specs.declared.table.Table.{Table}
 
 -- What the parts of a command read of its files.
 
@@ -93,13 +95,18 @@ module _ {R : Type 0} (left : R → Option (List ℕ)) (failed : R → Bool) whe
   AreLabels source old new (Err fault) = (text : Option Labelling → List MessageView → List ℕ)
       → IsMade (λ texts. ReportsThen text (option_map (source_with texts) source) texts.flows) old new (Err fault)
 
--- The state of a report after the messages that it has taken.
+-- The state of a report after the rows that it has taken.
 
-pub record HasGroups (keys : List KeyField) (condition : Condition) (labels : Option Labelling) (messages : List MessageView) (had : GroupsModel) : Type 0 where
+pub record HasGroups (keys : List KeyField) (condition : Condition) (labels : Option Labelling) (rows : List RowView) (had : GroupsModel) : Type 0 where
   pub fields : had.fields ≡ keys
-  pub count : record_count had.groups ≤ 131070 * length messages
-  pub groups : had.groups ≡ groups_of keys (label_where labels) (passing_rows condition labels messages)
+  pub count : record_count had.groups ≤ length rows
+  pub groups : had.groups ≡ groups_of keys (label_where labels) (passing condition labels rows)
 
-pub record HasRows (condition : Condition) (columns : Bool) (labels : Option Labelling) (messages : List MessageView) (taken : RowsTaken) : Type 0 where
-  pub padded : has_columns taken.table ≡ columns
-  pub lines : IsTable (column_count (is_some labels)) (labelled_row_lines labels (passing_rows condition labels messages)) taken.table
+pub record HasRows (condition : Condition) (columns : Bool) (labels : Option Labelling) (rows : List RowView) (table : Table) : Type 0 where
+  pub padded : has_columns table ≡ columns
+  pub lines : IsTable (column_count (is_some labels)) (labelled_row_lines labels (passing condition labels rows)) table
+
+-- the state is that after the rows of these messages
+pub record IsAfter {T : Type 0} (has_taken : List RowView → T → Type 0) (messages : List MessageView) (taken : T) : Type 0 where
+  pub few : length (rows_of_messages messages) ≤ 131070 * length messages
+  pub rows : has_taken (rows_of_messages messages) taken

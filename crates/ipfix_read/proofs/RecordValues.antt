@@ -219,33 +219,6 @@ pub none_more : (field : Field) (fields : List Field) (bytes : List ℕ) → Non
 unfolding whole_values
 none_more field fields bytes e = rw (← e) refl
 
--- ---- the values of fields that take bytes
-
-abbrev pub values_with_bytes : List FieldValueView → List FieldValueView
-values_with_bytes values = filter (λ v. has_bytes v.field) values
-
-nothing_is : (field : Field) (bytes : List ℕ) → field.length ≡ 0 → value_at field bytes ≡ Some ([], bytes)
-unfolding value_at
-nothing_is field bytes none = rw (none, le-ltb (length bytes) 0 (omega arith)) refl
-
-kept_step : (field : Field) (fields : List Field) (read : Option (List ℕ × List ℕ)) → has_bytes field ≡ true
-    → ((bytes : List ℕ) → whole_values (filter has_bytes fields) bytes ≡ values_with_bytes (whole_values fields bytes))
-    → option_map_or (λ v. record { field = field; value = v.0 } ∷ whole_values (filter has_bytes fields) v.1) read []
-    ≡ values_with_bytes (option_map_or (λ v. record { field = field; value = v.0 } ∷ whole_values fields v.1) read [])
-kept_step field fields None has rest = refl
-kept_step field fields (Some v) has rest = rw has (ap (λ (vs : List FieldValueView). record { field = field; value = v.0 } ∷ vs) (rest v.1))
-
-pub filled_values : (fields : List Field) (bytes : List ℕ) → whole_values (filter has_bytes fields) bytes ≡ values_with_bytes (whole_values fields bytes)
-unfolding whole_values
-filled_values [] bytes = refl
-filled_values (field ∷ fields) bytes =
-    elim (eqb field.length 0) as (λ c. eqb field.length 0 ≡ c → whole_values (cond (not c) (field ∷ filter has_bytes fields) (filter has_bytes fields)) bytes ≡ values_with_bytes (whole_values (field ∷ fields) bytes)) [
-      | true ↦ λ is.
-          let skips : values_with_bytes (whole_values (field ∷ fields) bytes) ≡ values_with_bytes (whole_values fields bytes) = rw (nothing_is field bytes (eqb-true field.length 0 is), is) refl in
-          filled_values fields bytes ∙ sym skips
-      | false ↦ λ is. kept_step field fields (value_at field bytes) (ap not is) (filled_values fields)
-    ] refl
-
 -- ---- the bytes that a data record takes
 
 bytes_shorter : (count : ℕ) (bytes : List ℕ) (x : List ℕ × List ℕ) → bytes_at count bytes ≡ Some x → length x.1 + count ≤ length bytes

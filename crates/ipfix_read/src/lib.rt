@@ -44,4 +44,4 @@ pub use messages::Messages;
 pub use progress::{Progress, State};
 pub use record::{Record, RecordList, Records};
 pub use set::{Set, SetList};
-pub use value::{FieldValue, FieldValues, Values, read_value};
+pub use value::{FieldValue, FieldValues, Values, read_bytes, read_value, read_variable};

@@ -128,16 +128,16 @@ impl<'f, 'a> Iterator for Values<'f, 'a> {
     }
 }
 
-// Splits the bytes after the first `count`. Returns `None` if the input is too short.
-fn read_bytes(count: usize, bytes: &[u8]) -> Option<(&[u8], &[u8])>
+/// Splits the bytes after the first `count`. Returns `None` if the input is too short.
+pub fn read_bytes(count: usize, bytes: &[u8]) -> Option<(&[u8], &[u8])>
     ensures { option_map (λ x. (x.0.now, x.1.now)) result ≡ bytes_at count bytes.now }
 {
     bytes.split_at_checked(count)
 }
 
-// Reads the value of a variable length at the start of the bytes, and returns it with the bytes after it. Returns
-// `None` if the input is too short.
-fn read_variable(bytes: &[u8]) -> Option<(&[u8], &[u8])>
+/// Reads the value of a variable length at the start of the bytes, and returns it with the bytes after it. Returns
+/// `None` if the input is too short.
+pub fn read_variable(bytes: &[u8]) -> Option<(&[u8], &[u8])>
     ensures { option_map (λ x. (x.0.now, x.1.now)) result ≡ variable_at bytes.now }
 {
     let (first, rest) = bytes.split_first()?;

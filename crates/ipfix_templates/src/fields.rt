@@ -1,8 +1,10 @@
-ghost use Rattle.std.specs.Prelude.{◌≡◌, ◌≤◌, length, filter, IfOk};
-ghost use Rattle.ipfix_templates.specs.Field.{has_bytes, least_length};
+ghost use Rattle.std.specs.Prelude.{◌≡◌, ◌≤◌, IfOk, length, option_map};
+ghost use Rattle.ipfix_templates.specs.Field.{least_length};
 ghost use Rattle.ipfix_templates.specs.Runs.{runs_behind, last_run_behind};
+ghost use Rattle.ipfix_templates.specs.Layout.{layout_of};
 
 use crate::field::Field;
+use crate::layout::RowLayout;
 use std::alloc::AllocError;
 use std::marker::Model;
 use std::rc::Rc;
@@ -11,10 +13,10 @@ use std::rc::Rc;
 #[derive(Drop)]
 struct Layout {
     items: Vec<Field>,
-    filled: Vec<Field>,
     runs: Vec<u32>,
     last_run: u32,
     least: u32,
+    rows: Option<RowLayout>,
 }
 
 /// A list of at most 65,535 field specifiers. Its copies share it.
@@ -39,7 +41,7 @@ impl Model for Fields {
 
     ghost view = { λ a. (rc_value a.shared).items.items };
 
-    ghost invariant = { λ a. let l = rc_value a.shared in IsKept l.items.items l.filled.items l.runs.items l.last_run l.least };
+    ghost invariant = { λ a. let l = rc_value a.shared in IsKept l.items.items l.runs.items l.last_run l.least l.rows };
 }
 
 impl Fields {
@@ -49,15 +51,11 @@ impl Fields {
         ensures { IfOk result (λ fields. fields ≡ items.items) }
     {
         let alloc = *items.allocator();
-        let mut filled = Vec::new(alloc);
         let mut runs = Vec::new(alloc);
         let mut last_run = 0u32;
         let mut least = 0u32;
         for field in items.as_slice() {
             let length = field.length();
-            if length != 0 {
-                filled.push(*field)?;
-            }
             if field.is_variable() {
                 runs.push(last_run)?;
                 last_run = 0;
@@ -67,12 +65,13 @@ impl Fields {
                 least += u32::from(length);
             }
         }
+        let rows = RowLayout::of_fields(items.as_slice());
         let layout = Layout {
             items,
-            filled,
             runs,
             last_run,
             least,
+            rows,
         };
         Ok(Fields {
             shared: Rc::new(alloc, layout)?,
@@ -95,13 +94,6 @@ impl Fields {
         self.shared.items.as_slice()
     }
 
-    /// Returns the fields whose values take bytes in a record, in order.
-    pub fn filled(&self) -> &[Field]
-        ensures { result.now ≡ filter has_bytes self.now }
-    {
-        self.shared.filled.as_slice()
-    }
-
     /// Returns for each variable field the sum of the fixed lengths since the variable field before it. A reader skips
     /// this number of bytes before each value of variable length.
     pub fn runs(&self) -> &[u32]
@@ -122,6 +114,14 @@ impl Fields {
         ensures { result ≡ least_length self.now }
     {
         self.shared.least
+    }
+
+    /// Returns where the numbers of rows are in records with these fields, or `None` if the records have no rows.
+    #[inline(always)]
+    pub fn row_layout(&self) -> Option<&RowLayout>
+        ensures { option_map (λ layout. layout.now) result ≡ layout_of self.now }
+    {
+        self.shared.rows.as_ref()
     }
 
     /// Returns a copy of the list. The fields are shared, so the copy allocates no memory for them.

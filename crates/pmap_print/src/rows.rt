@@ -58,7 +58,7 @@ fn write_number(number: u64, buf: &mut [u8], end: usize) -> usize
 #[inline(always)]
 fn print_fields(
     out: &mut Vec<u8>,
-    row: &Row,
+    row: &Row<'_>,
     last: u8,
 ) -> Result<[usize; COLUMNS_WITH_LABELS], AllocError>
     ensures text { OnOk result (out.new.items
@@ -119,7 +119,7 @@ fn label_length(label: Option<&[u8]>) -> usize
 #[inline(always)]
 fn print_row(
     out: &mut Vec<u8>,
-    row: &Row,
+    row: &Row<'_>,
     labels: Option<RowLabels<'_>>,
 ) -> Result<[usize; COLUMNS_WITH_LABELS], AllocError>
     ensures text { OnOk result (out.new.items
@@ -170,7 +170,11 @@ impl Table {
     ///
     /// # Errors
     /// If an allocation fails. The table may then end with a part of the line, and must not be used any more.
-    pub fn add_row(&mut self, row: &Row, labels: Option<RowLabels<'_>>) -> Result<(), AllocError>
+    pub fn add_row(
+        &mut self,
+        row: &Row<'_>,
+        labels: Option<RowLabels<'_>>,
+    ) -> Result<(), AllocError>
         requires { (lines : List Line) × IsTable (column_count (is_some labels)) lines self.old }
         ensures columns { has_columns self.new ≡ has_columns self.old }
         ensures line { OnOk result ((lines : List Line) → IsTable (column_count (is_some labels.entry)) lines self.old
@@ -209,7 +213,7 @@ fn labels_at<'a>(labels: Option<&[RowLabels<'a>]>, index: usize) -> Option<RowLa
 /// If an allocation fails.
 pub fn print_rows(
     alloc: Global,
-    rows: &[Row],
+    rows: &[Row<'_>],
     labels: Option<&[RowLabels<'_>]>,
     columns: bool,
 ) -> Result<Vec<u8>, AllocError>

@@ -1,9 +1,7 @@
 //! The output of `rows`.
-ghost use Rattle.std.specs.Prelude.{◌≡◌, ◌++◌, List, OnOk, [], false, is_some, map, option_map};
-ghost use Rattle.flow_rows.specs.Elements.{RowView};
-ghost use Rattle.pmap_print.specs.Table.{IsTable, has_columns};
-ghost use Rattle.pmap_print.specs.Reports.{column_count, label_texts};
-ghost use Rattle.flowlabel.specs.Output.{IsOutput, labelled_row_lines, row_labels};
+ghost use Rattle.std.specs.Prelude.{◌≡◌, [], false, option_map};
+ghost use Rattle.pmap_print.specs.Reports.{label_texts};
+ghost use Rattle.flowlabel.specs.Output.{IsOutput, row_labels};
 ghost use Rattle.flowlabel.specs.Reports.{IsMade, labelling_found};
 ghost use Rattle.flowlabel.specs.Request.{rows, source_of, with_texts};
 ghost use Rattle.flowlabel.specs.Run.{any_failed};
@@ -16,7 +14,7 @@ use crate::run::labels::LabelsRead;
 use crate::run::report::{Report, take_messages};
 use flow_filter::Filter;
 use flow_io::Input;
-use flow_rows::Row;
+use flow_rows::{Row, TakesRows, give_rows};
 use ipfix_read::Message;
 use label_lookup::{StretchIndex, label_row};
 use pmap_print::{RowLabels, Table};
@@ -30,47 +28,34 @@ struct RowsReport<'a> {
     labels: Option<&'a StretchIndex<'a>>,
 }
 
-// The table of the rows that passed so far, and room for the rows of a message.
-#[derive(Drop)]
-struct RowsTaken {
-    table: Table,
-    rows: Vec<Row>,
+impl<'a> TakesRows for RowsReport<'a> {
+    ghost use Rattle.flowlabel.specs.Reports.{HasRows, labelling_found};
+
+    type Taken = Table;
+
+    ghost has_taken = { λ report. HasRows report.filter.now report.columns (labelling_found report.labels) };
+
+    fn take_row(&self, table: &mut Table, row: &Row<'_>) -> Result<(), AllocError> {
+        if !self.filter.passes(row, self.labels) {
+            return Ok(());
+        }
+        table.add_row(row, labels_under(self.labels, row))
+    }
 }
 
 impl<'a> Report for RowsReport<'a> {
-    ghost use Rattle.flowlabel.specs.Reports.{HasRows, labelling_found};
+    ghost use Rattle.flowlabel.specs.Reports.{HasRows, IsAfter, labelling_found};
 
-    type Taken = RowsTaken;
+    type Taken = Table;
 
-    ghost is_of = { λ report. HasRows report.filter.now report.columns (labelling_found report.labels) };
+    ghost is_of = { λ report. IsAfter (HasRows report.filter.now report.columns (labelling_found report.labels)) };
 
-    fn take(&self, taken: &mut RowsTaken, message: &Message<'_>) -> Result<(), AllocError> {
-        taken.rows.clear();
-        self.filter
-            .add_passing_rows(message, self.labels, &mut taken.rows)?;
-        add_each(&mut taken.table, taken.rows.as_slice(), self.labels)
+    fn take(&self, table: &mut Table, message: &Message<'_>) -> Result<(), AllocError> {
+        give_rows(message, self, table)
     }
 }
 
-fn add_each(
-    table: &mut Table,
-    rows: &[Row],
-    labels: Option<&StretchIndex<'_>>,
-) -> Result<(), AllocError>
-    requires { let labelling = labelling_found labels in
-        (earlier : List RowView) × IsTable (column_count (is_some labelling)) (labelled_row_lines labelling earlier) table.old }
-    ensures columns { has_columns table.new ≡ has_columns table.old }
-    ensures rows { let labelling = labelling_found labels.entry in OnOk result ((earlier : List RowView)
-        → IsTable (column_count (is_some labelling)) (labelled_row_lines labelling earlier) table.old
-        → IsTable (column_count (is_some labelling)) (labelled_row_lines labelling (earlier ++ rows.now)) table.new) }
-{
-    for row in rows {
-        table.add_row(row, labels_under(labels, row))?;
-    }
-    Ok(())
-}
-
-fn labels_under<'l>(labels: Option<&'l StretchIndex<'_>>, row: &Row) -> Option<RowLabels<'l>>
+fn labels_under<'l>(labels: Option<&'l StretchIndex<'_>>, row: &Row<'_>) -> Option<RowLabels<'l>>
     ensures { option_map label_texts result
         ≡ option_map (λ l. row_labels l row.now) (labelling_found labels.entry) }
 {
@@ -99,15 +84,12 @@ pub fn output<R: Input>(
     let read = LabelsRead::of_files(alloc, labels, files, hashing)?;
     let index = read.index(alloc)?;
     let labels = index.as_ref();
-    let mut taken = RowsTaken {
-        table: Table::of_rows(alloc, labels.is_some(), columns)?,
-        rows: Vec::new(alloc),
-    };
+    let mut table = Table::of_rows(alloc, labels.is_some(), columns)?;
     let report = RowsReport {
         filter,
         columns,
         labels,
     };
-    take_messages(alloc, &mut files.flows, &report, &mut taken)?;
-    Ok(taken.table.into_text()?)
+    take_messages(alloc, &mut files.flows, &report, &mut table)?;
+    Ok(table.into_text()?)
 }

@@ -13,7 +13,7 @@ use crate::run::labels::LabelsRead;
 use crate::run::report::{Report, take_messages};
 use flow_filter::Filter;
 use flow_io::Input;
-use flow_rows::Row;
+use flow_rows::{Row, TakesRows, give_rows};
 use flow_uniq::{Groups, Keys};
 use ipfix_read::Message;
 use label_lookup::StretchIndex;
@@ -28,26 +28,30 @@ struct UniqReport<'a> {
     labels: Option<&'a StretchIndex<'a>>,
 }
 
-// The groups so far, and room for the rows of a message.
-#[derive(Drop)]
-struct UniqTaken {
-    groups: Groups,
-    rows: Vec<Row>,
+impl<'a> TakesRows for UniqReport<'a> {
+    ghost use Rattle.flowlabel.specs.Reports.{HasGroups, labelling_found};
+
+    type Taken = Groups;
+
+    ghost has_taken = { λ report. HasGroups report.keys.now report.filter.now (labelling_found report.labels) };
+
+    fn take_row(&self, groups: &mut Groups, row: &Row<'_>) -> Result<(), AllocError> {
+        if !self.filter.passes(row, self.labels) {
+            return Ok(());
+        }
+        groups.add(row, self.labels)
+    }
 }
 
 impl<'a> Report for UniqReport<'a> {
-    ghost use Rattle.flowlabel.specs.Reports.{HasGroups, labelling_found};
+    ghost use Rattle.flowlabel.specs.Reports.{HasGroups, IsAfter, labelling_found};
 
-    type Taken = UniqTaken;
+    type Taken = Groups;
 
-    ghost is_of = { λ report messages taken.
-        HasGroups report.keys.now report.filter.now (labelling_found report.labels) messages taken.groups };
+    ghost is_of = { λ report. IsAfter (HasGroups report.keys.now report.filter.now (labelling_found report.labels)) };
 
-    fn take(&self, taken: &mut UniqTaken, message: &Message<'_>) -> Result<(), AllocError> {
-        taken.rows.clear();
-        self.filter
-            .add_passing_rows(message, self.labels, &mut taken.rows)?;
-        taken.groups.add_rows(taken.rows.as_slice(), self.labels)
+    fn take(&self, groups: &mut Groups, message: &Message<'_>) -> Result<(), AllocError> {
+        give_rows(message, self, groups)
     }
 }
 
@@ -71,15 +75,12 @@ pub fn output<R: Input>(
     let read = LabelsRead::of_files(alloc, labels, files, hashing)?;
     let index = read.index(alloc)?;
     let labels = index.as_ref();
-    let mut taken = UniqTaken {
-        groups: Groups::with_hashing(alloc, keys, hashing)?,
-        rows: Vec::new(alloc),
-    };
+    let mut groups = Groups::with_hashing(alloc, keys, hashing)?;
     let report = UniqReport {
         keys,
         filter,
         labels,
     };
-    take_messages(alloc, &mut files.flows, &report, &mut taken)?;
-    Ok(print_groups(alloc, &taken.groups, sorted, columns)?)
+    take_messages(alloc, &mut files.flows, &report, &mut groups)?;
+    Ok(print_groups(alloc, &groups, sorted, columns)?)
 }

@@ -1,12 +1,18 @@
-use Rattle.std.proofs.Common.{◌∙◌, sym}
-use Rattle.flow_rows.specs.Elements.{forward, row_of_elements}
-use Rattle.flow_rows.proofs.Reading.{filled_said}
-use Rattle.flow_rows.proofs.Rows.{first_row_of-flow}
+use Rattle.std.proofs.Common.{◌∙◌, Some, ap, refl, sym}
+use Rattle.flow_rows.specs.Elements.{RowView}
+use Rattle.flow_rows.proofs.Rows.{layout_usable, row_found, row_missing}
 use Rattle.flow_rows.proofs.record.row_of.Goals as goal
+
+pub returns-in_default-row_layout : goal.returns-in_default-row_layout
+returns-in_default-row_layout c =
+    (row_missing c.args.source.now.kind c.in_default.not-Options c.args.source.now.fields c.specifiers-fields.result.now _ c.bytes-bytes.result.now
+    c.specifiers-fields.ensures refl c.bytes-bytes.ensures c.in_default-row_layout.ensures).0
+
+pub new-requires : goal.new-requires
+new-requires c = (layout_usable c.specifiers-fields.result.now c.in-Some.layout.now (sym c.in-Some.ensures)).0
 
 pub returns : goal.returns
 returns c =
-    let said = filled_said forward c.specifiers.result.now c.bytes-bytes.result.now c.args.source.now.fields (sym c.specifiers.ensures) c.bytes-bytes.ensures
-    c.filled.result.now c.filled.ensures in
-    c.row.ensures ∙ (λ i. row_of_elements (λ n. (c.of_record.ensures.said n ∙ said n) i))
-    ∙ sym (first_row_of-flow c.args.source.now.kind c.args.source.now.fields c.in_default.not-Options)
+    ap (λ (row : RowView). Some row) c.new.ensures
+    ∙ row_found c.args.source.now.kind c.in_default.not-Options c.args.source.now.fields c.specifiers-fields.result.now c.runs.result.now c.bytes-bytes.result.now
+    c.specifiers-fields.ensures c.runs.ensures c.bytes-bytes.ensures c.in-Some.layout.now c.in-Some.ensures

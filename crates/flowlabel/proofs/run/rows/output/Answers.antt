@@ -1,12 +1,12 @@
-use Rattle.std.proofs.Common.{◌≡◌, ◌∙◌, ◌∷◌, Bool, List, [], Option, ap, false, is_some, subst}
+use Rattle.std.proofs.Common.{◌≡◌, ◌∙◌, ◌∷◌, Bool, List, [], Option, ap, arith, false, is_some, subst}
 use Rattle.std.specs.Prelude.{option_map}
-use Rattle.flow_filter.specs.Condition.{Condition, passing_rows}
+use Rattle.flow_filter.specs.Condition.{Condition}
 use Rattle.label_lookup.specs.Labelling.{Labelling}
 use Rattle.pmap_print.specs.Reports.{column_count, title_line}
 use Rattle.pmap_print.specs.Table.{IsTable, Line, table_text}
 use Rattle.flowlabel.specs.declared.by_file.Role.TheVariants as role
-use Rattle.flowlabel.specs.Output.{IsOutput, labelled_row_lines, report_of_rows}
-use Rattle.flowlabel.specs.Reports.{HasRows, IsMade, labelling_found, labelling_read}
+use Rattle.flowlabel.specs.Output.{IsOutput, labelled_row_lines, passing_rows, report_of_rows}
+use Rattle.flowlabel.specs.Reports.{HasRows, IsAfter, IsMade, labelling_found, labelling_read}
 use Rattle.flowlabel.specs.Request.{rows, source_of, with_texts}
 use Rattle.flowlabel.proofs.MadeLemmas.{found_is, handed_on, memory_made, one_tells, report_done, report_fault}
 use Rattle.flowlabel.proofs.RowLemmas.{is_some-found, no_rows}
@@ -22,11 +22,14 @@ pub take_messages-requires-clause-none : goal.take_messages-requires-clause-none
 take_messages-requires-clause-none g c =
     let labels : Option Labelling = labelling_found c.as_ref-labels.result in
     record {
-      padded = c.in_ok-of_rows.ensures.columns;
-      lines =
-          subst (λ (ls : List Line). IsTable (column_count (is_some labels)) ls c.in_ok-of_rows.field-0) (no_rows labels)
-          (subst (λ (b : Bool). IsTable (column_count b) (title_line b ∷ []) c.in_ok-of_rows.field-0)
-          (c.is_some.ensures ∙ is_some-found c.as_ref-labels.result) c.in_ok-of_rows.ensures.header);
+      few = omega arith;
+      rows = record {
+        padded = c.in_ok-table.ensures.columns;
+        lines =
+            subst (λ (ls : List Line). IsTable (column_count (is_some labels)) ls c.in_ok-table.table) (no_rows labels)
+            (subst (λ (b : Bool). IsTable (column_count b) (title_line b ∷ []) c.in_ok-table.table)
+            (c.is_some.ensures ∙ is_some-found c.as_ref-labels.result) c.in_ok-table.ensures.header);
+      };
     }
 
 pub returns-in_err-take_messages : goal.returns-in_err-take_messages
@@ -34,7 +37,7 @@ returns-in_err-take_messages g c =
     let (texts, given, reads, same, still) = c.in_ok-read.ensures in
     report_fault c.args.files.now c.requires (report_of_rows c.args.filter.now c.args.columns) (option_map source_of c.args.labels) c.of_files.new.files
     (labelling_read c.in_ok-read.read) texts given reads same still c.take_messages.new.flows
-    (HasRows c.args.filter.now c.args.columns (labelling_found c.as_ref-labels.result)) c.take_messages.new.taken
+    (IsAfter (HasRows c.args.filter.now c.args.columns (labelling_found c.as_ref-labels.result))) c.take_messages.new.taken
     c.in_err-take_messages.field-0.0 c.from_residual-in_err-take_messages.result c.from_residual-in_err-take_messages.ensures.1
     c.in_err-take_messages.ensures.taken c.in_err-take_messages.ensures.failed
 
@@ -54,9 +57,9 @@ returns g c =
     let (texts, given, reads, same, still) = c.in_ok-read.ensures in
     report_done c.args.files.now c.requires (report_of_rows c.args.filter.now c.args.columns)
     (option_map source_of c.args.labels) mid labels texts given reads same still c.take_messages.new.flows
-    (HasRows c.args.filter.now c.args.columns (labelling_found c.as_ref-labels.result)) c.take_messages.new.taken c.in_ok-into_text.field-0
+    (IsAfter (HasRows c.args.filter.now c.args.columns (labelling_found c.as_ref-labels.result))) c.take_messages.new.taken c.in_ok-into_text.field-0
     c.in_ok-take_messages.ensures.taken c.in_ok-take_messages.ensures.failed
     (λ messages has.
     let lines : List Line = labelled_row_lines found (passing_rows condition found messages) in
-    c.in_ok-into_text.ensures (column_count (is_some found)) lines has.lines ∙ ap (λ b. table_text b lines) has.padded
+    c.in_ok-into_text.ensures (column_count (is_some found)) lines has.rows.lines ∙ ap (λ b. table_text b lines) has.rows.padded
     ∙ ap (λ (l : Option Labelling). report_of_rows condition c.args.columns l messages) is)

@@ -1,12 +1,12 @@
-use Rattle.std.proofs.Common.{◌≡◌, ◌∙◌, [], Option, ap, false}
+use Rattle.std.proofs.Common.{◌≡◌, ◌∙◌, [], Option, ap, arith, false}
 use Rattle.std.specs.Prelude.{option_map}
 use Rattle.flow_filter.specs.Condition.{Condition}
-use Rattle.flow_uniq.specs.Groups.{shown_groups}
+use Rattle.flow_uniq.specs.Groups.{record_count, shown_groups}
 use Rattle.label_lookup.specs.Labelling.{Labelling}
 use Rattle.pmap_print.specs.Reports.{groups_text}
 use Rattle.flowlabel.specs.declared.by_file.Role.TheVariants as role
 use Rattle.flowlabel.specs.Output.{IsOutput, report_of_groups}
-use Rattle.flowlabel.specs.Reports.{HasGroups, IsMade, labelling_found, labelling_read}
+use Rattle.flowlabel.specs.Reports.{HasGroups, IsAfter, IsMade, labelling_found, labelling_read}
 use Rattle.flowlabel.specs.Request.{source_of, uniq, with_texts}
 use Rattle.flowlabel.proofs.MadeLemmas.{found_is, handed_on, memory_made, one_tells, report_done, report_fault}
 use Rattle.flowlabel.proofs.run.uniq.output.Goals as goal
@@ -17,12 +17,25 @@ returns-in_err-read g c =
     c.from_residual.result c.in_err-read.field-0.0 c.from_residual.ensures.1
     (c.in_err-read.ensures (report_of_groups c.args.keys.now c.args.filter.now c.args.sorted c.args.columns))
 
+pub take_messages-requires-clause-none : goal.take_messages-requires-clause-none
+take_messages-requires-clause-none g c =
+    let none = c.in_ok-groups.ensures in
+    let zero : record_count c.in_ok-groups.groups.groups ≡ 0 = ap record_count none.groups in
+    record {
+      few = omega arith;
+      rows = record {
+        fields = none.fields;
+        count = omega (arith, zero);
+        groups = none.groups;
+      };
+    }
+
 pub returns-in_err-take_messages : goal.returns-in_err-take_messages
 returns-in_err-take_messages g c =
     let (texts, given, reads, same, still) = c.in_ok-read.ensures in
     report_fault c.args.files.now c.requires (report_of_groups c.args.keys.now c.args.filter.now c.args.sorted c.args.columns) (option_map source_of c.args.labels) c.of_files.new.files
     (labelling_read c.in_ok-read.read) texts given reads same still c.take_messages.new.flows
-    (λ messages taken. HasGroups c.args.keys.now c.args.filter.now (labelling_found c.as_ref-labels.result) messages taken.groups) c.take_messages.new.taken
+    (IsAfter (HasGroups c.args.keys.now c.args.filter.now (labelling_found c.as_ref-labels.result))) c.take_messages.new.taken
     c.in_err-take_messages.field-0.0 c.from_residual-in_err-take_messages.result c.from_residual-in_err-take_messages.ensures.1
     c.in_err-take_messages.ensures.taken c.in_err-take_messages.ensures.failed
 
@@ -42,7 +55,7 @@ returns g c =
     let (texts, given, reads, same, still) = c.in_ok-read.ensures in
     report_done c.args.files.now c.requires (report_of_groups c.args.keys.now c.args.filter.now c.args.sorted c.args.columns)
     (option_map source_of c.args.labels) mid labels texts given reads same still c.take_messages.new.flows
-    (λ messages taken. HasGroups c.args.keys.now c.args.filter.now (labelling_found c.as_ref-labels.result) messages taken.groups) c.take_messages.new.taken c.in_ok-print_groups.field-0
+    (IsAfter (HasGroups c.args.keys.now c.args.filter.now (labelling_found c.as_ref-labels.result))) c.take_messages.new.taken c.in_ok-print_groups.field-0
     c.in_ok-take_messages.ensures.taken c.in_ok-take_messages.ensures.failed
-    (λ messages has. c.in_ok-print_groups.ensures ∙ (λ j. groups_text (has.fields j) (shown_groups c.args.sorted (has.groups j)) c.args.columns)
+    (λ messages has. c.in_ok-print_groups.ensures ∙ (λ j. groups_text (has.rows.fields j) (shown_groups c.args.sorted (has.rows.groups j)) c.args.columns)
     ∙ ap (λ (l : Option Labelling). report_of_groups c.args.keys.now condition c.args.sorted c.args.columns l messages) is)

@@ -1,0 +1,38 @@
+use Rattle.std.proofs.Common.{◌≡◌, ◌∙◌, ℕ, Bool, Option, Some, None, ap, cond, false, refl, sym}
+use Rattle.std.specs.Prelude.{◌==◌}
+use Rattle.std.proofs.lemmas.Bool.{ne_eqb}
+use Rattle.ipfix_templates.specs.declared.layout.Place.{Place}
+use Rattle.flow_rows.specs.Elements.{RowView}
+use Rattle.flow_rows.specs.Inner.{number_there, row_at}
+use Rattle.flow_rows.proofs.Rows.{layout_usable, reverse_found, row_missing}
+use Rattle.flow_rows.proofs.record.reverse_row_of.Goals as goal
+
+pub returns-in_default-row_layout : goal.returns-in_default-row_layout
+returns-in_default-row_layout c =
+    (row_missing c.args.source.now.kind c.in_default.not-Options c.args.source.now.fields c.specifiers-fields.result.now _ c.bytes-bytes.result.now
+    c.specifiers-fields.ensures refl c.bytes-bytes.ensures c.in_default-row_layout.ensures).1
+
+pub new-row-requires : goal.new-row-requires
+new-row-requires c = (layout_usable c.specifiers-fields.result.now c.in-Some.layout.now (sym c.in-Some.ensures)).1
+
+pub returns-then-packets-eq0 : goal.returns-then-packets-eq0
+returns-then-packets-eq0 c =
+    let said = λ (p : Place). number_there p c.runs.result.now c.bytes-bytes.result.now in
+    let packets = c.in-Some.layout.now.second.packets in
+    let row : RowView = row_at c.in-Some.layout.now.second said in
+    let none : said packets ≡ 0 = sym (ap (λ (r : RowView). r.packets) c.new-row.ensures) ∙ sym c.packets.ensures ∙ c.if-packets-eq0.true in
+    ap (λ (n : ℕ). cond {A = Option RowView} (n == 0) None (Some row)) (sym none)
+    ∙ reverse_found c.args.source.now.kind c.in_default.not-Options c.args.source.now.fields c.specifiers-fields.result.now c.runs.result.now c.bytes-bytes.result.now
+    c.specifiers-fields.ensures c.runs.ensures c.bytes-bytes.ensures c.in-Some.layout.now c.in-Some.ensures
+
+pub returns : goal.returns
+returns c =
+    let said = λ (p : Place). number_there p c.runs.result.now c.bytes-bytes.result.now in
+    let packets = c.in-Some.layout.now.second.packets in
+    let row : RowView = row_at c.in-Some.layout.now.second said in
+    let some : (said packets == 0) ≡ false =
+    ne_eqb (said packets) 0 (λ zero. c.if-packets-eq0.false (c.packets.ensures ∙ ap (λ (r : RowView). r.packets) c.new-row.ensures ∙ zero)) in
+    ap (λ (r : RowView). Some r) c.new-row.ensures
+    ∙ ap (λ (b : Bool). cond {A = Option RowView} b None (Some row)) (sym some)
+    ∙ reverse_found c.args.source.now.kind c.in_default.not-Options c.args.source.now.fields c.specifiers-fields.result.now c.runs.result.now c.bytes-bytes.result.now
+    c.specifiers-fields.ensures c.runs.ensures c.bytes-bytes.ensures c.in-Some.layout.now c.in-Some.ensures

@@ -1,0 +1,66 @@
+-- Where the numbers of rows are in records with the same fields. This is private. A record's values alone specify its
+-- rows, and callers need not read this file.
+use Rattle.std.specs.Prelude.{ℕ, ◌+◌, List, [], ◌∷◌, Bool, true, false, not, Option, Some, None, option_map, ◌==◌, ◌&&◌, if◌then◌else◌}
+use Rattle.ipfix_templates.specs.Field.{FieldView, is_variable}
+use Rattle.ipfix_templates.specs.Elements.{back, forward, is_usable}
+use Rattle.ipfix_templates.specs.declared.layout.Place.{Place}
+use Rattle.ipfix_templates.specs.declared.layout.Places.{Places}
+use Rattle.ipfix_templates.specs.declared.layout.RowLayout.{RowLayout}
+
+-- the place of an element of a direction: that of the value of the first usable field, after `skips` variable values and
+-- `offset` bytes; a missing one has no length
+abbrev pub place : Option ℕ → ℕ → ℕ → ℕ → List FieldView → Place
+place direction number skips offset [] = record { offset = 0; skips = 0; length = 0 }
+place direction number skips offset (f ∷ fs) =
+    if is_usable direction number f then record { offset = offset; skips = skips; length = f.length }
+    else (if is_variable f then place direction number (skips + 1) 0 fs else place direction number skips (offset + f.length) fs)
+
+abbrev pub is_there : Place → Bool
+is_there p = not (p.length == 0)
+
+abbrev pub place_or : Place → Place → Place
+place_or p q = if is_there p then p else q
+
+-- the places of the first row, between the places of two addresses
+abbrev pub places_between : Bool → Place → Place → (ℕ → Place) → Places
+places_between is_v4 src dst at = record {
+  src = src;
+  dst = dst;
+  sport = at 7;
+  dport = at 11;
+  protocol = at 4;
+  flags = at 6;
+  packets = place_or (at 2) (at 86);
+  octets = place_or (at 1) (at 85);
+  start_ms = at 152;
+  end_ms = at 153;
+  is_v4 = is_v4;
+}
+
+-- the places of the first row, if there are both addresses of a version
+abbrev pub first_places : (ℕ → Place) → Option Places
+first_places at =
+    if is_there (at 8) && is_there (at 12) then Some (places_between true (at 8) (at 12) at)
+    else (if is_there (at 27) && is_there (at 28) then Some (places_between false (at 27) (at 28) at) else None)
+
+-- the places of the second row, given those of the first and of the elements of the reverse direction
+abbrev pub second_places : Places → (ℕ → Place) → Places
+second_places first at = record {
+  src = first.dst;
+  dst = first.src;
+  sport = first.dport;
+  dport = first.sport;
+  protocol = first.protocol;
+  flags = at 6;
+  packets = place_or (at 2) (at 86);
+  octets = place_or (at 1) (at 85);
+  start_ms = place_or (at 152) first.start_ms;
+  end_ms = place_or (at 153) first.end_ms;
+  is_v4 = first.is_v4;
+}
+
+-- the places of both rows of records with these fields, if they have rows
+unfoldable pub layout_of : List FieldView → Option RowLayout
+layout_of fields =
+    option_map (λ first. record { first = first; second = second_places first (λ number. place back number 0 0 fields) })
+    (first_places (λ number. place forward number 0 0 fields))
