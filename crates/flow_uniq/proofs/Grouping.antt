@@ -1,20 +1,17 @@
 -- The groups of some rows followed by one more.
-use Rattle.std.proofs.Common.{◌≡◌, ℕ, ◌+◌, ◌<◌, Bool, true, false, not, ◌||◌, cond, if◌then◌else◌, List, [], ◌∷◌, ◌++◌, Option, map, filter, length, get_or, take, true≢false, arith, refl, sym, ap, ◌∙◌}
+use Rattle.std.proofs.Common.{◌≡◌, Bool, true, false, not, ◌||◌, cond, if◌then◌else◌, List, [], ◌∷◌, ◌++◌, map, filter, true≢false, refl, sym, ap, ◌∙◌}
 use Rattle.std.proofs.lemmas.Cmp.{lists_equiv, nat_list_eq_equiv, on_equiv}
-use Rattle.std.proofs.lemmas.Grind.{common_steps}
-use Rattle.std.proofs.lemmas.List.{append-nil, append_assoc, length_push, map-append, map_push}
+use Rattle.std.proofs.lemmas.List.{append-nil, length_push, map-append, map_push}
 use Rattle.std.proofs.lemmas.List.Elements.{filter-append}
 use Rattle.std.proofs.lemmas.List.Sums.{sum_by_push}
 use Rattle.std.proofs.lemmas.Map.Views.{any-filter_same}
 use Rattle.std.proofs.lemmas.Simd.{map-map}
 use Rattle.std.specs.Cmp.{IsEquivalence}
 use Rattle.std.specs.List.{list_any}
-use Rattle.prefix_keys.specs.Text.{AddressOf}
 use Rattle.pmap_text.proofs.LabelTexts.{list_any-map}
-use Rattle.pmap_text.specs.MapModel.{Label}
 use Rattle.flow_rows.specs.Elements.{RowView}
-use Rattle.flow_uniq.specs.Key.{KeyField, Key, key_of, part_numbers, same_key}
-use Rattle.flow_uniq.specs.Groups.{Totals, GroupModel, KeyedRow, distinct_keys, groups_of_keyed, keyed, rows_with, totals_of}
+use Rattle.flow_uniq.specs.Key.{Key, part_numbers, same_key}
+use Rattle.flow_uniq.specs.Groups.{Totals, GroupModel, KeyedRow, distinct_keys, groups_of_keyed, rows_with, totals_of}
 use Rattle.flow_uniq.specs.Inner.{none, with_row}
 
 same_key-equiv : IsEquivalence same_key
@@ -117,24 +114,3 @@ module _ (rows : List KeyedRow) (k : Key) (row : RowView) where
     where
       known : list_any (same_key k) keys ≡ list_any (λ g. same_key k g.key) (groups_of_keyed rows)
       known = sym (list_any-map (group_of rows) (λ g. same_key k g.key) (distinct_keys keys) ∙ stands-distinct k keys)
-
--- the rows before the next index
-take_more : (all : List RowView) (i : ℕ) (row : RowView) → row ≡ get_or all i row → i < length all
-    → take (i + 1) all ≡ take i all ++ row ∷ []
-take_more all i row is within = grind (arith, common_steps)
-
--- the groups of earlier rows and of the rows before an index, with the row there, are those of the rows before the next
--- index
-pub then_row : (fields given : List KeyField) (label : AddressOf → Option Label) (all : List RowView) (i : ℕ) (row : RowView) (old new : List GroupModel)
-    → given ≡ fields → row ≡ get_or all i row → i < length all
-    → ((before : List KeyedRow) → old ≡ groups_of_keyed before → new ≡ groups_of_keyed (before ++ (key_of label given row, row) ∷ []))
-    → (earlier : List KeyedRow) → old ≡ groups_of_keyed (earlier ++ keyed fields label (take i all))
-    → new ≡ groups_of_keyed (earlier ++ keyed fields label (take (i + 1) all))
-then_row fields given label all i row old new same is within added earlier so_far =
-    added (earlier ++ keyed fields label (take i all)) so_far
-    ∙ (λ j. groups_of_keyed ((earlier ++ keyed fields label (take i all)) ++ (key_of label (same j) row, row) ∷ []))
-    ∙ ap groups_of_keyed
-    (append_assoc earlier (keyed fields label (take i all)) ((key_of label fields row, row) ∷ [])
-    ∙ ap (λ (rows : List KeyedRow). earlier ++ rows)
-    (sym (map_push (λ (r : RowView). (key_of label fields r, r)) (take i all) row)
-    ∙ ap (λ (rows : List RowView). keyed fields label rows) (sym (take_more all i row is within))))

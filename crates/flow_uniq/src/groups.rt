@@ -1,7 +1,7 @@
-ghost use Rattle.std.specs.Prelude.{All, ◌≡◌, ◌++◌, ℕ, ◌∷◌, [], ◌+◌, ◌-◌, ◌^◌, ◌<◌, false, IsTrue, List, IfOk, OnOk, OnErr, length, map, option_map, slice_get, take};
+ghost use Rattle.std.specs.Prelude.{All, ◌≡◌, ◌++◌, ℕ, ◌∷◌, [], ◌+◌, ◌-◌, ◌^◌, ◌<◌, false, IsTrue, List, IfOk, OnOk, OnErr, length, map, option_map, slice_get};
 ghost use Rattle.std.specs.List.Sorted.{IsPermutation, IsSortedBy};
 ghost use Rattle.label_lookup.specs.Labelling.{label_where, labelling_lent};
-ghost use Rattle.flow_uniq.specs.Groups.{AreOfNoRows, KeyedRow, groups_of_keyed, keyed, record_count, is_before, sorted_groups};
+ghost use Rattle.flow_uniq.specs.Groups.{AreOfNoRows, KeyedRow, groups_of_keyed, record_count, is_before, sorted_groups};
 ghost use Rattle.flow_uniq.specs.Key.{key_of};
 ghost use Rattle.flow_uniq.specs.Inner.{HasRow, IsCode, IsKept, group_model, kept_groups, key_in};
 
@@ -165,7 +165,11 @@ impl Groups {
 
     /// Adds a row to the group with its key, or to a new group, which comes last. The labels of its addresses are those
     /// of the labeller. Without a labeller no address has a label. If an allocation fails, the groups are unchanged.
-    pub fn add<L: Labeller>(&mut self, row: &Row<'_>, labeller: Option<&L>) -> Result<(), AllocError>
+    pub fn add<L: Labeller>(
+        &mut self,
+        row: &Row<'_>,
+        labeller: Option<&L>,
+    ) -> Result<(), AllocError>
         requires { record_count self.old.groups < 2 ^ 64 - 1 }
         ensures fields { self.new.fields ≡ self.old.fields }
         // If these were the groups of some rows with their keys, they are now those of the rows followed by this one.
@@ -179,31 +183,6 @@ impl Groups {
         write_key(&mut self.key, self.fields.as_slice(), row, labeller)?;
         let key = self.key.as_slice();
         add_row(&mut self.totals, &mut self.recent, self.alloc, key, row)?;
-        Ok(())
-    }
-
-    /// Adds rows in order, each as `add` does. If an allocation fails at one of them, those before it have been added.
-    pub fn add_rows<L: Labeller>(
-        &mut self,
-        rows: &[Row<'_>],
-        labeller: Option<&L>,
-    ) -> Result<(), AllocError>
-        requires { record_count self.old.groups + length rows.now < 2 ^ 64 }
-        ensures fields { self.new.fields ≡ self.old.fields }
-        // If these were the groups of some rows with their keys, they are now those of the rows followed by the added
-        // ones.
-        ensures ok { let label = label_where (labelling_lent L.version_of L.label labeller.entry) in
-            OnOk result ((earlier : List KeyedRow) → self.old.groups ≡ groups_of_keyed earlier
-            → self.new.groups ≡ groups_of_keyed (earlier ++ keyed self.old.fields label rows.now)) }
-        ensures count { OnOk result (record_count self.new.groups ≡ record_count self.old.groups + length rows.now) }
-        // If an allocation failed at one of them, the added ones are those before it.
-        ensures err { let label = label_where (labelling_lent L.version_of L.label labeller.entry) in
-            OnErr result ((count : ℕ) × (count < length rows.now) × ((earlier : List KeyedRow) → self.old.groups ≡ groups_of_keyed earlier
-            → self.new.groups ≡ groups_of_keyed (earlier ++ keyed self.old.fields label (take count rows.now)))) }
-    {
-        for row in rows {
-            self.add(row, labeller)?;
-        }
         Ok(())
     }
 
