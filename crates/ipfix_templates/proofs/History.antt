@@ -1,18 +1,16 @@
 -- The template in force after one more event.
-use Rattle.std.proofs.Common.{◌≡◌, arith, ℕ, ◌==◌, ◌||◌, ◌&&◌, not, Bool, true, false, cond, List, [], ◌∷◌, ◌++◌, Option, Some, None, refl, sym, ap, ◌∙◌, subst}
-use Rattle.std.specs.Prelude.{option_and_then, option_map, nat_eq, IfSome}
+use Rattle.std.proofs.Common.{◌≡◌, arith, ℕ, ◌==◌, ◌||◌, ◌&&◌, not, Bool, true, false, cond, List, [], ◌∷◌, ◌++◌, Option, Some, None, refl, sym, ap, ◌∙◌}
+use Rattle.std.specs.Prelude.{option_and_then, option_map}
 use Rattle.std.specs.List.{list_any}
 use Rattle.std.proofs.lemmas.List.Folds.{list_any-append}
-use Rattle.std.specs.Option.{option_or, option_copied}
-use Rattle.ipfix_templates.specs.InForce.{TemplateEvent, kept_where, definition, withdraws, last_definition, in_force, same_key, template_at, AreKeyed, ChangesAt, DropsKind, Follows, Define, Withdraw, WithdrawAll}
-use Rattle.ipfix_templates.specs.Template.{TemplateView, same_kind, Kind}
+use Rattle.std.specs.Option.{option_or}
+use Rattle.ipfix_templates.specs.InForce.{TemplateEvent, kept_where, definition, withdraws, last_definition, in_force, ChangesAt, DropsKind, Follows, Table, template_at, Define, Withdraw, WithdrawAll}
+use Rattle.ipfix_templates.specs.Template.{Template, same_kind, Kind}
 use Rattle.ipfix_templates.specs.Laws.{after_event}
-use Rattle.std.specs.Borrow.{Bor}
-use Rattle.std.proofs.lemmas.Bool.{eqb-true}
 use Rattle.std.proofs.lemmas.Grind.{common_steps}
 
 abbrev Defined : Type 0
-Defined = Option (TemplateView × List (ℕ × TemplateEvent))
+Defined = Option (Template × List (ℕ × TemplateEvent))
 
 -- the events after a definition, with one more
 abbrev more : ℕ × TemplateEvent → Defined → Defined
@@ -32,7 +30,7 @@ or_or a b c = grind (arith, common_steps)
 more_or : (e : ℕ × TemplateEvent) (a b : Defined) → more e (option_or a b) ≡ option_or (more e a) (more e b)
 more_or e a b = grind (arith, common_steps)
 
-more_here : (e : ℕ × TemplateEvent) (b : Bool) (o : Option TemplateView) (es : List (ℕ × TemplateEvent))
+more_here : (e : ℕ × TemplateEvent) (b : Bool) (o : Option Template) (es : List (ℕ × TemplateEvent))
     → more e (cond b (option_map (λ t. (t, es)) o) None) ≡ cond b (option_map (λ t. (t, es ++ e ∷ [])) o) None
 more_here e b o es = grind (arith, common_steps)
 
@@ -49,24 +47,24 @@ last-append (x ∷ es) e domain id =
     ∙ ap (option_or (newest domain id e)) (sym (more_or e found here))
 
 -- a definition that later events may withdraw
-kept_step : (ends : TemplateView → Bool) (b q : Bool) (t : TemplateView)
+kept_step : (ends : Template → Bool) (b q : Bool) (t : Template)
     → cond (q || (b && ends t)) None (Some t) ≡ cond b (kept_where (λ u. not (ends u)) (cond q None (Some t))) (cond q None (Some t))
 kept_step ends b q t = grind (arith, common_steps)
 
-module _ (withdrawn : TemplateView × List (ℕ × TemplateEvent) → Bool) (ends : TemplateView → Bool) (e : ℕ × TemplateEvent) where
-  abbrev alive : Defined → Option TemplateView
+module _ (withdrawn : Template × List (ℕ × TemplateEvent) → Bool) (ends : Template → Bool) (e : ℕ × TemplateEvent) where
+  abbrev alive : Defined → Option Template
   alive found = option_and_then (λ d. cond (withdrawn d) None (Some d.0)) found
 
   alive_more : (b : Bool) (found : Defined)
-      → ((d : TemplateView × List (ℕ × TemplateEvent)) → withdrawn (d.0, d.1 ++ e ∷ []) ≡ (withdrawn d || (b && ends d.0)))
+      → ((d : Template × List (ℕ × TemplateEvent)) → withdrawn (d.0, d.1 ++ e ∷ []) ≡ (withdrawn d || (b && ends d.0)))
       → alive (more e found) ≡ cond b (kept_where (λ u. not (ends u)) (alive found)) (alive found)
   alive_more true None h = refl
   alive_more false None h = refl
   alive_more b (Some d) h = ap (λ (w : Bool). cond w None (Some d.0)) (h d) ∙ kept_step ends b (withdrawn d) d.0
 
-  alive_after : (b : Bool) (made : Option TemplateView) (found : Defined)
-      → ((t : TemplateView) → withdrawn (t, []) ≡ false)
-      → ((d : TemplateView × List (ℕ × TemplateEvent)) → withdrawn (d.0, d.1 ++ e ∷ []) ≡ (withdrawn d || (b && ends d.0)))
+  alive_after : (b : Bool) (made : Option Template) (found : Defined)
+      → ((t : Template) → withdrawn (t, []) ≡ false)
+      → ((d : Template × List (ℕ × TemplateEvent)) → withdrawn (d.0, d.1 ++ e ∷ []) ≡ (withdrawn d || (b && ends d.0)))
       → alive (option_or (cond b (option_map (λ t. (t, [])) made) None) (more e found))
       ≡ cond b (option_or made (kept_where (λ u. not (ends u)) (alive found))) (alive found)
   alive_after true (Some t) found none h = ap (λ (w : Bool). cond w None (Some t)) (none t)
@@ -82,89 +80,50 @@ pub in_force-append : (es : List (ℕ × TemplateEvent)) (at : ℕ) (event : Tem
     → in_force (es ++ (at, event) ∷ []) domain id ≡ cond (at == domain) (after_event id event (in_force es domain id)) (in_force es domain id)
 unfolding in_force
 in_force-append es at event domain id =
-    let withdrawn : TemplateView × List (ℕ × TemplateEvent) → Bool = λ d. list_any (λ e. e.0 == domain && withdraws id d.0.kind e.1) d.1 in
-    let ends : TemplateView → Bool = λ t. withdraws id t.kind event in
+    let withdrawn : Template × List (ℕ × TemplateEvent) → Bool = λ d. list_any (λ e. e.0 == domain && withdraws id d.0.kind e.1) d.1 in
+    let ends : Template → Bool = λ t. withdraws id t.kind event in
     ap (λ (o : Defined). alive withdrawn ends (at, event) o) (last-append es (at, event) domain id)
     ∙ alive_after withdrawn ends (at, event) (at == domain) (definition id event) (last_definition es domain id) (λ t. refl)
     (λ d. list_any-append (λ e. e.0 == domain && withdraws id d.0.kind e.1) d.1 ((at, event) ∷ []) ∙ any_one (withdrawn d) (at == domain && ends d.0))
 
 -- ---- tables that change by one event at a time
 
-kept_all : (o : Option TemplateView) → kept_where (λ t. true) o ≡ o
+kept_all : (o : Option Template) → kept_where (λ t. true) o ≡ o
 kept_all None = refl
 kept_all (Some t) = refl
 
-kept_none : (o : Option TemplateView) → kept_where (λ t. false) o ≡ None
+kept_none : (o : Option Template) → kept_where (λ t. false) o ≡ None
 kept_none None = refl
 kept_none (Some t) = refl
 
 -- a template added at a key, and the template in force after the event that defines it
-defines : (b c : Bool) (t : TemplateView) (before : Option TemplateView)
+defines : (b c : Bool) (t : Template) (before : Option Template)
     → cond (b && c) (Some t) before ≡ cond b (option_or (cond c (Some t) None) (kept_where (λ u. true) before)) before
 defines false c t before = refl
 defines true true t before = refl
 defines true false t before = sym (kept_all before)
 
-withdraws_one : (b c : Bool) (before : Option TemplateView) → cond (b && c) None before ≡ cond b (kept_where (λ u. not c) before) before
+withdraws_one : (b c : Bool) (before : Option Template) → cond (b && c) None before ≡ cond b (kept_where (λ u. not c) before) before
 withdraws_one false c before = refl
 withdraws_one true true before = sym (kept_none before)
 withdraws_one true false before = sym (kept_all before)
 
-pub follows_define : (old new : List ((ℕ × ℕ) × TemplateView)) (domain : ℕ) (t : TemplateView) → ChangesAt old new domain t.id (Some t)
+pub follows_define : (old new : Table) (domain : ℕ) (t : Template) → ChangesAt (template_at old) (template_at new) domain t.id (Some t)
     → (history : List (ℕ × TemplateEvent)) → Follows old history → Follows new (history ++ (domain, Define t) ∷ [])
 follows_define old new domain t change history follows d i =
-    change d i ∙ ap (λ (o : Option TemplateView). cond (same_key (domain, t.id) (d, i)) (Some t) o) (follows d i)
-    ∙ defines (nat_eq domain d) (nat_eq t.id i) t (in_force history d i)
+    change d i ∙ ap (λ (o : Option Template). cond (domain == d && t.id == i) (Some t) o) (follows d i)
+    ∙ defines (domain == d) (t.id == i) t (in_force history d i)
     ∙ sym (in_force-append history domain (Define t) d i)
 
-pub follows_withdraw : (old new : List ((ℕ × ℕ) × TemplateView)) (domain id : ℕ) → ChangesAt old new domain id None
+pub follows_withdraw : (old new : Table) (domain id : ℕ) → ChangesAt (template_at old) (template_at new) domain id None
     → (history : List (ℕ × TemplateEvent)) → Follows old history → Follows new (history ++ (domain, Withdraw id) ∷ [])
 follows_withdraw old new domain id change history follows d i =
-    change d i ∙ ap (λ (o : Option TemplateView). cond (same_key (domain, id) (d, i)) None o) (follows d i)
-    ∙ withdraws_one (nat_eq domain d) (nat_eq id i) (in_force history d i)
+    change d i ∙ ap (λ (o : Option Template). cond (domain == d && id == i) None o) (follows d i)
+    ∙ withdraws_one (domain == d) (id == i) (in_force history d i)
     ∙ sym (in_force-append history domain (Withdraw id) d i)
 
-pub follows_withdraw_all : (old new : List ((ℕ × ℕ) × TemplateView)) (domain : ℕ) (kind : Kind) → DropsKind old new domain kind
+pub follows_withdraw_all : (old new : Table) (domain : ℕ) (kind : Kind) → DropsKind (template_at old) (template_at new) domain kind
     → (history : List (ℕ × TemplateEvent)) → Follows old history → Follows new (history ++ (domain, WithdrawAll kind) ∷ [])
 follows_withdraw_all old new domain kind change history follows d i =
-    change d i ∙ ap (λ (o : Option TemplateView). cond (nat_eq domain d) (kept_where (λ t. not (same_kind kind t.kind)) o) o) (follows d i)
+    change d i ∙ ap (λ (o : Option Template). cond (domain == d) (kept_where (λ t. not (same_kind kind t.kind)) o) o) (follows d i)
     ∙ sym (in_force-append history domain (WithdrawAll kind) d i)
-
--- ---- each template has the ID of its entry
-
-abbrev Entries : Type 0
-Entries = List ((ℕ × ℕ) × TemplateView)
-
-abbrev HasId : ℕ → Option TemplateView → Type 0
-HasId id found = IfSome found (λ t. t.id ≡ id)
-
-kept_id : (test : TemplateView → Bool) (id : ℕ) (o : Option TemplateView) → HasId id o → HasId id (kept_where test o)
-kept_id test id None h = tt
-kept_id test id (Some t) h = elim (test t) as (λ b. HasId id (cond b (Some t) None)) [ true ↦ h | false ↦ tt ]
-
-pub keyed_put : (old new : Entries) (domain : ℕ) (t : TemplateView) → ChangesAt old new domain t.id (Some t) → AreKeyed old → AreKeyed new
-keyed_put old new domain t change keyed d i =
-    let before = template_at old d i in
-    let put : HasId i (cond (nat_eq domain d && nat_eq t.id i) (Some t) before) =
-    elim (nat_eq domain d) as (λ b. HasId i (cond (b && nat_eq t.id i) (Some t) before)) [
-      | true ↦ elim (nat_eq t.id i) as (λ b. nat_eq t.id i ≡ b → HasId i (cond b (Some t) before)) [ true ↦ λ same. eqb-true t.id i same | false ↦ λ _. keyed d i ] refl
-      | false ↦ keyed d i
-    ] in
-    subst (HasId i) (sym (change d i)) put
-
-pub keyed_removed : (old new : Entries) (domain id : ℕ) → ChangesAt old new domain id None → AreKeyed old → AreKeyed new
-keyed_removed old new domain id change keyed d i =
-    let before = template_at old d i in
-    subst (HasId i) (sym (change d i)) (elim (same_key (domain, id) (d, i)) as (λ b. HasId i (cond b None before)) [ true ↦ tt | false ↦ keyed d i ])
-
-pub keyed_dropped : (old new : Entries) (domain : ℕ) (kind : Kind) → DropsKind old new domain kind → AreKeyed old → AreKeyed new
-keyed_dropped old new domain kind change keyed d i =
-    let before = template_at old d i in
-    let kept = kept_where (λ t. not (same_kind kind t.kind)) before in
-    subst (HasId i) (sym (change d i))
-    (elim (nat_eq domain d) as (λ b. HasId i (cond b kept before)) [ true ↦ kept_id (λ t. not (same_kind kind t.kind)) i before (keyed d i) | false ↦ keyed d i ])
-
-pub keyed_found : (inside table : Entries) (domain id : ℕ) (found : Option (Bor TemplateView)) → inside ≡ table → AreKeyed inside → option_copied found ≡ template_at table domain id
-    → IfSome found (λ t. t.now.id ≡ id)
-keyed_found inside table domain id None same keyed is = tt
-keyed_found inside table domain id (Some t) same keyed is = subst (HasId id) (sym is) (subst AreKeyed same keyed domain id)

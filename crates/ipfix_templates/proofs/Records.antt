@@ -3,7 +3,7 @@ use Rattle.std.proofs.Common.{◌≡◌, false, ℕ, suc, ◌+◌, ◌-◌, ◌<
 use Rattle.std.specs.Prelude.{nat_lt, option_and_then}
 use Rattle.std.specs.Result.{result_map_both}
 use Rattle.ipfix_templates.specs.Template.{Field, Kind, Flow, Options}
-use Rattle.ipfix_templates.specs.Reading.{field_at, fields_at, defined_by, definition_at, withdrawal, template_record_at, template_next, items_from, TemplateFault, TemplateFaultKind}
+use Rattle.ipfix_templates.specs.Reading.{field_at, fields_at, defined_by, definition_at, template_record_at, template_next, items_from, TemplateFault, TemplateFaultKind}
 use Rattle.std.proofs.lemmas.Grind.{common_steps}
 use Rattle.std.proofs.lemmas.Bool.{ltb-false, lt-ltb, le-ltb}
 use Rattle.byteorder.specs.Endian.{big_number}
@@ -61,16 +61,11 @@ definition_shorter Options id count bytes x e =
     let rest = defined_shorter Options id (big_number 2 bytes) count (drop 2 bytes) x in
     let two = length-drop 2 bytes in grind (arith, common_steps)
 
-withdrawal_shorter : (kind : Kind) (id : ℕ) (after : List ℕ) (x : TemplateEvent × List ℕ) → withdrawal kind id after ≡ Ok x → x.1 ≡ after
-withdrawal_shorter kind id after x e = grind (arith, common_steps)
-
 -- a record takes at least 4 bytes
 pub record_shorter : (kind : Kind) (bytes : List ℕ) (x : TemplateEvent × List ℕ) → 4 ≤ length bytes → template_record_at kind bytes ≡ Ok x → length x.1 + 4 ≤ length bytes
 unfolding template_record_at
 record_shorter kind bytes x long e =
-    let id = big_number 2 bytes in
-    let withdrawn = withdrawal_shorter kind id (drop 4 bytes) x in
-    let defined = definition_shorter kind id (big_number 2 (drop 2 bytes)) (drop 4 bytes) x in
+    let defined = definition_shorter kind (big_number 2 bytes) (big_number 2 (drop 2 bytes)) (drop 4 bytes) x in
     let four = length-drop 4 bytes in grind (arith, common_steps)
 
 -- ---- consecutive records

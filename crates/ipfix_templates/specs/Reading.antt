@@ -1,4 +1,4 @@
-use Rattle.std.specs.Prelude.{◌≡◌, ◌⊎◌, List, [], ◌∷◌, ◌++◌, ℕ, zero, suc, ◌+◌, ◌-◌, Bool, true, false, length, drop, Option, Some, None, Result, Ok, Err, option_and_then, nat_lt, ◌==◌, ◌||◌, if◌then◌else◌}
+use Rattle.std.specs.Prelude.{◌≡◌, ◌⊎◌, List, [], ◌∷◌, ◌++◌, ℕ, zero, suc, ◌+◌, ◌-◌, Bool, true, false, length, drop, Option, Some, None, Result, Ok, Err, option_and_then, nat_lt, ◌==◌, ◌&&◌, ◌||◌, if◌then◌else◌}
 use Rattle.std.specs.Result.{result_map_both}
 use Rattle.byteorder.specs.Endian.{big_number}
 pub use Rattle.ipfix_templates.specs.declared.fault.TemplateFault.{TemplateFault}
@@ -67,21 +67,16 @@ definition_at Options id count bytes =
     else (if scopes == 0 || nat_lt count scopes then Err BadScope
     else defined_by Options id scopes (fields_at count (drop 2 bytes)))
 
--- the withdrawal of a record with field count 0, and the bytes after it: of all templates of the kind if the ID is the
--- set's own, otherwise of the template with that ID (section 8.1)
-abbrev pub withdrawal : Kind → ℕ → List ℕ → Result (TemplateEvent × List ℕ) TemplateFaultKind
-withdrawal kind id after =
-    if id == set_id kind then Ok (WithdrawAll kind, after)
-    else (if nat_lt id 256 then Err BadTemplateId else Ok (Withdraw id, after))
-
--- the template record at the start and the bytes after it, or the first fault of these bytes
+-- The template record at the start and the bytes after it, or the first fault of these bytes. A record without fields
+-- withdraws the template with its ID, or all of the kind if the ID is that of the set (section 8.1).
 unfoldable pub template_record_at : Kind → List ℕ → Result (TemplateEvent × List ℕ) TemplateFaultKind
 template_record_at kind bytes =
     let id = big_number 2 bytes in
     let count = big_number 2 (drop 2 bytes) in
-    if count == 0 then withdrawal kind id (drop 4 bytes)
+    if count == 0 && id == set_id kind then Ok (WithdrawAll kind, drop 4 bytes)
     else (if nat_lt id 256 then Err BadTemplateId
-    else definition_at kind id count (drop 4 bytes))
+    else (if count == 0 then Ok (Withdraw id, drop 4 bytes)
+    else definition_at kind id count (drop 4 bytes)))
 
 -- the template record at the start of bytes at this offset, and the bytes after it, or its fault
 abbrev pub template_next : Kind → ℕ → List ℕ → Result (TemplateEvent × List ℕ) TemplateFault

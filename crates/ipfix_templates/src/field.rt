@@ -1,12 +1,10 @@
-ghost use Rattle.std.specs.Prelude.{◌≡◌, ◌<◌};
+ghost use Rattle.std.specs.Prelude.{◌≡◌};
 ghost use Rattle.ipfix_templates.specs.Field.{is_variable};
-
-use std::marker::Model;
 
 /// The length in a field specifier that means a variable length (RFC 7011 section 7).
 pub const VARIABLE_LENGTH: u16 = 65535;
 
-/// A field specifier (RFC 7011 section 3.2). The number of its information element is below 32,768.
+/// A field specifier (RFC 7011 section 3.2).
 #[derive(Clone, Copy)]
 pub struct Field {
     /// The enterprise number, if the enterprise bit is 1.
@@ -17,42 +15,7 @@ pub struct Field {
     pub length: u16,
 }
 
-impl Model for Field {
-    ghost use Rattle.std.specs.Prelude.{◌<◌};
-    ghost use Rattle.ipfix_templates.specs.Field.{FieldView};
-
-    ghost Value = { FieldView };
-
-    ghost view = { λ f. record { enterprise = f.enterprise; number = f.number; length = f.length } };
-
-    ghost invariant = { λ f. f.number < 32768 };
-
-    ghost inverse = { λ v. record { enterprise = v.enterprise; number = v.number; length = v.length } };
-}
-
 impl Field {
-    /// Returns the enterprise number, if the enterprise bit is 1.
-    pub fn enterprise(self) -> Option<u32>
-        ensures { result ≡ self.enterprise }
-    {
-        self.enterprise
-    }
-
-    /// Returns the number of the information element, without the enterprise bit.
-    pub fn number(self) -> u16
-        ensures value { result ≡ self.number }
-        ensures bound { result < 32768 }
-    {
-        self.number
-    }
-
-    /// Returns the length of each value in bytes, or `VARIABLE_LENGTH`.
-    pub fn length(self) -> u16
-        ensures { result ≡ self.length }
-    {
-        self.length
-    }
-
     /// Returns `true` if the length is variable.
     pub fn is_variable(self) -> bool
         ensures { result ≡ is_variable self }

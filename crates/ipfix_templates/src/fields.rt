@@ -34,10 +34,10 @@ impl Drop for Fields {
 impl Model for Fields {
     ghost use Rattle.std.specs.Prelude.{List};
     ghost use Rattle.std.specs.Rc.{rc_value};
-    ghost use Rattle.ipfix_templates.specs.Field.{FieldView};
+    ghost use Rattle.ipfix_templates.specs.Field.{Field};
     ghost use Rattle.ipfix_templates.specs.Runs.{IsKept};
 
-    ghost Value = { List FieldView };
+    ghost Value = { List Field };
 
     ghost view = { λ a. (rc_value a.shared).items.items };
 
@@ -55,14 +55,14 @@ impl Fields {
         let mut last_run = 0u32;
         let mut least = 0u32;
         for field in items.as_slice() {
-            let length = field.length();
+            let length = u32::from(field.length);
             if field.is_variable() {
                 runs.push(last_run)?;
                 last_run = 0;
                 least += 1;
             } else {
-                last_run += u32::from(length);
-                least += u32::from(length);
+                last_run += length;
+                least += length;
             }
         }
         let rows = RowLayout::of_fields(items.as_slice());

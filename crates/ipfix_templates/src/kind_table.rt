@@ -1,6 +1,6 @@
-ghost use Rattle.std.specs.Prelude.{◌≡◌, ℕ, [], None, Some, OnOk, OnErr, nat_eq, if◌then◌else◌};
+ghost use Rattle.std.specs.Prelude.{◌≡◌, ◌==◌, ℕ, [], None, Some, OnOk, OnErr, if◌then◌else◌};
 ghost use Rattle.std.specs.Option.{option_copied};
-ghost use Rattle.ipfix_templates.specs.InForce.{template_at, ChangesAt};
+ghost use Rattle.ipfix_templates.specs.InForce.{ChangesAt, stored};
 
 use crate::template::Template;
 use std::alloc::{AllocError, Global};
@@ -9,7 +9,7 @@ use std::marker::Model;
 
 /// Templates by their domains and IDs. The templates of each domain have a map of their own, so dropping all of them
 /// does not visit those of other domains. The maps are ordered, so no choice of domains or IDs makes a lookup slow.
-/// Contracts see the table as its entries, in no particular order.
+/// Contracts see the table as the list of its domains, each with the list of its templates by their IDs.
 #[derive(Drop)]
 pub struct KindTable {
     alloc: Global,
@@ -17,17 +17,12 @@ pub struct KindTable {
 }
 
 impl Model for KindTable {
-    ghost use Rattle.std.specs.Prelude.{List, ℕ};
-    ghost use Rattle.std.specs.Ordering.{nat_cmp};
-    ghost use Rattle.std.specs.BTreeMap.{IsOrdered};
-    ghost use Rattle.ipfix_templates.specs.Template.{TemplateView};
-    ghost use Rattle.ipfix_templates.specs.InForce.{entries_of};
+    ghost use Rattle.std.specs.Prelude.{map};
+    ghost use Rattle.ipfix_templates.specs.InForce.{ByDomain};
 
-    ghost Value = { List ((ℕ × ℕ) × TemplateView) };
+    ghost Value = { ByDomain };
 
-    ghost view = { λ a. entries_of a.domains.entries };
-
-    ghost invariant = { λ a. IsOrdered nat_cmp a.domains };
+    ghost view = { λ a. map (λ d. (d.0, d.1.entries)) a.domains.entries };
 }
 
 impl KindTable {
@@ -43,17 +38,17 @@ impl KindTable {
 
     /// Returns the template with this ID in the domain.
     pub fn get(&self, domain: u32, id: u16) -> Option<&Template>
-        ensures { option_copied result ≡ template_at self.now domain id }
+        ensures { option_copied result ≡ stored self.now domain id }
     {
         self.domains.get(&domain)?.get(&id)
     }
 
     /// Adds a template to the domain, replacing the one with its ID. If an allocation fails, the table is unchanged.
     pub fn insert(&mut self, domain: u32, template: Template) -> Result<(), AllocError>
-        ensures ok { OnOk result (ChangesAt self.old self.new domain template.id (Some template)) }
+        ensures ok { OnOk result (ChangesAt (stored self.old) (stored self.new) domain template.id (Some template)) }
         ensures err { OnErr result (self.new ≡ self.old) }
     {
-        let id = template.id();
+        let id = template.id;
         if let Some(templates) = self.domains.get_mut(&domain) {
             templates.insert(id, template)?;
             return Ok(());
@@ -66,7 +61,7 @@ impl KindTable {
 
     /// Removes the template with this ID from the domain, if there is one.
     pub fn remove(&mut self, domain: u32, id: u16)
-        ensures { ChangesAt self.old self.new domain id None }
+        ensures { ChangesAt (stored self.old) (stored self.new) domain id None }
     {
         let Some(templates) = self.domains.get_mut(&domain) else {
             return;
@@ -76,7 +71,7 @@ impl KindTable {
 
     /// Removes all templates of the domain.
     pub fn remove_all(&mut self, domain: u32)
-        ensures { (d i : ℕ) → template_at self.new d i ≡ (if nat_eq domain d then None else template_at self.old d i) }
+        ensures { (d i : ℕ) → stored self.new d i ≡ (if domain == d then None else stored self.old d i) }
     {
         self.domains.remove(&domain);
     }

@@ -129,7 +129,7 @@ fn fits(number: u16, length: u16) -> bool
 fn is_usable(direction: Option<u32>, number: u16, field: Field) -> bool
     ensures { result ≡ is_usable direction number field }
 {
-    field.number() == number && field.enterprise() == direction && fits(number, field.length())
+    field.number == number && field.enterprise == direction && fits(number, field.length)
 }
 
 // Returns the place of the value of the first field that is usable for an element in a direction.
@@ -140,7 +140,7 @@ fn place_of(direction: Option<u32>, number: u16, fields: &[Field]) -> Place
     let mut offset = 0u32;
     let mut skips = 0u16;
     for field in fields {
-        let length = field.length();
+        let length = field.length;
         if is_usable(direction, number, *field) {
             return Place {
                 offset,

@@ -1,4 +1,4 @@
-ghost use Rattle.std.specs.Prelude.{◌≡◌, ◌≤◌, ◌<◌, ◌⊎◌, length, IfErr, IfOk, Ok, None, Some, option_map};
+ghost use Rattle.std.specs.Prelude.{◌≡◌, ◌≤◌, ◌⊎◌, length, IfErr, IfOk, Ok, None, Some, option_map};
 ghost use Rattle.ipfix_templates.specs.Reading.{NoMemory, Truncated, IsFault, field_at, fields_at, template_record_at, definition_at};
 
 use crate::event::TemplateEvent;
@@ -80,8 +80,6 @@ fn read_definition(
     count: u16,
     bytes: &[u8],
 ) -> Read<'_, TemplateEvent>
-    requires numbered { 256 ≤ id }
-    requires some_field { 0 < count }
     ensures ok { IfOk result (λ x. definition_at kind id count bytes.now ≡ Ok (x.0, x.1.now)) }
     ensures fault { IfErr result (IsFault NoMemory (definition_at kind id count bytes.now)) }
 {
@@ -118,17 +116,14 @@ pub fn read_record(alloc: Global, kind: Kind, bytes: &[u8]) -> Read<'_, Template
     let id = BigEndian::read_u16(bytes);
     let count = BigEndian::read_u16(&bytes[2..]);
     let rest = &bytes[4..];
-    if count == 0 {
-        if id == kind.set_id() {
-            return Ok((TemplateEvent::WithdrawAll(kind), rest));
-        }
-        if id < FIRST_TEMPLATE_ID {
-            return Err(TemplateFaultKind::BadTemplateId);
-        }
-        return Ok((TemplateEvent::Withdraw(id), rest));
+    if count == 0 && id == kind.set_id() {
+        return Ok((TemplateEvent::WithdrawAll(kind), rest));
     }
     if id < FIRST_TEMPLATE_ID {
         return Err(TemplateFaultKind::BadTemplateId);
+    }
+    if count == 0 {
+        return Ok((TemplateEvent::Withdraw(id), rest));
     }
     read_definition(alloc, kind, id, count, rest)
 }

@@ -1,6 +1,6 @@
-ghost use Rattle.std.specs.Prelude.{◌≡◌, ◌++◌, ◌∷◌, [], List, ℕ, Some, None, IfSome, OnOk, OnErr};
+ghost use Rattle.std.specs.Prelude.{◌≡◌, ◌++◌, ◌∷◌, [], List, ℕ, Some, None, OnOk, OnErr};
 ghost use Rattle.std.specs.Option.{option_copied};
-ghost use Rattle.ipfix_templates.specs.InForce.{TemplateEvent as Event, Define, Withdraw, WithdrawAll, template_at, ChangesAt, DropsKind, Follows};
+ghost use Rattle.ipfix_templates.specs.InForce.{TemplateEvent as Event, Define, Withdraw, WithdrawAll, ChangesAt, DropsKind, Follows, template_at};
 
 use crate::kind::Kind;
 use crate::kind_table::KindTable;
@@ -8,8 +8,7 @@ use crate::template::Template;
 use std::alloc::{AllocError, Global};
 use std::marker::Model;
 
-/// The templates of each observation domain, by their IDs. Contracts see the table as its entries, in no particular
-/// order: `template_at` returns the template at each domain and ID.
+/// The templates of each observation domain, by their IDs. `template_at` is the template at a domain and an ID.
 pub struct TemplateTable {
     flow: KindTable,
     options: KindTable,
@@ -26,22 +25,20 @@ impl Drop for TemplateTable {
 }
 
 impl Model for TemplateTable {
-    ghost use Rattle.std.specs.Prelude.{List, ℕ, ◌++◌};
-    ghost use Rattle.ipfix_templates.specs.Template.{TemplateView};
-    ghost use Rattle.ipfix_templates.specs.InForce.{AreKeyed, AreParted};
+    ghost use Rattle.ipfix_templates.specs.InForce.{AreParted, Table};
 
-    ghost Value = { List ((ℕ × ℕ) × TemplateView) };
+    ghost Value = { Table };
 
-    ghost view = { λ a. a.flow ++ a.options };
+    ghost view = { λ a. (a.flow, a.options) };
 
-    ghost invariant = { λ a. AreParted a.flow a.options × AreKeyed (a.flow ++ a.options) };
+    ghost invariant = { λ a. AreParted a.flow a.options };
 }
 
 impl TemplateTable {
     /// Returns an empty table.
     #[tactic(auto, unfolding(crate::specs::InForce::in_force))]
     pub fn new(alloc: Global) -> Self
-        ensures empty { result ≡ [] }
+        ensures empty { result ≡ ([], []) }
         ensures follows { Follows result [] }
     {
         TemplateTable {
@@ -52,8 +49,7 @@ impl TemplateTable {
 
     /// Returns the template with this ID in the domain.
     pub fn get(&self, domain: u32, id: u16) -> Option<&Template>
-        ensures found { option_copied result ≡ template_at self.now domain id }
-        ensures numbered { IfSome result (λ template. template.now.id ≡ id) }
+        ensures { option_copied result ≡ template_at self.now domain id }
     {
         match self.flow.get(domain, id) {
             Some(template) => Some(template),
@@ -63,15 +59,15 @@ impl TemplateTable {
 
     /// Defines a template in the domain, replacing the one with its ID. If an allocation fails, the table is unchanged.
     pub fn set(&mut self, domain: u32, template: Template) -> Result<(), AllocError>
-        ensures ok { OnOk result (ChangesAt self.old self.new domain template.id (Some template)) }
+        ensures ok { OnOk result (ChangesAt (template_at self.old) (template_at self.new) domain template.id (Some template)) }
         ensures err { OnErr result (self.new ≡ self.old) }
 
         // After the events of a history and this definition the table follows both.
         ensures follows { OnOk result ((history : List (ℕ × Event)) → Follows self.old history
             → Follows self.new (history ++ (domain, Define template) ∷ [])) }
     {
-        let id = template.id();
-        match template.kind() {
+        let id = template.id;
+        match template.kind {
             Kind::Flow => {
                 self.flow.insert(domain, template)?;
                 self.options.remove(domain, id);
@@ -86,7 +82,7 @@ impl TemplateTable {
 
     /// Withdraws the template with this ID in the domain, if there is one.
     pub fn withdraw(&mut self, domain: u32, id: u16)
-        ensures change { ChangesAt self.old self.new domain id None }
+        ensures change { ChangesAt (template_at self.old) (template_at self.new) domain id None }
 
         // After the events of a history and this withdrawal the table follows both.
         ensures follows { (history : List (ℕ × Event)) → Follows self.old history
@@ -98,7 +94,7 @@ impl TemplateTable {
 
     /// Withdraws all templates of the kind in the domain.
     pub fn withdraw_all(&mut self, domain: u32, kind: Kind)
-        ensures change { DropsKind self.old self.new domain kind }
+        ensures change { DropsKind (template_at self.old) (template_at self.new) domain kind }
 
         // After the events of a history and this withdrawal the table follows both.
         ensures follows { (history : List (ℕ × Event)) → Follows self.old history
