@@ -8,8 +8,7 @@ use Rattle.ipfix_read.specs.Message.{ReadFault, ReadFaultKind, MessageView, HasH
 use Rattle.ipfix_read.specs.Messages.{Going, Ended, Failed, ProgressView, AnswersNext, Gathers, IsIncomplete, ReadsInput, events_of_messages, file_reading}
 use Rattle.ipfix_read.specs.Set.{ReadsUnder}
 use Rattle.ipfix_templates.specs.declared.event.TemplateEvent.{TemplateEvent}
-use Rattle.ipfix_templates.specs.InForce.{in_force, Follows}
-use Rattle.ipfix_templates.specs.Template.{TemplateView}
+use Rattle.ipfix_templates.specs.InForce.{in_force, Follows, Table}
 use Rattle.ipfix_read.specs.Laws.{CallsJoinFile, CallsStart}
 use Rattle.ipfix_read.proofs.Readings.{front_read, message_cut, messages_end, messages_fault, messages_more, stops_after}
 
@@ -42,7 +41,7 @@ module _ {view old : ProgressView} (same : view ≡ old) (o n : Option (List ℕ
         ap (λ (l : List ℕ). message_next history view.count view.offset (l ++ rest)) (sym there) ∙ front_read history view.count view.offset front rest counted header
 
     -- a fault of the sets, or a failed allocation
-    pub answers_fault_of_sets : (fault : ReadFault) (table : List ((ℕ × ℕ) × TemplateView)) → ReadsUnder view.table table events_of_message (λ history. whole_reading history view.offset front) (Err fault)
+    pub answers_fault_of_sets : (fault : ReadFault) (table : Table) → ReadsUnder view.table table events_of_message (λ history. whole_reading history view.offset front) (Err fault)
         → ReadsInput o n (AnswersNext old (Err fault) (record view { state = Failed }))
     answers_fault_of_sets fault table refused =
         by_taken (Ok (Some front)) (Err fault) (record view { state = Failed }) is (λ taken left there. (
@@ -65,7 +64,7 @@ module _ {view old : ProgressView} (same : view ≡ old) (o n : Option (List ℕ
 
 -- ---- calls for messages join to the whole File
 
-nothing_follows : Follows [] []
+nothing_follows : Follows ([], []) []
 unfolding in_force
 nothing_follows domain id = refl
 

@@ -8,21 +8,21 @@ use Rattle.std.proofs.lemmas.Grind.{common_steps}
 use Rattle.std.proofs.lemmas.List.{append-nil, take_at, drop_at, length-take-le, length-map}
 use Rattle.byteorder.specs.Endian.{big_number}
 use Rattle.ipfix_templates.specs.declared.field.Field.{Field}
-use Rattle.ipfix_templates.specs.Field.{has_bytes, is_variable, least_field_length, least_length}
+use Rattle.ipfix_templates.specs.Field.{is_variable, least_field_length, least_length}
 use Rattle.ipfix_templates.specs.Runs.{runs_behind, last_run_behind}
 use Rattle.ipfix_templates.specs.Reading.{items_from}
 use Rattle.ipfix_read.specs.Value.{FieldValueView, bytes_at, variable_at, value_at, values_at, whole_values}
 use Rattle.ipfix_templates.proofs.Choice.{chosen, gave, some_is, mapped}
 use Rattle.ipfix_templates.proofs.Reading.{at_end, at_fault, at_item}
 use Rattle.std.proofs.lemmas.List.Sums.{sum_by-cons}
-use Rattle.ipfix_templates.specs.Template.{TemplateView}
+use Rattle.ipfix_templates.specs.declared.template.Template.{Template}
 use Rattle.ipfix_read.specs.declared.fault.ReadFault.{ReadFault}
 use Rattle.ipfix_read.specs.Fault.{BadRecord}
 use Rattle.ipfix_read.specs.Record.{Record, data_set_reading, is_padding, record_at, record_next}
 use Rattle.std.proofs.Math.Nat.{add-mul, le-div_iff_mul-le, suc-mul}
 use Rattle.std.proofs.lemmas.List.Elements.{All-cons, All-nil}
 use Rattle.ipfix_templates.specs.declared.kind.Kind.{Kind}
-use Rattle.ipfix_read.specs.WholeRecords.{ArePacked, packed_records, whole_records}
+use Rattle.ipfix_read.specs.WholeRecords.{ArePacked, whole_records}
 
 -- the value that was read is at the start, and is read in the same way whatever follows it
 abbrev pub Front : {A : Type 0} → (List ℕ → Option (A × List ℕ)) → List ℕ → A × List ℕ → Type 0
@@ -257,38 +257,16 @@ values_shorter (field ∷ fields) bytes x e =
     let b = gave (values_at fields a.0.1) (λ vs. Some (record { field = field; value = a.0.0 } ∷ vs.0, vs.1)) x a.2 in
     omega (arith, sum_by-cons least_field_length field fields, value_shorter field bytes a.0 a.1, values_shorter fields a.0.1 b.0 b.1, ap (λ (y : List FieldValueView × List ℕ). length y.1) (some_is _ _ b.2))
 
-pub record_shorter : (t : TemplateView) (bytes : List ℕ) (x : Record × List ℕ) → record_at t bytes ≡ Some x → length x.1 + least_length t.fields ≤ length bytes
+pub record_shorter : (t : Template) (bytes : List ℕ) (x : Record × List ℕ) → record_at t bytes ≡ Some x → length x.1 + least_length t.fields ≤ length bytes
 record_shorter t bytes x e =
     let a = mapped (values_at t.fields bytes) (λ v. (record { kind = t.kind; fields = v.0 }, v.1)) x e in
     omega (arith, values_shorter t.fields bytes a.0 a.1, ap (λ (y : Record × List ℕ). length y.1) a.2)
 
--- ---- records, one after another
+-- ---- consecutive records
 
 -- there are as many bytes as the shortest record has, and a record isn't empty
-abbrev pub HasRoom : TemplateView → List ℕ → Type 0
+abbrev pub HasRoom : Template → List ℕ → Type 0
 HasRoom t bytes = (0 < least_length t.fields) × (least_length t.fields ≤ length bytes)
-
-abbrev pub ReadsRecord : TemplateView → List ℕ → Record → List ℕ → Type 0
-ReadsRecord t bytes r after = HasRoom t bytes × (record_at t bytes ≡ Some (r, after))
-
--- these records are at the start of the bytes, followed by the rest
-abbrev pub ReadsRecords : TemplateView → List ℕ → List Record → List ℕ → Type 0
-ReadsRecords t bytes [] rest = bytes ≡ rest
-ReadsRecords t bytes (r ∷ rs) rest = (next : List ℕ) × ReadsRecord t bytes r next × ReadsRecords t next rs rest
-
--- one record more
-pub records_more : (t : TemplateView) (bytes : List ℕ) (records : List Record) (at : List ℕ) (r : Record) (rest : List ℕ) → ReadsRecords t bytes records at → ReadsRecord t at r rest
-    → ReadsRecords t bytes (records ++ r ∷ []) rest
-records_more t bytes [] at r rest done one = (rest, subst (λ (bs : List ℕ). ReadsRecord t bs r rest) (sym done) one, refl)
-records_more t bytes (s ∷ ss) at r rest done one = (done.0, done.1, records_more t done.0 ss at r rest done.2 one)
-
--- records take at least one byte each
-pub records_shorter : (t : TemplateView) (bytes : List ℕ) (records : List Record) (rest : List ℕ) → ReadsRecords t bytes records rest → length records + length rest ≤ length bytes
-records_shorter t bytes [] rest done = omega (arith, ap length done)
-records_shorter t bytes (r ∷ rs) rest done =
-    let one = done.1 in
-    let room = one.0 in
-    omega (arith, room.0, record_shorter t bytes (r, done.0) one.1, records_shorter t done.0 rs rest done.2)
 
 goes : (least many : ℕ) → 0 < least → least ≤ many → (eqb least 0 || ltb many least) ≡ false
 goes least many some enough = grind (arith, nat_tests, common_steps)
@@ -309,30 +287,13 @@ record_here : (o : Option (Record × List ℕ)) (fault : ReadFault) (x : Record 
 record_here None fault x e = absurd (cc)
 record_here (Some y) fault x e = cc
 
-record_smaller : (t : TemplateView) (records : List Record) (offset : ℕ) (bytes : List ℕ) (r : Record) (after : List ℕ) → is_padding t bytes ≡ false → record_next t offset bytes ≡ Ok (r, after)
+record_smaller : (t : Template) (records : List Record) (offset : ℕ) (bytes : List ℕ) (r : Record) (after : List ℕ) → is_padding t bytes ≡ false → record_next t offset bytes ≡ Ok (r, after)
     → length after < length bytes
 record_smaller t records offset bytes r after more e =
     omega (arith, some_bytes (least_length t.fields) (length bytes) more, record_shorter t bytes (r, after) (record_here (record_at t bytes) _ (r, after) e))
 
-abbrev pub records_from : TemplateView → List Record → ℕ → List ℕ → Result (List Record) ReadFault
+abbrev pub records_from : Template → List Record → ℕ → List ℕ → Result (List Record) ReadFault
 records_from t = items_from (is_padding t) (λ records. record_next t)
-
--- reading goes on after records that are read
-reads_on : (t : TemplateView) (earlier : List Record) (offset : ℕ) (bytes : List ℕ) (records : List Record) (rest : List ℕ) (later : ℕ) → ReadsRecords t bytes records rest
-    → later ≡ offset + (length bytes - length rest) → records_from t earlier offset bytes ≡ records_from t (earlier ++ records) later rest
-reads_on t earlier offset bytes [] rest later done e =
-    let same : offset ≡ later = omega (arith, ap length done, e) in
-    λ i. records_from t (sym (append-nil earlier) i) (same i) (done i)
-reads_on t earlier offset bytes (r ∷ rs) rest later done e =
-    let one = done.1 in
-    let room = one.0 in
-    let next = done.0 in
-    let middle = offset + (length bytes - length next) in
-    at_item (is_padding t) (λ records. record_next t) (nothing_ends (least_length t.fields)) (record_smaller t) earlier offset bytes r next middle
-    (goes (least_length t.fields) (length bytes) room.0 room.1) (rw one.1 refl) refl
-    ∙ reads_on t (earlier ++ r ∷ []) middle next rs rest later done.2
-    (omega (arith, e, record_shorter t bytes (r, next) one.1, records_shorter t next rs rest done.2))
-    ∙ ap (λ (xs : List Record). records_from t xs later rest) (append_assoc earlier (r ∷ []) rs)
 
 -- ---- records that are stored as their bytes, their fields and their number
 
@@ -349,8 +310,6 @@ fields_are (field ∷ fields) bytes x e =
 -- a value for each field
 pub as_many : (fields : List Field) (bytes : List ℕ) (x : List FieldValueView × List ℕ) → values_at fields bytes ≡ Some x → length x.0 ≡ length fields
 as_many fields bytes x e = sym (length-map x.0 (λ v. v.field)) ∙ ap length (fields_are fields bytes x e)
-
--- ---- consecutive records
 
 none_first : (kind : Kind) (fields : List Field) (count : ℕ) (bytes : List ℕ) → values_at fields bytes ≡ None → whole_records kind fields count bytes ≡ []
 unfolding whole_records
@@ -380,69 +339,73 @@ all_of P kind fields each (suc count) bytes =
 pub all_of_fields : (kind : Kind) (fields : List Field) (count : ℕ) (bytes : List ℕ) → All (λ r. map (λ v. v.field) r.fields ≡ fields) (whole_records kind fields count bytes)
 all_of_fields kind fields = all_of (λ r. map (λ v. v.field) r.fields ≡ fields) kind fields (fields_are fields)
 
-pub packed_of_kind : (kind : Kind) (fields : Option (List Field)) (count : ℕ) (bytes : List ℕ) → All (λ r. r.kind ≡ kind) (packed_records kind fields count bytes)
-packed_of_kind kind None count bytes = All-nil (λ (r : Record). r.kind ≡ kind)
-packed_of_kind kind (Some fields) count bytes = all_of (λ r. r.kind ≡ kind) kind fields (λ _ _ _. refl) count bytes
+pub all_of_kind : (kind : Kind) (fields : List Field) (count : ℕ) (bytes : List ℕ) → All (λ r. r.kind ≡ kind) (whole_records kind fields count bytes)
+all_of_kind kind fields = all_of (λ r. r.kind ≡ kind) kind fields (λ _ _ _. refl)
 
--- ---- records as they are read from a set
+-- The records before the rest are read: the bytes begin with them, whatever number of records follows, and reading goes on
+-- after them.
+pub record HasRead (t : Template) (offset : ℕ) (bytes : List ℕ) (count : ℕ) (rest : List ℕ) : Type 0 where
+  pub within : count + length rest ≤ length bytes
+  pub counted : length (whole_records t.kind t.fields count bytes) ≡ count
+  pub more : (n : ℕ) → whole_records t.kind t.fields (count + n) bytes ≡ whole_records t.kind t.fields count bytes ++ whole_records t.kind t.fields n rest
+  pub read : data_set_reading t offset bytes ≡ records_from t (whole_records t.kind t.fields count bytes) (offset + (length bytes - length rest)) rest
 
--- the record at the start has the values at the start
-record_is : (t : TemplateView) (bytes : List ℕ) (x : List FieldValueView × List ℕ) → values_at t.fields bytes ≡ Some x → record_at t bytes ≡ Some (record { kind = t.kind; fields = x.0 }, x.1)
-record_is t bytes x e = ap (option_map (λ v. (record { kind = t.kind; fields = v.0 }, v.1))) e
+module _ (t : Template) (offset : ℕ) (bytes : List ℕ) where
+  abbrev Whole : ℕ → List ℕ → List Record
+  Whole = whole_records t.kind t.fields
 
--- a record that is read consists of its values
-values_of : (t : TemplateView) (bytes after : List ℕ) (r : Record) → record_at t bytes ≡ Some (r, after) → (x : List FieldValueView × List ℕ) × (values_at t.fields bytes ≡ Some x) × (r ≡ record { kind = t.kind; fields = x.0 }) × (after ≡ x.1)
-values_of t bytes after r e =
-    let m = mapped (values_at t.fields bytes) (λ v. (record { kind = t.kind; fields = v.0 }, v.1)) (r, after) e in
-    (m.0, m.1, ap (λ (y : Record × List ℕ). y.0) (sym m.2), ap (λ (y : Record × List ℕ). y.1) (sym m.2))
+  abbrev Read : ℕ → List ℕ → Type 0
+  Read = HasRead t offset bytes
 
--- the records that are read are at the start, and are read in the same way whatever follows them
-reads_front : (t : TemplateView) (bytes : List ℕ) (records : List Record) (rest : List ℕ) → ReadsRecords t bytes records rest
-    → (front : List ℕ) × (bytes ≡ front ++ rest) × ((more : List ℕ) → whole_records t.kind t.fields (length records) (front ++ more) ≡ records)
-reads_front t bytes [] rest done = ([], done, λ more. no_count t.kind t.fields more)
-reads_front t bytes (r ∷ rs) rest done =
-    let one = done.1 in
-    let v = values_of t bytes done.0 r one.1 in
-    let f = values_front t.fields bytes v.0 v.1 in
-    let g = reads_front t done.0 rs rest done.2 in (
-      f.0 ++ g.0,
-      f.1 ∙ ap (λ (ys : List ℕ). f.0 ++ ys) (sym v.3 ∙ g.1) ∙ sym (append_assoc f.0 g.0 rest),
-      λ more.
-          ap (λ (ys : List ℕ). whole_records t.kind t.fields (suc (length rs)) ys) (append_assoc f.0 g.0 more)
-          ∙ some_first t.kind t.fields (length rs) (f.0 ++ (g.0 ++ more)) (v.0.0, g.0 ++ more) (f.2 (g.0 ++ more))
-          ∙ ap (λ (ys : List Record). record { kind = t.kind; fields = v.0.0 } ∷ ys) (g.2 more)
-          ∙ ap (λ (y : Record). y ∷ rs) (sym v.2),
-    )
+  pub none_read : HasRead t offset bytes 0 bytes
+  none_read =
+      let none : Whole 0 bytes ≡ [] = no_count t.kind t.fields bytes in
+      let start : offset + (length bytes - length bytes) ≡ offset = omega arith in
+      record {
+        within = omega arith;
+        counted = ap length none;
+        more = λ n. let same : 0 + n ≡ n = omega arith in ap (λ (k : ℕ). Whole k bytes) same ∙ ap (λ (rs : List Record). rs ++ Whole n bytes) (sym none);
+        read = λ i. records_from t (sym none i) (sym start i) bytes;
+      }
 
--- the bytes before the remaining ones are the records
-pub packed : (t : TemplateView) (bytes : List ℕ) (records : List Record) (rest : List ℕ) (count n : ℕ) → ReadsRecords t bytes records rest → length records ≡ count
-    → n ≡ length bytes - length rest → whole_records t.kind t.fields count (take n bytes) ≡ records
-packed t bytes records rest count n done counted is =
-    let g = reads_front t bytes records rest done in
-    let front : take n bytes ≡ g.0 = ap (take n) g.1 ∙ take_at g.0 rest n (omega (arith, is, ap length g.1, length-append g.0 rest)) in
-    ap (λ (c : ℕ). whole_records t.kind t.fields c (take n bytes)) (sym counted)
-    ∙ ap (λ (ys : List ℕ). whole_records t.kind t.fields (length records) ys) (front ∙ sym (append-nil g.0))
-    ∙ g.2 []
+  pub one_read : (count later : ℕ) (rest : List ℕ) (x : List FieldValueView × List ℕ) → Read count rest → HasRoom t rest → values_at t.fields rest ≡ Some x → later ≡ count + 1
+      → HasRead t offset bytes later x.1
+  one_read count later rest x so_far room is next =
+      let r : Record = record { kind = t.kind; fields = x.0 } in
+      let before : List Record = Whole count bytes in
+      let shorter = values_shorter t.fields rest x is in
+      let here : record_at t rest ≡ Some (r, x.1) = ap (option_map (λ v. (record { kind = t.kind; fields = v.0 }, v.1))) is in
+      let first : (n : ℕ) → Whole (suc n) rest ≡ r ∷ Whole n x.1 = λ n. some_first t.kind t.fields n rest x is in
+      let all : Whole later bytes ≡ before ++ r ∷ [] =
+      ap (λ (n : ℕ). Whole n bytes) next ∙ so_far.more 1 ∙ ap (λ (rs : List Record). before ++ rs) (first 0 ∙ ap (λ (rs : List Record). r ∷ rs) (no_count t.kind t.fields x.1)) in
+      record {
+        within = omega (arith, so_far.within, shorter, room.0, next);
+        counted = omega (arith, ap length all, length-append before (r ∷ []), so_far.counted, next);
+        more = λ n.
+            let same : later + n ≡ count + suc n = omega (arith, next) in
+            ap (λ (k : ℕ). Whole k bytes) same ∙ so_far.more (suc n) ∙ ap (λ (rs : List Record). before ++ rs) (first n)
+            ∙ sym (append_assoc before (r ∷ []) (Whole n x.1)) ∙ ap (λ (rs : List Record). rs ++ Whole n x.1) (sym all);
+        read = so_far.read
+            ∙ at_item (is_padding t) (λ records. record_next t) (nothing_ends (least_length t.fields)) (record_smaller t) before _ rest r x.1 (offset + (length bytes - length x.1))
+            (goes (least_length t.fields) (length rest) room.0 room.1) (rw here refl) (omega (arith, so_far.within, shorter))
+            ∙ ap (λ (rs : List Record). records_from t rs (offset + (length bytes - length x.1)) x.1) (sym all);
+      }
 
--- the records before the padding are all
-pub packed_set : (t : TemplateView) (offset : ℕ) (bytes : List ℕ) (records : List Record) (rest : List ℕ) (count : ℕ) → ReadsRecords t bytes records rest → length records ≡ count
-    → is_padding t rest ≡ true → ArePacked t offset bytes count rest
-packed_set t offset bytes records rest count done counted end =
-    let same = packed t bytes records rest count (length bytes - length rest) done counted refl in (
-      omega (arith, records_shorter t bytes records rest done, counted),
-      ap length same ∙ counted,
-      reads_on t [] offset bytes records rest _ done refl
-          ∙ at_end (is_padding t) (λ records. record_next t) (nothing_ends (least_length t.fields)) (record_smaller t) records _ rest end
-          ∙ ap (λ (rs : List Record). Ok rs) (sym same),
-    )
+  -- the records before the padding are all
+  pub packed : (count : ℕ) (rest : List ℕ) → Read count rest → is_padding t rest ≡ true → ArePacked t offset bytes count
+  packed count rest so_far end = (
+    so_far.counted,
+    so_far.read ∙ at_end (is_padding t) (λ records. record_next t) (nothing_ends (least_length t.fields)) (record_smaller t) (Whole count bytes) _ rest end,
+  )
 
--- a record that extends beyond the end
-pub cut_off : (t : TemplateView) (offset : ℕ) (bytes : List ℕ) (records : List Record) (rest : List ℕ) → ReadsRecords t bytes records rest → HasRoom t rest → record_at t rest ≡ None
-    → data_set_reading t offset bytes ≡ Err (record { kind = BadRecord; offset = offset + (length bytes - length rest) })
-cut_off t offset bytes records rest done room none =
-    reads_on t [] offset bytes records rest _ done refl
-    ∙ at_fault (is_padding t) (λ records. record_next t) (nothing_ends (least_length t.fields)) (record_smaller t) records _ rest _
-    (goes (least_length t.fields) (length rest) room.0 room.1) (rw none refl)
+  -- a record that extends beyond the end
+  pub cut_off : (count : ℕ) (rest : List ℕ) → Read count rest → HasRoom t rest → values_at t.fields rest ≡ None
+      → data_set_reading t offset bytes ≡ Err (record { kind = BadRecord; offset = offset + (length bytes - length rest) })
+  cut_off count rest so_far room none =
+      let gone : record_at t rest ≡ None = ap (option_map (λ v. (record { kind = t.kind; fields = v.0 }, v.1))) none in
+      so_far.read
+      ∙ at_fault (is_padding t) (λ records. record_next t) (nothing_ends (least_length t.fields)) (record_smaller t) (Whole count bytes) _ rest _
+      (goes (least_length t.fields) (length rest) room.0 room.1) (rw gone refl)
 
 -- ---- without variable fields
 
@@ -472,21 +435,20 @@ fixed_values fields bytes none enough =
     mapped (values_at fields bytes) (λ x. x.1) (drop (least_length fields) bytes) behind
 
 -- as many records as fit
-pub fixed_records : (t : TemplateView) (count : ℕ) (bytes : List ℕ) → runs_behind 0 t.fields ≡ [] → 0 < least_length t.fields → count * least_length t.fields ≤ length bytes
-    → (records : List Record) × (length records ≡ count) × ReadsRecords t bytes records (drop (count * least_length t.fields) bytes)
-fixed_records t zero bytes none some room =
+pub fixed_read : (t : Template) (offset : ℕ) (bytes : List ℕ) (count : ℕ) → runs_behind 0 t.fields ≡ [] → 0 < least_length t.fields → count * least_length t.fields ≤ length bytes
+    → HasRead t offset bytes count (drop (count * least_length t.fields) bytes)
+fixed_read t offset bytes zero none some room =
     let nothing : 0 ≡ 0 * least_length t.fields = omega arith in
-    ([], refl, ap (λ (n : ℕ). drop n bytes) nothing)
-fixed_records t (suc count) bytes none some room =
+    subst (λ (n : ℕ). HasRead t offset bytes 0 (drop n bytes)) nothing (none_read t offset bytes)
+fixed_read t offset bytes (suc count) none some room =
     let least = least_length t.fields in
+    let rest = drop (count * least) bytes in
     let split : suc count * least ≡ count * least + least = suc-mul count least in
-    let v = fixed_values t.fields bytes none (omega (arith, room, split)) in
-    let more = fixed_records t count v.0.1 none some (omega (arith, room, split, ap length v.2, length-drop least bytes)) in
-    let behind : drop (count * least) v.0.1 ≡ drop (suc count * least) bytes = ap (drop (count * least)) v.2 ∙ drop-drop (count * least) least bytes ∙ ap (λ (n : ℕ). drop n bytes) (omega (arith, split)) in (
-      record { kind = t.kind; fields = v.0.0 } ∷ more.0,
-      ap (λ (n : ℕ). suc n) more.1,
-      (v.0.1, ((some, omega (arith, room, split)), record_is t bytes v.0 v.1), subst (λ (rest : List ℕ). ReadsRecords t v.0.1 more.0 rest) behind more.2),
-    )
+    let long : least ≤ length rest = omega (arith, room, split, length-drop (count * least) bytes) in
+    let v = fixed_values t.fields rest none long in
+    let behind : v.0.1 ≡ drop (suc count * least) bytes = v.2 ∙ drop-drop least (count * least) bytes ∙ ap (λ (n : ℕ). drop n bytes) (omega (arith, split)) in
+    subst (λ (left : List ℕ). HasRead t offset bytes (suc count) left) behind
+    (one_read t offset bytes count (suc count) rest v.0 (fixed_read t offset bytes count none some (omega (arith, room, split))) (some, long) v.1 (omega arith))
 
 -- after as many records as fit, there is no room for one more
 pub few_left : (n least : ℕ) → 0 < least → n < n / least * least + least
@@ -498,20 +460,8 @@ few_left n least some =
           absurd (omega (arith, (le-div_iff_mul-le {k = least} {x = n / least + 1} {y = n} some).1 one_more))
     ]
 
--- ---- a record, from the bytes after its values
+-- ---- the bytes after a record's values
 
-none_from_left : (o : Option (List FieldValueView × List ℕ)) → None ≡ option_map (λ x. x.1) o → o ≡ None
+pub none_from_left : (o : Option (List FieldValueView × List ℕ)) → None ≡ option_map (λ x. x.1) o → o ≡ None
 none_from_left None e = refl
 none_from_left (Some x) e = absurd (cc)
-
-pub no_record : (t : TemplateView) (fields : List Field) (bytes : List ℕ) → fields ≡ t.fields → None ≡ option_map (λ x. x.1) (values_at fields bytes) → record_at t bytes ≡ None
-no_record t fields bytes same e =
-    ap (option_map (λ v. (record { kind = t.kind; fields = v.0 }, v.1))) (ap (λ (fs : List Field). values_at fs bytes) (sym same) ∙ none_from_left (values_at fields bytes) e)
-
-pub some_record : (t : TemplateView) (fields : List Field) (bytes after : List ℕ) → fields ≡ t.fields → Some after ≡ option_map (λ x. x.1) (values_at fields bytes)
-    → (r : Record) × (record_at t bytes ≡ Some (r, after))
-some_record t fields bytes after same e =
-    let m = mapped (values_at fields bytes) (λ x. x.1) after (sym e) in (
-      record { kind = t.kind; fields = m.0.0 },
-      record_is t bytes m.0 (ap (λ (fs : List Field). values_at fs bytes) (sym same) ∙ m.1) ∙ ap (λ (rest : List ℕ). Some (record { kind = t.kind; fields = m.0.0 }, rest)) m.2,
-    )

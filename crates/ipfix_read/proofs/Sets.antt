@@ -10,9 +10,9 @@ use Rattle.std.proofs.lemmas.List.Sums.{sum_by-append, sum_by-cons}
 use Rattle.byteorder.specs.Endian.{big_number}
 use Rattle.ipfix_templates.specs.declared.event.TemplateEvent.{TemplateEvent}
 use Rattle.ipfix_templates.specs.declared.kind.Kind.{Kind}
-use Rattle.ipfix_templates.specs.Template.{TemplateView}
+use Rattle.ipfix_templates.specs.declared.template.Template.{Template}
 use Rattle.ipfix_templates.specs.Reading.{items_from, template_set_reading}
-use Rattle.ipfix_templates.specs.InForce.{in_force, Follows}
+use Rattle.ipfix_templates.specs.InForce.{in_force, Follows, Table}
 use Rattle.ipfix_templates.proofs.Choice.{chosen}
 use Rattle.ipfix_templates.proofs.Reading.{at_end, at_fault, at_item}
 use Rattle.ipfix_read.specs.Fault.{BadSetLength}
@@ -50,7 +50,7 @@ pub result_mapped : {A B F : Type 0} (r : Result A F) (f : A → B) (y : B) → 
 result_mapped (Ok x) f y e = (x, refl, cc)
 result_mapped (Err fault) f y e = absurd (cc)
 
-pub same_history : (table : List ((ℕ × ℕ) × TemplateView)) (history : List (ℕ × TemplateEvent)) → Follows table history → Follows table (history ++ [])
+pub same_history : (table : Table) (history : List (ℕ × TemplateEvent)) → Follows table history → Follows table (history ++ [])
 same_history table history follows = subst (λ (h : List (ℕ × TemplateEvent)). Follows table h) (sym (append-nil history)) follows
 
 -- ---- the content of a set
@@ -60,7 +60,7 @@ module _ (history : List (ℕ × TemplateEvent)) (domain id offset : ℕ) (bytes
       → content_reading history domain id offset bytes ≡ result_map_both (Templates kind) (in_file offset) (template_set_reading kind bytes)
   templates_read kind is = rw is refl
 
-  pub records_read : template_kind id ≡ None → (t : TemplateView) → 256 ≤ id → in_force history domain id ≡ Some t
+  pub records_read : template_kind id ≡ None → (t : Template) → 256 ≤ id → in_force history domain id ≡ Some t
       → content_reading history domain id offset bytes ≡ result_map_both (Values t.kind) (λ fault. fault) (data_set_reading t offset bytes)
   records_read no_templates t high is = rw (no_templates, le-ltb id 256 high, is) refl
 

@@ -7,9 +7,10 @@ use Rattle.ipfix_templates.specs.declared.event.TemplateEvent.{TemplateEvent}
 use Rattle.ipfix_templates.specs.declared.fault.TemplateFault.{TemplateFault}
 use Rattle.ipfix_templates.specs.declared.kind.Kind.{Kind}
 use Rattle.ipfix_templates.specs.declared.kind.Kind.TheVariants.{Flow, Options}
-use Rattle.ipfix_templates.specs.Template.{set_id, TemplateView}
+use Rattle.ipfix_templates.specs.declared.template.Template.{Template}
+use Rattle.ipfix_templates.specs.Template.{set_id}
 use Rattle.ipfix_templates.specs.Reading.{items_from, template_set_reading}
-use Rattle.ipfix_templates.specs.InForce.{in_force, Follows}
+use Rattle.ipfix_templates.specs.InForce.{in_force, Follows, Table}
 pub use Rattle.ipfix_read.specs.declared.set.Set.{Set}
 pub use Rattle.ipfix_read.specs.declared.set.Set.TheVariants.{Skipped, Templates, Values}
 use Rattle.ipfix_read.specs.declared.fault.ReadFault.{ReadFault}
@@ -43,7 +44,7 @@ in_file base fault = record { kind = BadTemplate fault.kind; offset = base + fau
 abbrev pub content_reading : List (ℕ × TemplateEvent) → ℕ → ℕ → ℕ → List ℕ → Result Set ReadFault
 content_reading history domain id offset bytes = of (template_kind id) (if nat_lt id 256 then None else in_force history domain id)
   where
-    of : Option Kind → Option TemplateView → Result Set ReadFault
+    of : Option Kind → Option Template → Result Set ReadFault
     of (Some kind) template = result_map_both (Templates kind) (in_file offset) (template_set_reading kind bytes)
     of None (Some t) = result_map_both (Values t.kind) (λ fault. fault) (data_set_reading t offset bytes)
     of None None = Ok (Skipped id)
@@ -69,7 +70,7 @@ sets_reading history domain offset bytes =
 -- The result of reading under a table, and the table after it. It holds for each history that the old table follows. An
 -- item is the reading, and the new table follows the history with the item's events. A fault is that of the reading, or
 -- that an allocation failed. It is not one of calls.
-abbrev pub ReadsUnder : {A : Type 0} → List ((ℕ × ℕ) × TemplateView) → List ((ℕ × ℕ) × TemplateView) → (A → List (ℕ × TemplateEvent))
+abbrev pub ReadsUnder : {A : Type 0} → Table → Table → (A → List (ℕ × TemplateEvent))
     → (List (ℕ × TemplateEvent) → Result A ReadFault) → Result A ReadFault → Type 0
 ReadsUnder old new events reading (Ok item) =
     (history : List (ℕ × TemplateEvent)) → Follows old history → (reading history ≡ Ok item) × Follows new (history ++ events item)

@@ -1,10 +1,10 @@
 -- How the records of a data set are stored: their bytes, the fields of their template, and their number.
-use Rattle.std.specs.Prelude.{◌≡◌, ℕ, zero, suc, ◌+◌, ◌-◌, ◌≤◌, List, [], ◌∷◌, length, take, Option, Some, None, Ok}
+use Rattle.std.specs.Prelude.{◌≡◌, ℕ, zero, suc, List, [], ◌∷◌, length, Ok}
 use Rattle.std.specs.Option.{option_map_or}
 use Rattle.ipfix_templates.specs.declared.field.Field.{Field}
 use Rattle.ipfix_templates.specs.declared.kind.Kind.{Kind}
 use Rattle.ipfix_read.specs.Record.{Record, data_set_reading}
-use Rattle.ipfix_templates.specs.Template.{TemplateView}
+use Rattle.ipfix_templates.specs.declared.template.Template.{Template}
 use Rattle.ipfix_read.specs.Value.{values_at}
 
 -- `count` consecutive records of a kind with these fields, as far as they are complete in the bytes
@@ -13,13 +13,7 @@ whole_records kind fields zero bytes = []
 whole_records kind fields (suc count) bytes =
     option_map_or (λ v. record { kind = kind; fields = v.0 } ∷ whole_records kind fields count v.1) (values_at fields bytes) []
 
--- consecutive records; there are none if the fields are missing
-abbrev pub packed_records : Kind → Option (List Field) → ℕ → List ℕ → List Record
-packed_records kind None count bytes = []
-packed_records kind (Some fields) count bytes = whole_records kind fields count bytes
-
--- the bytes of a data set before the padding are `count` records, which are all
-abbrev pub ArePacked : TemplateView → ℕ → List ℕ → ℕ → List ℕ → Type 0
-ArePacked t offset bytes count padding =
-    let records = whole_records t.kind t.fields count (take (length bytes - length padding) bytes) in
-    (count + length padding ≤ length bytes) × (length records ≡ count) × (data_set_reading t offset bytes ≡ Ok records)
+-- the bytes of a data set begin with `count` records, which are all
+abbrev pub ArePacked : Template → ℕ → List ℕ → ℕ → Type 0
+ArePacked t offset bytes count =
+    (length (whole_records t.kind t.fields count bytes) ≡ count) × (data_set_reading t offset bytes ≡ Ok (whole_records t.kind t.fields count bytes))

@@ -10,25 +10,21 @@ use crate::record::RecordList;
 use crate::value::skip_values;
 use ipfix_templates::Template;
 
-// Returns the number of consecutive records, and the padding after them. `base` is the offset of the bytes in the File.
-fn skip_records<'a>(
-    template: &Template,
-    bytes: &'a [u8],
-    base: u64,
-) -> Result<(usize, &'a [u8]), ReadFault>
+// Returns the number of consecutive records. `base` is the offset of the bytes in the File.
+fn count_records(template: &Template, bytes: &[u8], base: u64) -> Result<usize, ReadFault>
     requires { base + length bytes.now < 2 ^ 64 }
-    ensures ok { IfOk result (λ read. ArePacked template.now base bytes.now read.0 read.1.now) }
+    ensures ok { IfOk result (ArePacked template.now base bytes.now) }
+    ensures few { IfOk result (λ count. count ≤ length bytes.now) }
     ensures bytes { IfErr result (λ fault. is_of_calls fault.kind ≡ false) }
     ensures fault { IfErr result (λ fault. data_set_reading template.now base bytes.now ≡ Err fault) }
 {
     let least = template.least_length() as usize;
     if least == 0 {
-        return Ok((0, bytes));
+        return Ok(0);
     }
-    let fields = template.fields();
+    let fields = &template.fields;
     if fields.runs().is_empty() {
-        let count = bytes.len() / least;
-        return Ok((count, &bytes[count * least..]));
+        return Ok(bytes.len() / least);
     }
     let mut count = 0;
     let mut rest = bytes;
@@ -43,7 +39,7 @@ fn skip_records<'a>(
         count += 1;
         rest = after;
     }
-    Ok((count, rest))
+    Ok(count)
 }
 
 /// Returns the records of a data set under its template, given the bytes after the set's header. `base` is the offset
@@ -64,7 +60,6 @@ pub fn read_data_set<'a>(
     ensures bytes { IfErr result (λ fault. is_of_calls fault.kind ≡ false) }
     ensures fault { IfErr result (IsFault out_of_memory (data_set_reading template.now base bytes.now)) }
 {
-    let (count, padding) = skip_records(template, bytes, base)?;
-    let whole = &bytes[..bytes.len() - padding.len()];
-    Ok(RecordList::new(template.kind(), template.fields(), count, whole)?)
+    let count = count_records(template, bytes, base)?;
+    Ok(RecordList::new(template.kind, &template.fields, count, bytes)?)
 }

@@ -1,4 +1,4 @@
-ghost use Rattle.std.specs.Prelude.{◌≡◌, ◌≤◌, [], All, IfOk, IfSome, MatchOption, length, map};
+ghost use Rattle.std.specs.Prelude.{◌≡◌, ◌≤◌, All, IfOk, length, map};
 ghost use Rattle.std.specs.Iterator.{YieldsFirst, item_count};
 ghost use Rattle.ipfix_read.specs.WholeRecords.{whole_records};
 
@@ -16,32 +16,30 @@ pub struct Record<'f, 'a> {
     pub fields: FieldValues<'f, 'a>,
 }
 
-/// The data records of a data set. The list holds their bytes and shares the template's fields. Each record is cut out
-/// of the bytes when it is requested.
+/// The data records of a data set. The list borrows the set's bytes and shares the template's fields. Each record is
+/// cut out of the bytes when it is requested.
 #[derive(Drop)]
 pub struct RecordList<'a> {
     kind: Kind,
-    // `None` if there are no records.
-    specifiers: Option<Fields>,
+    specifiers: Fields,
     bytes: &'a [u8],
     count: usize,
 }
 
 impl<'a> Model for RecordList<'a> {
     ghost use Rattle.std.specs.Prelude.{◌≡◌, List, length};
-    ghost use Rattle.ipfix_read.specs.WholeRecords.{packed_records};
+    ghost use Rattle.ipfix_read.specs.WholeRecords.{whole_records};
     ghost use Rattle.ipfix_read.specs.declared.record.Record.{Record};
 
     ghost Value = { List Record };
 
-    ghost view = { λ a. packed_records a.kind a.specifiers a.count a.bytes.now };
+    ghost view = { λ a. whole_records a.kind a.specifiers a.count a.bytes.now };
 
-    ghost invariant = { λ a. length (packed_records a.kind a.specifiers a.count a.bytes.now) ≡ a.count };
+    ghost invariant = { λ a. length (whole_records a.kind a.specifiers a.count a.bytes.now) ≡ a.count };
 }
 
 impl<'a> RecordList<'a> {
-    // Returns the list of `count` consecutive records with these fields, which are these bytes.
-    #[tactic(auto, unfolding(crate::specs::WholeRecords::whole_records))]
+    // Returns the list of the `count` consecutive records with these fields at the start of the bytes.
     pub(crate) fn new(
         kind: Kind,
         fields: &Fields,
@@ -51,17 +49,9 @@ impl<'a> RecordList<'a> {
         requires { length (whole_records kind fields.now count bytes.now) ≡ count }
         ensures { IfOk result (λ records. records ≡ whole_records kind fields.now count bytes.now) }
     {
-        if count == 0 {
-            return Ok(RecordList {
-                kind,
-                specifiers: None,
-                bytes,
-                count: 0,
-            });
-        }
         Ok(RecordList {
             kind,
-            specifiers: Some(fields.copy()?),
+            specifiers: fields.copy()?,
             bytes,
             count,
         })
@@ -81,16 +71,11 @@ impl<'a> RecordList<'a> {
         self.kind
     }
 
-    /// Returns the fields of each record's values in order, or `None` if there are no records.
-    pub fn fields(&self) -> Option<&Fields>
-        ensures values { MatchOption result (self.now ≡ []) (λ fields.
-            All (λ r. map (λ v. v.field) r.fields ≡ fields.now) self.now) }
-        ensures bound { IfSome result (λ fields. length fields.now ≤ 65535) }
+    /// Returns the fields of each record's values in order.
+    pub fn fields(&self) -> &Fields
+        ensures { All (λ r. map (λ v. v.field) r.fields ≡ result.now) self.now }
     {
-        let specifiers = self.specifiers.as_ref()?;
-        // Provides the bound on the number of fields.
-        let _most = specifiers.len();
-        Some(specifiers)
+        &self.specifiers
     }
 
     /// Returns an iterator over the data records in order.
@@ -99,7 +84,7 @@ impl<'a> RecordList<'a> {
     {
         Records {
             kind: self.kind,
-            specifiers: self.specifiers.as_ref(),
+            specifiers: &self.specifiers,
             bytes: self.bytes,
             count: self.count,
         }
@@ -110,19 +95,19 @@ impl<'a> RecordList<'a> {
 #[derive(Drop)]
 pub struct Records<'f, 'a> {
     kind: Kind,
-    specifiers: Option<&'f Fields>,
+    specifiers: &'f Fields,
     bytes: &'a [u8],
     count: usize,
 }
 
 impl<'f, 'a> Model for Records<'f, 'a> {
-    ghost use Rattle.std.specs.Prelude.{List, option_map};
-    ghost use Rattle.ipfix_read.specs.WholeRecords.{packed_records};
+    ghost use Rattle.std.specs.Prelude.{List};
+    ghost use Rattle.ipfix_read.specs.WholeRecords.{whole_records};
     ghost use Rattle.ipfix_read.specs.declared.record.Record.{Record};
 
     ghost Value = { List Record };
 
-    ghost view = { λ a. packed_records a.kind (option_map (λ f. f.now) a.specifiers) a.count a.bytes.now };
+    ghost view = { λ a. whole_records a.kind a.specifiers.now a.count a.bytes.now };
 }
 
 impl<'f, 'a> Iterator for Records<'f, 'a> {
@@ -134,13 +119,10 @@ impl<'f, 'a> Iterator for Records<'f, 'a> {
 
     #[tactic(auto, unfolding(crate::specs::WholeRecords::whole_records))]
     fn next(&mut self) -> Option<Record<'f, 'a>> {
-        let Some(specifiers) = self.specifiers else {
-            return None;
-        };
         if self.count == 0 {
             return None;
         }
-        let (fields, rest) = read_values(specifiers, self.bytes)?;
+        let (fields, rest) = read_values(self.specifiers, self.bytes)?;
         self.bytes = rest;
         self.count -= 1;
         Some(Record {

@@ -96,7 +96,7 @@ fn read_values_of<'a>(
         return Ok(Set::Skipped(id));
     };
     let records = read_data_set(template, bytes, base)?;
-    Ok(Set::Values(template.kind(), records))
+    Ok(Set::Values(template.kind, records))
 }
 
 // Reads the content of a set with this ID. The events of a template set change the table, even if an allocation fails

@@ -161,7 +161,7 @@ pub fn read_value<'a>(field: Field, bytes: &'a [u8]) -> Option<(FieldValue<'a>, 
         let (value, rest) = read_variable(bytes)?;
         return Some((FieldValue { field, value }, rest));
     }
-    let (value, rest) = read_bytes(usize::from(field.length()), bytes)?;
+    let (value, rest) = read_bytes(usize::from(field.length), bytes)?;
     Some((FieldValue { field, value }, rest))
 }
 

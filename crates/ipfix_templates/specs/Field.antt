@@ -1,7 +1,6 @@
 -- Field specifiers (RFC 7011 section 3.2), and the lengths of field values.
 use Rattle.std.specs.Prelude.{ℕ, List, Bool, sum_by, ◌==◌, if◌then◌else◌}
 pub use Rattle.ipfix_templates.specs.declared.field.Field.{Field}
-pub use Rattle.ipfix_templates.specs.declared.field.Field.{Field as FieldView}
 
 -- whether the length is variable (section 7)
 abbrev pub is_variable : Field → Bool

@@ -3,7 +3,6 @@ pub use Rattle.ipfix_templates.specs.declared.kind.Kind.{Kind}
 pub use Rattle.ipfix_templates.specs.declared.kind.Kind.TheVariants.{Flow, Options}
 pub use Rattle.ipfix_templates.specs.declared.field.Field.{Field}
 pub use Rattle.ipfix_templates.specs.declared.template.Template.{Template}
-pub use Rattle.ipfix_templates.specs.declared.template.Template.{Template as TemplateView}
 
 -- the set ID of the sets that hold its templates (RFC 7011 section 3.3.2)
 abbrev pub set_id : Kind → ℕ

@@ -7,7 +7,7 @@
 //! let bytes = [1u8, 0, 0, 2, 0, 8, 0, 4, 0, 12, 0, 4];
 //! let events = read_template_set(alloc, &bytes, Kind::Flow)?;
 //! if let [TemplateEvent::Define(template)] = events.as_slice() {
-//!     assert!(rt; template.id() == 256 && template.least_length() == 8);
+//!     assert!(rt; template.id == 256 && template.least_length() == 8);
 //! }
 //! ```
 //!
