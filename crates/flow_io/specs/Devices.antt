@@ -1,5 +1,5 @@
 use Rattle.std.specs.Prelude.{◌≡◌, ◌==◌, ◌&&◌, ◌||◌, ℕ, Bool, true, List, Result, Ok, Err, length, false, ◌⊎◌, ◌++◌, Option, nat_lt}
-use Rattle.std.specs.Io.KnownBytes.{Appends, Keeps}
+use Rattle.std.specs.Io.KnownBytes.{Appends}
 pub use Rattle.flow_io.specs.declared.last_call.LastCall.{LastCall}
 pub use Rattle.flow_io.specs.declared.last_call.LastCall.TheVariants.{FailedFlush, Flush, Nothing, Write}
 use Rattle.flow_io.specs.declared.whole_input.ReadStop.{ReadStop}
@@ -52,12 +52,6 @@ is_read_fault (Ok _) = false
 is_read_fault (Err ReadFault) = true
 is_read_fault (Err NoMemory) = false
 
--- a `Watched` as contracts see it: the inner reader or writer, whether a call has failed, and the last call of a writer
-pub record WatchState (T : Type 0) : Type 0 where
-  pub inner : T
-  pub failed : Bool
-  pub last_call : LastCall
-
 -- How a writer changes from one state to another: the bytes that it has taken, and its last call.
 
 -- known bytes grow by a prefix of these
@@ -71,7 +65,3 @@ module _ {W : Type 0} (taken : W → Option (List ℕ)) (last : W → LastCall) 
   abbrev pub StopsWriting : W → W → List ℕ → Type 0
   StopsWriting old new bytes =
       (AppendsPrefix (taken old) (taken new) bytes × (last new ≡ Write)) ⊎ (Appends (taken old) (taken new) bytes × (last new ≡ FailedFlush))
-
-  -- it took nothing, and its last call is still the earlier one
-  abbrev pub IsUntouched : W → W → Type 0
-  IsUntouched old new = Keeps (taken old) (taken new) × (last new ≡ last old)

@@ -28,11 +28,9 @@
 #![tactic(auto)]
 
 mod buffered;
-mod countdown;
 mod devices;
 mod last_call;
-mod memory_input;
-mod memory_output;
+mod memory;
 mod watch;
 mod whole_input;
 mod whole_output;
@@ -40,8 +38,7 @@ mod whole_output;
 pub use buffered::Buffered;
 pub use devices::{DeviceFault, Input, Output};
 pub use last_call::LastCall;
-pub use memory_input::MemoryInput;
-pub use memory_output::MemoryOutput;
+pub use memory::{MemoryInput, MemoryOutput};
 pub use watch::Watched;
 pub use whole_input::{ReadStop, read_whole};
 pub use whole_output::{WriteFault, write_whole};

@@ -1,10 +1,9 @@
-ghost use Rattle.std.specs.Prelude.{◌≡◌, false, true};
+ghost use Rattle.std.specs.Prelude.{◌≡◌, false};
 ghost use Rattle.flow_io.specs.Devices.{Nothing};
 
 use crate::devices::{DeviceFault, Input, Output};
 use crate::last_call::LastCall;
 use std::io::{Read, Write};
-use std::marker::Model;
 
 /// A reader or writer of std that remembers whether it failed, and in case of a writer which call was the last one.
 /// Each call is passed on unchanged. Any error, including an interrupted call, is a `DeviceFault`. If the inner reader
@@ -14,18 +13,6 @@ pub struct Watched<T> {
     inner: T,
     failed: bool,
     last_call: LastCall,
-}
-
-impl<T> Model for Watched<T> {
-    ghost use Rattle.flow_io.specs.Devices.{WatchState};
-
-    ghost Value = { WatchState T };
-
-    ghost view = { λ watched. record {
-      inner = watched.inner;
-      failed = watched.failed;
-      last_call = watched.last_call;
-    } };
 }
 
 impl<T> Watched<T> {

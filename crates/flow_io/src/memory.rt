@@ -1,11 +1,107 @@
-ghost use Rattle.std.specs.Prelude.{◌≡◌, ◌≢◌, ◌+◌, ◌-◌, ◌≤◌, ◌↔◌, false, [], IfOk, IsErr, length, min, unwrap_or};
-ghost use Rattle.std.specs.Io.KnownBytes.{Keeps, WriteAppends};
+//! Readers and writers in memory, for tests.
+ghost use Rattle.std.specs.Prelude.{◌≡◌, ◌≢◌, ◌+◌, ◌-◌, ◌≤◌, ◌++◌, ◌↔◌, false, [], IfOk, OnErr, IsErr, drop, length, min, nat_eq, take, unwrap_or};
+ghost use Rattle.std.specs.Io.KnownBytes.{Keeps, ReadConsumes, WriteAppends};
 ghost use Rattle.flow_io.specs.Devices.{FailsOnErr, FailsOnShortWrite, flush_call, Nothing, Write};
 
-use crate::countdown::is_due;
-use crate::devices::{DeviceFault, Output};
+use crate::devices::{DeviceFault, Input, Output};
 use crate::last_call::LastCall;
 use std::marker::Model;
+
+// Counts a call, and returns `true` if it is the one that is to fail: `failing_call` was 1.
+fn is_due(failing_call: &mut u64) -> bool
+    ensures due { result ≡ nat_eq failing_call.old 1 }
+    ensures counted { failing_call.new ≡ failing_call.old - 1 }
+{
+    let due = *failing_call == 1;
+    *failing_call = failing_call.saturating_sub(1);
+    due
+}
+
+/// A reader over bytes in memory, for tests. It returns them in pieces, and fails at a chosen call.
+#[derive(Drop)]
+pub struct MemoryInput<'a> {
+    left: &'a [u8],
+    step: usize,
+    failing_call: u64,
+    failed: bool,
+}
+
+impl<'a> Model for MemoryInput<'a> {
+    ghost use Rattle.std.specs.Prelude.{◌≤◌};
+    ghost use Rattle.flow_io.specs.Devices.{InputState};
+
+    ghost Value = { InputState };
+
+    ghost view = { λ input. record {
+      left = input.left.now;
+      step = input.step;
+      failing_call = input.failing_call;
+      failed = input.failed;
+    } };
+
+    ghost invariant = { λ input. 1 ≤ input.step };
+}
+
+impl<'a> MemoryInput<'a> {
+    /// Returns a reader of `bytes` that returns at most `step` of them a call. Call number `fail_at`, counted from 1,
+    /// returns `Err`. With `None` or 0 no call fails.
+    pub fn new(bytes: &'a [u8], step: usize, fail_at: Option<u64>) -> Self
+        requires { 1 ≤ step }
+        ensures { result ≡ record {
+          left = bytes.now;
+          step = step;
+          failing_call = unwrap_or fail_at 0;
+          failed = false;
+        } }
+    {
+        MemoryInput {
+            left: bytes,
+            step,
+            failing_call: fail_at.unwrap_or(0),
+            failed: false,
+        }
+    }
+}
+
+impl Input for MemoryInput<'_> {
+    ghost use Rattle.std.specs.Prelude.{Some};
+
+    ghost failed = { λ input. input.failed };
+
+    ghost bytes_left = { λ input. Some input.left };
+
+    fn read(&mut self, buffer: &mut [u8]) -> Result<usize, DeviceFault>
+        ensures within { IfOk result (λ count. count ≤ length buffer.new) }
+        ensures given { ReadConsumes (Some self.old.left) (Some self.new.left) result buffer.new }
+        ensures fails { FailsOnErr self.old.failed self.new.failed result }
+
+        // When the call fails, and otherwise how many bytes it returns.
+        ensures err { IsErr result ↔ (self.old.failing_call ≡ 1) }
+        ensures count { IfOk result (λ count. count
+            ≡ min self.old.step (min (length buffer.old) (length self.old.left))) }
+        ensures copied { IfOk result (λ count. buffer.new ≡ take count self.old.left ++ drop count buffer.old) }
+        ensures unread { OnErr result (buffer.new ≡ buffer.old) }
+
+        // The state after the call.
+        ensures left { IfOk result (λ count. self.new.left ≡ drop count self.old.left) }
+        ensures step { self.new.step ≡ self.old.step }
+        ensures counted { self.new.failing_call ≡ self.old.failing_call - 1 }
+    {
+        if is_due(&mut self.failing_call) {
+            self.failed = true;
+            return Err(DeviceFault);
+        }
+        let count = self.step.min(buffer.len().min(self.left.len()));
+        let (front, rest) = self.left.split_at(count);
+        buffer[..count].copy_from_slice(front);
+        self.left = rest;
+        Ok(count)
+    }
+
+    fn failed(&self) -> bool {
+        self.failed
+    }
+}
 
 /// A writer into memory, for tests, with room for `N` bytes. It takes them in pieces, and fails at a chosen call.
 #[derive(Drop)]
