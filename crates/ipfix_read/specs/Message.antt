@@ -1,6 +1,6 @@
 -- Messages (RFC 7011 section 3.1).
-use Rattle.std.specs.Prelude.{◌≡◌, ℕ, ◌+◌, ◌≤◌, List, length, take, drop, sum_by, Option, Some, None, Result, Err, nat_lt, ◌==◌, if◌then◌else◌}
-use Rattle.std.specs.Option.{option_or}
+use Rattle.std.specs.Prelude.{◌≡◌, ℕ, ◌+◌, ◌≤◌, List, length, take, drop, sum_by, Option, Some, None, Result, Err, nat_lt, not, ◌==◌, if◌then◌else◌}
+use Rattle.std.specs.Option.{option_map_or, option_or}
 use Rattle.std.specs.Result.{result_map_both}
 use Rattle.byteorder.specs.Endian.{big_number}
 use Rattle.ipfix_templates.specs.declared.event.TemplateEvent.{TemplateEvent}
@@ -40,12 +40,9 @@ pub record HasHeader (bytes : List ℕ) : Type 0 where
 -- the fault of a header itself, after `count` messages, whatever bytes follow it
 abbrev pub own_fault : ℕ → List ℕ → Option ReadFaultKind
 own_fault count header =
-    if nat_lt count 4294967295 then
-    (if big_number 2 header == 10 then
-    (if nat_lt (written_length header) 16 then Some BadMessageLength
-    else None)
-    else Some BadVersion)
-    else Some TooManyMessages
+    if not (nat_lt count 4294967295) then Some TooManyMessages
+    else (if not (big_number 2 header == 10) then Some BadVersion
+    else (if nat_lt (written_length header) 16 then Some BadMessageLength else None))
 
 -- the fault of the header at the start of the bytes, after `count` messages
 abbrev pub header_fault : ℕ → List ℕ → Option ReadFaultKind
@@ -64,10 +61,7 @@ whole_reading history offset bytes =
 -- the message at the start of bytes at this offset, and the bytes after it, or its first fault; a history of template
 -- events and `count` messages precede it
 abbrev pub message_next : List (ℕ × TemplateEvent) → ℕ → ℕ → List ℕ → Result (MessageView × List ℕ) ReadFault
-message_next history count offset bytes = of (header_fault count bytes)
-  where
-    of : Option ReadFaultKind → Result (MessageView × List ℕ) ReadFault
-    of (Some kind) = Err (record { kind = kind; offset = offset })
-    of None =
-        let size = written_length bytes in
-        result_map_both (λ m. (m, drop size bytes)) (λ fault. fault) (whole_reading history offset (take size bytes))
+message_next history count offset bytes =
+    let size = written_length bytes in
+    option_map_or (λ kind. Err (record { kind = kind; offset = offset })) (header_fault count bytes)
+    (result_map_both (λ m. (m, drop size bytes)) (λ fault. fault) (whole_reading history offset (take size bytes)))

@@ -1,13 +1,13 @@
 -- The sets of a message (RFC 7011 section 3.3).
 use Rattle.std.specs.Prelude.{◌≡◌, false, ℕ, ◌+◌, ◌⊎◌, List, [], ◌++◌, length, take, drop, map, Option, Some, None, Result, Ok, Err, nat_lt, ◌==◌, ◌||◌, if◌then◌else◌}
 use Rattle.std.specs.List.{flat_map}
+use Rattle.std.specs.Option.{option_map_or}
 use Rattle.std.specs.Result.{result_map_both}
 use Rattle.byteorder.specs.Endian.{big_number}
 use Rattle.ipfix_templates.specs.declared.event.TemplateEvent.{TemplateEvent}
 use Rattle.ipfix_templates.specs.declared.fault.TemplateFault.{TemplateFault}
 use Rattle.ipfix_templates.specs.declared.kind.Kind.{Kind}
 use Rattle.ipfix_templates.specs.declared.kind.Kind.TheVariants.{Flow, Options}
-use Rattle.ipfix_templates.specs.declared.template.Template.{Template}
 use Rattle.ipfix_templates.specs.Template.{set_id}
 use Rattle.ipfix_templates.specs.Reading.{items_from, template_set_reading}
 use Rattle.ipfix_templates.specs.InForce.{in_force, Follows, Table}
@@ -42,12 +42,10 @@ in_file base fault = record { kind = BadTemplate fault.kind; offset = base + fau
 -- offset. It consists of templates, or of records under the template in force. It is skipped if its ID has no meaning or
 -- no template in force.
 abbrev pub content_reading : List (ℕ × TemplateEvent) → ℕ → ℕ → ℕ → List ℕ → Result Set ReadFault
-content_reading history domain id offset bytes = of (template_kind id) (if nat_lt id 256 then None else in_force history domain id)
-  where
-    of : Option Kind → Option Template → Result Set ReadFault
-    of (Some kind) template = result_map_both (Templates kind) (in_file offset) (template_set_reading kind bytes)
-    of None (Some t) = result_map_both (Values t.kind) (λ fault. fault) (data_set_reading t offset bytes)
-    of None None = Ok (Skipped id)
+content_reading history domain id offset bytes =
+    option_map_or (λ kind. result_map_both (Templates kind) (in_file offset) (template_set_reading kind bytes)) (template_kind id)
+    (option_map_or (λ t. result_map_both (Values t.kind) (λ fault. fault) (data_set_reading t offset bytes)) (if nat_lt id 256 then None else in_force history domain id)
+    (Ok (Skipped id)))
 
 -- the length in a set's header, and in a message's header
 abbrev pub written_length : List ℕ → ℕ

@@ -75,30 +75,6 @@ fn template_kind(id: u16) -> Option<Kind>
     }
 }
 
-// Reads the content of a set with this ID, which isn't the ID of template sets or options template sets.
-fn read_values_of<'a>(
-    table: &TemplateTable,
-    domain: u32,
-    id: u16,
-    bytes: &'a [u8],
-    base: u64,
-) -> Result<Set<'a>, ReadFault>
-    requires room { base + length bytes.now < 2 ^ 64 }
-    requires values { template_kind id ≡ None }
-    ensures read { ReadsUnder table.now table.now (events_of_set domain)
-        (λ history. content_reading history domain id base bytes.now) result }
-    ensures size { IfOk result (λ set. set_size set ≤ 1 + length bytes.now) }
-{
-    if id < FIRST_DATA_SET_ID {
-        return Ok(Set::Skipped(id));
-    }
-    let Some(template) = table.get(domain, id) else {
-        return Ok(Set::Skipped(id));
-    };
-    let records = read_data_set(template, bytes, base)?;
-    Ok(Set::Values(template.kind, records))
-}
-
 // Reads the content of a set with this ID. The events of a template set change the table, even if an allocation fails
 // after some of them.
 fn read_content<'a>(
@@ -115,7 +91,14 @@ fn read_content<'a>(
     ensures size { IfOk result (λ set. set_size set ≤ 1 + length bytes.now) }
 {
     let Some(kind) = template_kind(id) else {
-        return read_values_of(table, domain, id, bytes, base);
+        if id < FIRST_DATA_SET_ID {
+            return Ok(Set::Skipped(id));
+        }
+        let Some(template) = table.get(domain, id) else {
+            return Ok(Set::Skipped(id));
+        };
+        let records = read_data_set(template, bytes, base)?;
+        return Ok(Set::Values(template.kind, records));
     };
     let events = match read_template_set(alloc, bytes, kind) {
         Ok(events) => events,

@@ -1,6 +1,6 @@
 ghost use Rattle.std.specs.Prelude.{◌≡◌, [], Some, IfSome, length, map, option_map};
 ghost use Rattle.std.specs.Iterator.{YieldsFirst, item_count};
-ghost use Rattle.ipfix_read.specs.Value.{IsValueOf, bytes_at, variable_at, value_at, values_at};
+ghost use Rattle.ipfix_read.specs.Value.{bytes_at, variable_at, value_at, values_at};
 
 use byteorder::{BigEndian, ByteOrder};
 use ipfix_templates::{Field, Fields};
@@ -17,30 +17,11 @@ pub struct FieldValue<'a> {
 }
 
 impl<'a> Model for FieldValue<'a> {
-    ghost use Rattle.ipfix_read.specs.Value.{FieldValueView, IsValueOf};
+    ghost use Rattle.ipfix_read.specs.Value.{FieldValueView};
 
     ghost Value = { FieldValueView };
 
     ghost view = { λ v. record { field = v.field; value = v.value.now } };
-
-    ghost invariant = { λ v. IsValueOf v.field v.value.now };
-}
-
-impl<'a> FieldValue<'a> {
-    /// Returns the specifier in the template.
-    pub fn field(&self) -> Field
-        ensures { result ≡ self.now.field }
-    {
-        self.field
-    }
-
-    /// Returns the bytes of the value. The value of a field of fixed length has that length.
-    pub fn value(&self) -> &'a [u8]
-        ensures value { result.now ≡ self.now.value }
-        ensures sized { IsValueOf self.now.field self.now.value }
-    {
-        self.value
-    }
 }
 
 /// The values of a data record, one for each field of its template. The list holds the record's bytes and borrows the

@@ -1,9 +1,8 @@
-use Rattle.std.proofs.Common.{◌≡◌, ◌+◌, ◌*◌, ◌/◌, ◌<◌, [], drop, length, ℕ, List, subst, sym, ap, ◌∙◌, length-drop, arith}
+use Rattle.std.proofs.Common.{◌≡◌, ◌+◌, ◌*◌, ◌/◌, [], drop, length, ℕ, List, subst, sym, ap, ◌∙◌, length-drop, arith}
 use Rattle.std.proofs.Math.Nat.{div-mul-le_self}
 use Rattle.std.proofs.lemmas.Bool.{eqb-true}
 use Rattle.std.proofs.lemmas.List.{nil_from_length}
 use Rattle.ipfix_templates.specs.Field.{least_length}
-use Rattle.ipfix_templates.specs.Runs.{runs_behind}
 use Rattle.ipfix_templates.proofs.Choice.{mapped}
 use Rattle.ipfix_read.specs.Value.{values_at}
 use Rattle.ipfix_read.proofs.RecordValues.{HasRead, HasRoom, cut_off, few_end, few_left, fixed_read, none_end, none_from_left, none_read, one_read, packed, values_shorter}
