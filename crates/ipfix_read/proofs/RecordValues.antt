@@ -127,20 +127,13 @@ then_left : (o : Option (List ℕ × List ℕ)) → option_map (λ f. f.1) o ≡
 then_left None = refl
 then_left (Some x) = refl
 
-left_step : (v : FieldValueView) (read : Option (List FieldValueView × List ℕ)) → left (option_and_then (λ vs. Some (v ∷ vs.0, vs.1)) read) ≡ left read
-left_step v None = refl
-left_step v (Some x) = refl
-
 -- the bytes after the value of a field, and those after the fields that follow it
-left_first : (field : Field) (fields : List Field) (read : Option (List ℕ × List ℕ))
-    → left (option_and_then (λ v. option_and_then (λ vs. Some (record { field = field; value = v.0 } ∷ vs.0, vs.1)) (values_at fields v.1)) read)
-    ≡ option_and_then (λ v. left (values_at fields v.1)) read
-left_first field fields None = refl
-left_first field fields (Some v) = left_step (record { field = field; value = v.0 }) (values_at fields v.1)
-
 left_cons : (field : Field) (fields : List Field) (bytes : List ℕ) → left (values_at (field ∷ fields) bytes) ≡ option_and_then (λ v. left (values_at fields v.1)) (value_at field bytes)
 unfolding values_at
-left_cons field fields bytes = left_first field fields (value_at field bytes)
+left_cons field fields bytes = elim (value_at field bytes) as (λ o. left (option_and_then (λ v. option_and_then (λ vs. Some (record { field = field; value = v.0 } ∷ vs.0, vs.1)) (values_at fields v.1)) o) ≡ option_and_then (λ v. left (values_at fields v.1)) o) [
+      | None ↦ refl
+      | Some v ↦ elim (values_at fields v.1) as (λ o. left (option_and_then (λ vs. Some (record { field = field; value = v.0 } ∷ vs.0, vs.1)) o) ≡ left o) [ None ↦ refl | Some x ↦ refl ]
+    ]
 
 variable_is : (field : Field) (bytes : List ℕ) → is_variable field ≡ true → value_at field bytes ≡ variable_at bytes
 unfolding value_at
@@ -155,11 +148,7 @@ no_bytes_first : (next : List ℕ → Option (List ℕ)) (bytes : List ℕ) → 
 no_bytes_first next bytes = rw (le-ltb (length bytes) 0 (omega arith)) refl
 
 below_alike : (n a b : ℕ) → a ≤ n → ltb (n - a) b ≡ ltb n (a + b)
-below_alike n a b le =
-    elim (ltb n (a + b)) as (λ c. ltb n (a + b) ≡ c → ltb (n - a) b ≡ c) [
-      | true ↦ λ h. lt-ltb (n - a) b (omega (arith, ltb-true n (a + b) h))
-      | false ↦ λ h. le-ltb (n - a) b (omega (arith, ltb-false n (a + b) h))
-    ] refl
+below_alike n a b le = grind (arith, nat_tests, common_steps)
 
 -- the step after the given number of bytes
 abbrev then_next : (List ℕ → Option (List ℕ)) → Option (List ℕ × List ℕ) → Option (List ℕ)
@@ -206,17 +195,6 @@ runs_behind_lem sum (field ∷ fields) bytes =
 
 pub runs_are : (fields : List Field) (bytes : List ℕ) → behind_runs (runs_behind 0 fields) (last_run_behind 0 fields) bytes ≡ left (values_at fields bytes)
 runs_are fields bytes = runs_behind_lem 0 fields bytes ∙ no_bytes_first (λ bs. left (values_at fields bs)) bytes
-
--- ---- the values one by one
-
-pub none_whole : (fields : List Field) (bytes : List ℕ) → length fields ≡ 0 → whole_values fields bytes ≡ []
-unfolding whole_values
-none_whole [] bytes e = refl
-none_whole (field ∷ fields) bytes e = absurd (omega (arith, e))
-
-pub none_more : (field : Field) (fields : List Field) (bytes : List ℕ) → None ≡ value_at field bytes → whole_values (field ∷ fields) bytes ≡ []
-unfolding whole_values
-none_more field fields bytes e = rw (← e) refl
 
 -- ---- the bytes that a data record takes
 

@@ -60,10 +60,6 @@ module _ (history : List (ℕ × TemplateEvent)) (domain id offset : ℕ) (bytes
       → content_reading history domain id offset bytes ≡ result_map_both (Templates kind) (in_file offset) (template_set_reading kind bytes)
   templates_read kind is = rw is refl
 
-  pub records_read : template_kind id ≡ None → (t : Template) → 256 ≤ id → in_force history domain id ≡ Some t
-      → content_reading history domain id offset bytes ≡ result_map_both (Values t.kind) (λ fault. fault) (data_set_reading t offset bytes)
-  records_read no_templates t high is = rw (no_templates, le-ltb id 256 high, is) refl
-
 -- ---- a set
 
 fits : (many size : ℕ) → (ltb many 4 || (ltb size 4 || ltb many size)) ≡ false → (4 ≤ size) × (size ≤ many)

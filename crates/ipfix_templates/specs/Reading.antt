@@ -1,5 +1,5 @@
-use Rattle.std.specs.Prelude.{◌≡◌, ◌⊎◌, List, [], ◌∷◌, ◌++◌, ℕ, zero, suc, ◌+◌, ◌-◌, Bool, true, false, length, drop, Option, Some, None, Result, Ok, Err, option_and_then, nat_lt, ◌==◌, ◌&&◌, ◌||◌, if◌then◌else◌}
-use Rattle.std.specs.Result.{result_map_both}
+use Rattle.std.specs.Prelude.{◌≡◌, ◌⊎◌, List, [], ◌∷◌, ◌++◌, ℕ, zero, suc, ◌+◌, ◌-◌, Bool, length, drop, Option, Some, None, Result, Ok, Err, option_and_then, nat_lt, ◌==◌, ◌&&◌, ◌||◌, if◌then◌else◌}
+use Rattle.std.specs.Result.{result_flatten, result_map_both}
 use Rattle.byteorder.specs.Endian.{big_number}
 pub use Rattle.ipfix_templates.specs.declared.fault.TemplateFault.{TemplateFault}
 pub use Rattle.ipfix_templates.specs.declared.fault.TemplateFaultKind.TheVariants.{BadScope, BadTemplateId, NoMemory, Truncated}
@@ -19,12 +19,9 @@ module _ {A F : Type 0} (ends : List ℕ → Bool) (next : List A → ℕ → Li
   -- these items and at most `most` more, or the first fault
   abbrev pub items_by : ℕ → List A → ℕ → List ℕ → Result (List A) F
   items_by zero items offset bytes = Ok items
-  items_by (suc most) items offset bytes = on (items_by most) (ends bytes) (next items offset bytes)
-    where
-      on : (List A → ℕ → List ℕ → Result (List A) F) → Bool → Result (A × List ℕ) F → Result (List A) F
-      on rest true read = Ok items
-      on rest false (Err fault) = Err fault
-      on rest false (Ok (item, after)) = rest (items ++ item ∷ []) (offset + (length bytes - length after)) after
+  items_by (suc most) items offset bytes =
+      if ends bytes then Ok items
+      else result_flatten (result_map_both (λ x. items_by most (items ++ x.0 ∷ []) (offset + (length bytes - length x.1)) x.1) (λ fault. fault) (next items offset bytes))
 
   -- these items and all that follow them, or the first fault; an item has at least one byte, so there are at most as
   -- many as bytes

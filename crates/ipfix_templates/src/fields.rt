@@ -32,16 +32,20 @@ impl Drop for Fields {
 }
 
 impl Model for Fields {
-    ghost use Rattle.std.specs.Prelude.{List};
+    ghost use Rattle.std.specs.Prelude.{◌≡◌, ◌≤◌, List, length};
     ghost use Rattle.std.specs.Rc.{rc_value};
-    ghost use Rattle.ipfix_templates.specs.Field.{Field};
-    ghost use Rattle.ipfix_templates.specs.Runs.{IsKept};
+    ghost use Rattle.ipfix_templates.specs.Field.{Field, least_length};
+    ghost use Rattle.ipfix_templates.specs.Runs.{runs_behind, last_run_behind};
+    ghost use Rattle.ipfix_templates.specs.Layout.{layout_of};
 
     ghost Value = { List Field };
 
     ghost view = { λ a. (rc_value a.shared).items.items };
 
-    ghost invariant = { λ a. let l = rc_value a.shared in IsKept l.items.items l.runs.items l.last_run l.least l.rows };
+    ghost invariant = { λ a. let l = rc_value a.shared in
+        (length l.items.items ≤ 65535) × (l.runs.items ≡ runs_behind 0 l.items.items)
+        × (l.last_run ≡ last_run_behind 0 l.items.items) × (l.least ≡ least_length l.items.items)
+        × (l.rows ≡ layout_of l.items.items) };
 }
 
 impl Fields {
