@@ -1,5 +1,5 @@
 -- The content of a set, and consecutive sets.
-use Rattle.std.proofs.Common.{◌≡◌, ℕ, ◌+◌, ◌<◌, List, [], ◌∷◌, ◌++◌, length, get_or, take, sym, ap, ◌∙◌, append_assoc, ◌-◌, ◌≤◌, true, false, eqb, ltb, drop, refl, subst, inl, inr, arith, length-drop, Some, None, Result, Ok, Err}
+use Rattle.std.proofs.Common.{◌≡◌, ℕ, ◌+◌, ◌<◌, List, [], ◌∷◌, ◌++◌, length, get_or, take, sym, ap, ◌∙◌, append_assoc, ◌-◌, ◌≤◌, true, false, eqb, ltb, drop, refl, subst, inl, inr, arith, length-drop, Some, Result, Ok, Err}
 use Rattle.std.specs.Prelude.{◌==◌, ◌||◌}
 use Rattle.std.specs.Result.{result_map_both}
 use Rattle.std.proofs.lemmas.Bool.{le-ltb}
@@ -10,14 +10,12 @@ use Rattle.std.proofs.lemmas.List.Sums.{sum_by-append, sum_by-cons}
 use Rattle.byteorder.specs.Endian.{big_number}
 use Rattle.ipfix_templates.specs.declared.event.TemplateEvent.{TemplateEvent}
 use Rattle.ipfix_templates.specs.declared.kind.Kind.{Kind}
-use Rattle.ipfix_templates.specs.declared.template.Template.{Template}
 use Rattle.ipfix_templates.specs.Reading.{items_from, template_set_reading}
-use Rattle.ipfix_templates.specs.InForce.{in_force, Follows, Table}
+use Rattle.ipfix_templates.specs.InForce.{Follows, Table}
 use Rattle.ipfix_templates.proofs.Choice.{chosen}
 use Rattle.ipfix_templates.proofs.Reading.{at_end, at_fault, at_item}
 use Rattle.ipfix_read.specs.Fault.{BadSetLength}
-use Rattle.ipfix_read.specs.Record.{data_set_reading}
-use Rattle.ipfix_read.specs.Set.{Set, Templates, Values, in_domain, in_file, events_of_sets, template_kind, content_reading, written_length, set_next}
+use Rattle.ipfix_read.specs.Set.{Set, Templates, in_domain, in_file, events_of_sets, template_kind, content_reading, written_length, set_next}
 use Rattle.ipfix_read.specs.Message.{ReadFault, set_size, message_size}
 
 -- a history with one more event

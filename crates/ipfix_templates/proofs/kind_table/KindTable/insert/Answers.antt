@@ -1,4 +1,4 @@
-use Rattle.std.proofs.Common.{None, Some, rules, ap, ◌∙◌}
+use Rattle.std.proofs.Common.{Some, rules, ap, ◌∙◌}
 use Rattle.std.specs.Ordering.{nat_cmp}
 use Rattle.std.specs.BTreeMap.{is_at}
 use Rattle.ipfix_templates.specs.InForce.{stored}
