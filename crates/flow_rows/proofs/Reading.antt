@@ -6,7 +6,8 @@ use Rattle.std.proofs.lemmas.Bool.{le-ltb, ltb-false}
 use Rattle.std.proofs.lemmas.List.{append-nil, drop_at, length-take-le, take_at}
 use Rattle.ipfix_templates.proofs.Choice.{chosen, gave, some_is}
 use Rattle.ipfix_templates.specs.Elements.{is_usable}
-use Rattle.ipfix_templates.specs.Field.{FieldView, is_variable}
+use Rattle.ipfix_templates.specs.declared.field.Field.{Field as FieldView}
+use Rattle.ipfix_templates.specs.Field.{is_variable}
 use Rattle.ipfix_templates.specs.Layout.{place}
 use Rattle.ipfix_templates.specs.Runs.{runs_behind}
 use Rattle.ipfix_read.specs.Value.{FieldValueView, bytes_at, value_at, values_at, variable_at}

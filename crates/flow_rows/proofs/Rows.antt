@@ -11,7 +11,7 @@ use Rattle.prefix_keys.specs.declared.version.Version.{Version}
 use Rattle.prefix_keys.specs.declared.version.Version.TheVariants.{V4, V6}
 use Rattle.ipfix_templates.proofs.Choice.{some_is}
 use Rattle.ipfix_templates.specs.Elements.{back, forward}
-use Rattle.ipfix_templates.specs.Field.{FieldView}
+use Rattle.ipfix_templates.specs.declared.field.Field.{Field as FieldView}
 use Rattle.ipfix_templates.specs.declared.layout.Place.{Place}
 use Rattle.ipfix_templates.specs.declared.layout.Places.{Places}
 use Rattle.ipfix_templates.specs.declared.layout.RowLayout.{RowLayout}

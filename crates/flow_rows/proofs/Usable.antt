@@ -6,7 +6,8 @@ use Rattle.std.specs.Option.{option_eq, option_map_or}
 use Rattle.std.proofs.lemmas.Bool.{and_parts, eqb-true, false_from_ne_true, leb-true, not-true, true≢false}
 use Rattle.ipfix_templates.specs.declared.layout.TheConstants.{ELEMENTS}
 use Rattle.ipfix_templates.specs.Elements.{fits, is_usable}
-use Rattle.ipfix_templates.specs.Field.{FieldView, is_variable}
+use Rattle.ipfix_templates.specs.declared.field.Field.{Field as FieldView}
+use Rattle.ipfix_templates.specs.Field.{is_variable}
 use Rattle.ipfix_templates.specs.Layout.{is_there, place}
 use Rattle.ipfix_read.specs.Value.{FieldValueView}
 use Rattle.flow_rows.specs.Elements.{element}

@@ -14,9 +14,7 @@ pub fn definitions(events: &[TemplateEvent], kind: Kind) -> u64
 {
     events
         .iter()
-        .filter(
-            |event| matches!(event, TemplateEvent::Define(template) if template.kind().is(kind)),
-        )
+        .filter(|event| matches!(event, TemplateEvent::Define(template) if template.kind.is(kind)))
         .count() as u64
 }
 
@@ -52,10 +50,7 @@ pub fn row_count(records: &RecordList<'_>) -> u64
     ensures bound { result ≤ length records.now + length records.now }
 {
     let kind = records.kind();
-    let Some(fields) = records.fields() else {
-        return 0;
-    };
-    let Some(layout) = fields.row_layout() else {
+    let Some(layout) = records.fields().row_layout() else {
         return 0;
     };
     if !kind.is(Kind::Flow) {

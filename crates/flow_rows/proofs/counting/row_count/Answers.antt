@@ -4,20 +4,20 @@ use Rattle.flow_rows.specs.Elements.{second_row}
 use Rattle.flow_rows.proofs.Rows.{all_rows, no_flows, no_layout, none_back}
 use Rattle.flow_rows.proofs.counting.row_count.Goals as goal
 
-pub returns-in_default-row_layout-clause-value : goal.returns-in_default-row_layout-clause-value
-returns-in_default-row_layout-clause-value c =
-    sym (no_layout c.in-Some.fields.now c.args.records.now c.kind-kind.result c.kind-kind.ensures c.in-Some.ensures.values c.in_default-row_layout.ensures)
+pub returns-in_default-clause-value : goal.returns-in_default-clause-value
+returns-in_default-clause-value c =
+    sym (no_layout c.fields.result.now c.args.records.now c.kind-kind.result c.kind-kind.ensures c.fields.ensures c.in_default.ensures)
 
 pub returns-then-not-is-clause-value : goal.returns-then-not-is-clause-value
 returns-then-not-is-clause-value c =
-    sym (no_flows c.in-Some.fields.now c.args.records.now c.kind-kind.result c.kind-kind.ensures c.in-Some.ensures.values (sym c.is.ensures ∙ c.if-not-is.true))
+    sym (no_flows c.fields.result.now c.args.records.now c.kind-kind.result c.kind-kind.ensures c.fields.ensures (sym c.is.ensures ∙ c.if-not-is.true))
 
 pub returns-in-None-clause-value : goal.returns-in-None-clause-value
 returns-in-None-clause-value c =
     omega (
       arith,
-      all_rows c.in-Some.fields.now c.args.records.now c.kind-kind.result c.kind-kind.ensures c.in-Some.ensures.values c.in-Some-row_layout.layout.now
-          c.in-Some-row_layout.ensures (sym c.is.ensures ∙ c.if-not-is.false),
+      all_rows c.fields.result.now c.args.records.now c.kind-kind.result c.kind-kind.ensures c.fields.ensures c.in-Some.layout.now
+          c.in-Some.ensures (sym c.is.ensures ∙ c.if-not-is.false),
       ap (count_by (λ r. is_some (second_row r))) c.in-None.ensures.steps.0,
       c.loop-source.invariant,
     )
@@ -26,9 +26,9 @@ pub returns-else-is_there-clause-value : goal.returns-else-is_there-clause-value
 returns-else-is_there-clause-value c =
     omega (
       arith,
-      all_rows c.in-Some.fields.now c.args.records.now c.kind-kind.result c.kind-kind.ensures c.in-Some.ensures.values c.in-Some-row_layout.layout.now
-          c.in-Some-row_layout.ensures (sym c.is.ensures ∙ c.if-not-is.false),
-      none_back c.in-Some.fields.now c.args.records.now c.kind-kind.result c.kind-kind.ensures c.in-Some.ensures.values c.in-Some-row_layout.layout.now
-          c.in-Some-row_layout.ensures (sym c.is_there.ensures ∙ c.if-is_there.false),
+      all_rows c.fields.result.now c.args.records.now c.kind-kind.result c.kind-kind.ensures c.fields.ensures c.in-Some.layout.now
+          c.in-Some.ensures (sym c.is.ensures ∙ c.if-not-is.false),
+      none_back c.fields.result.now c.args.records.now c.kind-kind.result c.kind-kind.ensures c.fields.ensures c.in-Some.layout.now
+          c.in-Some.ensures (sym c.is_there.ensures ∙ c.if-is_there.false),
       c.len-count.ensures,
     )
