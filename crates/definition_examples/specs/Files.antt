@@ -9,7 +9,7 @@ use Rattle.ipfix_read.specs.declared.fault.ReadFault.{ReadFault}
 use Rattle.ipfix_read.specs.declared.fault.ReadFaultKind.{ReadFaultKind}
 use Rattle.flow_rows.specs.Counts.{CountsView, counts_of, rows_of_messages}
 use Rattle.flow_rows.specs.Elements.{RowView}
-use Rattle.ipfix_templates.specs.Template.{TemplateView}
+use Rattle.ipfix_templates.specs.declared.template.Template.{Template}
 use Rattle.ipfix_templates.specs.declared.event.TemplateEvent.TheVariants.{Define}
 use Rattle.ipfix_templates.specs.declared.kind.Kind.TheVariants.{Flow, Options}
 use Rattle.ipfix_read.specs.declared.record.Record.{Record}
@@ -49,10 +49,10 @@ at_offset kind offset = record { kind = kind; offset = offset }
 abbrev pub rfc_message : List ℕ
 rfc_message = hex (codes "000a0098 00000000 00000000 00000001 0002001c 01000005 00080004 000c0004 000f0004 00020004 00010004 01000040 c000020c c00002fe c0000201 00001391 00518c81 c000021b c0000217 c0000202 000002ec 0005ef46 c0000238 c0000241 c0000203 00000005 00001986 00030018 01010003 0001008d 00040029 0002002a 00020000 01010014 00000001 015927d9 00000002 02b24fb2")
 
-abbrev pub rfc_flow_template : TemplateView
+abbrev pub rfc_flow_template : Template
 rfc_flow_template = record { id = 256; kind = Flow; scope_count = 0; fields = field 8 4 ∷ field 12 4 ∷ field 15 4 ∷ field 2 4 ∷ field 1 4 ∷ [] }
 
-abbrev pub rfc_options_template : TemplateView
+abbrev pub rfc_options_template : Template
 rfc_options_template = record { id = 257; kind = Options; scope_count = 1; fields = field 141 4 ∷ field 41 2 ∷ field 42 2 ∷ [] }
 
 abbrev pub rfc_flow : List ℕ → List ℕ → List ℕ → List ℕ → List ℕ → Record
