@@ -3,11 +3,12 @@ use Rattle.std.proofs.Common.{◌≡◌, ◌∙◌, ℕ, suc, ◌+◌, ◌≤◌
 use Rattle.std.specs.Prelude.{option_and_then, option_map, unwrap_or}
 use Rattle.std.specs.Option.{option_map_or}
 use Rattle.std.proofs.lemmas.Bool.{le-ltb, ltb-false}
-use Rattle.std.proofs.lemmas.List.{append-nil, drop_at, length-take-le, take_at}
+use Rattle.std.proofs.lemmas.List.{append-nil, drop_at, length-drop, length-take-le, take_at}
 use Rattle.ipfix_templates.proofs.Choice.{chosen, gave, some_is}
 use Rattle.ipfix_templates.specs.Elements.{is_usable}
 use Rattle.ipfix_templates.specs.declared.field.Field.{Field as FieldView}
 use Rattle.ipfix_templates.specs.Field.{is_variable}
+use Rattle.ipfix_templates.specs.declared.layout.Place.{Place}
 use Rattle.ipfix_templates.specs.Layout.{place}
 use Rattle.ipfix_templates.specs.Runs.{runs_behind}
 use Rattle.ipfix_read.specs.Value.{FieldValueView, bytes_at, value_at, values_at, variable_at}
@@ -52,8 +53,29 @@ found_there : (front more : List ℕ) (bytes gap value after : List ℕ) → beh
 found_there front more bytes gap value after is =
     rw (take_at front more (length front) refl, is, cut (length gap) gap (value ++ after) refl, cut (length value) value after refl) refl
 
-missing_there : (runs bytes : List ℕ) → number_there (record { offset = 0; skips = 0; length = 0 }) runs bytes ≡ 0
-missing_there runs bytes = rw (cut 0 [] bytes refl, cut 0 [] bytes refl) refl
+-- the bytes at a place before all values of variable length
+pub before_values : (p : Place) (runs bytes : List ℕ) → p.skips ≡ 0 → p.offset + p.length ≤ length bytes
+    → bytes_there p runs bytes ≡ Some (take p.length (drop p.offset bytes))
+before_values p runs bytes none within =
+    rw (
+      none,
+      le-ltb (length bytes) p.offset (omega (arith, within)),
+      le-ltb (length (drop p.offset bytes)) p.length (omega (arith, within, length-drop p.offset bytes)),
+    )
+    refl
+
+-- a number without bytes is 0
+pub none_there : (p : Place) (runs bytes : List ℕ) → p.length ≡ 0 → number_there p runs bytes ≡ 0
+none_there p runs bytes none =
+    elim (behind_values (take p.skips runs) bytes) as (λ rest.
+    option_map_or big_endian (option_and_then (λ rest. option_and_then (λ f. option_map (λ v. v.0) (bytes_at p.length f.1)) (bytes_at p.offset rest)) rest) 0 ≡ 0) [
+      | None ↦ refl
+      | Some rest ↦ elim (bytes_at p.offset rest) as (λ f.
+          option_map_or big_endian (option_and_then (λ f. option_map (λ v. v.0) (bytes_at p.length f.1)) f) 0 ≡ 0) [
+            | None ↦ refl
+            | Some f ↦ rw (none, cut 0 [] f.1 refl) refl
+          ]
+    ]
 
 -- the first value's number if its field is usable, otherwise that of the values after it
 element-used : (direction : Option ℕ) (number : ℕ) (v : FieldValueView) (vs : List FieldValueView) → is_usable direction number v.field ≡ true
@@ -74,7 +96,7 @@ module _ (direction : Option ℕ) (number : ℕ) (bytes : List ℕ) where
       → said_at front skips offset fields ≡ unwrap_or (element direction x.0 number) 0
   unfolding values_at
   said_behind [] front gap rest skips offset x skips_are offset_is behind read =
-      missing_there (front ++ runs_behind offset []) bytes
+      none_there (record { offset = 0; skips = 0; length = 0 }) (front ++ runs_behind offset []) bytes refl
       ∙ ap (λ (vs : List FieldValueView). unwrap_or (element direction vs number) 0) (ap (λ (y : List FieldValueView × List ℕ). y.0) (some_is ([], rest) x read))
   said_behind (f ∷ fs) front gap rest skips offset x skips_are offset_is behind read =
       let a = gave (value_at f rest) (λ v. option_and_then (λ vs. Some (record { field = f; value = v.0 } ∷ vs.0, vs.1)) (values_at fs v.1)) x read in
@@ -117,6 +139,51 @@ module _ (direction : Option ℕ) (number : ℕ) (bytes : List ℕ) where
             refl)
       ]
       refl
+
+-- a place after values of variable length says so, unless the element is missing
+behind_variable : (direction : Option ℕ) (number skips offset : ℕ) (fields : List FieldView) → 1 ≤ skips → (place direction number skips offset fields).skips ≡ 0
+    → (place direction number skips offset fields).offset + (place direction number skips offset fields).length ≡ 0
+behind_variable direction number skips offset [] some none = refl
+behind_variable direction number skips offset (f ∷ fs) some none =
+    elim (is_usable direction number f) as (λ b.
+    let p = cond b (record { offset = offset; skips = skips; length = f.length })
+    (cond (is_variable f) (place direction number (skips + 1) 0 fs) (place direction number skips (offset + f.length) fs)) in
+    p.skips ≡ 0 → p.offset + p.length ≡ 0) [
+      | true ↦ λ none. omega (arith, some, none)
+      | false ↦ elim (is_variable f) as (λ b.
+          let p = cond b (place direction number (skips + 1) 0 fs) (place direction number skips (offset + f.length) fs) in
+          p.skips ≡ 0 → p.offset + p.length ≡ 0) [
+            | true ↦ behind_variable direction number (skips + 1) 0 fs (omega arith)
+            | false ↦ behind_variable direction number skips (offset + f.length) fs some
+          ]
+    ]
+    none
+
+-- a place before all values of variable length is within the record
+pub within_record : (direction : Option ℕ) (number offset : ℕ) (fields : List FieldView) (rest : List ℕ) (x : List FieldValueView × List ℕ)
+    → values_at fields rest ≡ Some x → (place direction number 0 offset fields).skips ≡ 0
+    → (place direction number 0 offset fields).offset + (place direction number 0 offset fields).length ≤ offset + length rest
+unfolding values_at
+within_record direction number offset [] rest x read none = omega arith
+within_record direction number offset (f ∷ fs) rest x read none =
+    let a = gave (value_at f rest) (λ v. option_and_then (λ vs. Some (record { field = f; value = v.0 } ∷ vs.0, vs.1)) (values_at fs v.1)) x read in
+    let b = gave (values_at fs a.0.1) (λ vs. Some (record { field = f; value = a.0.0 } ∷ vs.0, vs.1)) x a.2 in
+    let sizes : is_variable f ≡ false → length rest ≡ f.length + length a.0.1 =
+    (λ fixed. let v = fixed_value f rest a.0 fixed a.1 in omega (arith, v.0, ap length v.1, length-append a.0.0 a.0.1)) in
+    elim (is_usable direction number f) as (λ c. is_usable direction number f ≡ c →
+    let p = cond c (record { offset = offset; skips = 0; length = f.length })
+    (cond (is_variable f) (place direction number 1 0 fs) (place direction number 0 (offset + f.length) fs)) in
+    p.skips ≡ 0 → p.offset + p.length ≤ offset + length rest) [
+      | true ↦ λ usable none. omega (arith, sizes (has_other_length 65535 refl direction number f usable))
+      | false ↦ λ _. elim (is_variable f) as (λ c. is_variable f ≡ c →
+          let p = cond c (place direction number 1 0 fs) (place direction number 0 (offset + f.length) fs) in
+          p.skips ≡ 0 → p.offset + p.length ≤ offset + length rest) [
+            | true ↦ λ _ none. omega (arith, behind_variable direction number 1 0 fs (omega arith) none)
+            | false ↦ λ fixed none. omega (arith, sizes fixed, within_record direction number (offset + f.length) fs a.0.1 b.0 b.1 none)
+          ]
+          refl
+    ]
+    refl none
 
 -- the number at the place of an element is that of the record's values
 pub said_there : (direction : Option ℕ) (number : ℕ) (fields : List FieldView) (bytes : List ℕ) (values : List FieldValueView)

@@ -24,8 +24,8 @@ use Rattle.ipfix_read.specs.Value.{FieldValueView, values_at}
 use Rattle.ipfix_read.specs.declared.record.Record.{Record}
 use Rattle.flow_rows.specs.Counts.{is_of_kind}
 use Rattle.flow_rows.specs.Elements.{RowView, element, first_row, first_row_of, packets_of, row_back, row_between, row_of_elements, rows_of_record, second_row}
-use Rattle.flow_rows.specs.Inner.{AreUsable, number_there, row_at, version_of}
-use Rattle.flow_rows.proofs.Reading.{said_there}
+use Rattle.flow_rows.specs.Inner.{AreUsable, IsWithin, number_there, row_at, version_of}
+use Rattle.flow_rows.proofs.Reading.{none_there, said_there, within_record}
 use Rattle.flow_rows.proofs.Usable.{IsListed, fields_of, length-place, there-place}
 
 -- the row of a flow record is that of its values
@@ -165,14 +165,18 @@ module _ (values : List FieldValueView) (bytes : List ℕ) (read : values_at (fi
 
 -- ---- the lengths at places
 
-shorter_of : (p q : Place) (most : ℕ) → p.length ≤ most → q.length ≤ most → (place_or p q).length ≤ most
-shorter_of p q most short also =
-    elim (is_there p) as (λ b. (cond b p q).length ≤ most) [
-      | true ↦ short
+within_either : (most size : ℕ) (p q : Place) → IsWithin most size p → IsWithin most size q → IsWithin most size (place_or p q)
+within_either most size p q is also =
+    elim (is_there p) as (λ b. IsWithin most size (cond b p q)) [
+      | true ↦ is
       | false ↦ also
     ]
 
-module _ (fields : List FieldView) where
+-- in records with these bytes
+module _ (fields : List FieldView) (bytes : List ℕ) (x : List FieldValueView × List ℕ) (read : values_at fields bytes ≡ Some x) where
+  abbrev size : ℕ
+  size = length bytes
+
   abbrev place_at : Option ℕ → ℕ → Place
   place_at direction number = place direction number 0 0 fields
 
@@ -181,57 +185,66 @@ module _ (fields : List FieldView) where
       → is_there (place_at direction number) ≡ true → (place_at direction number).length ≡ size
   is_long direction number size within there = omega (arith, within.0, within.1 there)
 
-  most : (direction : Option ℕ) (number : ℕ) (range : ℕ × ℕ) → IsListed number range → (place_at direction number).length ≤ range.1
-  most direction number range listed = (length-place direction number 0 0 range fields listed).0
+  most : (direction : Option ℕ) (number : ℕ) (range : ℕ × ℕ) → IsListed number range → IsWithin range.1 size (place_at direction number)
+  most direction number range listed = record {
+    short = (length-place direction number 0 0 range fields listed).0;
+    within = λ none. omega (arith, within_record direction number 0 fields bytes x read none);
+  }
 
-  usable_between : (is_v4 : Bool) (src dst : Place) → src.length ≡ cond is_v4 4 16 → dst.length ≡ cond is_v4 4 16
-      → AreUsable (places_between is_v4 src dst (place_at forward))
-  usable_between is_v4 src dst of_src of_dst = record {
-    src = of_src;
-    dst = of_dst;
+  usable_between : (is_v4 : Bool) (src dst : Place) → IsWithin (cond is_v4 4 16) size src → IsWithin (cond is_v4 4 16) size dst → src.length ≡ cond is_v4 4 16 → dst.length ≡ cond is_v4 4 16
+      → AreUsable size (places_between is_v4 src dst (place_at forward))
+  usable_between is_v4 src dst within also of_src of_dst = record {
+    src = within;
+    dst = also;
+    src_is = of_src;
+    dst_is = of_dst;
     sport = most forward 7 (1, 2) refl;
     dport = most forward 11 (1, 2) refl;
     protocol = most forward 4 (1, 1) refl;
     flags = most forward 6 (1, 2) refl;
-    packets = shorter_of (place_at forward 2) (place_at forward 86) 8 (most forward 2 (1, 8) refl) (most forward 86 (1, 8) refl);
-    octets = shorter_of (place_at forward 1) (place_at forward 85) 8 (most forward 1 (1, 8) refl) (most forward 85 (1, 8) refl);
+    packets = within_either 8 size (place_at forward 2) (place_at forward 86) (most forward 2 (1, 8) refl) (most forward 86 (1, 8) refl);
+    octets = within_either 8 size (place_at forward 1) (place_at forward 85) (most forward 1 (1, 8) refl) (most forward 85 (1, 8) refl);
     start_ms = most forward 152 (8, 8) refl;
     end_ms = most forward 153 (8, 8) refl;
   }
 
-  usable_second : (first : Places) → AreUsable first → AreUsable (second_places first (place_at back))
+  usable_second : (first : Places) → AreUsable size first → AreUsable size (second_places first (place_at back))
   usable_second first usable = record {
     src = usable.dst;
     dst = usable.src;
+    src_is = usable.dst_is;
+    dst_is = usable.src_is;
     sport = usable.dport;
     dport = usable.sport;
     protocol = usable.protocol;
     flags = most back 6 (1, 2) refl;
-    packets = shorter_of (place_at back 2) (place_at back 86) 8 (most back 2 (1, 8) refl) (most back 86 (1, 8) refl);
-    octets = shorter_of (place_at back 1) (place_at back 85) 8 (most back 1 (1, 8) refl) (most back 85 (1, 8) refl);
-    start_ms = shorter_of (place_at back 152) first.start_ms 8 (most back 152 (8, 8) refl) usable.start_ms;
-    end_ms = shorter_of (place_at back 153) first.end_ms 8 (most back 153 (8, 8) refl) usable.end_ms;
+    packets = within_either 8 size (place_at back 2) (place_at back 86) (most back 2 (1, 8) refl) (most back 86 (1, 8) refl);
+    octets = within_either 8 size (place_at back 1) (place_at back 85) (most back 1 (1, 8) refl) (most back 85 (1, 8) refl);
+    start_ms = within_either 8 size (place_at back 152) first.start_ms (most back 152 (8, 8) refl) usable.start_ms;
+    end_ms = within_either 8 size (place_at back 153) first.end_ms (most back 153 (8, 8) refl) usable.end_ms;
   }
 
-  of_first : (first : Places) → first_places (place_at forward) ≡ Some first → AreUsable first
+  of_first : (first : Places) → first_places (place_at forward) ≡ Some first → AreUsable size first
   of_first first found =
       let at = place_at forward in
       elim (is_there (at 8) && is_there (at 12)) as (λ b. (is_there (at 8) && is_there (at 12)) ≡ b
       → cond b (Some (places_between true (at 8) (at 12) at))
       (cond (is_there (at 27) && is_there (at 28)) (Some (places_between false (at 27) (at 28) at)) None) ≡ Some first
-      → AreUsable first) [
+      → AreUsable size first) [
         | true ↦ λ both is.
             let parts = and_parts (is_there (at 8)) (is_there (at 12)) both in
-            subst AreUsable (some_is _ _ is)
-            (usable_between true (at 8) (at 12) (is_long forward 8 4 (length-place forward 8 0 0 (4, 4) fields refl) parts.0)
+            subst (AreUsable size) (some_is _ _ is)
+            (usable_between true (at 8) (at 12) (most forward 8 (4, 4) refl) (most forward 12 (4, 4) refl)
+            (is_long forward 8 4 (length-place forward 8 0 0 (4, 4) fields refl) parts.0)
             (is_long forward 12 4 (length-place forward 12 0 0 (4, 4) fields refl) parts.1))
         | false ↦ λ _.
             elim (is_there (at 27) && is_there (at 28)) as (λ b. (is_there (at 27) && is_there (at 28)) ≡ b
-            → cond b (Some (places_between false (at 27) (at 28) at)) None ≡ Some first → AreUsable first) [
+            → cond b (Some (places_between false (at 27) (at 28) at)) None ≡ Some first → AreUsable size first) [
               | true ↦ λ both is.
                   let parts = and_parts (is_there (at 27)) (is_there (at 28)) both in
-                  subst AreUsable (some_is _ _ is)
-                  (usable_between false (at 27) (at 28) (is_long forward 27 16 (length-place forward 27 0 0 (16, 16) fields refl) parts.0)
+                  subst (AreUsable size) (some_is _ _ is)
+                  (usable_between false (at 27) (at 28) (most forward 27 (16, 16) refl) (most forward 28 (16, 16) refl)
+                  (is_long forward 27 16 (length-place forward 27 0 0 (16, 16) fields refl) parts.0)
                   (is_long forward 28 16 (length-place forward 28 0 0 (16, 16) fields refl) parts.1))
               | false ↦ λ _ is. absurd (cc)
             ]
@@ -239,15 +252,15 @@ module _ (fields : List FieldView) where
       ]
       refl found
 
-  then_usable : (first : Option Places) → ((p : Places) → first ≡ Some p → AreUsable p) → (l : RowLayout)
+  then_usable : (first : Option Places) → ((p : Places) → first ≡ Some p → AreUsable size p) → (l : RowLayout)
       → option_map (layout_with (place_at back)) first ≡ Some l
-      → AreUsable l.first × AreUsable l.second
+      → AreUsable size l.first × AreUsable size l.second
   then_usable None each l is = absurd (cc)
   then_usable (Some first) each l is =
       let usable = each first refl in
-      subst (λ (l : RowLayout). AreUsable l.first × AreUsable l.second) (some_is _ _ is) (usable, usable_second first usable)
+      subst (λ (l : RowLayout). AreUsable size l.first × AreUsable size l.second) (some_is _ _ is) (usable, usable_second first usable)
 
-  pub layout_usable : (l : RowLayout) → layout_of fields ≡ Some l → AreUsable l.first × AreUsable l.second
+  pub layout_usable : (l : RowLayout) → layout_of fields ≡ Some l → AreUsable size l.first × AreUsable size l.second
   unfolding layout_of
   layout_usable l found = then_usable (first_places (place_at forward)) of_first l found
 
@@ -262,6 +275,9 @@ module _ (kind : Kind) (is_flow : kind ≡ Options → ⊥) (values : List Field
   runs_of : runs ≡ runs_behind 0 (fields_of values)
   runs_of = runs_are ∙ ap (runs_behind 0) same
 
+  pub usable : (l : RowLayout) → Some l ≡ layout_of fields → AreUsable (length bytes) l.first × AreUsable (length bytes) l.second
+  usable l found = layout_usable fields bytes (values, []) (ap (λ (fs : List FieldView). values_at fs bytes) same ∙ read) l (sym found)
+
   pub row_missing : None ≡ layout_of fields → (None ≡ first_row_of kind values) × (None ≡ option_and_then (row_back (element back values)) (first_row_of kind values))
   row_missing none = no_rows values bytes read kind is_flow (ap layout_of (sym same) ∙ sym none)
 
@@ -275,6 +291,13 @@ module _ (kind : Kind) (is_flow : kind ≡ Options → ⊥) (values : List Field
   reverse_found l found =
       ap (λ (rs : List ℕ). cond (number_there l.second.packets rs bytes == 0) None (Some (row_at l.second (λ p. number_there p rs bytes)))) runs_of
       ∙ second_found values bytes read kind is_flow l (ap layout_of (sym same) ∙ sym found)
+
+  -- without packets of the reverse direction there is no second row
+  pub reverse_missing : (l : RowLayout) → Some l ≡ layout_of fields → l.second.packets.length ≡ 0
+      → None ≡ option_and_then (row_back (element back values)) (first_row_of kind values)
+  reverse_missing l found none =
+      ap (λ (n : ℕ). cond {A = Option RowView} (n == 0) None (Some (row_at l.second said))) (sym (none_there l.second.packets runs bytes none))
+      ∙ reverse_found l found
 
 -- ---- the number of rows
 

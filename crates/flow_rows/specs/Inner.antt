@@ -1,4 +1,4 @@
-use Rattle.std.specs.Prelude.{◌≡◌, ℕ, ◌≤◌, List, [], ◌∷◌, take, Bool, Option, Some, None, option_and_then, option_map, if◌then◌else◌}
+use Rattle.std.specs.Prelude.{◌≡◌, ℕ, ◌+◌, ◌≤◌, List, [], ◌∷◌, take, Bool, Option, Some, None, option_and_then, option_map, if◌then◌else◌}
 use Rattle.std.specs.Option.{option_map_or}
 use Rattle.prefix_keys.specs.declared.version.Version.{Version}
 use Rattle.prefix_keys.specs.declared.version.Version.TheVariants.{V4, V6}
@@ -44,15 +44,22 @@ row_at places number = record {
   end_ms = number places.end_ms;
 }
 
--- the numbers are as long as a row's numbers are at most
-pub record AreUsable (places : Places) : Type 0 where
-  pub src : places.src.length ≡ (if places.is_v4 then 4 else 16)
-  pub dst : places.dst.length ≡ (if places.is_v4 then 4 else 16)
-  pub sport : places.sport.length ≤ 2
-  pub dport : places.dport.length ≤ 2
-  pub protocol : places.protocol.length ≤ 1
-  pub flags : places.flags.length ≤ 2
-  pub packets : places.packets.length ≤ 8
-  pub octets : places.octets.length ≤ 8
-  pub start_ms : places.start_ms.length ≤ 8
-  pub end_ms : places.end_ms.length ≤ 8
+-- the number has at most this many bytes, and is in a record of this size unless values of variable length are before it
+pub record IsWithin (most size : ℕ) (p : Place) : Type 0 where
+  pub short : p.length ≤ most
+  pub within : p.skips ≡ 0 → p.offset + p.length ≤ size
+
+-- the numbers are as long as a row's numbers are at most, in a record of this size
+pub record AreUsable (size : ℕ) (places : Places) : Type 0 where
+  pub src : IsWithin (if places.is_v4 then 4 else 16) size places.src
+  pub dst : IsWithin (if places.is_v4 then 4 else 16) size places.dst
+  pub src_is : places.src.length ≡ (if places.is_v4 then 4 else 16)
+  pub dst_is : places.dst.length ≡ (if places.is_v4 then 4 else 16)
+  pub sport : IsWithin 2 size places.sport
+  pub dport : IsWithin 2 size places.dport
+  pub protocol : IsWithin 1 size places.protocol
+  pub flags : IsWithin 2 size places.flags
+  pub packets : IsWithin 8 size places.packets
+  pub octets : IsWithin 8 size places.octets
+  pub start_ms : IsWithin 8 size places.start_ms
+  pub end_ms : IsWithin 8 size places.end_ms

@@ -1,7 +1,7 @@
 //! The numbers at places in the bytes of records.
-ghost use Rattle.std.specs.Prelude.{◌≡◌, ◌≤◌, IfSome, length, option_map, take};
+ghost use Rattle.std.specs.Prelude.{◌≡◌, ◌+◌, ◌≤◌, IfSome, length, option_map, take};
 ghost use Rattle.flow_rows.specs.Elements.{big_endian};
-ghost use Rattle.flow_rows.specs.Inner.{behind_values, bytes_there, number_there};
+ghost use Rattle.flow_rows.specs.Inner.{IsWithin, behind_values, bytes_there, number_there};
 
 use byteorder::{BigEndian, ByteOrder};
 use ipfix_read::{read_bytes, read_variable};
@@ -21,8 +21,7 @@ fn behind_values<'a>(runs: &[u32], bytes: &'a [u8]) -> Option<&'a [u8]>
     Some(rest)
 }
 
-// Returns the bytes after this many values of variable length. Out of line, since most numbers are before all of them.
-#[inline(never)]
+// Returns the bytes after this many values of variable length.
 fn skip_values<'a>(skips: u16, runs: &[u32], bytes: &'a [u8]) -> Option<&'a [u8]>
     ensures { option_map (λ x. x.now) result ≡ behind_values (take skips runs.now) bytes.now }
 {
@@ -33,62 +32,77 @@ fn skip_values<'a>(skips: u16, runs: &[u32], bytes: &'a [u8]) -> Option<&'a [u8]
     behind_values(runs, bytes)
 }
 
-// Returns the bytes at a place in a record, or `None` if the record is too short.
-#[inline(always)]
-fn bytes_there<'a>(place: Place, runs: &[u32], bytes: &'a [u8]) -> Option<&'a [u8]>
-    ensures there { option_map (λ x. x.now) result ≡ bytes_there place runs.now bytes.now }
-    ensures size { IfSome result (λ x. length x.now ≡ place.length) }
+// Returns the bytes at a place after values of variable length, or `None` if the record is too short. Out of line, since
+// most numbers are before all of these values.
+#[inline(never)]
+fn bytes_behind<'a>(place: &Place, runs: &[u32], bytes: &'a [u8]) -> Option<&'a [u8]>
+    ensures there { option_map (λ x. x.now) result ≡ bytes_there place.now runs.now bytes.now }
+    ensures size { IfSome result (λ x. length x.now ≡ place.now.length) }
 {
-    let rest = if place.skips == 0 {
-        bytes
-    } else {
-        skip_values(place.skips, runs, bytes)?
-    };
+    let rest = skip_values(place.skips, runs, bytes)?;
     let (_before, from) = read_bytes(place.offset as usize, rest)?;
     let (value, _after) = read_bytes(usize::from(place.length), from)?;
     Some(value)
 }
 
+// Returns the bytes at a place in a record, or `None` if the record is too short.
+#[inline(always)]
+#[tactic(auto, using(crate::proofs::Reading::before_values))]
+fn bytes_there<'a>(place: &Place, runs: &[u32], bytes: &'a [u8]) -> Option<&'a [u8]>
+    requires { place.now.skips ≡ 0 → place.now.offset + place.now.length ≤ length bytes.now }
+    ensures there { option_map (λ x. x.now) result ≡ bytes_there place.now runs.now bytes.now }
+    ensures size { IfSome result (λ x. length x.now ≡ place.now.length) }
+{
+    if place.skips == 0 {
+        let from = &bytes[place.offset as usize..];
+        return Some(&from[..usize::from(place.length)]);
+    }
+    bytes_behind(place, runs, bytes)
+}
+
 /// Returns the number of up to 8 bytes at a place in a record, or 0 if there is none.
 #[inline(always)]
-pub fn u64_there(place: Place, runs: &[u32], bytes: &[u8]) -> u64
-    requires { place.length ≤ 8 }
-    ensures { result ≡ number_there place runs.now bytes.now }
+pub fn u64_there(place: &Place, runs: &[u32], bytes: &[u8]) -> u64
+    requires { IsWithin 8 (length bytes.now) place.now }
+    ensures { result ≡ number_there place.now runs.now bytes.now }
 {
     let Some(value) = bytes_there(place, runs, bytes) else {
         return 0;
     };
+    // The usual length is tested first.
+    if value.len() == 8 {
+        return BigEndian::read_u64(value);
+    }
     match value.len() {
         0 => 0,
         1 => u64::from(value[0]),
         2 => u64::from(BigEndian::read_u16(value)),
         4 => u64::from(BigEndian::read_u32(value)),
-        8 => BigEndian::read_u64(value),
         length => BigEndian::read_uint(value, length),
     }
 }
 
 /// Returns the number of up to 2 bytes at a place in a record, or 0 if there is none.
 #[inline(always)]
-pub fn u16_there(place: Place, runs: &[u32], bytes: &[u8]) -> u16
-    requires { place.length ≤ 2 }
-    ensures { result ≡ number_there place runs.now bytes.now }
+pub fn u16_there(place: &Place, runs: &[u32], bytes: &[u8]) -> u16
+    requires { IsWithin 2 (length bytes.now) place.now }
+    ensures { result ≡ number_there place.now runs.now bytes.now }
 {
     let Some(value) = bytes_there(place, runs, bytes) else {
         return 0;
     };
     match value.len() {
-        0 => 0,
+        2 => BigEndian::read_u16(value),
         1 => u16::from(value[0]),
-        _ => BigEndian::read_u16(value),
+        _ => 0,
     }
 }
 
 /// Returns the number of up to 1 byte at a place in a record, or 0 if there is none.
 #[inline(always)]
-pub fn u8_there(place: Place, runs: &[u32], bytes: &[u8]) -> u8
-    requires { place.length ≤ 1 }
-    ensures { result ≡ number_there place runs.now bytes.now }
+pub fn u8_there(place: &Place, runs: &[u32], bytes: &[u8]) -> u8
+    requires { IsWithin 1 (length bytes.now) place.now }
+    ensures { result ≡ number_there place.now runs.now bytes.now }
 {
     let Some(value) = bytes_there(place, runs, bytes) else {
         return 0;
@@ -101,9 +115,10 @@ pub fn u8_there(place: Place, runs: &[u32], bytes: &[u8]) -> u8
 
 /// Returns the number of 4 bytes at a place in a record.
 #[inline(always)]
-pub fn u32_there(place: Place, runs: &[u32], bytes: &[u8]) -> u32
-    requires { place.length ≡ 4 }
-    ensures { result ≡ number_there place runs.now bytes.now }
+pub fn u32_there(place: &Place, runs: &[u32], bytes: &[u8]) -> u32
+    requires within { IsWithin 4 (length bytes.now) place.now }
+    requires size { place.now.length ≡ 4 }
+    ensures { result ≡ number_there place.now runs.now bytes.now }
 {
     match bytes_there(place, runs, bytes) {
         Some(value) => BigEndian::read_u32(value),
@@ -113,9 +128,10 @@ pub fn u32_there(place: Place, runs: &[u32], bytes: &[u8]) -> u32
 
 /// Returns the number of 16 bytes at a place in a record.
 #[inline(always)]
-pub fn u128_there(place: Place, runs: &[u32], bytes: &[u8]) -> u128
-    requires { place.length ≡ 16 }
-    ensures { result ≡ number_there place runs.now bytes.now }
+pub fn u128_there(place: &Place, runs: &[u32], bytes: &[u8]) -> u128
+    requires within { IsWithin 16 (length bytes.now) place.now }
+    requires size { place.now.length ≡ 16 }
+    ensures { result ≡ number_there place.now runs.now bytes.now }
 {
     match bytes_there(place, runs, bytes) {
         Some(value) => BigEndian::read_u128(value),

@@ -40,6 +40,9 @@ pub fn reverse_row_of<'r>(source: &Record<'r, 'r>) -> Option<Row<'r>>
     let Some(layout) = fields.row_layout() else {
         return None;
     };
+    if !layout.second.packets.is_there() {
+        return None;
+    }
     let row = Row::new(&layout.second, fields.runs(), bytes);
     if row.packets() == 0 {
         return None;

@@ -1,5 +1,5 @@
-ghost use Rattle.std.specs.Prelude.{◌≡◌, ◌≤◌, if◌then◌else◌};
-ghost use Rattle.flow_rows.specs.Inner.{AreUsable, number_there, row_at, version_of};
+ghost use Rattle.std.specs.Prelude.{◌≡◌, if◌then◌else◌, length};
+ghost use Rattle.flow_rows.specs.Inner.{AreUsable, IsWithin, number_there, row_at, version_of};
 
 use crate::place::{u8_there, u16_there, u32_there, u64_there, u128_there};
 use ipfix_templates::{Place, Places};
@@ -17,6 +17,7 @@ pub struct Row<'a> {
 }
 
 impl<'a> Model for Row<'a> {
+    ghost use Rattle.std.specs.Prelude.{length};
     ghost use Rattle.flow_rows.specs.Elements.{RowView};
     ghost use Rattle.flow_rows.specs.Inner.{AreUsable, number_there, row_at};
 
@@ -24,15 +25,16 @@ impl<'a> Model for Row<'a> {
 
     ghost view = { λ row. row_at row.places.now (λ place. number_there place row.runs.now row.bytes.now) };
 
-    ghost invariant = { λ row. AreUsable row.places.now };
+    ghost invariant = { λ row. AreUsable (length row.bytes.now) row.places.now };
 }
 
 // Returns the address at a place in a record.
 #[inline(always)]
-fn address_there(is_v4: bool, place: Place, runs: &[u32], bytes: &[u8]) -> Addr
-    requires { place.length ≡ (if is_v4 then 4 else 16) }
+fn address_there(is_v4: bool, place: &Place, runs: &[u32], bytes: &[u8]) -> Addr
+    requires within { IsWithin (if is_v4 then 4 else 16) (length bytes.now) place.now }
+    requires size { place.now.length ≡ (if is_v4 then 4 else 16) }
     ensures version { result.version ≡ version_of is_v4 }
-    ensures value { result.value ≡ number_there place runs.now bytes.now }
+    ensures value { result.value ≡ number_there place.now runs.now bytes.now }
 {
     if is_v4 {
         return Addr {
@@ -50,7 +52,7 @@ impl<'a> Row<'a> {
     // Returns the row with the numbers at these places in a record.
     #[inline(always)]
     pub(crate) fn new(places: &'a Places, runs: &'a [u32], bytes: &'a [u8]) -> Row<'a>
-        requires { AreUsable places.now }
+        requires { AreUsable (length bytes.now) places.now }
         ensures { result ≡ row_at places.now (λ place. number_there place runs.now bytes.now) }
     {
         Row {
@@ -78,7 +80,7 @@ impl<'a> Row<'a> {
         ensures version { result.version ≡ self.now.version }
         ensures value { result.value ≡ self.now.src }
     {
-        address_there(self.places.is_v4, self.places.src, self.runs, self.bytes)
+        address_there(self.places.is_v4, &self.places.src, self.runs, self.bytes)
     }
 
     /// The destination address.
@@ -87,7 +89,7 @@ impl<'a> Row<'a> {
         ensures version { result.version ≡ self.now.version }
         ensures value { result.value ≡ self.now.dst }
     {
-        address_there(self.places.is_v4, self.places.dst, self.runs, self.bytes)
+        address_there(self.places.is_v4, &self.places.dst, self.runs, self.bytes)
     }
 
     /// The source port.
@@ -95,7 +97,7 @@ impl<'a> Row<'a> {
     pub fn sport(&self) -> u16
         ensures { result ≡ self.now.sport }
     {
-        u16_there(self.places.sport, self.runs, self.bytes)
+        u16_there(&self.places.sport, self.runs, self.bytes)
     }
 
     /// The destination port.
@@ -103,7 +105,7 @@ impl<'a> Row<'a> {
     pub fn dport(&self) -> u16
         ensures { result ≡ self.now.dport }
     {
-        u16_there(self.places.dport, self.runs, self.bytes)
+        u16_there(&self.places.dport, self.runs, self.bytes)
     }
 
     /// The number of the protocol above IP, such as 6 for TCP.
@@ -111,7 +113,7 @@ impl<'a> Row<'a> {
     pub fn protocol(&self) -> u8
         ensures { result ≡ self.now.protocol }
     {
-        u8_there(self.places.protocol, self.runs, self.bytes)
+        u8_there(&self.places.protocol, self.runs, self.bytes)
     }
 
     /// The union of the TCP flags of all packets.
@@ -119,7 +121,7 @@ impl<'a> Row<'a> {
     pub fn flags(&self) -> u16
         ensures { result ≡ self.now.flags }
     {
-        u16_there(self.places.flags, self.runs, self.bytes)
+        u16_there(&self.places.flags, self.runs, self.bytes)
     }
 
     /// The number of packets.
@@ -127,7 +129,7 @@ impl<'a> Row<'a> {
     pub fn packets(&self) -> u64
         ensures { result ≡ self.now.packets }
     {
-        u64_there(self.places.packets, self.runs, self.bytes)
+        u64_there(&self.places.packets, self.runs, self.bytes)
     }
 
     /// The number of bytes of the packets, including IP headers.
@@ -135,7 +137,7 @@ impl<'a> Row<'a> {
     pub fn octets(&self) -> u64
         ensures { result ≡ self.now.octets }
     {
-        u64_there(self.places.octets, self.runs, self.bytes)
+        u64_there(&self.places.octets, self.runs, self.bytes)
     }
 
     /// The time of the first packet, in milliseconds since 1970.
@@ -143,7 +145,7 @@ impl<'a> Row<'a> {
     pub fn start_ms(&self) -> u64
         ensures { result ≡ self.now.start_ms }
     {
-        u64_there(self.places.start_ms, self.runs, self.bytes)
+        u64_there(&self.places.start_ms, self.runs, self.bytes)
     }
 
     /// The time of the last packet, in milliseconds since 1970.
@@ -151,6 +153,6 @@ impl<'a> Row<'a> {
     pub fn end_ms(&self) -> u64
         ensures { result ≡ self.now.end_ms }
     {
-        u64_there(self.places.end_ms, self.runs, self.bytes)
+        u64_there(&self.places.end_ms, self.runs, self.bytes)
     }
 }

@@ -1,10 +1,10 @@
-use Rattle.std.proofs.Common.{◌≡◌, ◌∙◌, ℕ, Bool, Option, Some, None, ap, cond, false, refl, sym}
+use Rattle.std.proofs.Common.{◌≡◌, ◌∙◌, ℕ, Bool, Option, Some, None, ap, cond, false, not, refl, sym}
 use Rattle.std.specs.Prelude.{◌==◌}
-use Rattle.std.proofs.lemmas.Bool.{ne_eqb}
+use Rattle.std.proofs.lemmas.Bool.{eqb-true, ne_eqb, not-false}
 use Rattle.ipfix_templates.specs.declared.layout.Place.{Place}
 use Rattle.flow_rows.specs.Elements.{RowView}
 use Rattle.flow_rows.specs.Inner.{number_there, row_at}
-use Rattle.flow_rows.proofs.Rows.{layout_usable, reverse_found, row_missing}
+use Rattle.flow_rows.proofs.Rows.{reverse_found, reverse_missing, row_missing, usable}
 use Rattle.flow_rows.proofs.record.reverse_row_of.Goals as goal
 
 pub returns-in_default-row_layout : goal.returns-in_default-row_layout
@@ -12,8 +12,19 @@ returns-in_default-row_layout c =
     (row_missing c.args.source.now.kind c.in_default.not-Options c.args.source.now.fields c.specifiers-fields.result.now _ c.bytes-bytes.result.now
     c.specifiers-fields.ensures refl c.bytes-bytes.ensures c.in_default-row_layout.ensures).1
 
+pub returns-then-not-is_there : goal.returns-then-not-is_there
+returns-then-not-is_there c =
+    reverse_missing c.args.source.now.kind c.in_default.not-Options c.args.source.now.fields c.specifiers-fields.result.now _ c.bytes-bytes.result.now
+    c.specifiers-fields.ensures refl c.bytes-bytes.ensures c.in-Some.layout.now c.in-Some.ensures
+    (zero_of c.in-Some.layout.now.second.packets.length (sym c.is_there.ensures ∙ c.if-not-is_there.true))
+  where
+    zero_of : (n : ℕ) → not (n == 0) ≡ false → n ≡ 0
+    zero_of n there = eqb-true n 0 (not-false (n == 0) there)
+
 pub new-row-requires : goal.new-row-requires
-new-row-requires c = (layout_usable c.specifiers-fields.result.now c.in-Some.layout.now (sym c.in-Some.ensures)).1
+new-row-requires c =
+    (usable c.args.source.now.kind c.in_default.not-Options c.args.source.now.fields c.specifiers-fields.result.now _ c.bytes-bytes.result.now
+    c.specifiers-fields.ensures refl c.bytes-bytes.ensures c.in-Some.layout.now c.in-Some.ensures).1
 
 pub returns-then-packets-eq0 : goal.returns-then-packets-eq0
 returns-then-packets-eq0 c =

@@ -1,6 +1,6 @@
 use Rattle.std.proofs.Common.{◌∙◌, Some, ap, refl, sym}
 use Rattle.flow_rows.specs.Elements.{RowView}
-use Rattle.flow_rows.proofs.Rows.{layout_usable, row_found, row_missing}
+use Rattle.flow_rows.proofs.Rows.{row_found, row_missing, usable}
 use Rattle.flow_rows.proofs.record.row_of.Goals as goal
 
 pub returns-in_default-row_layout : goal.returns-in_default-row_layout
@@ -9,7 +9,9 @@ returns-in_default-row_layout c =
     c.specifiers-fields.ensures refl c.bytes-bytes.ensures c.in_default-row_layout.ensures).0
 
 pub new-requires : goal.new-requires
-new-requires c = (layout_usable c.specifiers-fields.result.now c.in-Some.layout.now (sym c.in-Some.ensures)).0
+new-requires c =
+    (usable c.args.source.now.kind c.in_default.not-Options c.args.source.now.fields c.specifiers-fields.result.now _ c.bytes-bytes.result.now
+    c.specifiers-fields.ensures refl c.bytes-bytes.ensures c.in-Some.layout.now c.in-Some.ensures).0
 
 pub returns : goal.returns
 returns c =
