@@ -1,9 +1,8 @@
 -- What is read at the places of elements is what the values of a record say of them.
-use Rattle.std.proofs.Common.{◌≡◌, ◌∙◌, ℕ, suc, ◌+◌, ◌≤◌, Bool, true, false, cond, ltb, List, [], ◌∷◌, ◌++◌, length, take, drop, Option, Some, None, inl, inr, refl, sym, ap, subst, arith, append_assoc, length-append, take-append-drop}
+use Rattle.std.proofs.Common.{◌≡◌, ◌∙◌, ℕ, ◌+◌, ◌≤◌, true, false, cond, ltb, List, [], ◌∷◌, ◌++◌, length, take, drop, Option, Some, None, inl, inr, refl, sym, ap, subst, arith, append_assoc, length-append, take-append-drop}
 use Rattle.std.specs.Prelude.{option_and_then, option_map, unwrap_or}
-use Rattle.std.specs.Option.{option_map_or}
 use Rattle.std.proofs.lemmas.Bool.{le-ltb, ltb-false}
-use Rattle.std.proofs.lemmas.List.{append-nil, drop_at, length-drop, length-take-le, take_at}
+use Rattle.std.proofs.lemmas.List.{drop_at, length-drop, length-take-le, take_at}
 use Rattle.ipfix_templates.proofs.Choice.{chosen, gave, some_is}
 use Rattle.ipfix_templates.specs.Elements.{is_usable}
 use Rattle.ipfix_templates.specs.declared.field.Field.{Field as FieldView}
@@ -68,10 +67,10 @@ before_values p runs bytes none within =
 pub none_there : (p : Place) (runs bytes : List ℕ) → p.length ≡ 0 → number_there p runs bytes ≡ 0
 none_there p runs bytes none =
     elim (behind_values (take p.skips runs) bytes) as (λ rest.
-    option_map_or big_endian (option_and_then (λ rest. option_and_then (λ f. option_map (λ v. v.0) (bytes_at p.length f.1)) (bytes_at p.offset rest)) rest) 0 ≡ 0) [
+    big_endian (unwrap_or (option_and_then (λ rest. option_and_then (λ f. option_map (λ v. v.0) (bytes_at p.length f.1)) (bytes_at p.offset rest)) rest) []) ≡ 0) [
       | None ↦ refl
       | Some rest ↦ elim (bytes_at p.offset rest) as (λ f.
-          option_map_or big_endian (option_and_then (λ f. option_map (λ v. v.0) (bytes_at p.length f.1)) f) 0 ≡ 0) [
+          big_endian (unwrap_or (option_and_then (λ f. option_map (λ v. v.0) (bytes_at p.length f.1)) f) []) ≡ 0) [
             | None ↦ refl
             | Some f ↦ rw (none, cut 0 [] f.1 refl) refl
           ]
@@ -112,7 +111,7 @@ module _ (direction : Option ℕ) (number : ℕ) (bytes : List ℕ) where
             found_there front (runs_behind offset (f ∷ fs)) bytes gap a.0.0 a.0.1 (behind ∙ ap (λ (r : List ℕ). Some (gap ++ r)) v.1) in
             rw usable
             ((λ i. number_there (record { offset = offset_is i; skips = skips_are i; length = sym v.0 i }) (front ++ runs_behind offset (f ∷ fs)) bytes)
-            ∙ ap (λ (o : Option (List ℕ)). option_map_or big_endian o 0) there
+            ∙ ap (λ (o : Option (List ℕ)). big_endian (unwrap_or o [])) there
             ∙ sym (ap (λ (o : Option ℕ). unwrap_or o 0) (element-used direction number first b.0.0 usable)) ∙ ap said are)
         | false ↦ λ unusable.
             let passed : said b.0.0 ≡ said x.0 = sym (ap (λ (o : Option ℕ). unwrap_or o 0) (element-passed direction number first b.0.0 unusable)) ∙ ap said are in

@@ -1,5 +1,4 @@
-use Rattle.std.specs.Prelude.{◌≡◌, ℕ, ◌+◌, ◌≤◌, List, [], ◌∷◌, take, Bool, Option, Some, None, option_and_then, option_map, if◌then◌else◌}
-use Rattle.std.specs.Option.{option_map_or}
+use Rattle.std.specs.Prelude.{◌≡◌, ℕ, ◌+◌, ◌≤◌, List, [], ◌∷◌, take, Bool, Option, Some, option_and_then, option_map, unwrap_or, if◌then◌else◌}
 use Rattle.prefix_keys.specs.declared.version.Version.{Version}
 use Rattle.prefix_keys.specs.declared.version.Version.TheVariants.{V4, V6}
 use Rattle.ipfix_templates.specs.declared.layout.Place.{Place}
@@ -23,7 +22,7 @@ bytes_there p runs bytes =
 
 -- the number there, or 0
 abbrev pub number_there : Place → List ℕ → List ℕ → ℕ
-number_there p runs bytes = option_map_or big_endian (bytes_there p runs bytes) 0
+number_there p runs bytes = big_endian (unwrap_or (bytes_there p runs bytes) [])
 
 abbrev pub version_of : Bool → Version
 version_of is_v4 = if is_v4 then V4 else V6

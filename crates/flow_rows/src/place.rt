@@ -1,5 +1,5 @@
 //! The numbers at places in the bytes of records.
-ghost use Rattle.std.specs.Prelude.{◌≡◌, ◌+◌, ◌≤◌, IfSome, length, option_map, take};
+ghost use Rattle.std.specs.Prelude.{◌≡◌, ◌+◌, ◌≤◌, ◌⊎◌, [], IfSome, length, option_map, take, unwrap_or};
 ghost use Rattle.flow_rows.specs.Elements.{big_endian};
 ghost use Rattle.flow_rows.specs.Inner.{IsWithin, behind_values, bytes_there, number_there};
 
@@ -32,10 +32,8 @@ fn skip_values<'a>(skips: u16, runs: &[u32], bytes: &'a [u8]) -> Option<&'a [u8]
     behind_values(runs, bytes)
 }
 
-// Returns the bytes at a place after values of variable length, or `None` if the record is too short. Out of line, since
-// most numbers are before all of these values.
-#[inline(never)]
-fn bytes_behind<'a>(place: &Place, runs: &[u32], bytes: &'a [u8]) -> Option<&'a [u8]>
+// Returns the bytes at a place in a record, or `None` if the record is too short.
+fn find_bytes<'a>(place: &Place, runs: &[u32], bytes: &'a [u8]) -> Option<&'a [u8]>
     ensures there { option_map (λ x. x.now) result ≡ bytes_there place.now runs.now bytes.now }
     ensures size { IfSome result (λ x. length x.now ≡ place.now.length) }
 {
@@ -45,17 +43,30 @@ fn bytes_behind<'a>(place: &Place, runs: &[u32], bytes: &'a [u8]) -> Option<&'a 
     Some(value)
 }
 
-// Returns the bytes at a place in a record, or `None` if the record is too short.
+// Returns the bytes at a place after values of variable length, or no bytes if the record is too short. Out of line,
+// since most numbers are before all of these values.
+#[inline(never)]
+fn bytes_behind<'a>(place: &Place, runs: &[u32], bytes: &'a [u8]) -> &'a [u8]
+    ensures there { result.now ≡ unwrap_or (bytes_there place.now runs.now bytes.now) [] }
+    ensures size { (length result.now ≡ place.now.length) ⊎ (result.now ≡ []) }
+{
+    match find_bytes(place, runs, bytes) {
+        Some(value) => value,
+        None => &bytes[..0],
+    }
+}
+
+// Returns the bytes at a place in a record, or no bytes if the record is too short.
 #[inline(always)]
 #[tactic(auto, using(crate::proofs::Reading::before_values))]
-fn bytes_there<'a>(place: &Place, runs: &[u32], bytes: &'a [u8]) -> Option<&'a [u8]>
+fn bytes_there<'a>(place: &Place, runs: &[u32], bytes: &'a [u8]) -> &'a [u8]
     requires { place.now.skips ≡ 0 → place.now.offset + place.now.length ≤ length bytes.now }
-    ensures there { option_map (λ x. x.now) result ≡ bytes_there place.now runs.now bytes.now }
-    ensures size { IfSome result (λ x. length x.now ≡ place.now.length) }
+    ensures there { result.now ≡ unwrap_or (bytes_there place.now runs.now bytes.now) [] }
+    ensures size { (length result.now ≡ place.now.length) ⊎ (result.now ≡ []) }
 {
     if place.skips == 0 {
         let from = &bytes[place.offset as usize..];
-        return Some(&from[..usize::from(place.length)]);
+        return &from[..usize::from(place.length)];
     }
     bytes_behind(place, runs, bytes)
 }
@@ -66,9 +77,7 @@ pub fn u64_there(place: &Place, runs: &[u32], bytes: &[u8]) -> u64
     requires { IsWithin 8 (length bytes.now) place.now }
     ensures { result ≡ number_there place.now runs.now bytes.now }
 {
-    let Some(value) = bytes_there(place, runs, bytes) else {
-        return 0;
-    };
+    let value = bytes_there(place, runs, bytes);
     // The usual length is tested first.
     if value.len() == 8 {
         return BigEndian::read_u64(value);
@@ -88,9 +97,7 @@ pub fn u16_there(place: &Place, runs: &[u32], bytes: &[u8]) -> u16
     requires { IsWithin 2 (length bytes.now) place.now }
     ensures { result ≡ number_there place.now runs.now bytes.now }
 {
-    let Some(value) = bytes_there(place, runs, bytes) else {
-        return 0;
-    };
+    let value = bytes_there(place, runs, bytes);
     match value.len() {
         2 => BigEndian::read_u16(value),
         1 => u16::from(value[0]),
@@ -104,9 +111,7 @@ pub fn u8_there(place: &Place, runs: &[u32], bytes: &[u8]) -> u8
     requires { IsWithin 1 (length bytes.now) place.now }
     ensures { result ≡ number_there place.now runs.now bytes.now }
 {
-    let Some(value) = bytes_there(place, runs, bytes) else {
-        return 0;
-    };
+    let value = bytes_there(place, runs, bytes);
     match value.len() {
         0 => 0,
         _ => value[0],
@@ -120,10 +125,11 @@ pub fn u32_there(place: &Place, runs: &[u32], bytes: &[u8]) -> u32
     requires size { place.now.length ≡ 4 }
     ensures { result ≡ number_there place.now runs.now bytes.now }
 {
-    match bytes_there(place, runs, bytes) {
-        Some(value) => BigEndian::read_u32(value),
-        None => 0,
+    let value = bytes_there(place, runs, bytes);
+    if value.len() < 4 {
+        return 0;
     }
+    BigEndian::read_u32(value)
 }
 
 /// Returns the number of 16 bytes at a place in a record.
@@ -133,8 +139,9 @@ pub fn u128_there(place: &Place, runs: &[u32], bytes: &[u8]) -> u128
     requires size { place.now.length ≡ 16 }
     ensures { result ≡ number_there place.now runs.now bytes.now }
 {
-    match bytes_there(place, runs, bytes) {
-        Some(value) => BigEndian::read_u128(value),
-        None => 0,
+    let value = bytes_there(place, runs, bytes);
+    if value.len() < 16 {
+        return 0;
     }
+    BigEndian::read_u128(value)
 }

@@ -1,4 +1,4 @@
-use Rattle.std.proofs.Common.{◌∙◌, Some, ap, refl, sym}
+use Rattle.std.proofs.Common.{◌∙◌, Some, ap, refl}
 use Rattle.flow_rows.specs.Elements.{RowView}
 use Rattle.flow_rows.proofs.Rows.{row_found, row_missing, usable}
 use Rattle.flow_rows.proofs.record.row_of.Goals as goal

@@ -1,5 +1,5 @@
 -- If the rows of the remaining sets are taken, those of all are.
-use Rattle.std.proofs.Common.{◌*◌, drop, length}
+use Rattle.std.proofs.Common.{◌*◌, drop}
 use Rattle.ipfix_read.specs.Message.{message_size}
 use Rattle.flow_rows.specs.Counts.{rows_of}
 use Rattle.flow_rows.specs.Walk.{CanTake, Takes}
