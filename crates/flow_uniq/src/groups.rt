@@ -22,7 +22,7 @@ use std::marker::Model;
 type Entries = IndexMap<Code, Totals, KeyHashing>;
 
 // How many groups are remembered.
-const RECENT: usize = 256;
+const RECENT: usize = 4096;
 
 /// The groups of rows by their keys, in the order of the first rows, with their totals.
 pub struct Groups {
@@ -64,7 +64,7 @@ impl Model for Groups {
 // Returns the index in `recent` for a key with these bytes.
 #[inline(always)]
 fn recent_index(key: &[u8]) -> usize
-    ensures { result < 256 }
+    ensures { result < 4096 }
 {
     match key {
         [.., a, b] => (usize::from(*a) * 31 + usize::from(*b)) % RECENT,
