@@ -1,43 +1,24 @@
 //! The numbers at places in the bytes of records.
-ghost use Rattle.std.specs.Prelude.{◌≡◌, ◌+◌, ◌≤◌, ◌⊎◌, [], IfSome, length, option_map, take, unwrap_or};
+ghost use Rattle.std.specs.Prelude.{◌≡◌, ◌+◌, ◌≤◌, ◌⊎◌, [], IfSome, length, option_map, unwrap_or};
 ghost use Rattle.flow_rows.specs.Elements.{big_endian};
-ghost use Rattle.flow_rows.specs.Inner.{IsWithin, behind_values, bytes_there, number_there};
+ghost use Rattle.flow_rows.specs.Inner.{IsWithin, bytes_there, number_there};
 
 use byteorder::{BigEndian, ByteOrder};
 use ipfix_read::{read_bytes, read_variable};
 use ipfix_templates::Place;
 
-// Returns the bytes after values of variable length, given the number of bytes between each of them and the one before
-// it. Returns `None` if the input is too short.
-fn behind_values<'a>(runs: &[u32], bytes: &'a [u8]) -> Option<&'a [u8]>
-    ensures { option_map (λ x. x.now) result ≡ behind_values runs.now bytes.now }
-{
-    let mut rest = bytes;
-    for run in runs {
-        let (_fixed, behind) = read_bytes(*run as usize, rest)?;
-        let (_value, after) = read_variable(behind)?;
-        rest = after;
-    }
-    Some(rest)
-}
-
-// Returns the bytes after this many values of variable length.
-fn skip_values<'a>(skips: u16, runs: &[u32], bytes: &'a [u8]) -> Option<&'a [u8]>
-    ensures { option_map (λ x. x.now) result ≡ behind_values (take skips runs.now) bytes.now }
-{
-    let count = usize::from(skips);
-    if count < runs.len() {
-        return behind_values(&runs[..count], bytes);
-    }
-    behind_values(runs, bytes)
-}
-
-// Returns the bytes at a place in a record, or `None` if the record is too short.
+// Returns the bytes at a place in a record, given the number of bytes between each value of variable length and the one
+// before it. Returns `None` if the record is too short.
 fn find_bytes<'a>(place: &Place, runs: &[u32], bytes: &'a [u8]) -> Option<&'a [u8]>
     ensures there { option_map (λ x. x.now) result ≡ bytes_there place.now runs.now bytes.now }
     ensures size { IfSome result (λ x. length x.now ≡ place.now.length) }
 {
-    let rest = skip_values(place.skips, runs, bytes)?;
+    let mut rest = bytes;
+    for run in &runs[..usize::from(place.skips).min(runs.len())] {
+        let (_fixed, behind) = read_bytes(*run as usize, rest)?;
+        let (_value, after) = read_variable(behind)?;
+        rest = after;
+    }
     let (_before, from) = read_bytes(place.offset as usize, rest)?;
     let (value, _after) = read_bytes(usize::from(place.length), from)?;
     Some(value)
