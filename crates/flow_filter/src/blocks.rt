@@ -28,7 +28,9 @@ fn read_item(text: &[u8]) -> Option<Block>
     }
 }
 
-/// Returns the number of the address as an IPv6 address (RFC 4291, section 2.5.5.2).
+/// Returns the number of the address as an IPv6 address (RFC 4291, section 2.5.5.2). Out of line, so that
+/// `ReadPart::meets` needs little of the stack.
+#[inline(never)]
 pub fn place_of(addr: Addr) -> u128
     ensures { result ≡ mapped_number (addr.version, addr.value) }
 {

@@ -50,7 +50,9 @@ impl<'a> Filter<'a> {
         Ok(Filter { parts })
     }
 
-    /// Returns `true` if the row meets each condition given. Without a labeller no address has a label.
+    /// Returns `true` if the row meets each condition given. Without a labeller no address has a label. Inlined, so that
+    /// a filter without conditions costs no call.
+    #[inline(always)]
     pub fn passes<L: Labeller>(&self, row: &Row<'_>, labeller: Option<&L>) -> bool
         ensures { result ≡ row_passes self.now
             (label_where (labelling_lent L.version_of L.label labeller.entry)) row.now }

@@ -51,7 +51,8 @@ fn number_of(option: FilterOption, row: &Row<'_>) -> u128
     }
 }
 
-// Returns `true` if the row's address has this label.
+// Returns `true` if the row's address has this label. Out of line, so that `meets` needs little of the stack.
+#[inline(never)]
 fn has_label<L: Labeller>(label: &str, labeller: Option<&L>, addr: Addr) -> bool
     ensures { result ≡ is_this_label label.now
         (label_where (labelling_lent L.version_of L.label labeller.entry) (addr.version, addr.value)) }
@@ -83,6 +84,7 @@ pub fn add_part<'a>(
 
 impl<'a> ReadPart<'a> {
     /// Whether the row meets the condition that the option states. Without a labeller no address has a label.
+    #[inline(never)]
     pub fn meets<L: Labeller>(&self, row: &Row<'_>, labeller: Option<&L>) -> bool
         ensures { result ≡ meets (label_where (labelling_lent L.version_of L.label labeller.entry)) row.now self.now }
     {
