@@ -4,7 +4,7 @@ use lib.Ieee.Fits.{and_l, and_r}
 use Rattle.std.specs.Fmt.{decimal, digit_glyph, digits}
 use Rattle.std.proofs.lemmas.Fmt.{decimal_digit, decimal_step}
 use Rattle.std.proofs.lemmas.List.{drop-set, drop-set-lt}
-use Rattle.prefix_keys.specs.declared.print.digits.TheConstants.{PAIRS}
+use Rattle.prefix_keys.specs.declared.print.digits.TheConstants.{OCTETS, PAIRS}
 use Rattle.prefix_keys.proofs.Digits.{digits_last, digits_next}
 
 -- a test that each number below a limit passes, as computing shows
@@ -57,16 +57,13 @@ module _ (buf : List ℕ) (end : ℕ) (within : end ≤ length buf) (a b c d : �
       ∙ ap (λ text. d ∷ text) (put_three (omega arith))
 
   -- the bytes after those that are written earlier in the buffer
-  pub last_of_three : 3 ≤ end → drop (end - 1) three ≡ a ∷ drop end buf
+  last_of_three : 3 ≤ end → drop (end - 1) three ≡ a ∷ drop end buf
   last_of_three h =
       drop-set-lt (end - 1) two (end - 3) c (omega arith) ∙ drop-set-lt (end - 1) one (end - 2) b (omega arith)
       ∙ put_one (omega arith)
 
-  pub last_two_of_three : 3 ≤ end → drop (end - 2) three ≡ b ∷ a ∷ drop end buf
+  last_two_of_three : 3 ≤ end → drop (end - 2) three ≡ b ∷ a ∷ drop end buf
   last_two_of_three h = drop-set-lt (end - 2) two (end - 3) c (omega arith) ∙ put_two (omega arith)
-
-  pub all_of_three : 3 ≤ end → drop (end - 3) three ≡ c ∷ b ∷ a ∷ drop end buf
-  all_of_three h = put_three h
 
   pub last_of_four : 4 ≤ end → drop (end - 1) four ≡ a ∷ drop end buf
   last_of_four h = drop-set-lt (end - 1) three (end - 4) d (omega arith) ∙ last_of_three (omega arith)
@@ -95,20 +92,43 @@ three_digits n low high =
     ∙ ap (λ (text : List ℕ). text ++ (48 + n % 10) ∷ []) (two_digits (n / 10) (omega arith) (omega arith))
     ∙ ap (λ m. (48 + m) ∷ (48 + n / 10 % 10) ∷ (48 + n % 10) ∷ []) front
 
--- the last two digits of a number, in the table of pairs
-abbrev is_pair : ℕ → Bool
-is_pair p = eqb (get_or PAIRS (p * 2) 0) (48 + p / 10) && eqb (get_or PAIRS (p * 2 + 1) 0) (48 + p % 10)
+-- the digits of a number below 256, in the table of octets
+abbrev is_octet : ℕ → Bool
+is_octet n =
+    eqb (get_or OCTETS (n * 4 + 1) 0) (48 + n / 100)
+    && (eqb (get_or OCTETS (n * 4 + 2) 0) (48 + n / 10 % 10) && eqb (get_or OCTETS (n * 4 + 3) 0) (48 + n % 10))
 
-pub last_pair : (n : ℕ) → (get_or PAIRS (n % 100 * 2) 0 ≡ 48 + n / 10 % 10) × (get_or PAIRS (n % 100 * 2 + 1) 0 ≡ 48 + n % 10)
-last_pair n =
-    let tens : n % 100 / 10 ≡ n / 10 % 10 = omega arith in
-    let ones : n % 100 % 10 ≡ n % 10 = omega arith in
-    let pair = below is_pair 100 (n % 100) tt (omega arith) in
-    (eqb→eq _ _ (and_l _ _ pair) ∙ ap (λ m. 48 + m) tens, eqb→eq _ _ (and_r _ _ pair) ∙ ap (λ m. 48 + m) ones)
+pub octet_digits : (n : ℕ) → n < 256
+    → (get_or OCTETS (n * 4 + 1) 0 ≡ 48 + n / 100) × (get_or OCTETS (n * 4 + 2) 0 ≡ 48 + n / 10 % 10)
+    × (get_or OCTETS (n * 4 + 3) 0 ≡ 48 + n % 10)
+octet_digits n h =
+    let all = below is_octet 256 n tt h in
+    let others = and_r _ _ all in
+    (eqb→eq _ _ (and_l _ _ all), eqb→eq _ _ (and_l _ _ others), eqb→eq _ _ (and_r _ _ others))
 
 -- numbers of one to four hexadecimal digits
 abbrev pub hex : ℕ → ℕ
 hex = digit_glyph false
+
+-- the digits of a number below 256, in the table of pairs
+abbrev is_pair : ℕ → Bool
+is_pair p = eqb (get_or PAIRS (p * 2) 0) (hex (p / 16)) && eqb (get_or PAIRS (p * 2 + 1) 0) (hex (p % 16))
+
+pair : (p : ℕ) → p < 256 → (get_or PAIRS (p * 2) 0 ≡ hex (p / 16)) × (get_or PAIRS (p * 2 + 1) 0 ≡ hex (p % 16))
+pair p h = let both = below is_pair 256 p tt h in (eqb→eq _ _ (and_l _ _ both), eqb→eq _ _ (and_r _ _ both))
+
+pub last_pair : (n : ℕ) → (get_or PAIRS (n % 256 * 2) 0 ≡ hex (n / 16 % 16)) × (get_or PAIRS (n % 256 * 2 + 1) 0 ≡ hex (n % 16))
+last_pair n =
+    let both = pair (n % 256) (omega arith) in
+    let tens : n % 256 / 16 ≡ n / 16 % 16 = omega arith in
+    let ones : n % 256 % 16 ≡ n % 16 = omega arith in
+    (both.0 ∙ ap hex tens, both.1 ∙ ap hex ones)
+
+pub first_pair : (n : ℕ) → n < 65536 → (get_or PAIRS (n / 256 * 2) 0 ≡ hex (n / 4096)) × (get_or PAIRS (n / 256 * 2 + 1) 0 ≡ hex (n / 256 % 16))
+first_pair n h =
+    let both = pair (n / 256) (omega arith) in
+    let front : n / 256 / 16 ≡ n / 4096 = omega arith in
+    (both.0 ∙ ap hex front, both.1)
 
 pub one_hex : (n : ℕ) → n < 16 → digits 16 false n ≡ hex (n % 16) ∷ []
 one_hex n h = digits_last 16 (omega arith) n h
