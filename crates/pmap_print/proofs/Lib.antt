@@ -12,5 +12,6 @@ pub mod GroupText
 pub mod Spreading
 pub mod NotedLines
 pub mod PaddedLines
+pub mod Placed
 pub mod TableLines
 pub mod RowLines

@@ -1,11 +1,10 @@
 -- Lines whose fields are spread are the lines of a table with columns.
 use Rattle.std.proofs.Common.{mod-eq_of_lt, ℕ, zero, suc, ◌≡◌, ◌+◌, ◌-◌, ◌*◌, ◌<◌, ◌≤◌, ◌∙◌, max, All, List, [], ◌∷◌, ◌++◌, length, map, take, drop, get_or, replicate, add-zero, ap, sym, subst, refl, arith, append_assoc, drop-cons}
-use Rattle.std.specs.Prelude.{◌%◌, ◌/◌, fold, slice_index, sum, true}
-use Rattle.std.specs.List.{enumerate_from, flat_map, join_with_byte}
+use Rattle.std.specs.Prelude.{◌%◌, ◌/◌, ◌^◌, fold, slice_index, sum, true}
+use Rattle.std.specs.List.{copy_within, enumerate_from, flat_map, join_with_byte}
 use Rattle.std.proofs.Math.Nat.{add-mod_right, mul-div_cancel}
 use Rattle.std.proofs.lemmas.Grind.{common_steps, flat_map-append}
-use Rattle.std.proofs.lemmas.Nat.{mod-mul-add}
-use Rattle.std.proofs.lemmas.List.{append-nil, drop_all, get_or-map, length-append, length-map, map-append, take_all, take_at}
+use Rattle.std.proofs.lemmas.List.{append-nil, drop_all, drop_at, get_or-map, length-append, length-map, length-take-le, map-append, take_all, take_at}
 use Rattle.std.proofs.lemmas.List.Sums.{sum_by-cons}
 use Rattle.std.proofs.lemmas.List.Elements.{All-head, All-tail}
 use Rattle.pmap_print.specs.Table.{AreNoted, CanSpread, IsNoted, joined, noted, sizes, spread, Line, Text, column_width, filled, filled_line, line_text, table_text, Columns}
@@ -204,22 +203,38 @@ module _ (count : ℕ) (lines : List Line) (c : Columns) (is : IsNoted count lin
       ∙ length-lines c.widths.items (column_width lines) same lines some even (narrow lines)
       ∙ ap (λ n. sum c.widths.items * n) (sym lines_are)
 
-  pub can_spread : (text new : Text) (plain size spaces : ℕ) → text ≡ flat_map line_text lines
-      → plain ≡ length text → size ≡ sum c.widths.items * (length c.short.items / length c.widths.items)
-      → new ≡ take size text ++ replicate spaces 32 → length new ≡ size → CanSpread (flat_map pieces lines) c plain new
-  can_spread text new plain size spaces text_is plain_is size_is new_is len =
-      let fields : length (flat_map pieces lines) ≡ length lines * length c.widths.items =
-      sym (length-map (flat_map pieces lines) length) ∙ ap length (all_sizes lines) ∙ all_fields (length c.widths.items) lines even in
+  pub plain-le : (text : Text) → text ≡ flat_map line_text lines
+      → length text ≤ sum c.widths.items * (length c.short.items / length c.widths.items)
+  plain-le text text_is =
       let whole : joined (flat_map pieces lines) ≡ text = all_joined count lines is.some is.even ∙ sym text_is in
-      let longer : length text ≤ size =
-      omega (arith, joined-le c.widths.items 0 (flat_map pieces lines), ap length whole, padded-size, size_is) in
+      omega (arith, joined-le c.widths.items 0 (flat_map pieces lines), ap length whole, padded-size)
+
+  -- the plain lines are moved to the end of a text that is as long as the padded lines
+  pub can_spread : (text resized new : Text) (plain size spaces from : ℕ) → text ≡ flat_map line_text lines → plain ≡ length text
+      → size ≡ sum c.widths.items * (length c.short.items / length c.widths.items) → from ≡ size - plain
+      → resized ≡ take size text ++ replicate spaces 32 → length resized ≡ size → size < 2 ^ 64
+      → new ≡ copy_within resized 0 plain from → CanSpread (flat_map pieces lines) c from new
+  can_spread text resized new plain size spaces from text_is plain_is size_is from_is resized_is len small new_is =
+      let room : length text ≤ size = omega (arith, plain-le text text_is, size_is) in
+      let taken : take plain resized ≡ text =
+      ap (take plain) (resized_is ∙ ap (λ (l : Text). l ++ replicate spaces 32) (take_all size text room))
+      ∙ take_at text (replicate spaces 32) plain (sym plain_is) in
+      let end : from + plain ≡ size = omega (arith, room, plain_is, from_is) in
+      let zero : plain - 0 ≡ plain = omega arith in
+      let whole : new ≡ take from resized ++ text =
+      new_is
+      ∙ ap (λ (l : Text). (take from resized ++ take (plain - 0) resized) ++ l) (drop_all (from + (plain - 0)) resized (omega (arith, end, len, zero)))
+      ∙ append-nil (take from resized ++ take (plain - 0) resized)
+      ∙ ap (λ k. take from resized ++ take k resized) zero ∙ ap (λ (l : Text). take from resized ++ l) taken in
+      let front : length (take from resized) ≡ from = length-take-le from resized (omega (arith, end, len)) in
+      let new_len : length new ≡ size = ap length whole ∙ length-append (take from resized) text ∙ omega (arith, front, end, plain_is) in
       record {
         some = some;
-        even = ap (λ n. n % length c.widths.items) (fields ∙ sym (add-zero (length lines * length c.widths.items))) ∙ mod-mul-add (length lines) (length c.widths.items) 0 some;
         lengths = subst (λ (ns : List ℕ). AreNoted ns c.short.items c.long.items) (sym (all_sizes lines)) is.lengths;
-        size = ap length whole ∙ sym plain_is;
-        front =
-            ap (take plain) (new_is ∙ ap (λ (l : Text). l ++ replicate spaces 32) (take_all size text longer))
-            ∙ take_at text (replicate spaces 32) plain (sym plain_is) ∙ sym whole;
-        fills = padded-size ∙ sym size_is ∙ sym len;
+        small = omega (arith, new_len, small);
+        within = omega (arith, new_len, end);
+        back =
+            ap (drop from) whole ∙ drop_at (take from resized) text from front ∙ text_is
+            ∙ sym (all_joined count lines is.some is.even);
+        fills = padded-size ∙ sym size_is ∙ sym new_len;
       }

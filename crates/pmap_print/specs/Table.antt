@@ -1,4 +1,4 @@
-use Rattle.std.specs.Prelude.{ℕ, ◌-◌, max, List, [], ◌∷◌, ◌++◌, length, map, fold, replicate, slice_index_or, Bool, if◌then◌else◌, ◌≡◌, ◌+◌, ◌<◌, ◌%◌, All, filter, is_some, nat_le, slice_index, take}
+use Rattle.std.specs.Prelude.{ℕ, ◌-◌, max, List, [], ◌∷◌, ◌++◌, length, map, fold, replicate, slice_index_or, Bool, if◌then◌else◌, ◌≡◌, ◌+◌, ◌<◌, ◌≤◌, ◌^◌, ◌%◌, All, drop, filter, is_some, nat_le, slice_index}
 use Rattle.std.specs.List.{enumerate_from, flat_map, join_with_byte}
 use Rattle.std.specs.Option.{ForSome}
 pub use Rattle.pmap_print.specs.declared.columns.Columns.{Columns}
@@ -77,11 +77,11 @@ abbrev pub spread : List ℕ → ℕ → List Text → Text
 spread widths index [] = []
 spread widths index (text ∷ texts) = filled (slice_index widths (index % length widths)) text ++ spread widths (index + 1) texts
 
--- the text begins with texts whose lengths are noted, and the texts filled to their columns are as long as the text
-pub record CanSpread (texts : List Text) (c : Columns) (plain : ℕ) (text : Text) : Type 0 where
+-- the text ends with texts whose lengths are noted, and the texts filled to their columns are as long as the text
+pub record CanSpread (texts : List Text) (c : Columns) (from : ℕ) (text : Text) : Type 0 where
   pub some : 0 < length c.widths.items
-  pub even : length texts % length c.widths.items ≡ 0
   pub lengths : AreNoted (map length texts) c.short.items c.long.items
-  pub size : length (joined texts) ≡ plain
-  pub front : take plain text ≡ joined texts
+  pub small : length text < 2 ^ 64
+  pub within : from ≤ length text
+  pub back : drop from text ≡ joined texts
   pub fills : length (spread c.widths.items 0 texts) ≡ length text

@@ -29,58 +29,68 @@ impl Drop for Columns {
     }
 }
 
-// Returns the length that `byte` notes, and the long lengths of the fields before it.
+// Returns the length that `byte` notes, and the long lengths of the fields after it.
 #[inline(always)]
-fn last_length(byte: u8, long: &[usize]) -> (usize, &[usize])
-    ensures { (ns : List ℕ) → (n : ℕ) → byte ≡ noted n → long.now ≡ filter is_long (ns ++ n ∷ [])
+fn first_length(byte: u8, long: &[usize]) -> (usize, &[usize])
+    ensures { (n : ℕ) → (ns : List ℕ) → byte ≡ noted n → long.now ≡ filter is_long (n ∷ ns)
         → (result.0 ≡ n) × (result.1.now ≡ filter is_long ns) }
 {
     let length = usize::from(byte);
     if length < LONG {
         return (length, long);
     }
-    match long.split_last() {
-        Some((last, others)) => (*last, others),
+    match long.split_first() {
+        Some((first, others)) => (*first, others),
         None => (length, long),
     }
 }
 
-// Returns the column before one of `count` columns. Before the first is the last one of the line above.
+// Returns the column after one of `count` columns. After the last is the first one of the line below.
 #[inline]
-fn column_before(column: usize, count: usize) -> usize
-    requires { 0 < count }
-    ensures { (i : ℕ) → column ≡ (i + 1) % count → result ≡ i % count }
+fn column_after(column: usize, count: usize) -> usize
+    requires { column < count }
+    ensures { (i : ℕ) → column ≡ i % count → result ≡ (i + 1) % count }
 {
-    if column == 0 { count - 1 } else { column - 1 }
+    if column + 1 == count { 0 } else { column + 1 }
 }
 
-// Copies a part of a text to the right. Most often the two parts don't overlap, which is faster.
+// Writes `spaces` spaces at `to`, followed by the `N` bytes of the text at `from`. The number of bytes that are written
+// is constant, which is faster. Bytes between the written text and `from` may be overwritten.
 #[inline(always)]
-fn copy_right(text: &mut [u8], from: usize, count: usize, to: usize)
-    requires right { from ≤ to }
-    requires within { to + count ≤ length text.old }
-    ensures { text.new ≡ take to text.old ++ (take count (drop from text.old) ++ drop (to + count) text.old) }
-{
-    if from + count <= to {
-        let (front, back) = text.split_at_mut(to);
-        back[..count].copy_from_slice(&front[from..from + count]);
-    } else {
-        text.copy_within(from..from + count, to);
-    }
-}
-
-// Writes `spaces` spaces at `to`, followed by the `count` bytes of the text at `from`.
-#[inline(always)]
-fn move_right(text: &mut [u8], from: usize, count: usize, to: usize, spaces: usize)
-    requires right { from ≤ to }
-    requires within { to + spaces + count ≤ length text.old }
+fn move_block<const N: usize>(text: &mut [u8], from: usize, to: usize, spaces: usize)
+    requires few { spaces ≤ N }
+    requires far { to + 2 * N ≤ from }
+    requires within { from + N ≤ length text.old }
     ensures len { length text.new ≡ length text.old }
-    ensures front { take from text.new ≡ take from text.old }
-    ensures back { drop to text.new
-        ≡ replicate spaces 32 ++ (take count (drop from text.old) ++ drop (to + spaces + count) text.old) }
+    ensures front { take (to + spaces + N) text.new
+        ≡ take to text.old ++ (replicate spaces 32 ++ take N (drop from text.old)) }
+    ensures back { drop from text.new ≡ drop from text.old }
 {
-    copy_right(text, from, count, to + spaces);
-    text[to..to + spaces].fill(b' ');
+    let (front, back) = text.split_at_mut(from);
+    front[to..to + N].fill(b' ');
+    front[to + spaces..to + spaces + N].copy_from_slice(&back[..N]);
+}
+
+// Writes `spaces` spaces at `to`, followed by the `count` bytes of the text at `from`. Bytes between the written text
+// and `from` may be overwritten.
+#[inline(always)]
+fn move_left(text: &mut [u8], from: usize, count: usize, to: usize, spaces: usize)
+    requires left { to + spaces ≤ from }
+    requires within { from + count ≤ length text.old }
+    ensures len { length text.new ≡ length text.old }
+    ensures front { take (to + spaces + count) text.new
+        ≡ take to text.old ++ (replicate spaces 32 ++ take count (drop from text.old)) }
+    ensures back { drop (from + count) text.new ≡ drop (from + count) text.old }
+{
+    let far = from - to >= 96 && text.len() - from >= 48;
+    if far && spaces + count <= 16 {
+        move_block::<16>(text, from, to, spaces);
+    } else if far && spaces + count <= 48 {
+        move_block::<48>(text, from, to, spaces);
+    } else {
+        text[to..to + spaces].fill(b' ');
+        text.copy_within(from..from + count, to + spaces);
+    }
 }
 
 impl Columns {
@@ -139,23 +149,23 @@ impl Columns {
         line.saturating_mul(self.short.len() / self.widths.len())
     }
 
-    // Moves the fields, which are the first `plain` bytes of the text, to their columns, from the last to the first.
-    fn spread(&self, text: &mut [u8], plain: usize)
-        requires { (texts : List Text) × CanSpread texts self.now plain text.old }
-        ensures { (texts : List Text) → CanSpread texts self.now plain text.old
+    // Moves the fields, which begin at `from`, to their columns, from the first to the last.
+    fn spread(&self, text: &mut [u8], from: usize)
+        requires { (texts : List Text) × CanSpread texts self.now from text.old }
+        ensures { (texts : List Text) → CanSpread texts self.now from text.old
             → text.new ≡ spread self.now.widths.items 0 texts }
     {
-        let mut from = plain;
-        let mut to = text.len();
+        let mut from = from;
+        let mut to = 0;
         let mut column = 0;
         let mut long = self.long.as_slice();
-        for i in (0..self.short.len()).rev() {
-            let (length, others) = last_length(self.short[i], long);
-            column = column_before(column, self.widths.len());
+        for byte in self.short.as_slice() {
+            let (length, others) = first_length(*byte, long);
             let spaces = self.widths[column].saturating_sub(length);
-            from -= length;
-            to -= spaces + length;
-            move_right(text, from, length, to, spaces);
+            move_left(text, from, length, to, spaces);
+            from += length;
+            to += spaces + length;
+            column = column_after(column, self.widths.len());
             long = others;
         }
     }
@@ -169,8 +179,13 @@ impl Columns {
     {
         let plain = text.len();
         // No `Vec` has `usize::MAX` bytes, so this fails if the length doesn't fit in a `usize`.
-        text.resize(self.spread_length(), b' ')?;
-        self.spread(text.as_mut_slice(), plain);
+        let size = self.spread_length();
+        text.resize(size, b' ')?;
+        // At the end of the text, the fields are read before they are overwritten.
+        let from = size - plain;
+        let padded = text.as_mut_slice();
+        padded.copy_within(0..plain, from);
+        self.spread(padded, from);
         Ok(())
     }
 }
