@@ -15,3 +15,4 @@ pub mod PaddedLines
 pub mod Placed
 pub mod TableLines
 pub mod RowLines
+pub mod Times

@@ -1,5 +1,5 @@
 -- How a field is moved to the left: spaces and the field's bytes are written into the text.
-use Rattle.std.proofs.Common.{ℕ, ◌≡◌, ◌+◌, ◌*◌, ◌-◌, ◌≤◌, ◌∙◌, List, ◌∷◌, ◌++◌, length, take, drop, replicate, ap, sym, arith, append_assoc}
+use Rattle.std.proofs.Common.{ℕ, ◌≡◌, ◌+◌, ◌*◌, ◌-◌, ◌≤◌, ◌∙◌, List, ◌++◌, length, take, drop, replicate, ap, sym, arith, append_assoc}
 use Rattle.std.specs.List.{copy_within}
 use borrow.Rule.Slice.PartMut.{mid_len, mid_of, post_of, put_mid}
 use Rattle.std.proofs.Math.Seq.{take-append-add}

@@ -1,8 +1,8 @@
 -- How the fields at the end of a text are moved to their columns, from the first to the last.
-use Rattle.std.proofs.Common.{ℕ, ◌≡◌, ◌+◌, ◌-◌, ◌<◌, ◌≤◌, ◌∙◌, List, [], ◌∷◌, ◌++◌, length, map, take, drop, get_or, replicate, ap, sym, refl, arith, append_assoc}
+use Rattle.std.proofs.Common.{ℕ, ◌≡◌, ◌+◌, ◌-◌, ◌<◌, ◌≤◌, ◌∙◌, List, [], ◌∷◌, ◌++◌, length, map, take, drop, get_or, replicate, ap, sym, arith, append_assoc}
 use Rattle.std.specs.Prelude.{◌%◌, filter, slice_index}
 use Rattle.std.proofs.lemmas.List.{drop-drop, drop_at, drop_more, get_or-map, length-append, length-drop, length-map, length-replicate, length-take-le, take_at}
-use Rattle.pmap_print.specs.Table.{CanSpread, is_long, joined, noted, spread, Text, filled, Columns}
+use Rattle.pmap_print.specs.Table.{is_long, joined, noted, spread, Text, filled}
 
 -- the texts before the index are in their columns, and the others at the end of the text
 pub record IsSpread (texts : List Text) (widths : List ℕ) (text : Text) (from to column : ℕ) (long : List ℕ) (i : ℕ) : Type 0 where

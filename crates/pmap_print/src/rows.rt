@@ -7,6 +7,7 @@ ghost use Rattle.pmap_print.specs.Table.{has_columns, IsTable, sizes, Line, line
 ghost use Rattle.pmap_print.specs.Reports.{column_count, labels_at, given_labels, label_fields, label_texts, row_fields, row_line, rows_text, title_line};
 
 use crate::labels::RowLabels;
+use crate::number::write_four;
 use crate::table::Table;
 use flow_rows::Row;
 use itoa::write_digits;
@@ -53,6 +54,29 @@ fn write_number(number: u64, buf: &mut [u8], end: usize) -> usize
     at
 }
 
+// Writes a `|` and a number, like [`write_number`], but is faster for a number of 13 digits. Times in milliseconds have 13
+// digits from the year 2001 to the year 2286.
+#[inline(always)]
+fn write_time(time: u64, buf: &mut [u8], end: usize) -> usize
+    requires room { 21 ≤ end }
+    requires within { end ≤ length buf.old }
+    ensures size { result + (length (decimal time) + 1) ≡ end }
+    ensures room { end ≤ result + 21 }
+    ensures written { drop result buf.new ≡ 124 ∷ decimal time ++ drop end buf.old }
+{
+    let high = time / 100_000_000;
+    if high < 10_000 || high >= 100_000 {
+        return write_number(time, buf, end);
+    }
+    let low = time % 100_000_000;
+    write_four(low % 10_000, buf, end);
+    write_four(low / 10_000, buf, end - 4);
+    write_four(high % 10_000, buf, end - 8);
+    buf[end - 13] = b'0' + (high / 10_000) as u8;
+    buf[end - 14] = b'|';
+    end - 14
+}
+
 // Appends the fields of a row with `|` between, and then a byte. Returns the lengths of the fields, each with the byte
 // after it, and 0 for each label.
 #[inline(always)]
@@ -68,8 +92,8 @@ fn print_fields(
     let mut line = [0; LINE];
     let last_at = LINE - 1;
     line[last_at] = last;
-    let end = write_number(row.end_ms(), &mut line, last_at);
-    let start = write_number(row.start_ms(), &mut line, end);
+    let end = write_time(row.end_ms(), &mut line, last_at);
+    let start = write_time(row.start_ms(), &mut line, end);
     let octets = write_number(row.octets(), &mut line, start);
     let packets = write_number(row.packets(), &mut line, octets);
     let flags = write_number(u64::from(row.flags()), &mut line, packets);

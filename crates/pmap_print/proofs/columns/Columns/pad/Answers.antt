@@ -1,4 +1,4 @@
-use Rattle.std.proofs.Common.{ℕ, ◌≡◌, ◌+◌, ◌-◌, ◌*◌, ◌<◌, ◌≤◌, ◌∙◌, List, ap, arith, length, refl}
+use Rattle.std.proofs.Common.{ℕ, ◌≡◌, ◌+◌, ◌-◌, ◌*◌, ◌≤◌, ◌∙◌, List, ap, arith, length, refl}
 use Rattle.std.specs.Prelude.{◌/◌, sum}
 use Rattle.std.specs.List.{copy_within, flat_map}
 use Rattle.pmap_print.specs.Table.{CanSpread, IsNoted, Line, line_text}
