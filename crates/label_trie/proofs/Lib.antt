@@ -10,3 +10,4 @@ pub mod SeenLeaves
 pub mod ListBuilt
 pub mod Runs
 pub mod NodeKinds
+pub mod Covered

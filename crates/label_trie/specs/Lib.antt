@@ -3,3 +3,4 @@ pub mod Parts
 pub mod Tree
 pub mod Inner
 pub mod Runs
+pub mod Laws

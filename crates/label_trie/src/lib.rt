@@ -33,7 +33,7 @@ mod trie;
 
 pub use cursor::{Cursor, Parts};
 pub use kind::Kind;
-pub use laws::labelling_has_its_runs;
+pub use laws::{labelling_has_its_runs, runs_cover_each_address_once};
 pub use leaf::Leaf;
 pub use leaves::Leaves;
 pub use trie::Trie;
