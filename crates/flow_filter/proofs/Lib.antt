@@ -3,3 +3,4 @@ pub mod Parts
 pub mod Tops
 pub mod Places
 pub mod Reading
+mod Together

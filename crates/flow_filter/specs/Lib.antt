@@ -2,3 +2,4 @@ pub mod Options
 pub mod Texts
 pub mod Condition
 pub mod Filters
+pub mod Laws

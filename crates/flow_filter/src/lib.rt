@@ -25,6 +25,7 @@ mod cut;
 mod fault;
 mod filter;
 mod items;
+mod laws;
 mod number;
 mod option;
 mod part;
@@ -34,5 +35,6 @@ mod words;
 
 pub use fault::{FilterFault, FilterFaultKind};
 pub use filter::Filter;
+pub use laws::{options_hold_together, rows_pass_in_order};
 pub use option::{ALL_OPTIONS, FilterOption};
 pub use words::FilterWords;
