@@ -14,7 +14,7 @@ use Rattle.flow_uniq.specs.Key.{Key, part_numbers, same_key}
 use Rattle.flow_uniq.specs.Groups.{Totals, GroupModel, KeyedRow, distinct_keys, groups_of_keyed, rows_with, totals_of}
 use Rattle.flow_uniq.specs.Inner.{none, with_row}
 
-same_key-equiv : IsEquivalence same_key
+pub same_key-equiv : IsEquivalence same_key
 same_key-equiv = lists_equiv (on_equiv part_numbers nat_list_eq_equiv)
 
 -- the group of a new key, a group with one more row if it is of its key, and groups with one more row
@@ -31,7 +31,7 @@ abbrev other_than : Key → Key → Bool
 other_than x o = not (same_key x o)
 
 -- the distinct keys contain each key
-stands-distinct : (k : Key) (ks : List Key) → list_any (same_key k) (distinct_keys ks) ≡ list_any (same_key k) ks
+pub stands-distinct : (k : Key) (ks : List Key) → list_any (same_key k) (distinct_keys ks) ≡ list_any (same_key k) ks
 stands-distinct k [] = refl
 stands-distinct k (x ∷ ks) = by (same_key k x) refl (stands-distinct k ks)
   where

@@ -1,5 +1,5 @@
 -- A list in order is the only list that ascends and keeps the order of elements that tie.
-use Rattle.std.proofs.Common.{◌≡◌, suc, ◌+◌, ◌<◌, Bool, true, false, not, ◌&&◌, cond, if◌then◌else◌, List, [], ◌∷◌, length, map, filter, All, true≢false, refl, sym, ap, subst, ◌∙◌, arith}
+use Rattle.std.proofs.Common.{◌≡◌, get_or, zero, suc, ◌+◌, ◌<◌, Bool, true, false, not, ◌&&◌, cond, if◌then◌else◌, List, [], ◌∷◌, length, map, filter, All, true≢false, refl, sym, ap, subst, ◌∙◌, arith}
 use Rattle.std.proofs.lemmas.Bool.{and_parts, both_ways, false_from_ne_true, not-true}
 use Rattle.std.proofs.lemmas.List.{get_or-map, length-map}
 use Rattle.std.proofs.lemmas.List.Elements.{All-cons, All-filter, All-from_get_or, All-head, All-nil, All-tail, All-weaker}
@@ -91,6 +91,13 @@ module _ {X : Type 0} (lt : X → X → Bool) (o : IsStrictWeakOrder lt) where
     ascends_from_sorted xs (λ k d low h. sorted_far lt o (x ∷ xs) up (suc k) (suc (k + 1)) d (omega arith) (omega arith)),
   )
 
+  sorted_from_ascends : (xs : List X) → Ascends xs → IsSortedBy lt xs
+  sorted_from_ascends [] r k d low h = absurd (omega arith)
+  sorted_from_ascends (x ∷ xs) r zero d low h = r.0 0 d (omega arith)
+  sorted_from_ascends (x ∷ xs) r (suc k) d low h =
+      let next : suc (k + 1) ≡ suc k + 1 = omega arith in
+      subst (λ j. lt (get_or (x ∷ xs) j d) (get_or xs k d) ≡ false) next (sorted_from_ascends xs r.1 k d (omega arith) (omega arith))
+
   All-with_in_order : (P : X → Type 0) (x : X) (ys : List X) → P x → All P ys → All P (with_in_order lt x ys)
   All-with_in_order P x [] here all = All-cons P x [] here (All-nil P)
   All-with_in_order P x (y ∷ ys) here all = by (lt y x) (All-with_in_order P x ys here (All-tail P y ys all))
@@ -126,6 +133,9 @@ module _ {X : Type 0} (lt : X → X → Bool) (o : IsStrictWeakOrder lt) where
   ascends-in_order : (xs : List X) → Ascends (in_order lt xs)
   ascends-in_order [] = tt
   ascends-in_order (x ∷ xs) = ascends-with_in_order x (in_order lt xs) (ascends-in_order xs)
+
+  pub in_order-sorted : (xs : List X) → IsSortedBy lt (in_order lt xs)
+  in_order-sorted xs = sorted_from_ascends (in_order lt xs) (ascends-in_order xs)
 
   stable-in_order : (z : X) (xs : List X) → filter (ties lt z) (in_order lt xs) ≡ filter (ties lt z) xs
   stable-in_order z [] = refl

@@ -1,3 +1,4 @@
 pub mod Key
 pub mod Groups
 pub mod Inner
+pub mod Laws

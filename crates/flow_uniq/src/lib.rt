@@ -24,6 +24,7 @@ mod field;
 mod group;
 mod groups;
 mod keys;
+mod laws;
 mod order;
 mod totals;
 
@@ -33,4 +34,5 @@ pub use field::KeyField;
 pub use group::Group;
 pub use groups::Groups;
 pub use keys::Keys;
+pub use laws::{groups_divide_the_rows, sorted_groups_are_in_order};
 pub use totals::Totals;

@@ -1,0 +1,204 @@
+-- Groups divide rows, and stay the same when they are sorted.
+use Rattle.std.proofs.Common.{◌≡◌, ℕ, ◌+◌, Bool, true, false, not, ◌||◌, cond, List, [], ◌∷◌, length, map, filter, true≢false, refl, sym, ap, subst, ◌∙◌, arith, if◌then◌else◌}
+use Rattle.std.specs.Prelude.{sum_by}
+use Rattle.std.specs.List.{AllByRecursion, IsDistinct, list_any}
+use Rattle.std.specs.List.Sorted.{IsPermutation}
+use Rattle.std.proofs.lemmas.List.{map-id}
+use Rattle.std.proofs.lemmas.List.Filters.{length-filter_both, sum_by-filter_both}
+use Rattle.std.proofs.lemmas.List.Sums.{sum_by-cons}
+use Rattle.std.proofs.lemmas.List.Sorted.{IsPermutation-cons, IsPermutation-middle, IsPermutation-refl, IsPermutation-trans}
+use Rattle.std.proofs.lemmas.Map.Keys.{IsDistinct-head, IsDistinct-tail}
+use Rattle.std.proofs.lemmas.Simd.{map-map}
+use Rattle.flow_rows.specs.Elements.{RowView}
+use Rattle.flow_uniq.specs.Key.{Key, same_key}
+use Rattle.flow_uniq.specs.Groups.{GroupModel, KeyedRow, distinct_keys, groups_of_keyed, in_order, rows_with, totals_of, with_in_order}
+use Rattle.flow_uniq.proofs.Grouping.{same_key-equiv, stands-distinct}
+
+-- The keys of groups are distinct.
+
+module _ {X : Type 0} (p : X → Bool) where
+  every-filter : (P : X → Type 0) (xs : List X) → AllByRecursion P xs → AllByRecursion P (filter p xs)
+  every-filter P [] all = tt
+  every-filter P (x ∷ xs) all = by (p x) (every-filter P xs all.1)
+    where
+      by : (b : Bool) → AllByRecursion P (filter p xs) → AllByRecursion P (cond b (x ∷ filter p xs) (filter p xs))
+      by true rest = (all.0, rest)
+      by false rest = rest
+
+  distinct-filter : (same : X → X → Bool) (xs : List X) → IsDistinct same xs → IsDistinct same (filter p xs)
+  unfolding IsDistinct
+  distinct-filter same [] apart = tt
+  distinct-filter same (x ∷ xs) apart = by (p x) (distinct-filter same xs apart.1)
+    where
+      by : (b : Bool) → IsDistinct same (filter p xs) → IsDistinct same (cond b (x ∷ filter p xs) (filter p xs))
+      by true rest = (every-filter (λ y. same x y ≡ false) xs apart.0, rest)
+      by false rest = rest
+
+-- the keys that are kept differ from this one
+others_differ : (k : Key) (ks : List Key) → AllByRecursion (λ o. same_key k o ≡ false) (filter (λ o. not (same_key k o)) ks)
+others_differ k [] = tt
+others_differ k (x ∷ xs) = by (same_key k x) refl (others_differ k xs)
+  where
+    by : (b : Bool) → same_key k x ≡ b → AllByRecursion (λ o. same_key k o ≡ false) (filter (λ o. not (same_key k o)) xs)
+        → AllByRecursion (λ o. same_key k o ≡ false)
+        (cond (not b) (x ∷ filter (λ o. not (same_key k o)) xs) (filter (λ o. not (same_key k o)) xs))
+    by true e rest = rest
+    by false e rest = (e, rest)
+
+distinct-distinct_keys : (ks : List Key) → IsDistinct same_key (distinct_keys ks)
+unfolding IsDistinct
+distinct-distinct_keys [] = tt
+distinct-distinct_keys (k ∷ ks) = (
+  others_differ k (distinct_keys ks),
+  distinct-filter (λ o. not (same_key k o)) same_key (distinct_keys ks) (distinct-distinct_keys ks),
+)
+
+pub groups-distinct : (rows : List KeyedRow) → IsDistinct same_key (map (λ g. g.key) (groups_of_keyed rows))
+groups-distinct rows =
+    let keys : List Key = map (λ r. r.0) rows in
+    let group : Key → GroupModel = λ key. record { key = key; totals = totals_of (rows_with key rows) } in
+    subst (IsDistinct same_key) (sym (map-map (λ (g : GroupModel). g.key) group (distinct_keys keys) ∙ map-id (distinct_keys keys)))
+    (distinct-distinct_keys keys)
+
+-- What all rows have, added up, is the sum over the groups.
+
+abbrev other_rows : Key → List KeyedRow → List KeyedRow
+other_rows d rows = filter (λ r. not (same_key d r.0)) rows
+
+-- each row has one of the keys
+abbrev HaveKeys : List Key → List KeyedRow → Type 0
+HaveKeys ds rows = AllByRecursion (λ r. list_any (same_key r.0) ds ≡ true) rows
+
+have-more : (all : List Key) (rows : List KeyedRow)
+    → ((k : Key) → list_any (same_key k) (map (λ r. r.0) rows) ≡ true → list_any (same_key k) all ≡ true) → HaveKeys all rows
+have-more all [] up = tt
+have-more all (r ∷ rows) up = (
+  up r.0 (ap (λ b. b || list_any (same_key r.0) (map (λ x. x.0) rows)) (same_key-equiv.refl r.0)),
+  have-more all rows (λ k h. up k (ap (λ b. same_key k r.0 || b) h ∙ or_true (same_key k r.0))),
+)
+  where
+    or_true : (b : Bool) → (b || true) ≡ true
+    or_true true = refl
+    or_true false = refl
+
+have-others : (d : Key) (ds : List Key) (rows : List KeyedRow) → HaveKeys (d ∷ ds) rows → HaveKeys ds (other_rows d rows)
+have-others d ds [] all = tt
+have-others d ds (r ∷ rows) all = by (same_key d r.0) refl (have-others d ds rows all.1)
+  where
+    by : (b : Bool) → same_key d r.0 ≡ b → HaveKeys ds (other_rows d rows)
+        → HaveKeys ds (cond (not b) (r ∷ other_rows d rows) (other_rows d rows))
+    by true e rest = rest
+    by false e rest =
+        (sym (ap (λ b. b || list_any (same_key r.0) ds) (same_key-equiv.symm r.0 d ∙ e)) ∙ all.0, rest)
+
+-- the rows with another key are among the others
+with-others : (d e : Key) → same_key d e ≡ false → (rows : List KeyedRow) → rows_with e (other_rows d rows) ≡ rows_with e rows
+with-others d e apart [] = refl
+with-others d e apart (r ∷ rows) = by (same_key d r.0) (same_key e r.0) refl refl (with-others d e apart rows)
+  where
+    by : (a b : Bool) → same_key d r.0 ≡ a → same_key e r.0 ≡ b → rows_with e (other_rows d rows) ≡ rows_with e rows
+        → rows_with e (cond (not a) (r ∷ other_rows d rows) (other_rows d rows)) ≡ cond b (r ∷ rows_with e rows) (rows_with e rows)
+    by true true s t ih =
+        absurd (true≢false (sym t ∙ sym (same_key-equiv.symm r.0 e) ∙ sym (same_key-equiv.congr d r.0 e s) ∙ apart))
+    by true false s t ih = ih
+    by false b s t ih =
+        ap (λ c. cond c (r ∷ rows_with e (other_rows d rows)) (rows_with e (other_rows d rows))) t
+        ∙ ap (λ (l : List KeyedRow). cond b (r ∷ l) l) ih
+
+-- a sum over rows that is that of the rows with a key and of the others
+module _ (F : List KeyedRow → ℕ) (empty : F [] ≡ 0)
+    (both : (d : Key) (rows : List KeyedRow) → F (rows_with d rows) + F (other_rows d rows) ≡ F rows) where
+  abbrev by_key : List Key → List KeyedRow → ℕ
+  by_key ds rows = sum_by (λ d. F (rows_with d rows)) ds
+
+  by_key-others : (d : Key) (ds : List Key) (rows : List KeyedRow) → AllByRecursion (λ e. same_key d e ≡ false) ds
+      → by_key ds (other_rows d rows) ≡ by_key ds rows
+  by_key-others d [] rows apart = refl
+  by_key-others d (e ∷ ds) rows apart =
+      omega (
+        arith,
+        sum_by-cons (λ k. F (rows_with k (other_rows d rows))) e ds,
+        sum_by-cons (λ k. F (rows_with k rows)) e ds,
+        ap F (with-others d e apart.0 rows),
+        by_key-others d ds rows apart.1,
+      )
+
+  by_key-all : (ds : List Key) (rows : List KeyedRow) → IsDistinct same_key ds → HaveKeys ds rows → by_key ds rows ≡ F rows
+  by_key-all [] [] apart all = sym empty
+  by_key-all [] (r ∷ rows) apart all = absurd (true≢false (sym all.0))
+  by_key-all (d ∷ ds) rows apart all =
+      omega (
+        arith,
+        sum_by-cons (λ k. F (rows_with k rows)) d ds,
+        both d rows,
+        by_key-others d ds rows (IsDistinct-head same_key d ds apart),
+        by_key-all ds (other_rows d rows) (IsDistinct-tail same_key d ds apart) (have-others d ds rows all),
+      )
+
+  -- the sum over the groups, if `part` of the totals of rows is their sum
+  pub groups-sum : (part : GroupModel → ℕ) → ((key : Key) (rows : List KeyedRow) → part (record { key = key; totals = totals_of rows }) ≡ F rows)
+      → (rows : List KeyedRow) → sum_by part (groups_of_keyed rows) ≡ F rows
+  groups-sum part is rows =
+      over (distinct_keys keys)
+      ∙ by_key-all (distinct_keys keys) rows (distinct-distinct_keys keys)
+      (have-more (distinct_keys keys) rows (λ k h. stands-distinct k keys ∙ h))
+    where
+      keys : List Key
+      keys = map (λ r. r.0) rows
+
+      over : (ds : List Key) → sum_by part (map (λ key. record { key = key; totals = totals_of (rows_with key rows) }) ds) ≡ by_key ds rows
+      over [] = refl
+      over (d ∷ ds) =
+          omega (
+            arith,
+            sum_by-cons part (record { key = d; totals = totals_of (rows_with d rows) })
+                (map (λ key. record { key = key; totals = totals_of (rows_with key rows) }) ds),
+            sum_by-cons (λ k. F (rows_with k rows)) d ds,
+            is d (rows_with d rows),
+            over ds,
+          )
+
+pub groups-records : (rows : List KeyedRow) → sum_by (λ g. g.totals.records) (groups_of_keyed rows) ≡ length rows
+groups-records =
+    groups-sum length refl (λ d. length-filter_both (λ (r : KeyedRow). same_key d r.0) (λ r. not (same_key d r.0)) (λ r. refl))
+    (λ g. g.totals.records) (λ key rows. refl)
+
+module _ (f : RowView → ℕ) where
+  pub groups-numbers : (part : GroupModel → ℕ)
+      → ((key : Key) (rows : List KeyedRow) → part (record { key = key; totals = totals_of rows }) ≡ sum_by (λ r. f r.1) rows)
+      → (rows : List KeyedRow) → sum_by part (groups_of_keyed rows) ≡ sum_by (λ r. f r.1) rows
+  groups-numbers =
+      groups-sum (sum_by (λ r. f r.1)) refl
+      (λ d. sum_by-filter_both (λ (r : KeyedRow). same_key d r.0) (λ r. not (same_key d r.0)) (λ r. refl) (λ (r : KeyedRow). f r.1))
+
+-- A list in order is a permutation.
+
+module _ {X : Type 0} (lt : X → X → Bool) where
+  same-with_in_order : (x : X) (ys : List X) → IsPermutation (x ∷ ys) (with_in_order lt x ys)
+  same-with_in_order x [] = IsPermutation-refl (x ∷ [])
+  same-with_in_order x (y ∷ ys) = by (lt y x) (same-with_in_order x ys)
+    where
+      by : (b : Bool) → IsPermutation (x ∷ ys) (with_in_order lt x ys)
+          → IsPermutation (x ∷ y ∷ ys) (if b then y ∷ with_in_order lt x ys else x ∷ y ∷ ys)
+      by true ih =
+          IsPermutation-trans (x ∷ y ∷ ys) (y ∷ x ∷ ys) (y ∷ with_in_order lt x ys) (IsPermutation-middle (x ∷ []) y ys)
+          (IsPermutation-cons y (x ∷ ys) (with_in_order lt x ys) ih)
+      by false ih = IsPermutation-refl (x ∷ y ∷ ys)
+
+  pub same-in_order : (xs : List X) → IsPermutation xs (in_order lt xs)
+  same-in_order [] = IsPermutation-refl []
+  same-in_order (x ∷ xs) =
+      IsPermutation-trans (x ∷ xs) (x ∷ in_order lt xs) (in_order lt (x ∷ xs))
+      (IsPermutation-cons x xs (in_order lt xs) (same-in_order xs)) (same-with_in_order x (in_order lt xs))
+
+-- a sum over rows with keys is that over the rows
+pub sum_by-keyed : (key : RowView → Key) (f : RowView → ℕ) (rows : List RowView)
+    → sum_by (λ r. f r.1) (map (λ row. let R : KeyedRow = (key row, row) in R) rows) ≡ sum_by f rows
+sum_by-keyed key f [] = refl
+sum_by-keyed key f (row ∷ rows) =
+    omega (
+      arith,
+      sum_by-cons (λ (r : KeyedRow). f r.1) (key row, row) (map (λ x. let R : KeyedRow = (key x, x) in R) rows),
+      sum_by-cons f row rows,
+      sum_by-keyed key f rows,
+    )

@@ -1,0 +1,21 @@
+//! Laws about groups.
+ghost use Rattle.std.specs.Prelude.{Bool, List, Option};
+ghost use Rattle.std.specs.List.Sorted.{IsPermutation, IsSortedBy};
+ghost use Rattle.prefix_keys.specs.Text.{AddressOf};
+ghost use Rattle.pmap_text.specs.MapModel.{Label};
+ghost use Rattle.flow_rows.specs.Elements.{RowView};
+ghost use Rattle.flow_uniq.specs.Key.{KeyField};
+ghost use Rattle.flow_uniq.specs.Groups.{GroupModel, groups_of, is_before, shown_groups, sorted_groups};
+ghost use Rattle.flow_uniq.specs.Laws.{DivideRows};
+
+/// The groups of rows have distinct keys. Their records, packets and bytes add up to those of the rows.
+pub fn groups_divide_the_rows()
+    ensures { (fields : List KeyField) (label : AddressOf → Option Label) (sorted : Bool) (rows : List RowView) →
+        DivideRows rows (shown_groups sorted (groups_of fields label rows)) }
+{}
+
+/// Sorted groups are the same groups, and no key is before the key of the previous group.
+pub fn sorted_groups_are_in_order()
+    ensures same { (groups : List GroupModel) → IsPermutation groups (sorted_groups groups) }
+    ensures ascends { (groups : List GroupModel) → IsSortedBy is_before (sorted_groups groups) }
+{}
