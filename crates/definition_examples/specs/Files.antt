@@ -7,7 +7,7 @@ use Rattle.ipfix_read.specs.Messages.{file_reading}
 use Rattle.ipfix_read.specs.Value.{value_at, values_at}
 use Rattle.ipfix_read.specs.declared.fault.ReadFault.{ReadFault}
 use Rattle.ipfix_read.specs.declared.fault.ReadFaultKind.{ReadFaultKind}
-use Rattle.flow_rows.specs.Counts.{CountsView, counts_of, rows_of_messages}
+use Rattle.flow_rows.specs.Counts.{counts_of, rows_of_messages}
 use Rattle.flow_rows.specs.Elements.{RowView}
 use Rattle.ipfix_templates.specs.declared.template.Template.{Template}
 use Rattle.ipfix_templates.specs.declared.event.TemplateEvent.TheVariants.{Define}
@@ -23,12 +23,6 @@ unfoldable pub opened : List ℕ → Result (List MessageView) ReadFault
 unfolding definition_at field_at fields_at fits in_force template_record_at value_at values_at
 opened bytes = file_reading bytes
 
--- the nine counts in the order of `info`
-abbrev pub numbers : CountsView → List ℕ
-numbers c =
-    c.messages ∷ c.templates ∷ c.options_templates ∷ c.withdrawals ∷ c.data_sets ∷ c.skipped_sets ∷ c.records
-    ∷ c.options_records ∷ c.rows ∷ []
-
 -- something of the messages of a File
 abbrev pub of_messages : {A : Type 0} → (List MessageView → A) → Result (List MessageView) ReadFault → Result A ReadFault
 of_messages part (Ok messages) = Ok (part messages)
@@ -36,7 +30,7 @@ of_messages part (Err fault) = Err fault
 
 -- the counts, and the rows, of a File given in hexadecimal
 abbrev pub counts : List ℕ → Result (List ℕ) ReadFault
-counts text = of_messages (λ messages. numbers (counts_of messages)) (file_reading (hex text))
+counts text = of_messages counts_of (file_reading (hex text))
 
 abbrev pub rows : List ℕ → Result (List RowView) ReadFault
 rows text = of_messages rows_of_messages (file_reading (hex text))

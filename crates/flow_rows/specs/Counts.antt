@@ -1,4 +1,4 @@
-use Rattle.std.specs.Prelude.{List, [], ℕ, ◌+◌, Bool, true, false, length, count_by}
+use Rattle.std.specs.Prelude.{List, [], ◌∷◌, ℕ, ◌+◌, Bool, true, false, length, count_by}
 use Rattle.std.specs.List.{flat_map}
 use Rattle.ipfix_templates.specs.declared.event.TemplateEvent.{TemplateEvent}
 use Rattle.ipfix_templates.specs.declared.kind.Kind.{Kind}
@@ -44,30 +44,11 @@ rows_of_messages messages = rows_of (sets_of messages)
 
 -- The counts of messages.
 
--- counts without the proof of their bounds
-pub record CountsView : Type 0 where
-  pub messages : ℕ
-  pub templates : ℕ
-  pub options_templates : ℕ
-  pub withdrawals : ℕ
-  pub data_sets : ℕ
-  pub skipped_sets : ℕ
-  pub records : ℕ
-  pub options_records : ℕ
-  pub rows : ℕ
-
-abbrev pub counts_view : Counts → CountsView
-counts_view c = record {
-  messages = c.messages;
-  templates = c.templates;
-  options_templates = c.options_templates;
-  withdrawals = c.withdrawals;
-  data_sets = c.data_sets;
-  skipped_sets = c.skipped_sets;
-  records = c.records;
-  options_records = c.options_records;
-  rows = c.rows;
-}
+-- the nine numbers, in the order in which `info` prints them
+abbrev pub numbers_of : Counts → List ℕ
+numbers_of c =
+    c.messages ∷ c.templates ∷ c.options_templates ∷ c.withdrawals ∷ c.data_sets ∷ c.skipped_sets ∷ c.records
+    ∷ c.options_records ∷ c.rows ∷ []
 
 -- the sum of all counts
 abbrev pub total : Counts → ℕ
@@ -100,19 +81,12 @@ is_of_kind kind r = same_kind r.kind kind
 
 -- the counts of `messages` messages with these sets: definitions of templates of each kind, withdrawals, data sets and
 -- skipped sets, records of each kind, and rows
-abbrev pub counts_in : ℕ → List Set → CountsView
-counts_in messages sets = record {
-  messages = messages;
-  templates = count_by (defines Flow) (events_of sets);
-  options_templates = count_by (defines Options) (events_of sets);
-  withdrawals = count_by is_withdrawal (events_of sets);
-  data_sets = count_by is_data_set sets;
-  skipped_sets = count_by is_skipped sets;
-  records = count_by (is_of_kind Flow) (records_of sets);
-  options_records = count_by (is_of_kind Options) (records_of sets);
-  rows = length (rows_of sets);
-}
+abbrev pub counts_in : ℕ → List Set → List ℕ
+counts_in messages sets =
+    messages ∷ count_by (defines Flow) (events_of sets) ∷ count_by (defines Options) (events_of sets)
+    ∷ count_by is_withdrawal (events_of sets) ∷ count_by is_data_set sets ∷ count_by is_skipped sets
+    ∷ count_by (is_of_kind Flow) (records_of sets) ∷ count_by (is_of_kind Options) (records_of sets) ∷ length (rows_of sets) ∷ []
 
 -- the counts of messages
-abbrev pub counts_of : List MessageView → CountsView
+abbrev pub counts_of : List MessageView → List ℕ
 counts_of messages = counts_in (length messages) (sets_of messages)

@@ -1,9 +1,8 @@
-use Rattle.std.specs.Prelude.{List, [], ◌∷◌, ◌++◌, map, Option, Some, None, Bool, false, true, codes, decimal, unwrap_or, option_map, option_copied, ℕ, slice_index_or, if◌then◌else◌}
+use Rattle.std.specs.Prelude.{List, [], ◌∷◌, ◌++◌, map, Option, Some, None, Bool, false, true, codes, decimal, unwrap_or, option_map, option_copied, fold, ℕ, slice_index_or, if◌then◌else◌}
 use Rattle.std.specs.Borrow.{Bor}
 use Rattle.std.specs.List.{zip}
 use Rattle.prefix_keys.specs.Print.{address_text}
 use Rattle.flow_rows.specs.Elements.{RowView}
-use Rattle.flow_rows.specs.Counts.{CountsView}
 use Rattle.flow_uniq.specs.declared.totals.Totals.{Totals}
 use Rattle.flow_uniq.specs.declared.field.KeyField.{KeyField}
 use Rattle.flow_uniq.specs.Key.{field_name, KeyPartModel, AddressPart, NumberPart, LabelPart}
@@ -106,15 +105,12 @@ groups_text fields groups columns = table_text columns (group_titles fields ∷ 
 abbrev pub count_text : Text → ℕ → Text
 count_text name number = name ++ 32 ∷ decimal number ++ 10 ∷ []
 
+-- the names of counts, in the order in which they are printed
+abbrev pub count_names : Line
+count_names =
+    codes "messages" ∷ codes "templates" ∷ codes "options-templates" ∷ codes "withdrawals" ∷ codes "data-sets"
+    ∷ codes "skipped-sets" ∷ codes "records" ∷ codes "options-records" ∷ codes "rows" ∷ []
+
 -- the lines of all counts
-abbrev pub info_text : CountsView → Text
-info_text c =
-    count_text (codes "messages") c.messages
-    ++ count_text (codes "templates") c.templates
-    ++ count_text (codes "options-templates") c.options_templates
-    ++ count_text (codes "withdrawals") c.withdrawals
-    ++ count_text (codes "data-sets") c.data_sets
-    ++ count_text (codes "skipped-sets") c.skipped_sets
-    ++ count_text (codes "records") c.records
-    ++ count_text (codes "options-records") c.options_records
-    ++ count_text (codes "rows") c.rows
+abbrev pub info_text : List ℕ → Text
+info_text counts = fold (λ text count. text ++ count_text count.0 count.1) [] (zip count_names counts)

@@ -1,6 +1,6 @@
 //! The printed text of counts.
 ghost use Rattle.std.specs.Prelude.{◌≡◌, ◌++◌, IfOk, OnOk};
-ghost use Rattle.flow_rows.specs.Counts.{counts_view};
+ghost use Rattle.flow_rows.specs.Counts.{numbers_of};
 ghost use Rattle.pmap_print.specs.Reports.{count_text, info_text};
 
 use crate::number::print_number;
@@ -20,7 +20,7 @@ fn print_count(out: &mut Vec<u8>, name: &[u8], number: u64) -> Result<(), AllocE
 
 /// Returns the text of counts: a line for each, with its name and its number.
 pub fn print_info(alloc: Global, counts: &Counts) -> Result<Vec<u8>, AllocError>
-    ensures { IfOk result (λ out. out.items ≡ info_text (counts_view counts.now)) }
+    ensures { IfOk result (λ out. out.items ≡ info_text (numbers_of counts.now)) }
 {
     let mut out = Vec::new(alloc);
     print_count(&mut out, b"messages", counts.messages)?;

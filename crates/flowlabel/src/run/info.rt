@@ -20,11 +20,11 @@ struct InfoReport;
 
 impl Report for InfoReport {
     ghost use Rattle.std.specs.Prelude.{◌≡◌};
-    ghost use Rattle.flow_rows.specs.Counts.{counts_of, counts_view};
+    ghost use Rattle.flow_rows.specs.Counts.{counts_of, numbers_of};
 
     type Taken = Counts;
 
-    ghost is_of = { λ report messages counts. counts_view counts ≡ counts_of messages };
+    ghost is_of = { λ report messages counts. numbers_of counts ≡ counts_of messages };
 
     fn take(&self, counts: &mut Counts, message: &Message<'_>) -> Result<(), AllocError> {
         counts.add(message);

@@ -1,7 +1,7 @@
 use Rattle.std.proofs.Common.{◌≡◌, ◌∙◌, ℕ, List, Option, None, ap, refl}
 use Rattle.ipfix_read.specs.Message.{MessageView}
 use Rattle.label_lookup.specs.Labelling.{Labelling}
-use Rattle.flow_rows.specs.Counts.{counts_of, counts_view}
+use Rattle.flow_rows.specs.Counts.{counts_of, numbers_of}
 use Rattle.flow_rows.specs.declared.counts.Counts.{Counts}
 use Rattle.pmap_print.specs.Reports.{info_text}
 use Rattle.flowlabel.specs.declared.by_file.Role.TheVariants as role
@@ -12,7 +12,7 @@ abbrev text : Option Labelling → List MessageView → List ℕ
 text labels messages = info_text (counts_of messages)
 
 abbrev is_of : List MessageView → Counts → Type 0
-is_of messages counts = counts_view counts ≡ counts_of messages
+is_of messages counts = numbers_of counts ≡ counts_of messages
 
 pub returns-in_err-take_messages : goal.returns-in_err-take_messages
 returns-in_err-take_messages g c =
