@@ -24,12 +24,14 @@
 
 mod counting;
 mod counts;
+mod laws;
 mod place;
 mod record;
 mod row;
 mod walk;
 
 pub use counts::Counts;
+pub use laws::counts_add_up;
 pub use record::{reverse_row_of, row_of};
 pub use row::Row;
 pub use walk::{TakesRows, give_rows};

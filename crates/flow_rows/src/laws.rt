@@ -1,0 +1,14 @@
+//! A law about counts.
+ghost use Rattle.std.specs.Prelude.{◌≡◌, ◌++◌, List};
+ghost use Rattle.ipfix_read.specs.Message.{MessageView};
+ghost use Rattle.flow_rows.specs.Counts.{counts_of, rows_of_messages};
+ghost use Rattle.flow_rows.specs.Laws.{summed_counts, sums};
+
+/// The counts of messages are the sums of those of the first messages and of the others, and so of those of each
+/// message. The rows of messages are those of the first messages followed by those of the others.
+pub fn counts_add_up()
+    ensures counts { (front back : List MessageView) → counts_of (front ++ back) ≡ sums (counts_of front) (counts_of back) }
+    ensures each { (messages : List MessageView) → counts_of messages ≡ summed_counts messages }
+    ensures rows { (front back : List MessageView) →
+        rows_of_messages (front ++ back) ≡ rows_of_messages front ++ rows_of_messages back }
+{}
