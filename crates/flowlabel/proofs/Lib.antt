@@ -3,6 +3,7 @@ pub mod DefinitionLemmas
 pub mod EndLemmas
 pub mod LineLemmas
 pub mod MadeLemmas
+pub mod Outcomes
 pub mod RequestLemmas
 pub mod RowLemmas
 pub mod TakenLemmas

@@ -13,14 +13,15 @@ use Rattle.flowlabel.specs.BytesFault.{role_of}
 use Rattle.flowlabel.specs.ByFile.{ByFile, Role, at, each, turn, with_at}
 use Rattle.flowlabel.specs.declared.by_file.Role.TheVariants as role
 use Rattle.flowlabel.specs.declared.bytes_fault.BytesFault.TheVariants.{Map as InMap, List as InList, Certificate as InCertificate, Flows as InFlows}
-use Rattle.flowlabel.specs.Output.{BytesFault, CertificateThen, Decodes, Faulty, NoMemory, Outcome, OutputFault, ListThen, Prints, PrintsCompact, PrintsRuns, label_text, ReportsOf, ReportsThen, Returns, Then, Unread}
+use Rattle.flowlabel.specs.Output.{BytesFault, Decodes, Faulty, NoMemory, Outcome, OutputFault, Prints, label_text, Returns, Then, Unread}
+use Rattle.flowlabel.proofs.Outcomes.{CertificateThen, ListThen, PrintsCompact, PrintsRuns, ReportsOf}
 use Rattle.pmap_text.specs.ListModel.{ListModel}
 use Rattle.pmap_text.specs.MapText.{map_of}
 use Rattle.pmap_text.specs.PrefixList.{list_of}
 use Rattle.pmap_cert.specs.FormatReading.{format_reading}
 use Rattle.pmap_text.specs.Reading.{list_reading, map_reading}
 use Rattle.flowlabel.specs.declared.run.labels.LabelsRead.{LabelsRead}
-use Rattle.flowlabel.specs.Reports.{AreLabels, IsMade, IsReadOf, IsWhole, ReadsLabels, TakesFile, labelling_found, labelling_read}
+use Rattle.flowlabel.specs.Reports.{AreLabels, IsMade, IsReadOf, IsWhole, ReadsLabels, ReportsThen, TakesFile, labelling_found, labelling_read}
 use Rattle.flowlabel.specs.Request.{FromList, FromMap, LabelSource, Text, source_with}
 use Rattle.flowlabel.specs.Run.{AreKeptBehind, AreTexts, IsFaultOf, Source, any_failed, bytes_of, is_unread, source_failed}
 

@@ -28,7 +28,7 @@ use Rattle.flowlabel.specs.declared.bytes_fault.BytesFault.TheVariants.{Map as I
 use Rattle.flowlabel.specs.BytesFault.{is_want_of_memory}
 pub use Rattle.flowlabel.specs.declared.output_fault.OutputFault.{OutputFault}
 pub use Rattle.flowlabel.specs.declared.output_fault.OutputFault.TheVariants.{Faulty, NoMemory, Unread}
-use Rattle.flowlabel.specs.Request.{Shrunk, FromList, FromMap, LabelSource, Request, label, info, rows, cat, shrink, check, uniq, recert}
+use Rattle.flowlabel.specs.Request.{Shrunk, FromList, FromMap, LabelSource, Request, Text, label, info, rows, cat, shrink, check, uniq, recert}
 use Rattle.flowlabel.specs.declared.command.Shrunk.TheVariants as shrunk
 
 -- The output of a request for the texts of its files: the text that it prints, or the first fault of these texts.
@@ -46,46 +46,26 @@ abbrev pub Then : {F A : Type 0} → (F → BytesFault) → (A → Outcome → T
 Then in_file rest (Ok value) outcome = rest value outcome
 Then in_file rest (Err fault) outcome = outcome ≡ Err (in_file fault)
 
--- the outcomes over the text of a map, of a list and of a certificate of either format, and over the bytes of an IPFIX File
-abbrev pub MapThen : (MapModel → Outcome → Type 0) → List ℕ → Outcome → Type 0
-MapThen rest text = Then InMap rest (map_reading text)
-
-abbrev pub ListThen : (ListModel → Outcome → Type 0) → List ℕ → Outcome → Type 0
-ListThen rest text = Then InList rest (list_reading text)
-
-abbrev pub CertificateThen : (CertificateModel → Outcome → Type 0) → List ℕ → Outcome → Type 0
-CertificateThen rest text = Then InCertificate rest (format_reading text)
-
-abbrev pub FlowsThen : (List MessageView → Outcome → Type 0) → List ℕ → Outcome → Type 0
-FlowsThen rest bytes = Then InFlows rest (file_reading bytes)
-
 -- the outcome over the text of a source of labels: its first fault, or the outcome for its labelling
 abbrev pub LabelsThen : (Labelling → Outcome → Type 0) → LabelSource → Outcome → Type 0
-LabelsThen rest (FromMap text) = MapThen (λ m. rest (labelling_of_map m)) text
-LabelsThen rest (FromList text) = ListThen (λ l. rest (labelling_of_list l)) text
+LabelsThen rest (FromMap text) = Then InMap (λ m. rest (labelling_of_map m)) (map_reading text)
+LabelsThen rest (FromList text) = Then InList (λ l. rest (labelling_of_list l)) (list_reading text)
+
+-- the outcome over the bytes of an IPFIX File and the text of a source of labels, if there is one: the first fault, or the
+-- outcome for the labelling, if there is one, and the messages
+abbrev pub FlowsThen : (Option Labelling → List MessageView → Outcome → Type 0) → Option LabelSource → List ℕ → Outcome → Type 0
+FlowsThen rest None bytes = Then InFlows (rest None) (file_reading bytes)
+FlowsThen rest (Some source) bytes = LabelsThen (λ labels. Then InFlows (rest (Some labels)) (file_reading bytes)) source
 
 -- the line of the label that a labelling gives an address, which is the line feed alone if there is no label
 abbrev pub label_text : AddressOf → Labelling → List ℕ
 label_text address labels = unwrap_or (label_by labels address) [] ++ 10 ∷ []
-
--- the outcome is the text of the runs of a labelling
-abbrev pub PrintsRuns : Labelling → Outcome → Type 0
-PrintsRuns labels outcome = (text : List ℕ) × IsRunsText labels.version labels.label text × Prints text outcome
-
--- the outcome is the text of the certificate, compacted
-abbrev pub PrintsCompact : CertificateModel → Outcome → Type 0
-PrintsCompact c = Prints (certificate_text (compact c))
 
 -- what `shrink` prints: the list, its certificate, or its certificate compacted
 abbrev pub shrunk_text : Shrunk → ListModel → CertificateModel → List ℕ
 shrunk_text shrunk.List l c = list_text l
 shrunk_text shrunk.Certificate l c = certificate_text c
 shrunk_text shrunk.Compact l c = certificate_text (compact c)
-
--- the outcome is the text of the list of the map's minimal pair, or of its certificate, compacted or not
-abbrev pub PrintsMinimal : Shrunk → MapModel → Outcome → Type 0
-PrintsMinimal printed m outcome =
-    (l : ListModel) × (c : CertificateModel) × IsMinimalPair m l c × Prints (shrunk_text printed l c) outcome
 
 -- the labels of a row's source and destination
 abbrev pub row_labels : Labelling → RowView → LabelTexts
@@ -95,28 +75,15 @@ row_labels l row = (label_by l (row.version, row.src), label_by l (row.version, 
 abbrev pub labelled_row_lines : Option Labelling → List RowView → List Line
 labelled_row_lines labels shown = row_lines shown (option_map (λ l. map (row_labels l) shown) labels)
 
--- the rows of messages that meet a condition
-abbrev pub passing_rows : Condition → Option Labelling → List MessageView → List RowView
-passing_rows condition labels messages = passing condition labels (rows_of_messages messages)
-
 -- the text of the rows that meet a condition
 abbrev pub report_of_rows : Condition → Bool → Option Labelling → List MessageView → List ℕ
-report_of_rows condition columns labels messages = table_text columns (labelled_row_lines labels (passing_rows condition labels messages))
+report_of_rows condition columns labels messages = table_text columns (labelled_row_lines labels (passing condition labels (rows_of_messages messages)))
 
 -- the text of the groups, by fields, of the rows that meet a condition
 abbrev pub report_of_groups : List KeyField → Condition → Bool → Bool → Option Labelling → List MessageView → List ℕ
 report_of_groups fields condition sorted columns labels messages =
-    let groups = groups_of fields (label_where labels) (passing_rows condition labels messages) in
+    let groups = groups_of fields (label_where labels) (passing condition labels (rows_of_messages messages)) in
     groups_text fields (shown_groups sorted groups) columns
-
--- the outcome over a File's bytes, under a labelling or without one: a text that depends on its messages
-abbrev pub ReportsOf : (Option Labelling → List MessageView → List ℕ) → Option Labelling → List ℕ → Outcome → Type 0
-ReportsOf text labels = FlowsThen (λ messages. Prints (text labels messages))
-
--- the report on a File under the labels of a source, or without one
-abbrev pub ReportsThen : (Option Labelling → List MessageView → List ℕ) → Option LabelSource → List ℕ → Outcome → Type 0
-ReportsThen text None flows = ReportsOf text None flows
-ReportsThen text (Some source) flows = LabelsThen (λ labels. ReportsOf text (Some labels) flows) source
 
 -- `minimal N`, the number of a shortest list's entries
 abbrev pub minimal_text : ℕ → List ℕ
@@ -133,17 +100,16 @@ Checks m l c outcome = outcome ≡ checked (first_fault m l c) (length l.prefixe
 -- the outcome is an output of the request for these texts, read in the order map, list, certificate, flows
 abbrev pub IsOutput : Request → Outcome → Type 0
 IsOutput (label source address) = LabelsThen (λ labels. Prints (label_text address labels)) source
-IsOutput (info flows) = ReportsThen (λ labels messages. info_text (counts_of messages)) None flows
-IsOutput (rows source condition columns flows) = ReportsThen (report_of_rows condition columns) source flows
-IsOutput (uniq fields source condition sorted columns flows) = ReportsThen (report_of_groups fields condition sorted columns) source flows
-IsOutput (cat source) = LabelsThen PrintsRuns source
-IsOutput (shrink map printed) = MapThen (PrintsMinimal printed) map
-IsOutput (check map list certificate) = MapThen (λ m. ListThen (λ l. CertificateThen (Checks m l) certificate) list) map
-IsOutput (recert certificate) = CertificateThen PrintsCompact certificate
-
--- a request has exactly one output for any texts
-abbrev pub HasOneOutput : Type 0
-HasOneOutput = (request : Request) → (outcome : Outcome) × IsOutput request outcome × ((other : Outcome) → IsOutput request other → other ≡ outcome)
+IsOutput (info flows) = FlowsThen (λ labels messages. Prints (info_text (counts_of messages))) None flows
+IsOutput (rows source condition columns flows) = FlowsThen (λ labels messages. Prints (report_of_rows condition columns labels messages)) source flows
+IsOutput (uniq fields source condition sorted columns flows) =
+    FlowsThen (λ labels messages. Prints (report_of_groups fields condition sorted columns labels messages)) source flows
+IsOutput (cat source) = LabelsThen (λ labels outcome. (text : Text) × IsRunsText labels.version labels.label text × Prints text outcome) source
+IsOutput (shrink map printed) = Then InMap (λ m outcome. (l : ListModel) × (c : CertificateModel) × IsMinimalPair m l c
+    × Prints (shrunk_text printed l c) outcome) (map_reading map)
+IsOutput (check map list certificate) =
+    Then InMap (λ m. Then InList (λ l. Then InCertificate (Checks m l) (format_reading certificate)) (list_reading list)) (map_reading map)
+IsOutput (recert certificate) = Then InCertificate (λ c. Prints (certificate_text (compact c))) (format_reading certificate)
 
 -- the fault of a command for one of bytes, which is out of memory or says something about the bytes
 abbrev pub IsFaultFor : BytesFault → OutputFault → Type 0

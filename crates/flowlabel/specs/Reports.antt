@@ -22,7 +22,7 @@ use Rattle.pmap_print.specs.Table.{IsTable, has_columns}
 use Rattle.flowlabel.specs.ByFile.{ByFile, Role, at, with_at}
 use Rattle.flowlabel.specs.declared.by_file.Role.TheVariants as roles
 use Rattle.flowlabel.specs.declared.bytes_fault.BytesFault.TheVariants.{Flows as InFlows}
-use Rattle.flowlabel.specs.Output.{Faulty, IsFaultFor, NoMemory, Outcome, OutputFault, ReportsThen, Unread, labelled_row_lines}
+use Rattle.flowlabel.specs.Output.{Faulty, FlowsThen, IsFaultFor, NoMemory, Outcome, OutputFault, Prints, Unread, labelled_row_lines}
 use Rattle.flowlabel.specs.Request.{FromList, FromMap, LabelSource, Text, source_with}
 use Rattle.flowlabel.specs.Run.{AreTexts, IsFaultOf, Source, any_failed, bytes_of, is_unread, source_failed}
 use Rattle.flowlabel.specs.declared.run.labels.LabelsRead.{LabelsRead}
@@ -46,6 +46,10 @@ abbrev pub ReadsLabels : Option LabelSource → Option Labelling → Type 0
 ReadsLabels None labels = labels ≡ None
 ReadsLabels (Some (FromMap text)) labels = (m : MapModel) × ReadsMap text m × (labels ≡ Some (labelling_of_map m))
 ReadsLabels (Some (FromList text)) labels = (l : ListModel) × ReadsList text l × (labels ≡ Some (labelling_of_list l))
+
+-- the report on a File under the labels of a source, or without one: a text that depends on its messages
+abbrev pub ReportsThen : (Option Labelling → List MessageView → List ℕ) → Option LabelSource → List ℕ → Outcome → Type 0
+ReportsThen text source flows = FlowsThen (λ labels messages. Prints (text labels messages)) source flows
 
 -- the fault of a command for that of a call for a message
 abbrev pub IsFaultOfCall : ReadFault → OutputFault → Type 0

@@ -1,4 +1,5 @@
-use Rattle.std.specs.Prelude.{◌≡◌, ◌≤◌, ◌<◌, ◌||◌, ℕ, List, [], Option, Some, None, Result, Ok, Err, Bool, true, false, IfSome}
+use Rattle.std.specs.Prelude.{◌≡◌, ◌≤◌, ◌<◌, ◌||◌, ℕ, List, [], Option, Some, Result, Ok, Err, Bool, true, false, IfSome}
+use Rattle.std.specs.Option.{option_map_or}
 use Rattle.std.specs.Io.KnownBytes.{Appends, Consumes}
 use Rattle.flow_io.specs.declared.last_call.LastCall.{LastCall}
 use Rattle.flow_io.specs.declared.last_call.LastCall.TheVariants.{Flush}
@@ -40,8 +41,7 @@ IsNamed names fault run = ⊥
 
 module _ {R : Type 0} where
   abbrev pub source_failed : (R → Bool) → Option (Source R) → Bool
-  source_failed failed None = false
-  source_failed failed (Some source) = failed source.reader
+  source_failed failed file = option_map_or (λ source. failed source.reader) file false
 
   abbrev pub any_failed : (R → Bool) → ByFile (Option (Source R)) → Bool
   any_failed failed files = source_failed failed files.map || (source_failed failed files.list
@@ -49,13 +49,11 @@ module _ {R : Type 0} where
 
   -- the name of a file; one that isn't there has an empty name
   abbrev pub name_in : Option (Source R) → Text
-  name_in None = []
-  name_in (Some source) = source.name.now
+  name_in file = option_map_or (λ source. source.name.now) file []
 
   -- the bytes that a reader has left, where it reports them; a file that isn't there has none
   abbrev pub bytes_of : (R → Option (List ℕ)) → Option (Source R) → Option (List ℕ)
-  bytes_of left None = Some []
-  bytes_of left (Some source) = left source.reader
+  bytes_of left file = option_map_or (λ source. left source.reader) file (Some [])
 
   -- these are the texts of the files, as far as their readers report them
   abbrev pub AreTexts : (R → Option (List ℕ)) → ByFile (Option (Source R)) → ByFile Text → Type 0

@@ -1,8 +1,18 @@
-ghost use Rattle.flowlabel.specs.Headline.{KeepsHeadline, ShrunkIsLeast};
-ghost use Rattle.flowlabel.specs.Output.{HasOneOutput};
+ghost use Rattle.std.specs.Prelude.{◌≡◌, ◌≤◌, ℕ, List, Ok, length};
+ghost use Rattle.pmap_text.specs.ListModel.{ListModel};
+ghost use Rattle.pmap_text.specs.MapModel.{MapModel};
+ghost use Rattle.pmap_text.specs.Reading.{ReadsMap, label_limit, mapping_limit};
+ghost use Rattle.pmap_cert.specs.CertificateModel.{CertificateModel};
+ghost use Rattle.pmap_print.specs.List.{labels_of};
+ghost use Rattle.flowlabel.specs.Headline.{IsHeadline, IsShortest, StandsAgain};
+ghost use Rattle.flowlabel.specs.Output.{IsOutput, Outcome, shrunk_text};
+ghost use Rattle.flowlabel.specs.Request.{Request, Shrunk, Text, shrink};
 
 use cert_check::no_fault_is_acceptance;
-use label_trie::labelling_has_its_runs;
+use flow_filter::options_hold_together;
+use flow_rows::counts_add_up;
+use flow_uniq::{groups_divide_the_rows, sorted_groups_are_in_order};
+use label_trie::{labelling_has_its_runs, runs_cover_each_address_once};
 use pmap_cert::{
     acceptance_is_enough, compact_gives_back_equal, compact_has_a_text, compact_has_no_more_lines,
     compact_keeps_acceptance, map_text_has_a_minimal_pair, map_text_has_its_labels,
@@ -16,7 +26,8 @@ use pmap_print::{
 
 /// A request has exactly one output over any texts of its files.
 pub fn one_output()
-    ensures { HasOneOutput }
+    ensures { (request : Request) → (outcome : Outcome) × IsOutput request outcome
+        × ((other : Outcome) → IsOutput request other → other ≡ outcome) }
 {
     labelling_has_its_runs();
     labelling_has_one_runs_text();
@@ -27,7 +38,10 @@ pub fn one_output()
 /// For each map text, `shrink` prints a shortest list, or its certificate. If the list is within the limits of a text,
 /// its text is read again as the same list, and `check` accepts it with the certificate, compacted or not.
 pub fn shrunk_list_is_least()
-    ensures { ShrunkIsLeast }
+    ensures { (map : Text) (m : MapModel) → ReadsMap map m → (l : ListModel) × (c : CertificateModel)
+        × ((printed : Shrunk) → IsOutput (shrink map printed) (Ok (shrunk_text printed l c)))
+        × IsShortest m l c
+        × (length l.prefixes ≤ mapping_limit → length (labels_of l.prefixes) ≤ label_limit → StandsAgain map m l c) }
 {
     map_text_has_a_minimal_pair();
     map_text_has_its_labels();
@@ -46,7 +60,7 @@ pub fn shrunk_list_is_least()
 
 /// The headline holds for each output that is a text.
 pub fn output_keeps_headline()
-    ensures { KeepsHeadline }
+    ensures { (request : Request) (out : List ℕ) → IsOutput request (Ok out) → IsHeadline request out }
 {
     one_output();
     shrunk_list_is_least();
@@ -57,4 +71,9 @@ pub fn output_keeps_headline()
     compact_has_no_more_lines();
     compact_gives_back_equal();
     compact_keeps_acceptance();
+    counts_add_up();
+    options_hold_together();
+    groups_divide_the_rows();
+    sorted_groups_are_in_order();
+    runs_cover_each_address_once();
 }

@@ -1,5 +1,7 @@
-use Rattle.std.proofs.Common.{◌≡◌, ◌∙◌, ℕ, List, Option, None, Some, Result, Ok, Err, ap, refl, subst, sym}
+use Rattle.std.proofs.Common.{◌≡◌, ◌∙◌, ◌≢◌, ℕ, Bool, true, false, true≢false, List, Option, None, Some, Result, Ok, Err, ap, refl, subst, sym}
 use Rattle.std.specs.Prelude.{length}
+use Rattle.std.specs.List.Sorted.{IsSortedBy}
+use Rattle.std.specs.Option.{ForSome}
 use Rattle.pmap_text.specs.ListModel.{ListModel}
 use Rattle.pmap_text.specs.MapModel.{MapModel}
 use Rattle.pmap_cert.specs.FormatReading.{format_reading}
@@ -9,12 +11,24 @@ use Rattle.pmap_cert.specs.CertificateModel.{CertificateModel}
 use Rattle.pmap_cert.specs.Compacting.{compact}
 use Rattle.cert_check.specs.Checking.{first_fault}
 use Rattle.cert_check.specs.declared.fault.CheckFault.{CheckFault}
-use Rattle.label_lookup.specs.Labelling.{Labelling}
+use Rattle.label_lookup.specs.Labelling.{Labelling, label_where, labelling_of_list, labelling_of_map}
 use Rattle.label_lookup.proofs.Labellings.{same_labelling}
-use Rattle.flowlabel.specs.Headline.{IsSameUnder}
-use Rattle.flowlabel.specs.Output.{BytesFault, CertificateThen, Checks, IsOutput, LabelsThen, ListThen, Outcome, Prints, PrintsCompact, PrintsMinimal, PrintsRuns, ReportsOf, Then, checked, label_text, minimal_text, report_of_groups, report_of_rows, shrunk_text}
-use Rattle.flowlabel.specs.Request.{FromList, FromMap, LabelSource, Request, Text, cat, check, label, recert, rows, shrink, uniq}
-use Rattle.flowlabel.specs.declared.bytes_fault.BytesFault.TheVariants.{Map as InMap, List as InList, Certificate as InCertificate}
+use Rattle.ipfix_read.specs.Message.{MessageView}
+use Rattle.ipfix_read.specs.Messages.{file_reading}
+use Rattle.flow_rows.specs.Counts.{counts_of, rows_of_messages}
+use Rattle.flow_rows.specs.Elements.{RowView}
+use Rattle.flow_rows.specs.Laws.{summed_counts}
+use Rattle.flow_filter.specs.Laws.{rows_left}
+use Rattle.flow_uniq.specs.Groups.{GroupModel, groups_of, is_before, shown_groups, sorted_groups}
+use Rattle.flow_uniq.specs.Laws.{DivideRows}
+use Rattle.pmap_print.specs.Reports.{info_text}
+use Rattle.pmap_print.specs.Table.{table_text}
+use Rattle.flowlabel.specs.Headline.{IsSameUnder, PrintsEachOnce, PrintsGroups}
+use Rattle.flowlabel.specs.Output.{BytesFault, Checks, IsOutput, LabelsThen, Outcome, Prints, Then, checked, label_text, minimal_text, report_of_groups, report_of_rows, shrunk_text, FlowsThen, labelled_row_lines}
+use Rattle.flowlabel.proofs.Outcomes.{CertificateThen, ListThen, PrintsCompact, PrintsMinimal, PrintsRuns, ReportsOf, passing_rows}
+use Rattle.flowlabel.specs.Reports.{ReportsThen}
+use Rattle.flowlabel.specs.Request.{FromList, FromMap, LabelSource, Request, Text, cat, check, info, label, recert, rows, shrink, uniq}
+use Rattle.flowlabel.specs.declared.bytes_fault.BytesFault.TheVariants.{Map as InMap, List as InList, Certificate as InCertificate, Flows as InFlows}
 use Rattle.flowlabel.proofs.run.laws.output_keeps_headline.Goals as goal
 
 -- a text comes of the value that a file's text is read as
@@ -48,16 +62,87 @@ same_under rest request there (FromList list) out is =
     λ m l map reads_list reads_map equivalent.
     there (FromMap map) (Ok out) (rw reads_map (subst (λ (k : Labelling). rest k (Ok out)) (same_labelling l m equivalent) (rw reads_list at is)))
 
+-- a report under the labels of a source is the same under an equivalent one
+same_report : (text : Option Labelling → List MessageView → List ℕ) (flows : Text) (request : Option LabelSource → Request)
+    → ((source : Option LabelSource) (outcome : Outcome) → ReportsThen text source flows outcome → IsOutput (request source) outcome)
+    → (source : Option LabelSource) (out : List ℕ) → ReportsThen text source flows (Ok out)
+    → ForSome source (λ given. IsSameUnder (λ other. request (Some other)) given out)
+same_report text flows request there source out is =
+    λ given same.
+    same_under (λ labels. ReportsOf text (Some labels) flows) (λ other. request (Some other)) (λ other outcome found. there (Some other) outcome found)
+    given out (subst (λ (s : Option LabelSource). ReportsThen text s flows (Ok out)) same is)
+
+-- a text that meets one condition meets another that follows for each value
+then_keep : {F A : Type 0} (in_file : F → BytesFault) (this that : A → Outcome → Type 0)
+    → ((value : A) (out : List ℕ) → this value (Ok out) → that value (Ok out))
+    → (reading : Result A F) (out : List ℕ) → Then in_file this reading (Ok out) → Then in_file that reading (Ok out)
+then_keep in_file this that keep (Ok value) out is = keep value out is
+then_keep in_file this that keep (Err fault) out is = is
+
+labels_keep : (this that : Labelling → Outcome → Type 0) → ((labels : Labelling) (out : List ℕ) → this labels (Ok out) → that labels (Ok out))
+    → (source : LabelSource) (out : List ℕ) → LabelsThen this source (Ok out) → LabelsThen that source (Ok out)
+labels_keep this that keep (FromMap text) out is =
+    then_keep InMap (λ m. this (labelling_of_map m)) (λ m. that (labelling_of_map m)) (λ m. keep (labelling_of_map m)) (map_reading text) out is
+labels_keep this that keep (FromList text) out is =
+    then_keep InList (λ l. this (labelling_of_list l)) (λ l. that (labelling_of_list l)) (λ l. keep (labelling_of_list l)) (list_reading text) out is
+
+flows_keep : (this that : Option Labelling → List MessageView → Outcome → Type 0)
+    → ((labels : Option Labelling) (messages : List MessageView) (out : List ℕ) → this labels messages (Ok out) → that labels messages (Ok out))
+    → (source : Option LabelSource) (flows out : List ℕ) → FlowsThen this source flows (Ok out) → FlowsThen that source flows (Ok out)
+flows_keep this that keep None flows out is = then_keep InFlows (this None) (that None) (keep None) (file_reading flows) out is
+flows_keep this that keep (Some source) flows out is =
+    labels_keep (λ labels. Then InFlows (this (Some labels)) (file_reading flows)) (λ labels. Then InFlows (that (Some labels)) (file_reading flows))
+    (λ labels. then_keep InFlows (this (Some labels)) (that (Some labels)) (keep (Some labels)) (file_reading flows)) source out is
+
+-- groups are in order if they are sorted
+in_order_if : (sorted : Bool) (groups : List GroupModel) → IsSortedBy is_before (sorted_groups groups) → sorted ≡ true
+    → IsSortedBy is_before (shown_groups sorted groups)
+in_order_if true groups up e = up
+in_order_if false groups up e = absurd (true≢false (sym e))
+
 pub returns : goal.returns
 returns c (label source address) out is =
     same_under (λ labels. Prints (label_text address labels)) (λ other. label other address) (λ other outcome found. found) source out is
-returns c (rows (Some source) condition columns flows) out is =
-    same_under (λ labels. ReportsOf (report_of_rows condition columns) (Some labels) flows) (λ other. rows (Some other) condition columns flows)
-    (λ other outcome found. found) source out is
-returns c (uniq fields (Some source) condition sorted columns flows) out is =
-    same_under (λ labels. ReportsOf (report_of_groups fields condition sorted columns) (Some labels) flows)
-    (λ other. uniq fields (Some other) condition sorted columns flows) (λ other outcome found. found) source out is
-returns c (cat source) out is = same_under PrintsRuns cat (λ other outcome found. found) source out is
+returns c (info flows) out is =
+    flows_keep (λ labels messages. Prints (info_text (counts_of messages))) (λ labels messages. Prints (info_text (summed_counts messages)))
+    (λ labels messages text made. made ∙ ap (λ counts. Ok (info_text counts)) (c.counts_add_up.ensures.each messages)) None flows out is
+returns c (rows source condition columns flows) out is = (
+  same_report (report_of_rows condition columns) flows (λ other. rows other condition columns flows) (λ other outcome found. found) source out is,
+  flows_keep (λ labels messages. Prints (report_of_rows condition columns labels messages))
+      (λ labels messages. Prints (table_text columns (labelled_row_lines labels (rows_left condition labels (rows_of_messages messages)))))
+      (λ labels messages text made.
+      made
+      ∙ ap (λ (shown : List RowView). Ok (table_text columns (labelled_row_lines labels shown)))
+      (c.options_hold_together.ensures.left condition labels (rows_of_messages messages)))
+      source flows out is,
+)
+returns c (uniq fields source condition sorted columns flows) out is = (
+  same_report (report_of_groups fields condition sorted columns) flows (λ other. uniq fields other condition sorted columns flows)
+      (λ other outcome found. found) source out is,
+  flows_keep (λ labels messages. Prints (report_of_groups fields condition sorted columns labels messages))
+      (λ labels messages. PrintsGroups fields sorted columns (rows_left condition labels (rows_of_messages messages)))
+      (λ labels messages text made.
+      let shown : List RowView = passing_rows condition labels messages in
+      let groups : List GroupModel = groups_of fields (label_where labels) shown in (
+        shown_groups sorted groups,
+        subst (λ (left : List RowView). DivideRows left (shown_groups sorted groups))
+            (c.options_hold_together.ensures.left condition labels (rows_of_messages messages))
+            (c.groups_divide_the_rows.ensures fields (label_where labels) sorted shown),
+        in_order_if sorted groups (c.sorted_groups_are_in_order.ensures.ascends groups),
+        made,
+      ))
+      source flows out is,
+)
+returns c (cat source) out is = (
+  same_under PrintsRuns cat (λ other outcome found. found) source out is,
+  labels_keep PrintsRuns PrintsEachOnce
+      (λ labels text (lines, runs, made). (
+        runs.runs,
+        (λ a below. c.runs_cover_each_address_once.ensures.once labels.version labels.label runs.runs runs.are a below),
+        made ∙ ap Ok runs.is,
+      ))
+      source out is,
+)
 returns c (shrink map printed) out is =
     let (m, reads, found) = printed_of InMap (PrintsMinimal printed) (map_reading map) out is in
     let (l, k, prints, short, again) = c.shrunk_list_is_least.ensures map m reads in
@@ -79,10 +164,8 @@ returns c (recert before) out is =
     (c.text_of_format_is_read_or_has_a_fault.ensures.read out (compact old)).1 (c.compact_has_a_text.ensures.text old form, same) in
     record {
       old = old;
-      new = compact old;
       reads_old = reads;
       reads_new = after;
-      compacted = refl;
       lines = c.compact_has_no_more_lines.ensures.lines old form.format;
       again = rw after (ap (λ (t : List ℕ). Ok t) (same ∙ ap certificate_text (sym (c.compact_gives_back_equal.ensures.twice old form.format))));
       checks = λ map list number told.
@@ -93,4 +176,3 @@ returns c (recert before) out is =
           c.no_fault_is_acceptance.ensures.no_fault m l (compact old) (c.compact_keeps_acceptance.ensures m l old form.format accepted) in
           rw (reads_map, reads_list, after) (ap (λ (t : List ℕ). Ok t) text ∙ sym (ap (λ (f : Option CheckFault). checked f (length l.prefixes)) kept));
     }
-returns c request out is = tt

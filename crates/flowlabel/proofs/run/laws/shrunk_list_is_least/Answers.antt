@@ -35,7 +35,7 @@ returns c map m reads =
         has_compact_text = compacted;
         compact_accepted = faultless m l (compact k) (c.compact_keeps_acceptance.ensures m l k formed.format accepted);
       },
-      λ (few, few_labels).
+      λ few few_labels.
           let (again, reads_list, accepted', count) = c.minimal_list_is_accepted_again.ensures map m l k reads pair few few_labels in
           let (other, reads_other, is_again) =
           c.printed_list_is_read_back.ensures.list l (c.minimal_list_can_be_read_again.ensures.again map m l k reads pair few few_labels) in

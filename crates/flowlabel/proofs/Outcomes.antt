@@ -1,0 +1,50 @@
+-- The outcomes over the texts of files, as proofs name them.
+use Rattle.std.specs.Prelude.{List, ℕ, Option}
+use Rattle.pmap_text.specs.ListModel.{ListModel}
+use Rattle.pmap_text.specs.MapModel.{MapModel}
+use Rattle.pmap_text.specs.Reading.{list_reading, map_reading}
+use Rattle.pmap_cert.specs.Acceptance.{IsMinimalPair}
+use Rattle.pmap_cert.specs.CertificateText.{certificate_text}
+use Rattle.pmap_cert.specs.CertificateModel.{CertificateModel}
+use Rattle.pmap_cert.specs.Compacting.{compact}
+use Rattle.pmap_cert.specs.FormatReading.{format_reading}
+use Rattle.ipfix_read.specs.Messages.{file_reading}
+use Rattle.ipfix_read.specs.Message.{MessageView}
+use Rattle.flow_rows.specs.Counts.{rows_of_messages}
+use Rattle.flow_rows.specs.Elements.{RowView}
+use Rattle.flow_filter.specs.Condition.{Condition, passing}
+use Rattle.pmap_print.specs.Runs.{IsRunsText}
+use Rattle.label_lookup.specs.Labelling.{Labelling}
+use Rattle.flowlabel.specs.declared.bytes_fault.BytesFault.TheVariants.{Map as InMap, List as InList, Flows as InFlows, Certificate as InCertificate}
+use Rattle.flowlabel.specs.Output.{Outcome, Prints, Then, shrunk_text}
+use Rattle.flowlabel.specs.Request.{Shrunk, Text}
+
+abbrev pub MapThen : (MapModel → Outcome → Type 0) → List ℕ → Outcome → Type 0
+MapThen rest text = Then InMap rest (map_reading text)
+
+abbrev pub ListThen : (ListModel → Outcome → Type 0) → List ℕ → Outcome → Type 0
+ListThen rest text = Then InList rest (list_reading text)
+
+abbrev pub CertificateThen : (CertificateModel → Outcome → Type 0) → List ℕ → Outcome → Type 0
+CertificateThen rest text = Then InCertificate rest (format_reading text)
+
+-- the outcome is the text of the certificate, compacted
+abbrev pub PrintsCompact : CertificateModel → Outcome → Type 0
+PrintsCompact c = Prints (certificate_text (compact c))
+
+-- the report on a File under a labelling or without one
+abbrev pub ReportsOf : (Option Labelling → List MessageView → List ℕ) → Option Labelling → List ℕ → Outcome → Type 0
+ReportsOf text labels bytes = Then InFlows (λ messages. Prints (text labels messages)) (file_reading bytes)
+
+-- the outcome is the text of the runs of a labelling
+abbrev pub PrintsRuns : Labelling → Outcome → Type 0
+PrintsRuns labels outcome = (text : Text) × IsRunsText labels.version labels.label text × Prints text outcome
+
+-- the outcome is the text of the list of the map's minimal pair, or of its certificate, compacted or not
+abbrev pub PrintsMinimal : Shrunk → MapModel → Outcome → Type 0
+PrintsMinimal printed m outcome =
+    (l : ListModel) × (c : CertificateModel) × IsMinimalPair m l c × Prints (shrunk_text printed l c) outcome
+
+-- the rows of messages that meet a condition
+abbrev pub passing_rows : Condition → Option Labelling → List MessageView → List RowView
+passing_rows condition labels messages = passing condition labels (rows_of_messages messages)
