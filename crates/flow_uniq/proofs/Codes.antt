@@ -1,10 +1,11 @@
 -- The numbers of parts distinguish them, and so do their codes.
-use Rattle.std.proofs.Common.{◌≡◌, ◌==◌, List, [], ◌∷◌, get_or, Some, None, if◌then◌else◌, refl, sym, ap, ◌∙◌, ℕ}
+use Rattle.std.proofs.Common.{◌≡◌, ◌==◌, Bool, List, [], ◌∷◌, get_or, Some, None, if◌then◌else◌, refl, sym, ap, ◌∙◌, ℕ}
 use Rattle.std.proofs.lemmas.Bool.Decides.{Decides-like, same_from_decides}
 use Rattle.std.proofs.lemmas.Slice.Eq.{bytes_eq-Decides, slice_eq-Decides}
 use Rattle.std.specs.Bool.{Decides}
+use Rattle.std.specs.Str.{bytes_eq}
 use Rattle.prefix_keys.specs.declared.version.Version.TheVariants.{V4, V6}
-use Rattle.flow_uniq.specs.Key.{Key, KeyPartModel, AddressPart, NumberPart, LabelPart, part_numbers, same_key, same_part}
+use Rattle.flow_uniq.specs.Key.{Key, KeyPartModel, AddressPart, NumberPart, LabelPart, part_numbers, same_key}
 use Rattle.flow_uniq.specs.Inner.{AreSmall, key_code, same_code}
 use Rattle.flow_uniq.proofs.Cutting.{same_from_codes}
 
@@ -23,6 +24,10 @@ part_with-numbers (AddressPart (V6, value)) = refl
 part_with-numbers (NumberPart number) = refl
 part_with-numbers (LabelPart None) = refl
 part_with-numbers (LabelPart (Some text)) = refl
+
+-- whether the parts are equal
+abbrev same_part : KeyPartModel → KeyPartModel → Bool
+same_part p q = bytes_eq (part_numbers p) (part_numbers q)
 
 same_part-Decides : (p q : KeyPartModel) → Decides (same_part p q) (p ≡ q)
 same_part-Decides p q =

@@ -11,8 +11,8 @@ use Rattle.std.proofs.lemmas.Map.Keys.{IsDistinct-head, IsDistinct-tail}
 use Rattle.std.proofs.lemmas.Simd.{map-map}
 use Rattle.flow_rows.specs.Elements.{RowView}
 use Rattle.flow_uniq.specs.Key.{Key, same_key}
-use Rattle.flow_uniq.specs.Groups.{GroupModel, KeyedRow, distinct_keys, groups_of_keyed, in_order, rows_with, totals_of, with_in_order}
-use Rattle.flow_uniq.proofs.Grouping.{same_key-equiv, stands-distinct}
+use Rattle.flow_uniq.specs.Groups.{GroupModel, KeyedRow, distinct_keys, groups_of_keyed, in_order, totals_of, with_in_order}
+use Rattle.flow_uniq.proofs.Grouping.{rows_with, same_key-equiv, stands-distinct}
 
 -- The keys of groups are distinct.
 

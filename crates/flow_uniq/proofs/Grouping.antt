@@ -1,5 +1,5 @@
 -- The groups of some rows followed by one more.
-use Rattle.std.proofs.Common.{◌≡◌, Bool, true, false, not, ◌||◌, cond, if◌then◌else◌, List, [], ◌∷◌, ◌++◌, map, filter, true≢false, refl, sym, ap, ◌∙◌}
+use Rattle.std.proofs.Common.{◌≡◌, Bool, true, false, not, ◌||◌, cond, if◌then◌else◌, Option, List, [], ◌∷◌, ◌++◌, map, filter, true≢false, refl, sym, ap, ◌∙◌}
 use Rattle.std.proofs.lemmas.Cmp.{lists_equiv, nat_list_eq_equiv, on_equiv}
 use Rattle.std.proofs.lemmas.List.{append-nil, length_push, map-append, map_push}
 use Rattle.std.proofs.lemmas.List.Elements.{filter-append}
@@ -8,14 +8,23 @@ use Rattle.std.proofs.lemmas.Map.Views.{any-filter_same}
 use Rattle.std.proofs.lemmas.Simd.{map-map}
 use Rattle.std.specs.Cmp.{IsEquivalence}
 use Rattle.std.specs.List.{list_any}
+use Rattle.prefix_keys.specs.Text.{AddressOf}
+use Rattle.pmap_text.specs.MapModel.{Label}
 use Rattle.pmap_text.proofs.LabelTexts.{list_any-map}
 use Rattle.flow_rows.specs.Elements.{RowView}
-use Rattle.flow_uniq.specs.Key.{Key, part_numbers, same_key}
-use Rattle.flow_uniq.specs.Groups.{Totals, GroupModel, KeyedRow, distinct_keys, groups_of_keyed, rows_with, totals_of}
+use Rattle.flow_uniq.specs.Key.{Key, KeyField, key_of, part_numbers, same_key}
+use Rattle.flow_uniq.specs.Groups.{Totals, GroupModel, KeyedRow, distinct_keys, groups_of_keyed, totals_of}
 use Rattle.flow_uniq.specs.Inner.{none, with_row}
 
 pub same_key-equiv : IsEquivalence same_key
 same_key-equiv = lists_equiv (on_equiv part_numbers nat_list_eq_equiv)
+
+-- the rows with this key, and rows with their keys by these fields
+abbrev pub rows_with : Key → List KeyedRow → List KeyedRow
+rows_with key rows = filter (λ r. same_key key r.0) rows
+
+abbrev pub keyed : List KeyField → (AddressOf → Option Label) → List RowView → List KeyedRow
+keyed fields label rows = map (λ row. (key_of label fields row, row)) rows
 
 -- the group of a new key, a group with one more row if it is of its key, and groups with one more row
 abbrev pub fresh : Key → RowView → GroupModel

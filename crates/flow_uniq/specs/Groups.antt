@@ -5,7 +5,7 @@ use Rattle.std.specs.declared.cmp.Ordering.{Ordering}
 use Rattle.prefix_keys.specs.Text.{AddressOf}
 use Rattle.pmap_text.specs.MapModel.{Label}
 use Rattle.flow_rows.specs.Elements.{RowView}
-use Rattle.flow_uniq.specs.Key.{KeyField, Key, key_of, same_key, KeyPartModel, part_numbers}
+use Rattle.flow_uniq.specs.Key.{KeyField, Key, key_of, same_key, part_numbers}
 pub use Rattle.flow_uniq.specs.declared.totals.Totals.{Totals}
 
 -- The groups of rows by their keys, and their totals.
@@ -25,34 +25,27 @@ abbrev pub KeyedRow : Type 0
 KeyedRow = Key × RowView
 
 -- the number of rows, and the sums of their packets and octets
-abbrev pub totals_of : List KeyedRow → Totals
+abbrev pub totals_of : List (Key × RowView) → Totals
 totals_of rows = record {
   records = length rows;
   packets = sum_by (λ r. r.1.packets) rows;
   octets = sum_by (λ r. r.1.octets) rows;
 }
 
--- the rows with this key
-abbrev pub rows_with : Key → List KeyedRow → List KeyedRow
-rows_with key rows = filter (λ r. same_key key r.0) rows
-
 -- each key once, in the order of the first occurrences
 abbrev pub distinct_keys : List Key → List Key
 distinct_keys [] = []
 distinct_keys (key ∷ keys) = key ∷ filter (λ other. not (same_key key other)) (distinct_keys keys)
 
--- the groups of rows: their keys in the order of the first rows with them, each with the totals of all its rows
-abbrev pub groups_of_keyed : List KeyedRow → List GroupModel
+-- the groups of rows with these keys: the keys in the order of the first rows with them, each with the totals of all
+-- rows with the same key
+abbrev pub groups_of_keyed : List (Key × RowView) → List GroupModel
 groups_of_keyed rows =
-    map (λ key. record { key = key; totals = totals_of (rows_with key rows) }) (distinct_keys (map (λ r. r.0) rows))
+    map (λ key. record { key = key; totals = totals_of (filter (λ r. same_key key r.0) rows) }) (distinct_keys (map (λ r. r.0) rows))
 
--- the rows with their keys by these fields, if each address has this label
-abbrev pub keyed : List KeyField → (AddressOf → Option Label) → List RowView → List KeyedRow
-keyed fields label rows = map (λ row. (key_of label fields row, row)) rows
-
--- the groups of rows by these fields
+-- the groups of rows by these fields, if each address has this label
 abbrev pub groups_of : List KeyField → (AddressOf → Option Label) → List RowView → List GroupModel
-groups_of fields label rows = groups_of_keyed (keyed fields label rows)
+groups_of fields label rows = groups_of_keyed (map (λ row. (key_of label fields row, row)) rows)
 
 -- the number of rows in all groups
 abbrev pub record_count : List GroupModel → ℕ
@@ -65,13 +58,9 @@ pub record AreOfNoRows (asked : List KeyField) (g : GroupsModel) : Type 0 where
 
 -- The order of groups, and groups in this order.
 
--- parts compare by their numbers
-abbrev pub part_order : KeyPartModel → KeyPartModel → Ordering
-part_order p q = slice_cmp nat_cmp (part_numbers p) (part_numbers q)
-
--- keys compare by their parts from the left
+-- keys compare by their parts from the left, and parts by their numbers
 abbrev pub key_order : Key → Key → Ordering
-key_order a b = slice_cmp part_order a b
+key_order a b = slice_cmp (λ p q. slice_cmp nat_cmp (part_numbers p) (part_numbers q)) a b
 
 module _ {X : Type 0} (is_less : X → X → Bool) where
   -- the list with x before the first element that isn't less than it

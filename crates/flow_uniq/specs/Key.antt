@@ -116,9 +116,6 @@ part_numbers (AddressPart address) = 0 ∷ version_number address.0 ∷ address.
 part_numbers (NumberPart number) = 1 ∷ number ∷ []
 part_numbers (LabelPart label) = 2 ∷ label_numbers label
 
--- whether the parts are equal, and whether the keys are
-abbrev pub same_part : KeyPartModel → KeyPartModel → Bool
-same_part p q = bytes_eq (part_numbers p) (part_numbers q)
-
+-- whether the keys have equal parts
 abbrev pub same_key : Key → Key → Bool
-same_key a b = pointwise same_part a b
+same_key a b = pointwise (λ p q. bytes_eq (part_numbers p) (part_numbers q)) a b

@@ -2,9 +2,9 @@
 ghost use Rattle.std.specs.Prelude.{◌≡◌, option_copied};
 ghost use Rattle.std.specs.Cmp.Lexicographic.{slice_cmp};
 ghost use Rattle.std.specs.Ordering.{nat_cmp};
-ghost use Rattle.flow_uniq.specs.Key.{AddressPart, label_numbers};
+ghost use Rattle.flow_uniq.specs.Key.{AddressPart, label_numbers, part_numbers};
 ghost use Rattle.flow_uniq.specs.Inner.{key_model, part_model};
-ghost use Rattle.flow_uniq.specs.Groups.{key_order, part_order};
+ghost use Rattle.flow_uniq.specs.Groups.{key_order};
 
 use crate::codec::{Key, KeyPart};
 use prefix_keys::{Addr, Version};
@@ -24,7 +24,7 @@ fn compare_labels(a: Option<&[u8]>, b: Option<&[u8]>) -> Ordering
 
 // Compares two addresses: those of IPv4 are before those of IPv6, and addresses of one version compare by value.
 fn compare_addresses(a: Addr, b: Addr) -> Ordering
-    ensures { result ≡ part_order (AddressPart (a.version, a.value)) (AddressPart (b.version, b.value)) }
+    ensures { result ≡ slice_cmp nat_cmp (part_numbers (AddressPart (a.version, a.value))) (part_numbers (AddressPart (b.version, b.value))) }
 {
     match (a.version, b.version) {
         (Version::V4, Version::V6) => Ordering::Less,
@@ -36,7 +36,7 @@ fn compare_addresses(a: Addr, b: Addr) -> Ordering
 
 // Compares two parts: addresses are before numbers, and numbers before labels.
 fn compare_parts(a: KeyPart<'_>, b: KeyPart<'_>) -> Ordering
-    ensures { result ≡ part_order (part_model a.entry) (part_model b.entry) }
+    ensures { result ≡ slice_cmp nat_cmp (part_numbers (part_model a.entry)) (part_numbers (part_model b.entry)) }
 {
     match (a, b) {
         (KeyPart::Address(a), KeyPart::Address(b)) => compare_addresses(a, b),

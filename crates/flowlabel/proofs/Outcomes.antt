@@ -1,5 +1,5 @@
 -- The outcomes over the texts of files, as proofs name them.
-use Rattle.std.specs.Prelude.{List, ℕ, Option}
+use Rattle.std.specs.Prelude.{Bool, List, ℕ, Option}
 use Rattle.pmap_text.specs.ListModel.{ListModel}
 use Rattle.pmap_text.specs.MapModel.{MapModel}
 use Rattle.pmap_text.specs.Reading.{list_reading, map_reading}
@@ -13,10 +13,14 @@ use Rattle.ipfix_read.specs.Message.{MessageView}
 use Rattle.flow_rows.specs.Counts.{rows_of_messages}
 use Rattle.flow_rows.specs.Elements.{RowView}
 use Rattle.flow_filter.specs.Condition.{Condition, passing}
+use Rattle.flow_uniq.specs.declared.field.KeyField.{KeyField}
+use Rattle.flow_uniq.specs.Groups.{groups_of, shown_groups}
+use Rattle.pmap_print.specs.Reports.{groups_text}
 use Rattle.pmap_print.specs.Runs.{IsRunsText}
-use Rattle.label_lookup.specs.Labelling.{Labelling}
+use Rattle.pmap_print.specs.Table.{table_text}
+use Rattle.label_lookup.specs.Labelling.{Labelling, label_where}
 use Rattle.flowlabel.specs.declared.bytes_fault.BytesFault.TheVariants.{Map as InMap, List as InList, Flows as InFlows, Certificate as InCertificate}
-use Rattle.flowlabel.specs.Output.{Outcome, Prints, Then, shrunk_text}
+use Rattle.flowlabel.specs.Output.{Outcome, Prints, Then, labelled_row_lines, shrunk_text}
 use Rattle.flowlabel.specs.Request.{Shrunk, Text}
 
 abbrev pub MapThen : (MapModel → Outcome → Type 0) → List ℕ → Outcome → Type 0
@@ -48,3 +52,13 @@ PrintsMinimal printed m outcome =
 -- the rows of messages that meet a condition
 abbrev pub passing_rows : Condition → Option Labelling → List MessageView → List RowView
 passing_rows condition labels messages = passing condition labels (rows_of_messages messages)
+
+-- the text of the rows that meet a condition
+abbrev pub report_of_rows : Condition → Bool → Option Labelling → List MessageView → List ℕ
+report_of_rows condition columns labels messages = table_text columns (labelled_row_lines labels (passing condition labels (rows_of_messages messages)))
+
+-- the text of the groups, by fields, of the rows that meet a condition
+abbrev pub report_of_groups : List KeyField → Condition → Bool → Bool → Option Labelling → List MessageView → List ℕ
+report_of_groups fields condition sorted columns labels messages =
+    let groups = groups_of fields (label_where labels) (passing condition labels (rows_of_messages messages)) in
+    groups_text fields (shown_groups sorted groups) columns

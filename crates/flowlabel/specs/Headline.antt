@@ -3,7 +3,7 @@ use Rattle.std.specs.List.Sorted.{IsSortedBy}
 use Rattle.std.specs.Option.{ForSome}
 use Rattle.prefix_keys.specs.Block.{width_of}
 use Rattle.pmap_text.specs.ListModel.{IsEquivalent, ListModel}
-use Rattle.pmap_text.specs.MapModel.{MapModel}
+use Rattle.pmap_text.specs.MapModel.{Label, MapModel}
 use Rattle.pmap_text.specs.Reading.{ReadsList, ReadsMap}
 use Rattle.pmap_cert.specs.Acceptance.{IsLeast, IsInOrder}
 use Rattle.pmap_cert.specs.CertificateText.{certificate_text}
@@ -93,15 +93,10 @@ IsHeadline (check map list certificate) out = (m : MapModel) × (l : ListModel) 
     × IsEquivalent l m × IsLeast m l × (out ≡ minimal_text (length l.prefixes))
 IsHeadline (recert certificate) out = IsAsGood certificate out
 
--- The printed text of a list is read again as a list of the same version, name and entries, which labels every address
--- as the map does. Over the map's text, this text and the printed certificate, compacted or not, `check` prints the
--- number of the list's entries.
-pub record StandsAgain (map : Text) (m : MapModel) (l : ListModel) (c : CertificateModel) : Type 0 where
-  pub again : ListModel
-  pub reads : ReadsList (list_text l) again
-  pub version : again.version ≡ l.version
-  pub name : again.name ≡ l.name
-  pub prefixes : again.prefixes ≡ l.prefixes
-  pub equivalent : IsEquivalent again m
+-- The printed text of a list is read again as this list, with a label table of its own. Over the map's text, this text
+-- and the printed certificate, compacted or not, `check` prints the number of the list's entries.
+pub record StandsAgain (map : Text) (l : ListModel) (c : CertificateModel) : Type 0 where
+  pub table : List Label
+  pub reads : ReadsList (list_text l) (record l { table = table })
   pub checks : (printed : Text) → (printed ≡ certificate_text c) ⊎ (printed ≡ certificate_text (compact c))
       → IsOutput (check map (list_text l) printed) (Ok (minimal_text (length l.prefixes)))

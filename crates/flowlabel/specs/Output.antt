@@ -75,16 +75,6 @@ row_labels l row = (label_by l (row.version, row.src), label_by l (row.version, 
 abbrev pub labelled_row_lines : Option Labelling → List RowView → List Line
 labelled_row_lines labels shown = row_lines shown (option_map (λ l. map (row_labels l) shown) labels)
 
--- the text of the rows that meet a condition
-abbrev pub report_of_rows : Condition → Bool → Option Labelling → List MessageView → List ℕ
-report_of_rows condition columns labels messages = table_text columns (labelled_row_lines labels (passing condition labels (rows_of_messages messages)))
-
--- the text of the groups, by fields, of the rows that meet a condition
-abbrev pub report_of_groups : List KeyField → Condition → Bool → Bool → Option Labelling → List MessageView → List ℕ
-report_of_groups fields condition sorted columns labels messages =
-    let groups = groups_of fields (label_where labels) (passing condition labels (rows_of_messages messages)) in
-    groups_text fields (shown_groups sorted groups) columns
-
 -- `minimal N`, the number of a shortest list's entries
 abbrev pub minimal_text : ℕ → List ℕ
 minimal_text count = codes "minimal " ++ decimal count ++ codes "\n"
@@ -101,9 +91,11 @@ Checks m l c outcome = outcome ≡ checked (first_fault m l c) (length l.prefixe
 abbrev pub IsOutput : Request → Outcome → Type 0
 IsOutput (label source address) = LabelsThen (λ labels. Prints (label_text address labels)) source
 IsOutput (info flows) = FlowsThen (λ labels messages. Prints (info_text (counts_of messages))) None flows
-IsOutput (rows source condition columns flows) = FlowsThen (λ labels messages. Prints (report_of_rows condition columns labels messages)) source flows
+IsOutput (rows source condition columns flows) =
+    FlowsThen (λ labels messages. Prints (table_text columns (labelled_row_lines labels (passing condition labels (rows_of_messages messages))))) source flows
 IsOutput (uniq fields source condition sorted columns flows) =
-    FlowsThen (λ labels messages. Prints (report_of_groups fields condition sorted columns labels messages)) source flows
+    FlowsThen (λ labels messages. let groups = groups_of fields (label_where labels) (passing condition labels (rows_of_messages messages)) in
+    Prints (groups_text fields (shown_groups sorted groups) columns)) source flows
 IsOutput (cat source) = LabelsThen (λ labels outcome. (text : Text) × IsRunsText labels.version labels.label text × Prints text outcome) source
 IsOutput (shrink map printed) = Then InMap (λ m outcome. (l : ListModel) × (c : CertificateModel) × IsMinimalPair m l c
     × Prints (shrunk_text printed l c) outcome) (map_reading map)

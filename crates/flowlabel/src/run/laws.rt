@@ -41,7 +41,7 @@ pub fn shrunk_list_is_least()
     ensures { (map : Text) (m : MapModel) → ReadsMap map m → (l : ListModel) × (c : CertificateModel)
         × ((printed : Shrunk) → IsOutput (shrink map printed) (Ok (shrunk_text printed l c)))
         × IsShortest m l c
-        × (length l.prefixes ≤ mapping_limit → length (labels_of l.prefixes) ≤ label_limit → StandsAgain map m l c) }
+        × (length l.prefixes ≤ mapping_limit → length (labels_of l.prefixes) ≤ label_limit → StandsAgain map l c) }
 {
     map_text_has_a_minimal_pair();
     map_text_has_its_labels();

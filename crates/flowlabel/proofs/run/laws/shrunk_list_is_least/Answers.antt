@@ -6,7 +6,8 @@ use Rattle.pmap_cert.specs.CertificateModel.{CertificateModel}
 use Rattle.pmap_cert.specs.Compacting.{compact}
 use Rattle.cert_check.specs.Checking.{first_fault}
 use Rattle.cert_check.specs.declared.fault.CheckFault.{CheckFault}
-use Rattle.pmap_print.specs.List.{IsListAgain}
+use Rattle.pmap_text.specs.Reading.{ReadsList}
+use Rattle.pmap_print.specs.List.{IsListAgain, list_text}
 use Rattle.pmap_cert.specs.FormatReading.{format_reading}
 use Rattle.flowlabel.specs.Output.{checked, minimal_text}
 use Rattle.flowlabel.proofs.run.laws.shrunk_list_is_least.Goals as goal
@@ -42,12 +43,14 @@ returns c map m reads =
           let one : other ≡ again = cc in
           let is : IsListAgain l again = subst (λ (x : ListModel). IsListAgain l x) one is_again in
           record {
-            again = again;
-            reads = reads_list;
-            version = is.version;
-            name = is.name;
-            prefixes = is.prefixes ∙ c.printed_order_is_one.ensures.kept l.prefixes order;
-            equivalent = c.acceptance_is_enough.ensures.equivalent m again k accepted';
+            table = again.table;
+            reads = subst (λ (x : ListModel). ReadsList (list_text l) x)
+                (λ i. record {
+                  version = is.version i;
+                  name = is.name i;
+                  prefixes = (is.prefixes ∙ c.printed_order_is_one.ensures.kept l.prefixes order) i;
+                  table = again.table;
+                }) reads_list;
             checks = λ printed either.
                 let (x, reads', accepts) : (x : CertificateModel) × (format_reading printed ≡ Ok x) × IsAccepted m again x = elim either [
                   | inl plain ↦ (k, (read printed k).1 (formed, plain), accepted')

@@ -5,8 +5,8 @@ use Rattle.label_lookup.specs.Labelling.{Labelling}
 use Rattle.pmap_print.specs.Reports.{column_count, title_line}
 use Rattle.pmap_print.specs.Table.{IsTable, Line, table_text}
 use Rattle.flowlabel.specs.declared.by_file.Role.TheVariants as role
-use Rattle.flowlabel.specs.Output.{IsOutput, labelled_row_lines, report_of_rows}
-use Rattle.flowlabel.proofs.Outcomes.{passing_rows}
+use Rattle.flowlabel.specs.Output.{IsOutput, labelled_row_lines}
+use Rattle.flowlabel.proofs.Outcomes.{passing_rows, report_of_rows}
 use Rattle.flowlabel.specs.Reports.{HasRows, IsAfter, IsMade, labelling_found, labelling_read}
 use Rattle.flowlabel.specs.Request.{rows, source_of, with_texts}
 use Rattle.flowlabel.proofs.MadeLemmas.{found_is, handed_on, memory_made, one_tells, report_done, report_fault}

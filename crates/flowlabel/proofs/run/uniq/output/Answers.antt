@@ -5,7 +5,8 @@ use Rattle.flow_uniq.specs.Groups.{record_count, shown_groups}
 use Rattle.label_lookup.specs.Labelling.{Labelling}
 use Rattle.pmap_print.specs.Reports.{groups_text}
 use Rattle.flowlabel.specs.declared.by_file.Role.TheVariants as role
-use Rattle.flowlabel.specs.Output.{IsOutput, report_of_groups}
+use Rattle.flowlabel.specs.Output.{IsOutput}
+use Rattle.flowlabel.proofs.Outcomes.{report_of_groups}
 use Rattle.flowlabel.specs.Reports.{HasGroups, IsAfter, IsMade, labelling_found, labelling_read}
 use Rattle.flowlabel.specs.Request.{source_of, uniq, with_texts}
 use Rattle.flowlabel.proofs.MadeLemmas.{found_is, handed_on, memory_made, one_tells, report_done, report_fault}

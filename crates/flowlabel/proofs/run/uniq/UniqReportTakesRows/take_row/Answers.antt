@@ -3,7 +3,8 @@ use Rattle.std.proofs.lemmas.List.{map-append}
 use Rattle.std.proofs.lemmas.Result.{IfOk-weaker}
 use Rattle.flow_rows.specs.Elements.{RowView}
 use Rattle.flow_filter.specs.Condition.{Condition, passing}
-use Rattle.flow_uniq.specs.Groups.{KeyedRow, groups_of, groups_of_keyed, keyed}
+use Rattle.flow_uniq.specs.Groups.{KeyedRow, groups_of, groups_of_keyed}
+use Rattle.flow_uniq.proofs.Grouping.{keyed}
 use Rattle.flow_uniq.specs.Key.{key_of}
 use Rattle.flow_uniq.specs.declared.field.KeyField.{KeyField}
 use Rattle.label_lookup.specs.Labelling.{Labelling, label_where}
