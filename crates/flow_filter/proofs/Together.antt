@@ -3,7 +3,7 @@ use Rattle.std.proofs.Common.{◌≡◌, ◌∙◌, ◌&&◌, ◌++◌, Bool, tr
 use Rattle.std.proofs.lemmas.List.Folds.{list_all-append}
 use Rattle.label_lookup.specs.Labelling.{Labelling, label_where}
 use Rattle.flow_rows.specs.Elements.{RowView}
-use Rattle.flow_filter.specs.Condition.{Condition, Part, meets, passes, passing}
+use Rattle.flow_filter.specs.Condition.{Condition, Part, meets, passing, row_passes}
 use Rattle.flow_filter.specs.Laws.{rows_left}
 
 module _ (one other : Condition) (labels : Option Labelling) where
@@ -12,12 +12,12 @@ module _ (one other : Condition) (labels : Option Labelling) where
   passing-together (row ∷ rows) =
       ap (λ b. cond b (row ∷ passing (one ++ other) labels rows) (passing (one ++ other) labels rows))
       (list_all-append (meets (label_where labels) row) one other)
-      ∙ by (passes one labels row) (passing-together rows)
+      ∙ by (row_passes one (label_where labels) row) (passing-together rows)
     where
       by : (b : Bool) → passing (one ++ other) labels rows ≡ passing other labels (passing one labels rows)
-          → cond (b && passes other labels row) (row ∷ passing (one ++ other) labels rows) (passing (one ++ other) labels rows)
+          → cond (b && row_passes other (label_where labels) row) (row ∷ passing (one ++ other) labels rows) (passing (one ++ other) labels rows)
           ≡ passing other labels (cond b (row ∷ passing one labels rows) (passing one labels rows))
-      by true ih = ap (λ (l : List RowView). cond (passes other labels row) (row ∷ l) l) ih
+      by true ih = ap (λ (l : List RowView). cond (row_passes other (label_where labels) row) (row ∷ l) l) ih
       by false ih = ih
 
 module _ (labels : Option Labelling) where

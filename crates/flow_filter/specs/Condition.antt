@@ -1,6 +1,6 @@
 use Rattle.std.specs.Prelude.{ℕ, ◌-◌, ◌^◌, ◌==◌, Bool, true, false, List, [], ◌∷◌, ◌++◌, Option, Some, None, Result, Ok, Err, ◌&&◌, nat_le, ◌||◌, filter, find, if◌then◌else◌, is_none, map, option_map}
 use Rattle.std.specs.List.{list_all, list_any, slice_split}
-use Rattle.std.specs.Option.{option_to_list}
+use Rattle.std.specs.Option.{option_map_or, option_to_list}
 use Rattle.std.specs.Str.{bytes_eq}
 use Rattle.prefix_keys.specs.Block.{block_number, width_of}
 use Rattle.prefix_keys.specs.Conversion.{converted}
@@ -16,13 +16,10 @@ pub use Rattle.flow_filter.specs.declared.range.Range.{Range}
 -- The rows that meet the options of a filter.
 
 -- the block covers the address after conversion to the block's version
-abbrev pub covers_place : BlockOf → Option AddressOf → Bool
-covers_place (version, value, len) None = false
-covers_place (version, value, len) (Some (v, place)) =
-    block_number (width_of version) len place == block_number (width_of version) len value
-
 abbrev pub covers : BlockOf → AddressOf → Bool
-covers block address = covers_place block (converted block.0 address)
+covers (version, value, len) address =
+    let block = block_number (width_of version) len in
+    option_map_or (λ place. block place.1 == block value) (converted version address) false
 
 -- the number is between the range's low end and its high end, both included
 abbrev pub in_range : ℕ → Range → Bool
@@ -30,8 +27,7 @@ in_range n r = nat_le r.low n && nat_le n r.high
 
 -- the label exists and is this one
 abbrev pub is_this_label : List ℕ → Option (List ℕ) → Bool
-is_this_label label None = false
-is_this_label label (Some found) = bytes_eq found label
+is_this_label label found = option_map_or (λ text. bytes_eq text label) found false
 
 -- a test of a row, by the labels of its addresses
 abbrev pub RowTest : Type 0
@@ -79,13 +75,9 @@ tests_of (o, text) = each_some (map (item_test o) (items_of o text))
 abbrev pub is_malformed : Part → Bool
 is_malformed part = is_none (tests_of part)
 
--- the row meets one of the tests
-abbrev pub meets_one : (AddressOf → Option (List ℕ)) → RowView → Option (List RowTest) → Bool
-meets_one label row None = false
-meets_one label row (Some tests) = list_any (λ test. test label row) tests
-
+-- the row meets one of the tests of an option that is given
 abbrev pub meets : (AddressOf → Option (List ℕ)) → RowView → Part → Bool
-meets label row part = meets_one label row (tests_of part)
+meets label row part = option_map_or (list_any (λ test. test label row)) (tests_of part) false
 
 -- A condition: the options that are given.
 
@@ -100,13 +92,9 @@ row_passes condition label row = list_all (meets label row) condition
 abbrev pub needs_map : Condition → Bool
 needs_map condition = list_any (λ part. is_on_labels part.0) condition
 
--- the row meets a condition under a labelling, or without one
-abbrev pub passes : Condition → Option Labelling → RowView → Bool
-passes condition labels row = row_passes condition (label_where labels) row
-
--- the rows that meet the condition
+-- the rows that meet the condition, under a labelling or without one
 abbrev pub passing : Condition → Option Labelling → List RowView → List RowView
-passing condition labels all = filter (passes condition labels) all
+passing condition labels all = filter (row_passes condition (label_where labels)) all
 
 -- the options that have a text, with their texts
 abbrev pub given : List (Option (List ℕ)) → List FilterOption → Condition

@@ -1,5 +1,6 @@
 use Rattle.std.specs.Prelude.{ℕ, suc, ◌&&◌, ◌==◌, Bool, List, [], ◌∷◌, Option, Some, None, length, nat_le, option_and_then, option_map, if◌then◌else◌}
 use Rattle.std.specs.List.{after_first, before_first, list_all, list_any}
+use Rattle.std.specs.Option.{option_map_or}
 use Rattle.std.specs.Result.{result_ok}
 use Rattle.prefix_keys.specs.Text.{AddressOf, BlockOf, address_of, block_of_text, decimal_value, is_digit}
 use Rattle.prefix_keys.specs.Block.{width_of}
@@ -37,16 +38,12 @@ range_between _ _ = None
 abbrev pub upper_end : Bool → ℕ → List ℕ → Option ℕ
 upper_end may_be_open limit text = if may_be_open && length text == 0 then Some limit else bounded_number limit text
 
--- the upper end of a range; without a `-` it is the lower end
-abbrev pub end_or : Bool → ℕ → Option ℕ → Option (List ℕ) → Option ℕ
-end_or may_be_open limit low None = low
-end_or may_be_open limit low (Some text) = upper_end may_be_open limit text
-
--- the numbers of a text `N` or `N-M`, or `N-` if the range may be open: all from N to the limit
+-- the numbers of a text `N` or `N-M`, or `N-` if the range may be open: all from N to the limit; without a `-` the upper
+-- end is the lower end
 abbrev pub number_range : Bool → ℕ → List ℕ → Option Range
 number_range may_be_open limit text =
     let low = bounded_number limit (before_first (λ b. b == 45) text) in
-    range_between low (end_or may_be_open limit low (after_byte 45 text))
+    range_between low (option_map_or (upper_end may_be_open limit) (after_byte 45 text) low)
 
 -- the block of one address
 abbrev pub single : AddressOf → BlockOf

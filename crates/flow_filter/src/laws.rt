@@ -2,16 +2,17 @@
 ghost use Rattle.std.specs.Prelude.{◌≡◌, ◌++◌, All, IsTrue, List, Option};
 ghost use Rattle.label_lookup.specs.Labelling.{Labelling, label_where};
 ghost use Rattle.flow_rows.specs.Elements.{RowView};
-ghost use Rattle.flow_filter.specs.Condition.{Condition, meets, passes, passing};
+ghost use Rattle.flow_filter.specs.Condition.{Condition, meets, passing, row_passes};
 ghost use Rattle.flow_filter.specs.Laws.{rows_left};
 
 /// A row passes if and only if it meets each option given. The rows that pass the options of two filters together are
 /// those that pass one filter and then the other.
 pub fn options_hold_together()
     ensures each { (condition : Condition) (labels : Option Labelling) (row : RowView) →
-        IsTrue (passes condition labels row) → All (λ part. IsTrue (meets (label_where labels) row part)) condition }
+        IsTrue (row_passes condition (label_where labels) row) → All (λ part. IsTrue (meets (label_where labels) row part)) condition }
     ensures all { (condition : Condition) (labels : Option Labelling) (row : RowView) →
-        All (λ part. IsTrue (meets (label_where labels) row part)) condition → IsTrue (passes condition labels row) }
+        All (λ part. IsTrue (meets (label_where labels) row part)) condition →
+        IsTrue (row_passes condition (label_where labels) row) }
     ensures together { (one other : Condition) (labels : Option Labelling) (rows : List RowView) →
         passing (one ++ other) labels rows ≡ passing other labels (passing one labels rows) }
     ensures left { (condition : Condition) (labels : Option Labelling) (rows : List RowView) →

@@ -12,11 +12,11 @@ use Rattle.ipfix_read.specs.declared.set.Set.{Set}
 use Rattle.flow_rows.specs.Counts.{records_in, records_of, rows_of, rows_of_messages, sets_of}
 use Rattle.flow_rows.specs.Elements.{rows_of_record, RowView}
 use Rattle.flow_rows.specs.Walk.{CanTake, Takes}
-use Rattle.flow_filter.specs.Condition.{Condition, passes, passing}
+use Rattle.flow_filter.specs.Condition.{Condition, passing, row_passes}
 use Rattle.pmap_print.specs.declared.labels.RowLabels.{RowLabels}
 use Rattle.pmap_print.specs.Reports.{LabelTexts, label_fields, label_texts, label_titles, row_fields, row_line, row_titles, title_line}
 use Rattle.pmap_print.specs.Table.{Line}
-use Rattle.label_lookup.specs.Labelling.{Labelling, StretchModel}
+use Rattle.label_lookup.specs.Labelling.{Labelling, StretchModel, label_where}
 use Rattle.flowlabel.specs.Output.{labelled_row_lines, row_labels}
 use Rattle.flowlabel.specs.Reports.{IsAfter, labelling_found}
 
@@ -55,14 +55,14 @@ is_some-found (Some l) = refl
 -- the rows that pass, with one more row
 passing_one : (condition : Condition) (labels : Option Labelling) (rows : List RowView) (row : RowView)
     → passing condition labels (rows ++ row ∷ []) ≡ passing condition labels rows ++ passing condition labels (row ∷ [])
-passing_one condition labels rows row = filter-append (passes condition labels) rows (row ∷ [])
+passing_one condition labels rows row = filter-append (row_passes condition (label_where labels)) rows (row ∷ [])
 
-pub with_passing : (condition : Condition) (labels : Option Labelling) (rows : List RowView) (row : RowView) → passes condition labels row ≡ true
+pub with_passing : (condition : Condition) (labels : Option Labelling) (rows : List RowView) (row : RowView) → row_passes condition (label_where labels) row ≡ true
     → passing condition labels (rows ++ row ∷ []) ≡ passing condition labels rows ++ row ∷ []
 with_passing condition labels rows row passed =
     passing_one condition labels rows row ∙ ap (λ (b : Bool). passing condition labels rows ++ cond b (row ∷ []) []) passed
 
-pub without_failing : (condition : Condition) (labels : Option Labelling) (rows : List RowView) (row : RowView) → passes condition labels row ≡ false
+pub without_failing : (condition : Condition) (labels : Option Labelling) (rows : List RowView) (row : RowView) → row_passes condition (label_where labels) row ≡ false
     → passing condition labels (rows ++ row ∷ []) ≡ passing condition labels rows
 without_failing condition labels rows row failed =
     passing_one condition labels rows row ∙ ap (λ (b : Bool). passing condition labels rows ++ cond b (row ∷ []) []) failed

@@ -1,8 +1,9 @@
-use Rattle.std.proofs.Common.{◌≡◌, ◌∙◌, ◌||◌, ℕ, List, [], ◌∷◌, Option, ap, map, refl, sym}
+use Rattle.std.proofs.Common.{◌≡◌, ◌∙◌, ◌||◌, ℕ, Bool, false, List, [], ◌∷◌, Option, ap, map, refl, sym}
 use Rattle.std.specs.List.{list_any}
+use Rattle.std.specs.Option.{option_map_or}
 use Rattle.prefix_keys.specs.Text.{AddressOf}
 use Rattle.flow_rows.specs.Elements.{RowView}
-use Rattle.flow_filter.specs.Condition.{Range, in_range, meets_one}
+use Rattle.flow_filter.specs.Condition.{Range, RowTest, in_range}
 use Rattle.flow_filter.specs.Filters.{by_range, in_ranges, number_of}
 use Rattle.flow_filter.specs.Options.{FilterOption}
 use Rattle.flow_filter.proofs.items.read_ranges.Goals as goal
@@ -14,6 +15,6 @@ one_covers o label row (range ∷ ranges) = ap (λ b. in_range (number_of o row)
 
 pub returns-clause-ok : goal.returns-clause-ok
 returns-clause-ok c = λ numbers label row.
-    ap (meets_one label row) c.in_ok-ranges.ensures.ok
+    ap (λ (tests : Option (List RowTest)). option_map_or (list_any (λ test. test label row)) tests false) c.in_ok-ranges.ensures.ok
     ∙ one_covers c.args.option label row c.in_ok-ranges.ranges.items
     ∙ (λ i. sym c.in_ok-new-2.ensures i (number_of c.args.option row))
