@@ -18,7 +18,7 @@ use Rattle.prefix_keys.specs.declared.version.Version.TheVariants.{V4, V6}
 use Rattle.prefix_keys.proofs.Printed.{Lacks}
 use Rattle.pmap_cert.specs.Acceptance.{HasBlock}
 use Rattle.pmap_text.specs.Label.{IsLabelTable, is_label}
-use Rattle.pmap_text.specs.Reading.{◌>>=◌, lines_of, Entry, ReadsList, ReadsMap, earlier_of, entries_from, label_limit, list_from, map_from, mapping_limit, unknown}
+use Rattle.pmap_text.specs.Reading.{◌>>=◌, Earlier, ReadsList, ReadsMap, label_limit, lines_read, list_from, map_from, mapping_limit, no_lines, text_read, unknown}
 use Rattle.pmap_text.specs.ListModel.{IsEquivalent, ListModel, Prefix, label_below, list_label, CoversAddress, IsLongestMatch, is_same_prefix}
 use Rattle.pmap_text.specs.MapModel.{Label, MapModel, Mapping, label_or, last_such, map_label, spans}
 use Rattle.pmap_text.specs.MapText.{text_at}
@@ -115,23 +115,21 @@ module _ (l : ListModel) (can : CanBeReadAgain l) where
   each = All-permutation (IsPrintedEntry l.version) l.prefixes (entries_in_order l.prefixes) moved can.form.entries
 
   -- what the lines of the list's text say
-  read : (kind : Form) → (es : List Entry)
-      × (entries_from kind [] 0 (lines_of (list_text l)) ≡ Ok es)
-      × HasRead kind l.version l.name (earlier_of es) (entries_in_order l.prefixes)
+  read : (kind : Form) → (e : Earlier) × (text_read kind (list_text l) ≡ Ok e) × HasRead kind l.version l.name e (entries_in_order l.prefixes)
   read kind =
       let found = lines-read kind l.version l.name (entries_in_order l.prefixes) can.form.name each
       (IsDistinct-IsPermutation starts_alike alike-flips l.prefixes (entries_in_order l.prefixes) moved distinct)
       (omega (arith, can.few_entries, length_permutation l.prefixes (entries_in_order l.prefixes) moved)) can.few_labels in (
         found.0,
-        ap (entries_from kind [] 0) (lines-text _ (lines-feed l.version l.name (entries_in_order l.prefixes) can.form.name each)) ∙ found.1,
+        ap (lines_read kind 0 (Ok no_lines)) (lines-text _ (lines-feed l.version l.name (entries_in_order l.prefixes) can.form.name each)) ∙ found.1,
         found.2,
       )
 
   pub list-again : (r : ListModel) × ReadsList (list_text l) r × IsListAgain l r
   list-again =
       let found = read form.List in (
-        list_from (earlier_of found.0),
-        ap (λ (r : Result (List Entry) MapFault). r >>= (λ entries. Ok (list_from (earlier_of entries)))) found.1,
+        list_from found.0,
+        ap (λ (r : Result Earlier MapFault). r >>= (λ lines. Ok (list_from lines))) found.1,
         record {
           version = ap (λ (o : Option Version). unwrap_or o V4) found.2.version_is;
           name = found.2.name_is;
@@ -157,12 +155,12 @@ module _ (l : ListModel) (can : CanBeReadAgain l) where
   pub map-again : (m : MapModel) × ReadsMap (list_text l) m × IsMapAgain l m
   map-again =
       let found = read form.Map in (
-        map_from (earlier_of found.0),
-        ap (λ (r : Result (List Entry) MapFault). r >>= (λ entries. Ok (map_from (earlier_of entries)))) found.1,
+        map_from found.0,
+        ap (λ (r : Result Earlier MapFault). r >>= (λ lines. Ok (map_from lines))) found.1,
         record {
           version = ap (λ (o : Option Version). unwrap_or o V4) found.2.version_is;
           name = found.2.name_is;
-          labels = λ a _. ap (λ (ms : List Mapping). label_or (last_such (spans a) ms) (unwrap_or (earlier_of found.0).fallback unknown)) found.2.entries
+          labels = λ a _. ap (λ (ms : List Mapping). label_or (last_such (spans a) ms) (unwrap_or (found.0).fallback unknown)) found.2.entries
               ∙ ap (λ (o : Option Label). label_or (last_such (spans a) (map (mapping_of_prefix (width_of l.version)) (entries_in_order l.prefixes))) (unwrap_or o unknown)) found.2.fallback
               ∙ same-label a;
         },

@@ -1,5 +1,5 @@
 -- What the printed lines of a list say, read as a list and read as a map.
-use Rattle.std.proofs.Common.{◌≡◌, ℕ, ◌+◌, ◌-◌, ◌<◌, ◌≤◌, ◌==◌, ◌∙◌, true, false, [], ◌∷◌, ◌++◌, All, Option, Some, None, Result, Ok, codes, length, nat_le, refl, ap, subst, arith}
+use Rattle.std.proofs.Common.{◌≡◌, ℕ, ◌+◌, ◌-◌, ◌<◌, ◌≤◌, ◌==◌, ◌∙◌, true, false, [], ◌∷◌, ◌++◌, All, Option, Some, None, Result, Ok, codes, length, nat_le, option_and_then, unwrap_or, refl, ap, subst, arith}
 use Rattle.std.specs.Fmt.{decimal}
 use Rattle.std.specs.List.{list_any}
 use Rattle.std.specs.Str.{bytes_eq}
@@ -17,8 +17,8 @@ use Rattle.prefix_keys.specs.declared.text.BlockFault.{BlockFault}
 use Rattle.prefix_keys.specs.declared.version.Version.{Version}
 use Rattle.prefix_keys.specs.declared.version.Version.TheVariants.{V4, V6}
 use Rattle.prefix_keys.proofs.ReadBack.{block_is_read_back}
-use Rattle.pmap_text.specs.Label.{label_number, meant_text, text_of_number, is_label}
-use Rattle.pmap_text.specs.Reading.{behind_word, first_word, Decides, Earlier, Lists, Maps, Names, block_line, content_line, earlier_of, has_prefix, has_room, label_of, line_entry, mapping_limit, number_in, placed_line, statement_line}
+use Rattle.pmap_text.specs.Label.{declared_text, label_number, meant_text, is_label, with_label}
+use Rattle.pmap_text.specs.Reading.{behind_word, content_of, first_word, Earlier, block_line, content_line, has_prefix, has_room, label_of, mapping_limit, no_lines, number_in, placed_line, statement_line}
 use Rattle.pmap_text.specs.ListModel.{Prefix}
 use Rattle.pmap_text.specs.MapModel.{Label}
 use Rattle.pmap_text.specs.declared.form.Form.{Form}
@@ -36,7 +36,7 @@ content-word kind earlier [] some = absurd (omega (arith, some))
 content-word kind earlier (b ∷ bs) some = refl
 
 pub word-line : (kind : Form) (earlier : Earlier) (word label : Text) → 0 < length word → All (λ b. 45 ≤ b) word → is_label label ≡ true
-    → line_entry kind earlier (word ++ 32 ∷ label) ≡ statement_line kind earlier word label
+    → content_line kind earlier (content_of (word ++ 32 ∷ label)) ≡ statement_line kind earlier word label
 word-line kind earlier word label some high is =
     ap (content_line kind earlier) (line-content word label some high is)
     ∙ content-word kind earlier (word ++ 32 ∷ label) (omega (arith, some, length-append word (32 ∷ label)))
@@ -48,7 +48,7 @@ label_of-label : (label : Label) → is_label label ≡ true → label_of label 
 label_of-label [] is = absurd (both_ways false refl is)
 label_of-label (b ∷ bs) is = rw is refl
 
-meant-number : (label : Label) (number : Option ℕ) → text_of_number [] label number ≡ label
+meant-number : (label : Label) (number : Option ℕ) → unwrap_or (option_and_then (declared_text []) number) label ≡ label
 meant-number label None = refl
 meant-number label (Some number) = refl
 
@@ -62,22 +62,17 @@ name-high =
     (AllPass-from_list_all (nat_le 45) (codes "map-name") refl)
 
 pub name-entry : (kind : Form) (earlier : Earlier) (name : Label) → is_label name ≡ true
-    → line_entry kind earlier (codes "map-name" ++ 32 ∷ name) ≡ Ok (Names name)
+    → content_line kind earlier (content_of (codes "map-name" ++ 32 ∷ name)) ≡ Ok (record earlier { name = Some name })
 name-entry kind earlier name is =
     word-line kind earlier (codes "map-name") name (omega arith) name-high is ∙ rw (label_of-label name is) refl
 
--- the line of the version
-pub mode-entry : (kind : Form) (version : Version) → line_entry kind (earlier_of []) (mode_text version) ≡ Ok (Decides version)
-mode-entry form.Map V4 = refl
-mode-entry form.Map V6 = refl
-mode-entry form.List V4 = refl
-mode-entry form.List V6 = refl
-
-pub mode-entry-named : (kind : Form) (name : Label) (version : Version) → line_entry kind (earlier_of (Names name ∷ [])) (mode_text version) ≡ Ok (Decides version)
-mode-entry-named form.Map name V4 = refl
-mode-entry-named form.Map name V6 = refl
-mode-entry-named form.List name V4 = refl
-mode-entry-named form.List name V6 = refl
+-- the line of the version, the first or after that of the name
+pub mode-entry : (kind : Form) (name : Option Label) (version : Version)
+    → content_line kind (record no_lines { name = name }) (content_of (mode_text version)) ≡ Ok (record no_lines { name = name; version = Some version })
+mode-entry form.Map name V4 = refl
+mode-entry form.Map name V6 = refl
+mode-entry form.List name V4 = refl
+mode-entry form.List name V6 = refl
 
 -- the block of an entry's line
 slash-in : (front back : Text) → list_any (λ b. b == 47) (front ++ 47 ∷ back) ≡ true
@@ -124,21 +119,34 @@ own-block kind earlier version start bits rest decided =
     let same : bits + (width_of version - width_of version) ≡ bits = omega arith in
     rw (decided, own-number version start, same) refl
 
+-- the state after the line of an entry
+abbrev pub entered : Form → Version → Prefix → Earlier → Earlier
+entered form.List version p earlier = record earlier {
+  version = Some version;
+  prefixes = earlier.prefixes ++ p ∷ [];
+  table = with_label earlier.table p.label;
+}
+entered form.Map version p earlier = record earlier {
+  version = Some version;
+  mappings = earlier.mappings ++ mapping_of_prefix (width_of version) p ∷ [];
+  table = with_label earlier.table p.label;
+}
+
 -- if there is room, the line of an entry is read as that entry
 placed-list : (earlier : Earlier) (version : Version) (p : Prefix) → is_label p.label ≡ true → earlier.declared ≡ []
     → has_prefix earlier.prefixes p.start p.bits ≡ false → length earlier.prefixes < mapping_limit → has_room earlier.table p.label ≡ true
-    → placed_line form.List earlier version p.start p.bits p.label ≡ Ok (Lists version p)
+    → placed_line form.List earlier version p.start p.bits p.label ≡ Ok (entered form.List version p earlier)
 placed-list earlier version p is none new few room =
     rw (label_of-label p.label is, none, meant-label p.label, new, lt-ltb _ _ few, room) refl
 
 placed-map : (earlier : Earlier) (version : Version) (p : Prefix) → is_label p.label ≡ true → earlier.declared ≡ []
     → length earlier.mappings < mapping_limit → has_room earlier.table p.label ≡ true
-    → placed_line form.Map earlier version p.start p.bits p.label ≡ Ok (Maps version (mapping_of_prefix (width_of version) p))
+    → placed_line form.Map earlier version p.start p.bits p.label ≡ Ok (entered form.Map version p earlier)
 placed-map earlier version p is none few room =
     rw (label_of-label p.label is, none, meant-label p.label, lt-ltb _ _ few, room) refl
 
 placed-entry : (kind : Form) (earlier : Earlier) (version : Version) (p : Prefix) → IsPrintedEntry version p → earlier.version ≡ Some version
-    → line_entry kind earlier (entry_line version p) ≡ placed_line kind earlier version p.start p.bits p.label
+    → content_line kind earlier (content_of (entry_line version p)) ≡ placed_line kind earlier version p.start p.bits p.label
 placed-entry kind earlier version p is decided =
     let word = block_text version p.start p.bits in
     word-line kind earlier word p.label
@@ -150,12 +158,13 @@ placed-entry kind earlier version p is decided =
 
 pub list-entry : (earlier : Earlier) (version : Version) (p : Prefix) → IsPrintedEntry version p → earlier.version ≡ Some version
     → earlier.declared ≡ [] → has_prefix earlier.prefixes p.start p.bits ≡ false → length earlier.prefixes < mapping_limit
-    → has_room earlier.table p.label ≡ true → line_entry form.List earlier (entry_line version p) ≡ Ok (Lists version p)
+    → has_room earlier.table p.label ≡ true
+    → content_line form.List earlier (content_of (entry_line version p)) ≡ Ok (entered form.List version p earlier)
 list-entry earlier version p is decided none new few room =
     placed-entry form.List earlier version p is decided ∙ placed-list earlier version p is.label none new few room
 
 pub map-entry : (earlier : Earlier) (version : Version) (p : Prefix) → IsPrintedEntry version p → earlier.version ≡ Some version
     → earlier.declared ≡ [] → length earlier.mappings < mapping_limit → has_room earlier.table p.label ≡ true
-    → line_entry form.Map earlier (entry_line version p) ≡ Ok (Maps version (mapping_of_prefix (width_of version) p))
+    → content_line form.Map earlier (content_of (entry_line version p)) ≡ Ok (entered form.Map version p earlier)
 map-entry earlier version p is decided none few room =
     placed-entry form.Map earlier version p is decided ∙ placed-map earlier version p is.label none few room

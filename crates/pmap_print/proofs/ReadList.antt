@@ -1,5 +1,5 @@
 -- The printed text of a list, read as a list and as a map.
-use Rattle.std.proofs.Common.{◌≡◌, ℕ, ◌+◌, ◌≤◌, ◌==◌, ◌&&◌, ◌∙◌, true, false, List, [], ◌∷◌, ◌++◌, All, Option, Some, None, Ok, codes, fold, get_or, length, map, refl, sym, ap, subst, arith, IsTrue}
+use Rattle.std.proofs.Common.{◌≡◌, ℕ, ◌+◌, ◌≤◌, ◌==◌, ◌&&◌, ◌∙◌, true, false, List, [], ◌∷◌, ◌++◌, All, Option, Some, None, Result, Ok, codes, fold, get_or, length, map, refl, sym, ap, subst, arith, IsTrue}
 use Rattle.std.specs.List.{AllByRecursion, IsDistinct, list_any}
 use Rattle.std.specs.Option.{ForSome}
 use Rattle.std.proofs.lemmas.Bool.Decides.{nat_tests}
@@ -13,21 +13,15 @@ use Rattle.prefix_keys.specs.declared.version.Version.{Version}
 use Rattle.pmap_text.specs.Label.{is_label, with_label}
 use Rattle.pmap_text.specs.ListModel.{Prefix}
 use Rattle.pmap_text.specs.MapModel.{Label, Mapping}
-use Rattle.pmap_text.specs.Reading.{Decides, Earlier, Entry, Lists, Maps, Names, earlier_of, entries_from, has_room, label_limit, line_entry, mapping_limit}
-use Rattle.pmap_text.specs.Inner.{added}
+use Rattle.pmap_text.specs.Reading.{content_line, content_of, Earlier, has_room, label_limit, lines_read, mapping_limit, no_lines}
+use Rattle.pmap_text.specs.declared.fault.MapFaultKind.{MapFaultKind}
 use Rattle.pmap_text.specs.declared.form.Form.{Form}
 use Rattle.pmap_text.specs.declared.form.Form.TheVariants as form
-use Rattle.pmap_text.proofs.LineEntries.{earlier_of-push}
 use Rattle.pmap_text.proofs.ProgressSteps.{length-with_label}
 use Rattle.pmap_print.proofs.LastMatch.{mapping_of_prefix}
 use Rattle.pmap_print.specs.List.{entry_line, mode_text, name_lines, starts_alike, IsPrintedEntry, labels_of}
 use Rattle.pmap_print.specs.Table.{Text}
-use Rattle.pmap_print.proofs.ReadLines.{list-entry, map-entry, mode-entry, mode-entry-named, name-entry}
-
--- what the line of an entry says
-abbrev pub said : Form → Version → Prefix → Entry
-said form.List version p = Lists version p
-said form.Map version p = Maps version (mapping_of_prefix (width_of version) p)
+use Rattle.pmap_print.proofs.ReadLines.{entered, list-entry, map-entry, mode-entry, name-entry}
 
 -- the entries that were read are these
 abbrev pub AreEntries : Form → Version → Earlier → List Prefix → Type 0
@@ -51,18 +45,18 @@ labels-split done p ps =
     ∙ fold-append with_label [] (map (λ (r : Prefix). r.label) done) (p.label ∷ map (λ (r : Prefix). r.label) ps)
 
 -- one entry more was read
-has_read-added : (kind : Form) (version : Version) (name : Option Label) (earlier : Earlier) (done : List Prefix) (p : Prefix)
-    → HasRead kind version name earlier done → HasRead kind version name (added earlier (said kind version p)) (done ++ p ∷ [])
-has_read-added form.List version name earlier done p has = record {
-  version_is = rw has.version_is refl;
+has_read-entered : (kind : Form) (version : Version) (name : Option Label) (earlier : Earlier) (done : List Prefix) (p : Prefix)
+    → HasRead kind version name earlier done → HasRead kind version name (entered kind version p earlier) (done ++ p ∷ [])
+has_read-entered form.List version name earlier done p has = record {
+  version_is = refl;
   name_is = has.name_is;
   declared = has.declared;
   fallback = has.fallback;
   entries = ap (λ (ps : List Prefix). ps ++ p ∷ []) has.entries;
   table = ap (λ (t : List Label). with_label t p.label) has.table ∙ sym (labels-split done p []);
 }
-has_read-added form.Map version name earlier done p has = record {
-  version_is = rw has.version_is refl;
+has_read-entered form.Map version name earlier done p has = record {
+  version_is = refl;
   name_is = has.name_is;
   declared = has.declared;
   fallback = has.fallback;
@@ -70,12 +64,6 @@ has_read-added form.Map version name earlier done p has = record {
       ∙ sym (map-append (mapping_of_prefix (width_of version)) done (p ∷ []));
   table = ap (λ (t : List Label). with_label t p.label) has.table ∙ sym (labels-split done p []);
 }
-
-has_read-push : (kind : Form) (version : Version) (name : Option Label) (es : List Entry) (done : List Prefix) (p : Prefix)
-    → HasRead kind version name (earlier_of es) done → HasRead kind version name (earlier_of (es ++ said kind version p ∷ [])) (done ++ p ∷ [])
-has_read-push kind version name es done p has =
-    subst (λ (e : Earlier). HasRead kind version name e (done ++ p ∷ [])) (sym (earlier_of-push es (said kind version p)))
-    (has_read-added kind version name (earlier_of es) done p has)
 
 -- the block of an entry differs from those of the entries before it
 block-new : (done : List Prefix) (p : Prefix) (ps : List Prefix) → IsDistinct starts_alike (done ++ p ∷ ps)
@@ -106,7 +94,7 @@ entry-room done p ps few =
 next-entry : (kind : Form) (version : Version) (name : Option Label) (earlier : Earlier) (done : List Prefix) (p : Prefix) (ps : List Prefix)
     → HasRead kind version name earlier done → IsPrintedEntry version p → IsDistinct starts_alike (done ++ p ∷ ps)
     → length (done ++ p ∷ ps) ≤ mapping_limit → length (labels_of (done ++ p ∷ ps)) ≤ label_limit
-    → line_entry kind earlier (entry_line version p) ≡ Ok (said kind version p)
+    → content_line kind earlier (content_of (entry_line version p)) ≡ Ok (entered kind version p earlier)
 next-entry form.List version name earlier done p ps has is distinct few few_labels =
     list-entry earlier version p is has.version_is has.declared (rw has.entries (block-new done p ps distinct))
     (rw has.entries (omega (arith, few, length-append done (p ∷ ps)))) (rw has.table (entry-room done p ps few_labels))
@@ -116,59 +104,57 @@ next-entry form.Map version name earlier done p ps has is distinct few few_label
     (rw has.table (entry-room done p ps few_labels))
 
 -- the lines of the other entries are read
-abbrev AllRead : Form → Version → Option Label → List Entry → ℕ → List Prefix → List Prefix → Type 0
-AllRead kind version name es number ps all =
-    (read : List Entry) × (entries_from kind es number (map (entry_line version) ps) ≡ Ok read) × HasRead kind version name (earlier_of read) all
+abbrev AllRead : Form → Version → Option Label → Earlier → ℕ → List Prefix → List Prefix → Type 0
+AllRead kind version name earlier number ps all =
+    (read : Earlier) × (lines_read kind number (Ok earlier) (map (entry_line version) ps) ≡ Ok read) × HasRead kind version name read all
 
-entries-more : (kind : Form) (es : List Entry) (number : ℕ) (line : Text) (lines : List Text) (entry : Entry)
-    → line_entry kind (earlier_of es) line ≡ Ok entry
-    → entries_from kind es number (line ∷ lines) ≡ entries_from kind (es ++ entry ∷ []) (number + 1) lines
-entries-more kind es number line lines entry e = rw e refl
+lines-more : (kind : Form) (earlier next : Earlier) (number : ℕ) (line : Text) (lines : List Text) → content_line kind earlier (content_of line) ≡ Ok next
+    → lines_read kind number (Ok earlier) (line ∷ lines) ≡ lines_read kind (number + 1) (Ok next) lines
+lines-more kind earlier next number line lines e = ap (λ (r : Result Earlier MapFaultKind). lines_read kind (number + 1) r lines) e
 
-read-entries : (kind : Form) (version : Version) (name : Option Label) (es : List Entry) (number : ℕ) (done ps : List Prefix)
-    → HasRead kind version name (earlier_of es) done → AllByRecursion (IsPrintedEntry version) ps → IsDistinct starts_alike (done ++ ps)
+read-entries : (kind : Form) (version : Version) (name : Option Label) (earlier : Earlier) (number : ℕ) (done ps : List Prefix)
+    → HasRead kind version name earlier done → AllByRecursion (IsPrintedEntry version) ps → IsDistinct starts_alike (done ++ ps)
     → length (done ++ ps) ≤ mapping_limit → length (labels_of (done ++ ps)) ≤ label_limit
-    → AllRead kind version name es number ps (done ++ ps)
-read-entries kind version name es number done [] has each distinct few few_labels =
-    (es, refl, subst (λ (ps : List Prefix). HasRead kind version name (earlier_of es) ps) (sym (append-nil done)) has)
-read-entries kind version name es number done (p ∷ ps) has each distinct few few_labels =
+    → AllRead kind version name earlier number ps (done ++ ps)
+read-entries kind version name earlier number done [] has each distinct few few_labels =
+    (earlier, refl, subst (λ (ps : List Prefix). HasRead kind version name earlier ps) (sym (append-nil done)) has)
+read-entries kind version name earlier number done (p ∷ ps) has each distinct few few_labels =
     let same : (done ++ p ∷ []) ++ ps ≡ done ++ p ∷ ps = append_assoc done (p ∷ []) ps in
-    let rest = read-entries kind version name (es ++ said kind version p ∷ []) (number + 1) (done ++ p ∷ []) ps
-    (has_read-push kind version name es done p has) each.1
+    let rest = read-entries kind version name (entered kind version p earlier) (number + 1) (done ++ p ∷ []) ps
+    (has_read-entered kind version name earlier done p has) each.1
     (subst (λ (rs : List Prefix). IsDistinct starts_alike rs) (sym same) distinct)
     (subst (λ (rs : List Prefix). length rs ≤ mapping_limit) (sym same) few)
     (subst (λ (rs : List Prefix). length (labels_of rs) ≤ label_limit) (sym same) few_labels) in (
       rest.0,
-      entries-more kind es number (entry_line version p) (map (entry_line version) ps) (said kind version p)
-          (next-entry kind version name (earlier_of es) done p ps has each.0 distinct few few_labels) ∙ rest.1,
-      subst (λ (rs : List Prefix). HasRead kind version name (earlier_of rest.0) rs) same rest.2,
+      lines-more kind earlier (entered kind version p earlier) number (entry_line version p) (map (entry_line version) ps)
+          (next-entry kind version name earlier done p ps has each.0 distinct few few_labels) ∙ rest.1,
+      subst (λ (rs : List Prefix). HasRead kind version name rest.0 rs) same rest.2,
     )
 
 -- the lines of the name and the version, which come first, are read
-head-read : (kind : Form) (version : Version) → HasRead kind version None (earlier_of (Decides version ∷ [])) []
-head-read form.List version = record { version_is = refl; name_is = refl; declared = refl; fallback = refl; entries = refl; table = refl }
-head-read form.Map version = record { version_is = refl; name_is = refl; declared = refl; fallback = refl; entries = refl; table = refl }
+abbrev head : Option Label → Version → Earlier
+head name version = record no_lines { name = name; version = Some version }
 
-head-read-named : (kind : Form) (version : Version) (name : Label)
-    → HasRead kind version (Some name) (earlier_of (Names name ∷ Decides version ∷ [])) []
-head-read-named form.List version name = record { version_is = refl; name_is = refl; declared = refl; fallback = refl; entries = refl; table = refl }
-head-read-named form.Map version name = record { version_is = refl; name_is = refl; declared = refl; fallback = refl; entries = refl; table = refl }
+head-read : (kind : Form) (version : Version) (name : Option Label) → HasRead kind version name (head name version) []
+head-read form.List version name = record { version_is = refl; name_is = refl; declared = refl; fallback = refl; entries = refl; table = refl }
+head-read form.Map version name = record { version_is = refl; name_is = refl; declared = refl; fallback = refl; entries = refl; table = refl }
 
 pub lines-read : (kind : Form) (version : Version) (name : Option Label) (ps : List Prefix) → ForSome name (λ n. IsTrue (is_label n))
     → All (IsPrintedEntry version) ps → IsDistinct starts_alike ps → length ps ≤ mapping_limit → length (labels_of ps) ≤ label_limit
-    → (read : List Entry) × (entries_from kind [] 0 (name_lines name ++ mode_text version ∷ map (entry_line version) ps) ≡ Ok read)
-    × HasRead kind version name (earlier_of read) ps
+    → (read : Earlier) × (lines_read kind 0 (Ok no_lines) (name_lines name ++ mode_text version ∷ map (entry_line version) ps) ≡ Ok read)
+    × HasRead kind version name read ps
 lines-read kind version None ps label each distinct few few_labels =
-    let rest = read-entries kind version None (Decides version ∷ []) 1 [] ps (head-read kind version)
+    let rest = read-entries kind version None (head None version) 1 [] ps (head-read kind version None)
     (recursion_from_All (IsPrintedEntry version) ps each) distinct few few_labels in
-    (rest.0, entries-more kind [] 0 (mode_text version) (map (entry_line version) ps) (Decides version) (mode-entry kind version) ∙ rest.1, rest.2)
+    (rest.0, lines-more kind no_lines (head None version) 0 (mode_text version) (map (entry_line version) ps) (mode-entry kind None version) ∙ rest.1, rest.2)
 lines-read kind version (Some name) ps label each distinct few few_labels =
-    let rest = read-entries kind version (Some name) (Names name ∷ Decides version ∷ []) 2 [] ps (head-read-named kind version name)
+    let named : Earlier = record no_lines { name = Some name } in
+    let rest = read-entries kind version (Some name) (head (Some name) version) 2 [] ps (head-read kind version (Some name))
     (recursion_from_All (IsPrintedEntry version) ps each) distinct few few_labels in (
       rest.0,
-      entries-more kind [] 0 (codes "map-name" ++ 32 ∷ name) (mode_text version ∷ map (entry_line version) ps) (Names name)
-          (name-entry kind (earlier_of []) name (label name refl))
-          ∙ entries-more kind (Names name ∷ []) 1 (mode_text version) (map (entry_line version) ps) (Decides version) (mode-entry-named kind name version)
+      lines-more kind no_lines named 0 (codes "map-name" ++ 32 ∷ name) (mode_text version ∷ map (entry_line version) ps)
+          (name-entry kind no_lines name (label name refl))
+          ∙ lines-more kind named (head (Some name) version) 1 (mode_text version) (map (entry_line version) ps) (mode-entry kind (Some name) version)
           ∙ rest.1,
       rest.2,
     )

@@ -1,4 +1,3 @@
-pub mod LineEntries
 pub mod LeadingWords
 pub mod Filed
 pub mod Pairs

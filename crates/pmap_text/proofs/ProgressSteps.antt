@@ -1,8 +1,11 @@
 -- The state of a reading is the content of the lines so far, also after one more line.
 use Rattle.std.proofs.Common.{◌≡◌, ℕ, ◌<◌, ◌≤◌, Bool, true, false, cond, List, [], ◌∷◌, ◌++◌, map, length, length-append, Option, Some, None, refl, sym, ap, ◌∙◌, arith, All, slice_get, unwrap_or}
 use Rattle.std.proofs.lemmas.List.Elements.{All-head, All-tail}
-use Rattle.std.proofs.lemmas.Option.{slice_get-get_or}
+use Rattle.std.proofs.lemmas.List.Folds.{list_any_at}
+use Rattle.std.proofs.lemmas.Option.{slice_get-get_or, unwrap_or-slice_get}
+use Rattle.std.proofs.lemmas.Slice.Eq.{bytes_eq-Decides}
 use Rattle.std.specs.Option.{ForSome, option_map}
+use Rattle.std.specs.Str.{bytes_eq}
 use Rattle.prefix_keys.specs.declared.version.Version.{Version}
 use Rattle.prefix_keys.specs.declared.version.Version.TheVariants.{V4}
 use Rattle.pmap_text.specs.Label.{has_label, with_label}
@@ -13,7 +16,7 @@ use Rattle.pmap_text.specs.PrefixList.{prefix_of, Entry}
 use Rattle.pmap_text.specs.Progress.{IsProgress, progress_of}
 use Rattle.pmap_text.specs.Reading.{label_limit, has_prefix, map_from, unknown}
 use Rattle.pmap_text.specs.declared.label.LabelId.{LabelId}
-use Rattle.pmap_text.proofs.LabelTexts.{list_any-map, slice_get-with_label}
+use Rattle.pmap_text.proofs.LabelTexts.{list_any-map, slice_get-with_label, with_label-known}
 
 -- if the version of an address was decided, it is the version of the lines so far
 pub version-decided : (v : Version) (decided : Option Version) → Some v ≡ decided → v ≡ unwrap_or decided V4
@@ -37,6 +40,12 @@ pub text_at-with_label : (table : List Label) (x : Label) (i : ℕ) → i < leng
 text_at-with_label table x i h =
     let at = slice_get-get_or table i [] h in
     ap (λ t. unwrap_or t []) (slice_get-with_label table x i _ at ∙ sym at)
+
+-- a text of the table is known
+with_label-text_at : (table : List Label) (i : ℕ) → i < length table → with_label table (text_at table i) ≡ table
+with_label-text_at table i h =
+    with_label-known table (text_at table i)
+    (list_any_at (bytes_eq (text_at table i)) table i [] h ((bytes_eq-Decides (text_at table i) _).1 (unwrap_or-slice_get table i [])))
 
 -- and so each statement and each entry has the same text
 mappings-with_label : (table : List Label) (x : Label) (statements : List Statement) → All (λ s. s.label.0 < length table) statements → map (mapping_of (with_label table x)) statements ≡ map (mapping_of table) statements
@@ -73,11 +82,10 @@ IsProgress-with_label version default ss es table x ok few =
       labels = few;
     }
 
-module _ (mode : Bool) (version : Option Version) (name : Option Label) (declared : List (ℕ × Label)) (default : Option LabelId) (ss : List Statement) (es : List Entry) (table : List Label) where
+module _ (version : Option Version) (name : Option Label) (declared : List (ℕ × Label)) (default : Option LabelId) (ss : List Statement) (es : List Entry) (table : List Label) where
   -- the lines so far with one more label text
-  pub progress-with_label : (x : Label) → IsProgress version default ss es table → progress_of mode version name declared default ss es (with_label table x) ≡ record (progress_of mode version name declared default ss es table) { table = with_label table x }
+  pub progress-with_label : (x : Label) → IsProgress version default ss es table → progress_of version name declared default ss es (with_label table x) ≡ record (progress_of version name declared default ss es table) { table = with_label table x }
   progress-with_label x ok = λ i. record {
-    mode = mode;
     version = version;
     name = name;
     declared = declared;
@@ -97,7 +105,16 @@ module _ (mode : Bool) (version : Option Version) (name : Option Label) (declare
     table = texts;
   }
 
-  pub finished-unknown : (id : LabelId) → IsProgress version None ss es table → slice_get (with_label table unknown) id.0 ≡ Some unknown → finished id (with_label table unknown) ≡ map_from (progress_of mode version name declared None ss es table)
+  pub finished-known : (id : LabelId) → id.0 < length table → finished id table ≡ map_from (progress_of version name declared (Some id) ss es table)
+  finished-known id known = λ i. record {
+    version = unwrap_or version V4;
+    name = name;
+    fallback = text_at table id.0;
+    mappings = map (mapping_of table) ss;
+    table = sym (with_label-text_at table id.0 known) i;
+  }
+
+  pub finished-unknown : (id : LabelId) → IsProgress version None ss es table → slice_get (with_label table unknown) id.0 ≡ Some unknown → finished id (with_label table unknown) ≡ map_from (progress_of version name declared None ss es table)
   finished-unknown id ok at = λ i. record {
     version = unwrap_or version V4;
     name = name;

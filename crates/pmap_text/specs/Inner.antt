@@ -1,14 +1,14 @@
-use Rattle.std.specs.Prelude.{ℕ, ◌*◌, ◌-◌, ◌/◌, ◌%◌, ◌^◌, List, bit_and, bit_or, bit_xor, drop, length, ◌≡◌, ◌||◌, ◌==◌, Bool, true, false, ◌∷◌, ◌++◌, Some, Ok, ◌+◌, ◌≤◌, ◌⊎◌, Option, All, Contains, IsSomeAnd, option_and_then, option_map, slice_get, unwrap_or, ◌&&◌, None, take, ◌≢◌, [], Result, Err, IfErr, IfOk, OnErr, OnOk}
+use Rattle.std.specs.Prelude.{ℕ, ◌*◌, ◌-◌, ◌/◌, ◌%◌, ◌^◌, List, bit_and, bit_or, bit_xor, drop, length, ◌≡◌, ◌||◌, ◌==◌, Bool, true, false, if◌then◌else◌, ◌∷◌, ◌++◌, Some, Ok, ◌+◌, ◌≤◌, ◌⊎◌, Option, All, Contains, IsSomeAnd, option_and_then, option_map, slice_get, unwrap_or, ◌&&◌, None, take, ◌≢◌, [], Result, Err, IfErr, IfOk, OnErr, OnOk}
 use Rattle.std.specs.Int.{from_le_bytes, w64}
 use Rattle.std.specs.List.{fold, list_all, list_any, IsDistinct}
 use Rattle.std.specs.Simd.{first_chunks}
-use Rattle.std.specs.Option.{ForSome, option_or}
+use Rattle.std.specs.Option.{ForSome}
 use Rattle.std.specs.Ordering.{is_eq, nat_cmp, ordering_then}
 use Rattle.std.specs.declared.cmp.Ordering.{Ordering}
 use Rattle.prefix_keys.specs.Text.{address_of, block_of_text, dotted_address, is_digit, is_hex_digit, short_number}
 use Rattle.prefix_keys.specs.declared.addr.Addr.{Addr}
 use Rattle.pmap_text.specs.declared.hashing.KeyHasher.{KeyHasher}
-use Rattle.pmap_text.specs.Label.{is_blank, meant_text, with_declared, with_label}
+use Rattle.pmap_text.specs.Label.{is_blank, meant_text}
 pub use Rattle.pmap_text.specs.declared.leading.Word.{Word}
 pub use Rattle.pmap_text.specs.declared.leading.Word.TheVariants.{Address}
 use Rattle.pmap_text.specs.declared.leading.Word.TheVariants.{Block as block_word}
@@ -16,7 +16,7 @@ use Rattle.pmap_text.specs.declared.statement.Statement.{Statement}
 use Rattle.pmap_text.specs.Starting.{Start, AreStarts, start_of}
 use Rattle.pmap_text.specs.declared.sweep.Sweep.{Sweep}
 use Rattle.pmap_text.specs.ListModel.{Prefix}
-use Rattle.pmap_text.specs.Reading.{has_prefix, Decides, Declares, Defaults, Earlier, Entry, Lists, Maps, Names, Nothing, earlier_of, entries_from, has_room, MapFault, MapFaultKind, DuplicateBlock, NoMemory, Form}
+use Rattle.pmap_text.specs.Reading.{has_prefix, Earlier, has_room, text_read, MapFault, MapFaultKind, DuplicateBlock, NoMemory, Form}
 use Rattle.pmap_text.specs.MapModel.{Label}
 
 -- The hash that a `KeyHasher` computes. No other contract depends on it.
@@ -155,45 +155,20 @@ IsFirstRepeat ps None = HasDistinctKeys ps
 IsFirstRepeat ps (Some i) =
     (p : Prefix) × (slice_get ps i ≡ Some p) × HasDistinctKeys (take i ps) × (has_prefix (take i ps) p.start p.bits ≡ true)
 
-abbrev pub added : Earlier → Entry → Earlier
-added earlier Nothing = earlier
-added earlier (Names name) = record earlier { name = Some name }
-added earlier (Decides version) = record earlier { mode = true; version = option_or earlier.version (Some version) }
-added earlier (Declares number text) =
-    record earlier { declared = with_declared earlier.declared (number, text); table = with_label earlier.table text }
-added earlier (Defaults label) = record earlier { fallback = Some label; table = with_label earlier.table label }
-added earlier (Maps version mapping) = record earlier {
-  version = option_or earlier.version (Some version);
-  mappings = earlier.mappings ++ mapping ∷ [];
-  table = with_label earlier.table mapping.label;
-}
-added earlier (Lists version prefix) = record earlier {
-  version = option_or earlier.version (Some version);
-  prefixes = earlier.prefixes ++ prefix ∷ [];
-  table = with_label earlier.table prefix.label;
-}
-
-abbrev pub IsNewIn : Earlier → Entry → Type 0
-IsNewIn earlier (Lists version prefix) = has_prefix earlier.prefixes prefix.start prefix.bits ≡ false
-IsNewIn earlier _ = Unit {0}
-
--- the line has an entry for the block of an earlier one, and is added nevertheless
-pub record Repeats (old new : Earlier) : Type 0 where
-  pub prefix : Prefix
-  pub known : has_prefix old.prefixes prefix.start prefix.bits ≡ true
-  pub prefixes : new.prefixes ≡ old.prefixes ++ prefix ∷ []
-
-abbrev pub Takes : Earlier → Earlier → Result Entry MapFaultKind → Type 0
-Takes old new (Ok entry) = (new ≡ added old entry) × IsNewIn old entry
-Takes old new (Err kind) = (kind ≡ DuplicateBlock) × Repeats old new
+-- the line added no entry, or one, which is refused if its block has one already
+abbrev pub Takes : Earlier → Earlier → Result Earlier MapFaultKind → Type 0
+Takes old new line =
+    ((line ≡ Ok new) × (new.prefixes ≡ old.prefixes))
+    ⊎ ((p : Prefix) × (new.prefixes ≡ old.prefixes ++ p ∷ [])
+    × (line ≡ (if has_prefix old.prefixes p.start p.bits then Err DuplicateBlock else Ok new)))
 
 -- a line without a fault is refused only if an allocation fails
-abbrev pub refusal_of : Result Entry MapFaultKind → MapFaultKind
-refusal_of (Ok entry) = NoMemory
+abbrev pub refusal_of : Result Earlier MapFaultKind → MapFaultKind
+refusal_of (Ok new) = NoMemory
 refusal_of (Err kind) = kind
 
 -- the result of reading a line: it is taken, or refused, and then no entry is added
-pub record Reads (old new : Earlier) (line : Result Entry MapFaultKind) (result : Result (Unit {0}) MapFaultKind) : Type 0 where
+pub record Reads (old new : Earlier) (line : Result Earlier MapFaultKind) (result : Result (Unit {0}) MapFaultKind) : Type 0 where
   pub ok : OnOk result (Takes old new line)
   pub err : IfErr result (λ kind. kind ≡ refusal_of line)
   pub kept : OnErr result (new.prefixes ≡ old.prefixes)
@@ -203,10 +178,9 @@ has_label_room earlier room label = room && has_room earlier.table (meant_text e
 
 -- the lines of a text were read up to a fault, except for repeated blocks, or until there were more entries than the
 -- limit; if the last entry of these lines is then the first with the block of an earlier one, it is the first fault
-pub record HasRead (form : Form) (text : List (List ℕ)) (limit : ℕ) (reading : Earlier) (result : Result ℕ MapFault) : Type 0 where
-  pub ok : OnOk result (limit ≡ 18446744073709551615 → HasDistinctKeys reading.prefixes
-      → (entries : List Entry) × (entries_from form [] 0 text ≡ Ok entries) × (reading ≡ earlier_of entries))
+pub record HasRead (form : Form) (text : List ℕ) (limit : ℕ) (reading : Earlier) (result : Result ℕ MapFault) : Type 0 where
+  pub ok : OnOk result (limit ≡ 18446744073709551615 → HasDistinctKeys reading.prefixes → text_read form text ≡ Ok reading)
   pub repeat : IfOk result (λ number. IsFirstRepeat reading.prefixes (Some limit)
-      → entries_from form [] 0 text ≡ Err (record { kind = DuplicateBlock; line = number }))
-  pub err : IfErr result (λ fault. HasDistinctKeys reading.prefixes → fault.kind ≢ NoMemory → entries_from form [] 0 text ≡ Err fault)
+      → text_read form text ≡ Err (record { kind = DuplicateBlock; line = number }))
+  pub err : IfErr result (λ fault. HasDistinctKeys reading.prefixes → fault.kind ≢ NoMemory → text_read form text ≡ Err fault)
   pub memory : IfErr result (λ fault. fault.kind ≡ NoMemory → fault.line ≡ 0)

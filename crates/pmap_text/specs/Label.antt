@@ -1,7 +1,7 @@
-use Rattle.std.specs.Prelude.{◌≡◌, ℕ, ◌-◌, ◌≤◌, ◌&&◌, ◌||◌, ◌==◌, Bool, not, List, [], ◌∷◌, ◌++◌, Option, Some, IsTrue, length, position, nat_le, slice_get, slice_index, if◌then◌else◌, None, find, nat_eq, unwrap_or, option_map}
+use Rattle.std.specs.Prelude.{◌≡◌, ℕ, ◌-◌, ◌≤◌, ◌&&◌, ◌||◌, ◌==◌, Bool, not, List, [], ◌∷◌, ◌++◌, Option, Some, IsTrue, length, position, nat_le, slice_get, slice_index, if◌then◌else◌, find, nat_eq, unwrap_or, option_and_then, option_map}
 use Rattle.std.specs.List.{list_all, list_any, IsDistinct}
 use Rattle.std.specs.Str.{bytes_eq}
-use Rattle.prefix_keys.specs.Text.{decimal_value, is_digit}
+use Rattle.prefix_keys.specs.Text.{decimal_number}
 use Rattle.pmap_text.specs.MapModel.{Label}
 
 -- Label texts, and tables of them. The number of a label is its index in the table, from 0.
@@ -42,10 +42,7 @@ pub record IsLabelTable (table : List Label) : Type 0 where
 
 -- the number that 1 to 10 digits represent, at most 2147483647
 abbrev pub label_number : List ℕ → Option ℕ
-label_number text =
-    if nat_le 1 (length text) && (nat_le (length text) 10 && (list_all is_digit text && nat_le (decimal_value text) 2147483647))
-    then Some (decimal_value text)
-    else None
+label_number text = decimal_number 10 2147483647 text
 
 -- the pairs of number and text after one more: a number that has a text keeps it
 abbrev pub with_declared : List (ℕ × Label) → ℕ × Label → List (ℕ × Label)
@@ -61,12 +58,8 @@ conflicts declared number text =
     list_any (λ d. if d.0 == number then not (bytes_eq d.1 text) else bytes_eq d.1 text) declared
 
 -- the text that a label represents: that of the number if the label is a declared number, otherwise the label itself
-abbrev pub text_of_number : List (ℕ × Label) → Label → Option ℕ → Label
-text_of_number declared label None = label
-text_of_number declared label (Some number) = unwrap_or (declared_text declared number) label
-
 abbrev pub meant_text : List (ℕ × Label) → Label → Label
-meant_text declared label = text_of_number declared label (label_number label)
+meant_text declared label = unwrap_or (option_and_then (declared_text declared) (label_number label)) label
 
 pub record ArePaired (numbers : List ℕ) (texts : List Label) : Type 0 where
   pub same_count : length texts ≡ length numbers

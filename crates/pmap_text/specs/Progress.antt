@@ -1,4 +1,4 @@
-use Rattle.std.specs.Prelude.{◌≡◌, ℕ, ◌<◌, ◌≤◌, Bool, List, Option, Some, All, length, map, option_map}
+use Rattle.std.specs.Prelude.{◌≡◌, ℕ, ◌<◌, ◌≤◌, List, Option, Some, All, length, map, option_map}
 use Rattle.std.specs.Option.{ForSome}
 use Rattle.prefix_keys.specs.declared.version.Version.{Version}
 use Rattle.pmap_text.specs.MapModel.{Label}
@@ -9,9 +9,8 @@ use Rattle.pmap_text.specs.declared.label.LabelId.{LabelId}
 
 -- The state of reading the lines so far: label numbers in place of texts.
 
-abbrev pub progress_of : Bool → Option Version → Option Label → List (ℕ × Label) → Option LabelId → List Statement → List Entry → List Label → Earlier
-progress_of mode version name declared default statements entries table = record {
-  mode = mode;
+abbrev pub progress_of : Option Version → Option Label → List (ℕ × Label) → Option LabelId → List Statement → List Entry → List Label → Earlier
+progress_of version name declared default statements entries table = record {
   version = version;
   name = name;
   declared = declared;

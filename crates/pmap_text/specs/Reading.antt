@@ -1,6 +1,5 @@
-use Rattle.std.specs.Prelude.{ℕ, ◌==◌, ◌-◌, List, [], ◌∷◌, length, take, drop, not, if◌then◌else◌, ◌≡◌, ◌≢◌, ◌≤◌, ◌+◌, ◌&&◌, ◌||◌, Bool, true, false, ◌++◌, Option, Some, None, Result, Ok, Err, IfErr, IfOk, codes, fold, nat_le, nat_lt, slice_index, unwrap_or}
-use Rattle.std.specs.List.{before_first, position_or_len, suffix_len, flat_map, list_all, list_any}
-use Rattle.std.specs.Option.{option_or}
+use Rattle.std.specs.Prelude.{ℕ, ◌==◌, ◌-◌, List, [], ◌∷◌, length, take, drop, not, if◌then◌else◌, ◌≡◌, ◌≢◌, ◌≤◌, ◌+◌, ◌&&◌, ◌||◌, Bool, true, ◌++◌, Option, Some, None, Result, Ok, Err, IfErr, IfOk, codes, is_some, nat_le, nat_lt, slice_index, unwrap_or}
+use Rattle.std.specs.List.{before_first, position_or_len, suffix_len, list_all, list_any}
 use Rattle.std.specs.Str.{bytes_eq}
 use Rattle.prefix_keys.specs.Block.{block_number, last_of, width_of}
 use Rattle.prefix_keys.specs.Conversion.{mapped_prefix}
@@ -52,67 +51,9 @@ behind_word content = trim_start (drop (position_or_len is_blank content) conten
 
 -- How a text is read as a map or as a prefix list, and the first fault of a text that can't be read.
 
--- the content of a line; a mapping or an entry comes with the version of the text
-pub data Entry : Type 0 where
-  Nothing : Entry
-  Names : (name : Label) → Entry
-  Decides : (version : Version) → Entry
-  Declares : (number : ℕ) (text : Label) → Entry
-  Defaults : (label : Label) → Entry
-  Maps : (version : Version) (mapping : Mapping) → Entry
-  Lists : (version : Version) (prefix : Prefix) → Entry
-
--- the contents of a line by their kind
-
-abbrev pub decides_in : Entry → Bool
-decides_in (Decides version) = true
-decides_in _ = false
-
-abbrev pub version_in : Entry → Option Version
-version_in (Decides version) = Some version
-version_in (Maps version mapping) = Some version
-version_in (Lists version prefix) = Some version
-version_in _ = None
-
-abbrev pub name_in : Entry → Option Label
-name_in (Names name) = Some name
-name_in _ = None
-
-abbrev pub declared_in : Entry → List (ℕ × Label)
-declared_in (Declares number text) = (number, text) ∷ []
-declared_in _ = []
-
-abbrev pub default_in : Entry → Option Label
-default_in (Defaults label) = Some label
-default_in _ = None
-
-abbrev pub mapping_in : Entry → List Mapping
-mapping_in (Maps version mapping) = mapping ∷ []
-mapping_in _ = []
-
-abbrev pub prefix_in : Entry → List Prefix
-prefix_in (Lists version prefix) = prefix ∷ []
-prefix_in _ = []
-
-abbrev pub text_in : Entry → List Label
-text_in (Declares number text) = text ∷ []
-text_in (Defaults label) = label ∷ []
-text_in (Maps version mapping) = mapping.label ∷ []
-text_in (Lists version prefix) = prefix.label ∷ []
-text_in _ = []
-
--- the first value of `f` for some contents, or the last, if there is one
-abbrev pub first_in : {A : Type 0} → (Entry → Option A) → List Entry → Option A
-first_in f [] = None
-first_in f (entry ∷ entries) = option_or (f entry) (first_in f entries)
-
-abbrev pub last_in : {A : Type 0} → (Entry → Option A) → List Entry → Option A
-last_in f [] = None
-last_in f (entry ∷ entries) = option_or (last_in f entries) (f entry)
-
--- the content of the lines before a line, as far as reading it needs
+-- the state of reading after some lines; the version is that of a `mode` line or of the first mapping or entry, and the
+-- labels are in the order of first occurrence
 pub record Earlier : Type 0 where
-  pub mode : Bool
   pub version : Option Version
   pub name : Option Label
   pub declared : List (ℕ × Label)
@@ -121,18 +62,10 @@ pub record Earlier : Type 0 where
   pub prefixes : List Prefix
   pub table : List Label
 
--- the content of some lines; the label texts are in the order of first occurrence
-abbrev pub earlier_of : List Entry → Earlier
-earlier_of entries = record {
-  mode = list_any decides_in entries;
-  version = first_in version_in entries;
-  name = last_in name_in entries;
-  declared = fold with_declared [] (flat_map declared_in entries);
-  fallback = last_in default_in entries;
-  mappings = flat_map mapping_in entries;
-  prefixes = flat_map prefix_in entries;
-  table = fold with_label [] (flat_map text_in entries);
-}
+-- the state before the first line
+abbrev pub no_lines : Earlier
+no_lines =
+    record { version = None; name = None; declared = []; fallback = None; mappings = []; prefixes = []; table = [] }
 
 -- the maximum number of mappings, and of label texts, of a text
 abbrev pub mapping_limit : ℕ
@@ -156,9 +89,15 @@ abbrev pub label_of : List ℕ → Result Label MapFaultKind
 label_of [] = Err MissingLabel
 label_of (b ∷ bs) = if is_label (b ∷ bs) then Ok (b ∷ bs) else Err BadLabel
 
+-- a text added to the table, if there is room for what the line says
+abbrev pub with_text : Bool → Label → Earlier → Result Earlier MapFaultKind
+with_text room text earlier =
+    if room && has_room earlier.table text then Ok (record earlier { table = with_label earlier.table text })
+    else Err TooMany
+
 -- `map-name NAME`
-abbrev pub name_line : List ℕ → Result Entry MapFaultKind
-name_line rest = label_of rest >>= (λ name. Ok (Names name))
+abbrev pub name_line : Earlier → List ℕ → Result Earlier MapFaultKind
+name_line earlier rest = label_of rest >>= (λ name. Ok (record earlier { name = Some name }))
 
 -- the version that the word of a mode names
 abbrev pub mode_version : List ℕ → Option Version
@@ -166,68 +105,54 @@ mode_version word =
     if bytes_eq word (codes "ipv4") || bytes_eq word (codes "ip") then Some V4
     else (if bytes_eq word (codes "ipv6") then Some V6 else None)
 
--- whether a mapping or an entry is in the lines before
-abbrev pub has_mapping : Earlier → Bool
-has_mapping earlier = nat_lt 0 (length earlier.mappings) || nat_lt 0 (length earlier.prefixes)
-
--- `mode WORD`, at most once and before the first mapping
-abbrev pub decided : Earlier → Option Version → Result Entry MapFaultKind
-decided earlier None = Err BadMode
-decided earlier (Some version) =
-    if has_mapping earlier then Err ModeLate else (if earlier.mode then Err ModeRepeated else Ok (Decides version))
-
-abbrev pub mode_line : Earlier → List ℕ → Result Entry MapFaultKind
-mode_line earlier rest = decided earlier (mode_version rest)
+-- `mode WORD`, at most once and before the first mapping or entry
+abbrev pub mode_line : Earlier → Option Version → Result Earlier MapFaultKind
+mode_line earlier None = Err BadMode
+mode_line earlier (Some version) =
+    if nat_lt 0 (length earlier.mappings + length earlier.prefixes) then Err ModeLate
+    else (if is_some earlier.version then Err ModeRepeated else Ok (record earlier { version = Some version }))
 
 -- `label NUMBER TEXT`: the text is a label that doesn't consist of digits alone, no number has two texts, and no text
 -- has two numbers
-abbrev pub declared_line : Earlier → Option ℕ → List ℕ → Result Entry MapFaultKind
-declared_line earlier None rest = Err BadStatement
-declared_line earlier (Some number) rest =
+abbrev pub label_line : Earlier → Option ℕ → List ℕ → Result Earlier MapFaultKind
+label_line earlier None rest = Err BadStatement
+label_line earlier (Some number) rest =
     label_of rest >>= (λ text. if list_all is_digit text then Err BadLabel
     else (if conflicts earlier.declared number text then Err LabelConflict
-    else (if has_room earlier.table text then Ok (Declares number text) else Err TooMany)))
-
-abbrev pub label_line : Earlier → List ℕ → Result Entry MapFaultKind
-label_line earlier rest = declared_line earlier (label_number (first_word rest)) (behind_word rest)
+    else with_text true text (record earlier { declared = with_declared earlier.declared (number, text) })))
 
 -- `default LABEL`, which is not allowed in a list
-abbrev pub default_line : Form → Earlier → List ℕ → Result Entry MapFaultKind
+abbrev pub default_line : Form → Earlier → List ℕ → Result Earlier MapFaultKind
 default_line form.List earlier rest = Err NotAList
 default_line form.Map earlier rest =
     label_of rest >>= (λ label. let text = meant_text earlier.declared label in
-    if has_room earlier.table text then Ok (Defaults text) else Err TooMany)
+    with_text true text (record earlier { fallback = Some text }))
 
 -- the addresses from low to high, followed by a label
-abbrev pub span_line : Earlier → Version → ℕ → ℕ → List ℕ → Result Entry MapFaultKind
+abbrev pub span_line : Earlier → Version → ℕ → ℕ → List ℕ → Result Earlier MapFaultKind
 span_line earlier version low high rest =
     label_of rest >>= (λ label. let text = meant_text earlier.declared label in
-    if nat_lt (length earlier.mappings) mapping_limit && has_room earlier.table text
-    then Ok (Maps version (record { low = low; high = high; label = text }))
-    else Err TooMany)
+    with_text (nat_lt (length earlier.mappings) mapping_limit) text (record earlier {
+      version = Some version;
+      mappings = earlier.mappings ++ record { low = low; high = high; label = text } ∷ [];
+    }))
 
 -- whether there is an entry for the block of this length with this first address
 abbrev pub has_prefix : List Prefix → ℕ → ℕ → Bool
 has_prefix prefixes start bits = list_any (λ p. p.start == start && p.bits == bits) prefixes
 
--- the block of this length with this first address, followed by a label
-abbrev pub prefix_line : Earlier → Version → ℕ → ℕ → List ℕ → Result Entry MapFaultKind
-prefix_line earlier version start bits rest =
-    label_of rest >>= (λ label. let text = meant_text earlier.declared label in
-    if has_prefix earlier.prefixes start bits then Err DuplicateBlock
-    else (if nat_lt (length earlier.prefixes) mapping_limit && has_room earlier.table text
-    then Ok (Lists version (record { start = start; bits = bits; label = text }))
-    else Err TooMany))
-
--- a block in the text's version, followed by a label: in a map the span of its addresses, in a list the block itself
-abbrev pub placed_line : Form → Earlier → Version → ℕ → ℕ → List ℕ → Result Entry MapFaultKind
+-- the block of this length with this first address, followed by a label: in a map the span of its addresses, in a list
+-- the block itself, which no earlier entry has
+abbrev pub placed_line : Form → Earlier → Version → ℕ → ℕ → List ℕ → Result Earlier MapFaultKind
 placed_line form.Map earlier version start bits rest =
     span_line earlier version start (last_of (width_of version) bits (block_number (width_of version) bits start)) rest
-placed_line form.List earlier version start bits rest = prefix_line earlier version start bits rest
-
--- the version of the text at a line whose first address is of this version, which decides if nothing decided before
-abbrev pub version_at : Earlier → Version → Version
-version_at earlier own = unwrap_or earlier.version own
+placed_line form.List earlier version start bits rest =
+    label_of rest >>= (λ label. let text = meant_text earlier.declared label in
+    if has_prefix earlier.prefixes start bits then Err DuplicateBlock
+    else with_text (nat_lt (length earlier.prefixes) mapping_limit) text (record earlier {
+      version = Some version;
+      prefixes = earlier.prefixes ++ record { start = start; bits = bits; label = text } ∷ [];
+    }))
 
 -- the number of an address in a text of this version: in an IPv6 text a dotted address represents its IPv4-mapped
 -- address in ::ffff:0:0/96 (RFC 4291 section 2.5.5.2), and an IPv4 text has no colon addresses
@@ -238,106 +163,86 @@ number_in V6 (V4, value) = Ok (value + mapped_prefix)
 number_in V6 (V6, value) = Ok value
 
 -- `BLOCK LABEL`: the length grows with the width of the address
-abbrev pub block_line : Form → Earlier → Result BlockOf BlockFault → List ℕ → Result Entry MapFaultKind
+abbrev pub block_line : Form → Earlier → Result BlockOf BlockFault → List ℕ → Result Earlier MapFaultKind
 block_line form earlier (Ok (own, first, len)) rest =
-    let version = version_at earlier own in
+    let version = unwrap_or earlier.version own in
     number_in version (own, first)
     >>= (λ start. placed_line form earlier version start (len + (width_of version - width_of own)) rest)
 block_line form earlier (Err block_faults.BadAddress) rest = Err BadAddress
 block_line form earlier (Err block_faults.BadLength) rest = Err BadLength
 
 -- `LOW HIGH LABEL`, which is not allowed in a list
-abbrev pub range_line : Form → Earlier → AddressOf → AddressOf → List ℕ → Result Entry MapFaultKind
+abbrev pub range_line : Form → Earlier → AddressOf → AddressOf → List ℕ → Result Earlier MapFaultKind
 range_line form.List earlier first second rest = Err NotAList
 range_line form.Map earlier first second rest =
-    let version = version_at earlier first.0 in
+    let version = unwrap_or earlier.version first.0 in
     number_in version first >>= (λ low. number_in version second >>= (λ high.
     if nat_le low high then span_line earlier version low high rest else Err LowAboveHigh))
 
--- `ADDRESS LABEL`: the block of one address
-abbrev pub single_line : Form → Earlier → AddressOf → List ℕ → Result Entry MapFaultKind
-single_line form earlier address rest =
-    let version = version_at earlier address.0 in
-    number_in version address >>= (λ start. placed_line form earlier version start (width_of version) rest)
-
--- a line that begins with an address; if a second address follows, it is a range
-abbrev pub one_or_two : Form → Earlier → AddressOf → Option AddressOf → List ℕ → Result Entry MapFaultKind
-one_or_two form earlier first None rest = single_line form earlier first rest
+-- a line that begins with an address: a range if a second address follows, otherwise `ADDRESS LABEL`, the block of this
+-- address alone
+abbrev pub one_or_two : Form → Earlier → AddressOf → Option AddressOf → List ℕ → Result Earlier MapFaultKind
 one_or_two form earlier first (Some second) rest = range_line form earlier first second (behind_word rest)
+one_or_two form earlier first None rest = block_line form earlier (Ok (first.0, first.1, width_of first.0)) rest
 
--- the fault of a line whose first word begins no statement; the word may look like an address
-abbrev pub other_fault : List ℕ → MapFaultKind
-other_fault word = if is_digit (slice_index word 0) || list_any (λ b. b == 58) word then BadAddress else BadStatement
-
-abbrev pub address_line : Form → Earlier → List ℕ → Option AddressOf → List ℕ → Result Entry MapFaultKind
-address_line form earlier word None rest = Err (other_fault word)
+-- a line whose first word is an address or begins no statement; the word may look like an address
+abbrev pub address_line : Form → Earlier → List ℕ → Option AddressOf → List ℕ → Result Earlier MapFaultKind
 address_line form earlier word (Some first) rest = one_or_two form earlier first (address_of (first_word rest)) rest
+address_line form earlier word None rest =
+    Err (if is_digit (slice_index word 0) || list_any (λ b. b == 58) word then BadAddress else BadStatement)
 
 -- a line with a word, by its first word and the text after it
-abbrev pub statement_line : Form → Earlier → List ℕ → List ℕ → Result Entry MapFaultKind
+abbrev pub statement_line : Form → Earlier → List ℕ → List ℕ → Result Earlier MapFaultKind
 statement_line form earlier word rest =
-    if bytes_eq word (codes "map-name") then name_line rest
-    else (if bytes_eq word (codes "mode") then mode_line earlier rest
-    else (if bytes_eq word (codes "label") then label_line earlier rest
+    if bytes_eq word (codes "map-name") then name_line earlier rest
+    else (if bytes_eq word (codes "mode") then mode_line earlier (mode_version rest)
+    else (if bytes_eq word (codes "label") then label_line earlier (label_number (first_word rest)) (behind_word rest)
     else (if bytes_eq word (codes "default") then default_line form earlier rest
     else (if list_any (λ b. b == 47) word then block_line form earlier (block_of_text word) rest
     else address_line form earlier word (address_of word) rest))))
 
 -- the content of a line, by its words
-abbrev pub content_line : Form → Earlier → List ℕ → Result Entry MapFaultKind
-content_line form earlier [] = Ok Nothing
+abbrev pub content_line : Form → Earlier → List ℕ → Result Earlier MapFaultKind
+content_line form earlier [] = Ok earlier
 content_line form earlier (b ∷ bs) = statement_line form earlier (first_word (b ∷ bs)) (behind_word (b ∷ bs))
 
-abbrev pub line_entry : Form → Earlier → List ℕ → Result Entry MapFaultKind
-line_entry form earlier line = content_line form earlier (content_of line)
+-- the state after the lines of a text, given that after the first ones, whose number is `number`; the first faulty line
+-- ends the reading
+abbrev pub lines_read : Form → ℕ → Result Earlier MapFaultKind → List (List ℕ) → Result Earlier MapFault
+lines_read form number (Err kind) lines = Err (record { kind = kind; line = number })
+lines_read form number (Ok earlier) [] = Ok earlier
+lines_read form number (Ok earlier) (line ∷ lines) =
+    lines_read form (number + 1) (content_line form earlier (content_of line)) lines
 
--- a fault of the line with this number
-abbrev pub at_line : ℕ → Result Entry MapFaultKind → Result Entry MapFault
-at_line number (Ok entry) = Ok entry
-at_line number (Err kind) = Err (record { kind = kind; line = number })
-
--- the contents of the lines after `number` lines whose contents are `entries`; each line is read from itself and the
--- lines before it, and the first faulty line ends the reading
-abbrev pub entries_from : Form → List Entry → ℕ → List (List ℕ) → Result (List Entry) MapFault
-entries_from form entries number [] = Ok entries
-entries_from form entries number (line ∷ lines) =
-    at_line (number + 1) (line_entry form (earlier_of entries) line)
-    >>= (λ entry. entries_from form (entries ++ entry ∷ []) (number + 1) lines)
+abbrev pub text_read : Form → List ℕ → Result Earlier MapFault
+text_read form text = lines_read form 0 (Ok no_lines) (lines_of text)
 
 -- the label of an address that no mapping covers, if the text has no default
 abbrev pub unknown : Label
 unknown = codes "UNKNOWN"
 
--- if there is no default, its text is in the table, and comes last if it wasn't there
-abbrev pub full_table : List Label → Option Label → List Label
-full_table table None = with_label table unknown
-full_table table (Some label) = table
-
--- the map of some lines; without a mode and a mapping it is of version 4
+-- the map of a whole text; without a mode and a mapping it is of version 4, and without a default the table has the
+-- label UNKNOWN too
 abbrev pub map_from : Earlier → MapModel
 map_from lines = record {
   version = unwrap_or lines.version V4;
   name = lines.name;
   fallback = unwrap_or lines.fallback unknown;
   mappings = lines.mappings;
-  table = full_table lines.table lines.fallback;
+  table = with_label lines.table (unwrap_or lines.fallback unknown);
 }
 
--- the list of some lines
+-- the list of a whole text
 abbrev pub list_from : Earlier → ListModel
-list_from lines = record {
-  version = unwrap_or lines.version V4;
-  name = lines.name;
-  prefixes = lines.prefixes;
-  table = lines.table;
-}
+list_from lines =
+    record { version = unwrap_or lines.version V4; name = lines.name; prefixes = lines.prefixes; table = lines.table }
 
 -- the map, or the list, that a text is read as, or the first fault of the text with its line
 abbrev pub map_reading : List ℕ → Result MapModel MapFault
-map_reading text = entries_from form.Map [] 0 (lines_of text) >>= (λ entries. Ok (map_from (earlier_of entries)))
+map_reading text = text_read form.Map text >>= (λ lines. Ok (map_from lines))
 
 abbrev pub list_reading : List ℕ → Result ListModel MapFault
-list_reading text = entries_from form.List [] 0 (lines_of text) >>= (λ entries. Ok (list_from (earlier_of entries)))
+list_reading text = text_read form.List text >>= (λ lines. Ok (list_from lines))
 
 -- the text is read as the map, or as the list
 abbrev pub ReadsMap : List ℕ → MapModel → Type 0

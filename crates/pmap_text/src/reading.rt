@@ -1,10 +1,9 @@
-ghost use Rattle.std.specs.Prelude.{◌≡◌, ◌<◌, ◌≤◌, ◌++◌, ◌∷◌, [], Some, true, false, ◌⊎◌, length, option_map, slice_get, IsTrue, IfOk, IfErr, IfSome, OnOk, OnErr};
-ghost use Rattle.std.specs.Option.{option_or};
+ghost use Rattle.std.specs.Prelude.{◌≡◌, ◌<◌, ◌≤◌, ◌++◌, ◌∷◌, [], Some, true, false, ◌⊎◌, length, option_map, slice_get, unwrap_or, IsTrue, IfOk, IfErr, IfSome, OnOk, OnErr};
 ghost use Rattle.pmap_text.specs.Label.{meant_text, has_label, is_label as is_label_text, number_of, with_label};
 ghost use Rattle.pmap_text.specs.Inner.{HasDistinctKeys, IsFirstRepeat};
 ghost use Rattle.pmap_text.specs.MapText.{map_of, text_at};
 ghost use Rattle.pmap_text.specs.PrefixList.{list_of};
-ghost use Rattle.pmap_text.specs.Reading.{Earlier, earlier_of, has_prefix as has_prefix_of, has_room, list_from, map_from, version_at as version_at_of, NoMemory, TooMany};
+ghost use Rattle.pmap_text.specs.Reading.{Earlier, has_prefix as has_prefix_of, has_room, list_from, map_from, no_lines, NoMemory, TooMany};
 ghost use Rattle.pmap_text.specs.declared.reading.TheConstants.{LABEL_LIMIT, MAPPING_LIMIT};
 
 use crate::declarations::Declarations;
@@ -40,7 +39,6 @@ const UNKNOWN: &[u8] = b"UNKNOWN";
 #[derive(Drop)]
 pub struct Reading {
     alloc: Global,
-    mode: bool,
     version: Option<Version>,
     name: Option<Name>,
     declared: Declarations,
@@ -57,7 +55,7 @@ impl Model for Reading {
 
     ghost Value = { Earlier };
 
-    ghost view = { λ r. progress_of r.mode r.version r.name r.declared r.default r.statements r.entries.items r.labels };
+    ghost view = { λ r. progress_of r.version r.name r.declared r.default r.statements r.entries.items r.labels };
 
     ghost invariant = { λ r. IsProgress r.version r.default r.statements r.entries.items r.labels };
 }
@@ -116,11 +114,10 @@ fn number_for(
 impl Reading {
     /// Returns a reading of no lines. Labels are hashed with the numbers of `hashing`.
     pub fn new(alloc: Global, hashing: KeyHashing) -> Reading
-        ensures { result ≡ earlier_of [] }
+        ensures { result ≡ no_lines }
     {
         Reading {
             alloc,
-            mode: false,
             version: None,
             name: None,
             declared: Declarations::new(alloc, hashing),
@@ -156,7 +153,7 @@ impl Reading {
     /// Returns the version of the text at a line whose first address is of the version `own`. That version decides if
     /// nothing decided before.
     pub fn version_at(&self, own: Version) -> Version
-        ensures { result ≡ version_at_of self.now own }
+        ensures { result ≡ unwrap_or self.now.version own }
     {
         self.version.unwrap_or(own)
     }
@@ -184,11 +181,11 @@ impl Reading {
     /// Adds a mapping of the text's version. Its version decides that of the text if nothing decided before.
     #[inline(always)]
     pub fn add_statement(&mut self, span: Span, label: LabelId) -> Result<(), MapFaultKind>
-        requires version { version_at_of self.old span.low.version ≡ span.low.version }
+        requires version { unwrap_or self.old.version span.low.version ≡ span.low.version }
         requires label { label.0 < length self.old.table }
         requires room { length self.old.mappings < MAPPING_LIMIT }
         ensures ok { OnOk result (self.new ≡ record self.old {
-          version = option_or self.old.version (Some span.low.version);
+          version = Some span.low.version;
           mappings = self.old.mappings ++ record {
             low = span.low.value;
             high = span.high.value;
@@ -209,11 +206,11 @@ impl Reading {
     /// entry may have the same block.
     #[inline(always)]
     pub fn add_entry(&mut self, block: Block, label: LabelId) -> Result<(), MapFaultKind>
-        requires version { version_at_of self.old block.version ≡ block.version }
+        requires version { unwrap_or self.old.version block.version ≡ block.version }
         requires label { label.0 < length self.old.table }
         requires room { length self.old.prefixes < MAPPING_LIMIT }
         ensures ok { OnOk result (self.new ≡ record self.old {
-          version = option_or self.old.version (Some block.version);
+          version = Some block.version;
           prefixes = self.old.prefixes ++ record {
             start = block.value;
             bits = block.len;

@@ -1,7 +1,7 @@
 //! Reading map texts and list texts line by line.
-ghost use Rattle.std.specs.Prelude.{◌≡◌, ◌≢◌, [], List, Ok, Err, IfOk, IfErr};
+ghost use Rattle.std.specs.Prelude.{◌≡◌, ◌≢◌, Ok, Err, IfOk, IfErr};
 ghost use Rattle.pmap_text.specs.Inner.{HasDistinctKeys, HasRead};
-ghost use Rattle.pmap_text.specs.Reading.{lines_of, Entry, ReturnsList, ReturnsMap, earlier_of, entries_from, NoMemory};
+ghost use Rattle.pmap_text.specs.Reading.{ReturnsList, ReturnsMap, no_lines, text_read, NoMemory};
 
 use crate::fault::{MapFault, MapFaultKind};
 use crate::form::Form;
@@ -29,8 +29,8 @@ fn fault_at(kind: MapFaultKind, number: u64) -> MapFault
 // Reads the lines of a text of this form up to the first fault, or until there are more entries than the limit. Returns
 // the number of these lines. An entry may have the block of an earlier one.
 fn read_on(reading: &mut Reading, form: Form, text: &[u8], limit: usize) -> Result<u64, MapFault>
-    requires { reading.old ≡ earlier_of [] }
-    ensures { HasRead form (lines_of text.now) limit reading.new result }
+    requires { reading.old ≡ no_lines }
+    ensures { HasRead form text.now limit reading.new result }
 {
     let mut rest = text;
     let mut number = 0;
@@ -48,7 +48,7 @@ fn read_on(reading: &mut Reading, form: Form, text: &[u8], limit: usize) -> Resu
 // Returns the fault of the first entry with the block of an earlier one, given its index. Its line is found by reading
 // the text again up to this entry.
 fn repeat_at(alloc: Global, form: Form, text: &[u8], hashing: KeyHashing, index: usize) -> MapFault
-    ensures err { result.kind ≢ NoMemory → entries_from form [] 0 (lines_of text.now) ≡ Err result }
+    ensures err { result.kind ≢ NoMemory → text_read form text.now ≡ Err result }
     ensures memory { result.kind ≡ NoMemory → result.line ≡ 0 }
 {
     let mut reading = Reading::new(alloc, hashing);
@@ -69,11 +69,9 @@ fn read_lines(
     text: &[u8],
     hashing: KeyHashing,
 ) -> Result<Reading, MapFault>
-    ensures ok { IfOk result (λ lines. (entries : List Entry) × (entries_from form [] 0 (lines_of text.now)
-        ≡ Ok entries) × (lines ≡ earlier_of entries)) }
+    ensures ok { IfOk result (λ lines. text_read form text.now ≡ Ok lines) }
     ensures distinct { IfOk result (λ lines. HasDistinctKeys lines.prefixes) }
-    ensures err { IfErr result (λ fault. fault.kind ≢ NoMemory → entries_from form [] 0 (lines_of text.now)
-        ≡ Err fault) }
+    ensures err { IfErr result (λ fault. fault.kind ≢ NoMemory → text_read form text.now ≡ Err fault) }
     ensures memory { IfErr result (λ fault. fault.kind ≡ NoMemory → fault.line ≡ 0) }
 {
     let mut reading = Reading::new(alloc, hashing);

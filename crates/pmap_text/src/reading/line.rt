@@ -1,9 +1,10 @@
 //! The reading of one line of a text.
-ghost use Rattle.std.specs.Prelude.{◌≡◌, ◌<◌, ◌≤◌, ◌==◌, ◌⊎◌, Some, Ok, Err, true, false, length, slice_get, IsTrue, IfOk, IfErr, OnOk, OnErr};
+ghost use Rattle.std.specs.Prelude.{◌≡◌, ◌<◌, ◌≤◌, ◌==◌, ◌||◌, ◌⊎◌, if◌then◌else◌, Some, None, Ok, Err, true, false, length, slice_get, slice_index, unwrap_or, IsTrue, IfOk, IfErr, OnOk, OnErr};
 ghost use Rattle.std.specs.List.{list_any};
-ghost use Rattle.prefix_keys.specs.Text.{address_of, block_of_text};
+ghost use Rattle.prefix_keys.specs.Text.{address_of, block_of_text, is_digit};
 ghost use Rattle.pmap_text.specs.Label.{label_number as number_of_label, meant_text, is_label as is_label_text, with_label};
-ghost use Rattle.pmap_text.specs.Reading.{first_word, Lists, block_line, content_line, decided, declared_line, default_line, label_line, label_of, mode_line, mode_version, name_line, one_or_two, other_fault, placed_line, prefix_line, range_line, single_line, span_line, statement_line, version_at as version_at_of, NoMemory, TooMany};
+ghost use Rattle.pmap_text.specs.Reading.{behind_word, first_word, block_line, content_line, default_line, label_line, label_of, mode_line, mode_version, name_line, one_or_two, placed_line, range_line, span_line, statement_line, BadAddress, BadStatement, NoMemory, TooMany};
+ghost use Rattle.pmap_text.specs.declared.form.Form.TheVariants.{List as list_form};
 ghost use Rattle.pmap_text.specs.Inner.{Reads, has_label_room};
 
 use crate::declarations::label_number;
@@ -36,7 +37,8 @@ fn check_label(rest: &[u8]) -> Result<(), MapFaultKind>
 
 // Returns the fault of a line whose first word begins no statement.
 fn fault_of(word: &[u8]) -> MapFaultKind
-    ensures { result ≡ other_fault word.now }
+    ensures { result ≡ (if is_digit (slice_index word.now 0) || list_any (λ b. b == 58) word.now
+        then BadAddress else BadStatement) }
 {
     match word.first() {
         Some(byte) if byte.is_ascii_digit() => MapFaultKind::BadAddress,
@@ -61,7 +63,7 @@ fn named_version(word: &[u8]) -> Option<Version>
 impl Reading {
     // Reads `map-name NAME`, given the text after the first word.
     fn read_name(&mut self, rest: &[u8]) -> Result<(), MapFaultKind>
-        ensures { Reads self.old self.new (name_line rest.now) result }
+        ensures { Reads self.old self.new (name_line self.old rest.now) result }
     {
         check_label(rest)?;
         let Ok(name) = Name::new(self.alloc, rest) else {
@@ -73,7 +75,7 @@ impl Reading {
 
     // Reads `mode WORD`, given the text after the first word.
     fn read_mode(&mut self, rest: &[u8]) -> Result<(), MapFaultKind>
-        ensures { Reads self.old self.new (mode_line self.old rest.now) result }
+        ensures { Reads self.old self.new (mode_line self.old (mode_version rest.now)) result }
     {
         let Some(version) = named_version(rest) else {
             return Err(MapFaultKind::BadMode);
@@ -81,17 +83,16 @@ impl Reading {
         if self.statements.len() > 0 || self.entries.len() > 0 {
             return Err(MapFaultKind::ModeLate);
         }
-        if self.mode {
+        if self.version.is_some() {
             return Err(MapFaultKind::ModeRepeated);
         }
-        self.mode = true;
-        self.version = Some(self.version_at(version));
+        self.version = Some(version);
         Ok(())
     }
 
     // Reads a text for this number, given the text after the number.
     fn read_declared(&mut self, number: u32, rest: &[u8]) -> Result<(), MapFaultKind>
-        ensures { Reads self.old self.new (declared_line self.old (Some number) rest.now) result }
+        ensures { Reads self.old self.new (label_line self.old (Some number) rest.now) result }
     {
         check_label(rest)?;
         if are_digits(rest) {
@@ -109,7 +110,8 @@ impl Reading {
 
     // Reads `label NUMBER TEXT`, given the text after the first word.
     fn read_label(&mut self, rest: &[u8]) -> Result<(), MapFaultKind>
-        ensures { Reads self.old self.new (label_line self.old rest.now) result }
+        ensures { Reads self.old self.new
+            (label_line self.old (number_of_label (first_word rest.now)) (behind_word rest.now)) result }
     {
         let (word, rest) = split_word(rest);
         match label_number(word) {
@@ -162,7 +164,7 @@ impl Reading {
     // Reads a span in the text's version followed by a label, given the text after the span.
     #[inline(always)]
     fn read_span(&mut self, span: Span, rest: &[u8]) -> Result<(), MapFaultKind>
-        requires { version_at_of self.old span.low.version ≡ span.low.version }
+        requires { unwrap_or self.old.version span.low.version ≡ span.low.version }
         ensures { Reads self.old self.new
             (span_line self.old span.low.version span.low.value span.high.value rest.now) result }
     {
@@ -175,8 +177,9 @@ impl Reading {
     // block is found here if the line has another fault, and otherwise after the last line.
     #[inline(always)]
     fn read_prefix(&mut self, block: Block, rest: &[u8]) -> Result<(), MapFaultKind>
-        requires { version_at_of self.old block.version ≡ block.version }
-        ensures { Reads self.old self.new (prefix_line self.old block.version block.value block.len rest.now) result }
+        requires { unwrap_or self.old.version block.version ≡ block.version }
+        ensures { Reads self.old self.new
+            (placed_line list_form self.old block.version block.value block.len rest.now) result }
     {
         let has_room = self.entry_count() < MAPPING_LIMIT;
         let taken = match self.line_label(rest, has_room) {
@@ -192,7 +195,7 @@ impl Reading {
     // Reads a label for a block in the text's version, given the text after the block.
     #[inline(always)]
     fn read_placed(&mut self, form: Form, block: Block, rest: &[u8]) -> Result<(), MapFaultKind>
-        requires { version_at_of self.old block.version ≡ block.version }
+        requires { unwrap_or self.old.version block.version ≡ block.version }
         ensures { Reads self.old self.new
             (placed_line form self.old block.version block.value block.len rest.now) result }
     {
@@ -251,15 +254,6 @@ impl Reading {
         }
     }
 
-    // Reads `ADDRESS LABEL`, given the address and the text after it.
-    fn read_single(&mut self, form: Form, addr: Addr, rest: &[u8]) -> Result<(), MapFaultKind>
-        ensures { Reads self.old self.new (single_line form self.old (addr.version, addr.value) rest.now) result }
-    {
-        let version = self.version_at(addr.version);
-        let addr = addr_in(version, addr)?;
-        self.read_placed(form, block_of(addr, version.width()), rest)
-    }
-
     // Reads a line that begins with an address, given the address and the text after it.
     fn read_address_line(
         &mut self,
@@ -273,7 +267,10 @@ impl Reading {
         let (word, behind) = split_word(rest);
         match read_addr(word) {
             Some(second) => self.read_range(form, first, second, behind),
-            None => self.read_single(form, first, rest),
+            None => {
+                let block = block_of(first, first.version.width());
+                self.read_behind_block(form, block, rest)
+            }
         }
     }
 

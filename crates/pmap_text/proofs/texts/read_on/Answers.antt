@@ -7,7 +7,7 @@ use Rattle.pmap_text.proofs.texts.read_on.Goals as goal
 pub loop-reading-init : goal.loop-reading-init
 loop-reading-init c = record {
   fits = omega arith;
-  so_far = none_read c.args.form (lines_of c.args.text.now) c.args.limit c.args.reading.now c.requires;
+  so_far = none_read c.args.form c.args.text.now c.args.limit c.args.reading.now c.requires;
 }
 
 pub loop-reading-preserved : goal.loop-reading-preserved
@@ -19,7 +19,7 @@ loop-reading-preserved c =
     let taken = subst (λ (t : List ℕ). Takes old new (content_line c.args.form old t)) cut.2 c.in_default.ensures.ok in
     record {
       fits = omega arith;
-      so_far = read-line c.args.form (lines_of c.args.text.now) c.args.limit old new c.loop-reading.number cut.0 (lines_of c.loop-reading.rest.now)
+      so_far = read-line c.args.form c.args.text.now c.args.limit old new c.loop-reading.number cut.0 (lines_of c.loop-reading.rest.now)
           (lines_of c.split_content.result.1.now) cut.1 c.loop-reading.invariant.so_far few taken;
     }
 
@@ -35,7 +35,7 @@ returns-in-Err c =
       repeat = tt;
       err = λ once other.
           let known : c.in-Err.kind ≢ NoMemory = λ e. other (c.fault_at.ensures.kind ∙ e) in
-          read-fault c.args.form (lines_of c.args.text.now) c.args.limit old new c.loop-reading.number cut.0 (lines_of c.loop-reading.rest.now)
+          read-fault c.args.form c.args.text.now c.args.limit old new c.loop-reading.number cut.0 (lines_of c.loop-reading.rest.now)
           (lines_of c.split_content.result.1.now) cut.1 c.loop-reading.invariant.so_far c.in-Err.kind refused kept once known
           ∙ (λ i. Err (record { kind = sym c.fault_at.ensures.kind i; line = sym (c.fault_at.ensures.line known) i }));
       memory = λ e. c.fault_at.ensures.memory (sym c.fault_at.ensures.kind ∙ e);
@@ -43,7 +43,7 @@ returns-in-Err c =
 
 pub returns-after-loop-reading : goal.returns-after-loop-reading
 returns-after-loop-reading c = record {
-  ok = λ whole once. read-all c.args.form (lines_of c.args.text.now) c.loop-reading.reading c.loop-reading.number c.loop-reading.rest.now
+  ok = λ whole once. read-all c.args.form c.args.text.now c.loop-reading.reading c.loop-reading.number c.loop-reading.rest.now
       (sym c.is_empty.ensures ∙ c.loop-reading-test.false) (c.loop-reading.invariant.so_far.read once);
   repeat = c.loop-reading.invariant.so_far.repeat;
   err = tt;

@@ -7,7 +7,7 @@ use Rattle.pmap_text.proofs.texts.read_on.Given as goal
 abbrev pub invariant-loop-reading : goal.invariant-loop-reading
 invariant-loop-reading l = record {
   fits : l.number + length l.rest ≤ length l.text;
-  so_far : HasReadTo l.form (lines_of l.text) l.limit l.reading l.number (lines_of l.rest);
+  so_far : HasReadTo l.form l.text l.limit l.reading l.number (lines_of l.rest);
 }
 
 abbrev pub decreases-loop-reading : goal.decreases-loop-reading

@@ -1,8 +1,8 @@
-use Rattle.std.proofs.Common.{◌≡◌, arith, refl, subst, sym, ◌∙◌, Option}
+use Rattle.std.proofs.Common.{◌≡◌, arith, subst, sym, ◌∙◌, Option}
 use Rattle.pmap_text.specs.Progress.{IsProgress}
 use Rattle.pmap_text.specs.Reading.{map_from, unknown}
 use Rattle.pmap_text.specs.declared.label.LabelId.{LabelId}
-use Rattle.pmap_text.proofs.ProgressSteps.{finished, finished-unknown, length-with_label, version-decided}
+use Rattle.pmap_text.proofs.ProgressSteps.{finished, finished-known, finished-unknown, length-with_label, version-decided}
 use Rattle.pmap_text.proofs.reading.Reading.into_map.Goals as goal
 use Rattle.pmap_text.proofs.reading.Reading.into_map.Goals.{in-Some, in-None+in_ok-default-in-None}
 
@@ -22,10 +22,12 @@ invariant_of-result-clause-numbers_known c =
 pub returns : goal.returns
 returns c =
     let r = c.self.inside in
-    let whole : finished r.mode r.version r.name r.declared r.default r.statements r.entries.items r.labels c.match-default.default c.match-default.labels ≡ map_from c.args.self = elim c.match-default.branch [
-      | in-Some w ↦ rw (w.labels-is, w.default-is, ← c.self.view_is, w.in-Some.is) refl
+    let whole : finished r.version r.name r.declared r.default r.statements r.entries.items r.labels c.match-default.default c.match-default.labels ≡ map_from c.args.self = elim c.match-default.branch [
+      | in-Some w ↦
+          rw (w.labels-is, w.default-is, ← c.self.view_is, w.in-Some.is)
+          (finished-known r.version r.name r.declared r.default r.statements r.entries.items r.labels w.in-Some.label (c.self.invariant.fallback w.in-Some.label w.in-Some.is))
       | in-None+in_ok-default-in-None w ↦
           let ok = subst (λ (d : Option LabelId). IsProgress r.version d r.statements r.entries.items r.labels) w.in-None.is c.self.invariant in
           let to = w.in_ok-default-in-None.ensures.ok in
-          rw (w.labels-is, w.default-is, to, ← c.self.view_is, w.in-None.is) (finished-unknown r.mode r.version r.name r.declared r.default r.statements r.entries.items r.labels w.in_ok-default-in-None.default ok (rw to at w.in_ok-default-in-None.ensures.text))
+          rw (w.labels-is, w.default-is, to, ← c.self.view_is, w.in-None.is) (finished-unknown r.version r.name r.declared r.default r.statements r.entries.items r.labels w.in_ok-default-in-None.default ok (rw to at w.in_ok-default-in-None.ensures.text))
     ] in rw c.unwrap_or.ensures whole

@@ -1,4 +1,4 @@
-use Rattle.std.proofs.Common.{List, ap, map, refl, sym, ◌∙◌}
+use Rattle.std.proofs.Common.{List, Ok, ap, inl, map, refl, sym, ◌∙◌}
 use Rattle.pmap_text.specs.MapModel.{Label}
 use Rattle.pmap_text.specs.PrefixList.{prefix_of}
 use Rattle.pmap_text.proofs.ProgressSteps.{IsProgress-with_label, prefixes-with_label, progress-with_label}
@@ -11,7 +11,10 @@ returns c =
     let agrees = sym c.conflicts.ensures ∙ c.if-conflicts.false in
     rw (← c.self.view_is, c.in_ok-check_label.ensures.ok, digits, agrees, c.in_ok-number_for.ensures.room, c.in_ok-number_for.ensures.ok, c.in-Ok.ensures.ok)
     (record {
-      ok = (progress-with_label r.mode r.version r.name _ r.default r.statements r.entries.items r.labels c.args.rest.now c.self.invariant, tt);
+      ok = inl (
+        ap Ok (sym (progress-with_label r.version r.name _ r.default r.statements r.entries.items r.labels c.args.rest.now c.self.invariant)),
+        prefixes-with_label r.labels c.args.rest.now r.entries.items c.self.invariant.entry_numbers,
+      );
       err = tt;
       kept = tt;
     })

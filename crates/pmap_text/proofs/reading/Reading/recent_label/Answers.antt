@@ -1,5 +1,5 @@
-use Rattle.std.proofs.Common.{◌≡◌, ◌∙◌, ℕ, List, [], Option, None, Some, true, ap, refl, sym, subst, slice_get}
-use Rattle.pmap_text.specs.Label.{label_number, meant_text, text_of_number, has_label, number_of}
+use Rattle.std.proofs.Common.{◌≡◌, ◌∙◌, ℕ, List, [], Option, None, Some, true, ap, refl, sym, subst, option_and_then, slice_get, unwrap_or}
+use Rattle.pmap_text.specs.Label.{declared_text, label_number, meant_text, has_label, number_of}
 use Rattle.pmap_text.specs.MapModel.{Label}
 use Rattle.pmap_text.specs.Reading.{Earlier}
 use Rattle.pmap_text.proofs.LabelTexts.{has_label-number, slice_get-number}
@@ -9,7 +9,7 @@ use Rattle.pmap_text.proofs.reading.Reading.recent_label.Goals as goal
 meant-itself : (declared : List (ℕ × Label)) (label : Label) → declared ≡ [] → meant_text declared label ≡ label
 meant-itself declared label none = ap (λ (d : List (ℕ × Label)). meant_text d label) none ∙ by (label_number label)
   where
-    by : (number : Option ℕ) → text_of_number [] label number ≡ label
+    by : (number : Option ℕ) → unwrap_or (option_and_then (declared_text []) number) label ≡ label
     by None = refl
     by (Some number) = refl
 
