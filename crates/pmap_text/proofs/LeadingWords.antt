@@ -1,5 +1,5 @@
 -- The start of a text, and its first word.
-use Rattle.std.proofs.Common.{◌≡◌, ℕ, ◌+◌, ◌*◌, ◌<◌, ◌≤◌, ◌&&◌, ◌||◌, ◌==◌, Bool, true, false, List, [], ◌∷◌, ◌++◌, Some, None, Ok, All, length, take, drop, ap, sym, refl, ◌∙◌, arith, codes, inl, inr, nat_le, le-leb, option_map}
+use Rattle.std.proofs.Common.{◌≡◌, ℕ, ◌+◌, ◌*◌, ◌<◌, ◌≤◌, ◌&&◌, ◌||◌, ◌==◌, Bool, true, false, List, [], ◌∷◌, ◌++◌, Some, None, Ok, All, length, take, drop, ap, sym, refl, ◌∙◌, arith, codes, inl, inr, nat_le, le-leb, ok_or, option_map}
 use Rattle.std.specs.List.{list_all, list_any, position_or_len, before_first, after_first}
 use Rattle.std.specs.Str.{bytes_eq}
 use Rattle.std.proofs.lemmas.Bool.{cases_Bool, eqb-true, false≢true, true≢false, cond-false, cond-true, and_from, false_from_ne_true, or_cases, or_from, or_right}
@@ -13,9 +13,10 @@ use Rattle.prefix_keys.proofs.LeadingGroups.{colon-in}
 use Rattle.prefix_keys.proofs.Pieces.{is_point, short_number-undigit}
 use Rattle.prefix_keys.specs.Block.{block_number, first_of, width_of}
 use Rattle.prefix_keys.specs.Inner.{is_colon_byte}
-use Rattle.prefix_keys.specs.Text.{AddressOf, BlockOf, address_of, block_from, block_of_text, colon_address, covering_block, decimal_value, dotted_address, four_bytes, four_pieces, is_digit, is_hex_digit, short_number}
+use Rattle.prefix_keys.specs.Text.{AddressOf, BlockOf, address_of, block_from, block_of_text, colon_address, decimal_value, dotted_address, four_bytes, four_pieces, is_digit, is_hex_digit, short_number}
 use Rattle.prefix_keys.specs.declared.addr.Addr.{Addr}
 use Rattle.prefix_keys.specs.declared.block.Block.{Block}
+use Rattle.prefix_keys.specs.declared.text.BlockFault.TheVariants.{BadLength}
 use Rattle.prefix_keys.specs.declared.version.Version.TheVariants.{V4, V6}
 use Rattle.pmap_text.specs.Label.{is_blank}
 use Rattle.pmap_text.specs.Inner.{BeginsWithAddress, BeginsWithBlank, BeginsWithDotted, BeginsWithNumber, IsWord, is_address_byte, Address}
@@ -212,6 +213,7 @@ block-reads : (front digits : List ℕ) (addr : Addr) (len : ℕ) → list_all i
     ≡ Ok (addr.version, first_of (width_of addr.version) len (block_number (width_of addr.version) len addr.value), len)
 block-reads front digits addr len bytes reads number =
     let text : List ℕ = front ++ 47 ∷ digits in
+    let W : ℕ = width_of addr.version in
     let before : before_first (λ b. b == 47) text ≡ front =
     ap (λ n. take n text) (slash-first front digits bytes) ∙ take_at front (47 ∷ digits) (length front) refl in
     let after : after_first (λ b. b == 47) text ≡ digits =
@@ -221,7 +223,7 @@ block-reads front digits addr len bytes reads number =
     ap (λ t. block_from (address_of t) (after_first (λ b. b == 47) text)) before
     ∙ ap (λ t. block_from (address_of front) t) after
     ∙ ap (λ a. block_from a digits) reads
-    ∙ ap (covering_block (addr.version, addr.value)) number
+    ∙ ap (λ len. ok_or (option_map (λ len. (addr.version, first_of W len (block_number W len addr.value), len)) len) BadLength) number
 
 slash-in : (front digits : List ℕ) → list_any (λ b. b == 47) (front ++ 47 ∷ digits) ≡ true
 slash-in front digits =

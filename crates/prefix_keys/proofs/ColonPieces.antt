@@ -1,9 +1,9 @@
-use Rattle.std.proofs.Common.{ℕ, ◌≡◌, ◌≢◌, ◌<◌, ◌≤◌, ◌==◌, ◌∙◌, Bool, List, [], ◌∷◌, Option, Some, None, length, ap, sym, refl, arith}
+use Rattle.std.proofs.Common.{ℕ, ◌≡◌, ◌≢◌, ◌<◌, ◌≤◌, ◌==◌, ◌∙◌, Bool, List, [], ◌∷◌, Option, Some, None, length, ap, sym, refl, arith, option_and_then, option_map}
 use Rattle.std.specs.List.{slice_split, before_first, after_first, position_or_len}
 use Rattle.std.proofs.lemmas.List.{length-take, take_all}
 use Rattle.std.proofs.lemmas.List.Splits.{slice_split_first, length-slice_split}
 use Rattle.std.proofs.lemmas.Bool.Decides.{nat_tests}
-use Rattle.prefix_keys.specs.Text.{groups_of_pieces, text_groups, last_groups, hex_group, onto_groups}
+use Rattle.prefix_keys.specs.Text.{groups_of_pieces, text_groups, last_groups, hex_group}
 use Rattle.prefix_keys.specs.Inner.{more_groups}
 use Rattle.prefix_keys.proofs.Pieces.{split-whole}
 
@@ -25,6 +25,10 @@ text_groups-last dotted text piece front h =
     let none = no_colon text (ap (λ p. length p) (sym front) ∙ h) in
     ap (groups_of_pieces dotted) (split-whole is_colon text none)
     ∙ ap (last_groups dotted) (sym (front ∙ take_all (position_or_len is_colon text) text none))
+
+-- a group put before groups, if all exist
+abbrev pub onto_groups : Option ℕ → Option (List ℕ) → Option (List ℕ)
+onto_groups group groups = option_and_then (λ g. option_map (λ gs. g ∷ gs) groups) group
 
 pub groups_of-more : (dotted : Bool) (piece : List ℕ) (pieces : List (List ℕ)) → 0 < length pieces →
     groups_of_pieces dotted (piece ∷ pieces) ≡ onto_groups (hex_group piece) (groups_of_pieces dotted pieces)

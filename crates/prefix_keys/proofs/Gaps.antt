@@ -18,7 +18,7 @@ and_false true = refl
 and_false false = refl
 
 -- a byte put before the front side
-abbrev onto_front : ℕ → Option (List ℕ × List ℕ) → Option (List ℕ × List ℕ)
+abbrev pub onto_front : ℕ → Option (List ℕ × List ℕ) → Option (List ℕ × List ℕ)
 onto_front b sides = option_map (λ sides. (b ∷ sides.0, sides.1)) sides
 
 pub first_gap : (text : List ℕ) (n : ℕ) → ((k : ℕ) → k < n → is_gap text k ≡ false) → is_gap text n ≡ true →

@@ -1,4 +1,4 @@
-use Rattle.std.proofs.Common.{ℕ, zero, suc, ◌≡◌, ◌+◌, ◌-◌, ◌*◌, ◌%◌, ◌^◌, ◌<◌, ◌≤◌, ◌==◌, ◌++◌, ◌∙◌, List, [], ◌∷◌, Option, Some, None, length, replicate, ap, sym, refl, arith, nat_le, if◌then◌else◌, mul_assoc}
+use Rattle.std.proofs.Common.{ℕ, zero, suc, ◌≡◌, ◌+◌, ◌-◌, ◌*◌, ◌%◌, ◌^◌, ◌<◌, ◌≤◌, ◌==◌, ◌++◌, ◌∙◌, List, [], ◌∷◌, Option, Some, None, length, replicate, ap, sym, refl, arith, nat_le, if◌then◌else◌, mul_assoc, option_and_then}
 use Rattle.std.specs.List.{fold}
 use Rattle.std.proofs.Math.Nat.{pow-le-pow_right, mul-le-mul_right}
 use Rattle.std.proofs.Math.Numerals.{suc-eq-add-one}
@@ -6,7 +6,7 @@ use Rattle.std.proofs.lemmas.Nat.{pow-add, shl_below, shl_whole}
 use Rattle.std.proofs.lemmas.List.{length-append, length-replicate}
 use Rattle.std.proofs.lemmas.List.Sums.{fold-append}
 use Rattle.std.proofs.lemmas.Bool.Decides.{nat_tests}
-use Rattle.prefix_keys.specs.Text.{groups_number, whole_address, gap_address}
+use Rattle.prefix_keys.specs.Text.{groups_number, gap_address}
 use Rattle.prefix_keys.specs.Inner.{more_groups}
 
 -- Groups of 16 bits and the numbers that they form.
@@ -67,6 +67,10 @@ counted-number groups c n h = grind (arith, nat_tests)
 
 pub too_many : (groups : List ℕ) → None ≡ more_groups 0 0 (Some groups) → 8 < length groups
 too_many groups h = grind (arith, nat_tests)
+
+-- the address of eight groups
+abbrev pub whole_address : Option (List ℕ) → Option ℕ
+whole_address groups = option_and_then (λ groups. if length groups == 8 then Some (groups_number groups) else None) groups
 
 pub whole-some : (x : Option (List ℕ)) (c n : ℕ) → Some (c, n) ≡ more_groups 0 0 x → whole_address x ≡ if c == 8 then Some n else None
 whole-some None c n h = cc

@@ -6,10 +6,10 @@ use Rattle.std.proofs.lemmas.List.{append_assoc, append-nil, length-append}
 use Rattle.std.proofs.lemmas.List.Folds.{list_all-append}
 use Rattle.std.proofs.lemmas.List.Splits.{slice_split_at, slice_split_none, length-slice_split}
 use Rattle.prefix_keys.specs.Inner.{BeginsWithColon, BeginsWithGroup, BeginsWithSide, behind, is_colon_byte, more_groups}
-use Rattle.prefix_keys.specs.Text.{around_gap, around_address, colon_address, groups_of_pieces, hex_group, hex_value, is_hex_digit, last_groups, onto_groups, side_groups, text_groups, whole_address, dotted_address}
-use Rattle.prefix_keys.proofs.ColonPieces.{is_colon, groups_of-more, more-next}
+use Rattle.prefix_keys.specs.Text.{around_gap, around_address, colon_address, groups_of_pieces, hex_group, hex_value, is_hex_digit, last_groups, side_groups, text_groups, dotted_address}
+use Rattle.prefix_keys.proofs.ColonPieces.{is_colon, groups_of-more, more-next, onto_groups}
 use Rattle.prefix_keys.proofs.Gaps.{address-around}
-use Rattle.prefix_keys.proofs.GroupNumbers.{counted-count, gap-some, whole-some}
+use Rattle.prefix_keys.proofs.GroupNumbers.{counted-count, gap-some, whole-some, whole_address}
 use Rattle.prefix_keys.proofs.Bytes.{all-weaker, apart, each-fails, lacks, none-passes}
 use Rattle.prefix_keys.proofs.Printed.{Lacks}
 use Rattle.prefix_keys.proofs.PrintedGaps.{around-piece, behind-behind, behind-nil, colon-begins, skip}
@@ -78,7 +78,7 @@ colon-front None = refl
 colon-front (Some sides) = refl
 
 -- the groups of a side that isn't empty are those of its text
-side-some : (dotted : Bool) (text : List ℕ) → 0 < length text → side_groups dotted text ≡ text_groups dotted text
+pub side-some : (dotted : Bool) (text : List ℕ) → 0 < length text → side_groups dotted text ≡ text_groups dotted text
 side-some dotted [] some = absurd (omega arith)
 side-some dotted (b ∷ text) some = refl
 

@@ -1,17 +1,15 @@
-use Rattle.std.proofs.Common.{ℕ, ◌≡◌, ◌<◌, ◌==◌, ◌&&◌, ◌∙◌, false, cond, List, [], ◌∷◌, ◌++◌, Option, Some, None, All, drop, length, ap, sym, refl, arith, option_map}
+use Rattle.std.proofs.Common.{ℕ, ◌≡◌, ◌<◌, ◌==◌, ◌&&◌, ◌∙◌, Bool, false, cond, List, [], ◌∷◌, ◌++◌, Option, Some, None, All, length, ap, sym, refl, arith}
 use Rattle.std.proofs.lemmas.List.{append_assoc, append-nil}
 use Rattle.std.proofs.lemmas.List.Elements.{All-head, All-tail}
 use Rattle.std.specs.Fmt.{digits}
 use Rattle.prefix_keys.specs.Inner.{behind}
 use Rattle.prefix_keys.specs.Print.{address_groups_text}
-use Rattle.prefix_keys.specs.Text.{begins_gap, around_gap}
+use Rattle.prefix_keys.specs.Text.{around_gap}
 use Rattle.prefix_keys.proofs.Printed.{Lacks, Lacks-digits, no_colon}
 use Rattle.prefix_keys.proofs.Digits.{digits_some}
+use Rattle.prefix_keys.proofs.Gaps.{onto_front as onto}
 
 -- The first `::` of a printed text.
-
-abbrev onto : ℕ → Option (List ℕ × List ℕ) → Option (List ℕ × List ℕ)
-onto b sides = option_map (λ sides. (b ∷ sides.0, sides.1)) sides
 
 pub behind-nil : (sides : Option (List ℕ × List ℕ)) → sides ≡ behind [] sides
 behind-nil None = refl
@@ -26,8 +24,13 @@ behind-behind front next None = refl
 behind-behind front next (Some sides) = ap (λ text. Some (text, sides.1)) (sym (append_assoc front next sides.0))
 
 -- no `::` begins with the byte
+abbrev pub begins_gap : List ℕ → Bool
+begins_gap (a ∷ b ∷ text) = a == 58 && b == 58
+begins_gap _ = false
+
 pub skip : (b : ℕ) (text : List ℕ) → begins_gap (b ∷ text) ≡ false → around_gap (b ∷ text) ≡ onto b (around_gap text)
-skip b text h = ap (λ t. cond t (Some ([], drop 1 text)) (onto b (around_gap text))) h
+skip b [] h = refl
+skip b (d ∷ text) h = ap (λ t. cond t (Some ([], text)) (onto b (around_gap (d ∷ text)))) h
 
 other-begins : (b : ℕ) (text : List ℕ) → (b == 58) ≡ false → begins_gap (b ∷ text) ≡ false
 other-begins b [] h = refl
@@ -45,7 +48,7 @@ around-piece (b ∷ piece) rest lacks =
     ∙ ap (onto b) (around-piece piece rest (All-tail (λ b. (b == 58) ≡ false) b piece lacks))
     ∙ onto-behind b piece (around_gap rest)
 
-abbrev hex : ℕ → List ℕ
+abbrev pub hex : ℕ → List ℕ
 hex group = digits 16 false group
 
 abbrev pub IsGroup : ℕ → Type 0

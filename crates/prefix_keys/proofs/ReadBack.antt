@@ -1,24 +1,25 @@
-use Rattle.std.proofs.Common.{ℕ, ◌≡◌, ◌+◌, ◌-◌, ◌*◌, ◌/◌, ◌%◌, ◌^◌, ◌<◌, ◌≤◌, ◌==◌, ◌∙◌, Bool, true, false, cond, List, [], ◌∷◌, ◌++◌, Some, None, Ok, All, fold, length, map, take, drop, replicate, ap, sym, refl, inl, inr, arith, option_map, nat_le, le-leb, eq-eqb}
+use Rattle.std.proofs.Common.{ℕ, ◌≡◌, ◌+◌, ◌-◌, ◌*◌, ◌/◌, ◌%◌, ◌^◌, ◌<◌, ◌≤◌, ◌==◌, ◌∙◌, Bool, true, false, cond, List, [], ◌∷◌, ◌++◌, Some, None, Ok, All, fold, length, map, take, drop, replicate, ap, sym, refl, inl, inr, arith, ok_or, option_map, nat_le, le-leb, eq-eqb}
 use Rattle.std.specs.List.{list_any, before_first, after_first, position_or_len}
-use Rattle.std.specs.Fmt.{digits, decimal}
+use Rattle.std.specs.Fmt.{decimal}
 use Rattle.std.proofs.lemmas.Bool.{cases_lt, or_right, lt-leb, cond-true, cond-false}
 use Rattle.std.proofs.lemmas.List.{get_or_append_left, get_or_at, take_at, drop_at, length-drop, length-take, length-take-le, length-append, length-replicate, take-append-drop, drop-drop}
 use Rattle.std.proofs.lemmas.List.Elements.{All-head, All-tail, All-take, All-drop, All-weaker, All-same, All-append, All-cons}
 use Rattle.std.proofs.lemmas.List.Folds.{list_any_none, list_any-append}
-use Rattle.prefix_keys.specs.Block.{width_of, Version, V4, V6}
+use Rattle.prefix_keys.specs.Block.{block_number, first_of, width_of, Version, V4, V6}
+use Rattle.prefix_keys.specs.declared.text.BlockFault.TheVariants.{BadLength}
 use Rattle.std.proofs.Math.Nat.{div-add-mod'}
 use Rattle.std.proofs.lemmas.List.Sums.{position_or_len_is}
 use Rattle.prefix_keys.specs.Print.{address_text, joined_text, dotted_text, address_bytes, address_groups, address_groups_text, longest_run, shortened_text, AddressIsReadBack, BlockIsReadBack, IsZeroRun}
-use Rattle.prefix_keys.specs.Text.{onto_groups, groups_of_pieces, last_groups, text_groups, side_groups, groups_number, whole_address, gap_address, around_address, colon_address, hex_group, dotted_address, four_pieces, four_bytes, short_number, address_of, block_from, covering_block}
+use Rattle.prefix_keys.specs.Text.{groups_of_pieces, last_groups, text_groups, side_groups, groups_number, gap_address, around_address, colon_address, hex_group, dotted_address, four_pieces, four_bytes, short_number, address_of, block_from}
 use Rattle.prefix_keys.proofs.Printed.{Lacks, Lacks-digits, no_colon, no_point, no_slash, split-joined, joined-some, hex_group-digits, short_number-decimal, Lacks-joined}
+use Rattle.prefix_keys.proofs.ColonPieces.{onto_groups}
+use Rattle.prefix_keys.proofs.GroupNumbers.{whole_address}
 use Rattle.prefix_keys.proofs.Groups.{bytes-below, bytes-number, groups-below, groups-number, width-le}
-use Rattle.prefix_keys.proofs.PrintedGaps.{IsGroup, around-gap, around-none}
+use Rattle.prefix_keys.proofs.LeadingGroups.{side-some}
+use Rattle.prefix_keys.proofs.PrintedGaps.{IsGroup, around-gap, around-none, hex}
 use Rattle.prefix_keys.proofs.Runs.{longest_is_run}
 
 -- Printed texts are read back.
-
-abbrev hex : ℕ → List ℕ
-hex group = digits 16 false group
 
 -- the groups of texts with colons
 last_groups-hex : (dotted : Bool) (group : ℕ) → group < 65536 → last_groups dotted (hex group) ≡ Some (group ∷ [])
@@ -41,14 +42,10 @@ text_groups-printed dotted group groups all =
     ap (groups_of_pieces dotted) (split-joined 16 58 no_colon (omega arith) (omega arith) group groups all)
     ∙ groups_of-hex dotted group groups all
 
-side_some : (dotted : Bool) (text : List ℕ) → 0 < length text → side_groups dotted text ≡ text_groups dotted text
-side_some dotted [] h = absurd (omega arith)
-side_some dotted (b ∷ text) h = refl
-
 side_groups-printed : (dotted : Bool) (groups : List ℕ) → All IsGroup groups → side_groups dotted (address_groups_text groups) ≡ Some groups
 side_groups-printed dotted [] all = refl
 side_groups-printed dotted (group ∷ groups) all =
-    side_some dotted (address_groups_text (group ∷ groups)) (joined-some 16 58 (omega arith) group groups (All-head IsGroup group groups all))
+    side-some dotted (address_groups_text (group ∷ groups)) (joined-some 16 58 (omega arith) group groups (All-head IsGroup group groups all))
     ∙ text_groups-printed dotted group groups all
 
 -- a list is a front, a run of zeros, and the rest
@@ -223,5 +220,6 @@ block_is_read_back block =
     ap (λ front. block_from (address_of front) (after_first (λ b. b == 47) (text ++ 47 ∷ decimal block.len))) (before_cut 47 text (decimal block.len) lacks)
     ∙ ap (block_from (address_of text)) (after_cut 47 text (decimal block.len) lacks)
     ∙ ap (λ addr. block_from addr (decimal block.len)) (address_is_read_back block.version block.value block.in_range)
-    ∙ ap (covering_block (block.version, block.value)) (short_number-decimal W block.len block.len_in_range small)
+    ∙ ap (λ len. ok_or (option_map (λ len. (block.version, first_of W len (block_number W len block.value), len)) len) BadLength)
+    (short_number-decimal W block.len block.len_in_range small)
     ∙ ap (λ number. Ok (block.version, number, block.len)) (whole_quotient block.value (2 ^ (W - block.len)) block.no_host_bit)

@@ -1,4 +1,4 @@
-use Rattle.std.specs.Prelude.{ℕ, ◌+◌, ◌-◌, ◌*◌, ◌/◌, ◌%◌, ◌&&◌, ◌||◌, ◌==◌, Bool, true, false, List, [], ◌∷◌, ◌++◌, Option, Some, None, Result, Ok, Err, length, drop, fold, replicate, nat_le, if◌then◌else◌, option_map}
+use Rattle.std.specs.Prelude.{ℕ, ◌+◌, ◌-◌, ◌*◌, ◌/◌, ◌%◌, ◌&&◌, ◌||◌, ◌==◌, Bool, true, false, List, [], ◌∷◌, ◌++◌, Option, Some, None, Result, Err, length, fold, replicate, nat_le, if◌then◌else◌, ok_or, option_and_then, option_map}
 use Rattle.std.specs.List.{list_all, list_any, slice_split, before_first, after_first}
 use Rattle.prefix_keys.specs.Block.{block_number, first_of, width_of, Version, V4, V6}
 use Rattle.prefix_keys.specs.declared.text.BlockFault.{BlockFault}
@@ -58,21 +58,17 @@ hex_group text =
 
 -- the groups of the last piece: one group, or two if an IPv4 text is allowed and the piece is one
 abbrev pub last_groups : Bool → List ℕ → Option (List ℕ)
-last_groups true piece = if list_any (λ b. b == 46) piece
+last_groups dotted piece = if dotted && list_any (λ b. b == 46) piece
     then option_map (λ value. value / 65536 ∷ value % 65536 ∷ []) (dotted_address piece)
     else option_map (λ group. group ∷ []) (hex_group piece)
-last_groups false piece = option_map (λ group. group ∷ []) (hex_group piece)
 
--- a group put before groups, if all exist
-abbrev pub onto_groups : Option ℕ → Option (List ℕ) → Option (List ℕ)
-onto_groups (Some group) (Some groups) = Some (group ∷ groups)
-onto_groups _ _ = None
-
--- the groups of pieces: one for each piece, and one or two for the last
+-- the groups of pieces, if all exist: one for each piece, and one or two for the last
 abbrev pub groups_of_pieces : Bool → List (List ℕ) → Option (List ℕ)
 groups_of_pieces dotted [] = None
 groups_of_pieces dotted (piece ∷ []) = last_groups dotted piece
-groups_of_pieces dotted (piece ∷ next ∷ pieces) = onto_groups (hex_group piece) (groups_of_pieces dotted (next ∷ pieces))
+groups_of_pieces dotted (piece ∷ next ∷ pieces) =
+    option_and_then (λ group. option_map (λ groups. group ∷ groups) (groups_of_pieces dotted (next ∷ pieces)))
+    (hex_group piece)
 
 -- the groups of a text of pieces separated by colons
 abbrev pub text_groups : Bool → List ℕ → Option (List ℕ)
@@ -87,11 +83,6 @@ side_groups dotted (b ∷ text) = text_groups dotted (b ∷ text)
 abbrev pub groups_number : List ℕ → ℕ
 groups_number groups = fold (λ n group. n * 65536 + group) 0 groups
 
--- the address of eight groups
-abbrev pub whole_address : Option (List ℕ) → Option ℕ
-whole_address (Some groups) = if length groups == 8 then Some (groups_number groups) else None
-whole_address None = None
-
 -- the address of the groups before a `::` and after it; the `::` represents one or more groups of zero
 abbrev pub gap_address : Option (List ℕ) → Option (List ℕ) → Option ℕ
 gap_address (Some front) (Some back) =
@@ -100,23 +91,18 @@ gap_address (Some front) (Some back) =
     else None
 gap_address _ _ = None
 
--- the text begins with `::`
-abbrev pub begins_gap : List ℕ → Bool
-begins_gap (a ∷ b ∷ text) = (a == 58) && (b == 58)
-begins_gap _ = false
-
 -- the text before the first `::` and the text after it, if there is one
 abbrev pub around_gap : List ℕ → Option (List ℕ × List ℕ)
-around_gap [] = None
-around_gap (b ∷ text) =
-    if begins_gap (b ∷ text)
-    then Some ([], drop 1 text)
-    else option_map (λ sides. (b ∷ sides.0, sides.1)) (around_gap text)
+around_gap (a ∷ b ∷ text) =
+    if a == 58 && b == 58 then Some ([], text)
+    else option_map (λ sides. (a ∷ sides.0, sides.1)) (around_gap (b ∷ text))
+around_gap _ = None
 
--- the address of a text on both sides of its `::`, or of a whole text without one
+-- the address of a text on both sides of its `::`, or of a whole text without one, which has eight groups
 abbrev pub around_address : List ℕ → Option (List ℕ × List ℕ) → Option ℕ
 around_address text (Some (front, back)) = gap_address (side_groups false front) (side_groups true back)
-around_address text None = whole_address (text_groups true text)
+around_address text None =
+    option_and_then (λ groups. if length groups == 8 then Some (groups_number groups) else None) (text_groups true text)
 
 -- the IPv6 address of a text (RFC 4291, section 2.2): eight groups separated by colons, in which one `::` may replace
 -- one or more groups of zero, and an IPv4 text the last two groups
@@ -139,15 +125,12 @@ address_of text =
 abbrev pub BlockOf : Type 0
 BlockOf = Version × ℕ × ℕ
 
--- the block of that length that covers the address
-abbrev pub covering_block : AddressOf → Option ℕ → Result BlockOf BlockFault
-covering_block (version, value) (Some len) =
-    Ok (version, first_of (width_of version) len (block_number (width_of version) len value), len)
-covering_block addr None = Err BadLength
-
--- a length is a number of one to three digits, at most the width of the address
+-- the block of that length that covers the address; a length is a number of one to three digits, at most the width of
+-- the address
 abbrev pub block_from : Option AddressOf → List ℕ → Result BlockOf BlockFault
-block_from (Some addr) text = covering_block addr (short_number (width_of addr.0) text)
+block_from (Some (version, value)) text =
+    let W = width_of version in
+    ok_or (option_map (λ len. (version, first_of W len (block_number W len value), len)) (short_number W text)) BadLength
 block_from None text = Err BadAddress
 
 -- the block of a text: an address, a `/` and a length; without a `/` the length is missing
