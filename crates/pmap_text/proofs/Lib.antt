@@ -21,6 +21,8 @@ pub mod Ranges
 pub mod Seen
 pub mod Winners
 pub mod Stretched
+pub mod Joined
+pub mod Layers
 pub mod SeenBlocks
 pub mod Layered
 pub mod Painted

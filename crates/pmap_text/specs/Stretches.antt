@@ -95,9 +95,12 @@ AreLabelsBelow count s = All (λ label. ForSome label (λ id. id.0 < count)) s.l
 abbrev pub count_begun : List ℕ → ℕ → ℕ
 count_begun firsts a = prefix_len (λ first. nat_le first a) firsts
 
--- the label text of the stretch that has the address: the last one that begins at the address or before it
+-- the label of the stretch that has the address, the last one that begins at the address or before it, and its text
+abbrev pub label_held : StretchesModel → ℕ → Option LabelId
+label_held s a = label_at s (count_begun s.firsts a - 1)
+
 abbrev pub text_held : List Label → StretchesModel → ℕ → Option Label
-text_held table s a = option_and_then (λ id. slice_get table id.0) (label_at s (count_begun s.firsts a - 1))
+text_held table s a = option_and_then (λ id. slice_get table id.0) (label_held s a)
 
 -- How stretches are stored. This is private, and callers of the crate need not read it.
 

@@ -1,7 +1,7 @@
-ghost use Rattle.std.specs.Prelude.{◌≡◌, ℕ, ◌+◌, ◌-◌, ◌^◌, ◌<◌, ◌≤◌, ◌++◌, ◌∷◌, [], List, None, Some, All, IfOk, OnOk, length};
+ghost use Rattle.std.specs.Prelude.{◌≡◌, ℕ, ◌+◌, ◌-◌, ◌*◌, ◌^◌, ◌<◌, ◌≤◌, ◌++◌, ◌∷◌, [], List, None, Some, All, IfOk, OnOk, length};
 ghost use Rattle.std.specs.Option.{ForSome};
 ghost use Rattle.prefix_keys.specs.Block.{width_of};
-ghost use Rattle.pmap_text.specs.Stretches.{label_kept, AreLabelsBelow, AreStretches, HasEveryAddress, HoldsAddress, first_at, label_at, label_seen, last_at, text_held, text_won};
+ghost use Rattle.pmap_text.specs.Stretches.{label_kept, AreLabelsBelow, AreStretches, HasEveryAddress, HoldsAddress, first_at, label_at, label_held, label_seen, last_at, text_held, text_won};
 ghost use Rattle.pmap_text.specs.ListModel.{list_label};
 ghost use Rattle.pmap_text.specs.MapModel.{map_label};
 ghost use Rattle.pmap_text.specs.MapText.{map_of};
@@ -138,6 +138,41 @@ impl Stretches {
     {
         let default = Some(map.default);
         Stretches::new(alloc, map.version, default, &map.labels, &map.statements)
+    }
+
+    /// Returns the stretches of a map, with neighbours that have one label joined.
+    pub fn runs_of_map(alloc: Global, map: &MapText) -> Result<Stretches, AllocError>
+        ensures version { IfOk result (λ s. s.version ≡ map.now.version) }
+        ensures every { IfOk result HasEveryAddress }
+        ensures few { IfOk result (λ s. length s.firsts ≤ 2 * length map.now.statements + 1) }
+        ensures labels { IfOk result (λ s. (a : ℕ) → a < 2 ^ width_of map.now.version →
+            text_held map.now.labels s a ≡ Some (map_label (map_of map.now) a)) }
+    {
+        // Provides the law that a table has at most 65536 labels.
+        let _count = map.labels.len();
+        let stretches = Stretches::of_map(alloc, map)?;
+        let runs = stretches.joined(alloc)?;
+        Ok(runs)
+    }
+
+    // Joins neighbouring stretches that have one label.
+    fn joined(self, alloc: Global) -> Result<Stretches, AllocError>
+        requires { AreLabelsBelow (2 ^ 32 - 1) self }
+        ensures version { IfOk result (λ s. s.version ≡ self.version) }
+        ensures every { IfOk result HasEveryAddress }
+        ensures fewer { IfOk result (λ s. length s.firsts ≤ length self.firsts) }
+        ensures labels { IfOk result (λ s. (a : ℕ) → a < 2 ^ width_of self.version → label_held s a ≡ label_held self a) }
+    {
+        let mut last = self.label(0);
+        let mut joined = Stretches::whole(alloc, self.version(), last)?;
+        for index in 1..self.len() {
+            let label = self.label(index);
+            if label != last {
+                joined.push(self.first(index), label)?;
+                last = label;
+            }
+        }
+        Ok(joined)
     }
 
     /// Returns the stretches of a prefix list.
