@@ -73,7 +73,7 @@ module _ (m : MapModel) (inside : HasItsLabels m) (ok : IsLabelTable m.table) (f
         form-listed r left (suc n) (2 * q + 1) (omega arith) stands.3,
       )
 
-  pair-listed : (l : ListModel) × (c : CertificateModel) × IsMinimalPair m l c × HasTextForm c
+  pub pair-listed : (l : ListModel) × (c : CertificateModel) × IsMinimalPair m l c × HasTextForm c
   pair-listed =
       let root = (minimal_pair m).1.root in
       let stands : StandsFor m root 0 0 = (minimal_pair m).2.root in

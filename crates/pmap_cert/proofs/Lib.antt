@@ -10,6 +10,7 @@ pub mod Minimal
 pub mod Existence
 pub mod ExactClaims
 pub mod Alike
+pub mod SameLists
 pub mod Pieces
 pub mod Numbers
 pub mod Tables
