@@ -20,14 +20,14 @@ use Rattle.pmap_cert.specs.Inner.{IsCompactNode, bits_down, end_down, side_below
 use Rattle.pmap_cert.proofs.PackedLines.{held-more}
 use Rattle.pmap_cert.proofs.CompactNodes.{compact-chain, compact-leaf, compact-none, compact-short}
 use Rattle.label_trie.specs.Tree.{Fork, Tip, Tree, leaves_of}
-use Rattle.pmap_text.specs.Settled.{divisions, ends_inside}
+use Rattle.pmap_text.specs.Settled.{IsMapOf, divisions}
 use Rattle.pmap_text.proofs.Ends.{ends_most}
 use Rattle.pmap_text.proofs.Settling.{map_is}
 use Rattle.label_trie.proofs.NodeLeaves.{fits_HasRoom, leaves_settled, leaves_undivided, length_leaves}
-use Rattle.pmap_minimise.specs.Runs.{AreCountedHalves, IsCounted, IsChoice, IsMade, IsRun, IsRunTo, IsStop, IsTreeOf, own_label}
+use Rattle.pmap_minimise.specs.Runs.{AreCountable, AreCountedHalves, IsCounted, IsChoice, IsMade, IsRun, IsRunTo, IsStop, IsTreeOf, own_label}
 use Rattle.pmap_text.specs.Windows.{IsWindow, number_at}
 use Rattle.pmap_text.specs.declared.window.Window.{Window}
-use Rattle.pmap_minimise.specs.Built.{AddsChain, AddsInner, AddsLeaf, HasAscendingSet, exact_cost, HasGrown, IsAt, IsBuilt, IsBuiltFor, cost_above, path_node, Built, Claim}
+use Rattle.pmap_minimise.specs.Built.{AddsChain, AddsInner, AddsLeaf, HasAscendingSet, exact_cost, HasGrown, IsAt, IsBuilt, IsBuiltFor, IsBuiltOf, IsBuiltOn, cost_above, path_node, Built, Claim}
 use Rattle.pmap_cert.specs.Paths.{path_to}
 use Rattle.pmap_cert.proofs.Paths.{path-length}
 use Rattle.pmap_minimise.specs.Numbers.{IsExact, IsExactBy, IsExactSet, IsExactSetBy, common_numbers, has_number}
@@ -352,44 +352,62 @@ chain-built s a low high end old middle new below claim side number bits is are 
     first-set (suc zero) some = absurd (omega arith)
     first-set (suc (suc count)) some = path-set side.0 adds.fits built.node built.made.ascending (number_at s end) (suc (suc count))
 
--- what is built for the whole address space is the map's
-pub whole-built : (m : MapText) (s : StretchesModel) (a : Window) (old new : Built) (claim : Claim) → s.version ≡ m.version → AreStretches m.statements (Some m.default) s
-    → a.first ≡ 0 → a.len ≡ 0 → old.lines.items ≡ [] → IsBuilt s a old new claim → IsBuiltFor m new
-whole-built m s a old new claim version are first len none built =
-    let v = m.version in
-    let W = width_of v in
-    let all : W - 0 ≡ W = omega arith in
-    let number : block_number (width_of s.version) a.len a.first ≡ 0 = ap (λ (x : ℕ). block_number (width_of s.version) a.len x) first ∙ zero-div (2 ^ (width_of s.version - a.len)) in
-    let tree_of = built.made.tree_of m.statements (Some m.default) are in
-    let tree_is : IsTreeOf v m.statements (Some m.default) 0 0 built.tree =
-    subst (λ (x : Version). IsTreeOf x m.statements (Some m.default) 0 0 built.tree) version
-    (subst (λ (n : ℕ). IsTreeOf s.version m.statements (Some m.default) n 0 built.tree) len
-    (subst (λ (q : ℕ). IsTreeOf s.version m.statements (Some m.default) a.len q built.tree) number tree_of)) in
-    let layers = map_is m in
-    let fits = tree_is.fits (map_of m) layers in
-    let labelled = tree_is.labelled refl in
-    let most = mul-le-mul_right (length m.statements) (width-le v) in
-    let few = tree_is.few in
+-- what is built for the whole address space is the node of each map of the stretches
+pub whole-built : (s : StretchesModel) (a : Window) (old new : Built) (claim : Claim) → AreCountable s → a.first ≡ 0 → a.len ≡ 0 → old.lines.items ≡ [] → IsBuilt s a old new claim
+    → IsBuiltOn s new
+whole-built s a old new claim can first len none built =
+    let few = (tree_is can.statements can.default can.stretches).few in
+    let most = mul-le-mul_right (length can.statements) (width-le s.version) in
     record {
       leaves = leaves_of built.tree 0 0;
       node = built.node;
-      settled = leaves_settled (map_of m) built.tree fits labelled;
-      undivided = leaves_undivided (map_of m) built.tree fits labelled;
+      settled = λ ss default m are some is.
+          let tree = tree_is ss default are in
+          (leaves_settled m built.tree (tree.fits m is) (tree.labelled some), leaves_undivided m built.tree (tree.fits m is) (tree.labelled some));
       built = record {
         certified =
-            tree-certified built.tree 0 0 W built.node (fits_HasRoom (map_of m) built.tree 0 0 W (omega arith) fits) built.made.node_is
-            (omega (arith, length_leaves built.tree 0 0, few, ends_most W m.statements, most, m.within_limit));
+            tree-certified built.tree 0 0 (width_of s.version) built.node (fits_HasRoom can.map built.tree 0 0 (width_of s.version) room ((tree_is can.statements can.default can.stretches).fits can.map can.is)) built.made.node_is
+            (omega (arith, length_leaves built.tree 0 0, few, ends_most (width_of s.version) can.statements, most, can.few));
         compact = built.compact;
         compact_is = built.compact_is;
         at = subst (λ (k : ℕ). IsAt new built.compact built.node k (length new.lines.items)) (ap length none) built.at;
       };
     }
+  where
+    room : width_of s.version + 0 ≡ width_of can.map.version
+    room = omega (arith, can.is.width)
 
--- the leaves of the whole address space can be counted
-pub whole-few : (m : MapText) → ends_inside (width_of m.version) m.statements 0 0 * (width_of m.version - 0) + 1 < 2 ^ 32
-whole-few m =
-    let most = mul-le-mul_right (length m.statements) (width-le m.version) in
-    omega (arith, ends_most (width_of m.version) m.statements, most, m.within_limit)
+    tree_is : (ss : List Statement) (default : Option LabelId) → AreStretches ss default s → IsTreeOf s.version ss default 0 0 built.tree
+    tree_is ss default are =
+        let number : number_at s a ≡ 0 = ap (λ (x : ℕ). block_number (width_of s.version) a.len x) first ∙ zero-div (2 ^ (width_of s.version - a.len)) in
+        subst (λ (n : ℕ). IsTreeOf s.version ss default n 0 built.tree) len (subst (λ (q : ℕ). IsTreeOf s.version ss default a.len q built.tree) number (built.made.tree_of ss default are))
+
+map-is : (m : MapText) (s : StretchesModel) → s.version ≡ m.version → IsMapOf (width_of s.version) m.statements (Some m.default) (map_of m)
+map-is m s version = subst (λ (v : Version). IsMapOf (width_of v) m.statements (Some m.default) (map_of m)) (sym version) (map_is m)
+
+-- the stretches of a map can be counted
+pub map-countable : (m : MapText) (s : StretchesModel) → s.version ≡ m.version → AreStretches m.statements (Some m.default) s → AreCountable s
+map-countable m s version are = record {
+  statements = m.statements;
+  default = Some m.default;
+  labelled = refl;
+  stretches = are;
+  map = map_of m;
+  is = map-is m s version;
+  few = omega (arith, m.within_limit);
+}
+
+-- what is built on the stretches of a map is the map's
+pub map-built : (m : MapText) (s : StretchesModel) (b : Built) → s.version ≡ m.version → AreStretches m.statements (Some m.default) s → IsBuiltOn s b → IsBuiltFor m b
+map-built m s b version are built =
+    let settled = built.settled m.statements (Some m.default) (map_of m) are refl (map-is m s version) in
+    record {
+      leaves = built.leaves;
+      node = built.node;
+      settled = settled.0;
+      undivided = settled.1;
+      built = subst (λ (v : Version). IsBuiltOf v built.leaves b built.node) version built.built;
+    }
 
 -- a block's first stretch has a label
 pub window-label : (s : StretchesModel) (a : Window) → IsCounted s a → label_at s a.from ≡ None → ⊥
@@ -434,18 +452,18 @@ both-cost s a low high low_tree high_tree lower upper low_cost high_cost is are 
     )
 
 -- the leaves of the window of all addresses can be counted
-pub whole-counted : (m : MapText) (s : StretchesModel) (a : Window) → s.version ≡ m.version → AreStretches m.statements (Some m.default) s → IsWindow s a → a.first ≡ 0 → a.len ≡ 0
-    → IsCounted s a
-whole-counted m s a version are window first len =
+pub whole-counted : (s : StretchesModel) (a : Window) → AreCountable s → IsWindow s a → a.first ≡ 0 → a.len ≡ 0 → IsCounted s a
+whole-counted s a can window first len =
     let W = width_of s.version in
     let number : number_at s a ≡ 0 = ap (λ (x : ℕ). block_number W a.len x) first ∙ zero-div (2 ^ (W - a.len)) in
+    let most = mul-le-mul_right (length can.statements) (width-le s.version) in
     record {
       window = window;
       few = record {
-        statements = m.statements;
-        default = Some m.default;
-        labelled = refl;
-        stretches = are;
-        few = rw (number, len) (rw version (whole-few m));
+        statements = can.statements;
+        default = can.default;
+        labelled = can.labelled;
+        stretches = can.stretches;
+        few = rw (number, len) (omega (arith, ends_most W can.statements, most, can.few));
       };
     }

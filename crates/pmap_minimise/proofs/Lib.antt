@@ -4,6 +4,7 @@ pub mod Joined
 pub mod Entered
 pub mod Distinct
 pub mod Whole
+pub mod LabelRuns
 pub mod Halves
 pub mod Compacted
 pub mod Paths

@@ -148,34 +148,34 @@ compacted-text m version leaves root compacted c text certified is same ok settl
       text_is ∙ ap certificate_text (c_is ∙ compact-one One m.version m.labels root compacted ok form.0 refl is),
     )
 
--- the entries are those of a certificate's root, which represents the address space
-pub record IsShortestBy (m : MapText) (root : Node) (items : List Entry) : Type 0 where
+-- the entries are those of a certificate's root, with numbers of the map's label table
+pub record AreEntriesOf (m : MapText) (root : Node) (items : List Entry) : Type 0 where
   pub versions : All (λ e. e.block.version ≡ m.version) items
   pub known : All (λ e. e.label.0 < length m.labels) items
-  pub stands : StandsFor (map_of m) (tree_of m.labels root) 0 0
   pub form : HasNumberForm (length m.labels) root (width_of m.version)
   pub entries : map (prefix_of m.labels) items ≡ entries_of (width_of m.version) m.labels (tree_of m.labels root) None 0 0
 
-pub listed-shortest : (m : MapText) (version : Version) (leaves : List LeafModel) (root : Node) (items : List Entry) → IsListedBy version leaves root items → version ≡ m.version
-    → IsLabelTable m.labels → All (IsSettledLeaf (map_of m)) leaves → All (IsUndivided (map_of m)) leaves → IsShortestBy m root items
-listed-shortest m version leaves root items listed same ok settled undivided =
+pub listed-entries : (m : MapText) (leaves : List LeafModel) (root : Node) (items : List Entry) → IsListedBy m.version leaves root items → IsLabelTable m.labels
+    → All (IsKnownLeaf (length m.labels)) leaves → AreEntriesOf m root items
+listed-entries m leaves root items listed ok known =
     let block = listed.block in
-    let whole : IsWhole m.version block = subst (λ (v : Version). IsWhole v block) same listed.whole in
-    let bits = whole.bits in
-    let width : width_of block.version ≡ width_of m.version = ap width_of whole.version_is in
+    let bits = listed.whole.bits in
+    let width : width_of block.version ≡ width_of m.version = ap width_of listed.whole.version_is in
     let room : width_of m.version ≡ width_of block.version - block.len = omega arith in
-    let known = All-weaker (IsSettledLeaf (map_of m)) (IsKnownLeaf (length m.labels)) (settled-known (map_of m)) leaves settled in
-    let form : HasNumberForm (length m.labels) root (width_of m.version) =
-    subst (λ (v : Version). HasNumberForm (length m.labels) root (width_of v)) same (listed.certified.form (length m.labels) known) in
+    let form : HasNumberForm (length m.labels) root (width_of m.version) = listed.certified.form (length m.labels) known in
     let fit : All (IsEntryOf block (length m.labels)) items =
     listed.adds.fit (length m.labels) (λ x e. absurd (none-some x e)) (subst (λ (r : ℕ). HasNumberForm (length m.labels) root r) room form) (All-from_recursion (IsEntryOf block (length m.labels)) [] tt) in
     record {
-      versions = All-weaker (IsEntryOf block (length m.labels)) (λ e. e.block.version ≡ m.version) (λ e fits. fits.version ∙ whole.version_is) items fit;
+      versions = All-weaker (IsEntryOf block (length m.labels)) (λ e. e.block.version ≡ m.version) (λ e fits. fits.version ∙ listed.whole.version_is) items fit;
       known = All-weaker (IsEntryOf block (length m.labels)) (λ e. e.label.0 < length m.labels) (λ e fits. fits.known) items fit;
-      stands = listed.certified.stands (map_of m) ok settled undivided;
       form = form;
-      entries = whole-entries m root block [] items whole ok form refl listed.adds;
+      entries = whole-entries m root block [] items listed.whole ok form refl listed.adds;
     }
+
+-- the root also represents the address space
+pub record IsShortestBy (m : MapText) (root : Node) (items : List Entry) : Type 0 where
+  pub of : AreEntriesOf m root items
+  pub stands : StandsFor (map_of m) (tree_of m.labels root) 0 0
 
 -- the entries chosen by a trie are those of the certificate's root, which represents the address space
 pub chosen-shortest : (m : MapText) (version : Version) (leaves : List LeafModel) (b : Built) (root : Node) (items : List Entry) (top : Node) → IsClaimed version leaves b root → version ≡ m.version
@@ -183,25 +183,23 @@ pub chosen-shortest : (m : MapText) (version : Version) (leaves : List LeafModel
     → ((leaves : List LeafModel) (node : Node) → IsClaimed m.version leaves b node → IsListedBy m.version leaves node items × (top ≡ node)) → IsShortestBy m root items × (top ≡ root)
 chosen-shortest m version leaves b root items top claimed same ok settled undivided chosen =
     let done = chosen leaves root (subst (λ (v : Version). IsClaimed v leaves b root) same claimed) in
-    (listed-shortest m m.version leaves root items done.0 refl ok settled undivided, done.1)
+    let known = All-weaker (IsSettledLeaf (map_of m)) (IsKnownLeaf (length m.labels)) (settled-known (map_of m)) leaves settled in
+    (record { of = listed-entries m leaves root items done.0 ok known; stands = done.0.certified.stands (map_of m) ok settled undivided }, done.1)
 
 module _ (m : MapText) (root : Node) (items : List Entry) (shortest : IsShortestBy m root items) where
   -- the blocks of the entries are distinct
   pub shortest-distinct : HasDistinctBlocks items
   shortest-distinct =
       let form = shortest-form (map_of m) (tree_of m.labels root) shortest.stands (own-labels m) in
-      order-distinct m.labels items (subst IsInOrder (sym shortest.entries) form.order)
+      order-distinct m.labels items (subst IsInOrder (sym shortest.of.entries) form.order)
 
   -- a list of these entries is the root's
   module _ (l : ListModel) (is : l ≡ list_with m items) where
     listed-is : l ≡ shortest_list (map_of m) (tree_of m.labels root)
-    listed-is = is ∙ (λ i. record { version = m.version; name = m.name; prefixes = shortest.entries i; table = m.labels })
+    listed-is = is ∙ (λ i. record { version = m.version; name = m.name; prefixes = shortest.of.entries i; table = m.labels })
 
     pub listed-form : HasListForm l
     listed-form = subst HasListForm (sym listed-is) (shortest-form (map_of m) (tree_of m.labels root) shortest.stands (own-labels m))
 
     pub listed-minimal : (c : CertificateModel) → c ≡ record { format = 1; version = m.version; table = m.labels; root = tree_of m.labels root } → IsMinimalPair (map_of m) l c
     listed-minimal c certificate = minimal (map_of m) l c (tree_of m.labels root) shortest.stands listed-is certificate
-
-    pub listed-pair : IsLabelTable m.labels → (c : CertificateModel) × IsMinimalPair (map_of m) l c × HasTextForm c
-    listed-pair ok = (root_certificate m root, listed-minimal (root_certificate m root) refl, root-form m root shortest.form ok)

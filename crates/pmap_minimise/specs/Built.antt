@@ -1,9 +1,12 @@
-use Rattle.std.specs.Prelude.{◌≡◌, ℕ, zero, suc, ◌+◌, ◌^◌, ◌≤◌, Bool, List, [], ◌∷◌, Some, All, if◌then◌else◌, length, nat_lt, slice_get, ◌<◌, ◌++◌, map}
+use Rattle.std.specs.Prelude.{◌≡◌, ℕ, zero, suc, ◌+◌, ◌^◌, ◌≤◌, Bool, List, [], ◌∷◌, Option, Some, IsSome, All, if◌then◌else◌, length, nat_lt, slice_get, ◌<◌, ◌++◌, map}
 use Rattle.prefix_keys.specs.Block.{width_of}
 use Rattle.prefix_keys.specs.declared.version.Version.{Version}
 use Rattle.pmap_text.specs.MapText.{map_of}
 use Rattle.pmap_text.specs.declared.map_text.MapText.{MapText}
-use Rattle.pmap_text.specs.Stretches.{StretchesModel}
+use Rattle.pmap_text.specs.MapModel.{MapModel}
+use Rattle.pmap_text.specs.Settled.{IsMapOf}
+use Rattle.pmap_text.specs.Stretches.{AreStretches, StretchesModel}
+use Rattle.pmap_text.specs.declared.statement.Statement.{Statement}
 use Rattle.pmap_text.specs.declared.label.LabelId.{LabelId}
 use Rattle.label_trie.specs.Tree.{Tree}
 use Rattle.label_trie.specs.TrieModel.{IsSettledLeaf, IsUndivided, LeafModel}
@@ -113,6 +116,14 @@ pub record IsBuiltOf (version : Version) (leaves : List LeafModel) (b : Built) (
   pub compact : Node
   pub compact_is : IsCompactNode node compact
   pub at : IsAt b compact node 0 (length b.lines.items)
+
+-- what was built is such a `node`, with leaves that each map of the stretches settles
+pub record IsBuiltOn (s : StretchesModel) (b : Built) : Type 0 where
+  pub leaves : List LeafModel
+  pub node : Node
+  pub settled : (ss : List Statement) (default : Option LabelId) (m : MapModel) → AreStretches ss default s → IsSome default
+      → IsMapOf (width_of s.version) ss default m → All (IsSettledLeaf m) leaves × All (IsUndivided m) leaves
+  pub built : IsBuiltOf s.version leaves b node
 
 pub record IsBuiltFor (m : MapText) (b : Built) : Type 0 where
   pub leaves : List LeafModel

@@ -1,4 +1,4 @@
-use Rattle.std.specs.Prelude.{◌≡◌, ◌≢◌, ℕ, zero, suc, ◌+◌, ◌-◌, ◌*◌, ◌^◌, ◌<◌, ◌≤◌, ◌==◌, ◌⊎◌, List, Option, None, Some, IsSome, if◌then◌else◌, option_map}
+use Rattle.std.specs.Prelude.{◌≡◌, ◌≢◌, ℕ, zero, suc, ◌+◌, ◌-◌, ◌*◌, ◌^◌, ◌<◌, ◌≤◌, ◌==◌, ◌⊎◌, List, Option, None, Some, IsSome, length, if◌then◌else◌, option_map}
 use Rattle.prefix_keys.specs.Block.{width_of}
 use Rattle.prefix_keys.specs.declared.version.Version.{Version}
 use Rattle.pmap_text.specs.MapModel.{MapModel}
@@ -12,6 +12,16 @@ use Rattle.pmap_cert.specs.CertificateText.{IsAscending}
 use Rattle.pmap_cert.specs.Node.{Inner, Leaf, Node, label_of, set_of}
 use Rattle.label_trie.specs.Tree.{Fits, IsLabelled, Tree, leaf_count}
 use Rattle.pmap_minimise.specs.Numbers.{IsNodeFor}
+
+-- The stretches are those of a map of statements with a default, few enough that its leaves can be counted.
+pub record AreCountable (s : StretchesModel) : Type 0 where
+  pub statements : List Statement
+  pub default : Option LabelId
+  pub labelled : IsSome default
+  pub stretches : AreStretches statements default s
+  pub map : MapModel
+  pub is : IsMapOf (width_of s.version) statements default map
+  pub few : length statements ≤ 2000001
 
 -- The stretches are those of statements with a default, few enough in the window's block that its leaves can be counted.
 pub record AreFew (s : StretchesModel) (a : Window) : Type 0 where

@@ -3,8 +3,8 @@ ghost use Rattle.std.specs.Prelude.{◌≡◌, ◌+◌, ◌^◌, ◌<◌, IfOk, 
 ghost use Rattle.std.specs.Option.{option_or};
 ghost use Rattle.pmap_cert.specs.Packed.{HasSet};
 ghost use Rattle.pmap_text.specs.Windows.{IsWindow, number_at};
-ghost use Rattle.pmap_minimise.specs.Runs.{IsCounted, own_label};
-ghost use Rattle.pmap_minimise.specs.Built.{AddsChain, AddsInner, AddsLeaf, HasAscendingSet, IsBuilt, IsBuiltFor};
+ghost use Rattle.pmap_minimise.specs.Runs.{AreCountable, IsCounted, own_label};
+ghost use Rattle.pmap_minimise.specs.Built.{AddsChain, AddsInner, AddsLeaf, HasAscendingSet, IsBuilt, IsBuiltFor, IsBuiltOn};
 ghost use Rattle.pmap_minimise.specs.Numbers.{has_number, numbers_of};
 
 use crate::built::{Built, Chain, Claim, Line};
@@ -143,11 +143,11 @@ fn side_of(stretches: &Stretches, low: &Window, high: &Window) -> Option<LabelId
     own_label(stretches, low).or_else(|| own_label(stretches, high))
 }
 
-/// Builds the nodes of the compact certificate of a map's minimal pair.
-pub fn built(alloc: Global, map: &MapText) -> Result<Built, AllocError>
-    ensures { IfOk result (IsBuiltFor map.now) }
+/// Builds the nodes of a compact certificate from stretches.
+pub fn built_of(alloc: Global, stretches: Stretches) -> Result<Built, AllocError>
+    requires { AreCountable stretches }
+    ensures { IfOk result (IsBuiltOn stretches) }
 {
-    let stretches = Stretches::of_map(alloc, map)?;
     let to = stretches.len() - 1;
     let mut built = Built {
         lines: Vec::with_capacity(alloc, 2 * to + 1)?,
@@ -155,5 +155,14 @@ pub fn built(alloc: Global, map: &MapText) -> Result<Built, AllocError>
         sets: SetPool::new(alloc),
     };
     push_window(alloc, &mut built, &stretches, &Window::whole(&stretches))?;
+    Ok(built)
+}
+
+/// Builds the nodes of the compact certificate of a map's minimal pair.
+pub fn built(alloc: Global, map: &MapText) -> Result<Built, AllocError>
+    ensures { IfOk result (IsBuiltFor map.now) }
+{
+    let stretches = Stretches::of_map(alloc, map)?;
+    let built = built_of(alloc, stretches)?;
     Ok(built)
 }

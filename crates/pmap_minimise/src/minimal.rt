@@ -10,14 +10,14 @@ ghost use Rattle.pmap_cert.specs.CertificateModel.{CertificateModel, claim_of};
 ghost use Rattle.pmap_cert.specs.Compacting.{compact};
 ghost use Rattle.label_trie.specs.TrieModel.{IsSettledLeaf, IsUndivided};
 
-use crate::building::built;
+use crate::building::{built, built_of};
 use crate::compacting::compacted;
 use crate::listing::listed;
 use crate::opening::push_text;
 use crate::walks::{chosen, claimed};
 use label_trie::Trie;
 use pmap_cert::{Certificate, Format, minimal_pair_is_accepted, push_head, write_cert};
-use pmap_text::{Entries, Entry, Labels, MapText, Name, PrefixList};
+use pmap_text::{Entries, Entry, Labels, MapText, Name, PrefixList, Stretches};
 use prefix_keys::Version;
 use std::alloc::{AllocError, Global};
 
@@ -67,7 +67,8 @@ pub fn minimise(alloc: Global, map: &MapText, trie: &Trie) -> Result<Minimal, Al
 }
 
 /// Returns the list of `minimise`, made without a trie and without the certificate's nodes: a shortest prefix list that
-/// labels every address as the map does, with the map's name and label table.
+/// labels every address as the map does, with the map's name and label table. The list depends only on the labels of
+/// addresses, so it is built from runs of one label.
 pub fn shortest(alloc: Global, map: MapText) -> Result<PrefixList, AllocError>
     // The list and a certificate that has a text are the map's minimal pair.
     ensures minimal { IfOk result (λ list. (c : CertificateModel) × IsMinimalPair (map_of map) (list_of list) c
@@ -81,9 +82,12 @@ pub fn shortest(alloc: Global, map: MapText) -> Result<PrefixList, AllocError>
     // Provides the laws that a minimal pair is accepted, and that the table's labels are distinct.
     minimal_pair_is_accepted();
     let _labels = map.labels.len();
-    let built = built(alloc, &map)?;
-    let items = listed(alloc, &built, map.version)?;
-    Ok(list_with(map.version, map.name, map.labels, items))
+    let runs = Stretches::runs_of_map(alloc, &map)?;
+    let version = map.version;
+    let (name, labels) = named_labels_of(map);
+    let built = built_of(alloc, runs)?;
+    let items = listed(alloc, &built, version)?;
+    Ok(list_with(version, name, labels, items))
 }
 
 /// Returns the text of the certificate of `minimise`, made without the list and without a node for each of its lines.
@@ -123,6 +127,14 @@ fn labels_of(map: MapText) -> Labels
     ensures { result ≡ map.labels }
 {
     map.labels
+}
+
+// Returns the map's name and label table. The memory of its statements is given back.
+fn named_labels_of(map: MapText) -> (Option<Name>, Labels)
+    ensures name { result.0 ≡ map.name }
+    ensures labels { result.1 ≡ map.labels }
+{
+    (map.name, map.labels)
 }
 
 fn list_with(version: Version, name: Option<Name>, labels: Labels, items: Vec<Entry>) -> PrefixList

@@ -1,12 +1,9 @@
-use Rattle.pmap_minimise.proofs.BuiltNodes.{whole-counted, whole-built}
+use Rattle.pmap_minimise.proofs.BuiltNodes.{map-built, map-countable}
 use Rattle.pmap_minimise.proofs.building.built.Goals as goal
 
-pub push_window-requires : goal.push_window-requires
-push_window-requires c =
-    whole-counted c.args.map.now c.in_ok-stretches.stretches _ c.in_ok-stretches.ensures.version c.in_ok-stretches.ensures.stretches c.whole.ensures.window
-    c.whole.ensures.first c.whole.ensures.len
+pub built_of-requires : goal.built_of-requires
+built_of-requires c = map-countable c.args.map.now c.in_ok-stretches.stretches c.in_ok-stretches.ensures.version c.in_ok-stretches.ensures.stretches
 
 pub returns : goal.returns
 returns c =
-    whole-built c.args.map.now c.in_ok-stretches.stretches _ _ c.push_window.new.built _ c.in_ok-stretches.ensures.version c.in_ok-stretches.ensures.stretches c.whole.ensures.first c.whole.ensures.len
-    c.in_ok-with_capacity.ensures.items c.in_ok-push_window.ensures
+    map-built c.args.map.now c.in_ok-stretches.stretches c.in_ok-built.built c.in_ok-stretches.ensures.version c.in_ok-stretches.ensures.stretches c.in_ok-built.ensures

@@ -17,8 +17,8 @@ list_with-list-requires c =
     let made = chosen-shortest c.args.map.now c.args.trie.now.version c.args.trie.now.leaves c.in_ok-claims.claims claimed.0 c.in_ok-entries.entries.items c.in_ok-entries.root claimed.1
     c.requires.version c.len-labels.ensures.table c.requires.settled c.requires.undivided c.in_ok-entries.ensures in
     record {
-      versions = made.0.versions;
-      known = subst (λ (t : List Label). All (λ e. e.label.0 < length t) c.in_ok-entries.entries.items) (sym c.in_ok-copy.ensures) made.0.known;
+      versions = made.0.of.versions;
+      known = subst (λ (t : List Label). All (λ e. e.label.0 < length t) c.in_ok-entries.entries.items) (sym c.in_ok-copy.ensures) made.0.of.known;
       distinct = shortest-distinct c.args.map.now claimed.0 c.in_ok-entries.entries.items made.0;
     }
 
@@ -29,7 +29,7 @@ new-certificate-requires c =
     let made = chosen-shortest m c.args.trie.now.version c.args.trie.now.leaves c.in_ok-claims.claims claimed.0 c.in_ok-entries.entries.items c.in_ok-entries.root claimed.1
     c.requires.version c.len-labels.ensures.table c.requires.settled c.requires.undivided c.in_ok-entries.ensures in
     subst (λ (t : List Label). HasNumberForm (length t) c.in_ok-entries.root (width_of m.version)) (sym c.in_ok-labels.ensures)
-    (subst (λ (n : Node). HasNumberForm (length m.labels) n (width_of m.version)) (sym made.1) made.0.form)
+    (subst (λ (n : Node). HasNumberForm (length m.labels) n (width_of m.version)) (sym made.1) made.0.of.form)
 
 pub returns : goal.returns
 returns c =

@@ -1,0 +1,139 @@
+-- The list that is built from runs of one label is the map's: runs are the stretches of another map with the same labels.
+use Rattle.std.proofs.Common.{◌≡◌, ℕ, ◌+◌, ◌*◌, ◌^◌, ◌<◌, ◌≤◌, ◌∙◌, All, IsSome, IsTrue, List, Option, Some, None, length, map, option_and_then, option_map, slice_get, refl, sym, ap, subst, arith}
+use Rattle.std.specs.Option.{option_or}
+use Rattle.std.proofs.lemmas.List.{length-map}
+use Rattle.std.proofs.lemmas.List.Elements.{All-map, All-weaker}
+use Rattle.std.proofs.lemmas.Option.{option_and_then_some, same_Some, slice_get_within}
+use Rattle.prefix_keys.specs.Block.{width_of}
+use Rattle.prefix_keys.specs.declared.version.Version.{Version}
+use Rattle.pmap_text.specs.Label.{IsLabelTable}
+use Rattle.pmap_text.specs.ListEntries.{HasDistinctBlocks}
+use Rattle.pmap_text.specs.ListModel.{ListModel}
+use Rattle.pmap_text.specs.MapModel.{Label, MapModel, Mapping, last_such, label_or, map_label, spans}
+use Rattle.pmap_text.specs.MapText.{map_of, mapping_of, text_at}
+use Rattle.pmap_text.specs.PrefixList.{prefix_of}
+use Rattle.pmap_text.specs.Settled.{IsMapOf}
+use Rattle.pmap_text.specs.Stretches.{AreStretches, HasEveryAddress, StretchesModel, first_at, label_at, mappings_of, text_held}
+use Rattle.pmap_text.specs.declared.entry.Entry.{Entry}
+use Rattle.pmap_text.specs.declared.label.LabelId.{LabelId}
+use Rattle.pmap_text.specs.declared.map_text.MapText.{MapText}
+use Rattle.pmap_text.specs.declared.statement.Statement.{Statement}
+use Rattle.pmap_text.proofs.Layers.{are-layers, layers, layers-known, length-layers_to}
+use Rattle.pmap_text.proofs.Ranges.{ordered_at, text_at_index}
+use Rattle.pmap_text.proofs.Stretched.{held_text, stretches_known}
+use Rattle.pmap_cert.specs.Acceptance.{HasItsLabels, IsInOrder, IsMinimalPair, StandsFor, entries_of}
+use Rattle.pmap_cert.specs.CertificateModel.{CertificateModel, has}
+use Rattle.pmap_cert.specs.CertificateText.{HasTextForm}
+use Rattle.pmap_cert.specs.Node.{tree_of}
+use Rattle.pmap_cert.proofs.InOrder.{list-form}
+use Rattle.pmap_cert.proofs.InTableOrder.{pair-listed}
+use Rattle.pmap_cert.proofs.SameLists.{other, same-entries}
+use Rattle.label_trie.specs.TrieModel.{IsSettledLeaf}
+use Rattle.pmap_minimise.specs.Built.{Built, IsBuiltOn}
+use Rattle.pmap_minimise.specs.Listing.{IsListedBy}
+use Rattle.pmap_minimise.specs.Numbers.{IsKnownLeaf}
+use Rattle.pmap_minimise.specs.Runs.{AreCountable}
+use Rattle.pmap_minimise.proofs.Distinct.{order-distinct}
+use Rattle.pmap_minimise.proofs.Joined.{settled-known}
+use Rattle.pmap_minimise.proofs.Texts.{table-has}
+use Rattle.pmap_minimise.proofs.Whole.{AreEntriesOf, list_with, listed-entries, own-labels}
+
+won-label : (o : Option Mapping) (x : Label) → option_or (option_map (λ p. p.label) o) (Some x) ≡ Some (label_or o x)
+won-label None x = refl
+won-label (Some p) x = refl
+
+module _ (m : MapText) (s : StretchesModel) (version : s.version ≡ m.version) (every : HasEveryAddress s) (few : length s.firsts ≤ 2 * length m.statements + 1)
+    (labels : (a : ℕ) → a < 2 ^ width_of m.version → text_held m.labels s a ≡ Some (map_label (map_of m) a)) where
+  fits : (a : ℕ) → a < 2 ^ width_of s.version → a < 2 ^ width_of m.version
+  fits a = subst (λ (v : Version). a < 2 ^ width_of v) version
+
+  -- each run has a label of the map's table
+  run-label : (i : ℕ) → i < length s.firsts → (id : LabelId) × (label_at s i ≡ Some id) × (id.0 < length m.labels)
+  run-label i below =
+      let a = first_at s i in
+      let text = sym (text_at_index s every m.labels a i (record { index = below; from = omega arith; to = ordered_at s every i below })) ∙ labels a (fits a (every.within i below)) in
+      option_and_then_some (λ (id : LabelId). slice_get m.labels id.0) (label_at s i) (map_label (map_of m) a) text (λ id is there. (id, is, slice_get_within m.labels id.0 _ there))
+
+  abbrev default : LabelId
+  default = (run-label 0 every.some).0
+
+  default-known : default.0 < length m.labels
+  default-known = (run-label 0 every.some).2
+
+  known : All (λ (x : Statement). x.label.0 < length m.labels) (layers s)
+  known =
+      layers-known s (length m.labels) (length s.firsts)
+      (λ i below id is. subst (λ (x : LabelId). x.0 < length m.labels) (same_Some _ id (sym (run-label i below).1 ∙ is)) (run-label i below).2) (omega (arith, default-known))
+
+  are : AreStretches (layers s) (Some default) s
+  are = are-layers s every (Some default) (λ i below. subst IsSome (sym (run-label i below).1) refl)
+
+  -- the map of which the runs are the stretches
+  abbrev runs_map : MapModel
+  runs_map = other (map_of m) (mappings_of m.labels (layers s)) (text_at m.labels default.0)
+
+  runs-is : IsMapOf (width_of s.version) (layers s) (Some default) runs_map
+  runs-is = record {
+    width = ap width_of (sym version);
+    mappings = refl;
+    known = known;
+    fallback = λ id is. subst (λ (x : LabelId). (x.0 < length m.labels) × (text_at m.labels x.0 ≡ text_at m.labels default.0)) (same_Some default id is) (default-known, refl);
+  }
+
+  runs-labels : HasItsLabels runs_map
+  runs-labels = record {
+    fallback = table-has m.labels default.0 default-known;
+    mappings =
+        All-map (λ p. IsTrue (has m.labels p.label)) (mapping_of m.labels) (layers s)
+        (All-weaker (λ x. x.label.0 < length m.labels) (λ x. IsTrue (has m.labels (text_at m.labels x.label.0))) (λ x is. table-has m.labels x.label.0 is) (layers s) known);
+  }
+
+  runs-same : (a : ℕ) → a < 2 ^ width_of m.version → map_label runs_map a ≡ map_label (map_of m) a
+  runs-same a below =
+      let below' : a < 2 ^ width_of s.version = subst (λ (v : Version). a < 2 ^ width_of v) (sym version) below in
+      let held = held_text (layers s) (Some default) m.labels s are
+      (stretches_known (layers s) (Some default) (length m.labels) s are known (λ id is. subst (λ (x : LabelId). x.0 < length m.labels) (same_Some default id is) default-known)) a below' in
+      same_Some _ _ (sym (won-label (last_such (spans a) (mappings_of m.labels (layers s))) (text_at m.labels default.0)) ∙ sym held ∙ labels a below)
+
+  pub runs-countable : AreCountable s
+  runs-countable = record {
+    statements = layers s;
+    default = Some default;
+    labelled = refl;
+    stretches = are;
+    map = runs_map;
+    is = runs-is;
+    few = omega (arith, length-layers_to s (length s.firsts), few, m.within_limit);
+  }
+
+  module _ (ok : IsLabelTable m.labels) (b : Built) (built : IsBuiltOn s b) (items : List Entry) (listed : IsListedBy m.version built.leaves built.node items) where
+    pub runs-entries : AreEntriesOf m built.node items
+    runs-entries =
+        listed-entries m built.leaves built.node items listed ok
+        (All-weaker (IsSettledLeaf runs_map) (IsKnownLeaf (length m.labels)) (settled-known runs_map) built.leaves (built.settled (layers s) (Some default) runs_map are refl runs-is).0)
+
+    -- the list with the entries is that of the map's minimal pair
+    pub runs-pair : (l : ListModel) → l ≡ list_with m items → (c : CertificateModel) × IsMinimalPair (map_of m) l c × HasTextForm c
+    runs-pair l is =
+        let settled = built.settled (layers s) (Some default) runs_map are refl runs-is in
+        let stands : StandsFor runs_map (tree_of m.labels built.node) 0 0 = listed.certified.stands runs_map ok settled.0 settled.1 in
+        let pair = pair-listed (map_of m) (own-labels m) ok (omega (arith, length-map m.statements (mapping_of m.labels), m.within_limit)) in
+        let minimal = pair.2 in
+        let same = same-entries (map_of m) (mappings_of m.labels (layers s)) (text_at m.labels default.0) (own-labels m) runs-labels runs-same pair.1.root
+        (tree_of m.labels built.node) 0 0 (omega arith) (omega arith) minimal.root stands in (
+          pair.1,
+          record {
+            certificate_format = minimal.certificate_format;
+            certificate_version = minimal.certificate_version;
+            certificate_table = minimal.certificate_table;
+            root = minimal.root;
+            list_version = ap (λ (k : ListModel). k.version) is;
+            list_name = ap (λ (k : ListModel). k.name) is;
+            list_table = ap (λ (k : ListModel). k.table) is;
+            prefixes = ap (λ (k : ListModel). k.prefixes) is ∙ runs-entries.entries ∙ sym (same.1 None);
+          },
+          pair.3,
+        )
+
+    pub runs-distinct : HasDistinctBlocks items
+    runs-distinct = let pair = runs-pair (list_with m items) refl in order-distinct m.labels items (list-form (map_of m) (list_with m items) pair.0 pair.1 (own-labels m)).order
