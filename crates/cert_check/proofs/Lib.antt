@@ -11,4 +11,5 @@ pub mod Settled
 pub mod Sides
 pub mod Nodes
 pub mod Whole
+mod Walks
 mod PartEnds

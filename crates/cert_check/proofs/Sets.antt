@@ -10,12 +10,11 @@ use Rattle.pmap_text.specs.MapModel.{Label}
 use Rattle.pmap_text.specs.MapText.{text_at}
 use Rattle.pmap_text.specs.declared.label.LabelId.{LabelId}
 use Rattle.pmap_cert.specs.CertificateText.{IsAscending}
-use Rattle.pmap_cert.specs.CertificateModel.{Claim, claim_of, has, chain_labels, chain_claim, exact_claim, exact_claim_by}
-use Rattle.pmap_cert.specs.Node.{Chain, Inner, Leaf, Node, cost_of, set_of, tree_of}
+use Rattle.pmap_cert.specs.CertificateModel.{Claim, has, chain_labels, chain_claim, exact_claim, exact_claim_by}
 use Rattle.pmap_cert.proofs.Tables.{ascending-filter, ascending-lower, label-same}
 use Rattle.cert_check.specs.Checking.{claim_fault, CheckFaultKind, CostTooHigh, SetTooSmall}
 use Rattle.cert_check.proofs.Lists.{length-nil}
-use Rattle.cert_check.specs.Inner.{has_number}
+use Rattle.cert_check.specs.Inner.{claim_with, has_number}
 
 -- the numbers of labels
 abbrev pub numbers : List LabelId → List ℕ
@@ -110,10 +109,6 @@ module _ (table : List Label) (ok : IsLabelTable table) where
   all-texts low low' [] ms h h' = refl
   all-texts low low' (n ∷ ns) ms h h' = ap₂ ◌&&◌ (has-texts low' ms n h' h.1) (all-texts (n + 1) low' ns ms h.2 h')
 
--- the claim with this cost and the labels with these numbers
-abbrev pub claim_with : List Label → ℕ → List ℕ → Claim
-claim_with table k ns = record { cost = k; labels = map (text_at table) ns }
-
 -- the fault of a claim by its cost, the exact cost, and whether it has all labels of the exact set
 abbrev pub fault_by : ℕ → ℕ → Bool → Option CheckFaultKind
 fault_by cost exact full = cond (nat_lt exact cost) (Some CostTooHigh) (cond ((cost == exact) && not full) (Some SetTooSmall) None)
@@ -168,60 +163,46 @@ numbers-filter p (x ∷ ids) = by (p x.0) (numbers-filter p ids)
     by false rest = rest
 
 -- an ascending set of a table's numbers ascends below 2 ^ 32
-pub set-ascending : (count : ℕ) (ids : List LabelId) (ns : List ℕ) → count ≤ 65536 → numbers ids ≡ ns → IsAscending count 0 ns → IsAscending (2 ^ 32) 0 (numbers ids)
-set-ascending count ids ns few e h =
-    subst (IsAscending (2 ^ 32) 0) (sym e) (ascending-bound count (2 ^ 32) 0 ns (omega (arith, few)) h)
+pub set-ascending : (count : ℕ) (ids : List LabelId) → count ≤ 65536 → IsAscending count 0 (numbers ids) → IsAscending (2 ^ 32) 0 (numbers ids)
+set-ascending count ids few h = ascending-bound count (2 ^ 32) 0 (numbers ids) (omega (arith, few)) h
 
 -- the common labels of two sets have the common numbers
 pub both-numbers : (lower upper both : List LabelId) → both ≡ filter (λ i. has_number (numbers upper) i.0) lower → numbers both ≡ filter (has_number (numbers upper)) (numbers lower)
 both-numbers lower upper both e = ap numbers e ∙ numbers-filter (has_number (numbers upper)) lower
 
--- a node claims its cost and the labels with the numbers of its set
-pub claim-numbers : (table : List Label) (node : Node) → claim_of (tree_of table node) ≡ claim_with table (cost_of node) (set_of node)
-claim-numbers table (Leaf id) = refl
-claim-numbers table (Inner cost set left right) = refl
-claim-numbers table (Chain cost set bits side end) = refl
-
 -- a test of all labels of a set is one of their numbers
-pub all-numbers : (set ids : List LabelId) (ns ms : List ℕ) → numbers set ≡ ns → numbers ids ≡ ms → list_all (λ i. has_number (numbers set) i.0) ids ≡ list_all (has_number ns) ms
-all-numbers set ids ns ms e e' =
-    sym (list_all-map (has_number (numbers set)) (λ (j : LabelId). j.0) ids) ∙ (λ i. list_all (has_number (e i)) (e' i))
+pub all-numbers : (set ids : List LabelId) → list_all (λ i. has_number (numbers set) i.0) ids ≡ list_all (has_number (numbers set)) (numbers ids)
+all-numbers set ids = sym (list_all-map (has_number (numbers set)) (λ (j : LabelId). j.0) ids)
 
-module _ (table : List Label) (ok : IsLabelTable table) (claim left right : Node) (set lower upper both : List LabelId) (cost below : ℕ) (full : Bool)
-    (h : IsAscending (length table) 0 (set_of claim)) (h' : IsAscending (length table) 0 (set_of left)) (h'' : IsAscending (length table) 0 (set_of right))
-    (e : numbers set ≡ set_of claim) (e' : numbers lower ≡ set_of left) (e'' : numbers upper ≡ set_of right)
-    (are : both ≡ filter (λ i. has_number (numbers upper) i.0) lower) (costs : cost ≡ cost_of claim) (belows : below ≡ cost_of left + cost_of right) where
-  exact-is : claim_fault (claim_with table (cost_of claim) (set_of claim)) (exact_claim (claim_with table (cost_of left) (set_of left)) (claim_with table (cost_of right) (set_of right)))
-      ≡ claim_fault (claim_of (tree_of table claim)) (exact_claim (claim_of (tree_of table left)) (claim_of (tree_of table right)))
-  exact-is = λ i. claim_fault (sym (claim-numbers table claim) i) (exact_claim (sym (claim-numbers table left) i) (sym (claim-numbers table right) i))
-
-  common-is : filter (has_number (set_of right)) (set_of left) ≡ numbers both
-  common-is = (λ i. filter (has_number (sym e'' i)) (sym e' i)) ∙ sym (both-numbers lower upper both are)
+module _ (table : List Label) (ok : IsLabelTable table) (set lower upper both : List LabelId) (cost left right : ℕ) (full : Bool)
+    (h : IsAscending (length table) 0 (numbers set)) (h' : IsAscending (length table) 0 (numbers lower)) (h'' : IsAscending (length table) 0 (numbers upper))
+    (are : both ≡ filter (λ i. has_number (numbers upper) i.0) lower) where
+  common-is : filter (has_number (numbers upper)) (numbers lower) ≡ numbers both
+  common-is = sym (both-numbers lower upper both are)
 
   -- the fault of a claim if the sets of the halves have no common label
-  pub node-apart : length both ≡ 0 → full ≡ (list_all (λ i. has_number (numbers set) i.0) lower && list_all (λ i. has_number (numbers set) i.0) upper)
-      → fault_by cost (below + 1) full ≡ claim_fault (claim_of (tree_of table claim)) (exact_claim (claim_of (tree_of table left)) (claim_of (tree_of table right)))
-  node-apart none fulls =
-      let nothing : filter (has_number (set_of right)) (set_of left) ≡ [] = common-is ∙ ap numbers (length-nil both none) in
-      (λ i. fault_by (costs i) (belows i + 1) (fulls i))
-      ∙ (λ i. fault_by (cost_of claim) (cost_of left + cost_of right + 1)
-      (all-numbers set lower (set_of claim) (set_of left) e e' i && all-numbers set upper (set_of claim) (set_of right) e e'' i))
-      ∙ sym (claim-apart table ok (cost_of claim) (cost_of left) (cost_of right) (set_of claim) (set_of left) (set_of right) h h' h'' nothing)
-      ∙ exact-is
+  pub halves-apart : length both ≡ 0 → full ≡ (list_all (λ i. has_number (numbers set) i.0) lower && list_all (λ i. has_number (numbers set) i.0) upper)
+      → fault_by cost (left + right + 1) full
+      ≡ claim_fault (claim_with table cost (numbers set)) (exact_claim (claim_with table left (numbers lower)) (claim_with table right (numbers upper)))
+  halves-apart none fulls =
+      let nothing : filter (has_number (numbers upper)) (numbers lower) ≡ [] = common-is ∙ ap numbers (length-nil both none) in
+      ap (fault_by cost (left + right + 1)) fulls
+      ∙ (λ i. fault_by cost (left + right + 1) (all-numbers set lower i && all-numbers set upper i))
+      ∙ sym (claim-apart table ok cost left right (numbers set) (numbers lower) (numbers upper) h h' h'' nothing)
 
   -- the fault of a claim if the sets of the halves have a common label
   common-by : (xs : List LabelId) → both ≡ xs → (length xs == 0) ≡ false → full ≡ list_all (λ i. has_number (numbers set) i.0) xs
-      → fault_by cost below full ≡ claim_fault (claim_of (tree_of table claim)) (exact_claim (claim_of (tree_of table left)) (claim_of (tree_of table right)))
+      → fault_by cost (left + right) full
+      ≡ claim_fault (claim_with table cost (numbers set)) (exact_claim (claim_with table left (numbers lower)) (claim_with table right (numbers upper)))
   common-by [] is some fulls = absurd (false≢true (sym some))
   common-by (x ∷ xs) is some fulls =
-      (λ i. fault_by (costs i) (belows i) (fulls i))
-      ∙ ap (fault_by (cost_of claim) (cost_of left + cost_of right)) (all-numbers set (x ∷ xs) (set_of claim) (x.0 ∷ numbers xs) e refl)
-      ∙ sym (claim-common table ok (cost_of claim) (cost_of left) (cost_of right) (set_of claim) (set_of left) (set_of right) h h' h'' x.0 (numbers xs) (common-is ∙ ap numbers is))
-      ∙ exact-is
+      ap (fault_by cost (left + right)) (fulls ∙ all-numbers set (x ∷ xs))
+      ∙ sym (claim-common table ok cost left right (numbers set) (numbers lower) (numbers upper) h h' h'' x.0 (numbers xs) (common-is ∙ ap numbers is))
 
-  pub node-common : (length both == 0) ≡ false → full ≡ list_all (λ i. has_number (numbers set) i.0) both
-      → fault_by cost below full ≡ claim_fault (claim_of (tree_of table claim)) (exact_claim (claim_of (tree_of table left)) (claim_of (tree_of table right)))
-  node-common some fulls = common-by both refl some fulls
+  pub halves-common : (length both == 0) ≡ false → full ≡ list_all (λ i. has_number (numbers set) i.0) both
+      → fault_by cost (left + right) full
+      ≡ claim_fault (claim_with table cost (numbers set)) (exact_claim (claim_with table left (numbers lower)) (claim_with table right (numbers upper)))
+  halves-common some fulls = common-by both refl some fulls
 
 -- a filter keeps nothing if no element passes
 pub apart-none : (p : LabelId → Bool) (ids : List LabelId) → list_all (λ i. not (p i)) ids ≡ true → length (filter p ids) ≡ 0
@@ -301,36 +282,3 @@ module _ (table : List Label) (ok : IsLabelTable table) (n cost below side : ℕ
       chain-by false e
       ∙ ap (λ (i : ℕ). claim_fault (claim_with table cost set) (record { cost = below + 1; labels = chain_labels i (text_at table side) (map (text_at table) ends) })) one
       ∙ ap (fault_by cost (below + 1)) (ap₂ ◌&&◌ (has-texts table ok 0 set side h known) (all-texts table ok 0 0 ends set h' h))
-
--- The fault of a chain's claim, by its node and the node at its end.
-module _ (table : List Label) (ok : IsLabelTable table) (n side : ℕ) (chain end : Node) (set beneath : List LabelId) (cost below : ℕ) (full : Bool)
-    (h : IsAscending (length table) 0 (set_of chain)) (h' : IsAscending (length table) 0 (set_of end)) (known : side < length table)
-    (e : numbers set ≡ set_of chain) (e' : numbers beneath ≡ set_of end) (costs : cost ≡ cost_of chain) (belows : below ≡ cost_of end) where
-  chain-exact : claim_fault (claim_with table (cost_of chain) (set_of chain)) (chain_claim n (text_at table side) (claim_with table (cost_of end) (set_of end)))
-      ≡ claim_fault (claim_of (tree_of table chain)) (chain_claim n (text_at table side) (claim_of (tree_of table end)))
-  chain-exact = λ i. claim_fault (sym (claim-numbers table chain) i) (chain_claim n (text_at table side) (sym (claim-numbers table end) i))
-
-  side-of-set : has_number (numbers set) side ≡ has_number (set_of chain) side
-  side-of-set = ap (λ (ns : List ℕ). has_number ns side) e
-
-  side-of-end : (b : Bool) → has_number (numbers beneath) side ≡ b → has_number (set_of end) side ≡ b
-  side-of-end b is = ap (λ (ns : List ℕ). has_number ns side) (sym e') ∙ is
-
-  pub node-in : has_number (numbers beneath) side ≡ true → full ≡ has_number (numbers set) side
-      → fault_by cost below full ≡ claim_fault (claim_of (tree_of table chain)) (chain_claim n (text_at table side) (claim_of (tree_of table end)))
-  node-in has fulls =
-      (λ i. fault_by (costs i) (belows i) ((fulls ∙ side-of-set) i))
-      ∙ sym (chain-in table ok n (cost_of chain) (cost_of end) side (set_of chain) (set_of end) h h' known (side-of-end true has)) ∙ chain-exact
-
-  pub node-more : has_number (numbers beneath) side ≡ false → (n ≡ 1 → ⊥) → full ≡ has_number (numbers set) side
-      → fault_by cost (below + 1) full ≡ claim_fault (claim_of (tree_of table chain)) (chain_claim n (text_at table side) (claim_of (tree_of table end)))
-  node-more lacks ne fulls =
-      (λ i. fault_by (costs i) (belows i + 1) ((fulls ∙ side-of-set) i))
-      ∙ sym (chain-more table ok n (cost_of chain) (cost_of end) side (set_of chain) (set_of end) h h' known (side-of-end false lacks) ne) ∙ chain-exact
-
-  pub node-one : has_number (numbers beneath) side ≡ false → n ≡ 1
-      → full ≡ (has_number (numbers set) side && list_all (λ i. has_number (numbers set) i.0) beneath)
-      → fault_by cost (below + 1) full ≡ claim_fault (claim_of (tree_of table chain)) (chain_claim n (text_at table side) (claim_of (tree_of table end)))
-  node-one lacks one fulls =
-      (λ i. fault_by (costs i) (belows i + 1) ((fulls ∙ ap₂ ◌&&◌ side-of-set (all-numbers set beneath (set_of chain) (set_of end) e e')) i))
-      ∙ sym (chain-one table ok n (cost_of chain) (cost_of end) side (set_of chain) (set_of end) h h' known (side-of-end false lacks) one) ∙ chain-exact

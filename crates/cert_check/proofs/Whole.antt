@@ -1,5 +1,5 @@
 -- The root of a certificate, with the whole map and the whole list.
-use Rattle.std.proofs.Common.{◌≡◌, ◌∙◌, ℕ, ◌+◌, ◌-◌, ◌^◌, ◌<◌, Bor, List, [], ◌∷◌, None, length, refl, sym, ap, subst, arith}
+use Rattle.std.proofs.Common.{◌≡◌, ◌∙◌, ℕ, ◌+◌, ◌-◌, ◌^◌, ◌<◌, Bor, List, [], ◌∷◌, None, Err, Ok, Result, length, refl, sym, ap, subst, arith}
 use Rattle.std.proofs.Math.Nat.{zero-div}
 use Rattle.std.proofs.lemmas.Option.{none-some}
 use Rattle.prefix_keys.specs.Block.{block_number, width_of}
@@ -12,17 +12,23 @@ use Rattle.pmap_text.specs.declared.entry.Entry.{Entry}
 use Rattle.pmap_text.specs.declared.prefix_list.PrefixList.{PrefixList}
 use Rattle.pmap_text.specs.declared.window.Window.{Window}
 use Rattle.pmap_text.proofs.Blocks.{block_number-zero}
-use Rattle.pmap_cert.specs.Node.{HasChainForm, Node, first_node, tree_of}
-use Rattle.cert_check.specs.Inner.{IsAtNode, AreSources, AreInOrder, IsListPart, Sources}
-use Rattle.cert_check.specs.Checking.{node_fault}
+use Rattle.pmap_cert.specs.CertificateModel.{Claim, Tree}
+use Rattle.pmap_text.specs.MapText.{map_of}
+use Rattle.pmap_text.specs.PrefixList.{list_of}
+use Rattle.cert_check.specs.Inner.{AreInOrder, IsAnswer, IsListPart, IsNodesAnswer, IsPart, Part, Sources, Walk, fault_of_node, reading_at, root_reading}
+use Rattle.pmap_cert.specs.FormatReading.{Place}
+use Rattle.pmap_cert.specs.Inner.{node_due_at}
+use Rattle.cert_check.specs.Checking.{node_fault, Certificate, Check, TextFault}
 use Rattle.cert_check.proofs.Within.{entry-version}
 
 whole-number : (s : StretchesModel) (w : Window) → w.first ≡ 0 → number_at s w ≡ 0
 whole-number s w first = ap (block_number (width_of s.version) w.len) first ∙ zero-div (2 ^ (width_of s.version - w.len))
 
-pub whole-fault : (m : MapModel) (ps : List Prefix) (labels : List Label) (s : StretchesModel) (w : Window) → w.first ≡ 0 → w.len ≡ 0 → (node' node : Node) (k : ℕ) → node' ≡ node
-    → node_fault m ps (tree_of labels node) k 0 0 ≡ node_fault m ps (tree_of labels node') k w.len (number_at s w)
-whole-fault m ps labels s w first len node' node k same = sym (λ i. node_fault m ps (tree_of labels (same i)) k (len i) (whole-number s w first i))
+-- the first fault of the root, for the whole address space
+pub whole-fault : (s : Sources) (p : Part) → p.window.first ≡ 0 → p.window.len ≡ 0 → (tree : Tree) (k : ℕ)
+    → node_fault (map_of s.map.now) (list_of s.list.now).prefixes tree k 0 0 ≡ fault_of_node s p tree k
+whole-fault s p first len tree k =
+    sym (λ i. node_fault (map_of s.map.now) (list_of s.list.now).prefixes tree k (len i) (whole-number s.stretches p.window first i))
 
 root-list : (l : PrefixList) (entries : List Entry) → AreInOrder l.entries entries → IsListPart l 0 0 0 entries None
 root-list l entries order = record {
@@ -37,22 +43,33 @@ root-list l entries order = record {
   above = record { known = λ id is. absurd (none-some id is); text = refl };
 }
 
-pub root-at : (s : Sources) → AreSources s → (w : Window) → IsWindow s.stretches w → w.first ≡ 0 → w.len ≡ 0 → (root : List Node) → root ≡ s.certificate.now.root ∷ []
-    → HasChainForm (length s.certificate.now.labels) s.certificate.now.root (width_of s.certificate.now.version)
-    → (entries : Bor (List Entry)) → AreInOrder s.list.now.entries entries.now
-    → IsAtNode s (record { node = root; number = 1 }) (record { window = w; entries = entries; above = None })
-root-at s are w window first len root is form entries order =
-    let labels = s.certificate.now.labels in
-    let same = ap width_of (are.certificate_version ∙ sym are.version) in
-    let room : width_of s.certificate.now.version ≡ width_of s.stretches.version - w.len = omega (arith, same, len) in
-    record {
-      sources = are;
-      part = record {
-        window = window;
-        list = subst (λ (n : ℕ). IsListPart s.list.now n (number_at s.stretches w) n entries.now None) (sym len)
-            (subst (λ (q : ℕ). IsListPart s.list.now 0 q 0 entries.now None) (sym (whole-number s.stretches w first)) (root-list s.list.now entries.now order));
-      };
-      here = subst (λ (ns : List Node). 0 < length ns) (sym is) (omega arith);
-      form = subst (λ (n : Node). HasChainForm (length labels) n (width_of s.stretches.version - w.len)) (sym (ap first_node is))
-          (subst (HasChainForm (length labels) s.certificate.now.root) room form);
-    }
+pub root-part : (s : Sources) (w : Window) → IsWindow s.stretches w → w.first ≡ 0 → w.len ≡ 0 → (entries : Bor (List Entry)) → AreInOrder s.list.now.entries entries.now
+    → IsPart s (record { window = w; entries = entries; above = None })
+root-part s w window first len entries order = record {
+  window = window;
+  list = subst (λ (n : ℕ). IsListPart s.list.now n (number_at s.stretches w) n entries.now None) (sym len)
+      (subst (λ (q : ℕ). IsListPart s.list.now 0 q 0 entries.now None) (sym (whole-number s.stretches w first)) (root-list s.list.now entries.now order));
+}
+
+root-from : (s : Sources) (n : ℕ) → n ≡ 0 → (place : Place) → root_reading s.frame place ≡ reading_at s n place
+root-from s n none place =
+    let all : s.frame.width ≡ s.frame.width - n = omega (arith, none) in
+    ap (λ (room : ℕ). node_due_at s.frame.format s.frame.width s.frame.labels.now room place) all
+
+-- the result of a walk over the root, for the whole address space
+pub root-answer : (s : Sources) (p : Part) → p.window.first ≡ 0 → p.window.len ≡ 0 → (old new : Walk) (result : Result ℕ TextFault)
+    → IsAnswer s (reading_at s p.window.len old.lines) (fault_of_node s p) old.number 0 old.sets.items new result
+    → IsNodesAnswer s.map.now s.list.now s.frame old new result
+root-answer s p first len old new (Ok cost) answer = (
+  answer.tree,
+  root-from s p.window.len len old.lines ∙ answer.read,
+  ap (λ (c : Claim). c.cost) answer.claim,
+  λ one. whole-fault s p first len answer.tree 1 ∙ (answer.fault 1 (sym one)).0,
+)
+root-answer s p first len old new (Err (Check found)) answer = (
+  answer.tree,
+  root-from s p.window.len len old.lines ∙ answer.read,
+  λ one. whole-fault s p first len answer.tree 1 ∙ answer.fault 1 (sym one),
+)
+root-answer s p first len old new (Err (Certificate found)) answer =
+    (λ some. root-from s p.window.len len old.lines ∙ answer.0 some, answer.1)

@@ -1,4 +1,4 @@
-use Rattle.std.specs.Prelude.{Bool, true, false, ℕ, suc, List, [], ◌∷◌, ◌+◌, ◌-◌, ◌*◌, ◌^◌, ◌&&◌, ◌==◌, not, Option, Some, None, length, nat_lt, option_map, if◌then◌else◌}
+use Rattle.std.specs.Prelude.{Bool, true, false, ℕ, suc, List, [], ◌∷◌, ◌+◌, ◌-◌, ◌*◌, ◌^◌, ◌&&◌, ◌==◌, ◌≡◌, ◌≢◌, Err, Ok, Result, not, Option, Some, None, length, nat_lt, option_map, if◌then◌else◌}
 use Rattle.std.specs.List.{list_all, list_any}
 use Rattle.std.specs.Option.{option_or}
 use Rattle.std.specs.Str.{bytes_eq}
@@ -8,9 +8,13 @@ use Rattle.prefix_keys.specs.Block.{first_of, width_of}
 use Rattle.pmap_text.specs.ListModel.{ListModel, Prefix, label_below, lies_inside}
 use Rattle.pmap_text.specs.MapModel.{Label, MapModel, settled_label}
 use Rattle.pmap_cert.specs.Compacting.{line_count}
+use Rattle.pmap_cert.specs.declared.fault.CertFault.{CertFault}
+use Rattle.pmap_cert.specs.declared.fault.CertFaultKind.TheVariants.{NoMemory as NoMemoryForText}
 use Rattle.pmap_cert.specs.CertificateModel.{CertificateModel, ChainNode, InnerNode, LeafNode, Claim, Tree, claim_of, has, chain_claim, chosen_half, side_half, exact_claim}
 pub use Rattle.cert_check.specs.declared.fault.CheckFault.{CheckFault}
 pub use Rattle.cert_check.specs.declared.fault.CheckFaultKind.{CheckFaultKind}
+pub use Rattle.cert_check.specs.declared.fault.TextFault.{TextFault}
+pub use Rattle.cert_check.specs.declared.fault.TextFault.TheVariants.{Certificate, Check}
 pub use Rattle.cert_check.specs.declared.fault.CheckFaultKind.TheVariants.{BoundNotMet, CostTooHigh, LeafNotUniform, ListDiffers, NoMemory, SetTooSmall, VersionDiffers}
 
 -- the versions are equal
@@ -88,3 +92,16 @@ first_fault m l c =
     then option_or (node_fault m l.prefixes c.root 1 0 0)
     (if nat_lt ((claim_of c.root).cost + 1) (length l.prefixes) then Some (whole_fault BoundNotMet) else None)
     else Some (whole_fault VersionDiffers)
+
+-- the first fault of a text as a certificate for a map and a list, by what it is read as: the fault of the text, or
+-- otherwise that of the certificate
+abbrev pub text_fault : MapModel → ListModel → Result CertificateModel CertFault → Option TextFault
+text_fault m l (Err fault) = Some (Certificate fault)
+text_fault m l (Ok c) = option_map Check (first_fault m l c)
+
+-- the result of a check of a text with this first fault, which may also run out of memory
+abbrev pub IsTextOutcome : {A : Type 0} → Option TextFault → Result A TextFault → Type 0
+IsTextOutcome fault (Ok done) = fault ≡ None
+IsTextOutcome fault (Err (Check found)) = fault ≡ Some (Check found)
+IsTextOutcome fault (Err (Certificate found)) =
+    (found.kind ≢ NoMemoryForText → fault ≡ Some (Certificate found)) × (found.kind ≡ NoMemoryForText → found.line ≡ 0)

@@ -1,4 +1,4 @@
-use Rattle.std.specs.Prelude.{ℕ, List, filter, ◌≡◌, ◌+◌, ◌*◌, ◌&&◌, ◌==◌, Bool, [], ◌∷◌, Option, map, nat_lt, option_map, if◌then◌else◌, Some, length, ◌<◌, ◌≤◌, true, Contains, slice_index_or, ◌≢◌, ◌-◌, None, Result, Ok, Err, drop}
+use Rattle.std.specs.Prelude.{ℕ, List, filter, ◌≡◌, ◌+◌, ◌*◌, ◌&&◌, ◌==◌, Bool, [], ◌∷◌, Option, map, nat_lt, option_map, if◌then◌else◌, Some, length, ◌<◌, ◌≤◌, true, Contains, slice_index_or, ◌≢◌, ◌-◌, ◌++◌, None, Result, Ok, Err}
 use Rattle.std.specs.List.{list_any}
 use Rattle.std.specs.Option.{ForSome}
 use Rattle.prefix_keys.specs.Block.{block_number, width_of, first_of, last_of}
@@ -18,13 +18,22 @@ use Rattle.pmap_text.specs.declared.window.Window.{Window}
 use Rattle.pmap_text.specs.MapText.{text_at, map_of}
 use Rattle.pmap_text.specs.declared.prefix_list.PrefixList.{PrefixList}
 use Rattle.pmap_cert.specs.Compacting.{line_count}
-use Rattle.pmap_cert.specs.CertificateText.{HasRoomBelow}
-use Rattle.pmap_cert.specs.CertificateModel.{Tree}
-use Rattle.pmap_cert.specs.Node.{HasChainForm, Node, first_node, tree_of}
-use Rattle.cert_check.specs.Checking.{is_same_version, is_label_of, bits_fault, node_fault, told, CheckFault, CheckFaultKind, NoMemory}
+use Rattle.pmap_cert.specs.CertificateText.{IsAscending}
+use Rattle.pmap_cert.specs.CertificateModel.{CertificateModel, ChainNode, Claim, InnerNode, Tree, claim_of}
+use Rattle.pmap_cert.specs.Format.{format_number}
+use Rattle.pmap_cert.specs.FormatReading.{Place}
+use Rattle.pmap_cert.specs.declared.fault.CertFault.{CertFault}
+use Rattle.pmap_cert.specs.declared.fault.CertFaultKind.TheVariants.{NoMemory as NoMemoryForText}
+use Rattle.pmap_cert.specs.Inner.{node_due_at}
+use Rattle.pmap_cert.specs.declared.node_line.Frame.{Frame}
+use Rattle.pmap_text.specs.Reading.{◌>>=◌}
+use Rattle.pmap_text.specs.declared.map_text.MapText.{MapText}
+use Rattle.prefix_keys.specs.declared.version.Version.{Version}
+use Rattle.cert_check.specs.Checking.{is_same_version, is_label_of, bits_fault, first_fault, node_fault, told, Certificate, Check, CheckFault, CheckFaultKind, TextFault}
 pub use Rattle.cert_check.specs.declared.sources.Sources.{Sources}
 pub use Rattle.cert_check.specs.declared.part.Part.{Part}
-pub use Rattle.cert_check.specs.declared.checking.NodeLine.{NodeLine}
+pub use Rattle.cert_check.specs.declared.claims.Claimed.{Claimed}
+pub use Rattle.cert_check.specs.declared.walk.Walk.{Walk}
 
 -- The statements and entries that affect a block. Those of another version than the block's cover no address of it.
 
@@ -74,12 +83,13 @@ pub record AreNumbers (numbers : List (Option LabelId)) (from to : List Label) :
 abbrev pub has_number : List ℕ → ℕ → Bool
 has_number ns n = list_any (λ i. i == n) ns
 
--- the inputs have one version, the stretches are the map's, and the numbers are those in the certificate's table
+-- the inputs have one version, by its number of bits for the certificate, the stretches are the map's, and the numbers
+-- are those in the certificate's table
 pub record AreSources (s : Sources) : Type 0 where
   pub list_version : s.list.now.version ≡ s.map.now.version
-  pub certificate_version : s.certificate.now.version ≡ s.map.now.version
-  pub map_numbers : AreNumbers s.map_numbers.items s.map.now.labels s.certificate.now.labels
-  pub list_numbers : AreNumbers s.list_numbers.items s.list.now.labels s.certificate.now.labels
+  pub width : s.frame.width ≡ width_of s.map.now.version
+  pub map_numbers : AreNumbers s.map_numbers.items s.map.now.labels s.frame.labels.now
+  pub list_numbers : AreNumbers s.list_numbers.items s.list.now.labels s.frame.labels.now
   pub version : s.stretches.version ≡ s.map.now.version
   pub stretches : AreStretches s.map.now.statements (Some s.map.now.default) s.stretches
   pub known : AreLabelsBelow (length s.map.now.labels) s.stretches
@@ -128,55 +138,118 @@ pub record AreInOrder (es entries : List Entry) : Type 0 where
   pub listed : (e : Entry) → Contains entries e → Contains es e
   pub every : (e : Entry) → Contains es e → Contains entries e
 
-abbrev pub tree_at : Sources → NodeLine → Tree
-tree_at s line = tree_of s.certificate.now.labels (first_node line.node)
+-- the claim with this cost and the labels with these numbers
+abbrev pub claim_with : List Label → ℕ → List ℕ → Claim
+claim_with table cost ns = record { cost = cost; labels = map (text_at table) ns }
 
--- The first fault of the node at a line with the number k, for the part's block.
-abbrev pub line_fault : Sources → NodeLine → Part → ℕ → Option CheckFault
-line_fault s line p k =
-    node_fault (map_of s.map.now) (list_of s.list.now).prefixes (tree_at s line) k p.window.len (number_at s.stretches p.window)
+abbrev pub claim_in : List Label → Claimed → Claim
+claim_in table c = claim_with table c.cost (map (λ i. i.0) c.set.now)
 
--- The first fault along the bits of a chain with the number k, from the part's block to the node at the line `end`.
-abbrev pub path_fault : Sources → NodeLine → ℕ → List Bool → Part → ℕ → Option CheckFault
-path_fault s end side bits p k =
-    bits_fault (map_of s.map.now) (list_of s.list.now).prefixes (text_at s.certificate.now.labels side) k
-    (node_fault (map_of s.map.now) (list_of s.list.now).prefixes (tree_at s end) (k + 1)) bits p.window.len (number_at s.stretches p.window)
+abbrev pub Read : Type 0
+Read = Result (Tree × Place) CertFault
 
--- The line has a node that fits the part's block.
-pub record IsAtNode (s : Sources) (line : NodeLine) (p : Part) : Type 0 where
-  pub sources : AreSources s
-  pub part : IsPart s p
-  pub here : 0 < length line.node
-  pub form : HasChainForm (length s.certificate.now.labels) (first_node line.node) (width_of s.stretches.version - p.window.len)
+-- reads the node at a place and those below it, for a block of n bits
+abbrev pub reading_at : Sources → ℕ → Place → Read
+reading_at s n place = node_due_at s.frame.format s.frame.width s.frame.labels.now (s.frame.width - n) place
 
--- The line has the node at the end of a chain with this number, side label and bits from the part's block on.
-pub record IsAtEnd (s : Sources) (end : NodeLine) (number side : ℕ) (bits : List Bool) (p : Part) : Type 0 where
-  pub sources : AreSources s
-  pub part : IsPart s p
-  pub here : 0 < length end.node
-  pub form : HasRoomBelow (HasChainForm (length s.certificate.now.labels) (first_node end.node)) bits (width_of s.stretches.version - p.window.len)
-  pub known : side < length s.certificate.now.labels
-  pub next : (k : ℕ) → told k ≡ number → told (k + 1) ≡ end.number
+-- reads the nodes of the halves of an inner node with this claim, for a block of n bits
+abbrev pub halves_reading : Sources → ℕ → Claim → Place → Read
+halves_reading s n claim place =
+    reading_at s (n + 1) place >>= (λ lower. reading_at s (n + 1) lower.1 >>= (λ upper.
+    Ok (InnerNode claim lower.0 upper.0, upper.1)))
+
+-- reads the node at the end of a chain with this claim, these bits and this side label, for a block of n bits
+abbrev pub chain_reading : Sources → ℕ → Claim → List Bool → ℕ → Place → Read
+chain_reading s n claim bits side place =
+    reading_at s (n + length bits) place >>= (λ end.
+    Ok (ChainNode claim bits (text_at s.frame.labels.now side) end.0, end.1))
+
+-- The first fault of a tree whose node has the number k, for the part's block.
+abbrev pub fault_of_node : Sources → Part → Tree → ℕ → Option CheckFault
+fault_of_node s p tree k =
+    node_fault (map_of s.map.now) (list_of s.list.now).prefixes tree k p.window.len (number_at s.stretches p.window)
+
+-- The first fault along the bits of a chain with the number k, from the part's block to the tree at its end.
+abbrev pub fault_of_path : Sources → Part → ℕ → List Bool → Tree → ℕ → Option CheckFault
+fault_of_path s p side bits end k =
+    bits_fault (map_of s.map.now) (list_of s.list.now).prefixes (text_at s.frame.labels.now side) k
+    (node_fault (map_of s.map.now) (list_of s.list.now).prefixes end (k + 1)) bits p.window.len (number_at s.stretches p.window)
+
+-- the next node has the number after this one
+abbrev pub IsAfter : ℕ → ℕ → Type 0
+IsAfter number next = (k : ℕ) → told k ≡ number → told (k + 1) ≡ next
+
+-- the part's block has room for the chain's bits, and the table has the chain's side label
+pub record FitsPath (s : Sources) (p : Part) (side : ℕ) (bits : List Bool) : Type 0 where
+  pub room : p.window.len + length bits ≤ s.frame.width
+  pub known : side < length s.frame.labels.now
+
+-- A tree was read, and has no fault if its node has this number. The walk has its claimed set, and has passed it and
+-- `more` nodes before it.
+pub record IsPassed (s : Sources) (reading : Read) (fault_at : Tree → ℕ → Option CheckFault) (number more : ℕ) (old : List LabelId) (new : Walk) (cost : ℕ) : Type 0 where
+  pub tree : Tree
+  pub set : List LabelId
+  pub read : reading ≡ Ok (tree, new.lines)
+  pub claim : claim_of tree ≡ claim_with s.frame.labels.now cost (map (λ i. i.0) set)
+  pub ascending : IsAscending (length s.frame.labels.now) 0 (map (λ i. i.0) set)
+  pub sets : new.sets.items ≡ old ++ set
+  pub fault : (k : ℕ) → told k ≡ number → (fault_at tree k ≡ None) × (new.number ≡ told (k + (more + line_count tree)))
+
+-- a tree was read, and this is its first fault
+pub record IsFaulty (reading : Read) (fault_at : Tree → ℕ → Option CheckFault) (number : ℕ) (after : Place) (found : CheckFault) : Type 0 where
+  pub tree : Tree
+  pub read : reading ≡ Ok (tree, after)
+  pub fault : (k : ℕ) → told k ≡ number → fault_at tree k ≡ Some found
+
+-- the text has this fault, or an allocation failed
+abbrev pub IsUnread : {A : Type 0} → Result A CertFault → CertFault → Type 0
+IsUnread read found = (found.kind ≢ NoMemoryForText → read ≡ Err found) × (found.kind ≡ NoMemoryForText → found.line ≡ 0)
+
+-- The result of a walk over a tree: its claimed cost, the first fault of its text, or otherwise its own first fault.
+abbrev pub IsAnswer : Sources → Read → (Tree → ℕ → Option CheckFault) → ℕ → ℕ → List LabelId → Walk → Result ℕ TextFault → Type 0
+IsAnswer s read fault number more old new (Ok cost) = IsPassed s read fault number more old new cost
+IsAnswer s read fault number more old new (Err (Check found)) = IsFaulty read fault number new.lines found
+IsAnswer s read fault number more old new (Err (Certificate found)) = IsUnread read found
 
 -- the result of the check of a node, by its own fault, if those below it have no fault
-abbrev pub answer_of : Option CheckFaultKind → ℕ → NodeLine → Result NodeLine CheckFault
-answer_of None number next = Ok next
-answer_of (Some kind) number next = Err (record { kind = kind; node = number })
+abbrev pub answer_of : Option CheckFaultKind → ℕ → ℕ → Result ℕ TextFault
+answer_of None number cost = Ok cost
+answer_of (Some kind) number cost = Err (Check (record { kind = kind; node = number }))
 
--- The result of the check of `count` nodes, the first with this number: their first fault, which is `fault k` if the
--- first has the number k, or otherwise the line after them.
-abbrev pub IsAnswer : (ℕ → Option CheckFault) → ℕ → ℕ → List Node → Result NodeLine CheckFault → Type 0
-IsAnswer fault number count after (Ok next) =
-    (next.node ≡ after) × ((k : ℕ) → told k ≡ number → (fault k ≡ None) × (next.number ≡ told (k + count)))
-IsAnswer fault number count after (Err found) = (k : ℕ) → told k ≡ number → fault k ≡ Some found
+-- The first of a fault of the lower half and of the faults of the upper half, which reading up to this place passes if
+-- the lower half's text has no fault.
+abbrev pub IsFirstOf : Read → TextFault → Place → TextFault → Type 0
+IsFirstOf upper (Certificate lower) after first = first ≡ Certificate lower
+IsFirstOf upper (Check lower) after (Check first) = (first ≡ lower) × (tree : Tree) × (upper ≡ Ok (tree, after))
+IsFirstOf upper (Check lower) after (Certificate first) = IsUnread upper first
 
-abbrev pub IsNodeAnswer : Sources → NodeLine → Part → Result NodeLine CheckFault → Type 0
-IsNodeAnswer s line p = IsAnswer (line_fault s line p) line.number (line_count (tree_at s line)) (drop 1 line.node)
+-- reads the root at a place and the nodes below it
+abbrev pub root_reading : Frame → Place → Read
+root_reading frame place = node_due_at frame.format frame.width frame.labels.now frame.width place
 
-abbrev pub IsPathAnswer : Sources → NodeLine → ℕ → ℕ → List Bool → Part → Result NodeLine CheckFault → Type 0
-IsPathAnswer s end number side bits p = IsAnswer (path_fault s end side bits p) number (1 + line_count (tree_at s end)) (drop 1 end.node)
+-- the certificate whose root is this tree
+abbrev pub certificate_with : Frame → Version → Tree → CertificateModel
+certificate_with frame version tree =
+    record { format = format_number frame.format; version = version; table = frame.labels.now; root = tree }
 
--- the result of a check with this first fault, which may also run out of memory
-abbrev pub IsOutcome : {A : Type 0} → Option CheckFault → Result A CheckFault → Type 0
-IsOutcome fault (Ok done) = fault ≡ None
-IsOutcome fault (Err found) = (found.kind ≢ NoMemory → fault ≡ Some found) × (found.kind ≡ NoMemory → found.node ≡ 0)
+-- The result of a walk over the nodes of a certificate: the root's claimed cost, the first fault of the nodes' text, or
+-- otherwise the first fault of the nodes, if the root's number is 1.
+abbrev pub IsNodesAnswer : MapText → PrefixList → Frame → Walk → Walk → Result ℕ TextFault → Type 0
+IsNodesAnswer map list frame old new (Ok cost) =
+    (tree : Tree) × (root_reading frame old.lines ≡ Ok (tree, new.lines)) × ((claim_of tree).cost ≡ cost)
+    × (old.number ≡ 1 → node_fault (map_of map) (list_of list).prefixes tree 1 0 0 ≡ None)
+IsNodesAnswer map list frame old new (Err (Check found)) =
+    (tree : Tree) × (root_reading frame old.lines ≡ Ok (tree, new.lines))
+    × (old.number ≡ 1 → node_fault (map_of map) (list_of list).prefixes tree 1 0 0 ≡ Some found)
+IsNodesAnswer map list frame old new (Err (Certificate found)) = IsUnread (root_reading frame old.lines) found
+
+-- The result of a walk over the nodes of a certificate: the number of the list's entries, the first fault of the nodes'
+-- text, or otherwise the first fault of the certificate.
+abbrev pub IsRootAnswer : MapText → PrefixList → Frame → Version → Read → Place → Result ℕ TextFault → Type 0
+IsRootAnswer map list frame version read after (Ok count) =
+    (tree : Tree) × (read ≡ Ok (tree, after)) × (count ≡ length (list_of list).prefixes)
+    × (first_fault (map_of map) (list_of list) (certificate_with frame version tree) ≡ None)
+IsRootAnswer map list frame version read after (Err (Check found)) =
+    (tree : Tree) × (read ≡ Ok (tree, after))
+    × (first_fault (map_of map) (list_of list) (certificate_with frame version tree) ≡ Some found)
+IsRootAnswer map list frame version read after (Err (Certificate found)) = IsUnread read found

@@ -1,228 +1,157 @@
-//! The check of a certificate, node by node and as a whole.
-ghost use Rattle.std.specs.Prelude.{◌≡◌, ◌≢◌, ℕ, ◌+◌, ◌<◌, Some, None, length, IfErr, IfOk};
+//! The check of a certificate and of its text.
+ghost use Rattle.std.specs.Prelude.{◌≡◌, ◌≢◌, Some, None, Ok, length, IfErr, IfOk};
 ghost use Rattle.pmap_text.specs.ListModel.{IsEquivalent};
 ghost use Rattle.pmap_text.specs.MapText.{map_of};
 ghost use Rattle.pmap_text.specs.PrefixList.{list_of};
 ghost use Rattle.pmap_cert.specs.Acceptance.{IsAccepted, IsLeast};
 ghost use Rattle.pmap_cert.specs.Certificate.{certificate_of};
-ghost use Rattle.pmap_cert.specs.Node.{first_node, from_next_line, label_of, side_of};
-ghost use Rattle.pmap_cert.specs.Packed.{bits_in};
-ghost use Rattle.cert_check.specs.Checking.{first_fault, node_fault, told, NoMemory};
-ghost use Rattle.cert_check.specs.Inner.{IsAtEnd, IsAtNode, IsNodeAnswer, IsOutcome, IsPathAnswer, answer_of, AreSources, AreInOrder};
+ghost use Rattle.pmap_cert.specs.FormatReading.{format_reading};
+ghost use Rattle.cert_check.specs.Checking.{IsTextOutcome, first_fault, text_fault, whole_fault, Check, NoMemory};
+ghost use Rattle.cert_check.specs.Inner.{AreInOrder, AreSources, IsRootAnswer, IsNodesAnswer, root_reading};
+ghost use Rattle.pmap_cert.specs.CertificateModel.{CertificateModel};
+ghost use Rattle.prefix_keys.specs.Block.{width_of};
 
-use crate::claims::{chain_fault, claim_fault};
-use crate::fault::{CheckFault, CheckFaultKind};
+use crate::fault::{CheckFault, CheckFaultKind, TextFault};
 use crate::labels::numbers_in;
 use crate::laws::no_fault_is_acceptance;
 use crate::part::Part;
 use crate::sources::Sources;
-use pmap_cert::{Certificate, Cursor, Path, acceptance_is_enough};
-use pmap_text::{Entry, LabelId, MapText, PrefixList, Stretches, Window, in_order};
+use crate::walk::{Walk, check_node};
+use pmap_cert::{
+    CertFaultKind, Certificate, Frame, Head, Lines, acceptance_is_enough, read_head,
+    text_of_format_is_read_or_has_a_fault, write_cert,
+};
+use pmap_text::{Entry, KeyHashing, MapText, PrefixList, Stretches, Window, in_order};
+use prefix_keys::Version;
 use std::alloc::Global;
 
-/// A position among the certificate's node lines, or their end, with its number, from 1.
-#[derive(Drop)]
-pub struct NodeLine<'a> {
-    pub node: Cursor<'a>,
-    pub number: u64,
-}
-
-fn next_line<'a>(line: &NodeLine<'a>) -> NodeLine<'a>
-    requires { 0 < length line.now.node }
-    ensures node { result.node ≡ from_next_line line.now.node }
-    ensures number { (k : ℕ) → told k ≡ line.now.number → told (k + 1) ≡ result.number }
-{
-    NodeLine {
-        node: line.node.next(),
-        number: line.number.saturating_add(1),
-    }
-}
-
-// Returns the next line, or the fault of the node with this number.
-fn unless_fault<'a>(
-    fault: Option<CheckFaultKind>,
-    number: u64,
-    next: NodeLine<'a>,
-) -> Result<NodeLine<'a>, CheckFault>
-    ensures { result ≡ answer_of fault number next.entry }
-{
-    match fault {
-        Some(kind) => Err(CheckFault { kind, node: number }),
-        None => Ok(next),
-    }
-}
-
-// Checks the node at a line for the part's block, and those below it. Returns the line after them.
-#[cycle(nodes)]
-fn check_node<'a>(
-    sources: &Sources,
-    line: &NodeLine<'a>,
-    part: &Part,
-) -> Result<NodeLine<'a>, CheckFault>
-    requires node { IsAtNode sources.now line.now part.now }
-    ensures { IsNodeAnswer sources.now line.now part.now result }
-{
-    if let Some(id) = line.node.label() {
-        let fault = part.leaf_fault(sources, id);
-        return unless_fault(fault, line.number, next_line(line));
-    }
-    match line.node.side() {
-        Some(side) => check_chain(sources, line, part, side),
-        None => check_inner(sources, line, part),
-    }
-}
-
-// Checks an inner node: the nodes of its halves, and then its claim.
-#[cycle(nodes)]
-fn check_inner<'a>(
-    sources: &Sources,
-    line: &NodeLine<'a>,
-    part: &Part,
-) -> Result<NodeLine<'a>, CheckFault>
-    requires node { IsAtNode sources.now line.now part.now }
-    requires inner { (label_of (first_node line.now.node) ≡ None) × (side_of (first_node line.now.node) ≡ None) }
-    ensures { IsNodeAnswer sources.now line.now part.now result }
-{
-    let (low, high) = part.halves(sources);
-    let lower = next_line(line);
-    let upper = check_node(sources, &lower, &low)?;
-    let next = check_node(sources, &upper, &high)?;
-    let labels = &sources.certificate.labels;
-    let fault = claim_fault(labels, &line.node, &lower.node, &upper.node);
-    unless_fault(fault, line.number, next)
-}
-
-// Checks a chain with this side label: what is below it, and then its claim.
-#[cycle(nodes)]
-fn check_chain<'a>(
-    sources: &Sources,
-    line: &NodeLine<'a>,
-    part: &Part,
-    side: LabelId,
-) -> Result<NodeLine<'a>, CheckFault>
-    requires node { IsAtNode sources.now line.now part.now }
-    requires chain { side_of (first_node line.now.node) ≡ Some side.0 }
-    ensures { IsNodeAnswer sources.now line.now part.now result }
-{
-    let path = line.node.path();
-    let end = next_line(line);
-    let next = check_below(sources, line.number, &end, side, &path, part)?;
-    let labels = &sources.certificate.labels;
-    let fault = chain_fault(labels, &line.node, &end.node, side);
-    unless_fault(fault, line.number, next)
-}
-
-// Checks what is below a chain: the node at its end, and the blocks beside its path unless one look clears them.
-#[cycle(nodes)]
-fn check_below<'a>(
-    sources: &Sources,
-    number: u64,
-    end: &NodeLine<'a>,
-    side: LabelId,
-    path: &Path,
-    part: &Part,
-) -> Result<NodeLine<'a>, CheckFault>
-    requires end { IsAtEnd sources.now end.now number side.0 (bits_in path.now) part.now }
-    requires some { 0 < length (bits_in path.now) }
-    ensures { IsPathAnswer sources.now end.now number side.0 (bits_in path.now) part.now result }
-{
-    match part.clear_end(sources, path, side) {
-        Some(below) => check_node(sources, end, &below),
-        None => check_path(sources, number, end, side, path, part),
-    }
-}
-
-// Checks the rest of a chain's path from the part's block on: the node at its end, and then the blocks beside the path
-// from the deepest up.
-#[cycle(nodes)]
-fn check_path<'a>(
-    sources: &Sources,
-    number: u64,
-    end: &NodeLine<'a>,
-    side: LabelId,
-    path: &Path,
-    part: &Part,
-) -> Result<NodeLine<'a>, CheckFault>
-    requires end { IsAtEnd sources.now end.now number side.0 (bits_in path.now) part.now }
-    ensures { IsPathAnswer sources.now end.now number side.0 (bits_in path.now) part.now result }
-{
-    let Some((bit, rest)) = path.split_first() else {
-        return check_node(sources, end, part);
-    };
-    let (chosen, beside) = part.step(sources, bit);
-    let next = check_path(sources, number, end, side, &rest, &chosen)?;
-    unless_fault(beside.leaf_fault(sources, side), number, next)
-}
-
-// Checks the nodes against `entries`, the list's entries in order.
-fn check_nodes_by(sources: &Sources, entries: &[Entry]) -> Result<(), CheckFault>
+// Checks the nodes against `entries`, the list's entries in order, and returns the root's cost.
+fn check_nodes_by(sources: &Sources, entries: &[Entry], walk: &mut Walk) -> Result<u32, TextFault>
     requires sources { AreSources sources.now }
     requires entries { AreInOrder sources.now.list.now.entries entries.now }
-    ensures { IsOutcome (node_fault (map_of sources.now.map.now) (list_of sources.now.list.now).prefixes
-        (certificate_of sources.now.certificate.now).root 1 0 0) result }
+    ensures { IsNodesAnswer sources.now.map.now sources.now.list.now sources.now.frame walk.old walk.new result }
 {
-    let root = NodeLine {
-        node: sources.certificate.root(),
-        number: 1,
-    };
     let space = Part {
         window: Window::whole(&sources.stretches),
         entries,
         above: None,
     };
-    check_node(sources, &root, &space)?;
-    Ok(())
+    check_node(sources, walk, &space)
 }
 
-// Checks the nodes of a certificate whose version is that of the map and the list.
+// Checks the nodes of a certificate whose version is that of the map and the list, and returns the root's cost.
 fn check_nodes(
     alloc: Global,
     map: &MapText,
     list: &PrefixList,
-    certificate: &Certificate,
-) -> Result<(), CheckFault>
+    frame: &Frame,
+    walk: &mut Walk,
+) -> Result<u32, TextFault>
     requires list { list.now.version ≡ map.now.version }
-    requires certificate { certificate.now.version ≡ map.now.version }
-    ensures { IsOutcome (node_fault (map_of map.now) (list_of list.now).prefixes
-        (certificate_of certificate.now).root 1 0 0) result }
+    requires width { frame.now.width ≡ width_of map.now.version }
+    ensures { IsNodesAnswer map.now list.now frame.now walk.old walk.new result }
 {
     let sources = Sources {
         map,
         list,
-        certificate,
+        frame: *frame,
         stretches: Stretches::of_map(alloc, map)?,
-        map_numbers: numbers_in(alloc, &map.labels, &certificate.labels)?,
-        list_numbers: numbers_in(alloc, &list.labels, &certificate.labels)?,
+        map_numbers: numbers_in(alloc, &map.labels, frame.labels)?,
+        list_numbers: numbers_in(alloc, &list.labels, frame.labels)?,
     };
     let entries = in_order(alloc, list.entries.as_slice())?;
-    check_nodes_by(&sources, entries.as_slice())
+    check_nodes_by(&sources, entries.as_slice(), walk)
 }
 
-// Checks the certificate, and returns the number of the list's entries or the first fault.
+// Returns the fault of a whole certificate.
+fn whole_fault(kind: CheckFaultKind) -> TextFault
+    ensures { result ≡ Check (whole_fault kind) }
+{
+    TextFault::Check(CheckFault { kind, node: 0 })
+}
+
+// Checks the nodes of a certificate of this version, and returns the number of the list's entries.
+fn check_root(
+    alloc: Global,
+    map: &MapText,
+    list: &PrefixList,
+    version: Version,
+    frame: &Frame,
+    walk: &mut Walk,
+) -> Result<u64, TextFault>
+    requires width { frame.now.width ≡ width_of version }
+    requires first { walk.old.number ≡ 1 }
+    ensures { IsRootAnswer map.now list.now frame.now version (root_reading frame.now walk.old.lines)
+        walk.new.lines result }
+{
+    if list.version != map.version || version != map.version {
+        walk.skip(frame, frame.width)?;
+        return Err(whole_fault(CheckFaultKind::VersionDiffers));
+    }
+    let cost = check_nodes(alloc, map, list, frame, walk)?;
+    let count = list.entries.len() as u64;
+    if count > u64::from(cost) + 1 {
+        return Err(whole_fault(CheckFaultKind::BoundNotMet));
+    }
+    Ok(count)
+}
+
+// Checks the text of a certificate, and returns the number of the list's entries or the first fault.
 fn count_entries(
     alloc: Global,
     map: &MapText,
     list: &PrefixList,
-    certificate: &Certificate,
-) -> Result<u64, CheckFault>
+    text: &[u8],
+    hashing: KeyHashing,
+) -> Result<u64, TextFault>
     ensures count { IfOk result (λ n. n ≡ length (list_of list.now).prefixes) }
-    ensures ok { IfOk result (λ _. first_fault (map_of map.now) (list_of list.now) (certificate_of certificate.now)
-        ≡ None) }
-    ensures fault { IfErr result (λ fault. fault.kind ≢ NoMemory →
-        first_fault (map_of map.now) (list_of list.now) (certificate_of certificate.now) ≡ Some fault) }
-    ensures memory { IfErr result (λ fault. fault.kind ≡ NoMemory → fault.node ≡ 0) }
+    ensures fault { IsTextOutcome (text_fault (map_of map.now) (list_of list.now) (format_reading text.now)) result }
 {
-    if list.version != map.version || certificate.version != map.version {
-        let kind = CheckFaultKind::VersionDiffers;
-        return Err(CheckFault { kind, node: 0 });
+    let Head {
+        format,
+        version,
+        labels,
+        nodes,
+    } = read_head(alloc, text, hashing)?;
+    let frame = Frame {
+        format,
+        width: version.width(),
+        labels: &labels,
+    };
+    let mut walk = Walk::new(alloc, nodes);
+    let checked = check_root(alloc, map, list, version, &frame, &mut walk);
+    if let Err(TextFault::Certificate(_)) = checked {
+        return checked;
     }
-    check_nodes(alloc, map, list, certificate)?;
-    let count = list.entries.len() as u64;
-    let root = certificate.root();
-    if count > u64::from(root.cost()) + 1 {
-        let kind = CheckFaultKind::BoundNotMet;
-        return Err(CheckFault { kind, node: 0 });
+    if !walk.lines.is_ended() {
+        return Err(TextFault::Certificate(walk.lines.fault(CertFaultKind::NodesLeft)));
     }
+    checked
+}
+
+/// Checks the text of a certificate like [`check`], while it is read, and stores none of its nodes. A fault of the text
+/// comes before any fault of the check. `hashing` is for the labels, and doesn't affect the result.
+pub fn check_text(
+    alloc: Global,
+    map: &MapText,
+    list: &PrefixList,
+    text: &[u8],
+    hashing: KeyHashing,
+) -> Result<u64, TextFault>
+    ensures accepted { IfOk result (λ _. (c : CertificateModel) × (format_reading text.now ≡ Ok c)
+        × IsAccepted (map_of map.now) (list_of list.now) c) }
+    ensures count { IfOk result (λ n. n ≡ length (list_of list.now).prefixes) }
+    // The list labels every address as the map does, and no list that does so has fewer entries.
+    ensures equivalent { IfOk result (λ _. IsEquivalent (list_of list.now) (map_of map.now)) }
+    ensures least { IfOk result (λ _. IsLeast (map_of map.now) (list_of list.now)) }
+    ensures fault { IsTextOutcome (text_fault (map_of map.now) (list_of list.now) (format_reading text.now)) result }
+{
+    let count = count_entries(alloc, map, list, text, hashing)?;
+    // Provides these laws: a text that is read is a certificate's, which is accepted if it has no fault, and acceptance
+    // is enough.
+    text_of_format_is_read_or_has_a_fault();
+    no_fault_is_acceptance();
+    acceptance_is_enough();
     Ok(count)
 }
 
@@ -264,10 +193,20 @@ pub fn check(
         first_fault (map_of map.now) (list_of list.now) (certificate_of certificate.now) ≡ Some fault) }
     ensures memory { IfErr result (λ fault. fault.kind ≡ NoMemory → fault.node ≡ 0) }
 {
-    let count = count_entries(alloc, map, list, certificate)?;
-    // Provides these laws: a certificate has a text, so it is accepted if it has no fault, and acceptance is enough.
+    let text = write_cert(alloc, certificate)?;
+    // Provides these laws: a certificate has a text and is read from it, and is accepted if it has no fault.
     let _root = certificate.root();
+    text_of_format_is_read_or_has_a_fault();
     no_fault_is_acceptance();
-    acceptance_is_enough();
-    Ok(count)
+    match check_text(alloc, map, list, text.as_slice(), KeyHashing::known()) {
+        Ok(count) => Ok(count),
+        Err(TextFault::Check(fault)) => Err(fault),
+        Err(TextFault::Certificate(fault)) => match fault.kind {
+            CertFaultKind::NoMemory => Err(CheckFault {
+                kind: CheckFaultKind::NoMemory,
+                node: 0,
+            }),
+            _ => unreachable!(),
+        },
+    }
 }

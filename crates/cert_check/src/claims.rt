@@ -5,13 +5,13 @@ ghost use Rattle.std.specs.List.{list_all};
 ghost use Rattle.pmap_text.specs.Label.{IsLabelTable};
 ghost use Rattle.pmap_text.specs.MapText.{text_at};
 ghost use Rattle.pmap_cert.specs.CertificateText.{IsAscending};
-ghost use Rattle.pmap_cert.specs.CertificateModel.{claim_of, chain_claim, exact_claim};
-ghost use Rattle.pmap_cert.specs.Node.{bits_of, cost_of, first_node, set_of, tree_of};
+ghost use Rattle.pmap_cert.specs.CertificateModel.{chain_claim, exact_claim};
+ghost use Rattle.pmap_cert.specs.Packed.{bits_in};
 ghost use Rattle.cert_check.specs.Checking.{claim_fault as claim_fault_of, CostTooHigh, SetTooSmall};
-ghost use Rattle.cert_check.specs.Inner.{has_number};
+ghost use Rattle.cert_check.specs.Inner.{claim_in, has_number};
 
 use crate::fault::CheckFaultKind;
-use pmap_cert::Cursor;
+use pmap_cert::Path;
 use pmap_text::{LabelId, Labels};
 
 // Returns the rest of the set from the first number that is at least `id`.
@@ -123,64 +123,61 @@ fn fault_by(cost: u64, exact_cost: u64, has_exact_set: bool) -> Option<CheckFaul
     }
 }
 
+/// What a node claims: a cost, and a set of labels by ascending numbers.
+#[derive(Clone, Copy)]
+pub struct Claimed<'a> {
+    pub cost: u32,
+    pub set: &'a [LabelId],
+}
+
 /// Returns the fault of an inner node's claim, if any, by the claims of the nodes of its halves.
 pub fn claim_fault(
     labels: &Labels,
-    claim: &Cursor,
-    left: &Cursor,
-    right: &Cursor,
+    claim: Claimed,
+    left: Claimed,
+    right: Claimed,
 ) -> Option<CheckFaultKind>
-    requires here { 0 < length claim.now }
-    requires below { (0 < length left.now) × (0 < length right.now) }
-    requires claim { IsAscending (length labels.now) 0 (set_of (first_node claim.now)) }
-    requires left { IsAscending (length labels.now) 0 (set_of (first_node left.now)) }
-    requires right { IsAscending (length labels.now) 0 (set_of (first_node right.now)) }
-    ensures { result ≡ claim_fault_of (claim_of (tree_of labels.now (first_node claim.now)))
-        (exact_claim (claim_of (tree_of labels.now (first_node left.now)))
-        (claim_of (tree_of labels.now (first_node right.now)))) }
+    requires claim { IsAscending (length labels.now) 0 (map (λ i. i.0) claim.set.now) }
+    requires left { IsAscending (length labels.now) 0 (map (λ i. i.0) left.set.now) }
+    requires right { IsAscending (length labels.now) 0 (map (λ i. i.0) right.set.now) }
+    ensures { result ≡ claim_fault_of (claim_in labels.now claim.entry)
+        (exact_claim (claim_in labels.now left.entry) (claim_in labels.now right.entry)) }
 {
     // Provides the law that a table has at most 65536 labels.
     let _count = labels.len();
-    let cost = u64::from(claim.cost());
-    let set = claim.set();
-    let lower = left.set();
-    let upper = right.set();
-    let below = u64::from(left.cost()) + u64::from(right.cost());
-    if are_apart(lower, upper) {
-        fault_by(cost, below + 1, has_both(set, lower, upper))
+    let cost = u64::from(claim.cost);
+    let below = u64::from(left.cost) + u64::from(right.cost);
+    if are_apart(left.set, right.set) {
+        fault_by(cost, below + 1, has_both(claim.set, left.set, right.set))
     } else {
-        fault_by(cost, below, has_common(set, lower, upper))
+        fault_by(cost, below, has_common(claim.set, left.set, right.set))
     }
 }
 
-/// Returns the fault of the claim of a chain with this side label, if any, by the claim of the node at its end.
+/// Returns the fault of the claim of a chain with this path and side label, if any, by the claim of the node at its end.
 pub fn chain_fault(
     labels: &Labels,
-    chain: &Cursor,
-    end: &Cursor,
+    claim: Claimed,
+    end: Claimed,
+    path: &Path,
     side: LabelId,
 ) -> Option<CheckFaultKind>
-    requires here { 0 < length chain.now }
-    requires below { 0 < length end.now }
-    requires chain { IsAscending (length labels.now) 0 (set_of (first_node chain.now)) }
-    requires end { IsAscending (length labels.now) 0 (set_of (first_node end.now)) }
+    requires claim { IsAscending (length labels.now) 0 (map (λ i. i.0) claim.set.now) }
+    requires end { IsAscending (length labels.now) 0 (map (λ i. i.0) end.set.now) }
     requires side { side.0 < length labels.now }
-    ensures { result ≡ claim_fault_of (claim_of (tree_of labels.now (first_node chain.now)))
-        (chain_claim (length (bits_of (first_node chain.now))) (text_at labels.now side.0)
-        (claim_of (tree_of labels.now (first_node end.now)))) }
+    ensures { result ≡ claim_fault_of (claim_in labels.now claim.entry)
+        (chain_claim (length (bits_in path.now)) (text_at labels.now side.0) (claim_in labels.now end.entry)) }
 {
     // Provides the law that a table has at most 65536 labels.
     let _count = labels.len();
-    let cost = u64::from(chain.cost());
-    let below = u64::from(end.cost());
-    let set = chain.set();
-    let beneath = end.set();
-    let has_side = has_one(set, side);
-    if has_one(beneath, side) {
+    let cost = u64::from(claim.cost);
+    let below = u64::from(end.cost);
+    let has_side = has_one(claim.set, side);
+    if has_one(end.set, side) {
         return fault_by(cost, below, has_side);
     }
-    if chain.path().len() == 1 {
-        fault_by(cost, below + 1, has_side && has_all(set, beneath))
+    if path.len() == 1 {
+        fault_by(cost, below + 1, has_side && has_all(claim.set, end.set))
     } else {
         fault_by(cost, below + 1, has_side)
     }

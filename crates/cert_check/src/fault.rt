@@ -1,7 +1,10 @@
 ghost use Rattle.std.specs.Prelude.{◌≡◌};
 ghost use Rattle.cert_check.specs.declared.fault.CheckFaultKind.TheVariants.{NoMemory};
+ghost use Rattle.pmap_cert.specs.declared.fault.CertFaultKind.TheVariants.{NoMemory as NoMemoryForText};
+ghost use Rattle.cert_check.specs.declared.fault.TextFault.TheVariants.{Certificate};
 
-use std::alloc::AllocError;
+use pmap_cert::CertFault;
+use std::alloc::{AllocError, AllocFailed};
 use thiserror::Error;
 
 /// Why a certificate is not accepted for a map and a prefix list.
@@ -40,5 +43,36 @@ impl From<AllocError> for CheckFault {
             kind: CheckFaultKind::NoMemory,
             node: 0,
         }
+    }
+}
+
+/// The first fault of the text of a certificate, or of the certificate. Out of memory is a fault of the text.
+#[derive(Clone, Copy)]
+pub enum TextFault {
+    Certificate(CertFault),
+    Check(CheckFault),
+}
+
+impl From<CertFault> for TextFault {
+    ghost from_gives = { λ fault text. text ≡ Certificate fault };
+
+    fn from(fault: CertFault) -> TextFault {
+        TextFault::Certificate(fault)
+    }
+}
+
+impl From<AllocError> for TextFault {
+    ghost from_gives = { λ _ text. text ≡ Certificate (record { kind = NoMemoryForText; line = 0 }) };
+
+    fn from(error: AllocError) -> TextFault {
+        TextFault::Certificate(CertFault::from(error))
+    }
+}
+
+impl<T: Drop> From<AllocFailed<T>> for TextFault {
+    ghost from_gives = { λ _ text. text ≡ Certificate (record { kind = NoMemoryForText; line = 0 }) };
+
+    fn from(_error: AllocFailed<T>) -> TextFault {
+        TextFault::Certificate(CertFault::from(AllocError))
     }
 }

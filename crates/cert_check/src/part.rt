@@ -66,9 +66,9 @@ impl<'a> Part<'a> {
     fn is_settled(&self, sources: &Sources, id: LabelId) -> bool
         requires sources { AreSources sources.now }
         requires part { IsPart sources.now self.now }
-        requires known { id.0 < length sources.now.certificate.now.labels }
+        requires known { id.0 < length sources.now.frame.labels.now }
         ensures { result ≡ is_label_of (settled_label (map_of sources.now.map.now) self.now.window.len
-            (number_at sources.now.stretches self.now.window)) (text_at sources.now.certificate.now.labels id.0) }
+            (number_at sources.now.stretches self.now.window)) (text_at sources.now.frame.labels.now id.0) }
     {
         self.window.from == self.window.to && sources.is_of_map(self.window.from, id)
     }
@@ -76,10 +76,10 @@ impl<'a> Part<'a> {
     fn is_decided(&self, sources: &Sources, id: LabelId) -> bool
         requires sources { AreSources sources.now }
         requires part { IsPart sources.now self.now }
-        requires known { id.0 < length sources.now.certificate.now.labels }
+        requires known { id.0 < length sources.now.frame.labels.now }
         ensures { result ≡ is_decided_of (width_of sources.now.map.now.version)
             (list_of sources.now.list.now).prefixes self.now.window.len
-            (number_at sources.now.stretches self.now.window) (text_at sources.now.certificate.now.labels id.0) }
+            (number_at sources.now.stretches self.now.window) (text_at sources.now.frame.labels.now id.0) }
     {
         let (inside, covering) = self.inside();
         inside.is_empty() && sources.is_of_list(covering, id)
@@ -89,10 +89,10 @@ impl<'a> Part<'a> {
     pub fn leaf_fault(&self, sources: &Sources, id: LabelId) -> Option<CheckFaultKind>
         requires sources { AreSources sources.now }
         requires part { IsPart sources.now self.now }
-        requires known { id.0 < length sources.now.certificate.now.labels }
+        requires known { id.0 < length sources.now.frame.labels.now }
         ensures { result ≡ leaf_fault_of (map_of sources.now.map.now) (list_of sources.now.list.now).prefixes
             self.now.window.len (number_at sources.now.stretches self.now.window)
-            (text_at sources.now.certificate.now.labels id.0) }
+            (text_at sources.now.frame.labels.now id.0) }
     {
         if !self.is_settled(sources, id) {
             return Some(CheckFaultKind::LeafNotUniform);
@@ -148,9 +148,9 @@ impl<'a> Part<'a> {
     fn is_clear_before(&self, sources: &Sources, first: u128, side: LabelId) -> bool
         requires sources { AreSources sources.now }
         requires part { IsPart sources.now self.now }
-        requires known { side.0 < length sources.now.certificate.now.labels }
+        requires known { side.0 < length sources.now.frame.labels.now }
         ensures { IsTrue result → IsSettledBetween (map_of sources.now.map.now) self.now.window.first first
-            (text_at sources.now.certificate.now.labels side.0) }
+            (text_at sources.now.frame.labels.now side.0) }
     {
         let from = self.window.from;
         if first <= self.window.first {
@@ -163,9 +163,9 @@ impl<'a> Part<'a> {
     fn is_clear_after(&self, sources: &Sources, last: u128, side: LabelId) -> bool
         requires sources { AreSources sources.now }
         requires part { IsPart sources.now self.now }
-        requires known { side.0 < length sources.now.certificate.now.labels }
+        requires known { side.0 < length sources.now.frame.labels.now }
         ensures { IsTrue result → IsSettledBetween (map_of sources.now.map.now) (last + 1) (self.now.window.last + 1)
-            (text_at sources.now.certificate.now.labels side.0) }
+            (text_at sources.now.frame.labels.now side.0) }
     {
         let to = self.window.to;
         if last >= self.window.last {
@@ -181,12 +181,12 @@ impl<'a> Part<'a> {
         requires part { IsPart sources.now self.now }
         requires some { 0 < length (bits_in path.now) }
         requires room { self.now.window.len + path.now.count ≤ width_of sources.now.stretches.version }
-        requires known { side.0 < length sources.now.certificate.now.labels }
+        requires known { side.0 < length sources.now.frame.labels.now }
         ensures part { IfSome result (IsPart sources.now) }
         ensures len { IfSome result (λ end. end.window.len ≡ self.now.window.len + length (bits_in path.now)) }
         ensures clear { IfSome result (λ end. (k : ℕ) (below : ℕ → ℕ → Option CheckFault) →
             bits_fault (map_of sources.now.map.now) (list_of sources.now.list.now).prefixes
-            (text_at sources.now.certificate.now.labels side.0) k below (bits_in path.now) self.now.window.len
+            (text_at sources.now.frame.labels.now side.0) k below (bits_in path.now) self.now.window.len
             (number_at sources.now.stretches self.now.window)
             ≡ below end.window.len (number_at sources.now.stretches end.window)) }
     {

@@ -221,19 +221,5 @@ module _ (text : List ℕ) where
     reading-labels_fault fault e = behind_header ∙ ap (labels_then format version) e
 
     module _ (table : List Label) (nodes : Place) (labels : labels_at count [] after ≡ Ok (table, nodes)) where
-      behind_labels : format_reading text ≡ root_then format version table (nodes_at (due format version table) table (width_of version) 0 nodes)
-      behind_labels = behind_header ∙ ap (labels_then format version) labels
-
-      pub reading-root_fault : (fault : CertFault) → nodes_at (due format version table) table (width_of version) 0 nodes ≡ Err fault → format_reading text ≡ Err fault
-      reading-root_fault fault e = behind_labels ∙ ap (root_then format version table) e
-
-      module _ (root : Tree) (end : Place) (e : nodes_at (due format version table) table (width_of version) 0 nodes ≡ Ok (root, end)) where
-        pub reading-ended : is_ended end.pieces ≡ true → format_reading text ≡ Ok (certificate_at format version table root)
-        reading-ended h =
-            behind_labels ∙ ap (root_then format version table) e
-            ∙ cond-true (is_ended end.pieces) (Ok (certificate_at format version table root)) (Err (fault_at end NodesLeft)) h
-
-        pub reading-left : is_ended end.pieces ≡ false → format_reading text ≡ Err (fault_at end NodesLeft)
-        reading-left h =
-            behind_labels ∙ ap (root_then format version table) e
-            ∙ cond-false (is_ended end.pieces) (Ok (certificate_at format version table root)) (Err (fault_at end NodesLeft)) h
+      pub reading-head : format_reading text ≡ root_then format version table (nodes_at (due format version table) table (width_of version) 0 nodes)
+      reading-head = behind_header ∙ ap (labels_then format version) labels

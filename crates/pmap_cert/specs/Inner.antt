@@ -2,14 +2,16 @@ use Rattle.std.specs.Prelude.{◌≡◌, ℕ, List, ◌++◌, Ok, Result, length
 use Rattle.std.specs.Fmt.{decimal}
 use Rattle.std.specs.List.{flat_map}
 use Rattle.std.specs.Option.{option_or}
+use Rattle.prefix_keys.specs.Block.{width_of}
 use Rattle.prefix_keys.specs.Text.{is_digit}
 use Rattle.prefix_keys.specs.declared.version.Version.{Version}
 use Rattle.pmap_text.specs.MapModel.{Label}
 use Rattle.pmap_text.specs.Label.{IsLabelTable}
+use Rattle.pmap_text.specs.Reading.{◌>>=◌}
 use Rattle.pmap_cert.specs.Format.{IsNodeOf, format_number, Format}
-use Rattle.pmap_cert.specs.FormatReading.{DueLine, Place, fits_header, fits_line, header_text, line_due_at, line_text, nodes_at, CertFault}
+use Rattle.pmap_cert.specs.FormatReading.{DueLine, Place, ended_by, fits_header, fits_line, header_text, line_due_at, line_text, nodes_at, CertFault}
 use Rattle.pmap_cert.specs.Node.{HasChainForm, IsPlainNode, Node, lines_of, tree_of, AreWhole, Inner, Leaf, first_node, label_of, node_of, nodes_of}
-use Rattle.pmap_cert.specs.CertificateModel.{Tree}
+use Rattle.pmap_cert.specs.CertificateModel.{CertificateModel, Tree}
 use Rattle.pmap_cert.specs.CertificateText.{IsAscending, bit_digits, format_word, spaced, version_word}
 use Rattle.pmap_cert.specs.Compacting.{compacted}
 use Rattle.pmap_cert.specs.declared.compacting.Below.{Below}
@@ -19,6 +21,12 @@ use Rattle.pmap_cert.specs.declared.compacting.Below.TheVariants.{Halves, Nothin
 abbrev pub node_due_at : Format → ℕ → List Label → ℕ → Place → Result (Tree × Place) CertFault
 node_due_at format most table room place =
     nodes_at (line_due_at (format_number format) most (length table)) table room 0 place
+
+-- the certificate whose nodes follow at a place, after this head, or the first fault from there on
+abbrev pub reading_from : Format → Version → List Label → Place → Result CertificateModel CertFault
+reading_from format version table place =
+    node_due_at format (width_of version) table (width_of version) place >>= (λ root.
+    ended_by (record { format = format_number format; version = version; table = table; root = root.0 }) root.1)
 
 -- the next node was read, and its lines with those of the nodes below it follow the old ones
 pub record IsReadNode (format : Format) (most : ℕ) (table : List Label) (room : ℕ) (place : Place) (old new : List DueLine) (after : Place) : Type 0 where

@@ -4,19 +4,21 @@ ghost use Rattle.pmap_text.specs.Label.{has_label, is_label as is_label_text};
 ghost use Rattle.pmap_cert.specs.Certificate.{ReturnsCertificate, certificate_of};
 ghost use Rattle.pmap_cert.specs.Format.{IsNodeOf, format_number};
 ghost use Rattle.pmap_cert.specs.FormatReading.{format_reading, is_ended, labels_at, line_due_at, new_label, line_value, BadLabelTable, BadNode, NoMemory, NodesMissing};
+ghost use Rattle.pmap_cert.specs.CertificateModel.{Tree};
 ghost use Rattle.pmap_cert.specs.Node.{HasChainForm, tree_of};
-ghost use Rattle.pmap_cert.specs.Inner.{IsReadNode, node_due_at};
+ghost use Rattle.pmap_cert.specs.Inner.{IsReadNode, node_due_at, reading_from};
 ghost use Rattle.pmap_cert.specs.Packed.{bits_in};
 ghost use Rattle.pmap_cert.specs.Words.{line_model};
 
 use crate::certificate::Certificate;
 use crate::fault::{CertFault, CertFaultKind};
+use crate::format::Format;
 use crate::lines::Lines;
 use crate::node_line::{Frame, Kept, NodeLine};
 use crate::nodes::Nodes;
-use crate::path::Path;
 use crate::root::Root;
 use pmap_text::{KeyHashing, Labels, is_label};
+use prefix_keys::Version;
 use std::alloc::Global;
 
 fn is_known(labels: &Labels, text: &[u8]) -> bool
@@ -104,6 +106,41 @@ fn read_node(
     }
 }
 
+/// Reads the next node, with at most `room` levels below it, and moves `lines` past it and the nodes below it.
+pub fn skip_node(
+    lines: &mut Lines,
+    kept: &mut Kept,
+    frame: &Frame,
+    room: u32,
+) -> Result<(), CertFault>
+    ensures ok { OnOk result ((tree : Tree)
+        × (node_due_at frame.now.format frame.now.width frame.now.labels.now room lines.old ≡ Ok (tree, lines.new))) }
+    ensures err { IfErr result (λ fault. fault.kind ≢ NoMemory →
+        node_due_at frame.now.format frame.now.width frame.now.labels.now room lines.old ≡ Err fault) }
+    ensures memory { IfErr result (λ fault. fault.kind ≡ NoMemory → fault.line ≡ 0) }
+{
+    let deepest = lines.fault(CertFaultKind::TooDeep);
+    match lines.next_node(kept, frame)? {
+        NodeLine::Leaf(_) => Ok(()),
+        NodeLine::Inner(_) => {
+            if room == 0 {
+                return Err(deepest);
+            }
+            skip_node(lines, kept, frame, room - 1)?;
+            skip_node(lines, kept, frame, room - 1)?;
+            Ok(())
+        }
+        NodeLine::Chain(_, _) => {
+            let deep = kept.path.len();
+            if deep > room {
+                return Err(deepest);
+            }
+            skip_node(lines, kept, frame, room - deep)?;
+            Ok(())
+        }
+    }
+}
+
 // Reads the root with all nodes below it, and moves `lines` past them.
 fn read_root(alloc: Global, frame: &Frame, lines: &mut Lines) -> Result<Root, CertFault>
     ensures ok { IfOk result (λ root.
@@ -116,12 +153,39 @@ fn read_root(alloc: Global, frame: &Frame, lines: &mut Lines) -> Result<Root, Ce
     ensures memory { IfErr result (λ fault. fault.kind ≡ NoMemory → fault.line ≡ 0) }
 {
     let mut nodes = Nodes::new(alloc);
-    let mut kept = Kept {
-        set: Vec::new(alloc),
-        path: Path { value: 0, count: 0 },
-    };
+    let mut kept = Kept::new(alloc);
     read_node(&mut nodes, &mut kept, frame, frame.width, lines)?;
     Ok(Root::new(nodes))
+}
+
+/// What a certificate's text has before its nodes, and the lines of the nodes.
+#[derive(Drop)]
+pub struct Head<'a> {
+    pub format: Format,
+    pub version: Version,
+    pub labels: Labels,
+    pub nodes: Lines<'a>,
+}
+
+/// Reads the header and the label table of a certificate's text.
+pub fn read_head<'a>(
+    alloc: Global,
+    text: &'a [u8],
+    hashing: KeyHashing,
+) -> Result<Head<'a>, CertFault>
+    ensures ok { IfOk result (λ head. format_reading text.entry.now
+        ≡ reading_from head.format head.version head.labels head.nodes) }
+    ensures err { IfErr result (λ fault. fault.kind ≢ NoMemory → format_reading text.entry.now ≡ Err fault) }
+    ensures memory { IfErr result (λ fault. fault.kind ≡ NoMemory → fault.line ≡ 0) }
+{
+    let (header, lines) = Lines::new(text).header()?;
+    let (labels, nodes) = read_labels(alloc, header.count, lines, hashing)?;
+    Ok(Head {
+        format: header.format,
+        version: header.version,
+        labels,
+        nodes,
+    })
 }
 
 // Reads the certificate of a text, or returns the first fault.
@@ -130,16 +194,21 @@ fn read_all(alloc: Global, text: &[u8], hashing: KeyHashing) -> Result<Certifica
     ensures err { IfErr result (λ fault. fault.kind ≢ NoMemory → format_reading text.now ≡ Err fault) }
     ensures memory { IfErr result (λ fault. fault.kind ≡ NoMemory → fault.line ≡ 0) }
 {
-    let (header, lines) = Lines::new(text).header()?;
-    let (labels, mut rest) = read_labels(alloc, header.count, lines, hashing)?;
+    let Head {
+        format,
+        version,
+        labels,
+        nodes,
+    } = read_head(alloc, text, hashing)?;
+    let mut rest = nodes;
     let frame = Frame {
-        format: header.format,
-        width: header.version.width(),
+        format,
+        width: version.width(),
         labels: &labels,
     };
     let root = read_root(alloc, &frame, &mut rest)?;
     if rest.is_ended() {
-        Ok(Certificate::of_format(header.format, header.version, labels, root))
+        Ok(Certificate::of_format(format, version, labels, root))
     } else {
         Err(rest.fault(CertFaultKind::NodesLeft))
     }

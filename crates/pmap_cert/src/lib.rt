@@ -41,7 +41,7 @@ mod root;
 mod writing;
 
 pub use certificate::Certificate;
-pub use certificate_reading::{read_cert, read_cert_with_hashing};
+pub use certificate_reading::{Head, read_cert, read_cert_with_hashing, read_head, skip_node};
 pub use chain_laws::{
     chain_claim_is_bit_by_bit, compact_gives_back_equal, compact_has_a_text,
     compact_has_no_more_lines, compact_keeps_acceptance, compact_opens_to_the_same,
@@ -57,6 +57,8 @@ pub use laws::{
     map_text_has_a_minimal_pair, map_text_has_its_labels, minimal_list_is_in_order,
     minimal_pair_exists, minimal_pair_is_accepted, minimal_pair_is_unique,
 };
+pub use lines::Lines;
+pub use node_line::{Frame, Kept, NodeLine};
 pub use nodes::Nodes;
 pub use path::Path;
 pub use pool::{SetId, SetPool};

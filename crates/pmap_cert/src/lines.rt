@@ -70,6 +70,7 @@ impl<'a> Lines<'a> {
 
     /// Reads the next line of a node and moves past it. `kept` gets the set of an inner node or a chain, and the bits of
     /// a chain.
+    #[inline(always)]
     pub fn next_node(&mut self, kept: &mut Kept, frame: &Frame) -> Result<NodeLine, CertFault>
         ensures ok { IfOk result (λ line. line_due_at (format_number frame.now.format) frame.now.width
             (length frame.now.labels.now) self.old

@@ -8,7 +8,7 @@ ghost use Rattle.pmap_cert.specs.Words.{line_model};
 use crate::format::Format;
 use crate::path::Path;
 use pmap_text::{LabelId, Labels};
-use std::alloc::AllocError;
+use std::alloc::{AllocError, Global};
 
 /// The line of a node without its set and bits: a leaf's label, an inner node's cost, or a chain's cost and side label.
 #[derive(Clone, Copy)]
@@ -32,6 +32,16 @@ pub struct Frame<'a> {
 pub struct Kept {
     pub set: Vec<LabelId>,
     pub path: Path,
+}
+
+impl Kept {
+    /// Constructs the set and the bits before the first line, which are empty.
+    pub fn new(alloc: Global) -> Kept {
+        Kept {
+            set: Vec::new(alloc),
+            path: Path { value: 0, count: 0 },
+        }
+    }
 }
 
 // Returns what follows this byte, if the text begins with it.
@@ -196,6 +206,7 @@ fn chain<'a>(
 
 /// Reads the node line at the beginning of a text, and returns it with the text after it, or `None` if it is malformed
 /// for `count` labels. `kept` gets the set of an inner node or a chain, and the bits of a chain.
+#[inline(always)]
 pub fn node_line<'a>(
     kept: &mut Kept,
     frame: &Frame,

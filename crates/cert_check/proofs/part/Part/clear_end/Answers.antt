@@ -55,7 +55,7 @@ returns c =
     let end = part-end s are p is c.block.result c.end-end.result c.block.ensures.version c.block.ensures.value c.block.ensures.len (bits_in c.args.path.now) c.end-end.ensures c.requires.some in
     let inside = c.inside-above.ensures s.list.now (number_at s.stretches p.window) (part-short s are p is) (part-first s are p is) is.list in
     let all = c.lie_in.ensures c.if-not-lie_in.false in
-    let x = text_at s.certificate.now.labels c.args.side.0 in
+    let x = text_at s.frame.labels.now c.args.side.0 in
     record {
       part = end-is-part s are p is c.end-end.result (bits_in c.args.path.now) end c.high.result.value c.high.ensures.last c.inside-above.result.0 c.inside-above.result.1 inside all
           c.index_of.result c.index_of-2.result c.index_of.ensures.holds c.index_of-2.ensures.holds;

@@ -20,7 +20,7 @@ returns-then-is_empty c =
     let p = c.args.self.now in
     let n = p.window.len in
     let q = number_at s.stretches p.window in
-    let x = text_at s.certificate.now.labels c.args.id.0 in
+    let x = text_at s.frame.labels.now c.args.id.0 in
     let inside = c.inside-covering.ensures l q (part-short s c.requires.sources p c.requires.part) (part-first s c.requires.sources p c.requires.part) c.requires.part.list in
     let es = c.inside-covering.result.0.now in
     let none = length-nil es (eqb-true (length es) 0 (sym c.is_empty.ensures ∙ c.if-is_empty.true)) in
@@ -35,7 +35,7 @@ returns-else-is_empty c =
     let p = c.args.self.now in
     let n = p.window.len in
     let q = number_at s.stretches p.window in
-    let x = text_at s.certificate.now.labels c.args.id.0 in
+    let x = text_at s.frame.labels.now c.args.id.0 in
     let inside = c.inside-covering.ensures l q (part-short s c.requires.sources p c.requires.part) (part-first s c.requires.sources p c.requires.part) c.requires.part.list in
     c.if-is_empty.false
     ∙ decided-some l n q x c.inside-covering.result.0.now c.inside-covering.result.1 (sym c.is_empty.ensures ∙ c.if-is_empty.false) inside

@@ -1,0 +1,246 @@
+use Rattle.std.proofs.Common.{◌≡◌, ◌∙◌, ◌+◌, ◌-◌, ◌<◌, ◌++◌, ◌∷◌, [], ℕ, Bool, List, Ok, ap, arith, length, option_map, refl, subst, sym, take}
+use Rattle.std.proofs.lemmas.Result.{err_from_is_err_and}
+use Rattle.std.proofs.lemmas.List.{append-nil, length-append}
+use Rattle.prefix_keys.specs.Block.{width_of}
+use Rattle.pmap_text.specs.MapText.{map_of, text_at}
+use Rattle.pmap_text.specs.PrefixList.{list_of}
+use Rattle.pmap_text.specs.Reading.{◌>>=◌}
+use Rattle.pmap_text.specs.declared.label.LabelId.{LabelId}
+use Rattle.pmap_cert.specs.CertificateModel.{InnerNode, LeafNode, chain_claim, exact_claim}
+use Rattle.pmap_cert.specs.Format.{format_number}
+use Rattle.pmap_cert.specs.FormatReading.{ChainLine, InnerLine, LeafLine, nodes_at}
+use Rattle.pmap_cert.specs.Packed.{bits_in}
+use Rattle.pmap_cert.proofs.FormatTrees.{line_due-found}
+use Rattle.pmap_cert.proofs.Paths.{path-length}
+use Rattle.pmap_cert.proofs.ReadingSteps.{chain-bits, chain-deep, chain-in, deeper, due_in, end_then, node-deep, node-fault, node-leaf}
+use Rattle.cert_check.specs.Checking.{claim_fault, fault_of_number, node_fault}
+use Rattle.cert_check.specs.Inner.{IsAnswer, Read, chain_reading, claim_with, fault_of_node, halves_reading, reading_at}
+use Rattle.cert_check.proofs.Sets.{numbers}
+use Rattle.cert_check.proofs.Walks.{below-failed, below-passed, end-answer, halves-passed, lower-failed, own-answer, piece, pieces, rest-failed, rest-passed, take-front, upper-failed}
+use Rattle.cert_check.proofs.walk.+nodes.Goals as goal
+
+pub check_node-returns-in_err-id : goal.check_node-returns-in_err-id
+check_node-returns-in_err-id t c =
+    let s = c.args.sources.now in
+    let frame = s.frame in
+    let p = err_from_is_err_and c.from_residual.result c.from_residual.ensures.1 in
+    rw (p.1, p.2) (
+      λ some. node-fault (due_in frame.format frame.width frame.labels.now) frame.labels.now c.args.walk.now.lines c.args.walk.now.lines (frame.width - c.args.part.now.window.len)
+          c.in_err-id.field-0.0 (c.in_err-id.ensures.err some),
+      c.in_err-id.ensures.memory,
+    )
+
+pub check_node-returns-then-room-eq0 : goal.check_node-returns-then-room-eq0
+check_node-returns-then-room-eq0 t c =
+    let frame = c.args.sources.now.frame in
+    let room : frame.width - c.args.part.now.window.len ≡ 0 = c.if-room-eq0.true in
+    rw c.fault-deepest.ensures (
+      λ _. ap (λ (n : ℕ). nodes_at (due_in frame.format frame.width frame.labels.now) frame.labels.now n 0 c.args.walk.now.lines) room
+          ∙ node-deep (due_in frame.format frame.width frame.labels.now) frame.labels.now c.args.walk.now.lines c.next_node.new.self c.in-Inner.cost (numbers c.next_node.new.kept.set.items)
+          (rw c.in-Inner.is at c.in_ok-id.ensures.ok),
+      λ e. cc,
+    )
+
+pub check_node-check_inner-requires : goal.check_node-check_inner-requires
+check_node-check_inner-requires t c =
+    let frame = c.args.sources.now.frame in
+    let said = line_due-found (format_number frame.format) frame.width (length frame.labels.now) c.args.walk.now.lines
+    (InnerLine c.in-Inner.cost (numbers c.next_node.new.kept.set.items), c.next_node.new.self) (rw c.in-Inner.is at c.in_ok-id.ensures.ok) in
+    let some = c.if-room-eq0.false in (
+      omega arith,
+      (c.requires.sources, (c.requires.part, (omega (arith, some), (c.next_number-walk.ensures, said.1.1)))),
+    )
+
+pub check_node-returns-else-room-eq0 : goal.check_node-returns-else-room-eq0
+check_node-returns-else-room-eq0 t c =
+    let s = c.args.sources.now in
+    let frame = s.frame in
+    let n = c.args.part.now.window.len in
+    let due = due_in frame.format frame.width frame.labels.now in
+    let numbers' = numbers c.next_node.new.kept.set.items in
+    let claim = claim_with frame.labels.now c.in-Inner.cost numbers' in
+    let some = c.if-room-eq0.false in
+    let less : frame.width - n - 1 ≡ frame.width - (n + 1) = omega arith in
+    let is : reading_at s n c.args.walk.now.lines ≡ halves_reading s n claim c.next_node.new.self =
+    deeper due frame.labels.now c.args.walk.now.lines c.next_node.new.self c.in-Inner.cost numbers' (rw c.in-Inner.is at c.in_ok-id.ensures.ok) (frame.width - n) (omega (arith, some))
+    ∙ ap (λ (m : ℕ). nodes_at due frame.labels.now m 0 c.next_node.new.self >>= (λ lower. nodes_at due frame.labels.now m 0 lower.1 >>= (λ upper.
+    Ok (InnerNode claim lower.0 upper.0, upper.1)))) less in
+    subst (λ (r : Read). IsAnswer s r (fault_of_node s c.args.part.now) c.args.walk.now.number 0 c.args.walk.now.sets.items c.check_inner.new.walk c.check_inner.result)
+    (sym is) c.check_inner.ensures
+
+pub check_node-returns-then-len-room : goal.check_node-returns-then-len-room
+check_node-returns-then-len-room t c =
+    let frame = c.args.sources.now.frame in
+    let n = c.args.part.now.window.len in
+    let bits : List Bool = bits_in c.next_node.new.kept.path in
+    let numbers' = numbers c.next_node.new.kept.set.items in
+    let due = rw c.in-Chain.is at c.in_ok-id.ensures.ok in
+    let some = chain-bits frame.format frame.width frame.labels.now c.args.walk.now.lines c.next_node.new.self c.in-Chain.cost bits c.in-Chain.side.0 numbers' due in
+    let deep : c.len.result ≡ length bits = omega (arith, c.len.ensures) in
+    let more = c.if-len-room.true in
+    rw c.fault-deepest.ensures (
+      λ _. chain-deep (due_in frame.format frame.width frame.labels.now) frame.labels.now c.args.walk.now.lines c.next_node.new.self c.in-Chain.cost numbers' bits c.in-Chain.side.0
+          (frame.width - n) due (omega (arith, more, deep)) some,
+      λ e. cc,
+    )
+
+pub check_node-check_chain-requires : goal.check_node-check_chain-requires
+check_node-check_chain-requires t c =
+    let frame = c.args.sources.now.frame in
+    let bits : List Bool = bits_in c.next_node.new.kept.path in
+    let numbers' = numbers c.next_node.new.kept.set.items in
+    let said = line_due-found (format_number frame.format) frame.width (length frame.labels.now) c.args.walk.now.lines
+    (ChainLine c.in-Chain.cost bits c.in-Chain.side.0 numbers', c.next_node.new.self) (rw c.in-Chain.is at c.in_ok-id.ensures.ok) in
+    let deep : c.len.result ≡ length bits = omega (arith, c.len.ensures) in
+    let fits = c.if-len-room.false in
+    let some = said.1.2 in (
+      omega arith,
+      (c.requires.sources, (c.requires.part, (record { room = omega (arith, fits, deep, some); known = said.1.4 }, (some, (c.next_number-walk.ensures, said.1.5))))),
+    )
+
+pub check_node-returns-else-len-room : goal.check_node-returns-else-len-room
+check_node-returns-else-len-room t c =
+    let s = c.args.sources.now in
+    let frame = s.frame in
+    let n = c.args.part.now.window.len in
+    let bits : List Bool = bits_in c.next_node.new.kept.path in
+    let numbers' = numbers c.next_node.new.kept.set.items in
+    let due = rw c.in-Chain.is at c.in_ok-id.ensures.ok in
+    let some = chain-bits frame.format frame.width frame.labels.now c.args.walk.now.lines c.next_node.new.self c.in-Chain.cost bits c.in-Chain.side.0 numbers' due in
+    let deep : c.len.result ≡ length bits = omega (arith, c.len.ensures) in
+    let fits = c.if-len-room.false in
+    let due_by = due_in frame.format frame.width frame.labels.now in
+    let claim = claim_with frame.labels.now c.in-Chain.cost numbers' in
+    let less : frame.width - n - length bits ≡ frame.width - (n + length bits) = omega arith in
+    let is : reading_at s n c.args.walk.now.lines ≡ chain_reading s n claim bits c.in-Chain.side.0 c.next_node.new.self =
+    chain-in due_by frame.labels.now c.args.walk.now.lines c.next_node.new.self c.in-Chain.cost numbers' bits c.in-Chain.side.0 (frame.width - n) due (omega (arith, fits, deep)) some
+    ∙ ap (λ (m : ℕ). end_then due_by frame.labels.now c.args.walk.now.lines c.next_node.new.self c.in-Chain.cost numbers' bits c.in-Chain.side.0
+    (nodes_at due_by frame.labels.now m 0 c.next_node.new.self)) less in
+    subst (λ (r : Read). IsAnswer s r (fault_of_node s c.args.part.now) c.args.walk.now.number 0 c.args.walk.now.sets.items c.check_chain.new.walk c.check_chain.result)
+    (sym is) c.check_chain.ensures
+
+pub check_node-returns-in_ok-push-in-Leaf : goal.check_node-returns-in_ok-push-in-Leaf
+check_node-returns-in_ok-push-in-Leaf t c =
+    let s = c.args.sources.now in
+    let frame = s.frame in
+    let p = c.args.part.now in
+    let id = c.in-Leaf.id in
+    let walk = c.args.walk.now in
+    let due = rw c.in-Leaf.is at c.in_ok-id.ensures.ok in
+    let said = line_due-found (format_number frame.format) frame.width (length frame.labels.now) walk.lines (LeafLine id.0, c.next_node.new.self) due in
+    rw c.unless_fault.ensures
+    (own-answer s (reading_at s p.window.len walk.lines) (fault_of_node s p) walk.number 0 walk.sets.items
+    (record { lines = c.next_node.new.self; kept = c.next_node.new.kept; number = c.next_number-walk.result; sets = c.push.new.self }) 0
+    (LeafNode (text_at frame.labels.now id.0)) (id ∷ []) c.leaf_fault.result
+    (node-leaf (due_in frame.format frame.width frame.labels.now) frame.labels.now walk.lines c.next_node.new.self (frame.width - p.window.len) id.0 due)
+    refl (omega arith, said.1, tt) c.in_ok-push-in-Leaf.ensures.items
+    (λ k told_is. (ap (option_map (fault_of_number k)) (sym c.leaf_fault.ensures), sym (c.next_number-walk.ensures k told_is))))
+
+pub check_inner-returns-in-Err : goal.check_inner-returns-in-Err
+check_inner-returns-in-Err t c =
+    let s = c.args.sources.now in
+    let walk = c.args.walk.now in
+    lower-failed s c.args.part.now c.halves.result.0 c.halves.result.1 c.halves.ensures.halves c.args.cost (numbers walk.kept.set.items) walk.lines c.args.number walk.number c.requires.number
+    c.hold.new.sets.items walk.sets.items c.check_node.new.walk c.first_fault.new.walk c.in-Err.fault c.first_fault.result c.in-Err.ensures c.first_fault.ensures
+
+pub check_inner-returns-in_err-upper_cost : goal.check_inner-returns-in_err-upper_cost
+check_inner-returns-in_err-upper_cost t c =
+    let s = c.args.sources.now in
+    let walk = c.args.walk.now in
+    let e = err_from_is_err_and c.from_residual-in_err-upper_cost.result c.from_residual-in_err-upper_cost.ensures.1 in
+    rw (e.1, e.2)
+    (upper-failed s c.args.part.now c.halves.result.0 c.halves.result.1 c.halves.ensures.halves c.args.cost (numbers walk.kept.set.items) walk.lines c.args.number walk.number c.requires.number
+    c.hold.new.sets.items c.check_node.new.walk c.in-Ok.cost c.in-Ok.ensures c.check_node.new.walk.sets.items walk.sets.items c.check_node-2.new.walk c.in_err-upper_cost.field-0.0
+    c.in_err-upper_cost.ensures)
+
+pub check_inner-returns : goal.check_inner-returns
+check_inner-returns t c =
+    let s = c.args.sources.now in
+    let table = s.frame.labels.now in
+    let walk = c.args.walk.now in
+    let own = walk.kept.set.items in
+    let lower = c.in-Ok.ensures in
+    let upper = c.in_ok-upper_cost.ensures in
+    let last = c.check_node-2.new.walk in
+    let held = c.in_ok-hold.ensures ∙ ap (λ (ids : List LabelId). walk.sets.items ++ ids) c.as_slice.ensures.value in
+    let are = pieces last.sets.items c.hold.new.sets.items c.check_node.new.walk.sets.items walk.sets.items own lower.set upper.set held lower.sets upper.sets in
+    let one : length c.hold.new.sets.items ≡ length walk.sets.items + length own = ap (λ (xs : List LabelId). length xs) held ∙ length-append walk.sets.items own in
+    let two : length c.check_node.new.walk.sets.items ≡ length c.hold.new.sets.items + length lower.set =
+    ap (λ (xs : List LabelId). length xs) lower.sets ∙ length-append c.hold.new.sets.items lower.set in
+    let three : length last.sets.items ≡ length c.check_node.new.walk.sets.items + length upper.set =
+    ap (λ (xs : List LabelId). length xs) upper.sets ∙ length-append c.check_node.new.walk.sets.items upper.set in
+    let first = piece last.sets.items walk.sets.items own (lower.set ++ upper.set) c.len-own.result c.len-lower.result are.first (c.len-own.ensures ∙ walk.sets.ok.0) ((c.len-lower.ensures ∙ c.hold.new.sets.ok.0) ∙ one) in
+    let second = piece last.sets.items (walk.sets.items ++ own) lower.set upper.set c.len-lower.result c.len-upper.result are.second
+    ((c.len-lower.ensures ∙ c.hold.new.sets.ok.0) ∙ ap (λ (xs : List LabelId). length xs) held) ((c.len-upper.ensures ∙ c.check_node.new.walk.sets.ok.0) ∙ two ∙ ap (λ (xs : List LabelId). length xs + length lower.set) held) in
+    let third = piece last.sets.items ((walk.sets.items ++ own) ++ lower.set) upper.set [] c.len-upper.result (length last.sets.items) are.third
+    ((c.len-upper.ensures ∙ c.check_node.new.walk.sets.ok.0) ∙ ap (λ (xs : List LabelId). length xs) (lower.sets ∙ ap (λ (xs : List LabelId). xs ++ lower.set) held))
+    (three ∙ ap (λ (xs : List LabelId). length xs + length upper.set) (lower.sets ∙ ap (λ (xs : List LabelId). xs ++ lower.set) held)) in
+    rw c.unless_fault.ensures
+    (halves-passed s c.args.part.now c.halves.result.0 c.halves.result.1 c.halves.ensures.halves c.args.cost (numbers own) walk.lines c.args.number walk.number c.requires.number
+    c.hold.new.sets.items c.check_node.new.walk c.in-Ok.cost lower c.check_node.new.walk.sets.items walk.sets.items last
+    (record { lines = last.lines; kept = last.kept; number = last.number; sets = c.truncate.new.self }) c.in_ok-upper_cost.upper_cost own c.claim_fault-fault.result upper refl c.requires.set
+    (rw c.as_slice-sets.ensures.value at c.claim_fault-fault.ensures
+    ∙ (λ i. claim_fault (claim_with table c.args.cost (numbers (first i)))
+    (exact_claim (claim_with table c.in-Ok.cost (numbers (second i))) (claim_with table c.in_ok-upper_cost.upper_cost (numbers (third i))))))
+    refl refl
+    (c.truncate.ensures.items ∙ ap (λ (k : ℕ). take k last.sets.items) (c.len-lower.ensures ∙ c.hold.new.sets.ok.0)
+    ∙ ap (take (length c.hold.new.sets.items)) (are.second ∙ ap (λ (xs : List LabelId). xs ++ (lower.set ++ upper.set)) (sym held))
+    ∙ take-front c.hold.new.sets.items (lower.set ++ upper.set) ∙ held))
+
+pub check_chain-returns : goal.check_chain-returns
+check_chain-returns t c =
+    let s = c.args.sources.now in
+    let table = s.frame.labels.now in
+    let walk = c.args.walk.now in
+    let own = walk.kept.set.items in
+    let bits = bits_in walk.kept.path in
+    let below = c.in_ok-end_cost.ensures in
+    let last = c.check_below.new.walk in
+    let held = c.in_ok-hold.ensures ∙ ap (λ (ids : List LabelId). walk.sets.items ++ ids) c.as_slice.ensures.value in
+    let are = pieces last.sets.items c.hold.new.sets.items last.sets.items walk.sets.items own below.set [] held below.sets (sym (append-nil last.sets.items)) in
+    let one : length c.hold.new.sets.items ≡ length walk.sets.items + length own = ap (λ (xs : List LabelId). length xs) held ∙ length-append walk.sets.items own in
+    let two : length last.sets.items ≡ length c.hold.new.sets.items + length below.set = ap (λ (xs : List LabelId). length xs) below.sets ∙ length-append c.hold.new.sets.items below.set in
+    let first = piece last.sets.items walk.sets.items own (below.set ++ []) c.len-own.result c.len-end.result are.first (c.len-own.ensures ∙ walk.sets.ok.0) ((c.len-end.ensures ∙ c.hold.new.sets.ok.0) ∙ one) in
+    let second = piece last.sets.items (walk.sets.items ++ own) below.set [] c.len-end.result (length last.sets.items) are.second
+    ((c.len-end.ensures ∙ c.hold.new.sets.ok.0) ∙ ap (λ (xs : List LabelId). length xs) held) (two ∙ ap (λ (xs : List LabelId). length xs + length below.set) held) in
+    rw c.unless_fault.ensures
+    (below-passed s c.args.part.now c.args.cost (numbers own) bits c.args.side.0 walk.lines c.args.number
+    c.hold.new.sets.items walk.sets.items last
+    (record { lines = last.lines; kept = last.kept; number = last.number; sets = c.truncate.new.self }) c.in_ok-end_cost.end_cost own c.chain_fault-fault.result below refl c.requires.set
+    (rw c.as_slice-sets.ensures.value at c.chain_fault-fault.ensures
+    ∙ (λ i. claim_fault (claim_with table c.args.cost (numbers (first i)))
+    (chain_claim (length bits) (text_at table c.args.side.0) (claim_with table c.in_ok-end_cost.end_cost (numbers (second i))))))
+    refl refl
+    (c.truncate.ensures.items ∙ ap (λ (k : ℕ). take k last.sets.items) (c.len-end.ensures ∙ c.hold.new.sets.ok.0)
+    ∙ ap (take (length c.hold.new.sets.items)) (are.second ∙ ap (λ (xs : List LabelId). xs ++ (below.set ++ [])) (sym held))
+    ∙ take-front c.hold.new.sets.items (below.set ++ []) ∙ held))
+
+pub check_below-clear_end-requires-clause-room : goal.check_below-clear_end-requires-clause-room
+check_below-clear_end-requires-clause-room t c =
+    let path = c.args.path.now in
+    let same = ap width_of c.requires.sources.version in
+    omega (arith, c.requires.fits.room, path-length path.value path.count, same, c.requires.sources.width)
+
+pub check_below-returns-in-Some : goal.check_below-returns-in-Some
+check_below-returns-in-Some t c =
+    let s = c.args.sources.now in
+    end-answer s c.args.part.now c.in-Some.below c.args.side.0 (bits_in c.args.path.now) c.args.walk.now.lines c.args.number c.args.walk.now.number c.requires.number
+    c.args.walk.now.sets.items c.check_node.new.walk c.check_node.result c.in-Some.ensures.len
+    (λ tree k. c.in-Some.ensures.clear k (node_fault (map_of s.map.now) (list_of s.list.now).prefixes tree (k + 1))) c.check_node.ensures
+
+pub check_path-returns-in_err-cost : goal.check_path-returns-in_err-cost
+check_path-returns-in_err-cost t c =
+    let s = c.args.sources.now in
+    let e = err_from_is_err_and c.from_residual.result c.from_residual.ensures.1 in
+    rw (e.1, e.2)
+    (rest-failed s c.args.part.now c.step.result.0 c.step.result.1 c.args.side.0 c.in-Some.bit (bits_in c.args.path.now) (bits_in c.in-Some.rest) c.in-Some.ensures.bits
+    c.args.walk.now.lines c.args.number c.step.ensures.chosen_half c.step.ensures.side_half c.args.walk.now.sets.items c.args.walk.now.sets.items c.check_path.new.walk
+    c.in_err-cost.field-0.0 c.in_err-cost.ensures)
+
+pub check_path-returns : goal.check_path-returns
+check_path-returns t c =
+    let s = c.args.sources.now in
+    rw c.unless_fault.ensures
+    (rest-passed s c.args.part.now c.step.result.0 c.step.result.1 c.args.side.0 c.in-Some.bit (bits_in c.args.path.now) (bits_in c.in-Some.rest) c.in-Some.ensures.bits
+    c.args.walk.now.lines c.args.number c.step.ensures.chosen_half c.step.ensures.side_half c.args.walk.now.sets.items c.check_path.new.walk
+    c.in_ok-cost.cost c.leaf_fault.result c.in_ok-cost.ensures c.leaf_fault.ensures)

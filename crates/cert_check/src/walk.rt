@@ -1,0 +1,275 @@
+//! The walk over the nodes of a certificate's text, which reads and checks each of them.
+ghost use Rattle.std.specs.Prelude.{◌≡◌, ◌+◌, ◌++◌, ◌<◌, Ok, IfErr, OnOk, length, map};
+ghost use Rattle.pmap_cert.specs.CertificateText.{IsAscending};
+ghost use Rattle.pmap_cert.specs.CertificateModel.{Tree};
+ghost use Rattle.pmap_cert.specs.Inner.{node_due_at};
+ghost use Rattle.pmap_cert.specs.Packed.{bits_in};
+ghost use Rattle.cert_check.specs.Inner.{AreSources, FitsPath, IsAfter, IsAnswer, IsFirstOf, IsPart, IsUnread, answer_of, chain_reading, claim_with, fault_of_node, fault_of_path, halves_reading, reading_at};
+
+use crate::claims::{Claimed, chain_fault, claim_fault};
+use crate::fault::{CheckFault, CheckFaultKind, TextFault};
+use crate::part::Part;
+use crate::sources::Sources;
+use pmap_cert::{CertFault, CertFaultKind, Frame, Kept, Lines, NodeLine, Path, skip_node};
+use pmap_text::LabelId;
+use std::alloc::{AllocError, Global};
+
+/// The rest of a certificate's text, with its last node line, the number of the next node, from 1, and the sets of the
+/// nodes whose claims are still to be compared, in the order of their lines.
+#[derive(Drop)]
+pub struct Walk<'a> {
+    pub lines: Lines<'a>,
+    kept: Kept,
+    number: u64,
+    sets: Vec<LabelId>,
+}
+
+impl<'a> Walk<'a> {
+    /// Constructs a walk at the first node.
+    pub fn new(alloc: Global, lines: Lines<'a>) -> Walk<'a>
+        ensures lines { result.lines ≡ lines.entry }
+        ensures number { result.number ≡ 1 }
+    {
+        Walk {
+            lines,
+            kept: Kept::new(alloc),
+            number: 1,
+            sets: Vec::new(alloc),
+        }
+    }
+
+    /// Reads the next node, which may have `room` levels below it, and those below it, without a check.
+    pub fn skip(&mut self, frame: &Frame, room: u32) -> Result<(), CertFault>
+        ensures ok { OnOk result ((tree : Tree)
+            × (node_due_at frame.now.format frame.now.width frame.now.labels.now room self.old.lines
+            ≡ Ok (tree, self.new.lines))) }
+        ensures err { IfErr result (IsUnread
+            (node_due_at frame.now.format frame.now.width frame.now.labels.now room self.old.lines)) }
+    {
+        skip_node(&mut self.lines, &mut self.kept, frame, room)
+    }
+}
+
+// Adds a set to others, quickly if it has one label.
+#[inline(always)]
+fn hold(sets: &mut Vec<LabelId>, set: &[LabelId]) -> Result<(), AllocError>
+    ensures { OnOk result (sets.new.items ≡ sets.old.items ++ set.now) }
+{
+    match set {
+        [id] => sets.push(*id)?,
+        _ => sets.extend_from_slice(set)?,
+    }
+    Ok(())
+}
+
+// Returns the number of the node after one.
+fn next_number(number: u64) -> u64
+    ensures { IsAfter number result }
+{
+    number.saturating_add(1)
+}
+
+// Returns the cost that a node claims, or the fault of the node with this number.
+fn unless_fault(fault: Option<CheckFaultKind>, number: u64, cost: u32) -> Result<u32, TextFault>
+    ensures { result ≡ answer_of fault number cost }
+{
+    match fault {
+        Some(kind) => Err(TextFault::Check(CheckFault { kind, node: number })),
+        None => Ok(cost),
+    }
+}
+
+// Returns the first fault of a node whose lower half has this one. A fault of the text of the upper half comes before
+// one of the check.
+fn first_fault(walk: &mut Walk, frame: &Frame, room: u32, lower: TextFault) -> TextFault
+    ensures { IsFirstOf (node_due_at frame.now.format frame.now.width frame.now.labels.now room walk.old.lines)
+        lower walk.new.lines result }
+{
+    match lower {
+        TextFault::Certificate(_) => lower,
+        TextFault::Check(_) => match walk.skip(frame, room) {
+            Ok(()) => lower,
+            Err(upper) => TextFault::Certificate(upper),
+        },
+    }
+}
+
+/// Reads the next node and those below it, and checks them for the part's block. Adds the set that the node claims to
+/// the walk's, and returns the cost.
+#[cycle(nodes)]
+pub fn check_node(sources: &Sources, walk: &mut Walk, part: &Part) -> Result<u32, TextFault>
+    requires sources { AreSources sources.now }
+    requires part { IsPart sources.now part.now }
+    ensures { IsAnswer sources.now (reading_at sources.now part.now.window.len walk.old.lines)
+        (fault_of_node sources.now part.now) walk.old.number 0 walk.old.sets.items walk.new result }
+{
+    let deepest = walk.lines.fault(CertFaultKind::TooDeep);
+    let number = walk.number;
+    let room = sources.frame.width - part.window.len;
+    walk.number = next_number(number);
+    match walk.lines.next_node(&mut walk.kept, &sources.frame)? {
+        NodeLine::Leaf(id) => {
+            walk.sets.push(id)?;
+            unless_fault(part.leaf_fault(sources, id), number, 0)
+        }
+        NodeLine::Inner(cost) => {
+            if room == 0 {
+                return Err(TextFault::Certificate(deepest));
+            }
+            check_inner(sources, walk, part, number, cost)
+        }
+        NodeLine::Chain(cost, side) => {
+            if walk.kept.path.len() > room {
+                return Err(TextFault::Certificate(deepest));
+            }
+            check_chain(sources, walk, part, number, cost, side)
+        }
+    }
+}
+
+// Checks the nodes of an inner node's halves, and then its claim.
+#[cycle(nodes)]
+fn check_inner(
+    sources: &Sources,
+    walk: &mut Walk,
+    part: &Part,
+    number: u64,
+    cost: u32,
+) -> Result<u32, TextFault>
+    requires sources { AreSources sources.now }
+    requires part { IsPart sources.now part.now }
+    requires room { part.now.window.len < sources.now.frame.width }
+    requires number { IsAfter number walk.old.number }
+    requires set { IsAscending (length sources.now.frame.labels.now) 0 (map (λ i. i.0) walk.old.kept.set.items) }
+    ensures { let claim = claim_with sources.now.frame.labels.now cost (map (λ i. i.0) walk.old.kept.set.items) in
+        IsAnswer sources.now (halves_reading sources.now part.now.window.len claim walk.old.lines)
+        (fault_of_node sources.now part.now) number 0 walk.old.sets.items walk.new result }
+{
+    let (low, high) = part.halves(sources);
+    let own = walk.sets.len();
+    hold(&mut walk.sets, walk.kept.set.as_slice())?;
+    let lower = walk.sets.len();
+    let lower_cost = match check_node(sources, walk, &low) {
+        Ok(cost) => cost,
+        Err(fault) => {
+            let room = sources.frame.width - high.window.len;
+            return Err(first_fault(walk, &sources.frame, room, fault));
+        }
+    };
+    let upper = walk.sets.len();
+    let upper_cost = check_node(sources, walk, &high)?;
+    let sets = walk.sets.as_slice();
+    let fault = claim_fault(
+        sources.frame.labels,
+        Claimed {
+            cost,
+            set: &sets[own..lower],
+        },
+        Claimed {
+            cost: lower_cost,
+            set: &sets[lower..upper],
+        },
+        Claimed {
+            cost: upper_cost,
+            set: &sets[upper..],
+        },
+    );
+    walk.sets.truncate(lower);
+    unless_fault(fault, number, cost)
+}
+
+// Checks what is below a chain with this side label, and then its claim.
+#[cycle(nodes)]
+fn check_chain(
+    sources: &Sources,
+    walk: &mut Walk,
+    part: &Part,
+    number: u64,
+    cost: u32,
+    side: LabelId,
+) -> Result<u32, TextFault>
+    requires sources { AreSources sources.now }
+    requires part { IsPart sources.now part.now }
+    requires fits { FitsPath sources.now part.now side.0 (bits_in walk.old.kept.path) }
+    requires some { 0 < length (bits_in walk.old.kept.path) }
+    requires number { IsAfter number walk.old.number }
+    requires set { IsAscending (length sources.now.frame.labels.now) 0 (map (λ i. i.0) walk.old.kept.set.items) }
+    ensures { let claim = claim_with sources.now.frame.labels.now cost (map (λ i. i.0) walk.old.kept.set.items) in
+        IsAnswer sources.now
+        (chain_reading sources.now part.now.window.len claim (bits_in walk.old.kept.path) side.0 walk.old.lines)
+        (fault_of_node sources.now part.now) number 0 walk.old.sets.items walk.new result }
+{
+    let path = walk.kept.path;
+    let own = walk.sets.len();
+    hold(&mut walk.sets, walk.kept.set.as_slice())?;
+    let end = walk.sets.len();
+    let end_cost = check_below(sources, walk, part, number, &path, side)?;
+    let sets = walk.sets.as_slice();
+    let fault = chain_fault(
+        sources.frame.labels,
+        Claimed {
+            cost,
+            set: &sets[own..end],
+        },
+        Claimed {
+            cost: end_cost,
+            set: &sets[end..],
+        },
+        &path,
+        side,
+    );
+    walk.sets.truncate(end);
+    unless_fault(fault, number, cost)
+}
+
+// Checks what is below a chain: the node at its end, and the blocks beside its path unless one look clears them.
+#[cycle(nodes)]
+fn check_below(
+    sources: &Sources,
+    walk: &mut Walk,
+    part: &Part,
+    number: u64,
+    path: &Path,
+    side: LabelId,
+) -> Result<u32, TextFault>
+    requires sources { AreSources sources.now }
+    requires part { IsPart sources.now part.now }
+    requires fits { FitsPath sources.now part.now side.0 (bits_in path.now) }
+    requires some { 0 < length (bits_in path.now) }
+    requires number { IsAfter number walk.old.number }
+    ensures { IsAnswer sources.now
+        (reading_at sources.now (part.now.window.len + length (bits_in path.now)) walk.old.lines)
+        (fault_of_path sources.now part.now side.0 (bits_in path.now)) number 1 walk.old.sets.items walk.new result }
+{
+    match part.clear_end(sources, path, side) {
+        Some(below) => check_node(sources, walk, &below),
+        None => check_path(sources, walk, part, number, path, side),
+    }
+}
+
+// Checks the rest of a chain's path from the part's block on: the node at its end, and then the blocks beside the path
+// from the deepest up.
+#[cycle(nodes)]
+fn check_path(
+    sources: &Sources,
+    walk: &mut Walk,
+    part: &Part,
+    number: u64,
+    path: &Path,
+    side: LabelId,
+) -> Result<u32, TextFault>
+    requires sources { AreSources sources.now }
+    requires part { IsPart sources.now part.now }
+    requires fits { FitsPath sources.now part.now side.0 (bits_in path.now) }
+    requires number { IsAfter number walk.old.number }
+    ensures { IsAnswer sources.now
+        (reading_at sources.now (part.now.window.len + length (bits_in path.now)) walk.old.lines)
+        (fault_of_path sources.now part.now side.0 (bits_in path.now)) number 1 walk.old.sets.items walk.new result }
+{
+    let Some((bit, rest)) = path.split_first() else {
+        return check_node(sources, walk, part);
+    };
+    let (chosen, beside) = part.step(sources, bit);
+    let cost = check_path(sources, walk, &chosen, number, &rest, side)?;
+    unless_fault(beside.leaf_fault(sources, side), number, cost)
+}
