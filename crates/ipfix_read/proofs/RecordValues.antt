@@ -131,9 +131,9 @@ then_left (Some x) = refl
 left_cons : (field : Field) (fields : List Field) (bytes : List ℕ) → left (values_at (field ∷ fields) bytes) ≡ option_and_then (λ v. left (values_at fields v.1)) (value_at field bytes)
 unfolding values_at
 left_cons field fields bytes = elim (value_at field bytes) as (λ o. left (option_and_then (λ v. option_and_then (λ vs. Some (record { field = field; value = v.0 } ∷ vs.0, vs.1)) (values_at fields v.1)) o) ≡ option_and_then (λ v. left (values_at fields v.1)) o) [
-      | None ↦ refl
-      | Some v ↦ elim (values_at fields v.1) as (λ o. left (option_and_then (λ vs. Some (record { field = field; value = v.0 } ∷ vs.0, vs.1)) o) ≡ left o) [ None ↦ refl | Some x ↦ refl ]
-    ]
+  | None ↦ refl
+  | Some v ↦ elim (values_at fields v.1) as (λ o. left (option_and_then (λ vs. Some (record { field = field; value = v.0 } ∷ vs.0, vs.1)) o) ≡ left o) [ None ↦ refl | Some x ↦ refl ]
+]
 
 variable_is : (field : Field) (bytes : List ℕ) → is_variable field ≡ true → value_at field bytes ≡ variable_at bytes
 unfolding value_at
