@@ -1,4 +1,5 @@
 pub mod AnswerLemmas
+pub mod CheckedLemmas
 pub mod DefinitionLemmas
 pub mod EndLemmas
 pub mod LineLemmas

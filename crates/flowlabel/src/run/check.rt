@@ -2,8 +2,9 @@
 ghost use Rattle.std.specs.Prelude.{◌≡◌, [], false};
 ghost use Rattle.pmap_text.specs.MapText.{map_of};
 ghost use Rattle.pmap_text.specs.PrefixList.{list_of};
-ghost use Rattle.pmap_cert.specs.Certificate.{certificate_of};
-ghost use Rattle.flowlabel.specs.Output.{Checks, IsOutput, Returns};
+ghost use Rattle.pmap_cert.specs.FormatReading.{format_reading};
+ghost use Rattle.flowlabel.specs.declared.bytes_fault.BytesFault.TheVariants.{Certificate as InCertificate};
+ghost use Rattle.flowlabel.specs.Output.{Checks, IsOutput, Returns, Then};
 ghost use Rattle.flowlabel.specs.Reports.{IsMade};
 ghost use Rattle.flowlabel.specs.Request.{check, with_texts};
 ghost use Rattle.flowlabel.specs.Run.{any_failed};
@@ -12,24 +13,26 @@ use crate::by_file::{ByFile, Role};
 use crate::bytes_fault::BytesFault;
 use crate::inputs::Source;
 use crate::output_fault::OutputFault;
-use crate::run::reading::{certificate_in, list_in, map_in, read};
-use cert_check::check;
+use crate::run::reading::{list_in, map_in, read};
+use cert_check::{TextFault, check_text};
 use flow_io::Input;
-use pmap_cert::Certificate;
 use pmap_text::{KeyHashing, MapText, PrefixList};
 use std::alloc::Global;
 
+#[tactic(auto, using(crate::proofs::CheckedLemmas::over_none, crate::proofs::CheckedLemmas::over_check, crate::proofs::CheckedLemmas::over_text))]
 fn checked(
     alloc: Global,
     map: &MapText,
     list: &PrefixList,
-    certificate: &Certificate,
+    text: &[u8],
+    hashing: KeyHashing,
 ) -> Result<Vec<u8>, OutputFault>
-    ensures { Returns (Checks (map_of map.now) (list_of list.now) (certificate_of certificate.now)) result }
+    ensures { Returns (Then InCertificate (Checks (map_of map.now) (list_of list.now)) (format_reading text.now)) result }
 {
-    match check(alloc, map, list, certificate) {
+    match check_text(alloc, map, list, text, hashing) {
         Ok(count) => Ok(format!(in alloc; "minimal {count}\n")?.into_bytes()),
-        Err(fault) => Err(OutputFault::of(BytesFault::Check(fault))),
+        Err(TextFault::Check(fault)) => Err(OutputFault::of(BytesFault::Check(fault))),
+        Err(TextFault::Certificate(fault)) => Err(OutputFault::of(BytesFault::Certificate(fault))),
     }
 }
 
@@ -48,6 +51,5 @@ pub fn output<R: Input>(
     let text = read(alloc, Role::List, files)?;
     let list = list_in(alloc, text, hashing)?;
     let text = read(alloc, Role::Certificate, files)?;
-    let certificate = certificate_in(alloc, text, hashing)?;
-    checked(alloc, &map, &list, &certificate)
+    checked(alloc, &map, &list, text.as_slice(), hashing)
 }

@@ -7,7 +7,6 @@ use Rattle.pmap_text.specs.MapText.{map_of}
 use Rattle.pmap_text.specs.PrefixList.{list_of}
 use Rattle.pmap_cert.specs.FormatReading.{format_reading}
 use Rattle.pmap_text.specs.Reading.{ReadsList, ReadsMap, list_reading, map_reading}
-use Rattle.pmap_cert.specs.Certificate.{certificate_of}
 use Rattle.cert_check.specs.Checking.{first_fault}
 use Rattle.cert_check.specs.declared.fault.CheckFault.{CheckFault}
 use Rattle.flowlabel.specs.BytesFault.{role_of}
@@ -122,23 +121,6 @@ returns-in_err-text-3 g c =
     (unread_made c.read-2.new.files none' (OverCertificate m l) role.Certificate c.read-3.new.files fault (Err fault) refl (omega arith)
     (λ texts fault is. certificate_behind m l texts.certificate fault is) c.in_err-text-3.ensures)))
 
-pub returns-in_err-certificate : goal.returns-in_err-certificate
-returns-in_err-certificate g c =
-    let fault = c.in_err-certificate.field-0.0 in
-    let text = c.in_ok-text-3.text in
-    let m = map_of c.in_ok-map.map in
-    let l = list_of c.in_ok-list.list in
-    let none = read_tells c.args.files.now c.requires role.Map c.read.new.files (Ok c.in_ok-text.text) c.in_ok-text.ensures in
-    let none' = read_tells c.read.new.files none role.List c.read-2.new.files (Ok c.in_ok-text-2.text) c.in_ok-text-2.ensures in
-    let returned = fault_returned InCertificate certificate_of (Checks m l) (format_reading text.items) fault c.in_err-certificate.ensures in
-    handed c.args.files.now c.read-3.new.files c.from_residual-in_err-certificate.result fault c.from_residual-in_err-certificate.ensures.1
-    (then_map c.args.files.now c.requires m c.read.new.files c.read-3.new.files c.in_ok-text.text (Err fault) c.in_ok-text.ensures
-    c.in_ok-map.ensures (λ p e. absurd (never_unread (CertificateThen (Checks m l) text.items) (Err fault) p returned e))
-    (then_list c.read.new.files none m l c.read-2.new.files c.read-3.new.files c.in_ok-text-2.text (Err fault) c.in_ok-text-2.ensures
-    c.in_ok-list.ensures (λ p e. absurd (never_unread (CertificateThen (Checks m l) text.items) (Err fault) p returned e))
-    (whole_made c.read-2.new.files none' (OverCertificate m l) role.Certificate c.read-3.new.files text (Err fault)
-    (λ texts fault is. certificate_behind m l texts.certificate fault is) c.in_ok-text-3.ensures returned)))
-
 pub returns : goal.returns
 returns g c =
     let text = c.in_ok-text-3.text in
@@ -146,7 +128,8 @@ returns g c =
     let l = list_of c.in_ok-list.list in
     let none = read_tells c.args.files.now c.requires role.Map c.read.new.files (Ok c.in_ok-text.text) c.in_ok-text.ensures in
     let none' = read_tells c.read.new.files none role.List c.read-2.new.files (Ok c.in_ok-text-2.text) c.in_ok-text-2.ensures in
-    let returned : Returns (CertificateThen (Checks m l) text.items) c.checked.result = rw c.in_ok-certificate.ensures c.checked.ensures in
+    let returned : Returns (CertificateThen (Checks m l) text.items) c.checked.result =
+    subst (λ (t : List ℕ). Returns (CertificateThen (Checks m l) t) c.checked.result) c.as_slice.ensures.value c.checked.ensures in
     (then_map c.args.files.now c.requires m c.read.new.files c.read-3.new.files c.in_ok-text.text c.checked.result c.in_ok-text.ensures
     c.in_ok-map.ensures (λ p e. absurd (never_unread (CertificateThen (Checks m l) text.items) c.checked.result p returned e))
     (then_list c.read.new.files none m l c.read-2.new.files c.read-3.new.files c.in_ok-text-2.text c.checked.result c.in_ok-text-2.ensures
