@@ -7,12 +7,12 @@ use Rattle.std.proofs.lemmas.List.Folds.{find-append}
 use Rattle.flow_filter.specs.Condition.{Condition, Part, filter_of, given, is_malformed, unless_malformed}
 use Rattle.flow_filter.specs.Filters.{IsFault, IsRefused}
 use Rattle.flow_filter.specs.Options.{FilterFaultKind, FilterOption}
-use Rattle.flow_filter.specs.Texts.{each_some}
+use Rattle.prefix_keys.specs.Text.{all_some}
 use Rattle.flow_filter.specs.declared.option.TheConstants.{ALL_OPTIONS}
 
 -- the items that were read, followed by those of the remaining parts
 abbrev pub as_read : {X : Type 0} → (List ℕ → Option X) → List X → List (List ℕ) → Option (List X)
-as_read read xs rest = option_map (λ ys. xs ++ ys) (each_some (map read rest))
+as_read read xs rest = option_map (λ ys. xs ++ ys) (all_some (map read rest))
 
 -- the parts are the options before an index that are given, and none is malformed
 pub record AreRead (texts : List (Option (List ℕ))) (at : ℕ) (parts : Condition) : Type 0 where

@@ -4,11 +4,11 @@ use Rattle.std.specs.Option.{option_map_or, option_to_list}
 use Rattle.std.specs.Str.{bytes_eq}
 use Rattle.prefix_keys.specs.Block.{block_number, width_of}
 use Rattle.prefix_keys.specs.Conversion.{converted}
-use Rattle.prefix_keys.specs.Text.{AddressOf, BlockOf}
+use Rattle.prefix_keys.specs.Text.{AddressOf, BlockOf, all_some}
 use Rattle.label_lookup.specs.Labelling.{Labelling, label_where}
 use Rattle.flow_rows.specs.Elements.{RowView}
 use Rattle.flow_filter.specs.Options.{FilterOption, is_list, is_on_labels, kind_of, AnyLabel, Bytes, DestinationAddress, DestinationLabel, DestinationPort, Packets, Protocol, SourceAddress, SourceLabel, SourcePort}
-use Rattle.flow_filter.specs.Texts.{address_item, each_some, number_range}
+use Rattle.flow_filter.specs.Texts.{address_item, number_range}
 pub use Rattle.flow_filter.specs.declared.fault.FilterFault.{FilterFault}
 use Rattle.flow_filter.specs.declared.option.TheConstants.{ALL_OPTIONS}
 pub use Rattle.flow_filter.specs.declared.range.Range.{Range}
@@ -70,7 +70,7 @@ Part = FilterOption × List ℕ
 
 -- the tests of the items, if all items are well formed
 abbrev pub tests_of : Part → Option (List RowTest)
-tests_of (o, text) = each_some (map (item_test o) (items_of o text))
+tests_of (o, text) = all_some (map (item_test o) (items_of o text))
 
 abbrev pub is_malformed : Part → Bool
 is_malformed part = is_none (tests_of part)

@@ -1,4 +1,4 @@
-use Rattle.std.specs.Prelude.{ℕ, suc, ◌&&◌, ◌==◌, Bool, List, [], ◌∷◌, Option, Some, None, length, nat_le, option_and_then, option_map, if◌then◌else◌}
+use Rattle.std.specs.Prelude.{ℕ, suc, ◌&&◌, ◌==◌, Bool, List, [], Option, Some, None, length, nat_le, option_map, if◌then◌else◌}
 use Rattle.std.specs.List.{after_first, before_first, list_all, list_any}
 use Rattle.std.specs.Option.{option_map_or}
 use Rattle.std.specs.Result.{result_ok}
@@ -53,8 +53,3 @@ single address = (address.0, address.1, width_of address.0)
 abbrev pub address_item : List ℕ → Option BlockOf
 address_item text =
     if list_any (λ b. b == 47) text then result_ok (block_of_text text) else option_map single (address_of text)
-
--- the items, if all exist
-abbrev pub each_some : {X : Type 0} → List (Option X) → Option (List X)
-each_some [] = Some []
-each_some (o ∷ os) = option_and_then (λ x. option_map (λ xs. x ∷ xs) (each_some os)) o

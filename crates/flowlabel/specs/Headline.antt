@@ -4,7 +4,7 @@ use Rattle.std.specs.Option.{ForSome}
 use Rattle.prefix_keys.specs.Block.{width_of}
 use Rattle.pmap_text.specs.ListModel.{IsEquivalent, ListModel}
 use Rattle.pmap_text.specs.MapModel.{Label, MapModel}
-use Rattle.pmap_text.specs.Reading.{ReadsList, ReadsMap}
+use Rattle.pmap_text.specs.Reading.{map_reading, list_reading}
 use Rattle.pmap_cert.specs.Acceptance.{IsLeast, IsInOrder}
 use Rattle.pmap_cert.specs.CertificateText.{certificate_text}
 use Rattle.pmap_cert.specs.CertificateModel.{CertificateModel}
@@ -48,9 +48,9 @@ pub record IsShortest (m : MapModel) (l : ListModel) (c : CertificateModel) : Ty
 -- as the map does. It is likewise with the map and the list exchanged. The request takes its labels from a source.
 abbrev pub IsSameUnder : (LabelSource → Request) → LabelSource → List ℕ → Type 0
 IsSameUnder request (FromMap map) out =
-    (m : MapModel) (l : ListModel) (list : Text) → ReadsMap map m → ReadsList list l → IsEquivalent l m → IsOutput (request (FromList list)) (Ok out)
+    (m : MapModel) (l : ListModel) (list : Text) → map_reading map ≡ Ok m → list_reading list ≡ Ok l → IsEquivalent l m → IsOutput (request (FromList list)) (Ok out)
 IsSameUnder request (FromList list) out =
-    (m : MapModel) (l : ListModel) (map : Text) → ReadsList list l → ReadsMap map m → IsEquivalent l m → IsOutput (request (FromMap map)) (Ok out)
+    (m : MapModel) (l : ListModel) (map : Text) → list_reading list ≡ Ok l → map_reading map ≡ Ok m → IsEquivalent l m → IsOutput (request (FromMap map)) (Ok out)
 
 -- A certificate that `recert` prints has no more node lines than the one that it read, `recert` prints it unchanged, and
 -- `check` prints a number by the printed one if it does by the one that was read.
@@ -88,8 +88,8 @@ IsHeadline (uniq fields source condition sorted columns flows) out =
     × FlowsThen (λ labels messages. PrintsGroups fields sorted columns (rows_left condition labels (rows_of_messages messages))) source flows (Ok out)
 IsHeadline (cat source) out = IsSameUnder cat source out × LabelsThen PrintsEachOnce source (Ok out)
 IsHeadline (shrink map printed) out = (m : MapModel) × (l : ListModel) × (c : CertificateModel)
-    × ReadsMap map m × IsShortest m l c × (out ≡ shrunk_text printed l c)
-IsHeadline (check map list certificate) out = (m : MapModel) × (l : ListModel) × ReadsMap map m × ReadsList list l
+    × (map_reading map ≡ Ok m) × IsShortest m l c × (out ≡ shrunk_text printed l c)
+IsHeadline (check map list certificate) out = (m : MapModel) × (l : ListModel) × (map_reading map ≡ Ok m) × (list_reading list ≡ Ok l)
     × IsEquivalent l m × IsLeast m l × (out ≡ minimal_text (length l.prefixes))
 IsHeadline (recert certificate) out = IsAsGood certificate out
 
@@ -97,6 +97,6 @@ IsHeadline (recert certificate) out = IsAsGood certificate out
 -- and the printed certificate, compacted or not, `check` prints the number of the list's entries.
 pub record StandsAgain (map : Text) (l : ListModel) (c : CertificateModel) : Type 0 where
   pub table : List Label
-  pub reads : ReadsList (list_text l) (record l { table = table })
+  pub reads : list_reading (list_text l) ≡ Ok (record l { table = table })
   pub checks : (printed : Text) → (printed ≡ certificate_text c) ⊎ (printed ≡ certificate_text (compact c))
       → IsOutput (check map (list_text l) printed) (Ok (minimal_text (length l.prefixes)))

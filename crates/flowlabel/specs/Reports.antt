@@ -6,7 +6,7 @@ use Rattle.pmap_text.specs.MapText.{map_of}
 use Rattle.pmap_text.specs.PrefixList.{list_of}
 use Rattle.pmap_text.specs.ListModel.{ListModel}
 use Rattle.pmap_text.specs.MapModel.{MapModel}
-use Rattle.pmap_text.specs.Reading.{ReadsList, ReadsMap}
+use Rattle.pmap_text.specs.Reading.{map_reading, list_reading}
 use Rattle.label_lookup.specs.Labelling.{Labelling, StretchModel, label_where, labelling_of_list, labelling_of_map, labelling_of_stretches}
 use Rattle.ipfix_read.specs.Fault.{is_of_reader}
 use Rattle.ipfix_read.specs.Messages.{StopsReading, file_reading}
@@ -44,8 +44,8 @@ labelling_found = option_map (λ index. labelling_of_stretches index.now)
 -- the texts of a source, if there is one, are read as this labelling
 abbrev pub ReadsLabels : Option LabelSource → Option Labelling → Type 0
 ReadsLabels None labels = labels ≡ None
-ReadsLabels (Some (FromMap text)) labels = (m : MapModel) × ReadsMap text m × (labels ≡ Some (labelling_of_map m))
-ReadsLabels (Some (FromList text)) labels = (l : ListModel) × ReadsList text l × (labels ≡ Some (labelling_of_list l))
+ReadsLabels (Some (FromMap text)) labels = (m : MapModel) × (map_reading text ≡ Ok m) × (labels ≡ Some (labelling_of_map m))
+ReadsLabels (Some (FromList text)) labels = (l : ListModel) × (list_reading text ≡ Ok l) × (labels ≡ Some (labelling_of_list l))
 
 -- the report on a File under the labels of a source, or without one: a text that depends on its messages
 abbrev pub ReportsThen : (Option Labelling → List MessageView → List ℕ) → Option LabelSource → List ℕ → Outcome → Type 0

@@ -7,10 +7,10 @@ use Rattle.prefix_keys.specs.Block.{width_of}
 use Rattle.prefix_keys.specs.declared.version.Version.{Version}
 use Rattle.pmap_text.specs.ListModel.{IsEquivalent, ListModel, list_label}
 use Rattle.pmap_text.specs.MapModel.{Label, MapModel, map_label}
-use Rattle.label_lookup.specs.Labelling.{at_addresses, labelling, labelling_of_list, labelling_of_map}
+use Rattle.label_lookup.specs.Labelling.{labelling, labelling_of_list, labelling_of_map}
 
 -- at an address of the version, labels agree with their restriction to the version's addresses
-pub same_at_addresses : (v : Version) (f : ℕ → Option Label) (a : ℕ) → a < 2 ^ width_of v → f a ≡ at_addresses v f a
+pub same_at_addresses : (v : Version) (f : ℕ → Option Label) (a : ℕ) → a < 2 ^ width_of v → f a ≡ (labelling v f).label a
 same_at_addresses v f a h = ap (λ (b : Bool). if b then f a else None) (sym (lt-ltb a (2 ^ width_of v) h))
 
 guarded : (b : Bool) (x y : Option Label) → (b ≡ true → x ≡ y) → (if b then x else None) ≡ (if b then y else None)

@@ -1,4 +1,5 @@
 -- The search through a map's statements, from the last one backwards.
+use Rattle.std.specs.Option.{option_map_or}
 use Rattle.std.proofs.Common.{◌≡◌, ℕ, ◌+◌, ◌<◌, ◌≤◌, ◌++◌, ◌∷◌, ◌&&◌, [], Bool, true, false, cond, List, Option, Some, arith, Contains, length, sym, refl, ap, ◌∙◌, slice_get, get_or, IsTrue}
 use Rattle.std.specs.Prelude.{◌↔◌, map, nat_le, take}
 use Rattle.std.proofs.lemmas.Bool.Decides.{nat_tests}
@@ -7,7 +8,7 @@ use Rattle.std.proofs.lemmas.List.Elements.{All-contains}
 use Rattle.prefix_keys.specs.Covers.{SpanCovers}
 use Rattle.prefix_keys.specs.declared.addr.Addr.{Addr}
 use Rattle.pmap_text.proofs.LastSuch.{last_such-push}
-use Rattle.pmap_text.specs.MapModel.{Label, Mapping, label_or, last_such, map_label, spans}
+use Rattle.pmap_text.specs.MapModel.{Label, Mapping, last_such, map_label, spans}
 use Rattle.pmap_text.specs.MapText.{map_of, mapping_of}
 use Rattle.pmap_text.specs.declared.map_text.MapText.{MapText}
 use Rattle.pmap_text.specs.declared.statement.Statement.{Statement}
@@ -75,9 +76,9 @@ module _ (m : MapText) (a i left : ℕ) (next : i + 1 ≡ left) (kept : IsLeft m
       let last : Some (mapping_of m.labels s) ≡ last_such (spans a) (map_of m).mappings =
       ap (λ b. cond b (Some (mapping_of m.labels s)) (last_of_first m a i)) (sym covers) ∙ one_less in
       let known = All-contains (λ (r : Statement). r.label.0 < length m.labels) m.statements s m.numbers_known within in
-      known_text m.labels s.label.0 known ∙ ap (λ o. Some (label_or o (map_of m).fallback)) last
+      known_text m.labels s.label.0 known ∙ ap (λ o. Some (option_map_or (λ (p : Mapping). p.label) o (map_of m).fallback)) last
 
 -- if no statements are left, the address has the default
 pub by_default : (m : MapText) (a : ℕ) → IsLeft m a 0 → slice_get m.labels m.default.0 ≡ Some (map_label (map_of m) a)
 by_default m a kept =
-    known_text m.labels m.default.0 m.default_known ∙ ap (λ o. Some (label_or o (map_of m).fallback)) kept.same
+    known_text m.labels m.default.0 m.default_known ∙ ap (λ o. Some (option_map_or (λ (p : Mapping). p.label) o (map_of m).fallback)) kept.same

@@ -9,7 +9,7 @@ use Rattle.prefix_keys.specs.declared.version.Version.{Version}
 use Rattle.prefix_keys.specs.declared.version.Version.TheVariants.{V4, V6}
 use Rattle.pmap_text.specs.Stretches.{HasEveryAddress, HoldsAddress, StretchesModel, first_at, label_at, last_at, text_held}
 use Rattle.pmap_text.proofs.Ranges.{ends_before, last_end, next_first, text_at_index}
-use Rattle.label_lookup.specs.Labelling.{at_addresses, AreTops, IsTopAt, StretchModel, block_size}
+use Rattle.label_lookup.specs.Labelling.{AreTops, IsTopAt, StretchModel, block_size, labelling}
 use Rattle.label_lookup.proofs.Labellings.{same_at_addresses}
 
 -- the blocks cover every address
@@ -109,7 +109,7 @@ module _ (s : StretchesModel) (every : HasEveryAddress s) (tops : List ℕ) (are
 
 -- the label text that is found for an address
 pub label_found : (m : StretchModel) → HasEveryAddress m.stretches → (a i : ℕ) → HoldsAddress m.stretches a i → a < 2 ^ width_of m.stretches.version
-    → option_and_then (λ id. slice_get m.table id.0) (label_at m.stretches i) ≡ at_addresses m.stretches.version (text_held m.table m.stretches) a
+    → option_and_then (λ id. slice_get m.table id.0) (label_at m.stretches i) ≡ (labelling m.stretches.version (text_held m.table m.stretches)).label a
 label_found m every a i holds fits =
     sym (text_at_index m.stretches every m.table a i holds) ∙ same_at_addresses m.stretches.version (text_held m.table m.stretches) a fits
 

@@ -1,5 +1,5 @@
 -- The trie that is grown from statements, and the trie of a map text.
-use Rattle.std.proofs.Common.{◌≡◌, ℕ, ◌+◌, ◌-◌, ◌*◌, ◌/◌, ◌^◌, ◌<◌, ◌≤◌, List, [], Option, Some, IsSome, length, sym, ap, ◌∙◌, subst, arith}
+use Rattle.std.proofs.Common.{◌≡◌, ℕ, ◌+◌, ◌-◌, ◌*◌, ◌/◌, ◌^◌, ◌≤◌, List, [], Option, IsSome, length, ap, ◌∙◌, arith}
 use Rattle.std.proofs.Math.Nat.{mul-le-mul_right}
 use Rattle.std.proofs.lemmas.Nat.{pow_pos}
 use Rattle.prefix_keys.specs.Block.{block_number, first_of, last_of, width_of}
@@ -12,7 +12,7 @@ use Rattle.pmap_text.specs.declared.statement.Statement.{Statement}
 use Rattle.pmap_text.specs.Windows.{number_at}
 use Rattle.pmap_text.specs.declared.window.Window.{Window}
 use Rattle.label_trie.specs.Inner.{AddsTree, GrowsTree, IsTrie, tree_of, Node}
-use Rattle.pmap_text.specs.Stretches.{AreStretches, StretchesModel, mappings_of}
+use Rattle.pmap_text.specs.Stretches.{AreStretches, StretchesModel}
 use Rattle.label_trie.specs.Tree.{Fits, IsLabelled, leaf_count, leaves_of}
 use Rattle.label_trie.specs.TrieModel.{LeafModel, IsCut}
 use Rattle.pmap_text.proofs.Ends.{ends_most}

@@ -5,6 +5,7 @@ use Rattle.std.proofs.lemmas.Bool.{and_from, cases_lt, le-leb, lt-leb}
 use Rattle.pmap_text.specs.MapModel.{Label}
 use Rattle.label_trie.specs.Laws.{HasOneRun}
 use Rattle.label_trie.specs.Runs.{AreRuns, Run}
+use Rattle.label_trie.proofs.Runs.{first-label, ordered}
 
 abbrev has : ℕ → Run → Bool
 has a r = nat_le r.low a && nat_le a r.high
@@ -53,7 +54,11 @@ module _ (f : ℕ → Option Label) where
       × ((slice_index_or rs (i + 1) d).label ≢ (slice_index_or rs i d).label)
   next-run from to [] are i d h = absurd (omega (arith, h))
   next-run from to (r ∷ []) are i d h = absurd (omega (arith, h))
-  next-run from to (r ∷ s ∷ rs) are zero d h = (are.3.0, λ same. are.2 (sym same))
+  next-run from to (r ∷ s ∷ rs) are zero d h = (
+    are.3.0,
+    λ same. are.2 (omega (arith, are.3.0, are.3.1.some, ordered f (s.high + 1) to rs are.3.3))
+        (ap f (sym are.3.0) ∙ first-label f s are.3.1 ∙ same),
+  )
   next-run from to (r ∷ s ∷ rs) are (suc i) d h =
       let next : suc (i + 1) ≡ suc i + 1 = omega arith in
       subst

@@ -4,7 +4,7 @@ use Rattle.std.specs.Str.{bytes_eq}
 use Rattle.std.proofs.lemmas.Bool.{both_ways, cases_lt, cases_eq}
 use Rattle.std.proofs.lemmas.Slice.Eq.{bytes_eq-Decides}
 use Rattle.pmap_text.specs.MapModel.{Label}
-use Rattle.label_trie.specs.Runs.{AreRuns, DiffersFromNext, HasOneLabel, Run}
+use Rattle.label_trie.specs.Runs.{AreRuns, HasOneLabel, Run}
 
 -- two labels, or missing labels, are equal or not
 text-cases : (x y : Label) → (b : Bool) → bytes_eq x y ≡ b → (Some x ≡ Some y) ⊎ (Some x ≢ Some y)
@@ -18,23 +18,22 @@ label-cases (Some x) None = inr (λ e. let h : Some x ≡ None = e in cc)
 label-cases (Some x) (Some y) = text-cases x y (bytes_eq x y) refl
 
 -- runs end after they begin
-ordered : (f : ℕ → Option Label) (from to : ℕ) (rs : List Run) → AreRuns f from to rs → from ≤ to
+pub ordered : (f : ℕ → Option Label) (from to : ℕ) (rs : List Run) → AreRuns f from to rs → from ≤ to
 ordered f from to [] are = omega (arith, are)
 ordered f from to (r ∷ rs) are = omega (arith, are.0, are.1.some, ordered f (r.high + 1) to rs are.3)
 
 -- the label of a run is that of its first address
-first-label : (f : ℕ → Option Label) (r : Run) → HasOneLabel f r → f r.low ≡ r.label
+pub first-label : (f : ℕ → Option Label) (r : Run) → HasOneLabel f r → f r.low ≡ r.label
 first-label f r one = one.each r.low (omega arith) one.some
 
 -- if two lists of runs begin at one address, the first run of neither is longer
 not_shorter : (f : ℕ → Option Label) (from to : ℕ) (r s : Run) (rs ss : List Run) → AreRuns f from to (r ∷ rs) → AreRuns f from to (s ∷ ss)
     → r.high < s.high → ⊥
-not_shorter f from to r s [] ss ar bs h = omega (arith, h, ar.3, ordered f (s.high + 1) to ss bs.3)
-not_shorter f from to r s (t ∷ rs) ss ar bs h =
-    let begins = bs.0 in
-    let inside : f t.low ≡ s.label = bs.1.each t.low (omega (arith, bs.1.some, begins, ar.0, ar.1.some, ar.3.0)) (omega (arith, h, ar.3.0)) in
+not_shorter f from to r s rs ss ar bs h =
     let same_low : r.low ≡ s.low = ar.0 ∙ sym bs.0 in
-    ar.2 (sym (first-label f r ar.1) ∙ ap f same_low ∙ first-label f s bs.1 ∙ sym inside ∙ first-label f t ar.3.1)
+    let inside : f (r.high + 1) ≡ s.label = bs.1.each (r.high + 1) (omega (arith, ar.1.some, same_low)) (omega (arith, h)) in
+    ar.2 (omega (arith, h, ordered f (s.high + 1) to ss bs.3))
+    (inside ∙ sym (first-label f s bs.1) ∙ ap f (sym same_low) ∙ first-label f r ar.1)
 
 -- there is only one list of runs
 pub runs-one : (f : ℕ → Option Label) (from to : ℕ) (rs ss : List Run) → AreRuns f from to rs → AreRuns f from to ss → rs ≡ ss
@@ -66,7 +65,7 @@ runs-alike f g from to (r ∷ rs) same are =
     let end = ordered f (r.high + 1) to rs are.3 in (
       are.0,
       record { some = are.1.some; each = λ a from_low to_high. sym (same a (omega (arith, end, to_high))) ∙ are.1.each a from_low to_high },
-      are.2,
+      λ less equal. are.2 less (same (r.high + 1) less ∙ equal),
       runs-alike f g (r.high + 1) to rs same are.3,
     )
 
@@ -87,23 +86,20 @@ longer-label f from r begins one same = record {
   each = λ a ge le. longer-inside f from r begins one same a ge le (cases_eq a from);
 }
 
-longer-differs : (from : ℕ) (r : Run) (rs : List Run) → DiffersFromNext r rs
-    → DiffersFromNext (record { low = from; high = r.high; label = r.label }) rs
-longer-differs from r [] d = d
-longer-differs from r (t ∷ ts) d = d
-
 -- the runs from an address on, from those after it
 runs-before : (f : ℕ → Option Label) (from to : ℕ) (r : Run) (rs : List Run) → AreRuns f (from + 1) to (r ∷ rs)
     → (f from ≡ r.label) ⊎ (f from ≢ r.label) → (ss : List Run) × AreRuns f from to ss
-runs-before f from to r rs are (inr other) =
-    (record { low = from; high = from; label = f from } ∷ r ∷ rs, (refl, one_address-label f from, other, are))
+runs-before f from to r rs are (inr other) = (
+  record { low = from; high = from; label = f from } ∷ r ∷ rs,
+  (refl, one_address-label f from, λ less equal. other (sym equal ∙ ap f (sym are.0) ∙ first-label f r are.1), are),
+)
 runs-before f from to r rs are (inl same) = (
   record { low = from; high = r.high; label = r.label } ∷ rs,
-  (refl, longer-label f from r are.0 are.1 same, longer-differs from r rs are.2, are.3),
+  (refl, longer-label f from r are.0 are.1 same, are.2, are.3),
 )
 
 runs-more : (f : ℕ → Option Label) (from to : ℕ) (rs : List Run) → AreRuns f (from + 1) to rs → (ss : List Run) × AreRuns f from to ss
-runs-more f from to [] are = (record { low = from; high = from; label = f from } ∷ [], (refl, one_address-label f from, tt, are))
+runs-more f from to [] are = (record { low = from; high = from; label = f from } ∷ [], (refl, one_address-label f from, λ less. absurd (omega (arith, less, are)), are))
 runs-more f from to (r ∷ rs) are = runs-before f from to r rs are (label-cases (f from) r.label)
 
 -- each labelling has runs

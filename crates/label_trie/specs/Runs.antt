@@ -1,4 +1,4 @@
-use Rattle.std.specs.Prelude.{◌≡◌, ◌≢◌, ℕ, ◌+◌, ◌^◌, ◌≤◌, List, [], ◌∷◌, Option}
+use Rattle.std.specs.Prelude.{◌≡◌, ◌≢◌, ℕ, ◌+◌, ◌^◌, ◌<◌, ◌≤◌, List, [], ◌∷◌, Option}
 use Rattle.prefix_keys.specs.Block.{width_of}
 use Rattle.prefix_keys.specs.declared.version.Version.{Version}
 use Rattle.pmap_text.specs.MapModel.{Label}
@@ -16,17 +16,13 @@ pub record HasOneLabel (label_of : ℕ → Option Label) (run : Run) : Type 0 wh
   pub some : run.low ≤ run.high
   pub each : (a : ℕ) → run.low ≤ a → a ≤ run.high → label_of a ≡ run.label
 
--- the run that follows, if there is one, has another label
-abbrev pub DiffersFromNext : Run → List Run → Type 0
-DiffersFromNext run [] = Unit {0}
-DiffersFromNext run (next ∷ runs) = run.label ≢ next.label
-
 -- The runs follow one another. The first begins at `from`, and the last ends right before `to`. Each has one label, and
--- no two neighbours have the same label.
+-- the address after it has another one.
 abbrev pub AreRuns : (ℕ → Option Label) → ℕ → ℕ → List Run → Type 0
 AreRuns label_of from to [] = from ≡ to
 AreRuns label_of from to (run ∷ runs) =
-    (run.low ≡ from) × HasOneLabel label_of run × DiffersFromNext run runs × AreRuns label_of (run.high + 1) to runs
+    (run.low ≡ from) × HasOneLabel label_of run × (run.high + 1 < to → label_of (run.high + 1) ≢ run.label)
+    × AreRuns label_of (run.high + 1) to runs
 
 -- the runs of the addresses of a version
 abbrev pub AreRunsOf : Version → (ℕ → Option Label) → List Run → Type 0

@@ -1,5 +1,5 @@
 -- The certificate of a minimal pair has its sets in the order of the label table, as a text has them.
-use Rattle.std.proofs.Common.{inl, ◌≡◌, ℕ, zero, suc, ◌+◌, ◌*◌, ◌<◌, ◌≤◌, ◌∙◌, ◌++◌, Bool, true, false, not, List, [], ◌∷◌, Some, ap, append-nil, arith, filter, length, map, refl, subst, sym, bytes_eq, slice_get}
+use Rattle.std.proofs.Common.{inl, ◌≡◌, ℕ, zero, suc, ◌+◌, ◌*◌, ◌<◌, ◌≤◌, ◌∙◌, ◌++◌, Bool, true, false, not, List, [], ◌∷◌, Some, ap, append-nil, arith, filter, length, map, refl, subst, sym, bytes_eq, slice_get, Ok}
 use Rattle.std.proofs.lemmas.Bool.{ltb-true, or_left, or_right}
 use Rattle.prefix_keys.specs.Block.{width_of}
 use Rattle.pmap_text.proofs.LabelTexts.{any_place}
@@ -7,7 +7,7 @@ use Rattle.pmap_text.proofs.Settled.{unsettled-halves}
 use Rattle.pmap_text.specs.Label.{IsLabelTable}
 use Rattle.pmap_text.specs.ListModel.{ListModel}
 use Rattle.pmap_text.specs.MapModel.{Label, MapModel}
-use Rattle.pmap_text.specs.Reading.{ReadsMap, mapping_limit}
+use Rattle.pmap_text.specs.Reading.{mapping_limit, map_reading}
 use Rattle.pmap_cert.proofs.Plain.{plain-stands}
 use Rattle.pmap_cert.proofs.Alike.{table-node}
 use Rattle.pmap_cert.proofs.Ends.{cost-fits}
@@ -92,7 +92,7 @@ module _ (m : MapModel) (inside : HasItsLabels m) (ok : IsLabelTable m.table) (f
       )
 
 -- a map read from a text has a minimal pair whose certificate has a text
-pub minimal-read : (text : List ℕ) (m : MapModel) → ReadsMap text m → (l : ListModel) × (c : CertificateModel) × IsMinimalPair m l c × HasTextForm c
+pub minimal-read : (text : List ℕ) (m : MapModel) → map_reading text ≡ Ok m → (l : ListModel) × (c : CertificateModel) × IsMinimalPair m l c × HasTextForm c
 minimal-read text m read =
     let limits = limits-read text m read in
     pair-listed m (labels-read text m read) limits.table limits.mappings

@@ -15,7 +15,7 @@ use Rattle.prefix_keys.specs.declared.version.Version.{Version}
 use Rattle.pmap_text.proofs.Finds.{find_passes}
 use Rattle.pmap_text.proofs.LabelTexts.{IsLabelTable-with_label, has_label-with_label, with_label-known, with_label-new}
 use Rattle.pmap_text.specs.Label.{conflicts, declared_text, label_number, meant_text, with_declared, IsLabelTable, has_label, is_label, with_label}
-use Rattle.pmap_text.specs.Reading.{◌>>=◌, behind_word, content_of, first_word, lines_of, Earlier, ReadsMap, address_line, block_line, content_line, default_line, has_room, label_limit, label_line, label_of, lines_read, map_from, mapping_limit, mode_line, mode_version, name_line, no_lines, number_in, one_or_two, span_line, statement_line, text_read, unknown, with_text}
+use Rattle.pmap_text.specs.Reading.{◌>>=◌, behind_word, content_of, first_word, lines_of, Earlier, address_line, block_line, content_line, default_line, has_room, label_limit, label_line, label_of, lines_read, map_from, mapping_limit, mode_line, mode_version, name_line, no_lines, number_in, one_or_two, span_line, statement_line, text_read, unknown, with_text, map_reading}
 use Rattle.pmap_text.specs.MapModel.{Label, MapModel, Mapping}
 use Rattle.pmap_text.specs.declared.fault.MapFault.{MapFault}
 use Rattle.pmap_text.specs.declared.fault.MapFaultKind.{MapFaultKind}
@@ -252,7 +252,7 @@ pub record IsLimited (m : MapModel) : Type 0 where
   pub name : ForSome m.name (λ name. IsTrue (is_label name))
 
 -- the lines of a map text keep the limits
-read-within : (text : List ℕ) (m : MapModel) → ReadsMap text m → (e : Earlier) × AreWithin e × (map_from e ≡ m)
+read-within : (text : List ℕ) (m : MapModel) → map_reading text ≡ Ok m → (e : Earlier) × AreWithin e × (map_from e ≡ m)
 read-within text m read =
     let found = bind_ok (text_read form.Map text) (λ (e : Earlier). Ok (map_from e)) m read in (
       found.0,
@@ -260,14 +260,14 @@ read-within text m read =
       ok_is (map_from found.0) m found.2,
     )
 
-pub limits-read : (text : List ℕ) (m : MapModel) → ReadsMap text m → IsLimited m
+pub limits-read : (text : List ℕ) (m : MapModel) → map_reading text ≡ Ok m → IsLimited m
 limits-read text m read =
     let found = read-within text m read in
     let within = found.1 in
     subst IsLimited found.2
     (record { table = whole-table found.0 within (found.0).fallback refl; mappings = within.mappings; name = within.name })
 
-pub labels-known : (text : List ℕ) (m : MapModel) → ReadsMap text m
+pub labels-known : (text : List ℕ) (m : MapModel) → map_reading text ≡ Ok m
     → IsTrue (has_label m.table m.fallback) × All (λ p. IsTrue (has_label m.table p.label)) m.mappings
 labels-known text m read =
     let found = read-within text m read in

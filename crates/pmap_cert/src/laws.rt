@@ -3,7 +3,7 @@
 ghost use Rattle.std.specs.Prelude.{◌≡◌, ◌+◌, ◌≤◌, ◌&&◌, ◌||◌, ◌⊎◌, ◌↔◌, ℕ, List, Err, Ok, false, length, IsTrue};
 ghost use Rattle.pmap_text.specs.ListModel.{IsEquivalent, ListModel};
 ghost use Rattle.pmap_text.specs.MapModel.{Label, MapModel};
-ghost use Rattle.pmap_text.specs.Reading.{ReadsMap};
+ghost use Rattle.pmap_text.specs.Reading.{map_reading};
 ghost use Rattle.pmap_cert.specs.Acceptance.{IsAccepted, IsLeast, HasListForm, HasItsLabels, IsMinimalPair};
 ghost use Rattle.pmap_cert.specs.CertificateText.{HasTextForm};
 ghost use Rattle.pmap_cert.specs.CertificateModel.{CertificateModel, Claim, claim_of, has, IsClaimWith, IsSameClaim, exact_claim};
@@ -50,13 +50,13 @@ pub fn minimal_pair_is_unique()
 
 /// A map read from a text has all its labels in its table, so it has only one minimal list.
 pub fn map_text_has_its_labels()
-    ensures { (text : List ℕ) (m : MapModel) → ReadsMap text m → HasItsLabels m }
+    ensures { (text : List ℕ) (m : MapModel) → map_reading text ≡ Ok m → HasItsLabels m }
 {}
 
 /// A map read from a text has a minimal pair whose certificate has a text: its labels are in the table, and its costs
 /// are below 2 ^ 32, since a map text has at most 1,000,000 mappings.
 pub fn map_text_has_a_minimal_pair()
-    ensures { (text : List ℕ) (m : MapModel) → ReadsMap text m →
+    ensures { (text : List ℕ) (m : MapModel) → map_reading text ≡ Ok m →
         (l : ListModel) × (c : CertificateModel) × IsMinimalPair m l c × HasTextForm c }
 {}
 

@@ -1,6 +1,6 @@
 -- The list that is built from runs of one label is the map's: runs are the stretches of another map with the same labels.
-use Rattle.std.proofs.Common.{◌≡◌, ℕ, ◌+◌, ◌*◌, ◌^◌, ◌<◌, ◌≤◌, ◌∙◌, All, IsSome, IsTrue, List, Option, Some, None, length, map, option_and_then, option_map, slice_get, refl, sym, ap, subst, arith}
-use Rattle.std.specs.Option.{option_or}
+use Rattle.std.proofs.Common.{◌≡◌, ℕ, ◌+◌, ◌*◌, ◌^◌, ◌<◌, ◌≤◌, ◌∙◌, All, IsSome, IsTrue, List, Option, Some, None, length, option_map, slice_get, refl, sym, ap, subst, arith}
+use Rattle.std.specs.Option.{option_or, option_map_or}
 use Rattle.std.proofs.lemmas.List.{length-map}
 use Rattle.std.proofs.lemmas.List.Elements.{All-map, All-weaker}
 use Rattle.std.proofs.lemmas.Option.{option_and_then_some, same_Some, slice_get_within}
@@ -9,9 +9,8 @@ use Rattle.prefix_keys.specs.declared.version.Version.{Version}
 use Rattle.pmap_text.specs.Label.{IsLabelTable}
 use Rattle.pmap_text.specs.ListEntries.{HasDistinctBlocks}
 use Rattle.pmap_text.specs.ListModel.{ListModel}
-use Rattle.pmap_text.specs.MapModel.{Label, MapModel, Mapping, last_such, label_or, map_label, spans}
+use Rattle.pmap_text.specs.MapModel.{Label, MapModel, Mapping, last_such, map_label, spans}
 use Rattle.pmap_text.specs.MapText.{map_of, mapping_of, text_at}
-use Rattle.pmap_text.specs.PrefixList.{prefix_of}
 use Rattle.pmap_text.specs.Settled.{IsMapOf}
 use Rattle.pmap_text.specs.Stretches.{AreStretches, HasEveryAddress, StretchesModel, first_at, label_at, mappings_of, text_held}
 use Rattle.pmap_text.specs.declared.entry.Entry.{Entry}
@@ -21,7 +20,7 @@ use Rattle.pmap_text.specs.declared.statement.Statement.{Statement}
 use Rattle.pmap_text.proofs.Layers.{are-layers, layers, layers-known, length-layers_to}
 use Rattle.pmap_text.proofs.Ranges.{ordered_at, text_at_index}
 use Rattle.pmap_text.proofs.Stretched.{held_text, stretches_known}
-use Rattle.pmap_cert.specs.Acceptance.{HasItsLabels, IsInOrder, IsMinimalPair, StandsFor, entries_of}
+use Rattle.pmap_cert.specs.Acceptance.{HasItsLabels, IsMinimalPair, StandsFor}
 use Rattle.pmap_cert.specs.CertificateModel.{CertificateModel, has}
 use Rattle.pmap_cert.specs.CertificateText.{HasTextForm}
 use Rattle.pmap_cert.specs.Node.{tree_of}
@@ -38,7 +37,7 @@ use Rattle.pmap_minimise.proofs.Joined.{settled-known}
 use Rattle.pmap_minimise.proofs.Texts.{table-has}
 use Rattle.pmap_minimise.proofs.Whole.{AreEntriesOf, list_with, listed-entries, own-labels}
 
-won-label : (o : Option Mapping) (x : Label) → option_or (option_map (λ p. p.label) o) (Some x) ≡ Some (label_or o x)
+won-label : (o : Option Mapping) (x : Label) → option_or (option_map (λ p. p.label) o) (Some x) ≡ Some (option_map_or (λ (p : Mapping). p.label) o x)
 won-label None x = refl
 won-label (Some p) x = refl
 

@@ -2,7 +2,7 @@
 use Rattle.std.proofs.Common.{◌≡◌, ℕ, suc, ◌-◌, ◌%◌, ◌^◌, ◌<◌, ◌≤◌, ◌==◌, ◌⊎◌, ◌∙◌, inl, inr, true, false, not, List, [], ◌∷◌, ◌++◌, All, MatchOption, Option, Some, None, Result, Ok, codes, get_or, length, map, refl, sym, ap, slice_get, subst, arith, IsTrue, unwrap_or}
 use Rattle.std.specs.List.{IsDistinct}
 use Rattle.std.specs.List.Sorted.{IsPermutation}
-use Rattle.std.specs.Option.{ForSome}
+use Rattle.std.specs.Option.{ForSome, option_map_or}
 use Rattle.std.proofs.lemmas.Bool.Decides.{nat_tests}
 use Rattle.std.proofs.lemmas.Bool.{and_from, both_ways, eq-eqb, false_from_ne_true, not-true}
 use Rattle.std.proofs.lemmas.List.{length-append, length-map}
@@ -18,9 +18,9 @@ use Rattle.prefix_keys.specs.declared.version.Version.TheVariants.{V4, V6}
 use Rattle.prefix_keys.proofs.Printed.{Lacks}
 use Rattle.pmap_cert.specs.Acceptance.{HasBlock}
 use Rattle.pmap_text.specs.Label.{IsLabelTable, is_label}
-use Rattle.pmap_text.specs.Reading.{◌>>=◌, Earlier, ReadsList, ReadsMap, label_limit, lines_read, list_from, map_from, mapping_limit, no_lines, text_read, unknown}
+use Rattle.pmap_text.specs.Reading.{◌>>=◌, Earlier, label_limit, lines_read, list_from, map_from, mapping_limit, no_lines, text_read, unknown, map_reading, list_reading}
 use Rattle.pmap_text.specs.ListModel.{IsEquivalent, ListModel, Prefix, label_below, list_label, CoversAddress, IsLongestMatch, is_same_prefix}
-use Rattle.pmap_text.specs.MapModel.{Label, MapModel, Mapping, label_or, last_such, map_label, spans}
+use Rattle.pmap_text.specs.MapModel.{Label, MapModel, Mapping, last_such, map_label, spans}
 use Rattle.pmap_text.specs.MapText.{text_at}
 use Rattle.pmap_text.specs.PrefixList.{list_of, prefix_of}
 use Rattle.pmap_text.specs.declared.entry.Entry.{Entry as ListEntry}
@@ -97,11 +97,11 @@ none-label W a ps none = by (label_below W ps (suc W) a) refl (longest-match W p
 found-label : (W a : ℕ) (ps : List Prefix)
     → ((last_such (spans a) (map (mapping_of_prefix W) ps) ≡ None) × All (λ p. ¬ CoversAddress W a p) ps)
     ⊎ ((p : Prefix) × (last_such (spans a) (map (mapping_of_prefix W) ps) ≡ Some (mapping_of_prefix W p)) × IsLongestMatch W ps a p)
-    → label_or (last_such (spans a) (map (mapping_of_prefix W) ps)) unknown ≡ unwrap_or (label_below W ps (suc W) a) unknown
+    → option_map_or (λ (p : Mapping). p.label) (last_such (spans a) (map (mapping_of_prefix W) ps)) unknown ≡ unwrap_or (label_below W ps (suc W) a) unknown
 found-label W a ps (inl none) =
-    ap (λ (o : Option Mapping). label_or o unknown) none.0 ∙ sym (ap (λ (o : Option Label). unwrap_or o unknown) (none-label W a ps none.1))
+    ap (λ (o : Option Mapping). option_map_or (λ (p : Mapping). p.label) o unknown) none.0 ∙ sym (ap (λ (o : Option Label). unwrap_or o unknown) (none-label W a ps none.1))
 found-label W a ps (inr found) =
-    ap (λ (o : Option Mapping). label_or o unknown) found.1
+    ap (λ (o : Option Mapping). option_map_or (λ (p : Mapping). p.label) o unknown) found.1
     ∙ sym (ap (λ (o : Option Label). unwrap_or o unknown) (label-longest W ps a found.0 found.2))
 
 module _ (l : ListModel) (can : CanBeReadAgain l) where
@@ -125,7 +125,7 @@ module _ (l : ListModel) (can : CanBeReadAgain l) where
         found.2,
       )
 
-  pub list-again : (r : ListModel) × ReadsList (list_text l) r × IsListAgain l r
+  pub list-again : (r : ListModel) × (list_reading (list_text l) ≡ Ok r) × IsListAgain l r
   list-again =
       let found = read form.List in (
         list_from found.0,
@@ -144,7 +144,7 @@ module _ (l : ListModel) (can : CanBeReadAgain l) where
       (same_prefixes-permuted l.prefixes (entries_in_order l.prefixes) moved)
 
   -- the last statement of the text that covers an address has the list's label
-  same-label : (a : ℕ) → label_or (last_such (spans a) (map (mapping_of_prefix (width_of l.version)) (entries_in_order l.prefixes))) unknown
+  same-label : (a : ℕ) → option_map_or (λ (p : Mapping). p.label) (last_such (spans a) (map (mapping_of_prefix (width_of l.version)) (entries_in_order l.prefixes))) unknown
       ≡ unwrap_or (list_label l a) unknown
   same-label a =
       rw (order-label a)
@@ -152,7 +152,7 @@ module _ (l : ListModel) (can : CanBeReadAgain l) where
       (last-found (width_of l.version) a (entries_in_order l.prefixes) (in_order-order l.prefixes distinct)
       (All-weaker (IsPrintedEntry l.version) (HasBlock (width_of l.version)) (λ p is. is.block) (entries_in_order l.prefixes) each)))
 
-  pub map-again : (m : MapModel) × ReadsMap (list_text l) m × IsMapAgain l m
+  pub map-again : (m : MapModel) × (map_reading (list_text l) ≡ Ok m) × IsMapAgain l m
   map-again =
       let found = read form.Map in (
         map_from found.0,
@@ -160,15 +160,15 @@ module _ (l : ListModel) (can : CanBeReadAgain l) where
         record {
           version = ap (λ (o : Option Version). unwrap_or o V4) found.2.version_is;
           name = found.2.name_is;
-          labels = λ a _. ap (λ (ms : List Mapping). label_or (last_such (spans a) ms) (unwrap_or (found.0).fallback unknown)) found.2.entries
-              ∙ ap (λ (o : Option Label). label_or (last_such (spans a) (map (mapping_of_prefix (width_of l.version)) (entries_in_order l.prefixes))) (unwrap_or o unknown)) found.2.fallback
+          labels = λ a _. ap (λ (ms : List Mapping). option_map_or (λ (p : Mapping). p.label) (last_such (spans a) ms) (unwrap_or (found.0).fallback unknown)) found.2.entries
+              ∙ ap (λ (o : Option Label). option_map_or (λ (p : Mapping). p.label) (last_such (spans a) (map (mapping_of_prefix (width_of l.version)) (entries_in_order l.prefixes))) (unwrap_or o unknown)) found.2.fallback
               ∙ same-label a;
         },
       )
 
 -- if the list labels each address as a map does, so do both readings of its text
 pub map-equivalent : (l : ListModel) (m : MapModel) → CanBeReadAgain l → IsEquivalent l m
-    → (again : MapModel) × ReadsMap (list_text l) again × (again.version ≡ m.version)
+    → (again : MapModel) × (map_reading (list_text l) ≡ Ok again) × (again.version ≡ m.version)
     × ((a : ℕ) → a < 2 ^ width_of m.version → map_label again a ≡ map_label m a)
 map-equivalent l m can alike =
     let found = map-again l can in (
@@ -186,7 +186,7 @@ again-label l r can is a =
     ∙ sym (order-label l can a)
 
 pub list-equivalent : (l : ListModel) (m : MapModel) → CanBeReadAgain l → IsEquivalent l m
-    → (again : ListModel) × ReadsList (list_text l) again × IsEquivalent again m
+    → (again : ListModel) × (list_reading (list_text l) ≡ Ok again) × IsEquivalent again m
 list-equivalent l m can alike =
     let found = list-again l can in (
       found.0,

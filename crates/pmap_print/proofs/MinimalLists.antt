@@ -1,5 +1,5 @@
 -- The list of a minimal pair of a map text can be printed and read again, and the list that is read is accepted.
-use Rattle.std.proofs.Common.{◌≡◌, ℕ, ◌+◌, ◌-◌, ◌*◌, ◌^◌, ◌≤◌, ◌==◌, ◌⊎◌, ◌∙◌, inl, inr, true, false, List, [], ◌∷◌, All, IsTrue, get_or, length, sym, ap, subst, arith, bytes_eq}
+use Rattle.std.proofs.Common.{◌≡◌, ℕ, ◌+◌, ◌-◌, ◌*◌, ◌^◌, ◌≤◌, ◌==◌, ◌⊎◌, ◌∙◌, inl, inr, true, false, List, [], ◌∷◌, All, IsTrue, get_or, length, sym, ap, subst, arith, bytes_eq, Ok}
 use Rattle.std.specs.List.{AllByRecursion, IsDistinct}
 use Rattle.std.proofs.lemmas.Bool.Decides.{nat_tests}
 use Rattle.std.proofs.lemmas.Bool.{and_parts, eqb-true, false_from_ne_true, or_cases}
@@ -15,9 +15,9 @@ use Rattle.pmap_cert.proofs.MapLabels.{labels-read}
 use Rattle.pmap_cert.proofs.MapLimits.{IsLimited, limits-read}
 use Rattle.pmap_cert.proofs.Minimal.{accepted-minimal}
 use Rattle.pmap_text.specs.Label.{is_label}
-use Rattle.pmap_text.specs.ListModel.{ListModel, Prefix, HasDistinctPrefixes, is_same_prefix}
+use Rattle.pmap_text.specs.ListModel.{ListModel, Prefix, is_same_prefix}
 use Rattle.pmap_text.specs.MapModel.{Label, MapModel}
-use Rattle.pmap_text.specs.Reading.{ReadsList, ReadsMap, label_limit, mapping_limit}
+use Rattle.pmap_text.specs.Reading.{label_limit, mapping_limit, map_reading, list_reading}
 use Rattle.pmap_print.specs.List.{list_text, CanBeReadAgain, IsPrintedEntry, IsWellFormed, labels_of}
 use Rattle.pmap_print.proofs.Again.{list-again}
 use Rattle.pmap_print.proofs.LastMatch.{block-start}
@@ -45,7 +45,7 @@ all-apart : (W : ℕ) (p : Prefix) (ps : List Prefix) → HasBlock W p → AllBy
 all-apart W p [] has blocks before = tt
 all-apart W p (r ∷ rs) has blocks before = (before-apart W p r has blocks.0 before.0, all-apart W p rs has blocks.1 before.1)
 
-order-distinct : (W : ℕ) (ps : List Prefix) → IsInOrder ps → AllByRecursion (HasBlock W) ps → HasDistinctPrefixes W ps
+order-distinct : (W : ℕ) (ps : List Prefix) → IsInOrder ps → AllByRecursion (HasBlock W) ps → IsDistinct (is_same_prefix W) ps
 unfolding IsDistinct
 order-distinct W [] ordered blocks = tt
 order-distinct W (p ∷ ps) ordered blocks =
@@ -60,7 +60,7 @@ label-known (y ∷ ys) x all h = by (or_cases (bytes_eq x y) (has ys x) h) (λ i
     by (inl same) rest = subst (λ (z : Label). IsTrue (is_label z)) (sym ((bytes_eq-Decides x y).0 same)) all.0
     by (inr inside) rest = rest inside
 
-module _ (text : List ℕ) (m : MapModel) (l : ListModel) (c : CertificateModel) (reads : ReadsMap text m) (pair : IsMinimalPair m l c) where
+module _ (text : List ℕ) (m : MapModel) (l : ListModel) (c : CertificateModel) (reads : map_reading text ≡ Ok m) (pair : IsMinimalPair m l c) where
   list-has_form : HasListForm l
   list-has_form = list-form m l c pair (labels-read text m reads)
 
@@ -95,7 +95,7 @@ module _ (text : List ℕ) (m : MapModel) (l : ListModel) (c : CertificateModel)
       few_labels = subst (λ (ps : List Prefix). length (labels_of ps) ≤ label_limit) (sym (in_order-kept l.prefixes list-has_form.order)) few_labels;
     }
 
-    pub accepted-again : (again : ListModel) × ReadsList (list_text l) again × IsAccepted m again c × (length again.prefixes ≡ length l.prefixes)
+    pub accepted-again : (again : ListModel) × (list_reading (list_text l) ≡ Ok again) × IsAccepted m again c × (length again.prefixes ≡ length l.prefixes)
     accepted-again =
         let found = list-again l can-read_again in
         let same : found.0.prefixes ≡ l.prefixes = (found.2).prefixes ∙ in_order-kept l.prefixes list-has_form.order in

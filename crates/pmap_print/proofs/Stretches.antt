@@ -19,6 +19,7 @@ use Rattle.pmap_text.specs.Stretches.{AreLabelsBelow, HasEveryAddress, Stretches
 use Rattle.pmap_text.specs.declared.label.LabelId.{LabelId}
 use Rattle.pmap_text.proofs.Orders.{known_text}
 use Rattle.pmap_text.proofs.Ranges.{last_end, next_first, ordered_at, text_at_index}
+use Rattle.label_trie.proofs.Runs.{first-label}
 use Rattle.label_trie.specs.Runs.{AreRuns, HasOneLabel, Run}
 use Rattle.pmap_print.specs.Runs.{IsRunsText, run_fields, run_text, run_titles, Numbered, run_of, stretch_view, view_at, Stretch}
 use Rattle.pmap_print.specs.Table.{Text, line_text}
@@ -112,7 +113,7 @@ printed_more f table v end before out new s t is text one next other = record {
       (is.goes_on s.high (run_of table (record t { high = high }) ∷ rest) (
         refl,
         one,
-        other,
+        λ _ equal. other (sym equal ∙ ap f (sym next) ∙ first-label f (run_of table (record t { high = high })) are.1),
         subst (λ (from : ℕ). AreRuns f from end (run_of table (record t { high = high }) ∷ rest)) next are,
       ));
 }
@@ -125,7 +126,7 @@ printed_last f table v before out new s is text one end title =
     let runs = is.runs ++ run_of table s ∷ [] in
     record {
       runs = runs;
-      are = is.goes_on s.high [] (refl, one, tt, end);
+      are = is.goes_on s.high [] (refl, one, λ less. absurd (omega (arith, less, end)), end);
       is = text_more v before out new is.runs (run_of table s) is.text text
           ∙ ap (λ (x : Text). x ++ flat_map (run_text v) runs) title
           ∙ ap (λ (x : Text). line_text run_titles ++ x) (sym (flat_map-map line_text (run_fields v) runs));

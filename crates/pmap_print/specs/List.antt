@@ -1,9 +1,10 @@
 use Rattle.std.specs.Prelude.{◌&&◌, ◌==◌, Bool, List, [], ◌∷◌, ◌++◌, Option, Some, None, codes, map, ℕ, ◌≡◌, ◌^◌, ◌<◌, ◌≤◌, All, IsTrue, fold, length, unwrap_or}
 use Rattle.std.specs.Option.{ForSome}
+use Rattle.std.specs.List.{IsDistinct}
 use Rattle.prefix_keys.specs.Print.{block_text}
 use Rattle.prefix_keys.specs.declared.version.Version.{Version}
 use Rattle.prefix_keys.specs.Block.{width_of}
-use Rattle.pmap_text.specs.ListModel.{Prefix, ListModel, list_label, HasDistinctPrefixes}
+use Rattle.pmap_text.specs.ListModel.{Prefix, ListModel, list_label, is_same_prefix}
 use Rattle.pmap_text.specs.MapModel.{Label, MapModel, map_label}
 use Rattle.pmap_text.specs.Label.{is_label, with_label}
 use Rattle.pmap_text.specs.Reading.{label_limit, mapping_limit, unknown}
@@ -56,7 +57,7 @@ labels_of prefixes = fold with_label [] (map (λ p. p.label) prefixes)
 -- each entry has a block and a well-formed label, no two blocks are equal, and the name is well formed
 pub record IsWellFormed (l : ListModel) : Type 0 where
   pub entries : All (IsPrintedEntry l.version) l.prefixes
-  pub distinct : HasDistinctPrefixes (width_of l.version) l.prefixes
+  pub distinct : IsDistinct (is_same_prefix (width_of l.version)) l.prefixes
   pub name : ForSome l.name (λ name. IsTrue (is_label name))
 
 -- the list is well formed, and has no more entries and no more label texts than a text may have

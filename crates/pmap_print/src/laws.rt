@@ -1,6 +1,6 @@
 //! The laws on printed texts.
 
-ghost use Rattle.std.specs.Prelude.{◌≡◌, ◌<◌, ◌≤◌, ◌^◌, ℕ, IsTrue, List, Option, Some, length};
+ghost use Rattle.std.specs.Prelude.{◌≡◌, ◌<◌, ◌≤◌, ◌^◌, ℕ, IsTrue, List, Option, Some, length, Ok};
 ghost use Rattle.std.specs.List.{IsDistinct};
 ghost use Rattle.std.specs.List.Sorted.{IsPermutation};
 ghost use Rattle.std.specs.Option.{ForSome};
@@ -12,7 +12,7 @@ ghost use Rattle.pmap_text.specs.Label.{IsLabelTable, is_label};
 ghost use Rattle.pmap_text.specs.ListModel.{IsEquivalent, ListModel, Prefix, list_label};
 ghost use Rattle.pmap_text.specs.MapModel.{Label, MapModel, map_label};
 ghost use Rattle.pmap_text.specs.PrefixList.{list_of};
-ghost use Rattle.pmap_text.specs.Reading.{ReadsList, ReadsMap, label_limit, mapping_limit};
+ghost use Rattle.pmap_text.specs.Reading.{label_limit, mapping_limit, map_reading, list_reading};
 ghost use Rattle.pmap_text.specs.declared.prefix_list.PrefixList.{PrefixList};
 ghost use Rattle.pmap_print.specs.List.{list_text, entries_in_order, starts_alike, CanBeReadAgain, IsListAgain, IsMapAgain, IsWellFormed, labels_of};
 ghost use Rattle.pmap_print.specs.Runs.{IsRunsText};
@@ -44,17 +44,17 @@ pub fn printed_order_is_one()
 /// the list labels.
 pub fn printed_list_is_read_back()
     ensures list { (l : ListModel) → CanBeReadAgain l →
-        (r : ListModel) × ReadsList (list_text l) r × IsListAgain l r }
+        (r : ListModel) × (list_reading (list_text l) ≡ Ok r) × IsListAgain l r }
     ensures map { (l : ListModel) → CanBeReadAgain l →
-        (m : MapModel) × ReadsMap (list_text l) m × IsMapAgain l m }
+        (m : MapModel) × (map_reading (list_text l) ≡ Ok m) × IsMapAgain l m }
 {}
 
 /// If a list labels each address as a map does, so do both readings of its printed text.
 pub fn printed_list_is_equivalent()
     ensures list { (l : ListModel) (m : MapModel) → CanBeReadAgain l → IsEquivalent l m →
-        (again : ListModel) × ReadsList (list_text l) again × IsEquivalent again m }
+        (again : ListModel) × (list_reading (list_text l) ≡ Ok again) × IsEquivalent again m }
     ensures map { (l : ListModel) (m : MapModel) → CanBeReadAgain l → IsEquivalent l m →
-        (again : MapModel) × ReadsMap (list_text l) again × (again.version ≡ m.version)
+        (again : MapModel) × (map_reading (list_text l) ≡ Ok again) × (again.version ≡ m.version)
         × ((a : ℕ) → a < 2 ^ width_of m.version → map_label again a ≡ map_label m a) }
 {}
 
@@ -71,11 +71,11 @@ pub fn prefix_list_can_be_read_again()
 /// texts. The map text doesn't imply these limits: a range may need several blocks, and a text with 65,535 labels may
 /// also use `UNKNOWN` without stating it.
 pub fn minimal_list_can_be_read_again()
-    ensures form { (text : List ℕ) (m : MapModel) (l : ListModel) (c : CertificateModel) → ReadsMap text m →
-        IsMinimalPair m l c → IsWellFormed l }
-    ensures again { (text : List ℕ) (m : MapModel) (l : ListModel) (c : CertificateModel) → ReadsMap text m →
-        IsMinimalPair m l c → length l.prefixes ≤ mapping_limit → length (labels_of l.prefixes) ≤ label_limit →
-        CanBeReadAgain l }
+    ensures form { (text : List ℕ) (m : MapModel) (l : ListModel) (c : CertificateModel) →
+        map_reading text ≡ Ok m → IsMinimalPair m l c → IsWellFormed l }
+    ensures again { (text : List ℕ) (m : MapModel) (l : ListModel) (c : CertificateModel) →
+        map_reading text ≡ Ok m → IsMinimalPair m l c → length l.prefixes ≤ mapping_limit →
+        length (labels_of l.prefixes) ≤ label_limit → CanBeReadAgain l }
 {}
 
 /// The entries of a minimal pair's list have no more label texts than the map's table, if the table has the map's
@@ -89,8 +89,9 @@ pub fn minimal_list_has_few_labels()
 /// If the list of a minimal pair of a map text is within these limits, its printed text is read as a list with as many
 /// entries, and the pair's certificate is accepted for that list.
 pub fn minimal_list_is_accepted_again()
-    ensures { (text : List ℕ) (m : MapModel) (l : ListModel) (c : CertificateModel) → ReadsMap text m →
-        IsMinimalPair m l c → length l.prefixes ≤ mapping_limit → length (labels_of l.prefixes) ≤ label_limit →
-        (again : ListModel) × ReadsList (list_text l) again × IsAccepted m again c
+    ensures { (text : List ℕ) (m : MapModel) (l : ListModel) (c : CertificateModel) →
+        map_reading text ≡ Ok m → IsMinimalPair m l c → length l.prefixes ≤ mapping_limit →
+        length (labels_of l.prefixes) ≤ label_limit →
+        (again : ListModel) × (list_reading (list_text l) ≡ Ok again) × IsAccepted m again c
         × (length again.prefixes ≡ length l.prefixes) }
 {}

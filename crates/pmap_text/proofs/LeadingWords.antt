@@ -1,5 +1,5 @@
 -- The start of a text, and its first word.
-use Rattle.std.proofs.Common.{◌≡◌, ℕ, ◌+◌, ◌*◌, ◌<◌, ◌≤◌, ◌&&◌, ◌||◌, ◌==◌, Bool, true, false, List, [], ◌∷◌, ◌++◌, Some, None, Ok, All, length, take, drop, ap, sym, refl, ◌∙◌, arith, codes, inl, inr, nat_le, le-leb, ok_or, option_map}
+use Rattle.std.proofs.Common.{◌≡◌, ℕ, ◌+◌, ◌*◌, ◌<◌, ◌≤◌, ◌&&◌, ◌||◌, ◌==◌, Bool, true, false, List, [], ◌∷◌, ◌++◌, Some, None, Ok, All, length, map, take, drop, ap, sym, refl, ◌∙◌, arith, codes, inl, inr, nat_le, le-leb, ok_or, option_map}
 use Rattle.std.specs.List.{list_all, list_any, position_or_len, before_first, after_first}
 use Rattle.std.specs.Str.{bytes_eq}
 use Rattle.std.proofs.lemmas.Bool.{cases_Bool, eqb-true, false≢true, true≢false, cond-false, cond-true, and_from, false_from_ne_true, or_cases, or_from, or_right}
@@ -10,10 +10,11 @@ use Rattle.std.proofs.lemmas.List.Splits.{slice_split_at, slice_split_none}
 use Rattle.std.proofs.lemmas.Slice.Eq.{bytes_eq-Decides}
 use Rattle.prefix_keys.proofs.Bytes.{all-weaker, apart, lacks, none-passes}
 use Rattle.prefix_keys.proofs.LeadingGroups.{colon-in}
-use Rattle.prefix_keys.proofs.Pieces.{is_point, short_number-undigit}
+use Rattle.prefix_keys.proofs.Pieces.{is_point, of_all, short_number-undigit}
 use Rattle.prefix_keys.specs.Block.{block_number, first_of, width_of}
 use Rattle.prefix_keys.specs.Inner.{is_colon_byte}
-use Rattle.prefix_keys.specs.Text.{AddressOf, BlockOf, address_of, block_from, block_of_text, colon_address, decimal_value, dotted_address, four_bytes, four_pieces, is_digit, is_hex_digit, short_number}
+use Rattle.std.specs.Char.{is_ascii_hexdigit}
+use Rattle.prefix_keys.specs.Text.{AddressOf, BlockOf, address_of, block_from, block_of_text, colon_address, decimal_value, dotted_address, four_bytes, is_digit, decimal_number}
 use Rattle.prefix_keys.specs.declared.addr.Addr.{Addr}
 use Rattle.prefix_keys.specs.declared.block.Block.{Block}
 use Rattle.prefix_keys.specs.declared.text.BlockFault.TheVariants.{BadLength}
@@ -24,19 +25,19 @@ use Rattle.pmap_text.specs.Reading.{behind_word, first_word, trim_start, Earlier
 use Rattle.pmap_text.specs.declared.leading.Word.TheVariants.{Block as block_word}
 
 -- a number consists of digits
-pub number-digits : (limit : ℕ) (text : List ℕ) (n : ℕ) → short_number limit text ≡ Some n → list_all is_digit text ≡ true
+pub number-digits : (limit : ℕ) (text : List ℕ) (n : ℕ) → decimal_number 3 limit text ≡ Some n → list_all is_digit text ≡ true
 number-digits limit text n reads = elim (cases_Bool (list_all is_digit text)) [
   | inl all ↦ all
   | inr some ↦ let none : None ≡ Some n = sym (short_number-undigit limit text some) ∙ reads in absurd cc
 ]
 
-number-no_point : (limit : ℕ) (text : List ℕ) (n : ℕ) → short_number limit text ≡ Some n → All (λ b. is_point b ≡ false) text
+number-no_point : (limit : ℕ) (text : List ℕ) (n : ℕ) → decimal_number 3 limit text ≡ Some n → All (λ b. is_point b ≡ false) text
 number-no_point limit text n reads =
     none-passes is_digit is_point (apart is_digit 46 refl) text (number-digits limit text n reads)
 
 -- one to three digits at the start are a number
 pub number-some : (limit : ℕ) (text : List ℕ) (at n : ℕ) → n ≡ decimal_value (take at text) → list_all is_digit (take at text) ≡ true
-    → 0 < at → at ≤ 3 → at ≤ length text → n ≤ limit → short_number limit (take at text) ≡ Some n
+    → 0 < at → at ≤ 3 → at ≤ length text → n ≤ limit → decimal_number 3 limit (take at text) ≡ Some n
 number-some limit text at n value digits some few within small =
     let front : List ℕ = take at text in
     let count : length front ≡ at = length-take-le at text within in
@@ -51,18 +52,15 @@ abbrev pub pointed : List ℕ → List ℕ → List ℕ → List ℕ → List �
 pointed f0 f1 f2 f3 = f0 ++ 46 ∷ (f1 ++ 46 ∷ (f2 ++ 46 ∷ f3))
 
 pub dotted-numbers : (f0 f1 f2 f3 : List ℕ) (a b c d : ℕ)
-    → short_number 255 f0 ≡ Some a → short_number 255 f1 ≡ Some b → short_number 255 f2 ≡ Some c → short_number 255 f3 ≡ Some d
+    → decimal_number 3 255 f0 ≡ Some a → decimal_number 3 255 f1 ≡ Some b → decimal_number 3 255 f2 ≡ Some c → decimal_number 3 255 f3 ≡ Some d
     → dotted_address (pointed f0 f1 f2 f3) ≡ Some (((a * 256 + b) * 256 + c) * 256 + d)
 dotted-numbers f0 f1 f2 f3 a b c d ea eb ec ed =
-    ap four_pieces
+    ap (λ pieces. of_all four_bytes (map (decimal_number 3 255) pieces))
     (slice_split_at is_point f0 46 (f1 ++ 46 ∷ (f2 ++ 46 ∷ f3)) (number-no_point 255 f0 a ea) refl
     ∙ ap (λ ps. f0 ∷ ps) (slice_split_at is_point f1 46 (f2 ++ 46 ∷ f3) (number-no_point 255 f1 b eb) refl
     ∙ ap (λ ps. f1 ∷ ps) (slice_split_at is_point f2 46 f3 (number-no_point 255 f2 c ec) refl
     ∙ ap (λ ps. f2 ∷ ps) (slice_split_none is_point f3 (number-no_point 255 f3 d ed)))))
-    ∙ ap (λ x. four_bytes x (short_number 255 f1) (short_number 255 f2) (short_number 255 f3)) ea
-    ∙ ap (λ x. four_bytes (Some a) x (short_number 255 f2) (short_number 255 f3)) eb
-    ∙ ap (λ x. four_bytes (Some a) (Some b) x (short_number 255 f3)) ec
-    ∙ ap (four_bytes (Some a) (Some b) (Some c)) ed
+    ∙ ap (of_all four_bytes) (λ i. ea i ∷ eb i ∷ ec i ∷ ed i ∷ [])
 
 -- its bytes are digits and points
 abbrev pub is_dotted_byte : ℕ → Bool
@@ -71,15 +69,15 @@ is_dotted_byte b = is_digit b || b == 46
 digit-dotted : (b : ℕ) → is_digit b ≡ true → is_dotted_byte b ≡ true
 digit-dotted b digit = rw digit refl
 
-number-dotted : (f : List ℕ) (a : ℕ) → short_number 255 f ≡ Some a → list_all is_dotted_byte f ≡ true
+number-dotted : (f : List ℕ) (a : ℕ) → decimal_number 3 255 f ≡ Some a → list_all is_dotted_byte f ≡ true
 number-dotted f a reads = all-weaker is_digit is_dotted_byte digit-dotted f (number-digits 255 f a reads)
 
-number-pointed : (f t : List ℕ) (a : ℕ) → short_number 255 f ≡ Some a → list_all is_dotted_byte t ≡ true → list_all is_dotted_byte (f ++ 46 ∷ t) ≡ true
+number-pointed : (f t : List ℕ) (a : ℕ) → decimal_number 3 255 f ≡ Some a → list_all is_dotted_byte t ≡ true → list_all is_dotted_byte (f ++ 46 ∷ t) ≡ true
 number-pointed f t a reads all =
     list_all-append is_dotted_byte f (46 ∷ t) ∙ ap (λ x. x && list_all is_dotted_byte t) (number-dotted f a reads) ∙ all
 
 pub dotted-bytes : (f0 f1 f2 f3 : List ℕ) (a b c d : ℕ)
-    → short_number 255 f0 ≡ Some a → short_number 255 f1 ≡ Some b → short_number 255 f2 ≡ Some c → short_number 255 f3 ≡ Some d
+    → decimal_number 3 255 f0 ≡ Some a → decimal_number 3 255 f1 ≡ Some b → decimal_number 3 255 f2 ≡ Some c → decimal_number 3 255 f3 ≡ Some d
     → list_all is_dotted_byte (pointed f0 f1 f2 f3) ≡ true
 dotted-bytes f0 f1 f2 f3 a b c d ea eb ec ed =
     number-pointed f0 (f1 ++ 46 ∷ (f2 ++ 46 ∷ f3)) a ea
@@ -128,7 +126,7 @@ address-bytes front bytes = all-weaker is_dotted_byte is_address_byte dotted-byt
 
 -- so is a colon address, which also consists of such bytes
 colon-byte : (b : ℕ) → is_colon_byte b ≡ true → is_address_byte b ≡ true
-colon-byte b colon = elim (or_cases (is_hex_digit b) (b == 58) colon) [
+colon-byte b colon = elim (or_cases (is_ascii_hexdigit b) (b == 58) colon) [
   | inl digit ↦ rw digit refl
   | inr here ↦ ap is_address_byte (eqb-true b 58 here)
 ]
@@ -208,7 +206,7 @@ slash-first front digits bytes =
     (none-passes is_address_byte (λ b. b == 47) (apart is_address_byte 47 refl) front bytes) refl
 
 block-reads : (front digits : List ℕ) (addr : Addr) (len : ℕ) → list_all is_address_byte front ≡ true
-    → address_of front ≡ Some (addr.version, addr.value) → short_number (width_of addr.version) digits ≡ Some len
+    → address_of front ≡ Some (addr.version, addr.value) → decimal_number 3 (width_of addr.version) digits ≡ Some len
     → block_of_text (front ++ 47 ∷ digits)
     ≡ Ok (addr.version, first_of (width_of addr.version) len (block_number (width_of addr.version) len addr.value), len)
 block-reads front digits addr len bytes reads number =

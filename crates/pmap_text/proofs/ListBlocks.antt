@@ -1,5 +1,6 @@
 -- The blocks of a prefix list's entries have no host bits and are distinct, so no two of its prefixes have one block.
 use Rattle.std.proofs.Common.{◌≡◌, ℕ, ◌-◌, ◌*◌, ◌%◌, ◌^◌, ◌≤◌, ◌<◌, ◌==◌, inl, inr, List, false, true, get_or, length, arith, sym, ap, ◌∙◌, subst}
+use Rattle.std.specs.List.{IsDistinct}
 use Rattle.std.specs.List.Sorted.{IsNonDecreasingBy}
 use Rattle.std.proofs.lemmas.Bool.{and_from, and_parts, both_ways, cases_eq, cases_lt, eq-eqb, eqb-true, false_from_ne_true}
 use Rattle.std.proofs.lemmas.Map.Keys.{IsDistinct-from_apart, apart_from_distinct}
@@ -11,7 +12,7 @@ use Rattle.prefix_keys.proofs.Quotients.{whole}
 use Rattle.prefix_keys.specs.declared.block.Block.{Block}
 use Rattle.pmap_text.specs.ListEntries.{HasDistinctBlocks, rank_of, same_block}
 use Rattle.pmap_text.specs.PrefixList.{LongerLater, list_of, prefix_of, Entry, PrefixList}
-use Rattle.pmap_text.specs.ListModel.{HasDistinctPrefixes, is_same_prefix}
+use Rattle.pmap_text.specs.ListModel.{is_same_prefix}
 use Rattle.pmap_text.proofs.Blocks.{address-first, block_number-shorter}
 use Rattle.pmap_text.proofs.Filed.{distinct_to_map}
 
@@ -86,7 +87,7 @@ apart v table d e left right other =
     (same_block-from v d e left right (eqb-true d.block.len e.block.len parts.0)
     (eqb-true (block_number W d.block.len d.block.value) (block_number W e.block.len e.block.value) parts.1)))
 
-pub distinct-list_of : (l : PrefixList) → HasDistinctPrefixes (width_of l.version) (list_of l).prefixes
+pub distinct-list_of : (l : PrefixList) → IsDistinct (is_same_prefix (width_of l.version)) (list_of l).prefixes
 distinct-list_of l =
     let W = width_of l.version in
     distinct_to_map (prefix_of l.labels) (is_same_prefix W) l.entries

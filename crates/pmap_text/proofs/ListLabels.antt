@@ -1,5 +1,6 @@
 -- The label that a prefix list gives an address: that of the longest entry that covers it.
 use Rattle.std.proofs.Common.{◌≡◌, ℕ, zero, suc, ◌<◌, ◌≤◌, ◌==◌, inl, inr, true, false, List, [], ◌∷◌, ◌++◌, Option, Some, None, get_or, option_map, find, refl, sym, ap, ◌∙◌, subst, arith, All, Contains, le_refl}
+use Rattle.std.specs.List.{IsDistinct}
 use Rattle.std.specs.List.Sorted.{IsPermutation}
 use Rattle.std.specs.Option.{MatchOption, option_or}
 use Rattle.std.proofs.lemmas.Bool.{and_from, and_parts, both_ways, cases_eq, eq-eqb, eqb-true, false_from_ne_true}
@@ -7,7 +8,7 @@ use Rattle.std.proofs.lemmas.List.{append_assoc}
 use Rattle.std.proofs.lemmas.List.Elements.{All-append, All-cons, All-contains, All-contains_itself, Contains-append_right}
 use Rattle.std.proofs.lemmas.List.Sorted.{Contains-permutation, IsPermutation-sym}
 use Rattle.prefix_keys.specs.Block.{block_number}
-use Rattle.pmap_text.specs.ListModel.{Prefix, covers, label_at, label_below, CoversAddress, HasDistinctPrefixes, HasSamePrefixes, IsLongestMatch, LabelsBlocksOnce, is_same_prefix}
+use Rattle.pmap_text.specs.ListModel.{Prefix, covers, label_at, label_below, CoversAddress, HasSamePrefixes, IsLongestMatch, LabelsBlocksOnce, is_same_prefix}
 use Rattle.pmap_text.specs.MapModel.{Label}
 use Rattle.pmap_text.proofs.Finds.{All-left, All-right, Contains-first, distinct_same, find-fails, find-first, find-place, find_alike, find_none}
 
@@ -203,7 +204,7 @@ label_below-top W ps a p has covered most alike (suc k) longer fits =
     ]
 
 -- if no two entries have the same block, a block has one label
-pub once-distinct : (W : ℕ) (ps : List Prefix) → HasDistinctPrefixes W ps → LabelsBlocksOnce W ps
+pub once-distinct : (W : ℕ) (ps : List Prefix) → IsDistinct (is_same_prefix W) ps → LabelsBlocksOnce W ps
 once-distinct W ps distinct p r has has' bits number =
     let there = and_from (p.bits == r.bits) (block_number W p.bits p.start == block_number W r.bits r.start)
     (eq-eqb p.bits r.bits bits) (eq-eqb (block_number W p.bits p.start) (block_number W r.bits r.start) number) in

@@ -1,10 +1,11 @@
 -- The mapping that is seen at a block.
+use Rattle.std.specs.Option.{option_map_or}
 use Rattle.std.proofs.Common.{◌≡◌, ℕ, ◌+◌, ◌-◌, ◌^◌, ◌<◌, ◌≤◌, inl, inr, Bool, true, false, cond, nat_le, pow_pos, List, Option, Some, None, Contains, refl, sym, ap, ◌∙◌, subst, arith}
 use Rattle.std.proofs.lemmas.Bool.{cases_lt, leb-false, leb-true}
 use Rattle.std.proofs.lemmas.List.Elements.{All-contains}
 use Rattle.std.proofs.lemmas.Option.{same_Some}
 use Rattle.prefix_keys.specs.Block.{first_of, last_of, width_of}
-use Rattle.pmap_text.specs.MapModel.{Label, Mapping, MapModel, label_or, last_such, meets, settled_by, settled_label, spans, spans_all}
+use Rattle.pmap_text.specs.MapModel.{Label, Mapping, MapModel, last_such, meets, settled_by, settled_label, spans, spans_all}
 use Rattle.pmap_text.specs.MapText.{mapping_of, Statement}
 use Rattle.pmap_text.specs.Stretches.{HaveAddresses, IsStretch, mappings_of}
 use Rattle.pmap_text.proofs.Blocks.{first_of-full, last_of-full}
@@ -126,17 +127,17 @@ stretch_split m n q first last top stretch from to more fits =
 
 -- so a block is settled if one stretch contains it
 settled_whole : (m : MapModel) (n q : ℕ) (top : Option Mapping) → IsWhole (width_of m.version) n q m.mappings top
-    → settled_label m n q ≡ Some (label_or top m.fallback)
+    → settled_label m n q ≡ Some (option_map_or (λ (p : Mapping). p.label) top m.fallback)
 settled_whole m n q None whole = rw whole.is refl
 settled_whole m n q (Some s) whole = let covers = whole.covers s refl in rw (whole.is, covers) refl
 
 pub settled_stretch : (m : MapModel) (n q first last : ℕ) (top : Option Mapping) → HaveAddresses m.mappings → IsStretch m first last top
     → first ≤ first_of (width_of m.version) n q → first_of (width_of m.version) n q ≤ last
     → last_of (width_of m.version) n q < 2 ^ width_of m.version
-    → settled_label m n q ≡ cond (nat_le (last_of (width_of m.version) n q) last) (Some (label_or top m.fallback)) None
+    → settled_label m n q ≡ cond (nat_le (last_of (width_of m.version) n q) last) (Some (option_map_or (λ (p : Mapping). p.label) top m.fallback)) None
 settled_stretch m n q first last top ordered stretch from here fits = by (nat_le (last_of (width_of m.version) n q) last) refl
   where
-    by : (b : Bool) → nat_le (last_of (width_of m.version) n q) last ≡ b → settled_label m n q ≡ cond b (Some (label_or top m.fallback)) None
+    by : (b : Bool) → nat_le (last_of (width_of m.version) n q) last ≡ b → settled_label m n q ≡ cond b (Some (option_map_or (λ (p : Mapping). p.label) top m.fallback)) None
     by true e =
         settled_whole m n q top (stretch_whole m n q first last top
         (λ s has. All-contains (λ (r : Mapping). r.low ≤ r.high) m.mappings s ordered has) stretch

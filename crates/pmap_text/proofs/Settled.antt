@@ -1,10 +1,11 @@
 -- A settled block has one label at all its addresses, and a block of one address is settled.
+use Rattle.std.specs.Option.{option_map_or}
 use Rattle.std.proofs.Common.{◌≡◌, ℕ, ◌<◌, ◌≤◌, Bool, true, false, cond, ◌&&◌, List, Option, Some, None, arith, nat_le, sym, refl, ◌∙◌, subst, inl, inr, eq-or-lt_of_le}
 use Rattle.std.proofs.lemmas.Bool.{both_ways}
 use Rattle.std.proofs.lemmas.Bool.Decides.{nat_tests}
 use Rattle.std.proofs.lemmas.Option.{cond_some, same_Some}
 use Rattle.prefix_keys.specs.Block.{block_number, first_of, last_of, width_of}
-use Rattle.pmap_text.specs.MapModel.{IsSettled, Label, MapModel, Mapping, label_or, last_such, map_label, meets, settled_by, settled_label, spans, spans_all}
+use Rattle.pmap_text.specs.MapModel.{IsSettled, Label, MapModel, Mapping, last_such, map_label, meets, settled_by, settled_label, spans, spans_all}
 use Rattle.pmap_text.proofs.Blocks.{address-first, address-last, first_of-full, last_of-full}
 use Rattle.pmap_text.proofs.LastSuch.{last_such-none, last_such-passes, last_such-some}
 
@@ -26,7 +27,7 @@ spans_all-spans W n q a e m h = in_order m.low a m.high (first_of W n q) (last_o
 -- a settled block has its label at each of its addresses
 map_label-settled_by : (W n q a : ℕ) (x fallback : Label) (ms : List Mapping) (o : Option Mapping) →
     block_number W n a ≡ q → last_such (meets W n q) ms ≡ o → settled_by W n q fallback o ≡ Some x →
-    label_or (last_such (spans a) ms) fallback ≡ x
+    option_map_or (λ (p : Mapping). p.label) (last_such (spans a) ms) fallback ≡ x
 map_label-settled_by W n q a x fallback ms None e last h =
     let none : last_such (spans a) ms ≡ None = last_such-none (meets W n q) (spans a) (spans-meets W n q a e) ms last in
     rw none (same_Some fallback x h)

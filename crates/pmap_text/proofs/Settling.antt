@@ -1,10 +1,9 @@
 -- Whether the stretches of statements settle a block.
-use Rattle.std.proofs.Common.{◌≡◌, ℕ, suc, ◌+◌, ◌*◌, ◌-◌, ◌^◌, ◌<◌, ◌≤◌, List, [], Option, Some, None, IsSome, Contains, length, option_map, refl, sym, ap, subst, arith}
+use Rattle.std.proofs.Common.{◌≡◌, ℕ, suc, ◌+◌, ◌<◌, ◌≤◌, List, Option, Some, None, IsSome, Contains, length, option_map, refl, sym, ap, subst, arith}
 use Rattle.std.proofs.lemmas.List.Elements.{All-contains}
 use Rattle.std.proofs.lemmas.Option.{same_Some}
 use Rattle.prefix_keys.specs.Block.{first_of, last_of, width_of}
-use Rattle.prefix_keys.specs.declared.version.Version.{Version}
-use Rattle.pmap_text.specs.MapModel.{Label, MapModel}
+use Rattle.pmap_text.specs.MapModel.{MapModel}
 use Rattle.pmap_text.specs.MapText.{map_of, mapping_of, text_at, Statement}
 use Rattle.pmap_text.specs.Settled.{IsMapOf, IsUnsettled, Settles, divisions}
 use Rattle.pmap_text.specs.Stretches.{AreStretches, HasStretch, LabelId, StretchesModel, first_at, label_at, label_seen, last_at, mappings_of}

@@ -5,7 +5,8 @@ use Rattle.std.specs.Simd.{first_chunks}
 use Rattle.std.specs.Option.{ForSome}
 use Rattle.std.specs.Ordering.{is_eq, nat_cmp, ordering_then}
 use Rattle.std.specs.declared.cmp.Ordering.{Ordering}
-use Rattle.prefix_keys.specs.Text.{address_of, block_of_text, dotted_address, is_digit, is_hex_digit, short_number}
+use Rattle.std.specs.Char.{is_ascii_hexdigit}
+use Rattle.prefix_keys.specs.Text.{address_of, block_of_text, dotted_address, is_digit, decimal_number}
 use Rattle.prefix_keys.specs.declared.addr.Addr.{Addr}
 use Rattle.pmap_text.specs.declared.hashing.KeyHasher.{KeyHasher}
 use Rattle.pmap_text.specs.Label.{is_blank, meant_text}
@@ -40,12 +41,12 @@ finished hasher = folded hasher.state hasher.hashing.seed
 -- Prefixes of a text, for the contracts of private functions. Callers of the crate need not read them.
 
 abbrev pub is_address_byte : ℕ → Bool
-is_address_byte b = is_hex_digit b || (b == 46 || b == 58)
+is_address_byte b = is_ascii_hexdigit b || (b == 46 || b == 58)
 
 pub record BeginsWithNumber (text rest : List ℕ) (limit number : ℕ) : Type 0 where
   pub front : List ℕ
   pub whole : text ≡ front ++ rest
-  pub reads : short_number limit front ≡ Some number
+  pub reads : decimal_number 3 limit front ≡ Some number
 
 pub record BeginsWithDotted (text rest : List ℕ) (number : ℕ) : Type 0 where
   pub front : List ℕ

@@ -1,6 +1,5 @@
 use Rattle.std.specs.Prelude.{◌≡◌, ℕ, zero, suc, ◌^◌, ◌<◌, ◌&&◌, ◌==◌, Bool, List, Option, Some, None, find, nat_lt, option_map, ◌≤◌, ◌↔◌, ◌∷◌, ◌++◌, All, Contains}
 use Rattle.std.specs.Option.{option_or}
-use Rattle.std.specs.List.{IsDistinct}
 use Rattle.prefix_keys.specs.Block.{block_number, width_of}
 use Rattle.prefix_keys.specs.declared.version.Version.{Version}
 use Rattle.pmap_text.specs.MapModel.{Label, MapModel, map_label}
@@ -65,10 +64,6 @@ pub record IsLongestMatch (W : ℕ) (ps : List Prefix) (a : ℕ) (p : Prefix) : 
 -- two entries have the same block
 abbrev pub is_same_prefix : ℕ → Prefix → Prefix → Bool
 is_same_prefix W p r = p.bits == r.bits && block_number W p.bits p.start == block_number W r.bits r.start
-
--- no two entries have the same block
-abbrev pub HasDistinctPrefixes : ℕ → List Prefix → Type 0
-HasDistinctPrefixes W ps = IsDistinct (is_same_prefix W) ps
 
 -- entries with the same block have the same label
 abbrev pub LabelsBlocksOnce : ℕ → List Prefix → Type 0

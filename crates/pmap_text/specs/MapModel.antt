@@ -1,5 +1,5 @@
 use Rattle.std.specs.Prelude.{◌≡◌, ℕ, ◌&&◌, Bool, List, [], ◌∷◌, Option, Some, None, nat_le, if◌then◌else◌}
-use Rattle.std.specs.Option.{option_or}
+use Rattle.std.specs.Option.{option_map_or, option_or}
 use Rattle.prefix_keys.specs.Block.{first_of, last_of, width_of}
 use Rattle.prefix_keys.specs.declared.version.Version.{Version}
 
@@ -32,14 +32,9 @@ last_such p (m ∷ ms) = option_or (last_such p ms) (if p m then Some m else Non
 abbrev pub spans : ℕ → Mapping → Bool
 spans a m = nat_le m.low a && nat_le a m.high
 
--- the label of that mapping, or the default if there is none
-abbrev pub label_or : Option Mapping → Label → Label
-label_or None x = x
-label_or (Some m) x = m.label
-
 -- the label of an address: that of the last mapping that covers it, otherwise the default
 abbrev pub map_label : MapModel → ℕ → Label
-map_label m a = label_or (last_such (spans a) m.mappings) m.fallback
+map_label m a = option_map_or (λ p. p.label) (last_such (spans a) m.mappings) m.fallback
 
 -- among addresses of W bits, the mapping's span covers some address of the block of n bits with the number q
 abbrev pub meets : ℕ → ℕ → ℕ → Mapping → Bool

@@ -1,5 +1,5 @@
 use Rattle.std.specs.Prelude.{ℕ, ◌==◌, ◌-◌, List, [], ◌∷◌, length, take, drop, not, if◌then◌else◌, ◌≡◌, ◌≢◌, ◌≤◌, ◌+◌, ◌&&◌, ◌||◌, Bool, true, ◌++◌, Option, Some, None, Result, Ok, Err, IfErr, IfOk, codes, is_some, nat_le, nat_lt, slice_index, unwrap_or}
-use Rattle.std.specs.List.{before_first, position_or_len, suffix_len, list_all, list_any}
+use Rattle.std.specs.List.{before_first, onto_first, position_or_len, suffix_len, list_all, list_any}
 use Rattle.std.specs.Str.{bytes_eq}
 use Rattle.prefix_keys.specs.Block.{block_number, last_of, width_of}
 use Rattle.prefix_keys.specs.Conversion.{mapped_prefix}
@@ -21,15 +21,10 @@ use Rattle.pmap_text.specs.declared.form.Form.TheVariants as form
 
 -- The lines of a text and the words of a line.
 
--- the byte put before the first line; if there is no line, it forms one
-abbrev pub begin_line : ℕ → List (List ℕ) → List (List ℕ)
-begin_line b [] = (b ∷ []) ∷ []
-begin_line b (line ∷ lines) = (b ∷ line) ∷ lines
-
 -- the lines of a text: it is split at each line feed, and a last piece without a line feed is a line if it isn't empty
 abbrev pub lines_of : List ℕ → List (List ℕ)
 lines_of [] = []
-lines_of (b ∷ bs) = if b == 10 then [] ∷ lines_of bs else begin_line b (lines_of bs)
+lines_of (b ∷ bs) = if b == 10 then [] ∷ lines_of bs else onto_first b (lines_of bs)
 
 -- a text without its leading blanks, and without its trailing blanks
 abbrev pub trim_start : List ℕ → List ℕ
@@ -157,10 +152,9 @@ placed_line form.List earlier version start bits rest =
 -- the number of an address in a text of this version: in an IPv6 text a dotted address represents its IPv4-mapped
 -- address in ::ffff:0:0/96 (RFC 4291 section 2.5.5.2), and an IPv4 text has no colon addresses
 abbrev pub number_in : Version → AddressOf → Result ℕ MapFaultKind
-number_in V4 (V4, value) = Ok value
 number_in V4 (V6, value) = Err WrongVersion
 number_in V6 (V4, value) = Ok (value + mapped_prefix)
-number_in V6 (V6, value) = Ok value
+number_in _ (_, value) = Ok value
 
 -- `BLOCK LABEL`: the length grows with the width of the address
 abbrev pub block_line : Form → Earlier → Result BlockOf BlockFault → List ℕ → Result Earlier MapFaultKind
@@ -244,21 +238,14 @@ map_reading text = text_read form.Map text >>= (λ lines. Ok (map_from lines))
 abbrev pub list_reading : List ℕ → Result ListModel MapFault
 list_reading text = text_read form.List text >>= (λ lines. Ok (list_from lines))
 
--- the text is read as the map, or as the list
-abbrev pub ReadsMap : List ℕ → MapModel → Type 0
-ReadsMap text map = map_reading text ≡ Ok map
-
-abbrev pub ReadsList : List ℕ → ListModel → Type 0
-ReadsList text list = list_reading text ≡ Ok list
-
 -- the result of reading a text as a map, or as a list; a failed allocation is reported with line 0
 pub record ReturnsMap (text : List ℕ) (result : Result MapText MapFault) : Type 0 where
-  pub ok : IfOk result (λ map. ReadsMap text (map_of map))
+  pub ok : IfOk result (λ map. map_reading text ≡ Ok (map_of map))
   pub fault : IfErr result (λ fault. fault.kind ≢ NoMemory → map_reading text ≡ Err fault)
   pub memory : IfErr result (λ fault. fault.kind ≡ NoMemory → fault.line ≡ 0)
 
 pub record ReturnsList (text : List ℕ) (result : Result PrefixList MapFault) : Type 0 where
-  pub ok : IfOk result (λ list. ReadsList text (list_of list))
+  pub ok : IfOk result (λ list. list_reading text ≡ Ok (list_of list))
   pub limit : IfOk result (λ list. length list.entries ≤ 1000000)
   pub fault : IfErr result (λ fault. fault.kind ≢ NoMemory → list_reading text ≡ Err fault)
   pub memory : IfErr result (λ fault. fault.kind ≡ NoMemory → fault.line ≡ 0)

@@ -1,10 +1,12 @@
 //! Laws about maps and prefix lists.
 
+ghost use Rattle.std.specs.Option.{option_map_or};
 ghost use Rattle.std.specs.Prelude.{◌≡◌, ◌<◌, ◌≤◌, ◌^◌, ℕ, Option, Some, None, MatchOption, All, nat_le, if◌then◌else◌};
+ghost use Rattle.std.specs.List.{IsDistinct};
 ghost use Rattle.std.specs.List.Sorted.{IsPermutation};
 ghost use Rattle.prefix_keys.specs.Block.{block_number, first_of, last_of, width_of};
-ghost use Rattle.pmap_text.specs.ListModel.{ListModel, Prefix, list_label, CoversAddress, HasDistinctPrefixes, HasSamePrefixes, IsLongestMatch, LabelsBlocksOnce};
-ghost use Rattle.pmap_text.specs.MapModel.{IsSettled, Label, MapModel, Mapping, label_or, map_label, settled_label};
+ghost use Rattle.pmap_text.specs.ListModel.{ListModel, Prefix, list_label, CoversAddress, HasSamePrefixes, IsLongestMatch, LabelsBlocksOnce, is_same_prefix};
+ghost use Rattle.pmap_text.specs.MapModel.{IsSettled, Label, MapModel, Mapping, map_label, settled_label};
 ghost use Rattle.pmap_text.specs.PrefixList.{list_of, PrefixList};
 ghost use Rattle.pmap_text.specs.Stretches.{HaveAddresses, IsStretch};
 
@@ -22,7 +24,7 @@ pub fn block_is_settled_in_one_stretch()
         IsStretch m first last top → first ≤ first_of (width_of m.version) n q →
         first_of (width_of m.version) n q ≤ last → last_of (width_of m.version) n q < 2 ^ width_of m.version →
         settled_label m n q ≡ (if nat_le (last_of (width_of m.version) n q) last
-        then Some (label_or top m.fallback) else None) }
+        then Some (option_map_or (λ (p : Mapping). p.label) top m.fallback) else None) }
 {}
 
 /// The label that a list gives an address is that of the longest entry that covers it. Of entries with equal blocks the
@@ -38,9 +40,9 @@ pub fn longest_match_counts()
 /// The order of a list's entries is irrelevant if no two entries have the same block, as in each list that is read from
 /// a text, or if entries with the same block have the same label.
 pub fn order_of_entries_is_free()
-    ensures order { (l r : ListModel) → l.version ≡ r.version → HasDistinctPrefixes (width_of l.version) l.prefixes →
-        IsPermutation l.prefixes r.prefixes → (a : ℕ) → list_label l a ≡ list_label r a }
+    ensures order { (l r : ListModel) → l.version ≡ r.version →
+        IsDistinct (is_same_prefix (width_of l.version)) l.prefixes → IsPermutation l.prefixes r.prefixes → (a : ℕ) → list_label l a ≡ list_label r a }
     ensures entries { (l r : ListModel) → l.version ≡ r.version → LabelsBlocksOnce (width_of l.version) l.prefixes →
         HasSamePrefixes l.prefixes r.prefixes → (a : ℕ) → list_label l a ≡ list_label r a }
-    ensures distinct { (l : PrefixList) → HasDistinctPrefixes (width_of l.version) (list_of l).prefixes }
+    ensures distinct { (l : PrefixList) → IsDistinct (is_same_prefix (width_of l.version)) (list_of l).prefixes }
 {}

@@ -6,7 +6,8 @@ use Rattle.std.proofs.lemmas.List.{append_assoc, append-nil, length-append}
 use Rattle.std.proofs.lemmas.List.Folds.{list_all-append}
 use Rattle.std.proofs.lemmas.List.Splits.{slice_split_at, slice_split_none, length-slice_split}
 use Rattle.prefix_keys.specs.Inner.{BeginsWithColon, BeginsWithGroup, BeginsWithSide, behind, is_colon_byte, more_groups}
-use Rattle.prefix_keys.specs.Text.{around_gap, around_address, colon_address, groups_of_pieces, hex_group, hex_value, is_hex_digit, last_groups, side_groups, text_groups, dotted_address}
+use Rattle.std.specs.Char.{is_ascii_hexdigit}
+use Rattle.prefix_keys.specs.Text.{around_gap, around_address, colon_address, groups_of_pieces, hex_group, hex_value, last_groups, side_groups, text_groups, dotted_address}
 use Rattle.prefix_keys.proofs.ColonPieces.{is_colon, groups_of-more, more-next, onto_groups}
 use Rattle.prefix_keys.proofs.Gaps.{address-around}
 use Rattle.prefix_keys.proofs.GroupNumbers.{counted-count, gap-some, whole-some, whole_address}
@@ -15,12 +16,12 @@ use Rattle.prefix_keys.proofs.Printed.{Lacks}
 use Rattle.prefix_keys.proofs.PrintedGaps.{around-piece, behind-behind, behind-nil, colon-begins, skip}
 
 -- a group consists of one or more hexadecimal digits
-pub group-digits : (text : List ℕ) (g : ℕ) → hex_group text ≡ Some g → list_all is_hex_digit text ≡ true
-group-digits text g reads = elim (cases_Bool (list_all is_hex_digit text)) [
+pub group-digits : (text : List ℕ) (g : ℕ) → hex_group text ≡ Some g → list_all is_ascii_hexdigit text ≡ true
+group-digits text g reads = elim (cases_Bool (list_all is_ascii_hexdigit text)) [
   | inl all ↦ all
   | inr some ↦
       let none : hex_group text ≡ None =
-      cond-false (nat_le 1 (length text) && (nat_le (length text) 4 && list_all is_hex_digit text)) (Some (hex_value text)) None
+      cond-false (nat_le 1 (length text) && (nat_le (length text) 4 && list_all is_ascii_hexdigit text)) (Some (hex_value text)) None
       (and_right _ _ (and_right _ _ some)) in
       let no : None ≡ Some g = sym none ∙ reads in absurd cc
 ]
@@ -29,8 +30,8 @@ pub group-some : (text : List ℕ) (g : ℕ) → hex_group text ≡ Some g → 0
 group-some [] g reads = absurd cc
 group-some (b ∷ text) g reads = omega arith
 
-group-lacks : (c : ℕ) → is_hex_digit c ≡ false → (text : List ℕ) (g : ℕ) → hex_group text ≡ Some g → Lacks c text
-group-lacks c other text g reads = none-passes is_hex_digit (λ b. b == c) (apart is_hex_digit c other) text (group-digits text g reads)
+group-lacks : (c : ℕ) → is_ascii_hexdigit c ≡ false → (text : List ℕ) (g : ℕ) → hex_group text ≡ Some g → Lacks c text
+group-lacks c other text g reads = none-passes is_ascii_hexdigit (λ b. b == c) (apart is_ascii_hexdigit c other) text (group-digits text g reads)
 
 -- a group alone, and one before a colon
 pub groups-last : (dotted : Bool) (f : List ℕ) (g : ℕ) → hex_group f ≡ Some g → text_groups dotted f ≡ Some (g ∷ [])
@@ -40,7 +41,7 @@ groups-last dotted f g reads =
     last : (dotted : Bool) → last_groups dotted f ≡ Some (g ∷ [])
     last true =
         cond-false (list_any (λ b. b == 46) f) (option_map (λ value. value / 65536 ∷ value % 65536 ∷ []) (dotted_address f)) (option_map (λ group. group ∷ []) (hex_group f))
-        (lacks is_hex_digit 46 refl f (group-digits f g reads))
+        (lacks is_ascii_hexdigit 46 refl f (group-digits f g reads))
         ∙ ap (option_map (λ group. group ∷ [])) reads
     last false = ap (option_map (λ group. group ∷ [])) reads
 
@@ -70,7 +71,7 @@ read-none text = record {
 }
 
 group-bytes : (f : List ℕ) (g : ℕ) → hex_group f ≡ Some g → list_all is_colon_byte f ≡ true
-group-bytes f g reads = all-weaker is_hex_digit is_colon_byte (λ b digit. rw digit refl) f (group-digits f g reads)
+group-bytes f g reads = all-weaker is_ascii_hexdigit is_colon_byte (λ b digit. rw digit refl) f (group-digits f g reads)
 
 -- a colon put before the front side of a `::`
 colon-front : (sides : Option (List ℕ × List ℕ)) → option_map (λ sides. (58 ∷ sides.0, sides.1)) sides ≡ behind (58 ∷ []) sides

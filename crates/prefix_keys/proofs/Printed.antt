@@ -8,7 +8,8 @@ use Rattle.std.proofs.lemmas.List.Sums.{AllPass-from_list_all, list_all-from_All
 use Rattle.std.proofs.lemmas.List.Splits.{slice_split_none, slice_split_at}
 use Rattle.std.proofs.lemmas.List.{length-append}
 use Rattle.prefix_keys.specs.Print.{joined_text}
-use Rattle.prefix_keys.specs.Text.{is_digit, is_hex_digit, hex_digit_value, hex_value, hex_group, decimal_value, short_number}
+use Rattle.std.specs.Char.{is_ascii_hexdigit}
+use Rattle.prefix_keys.specs.Text.{is_digit, hex_digit_value, hex_value, hex_group, decimal_value, decimal_number}
 use Rattle.prefix_keys.proofs.Digits.{length-digits-le, fold-digits, All-digits, digits_some}
 
 -- Printed numbers, and texts of them separated by a separator.
@@ -25,8 +26,8 @@ tested n test passed d h =
     (AllPass-from_list_all test (range_with_len 0 n) passed)
 
 -- the sixteen digits
-hex_digit : (d : ℕ) → d < 16 → is_hex_digit (digit_glyph false d) ≡ true
-hex_digit = tested 16 (λ d. is_hex_digit (digit_glyph false d)) refl
+hex_digit : (d : ℕ) → d < 16 → is_ascii_hexdigit (digit_glyph false d) ≡ true
+hex_digit = tested 16 (λ d. is_ascii_hexdigit (digit_glyph false d)) refl
 
 hex_value_of : (d : ℕ) → d < 16 → hex_digit_value (digit_glyph false d) ≡ d
 hex_value_of d h = eqb-true _ _ (tested 16 (λ d. hex_digit_value (digit_glyph false d) == d) refl d h)
@@ -44,13 +45,13 @@ hex_group-digits n h =
     let small : n < 2 ^ 63 = omega arith in
     let some : nat_le 1 (length text) ≡ true = le-leb _ _ (omega (arith, digits_some 16 (omega arith) n small)) in
     let short : nat_le (length text) 4 ≡ true = le-leb _ _ (length-digits-le 16 (omega arith) 3 n (omega arith) small) in
-    let all : list_all is_hex_digit text ≡ true =
-    list_all-from_AllPass is_hex_digit text (All-digits 16 (omega arith) (λ b. is_hex_digit b ≡ true) hex_digit n small) in
+    let all : list_all is_ascii_hexdigit text ≡ true =
+    list_all-from_AllPass is_ascii_hexdigit text (All-digits 16 (omega arith) (λ b. is_ascii_hexdigit b ≡ true) hex_digit n small) in
     cond-true _ (Some (hex_value text)) None (and_from _ _ some (and_from _ _ short all))
     ∙ ap (λ m. Some m) (fold-digits 16 (omega arith) hex_digit_value hex_value_of n small)
 
 -- a number of at most three decimal digits is read back
-pub short_number-decimal : (limit n : ℕ) → n ≤ limit → n < 1000 → short_number limit (decimal n) ≡ Some n
+pub short_number-decimal : (limit n : ℕ) → n ≤ limit → n < 1000 → decimal_number 3 limit (decimal n) ≡ Some n
 short_number-decimal limit n within h =
     let text : List ℕ = decimal n in
     let small : n < 2 ^ 63 = omega arith in

@@ -10,7 +10,8 @@ use Rattle.prefix_keys.specs.declared.text.BlockFault.TheVariants.{BadLength}
 use Rattle.std.proofs.Math.Nat.{div-add-mod'}
 use Rattle.std.proofs.lemmas.List.Sums.{position_or_len_is}
 use Rattle.prefix_keys.specs.Print.{address_text, joined_text, dotted_text, address_bytes, address_groups, address_groups_text, longest_run, shortened_text, AddressIsReadBack, BlockIsReadBack, IsZeroRun}
-use Rattle.prefix_keys.specs.Text.{groups_of_pieces, last_groups, text_groups, side_groups, groups_number, gap_address, around_address, colon_address, hex_group, dotted_address, four_pieces, four_bytes, short_number, address_of, block_from}
+use Rattle.prefix_keys.specs.Text.{groups_of_pieces, last_groups, text_groups, side_groups, groups_number, gap_address, around_address, colon_address, hex_group, dotted_address, decimal_number, four_bytes, address_of, block_from}
+use Rattle.prefix_keys.proofs.Pieces.{of_all}
 use Rattle.prefix_keys.proofs.Printed.{Lacks, Lacks-digits, no_colon, no_point, no_slash, split-joined, joined-some, hex_group-digits, short_number-decimal, Lacks-joined}
 use Rattle.prefix_keys.proofs.ColonPieces.{onto_groups}
 use Rattle.prefix_keys.proofs.GroupNumbers.{whole_address}
@@ -135,12 +136,10 @@ dotted_back : (a b c d : ℕ) → All (λ byte. byte < 256) (a ∷ b ∷ c ∷ d
 dotted_back a b c d all =
     let small : All IsGroup (a ∷ b ∷ c ∷ d ∷ []) =
     All-weaker (λ byte. byte < 256) IsGroup (λ byte h. omega arith) (a ∷ b ∷ c ∷ d ∷ []) all in
-    let number : (n : ℕ) → n < 256 → short_number 255 (decimal n) ≡ Some n = λ n h. short_number-decimal 255 n (omega arith) (omega arith) in
-    ap four_pieces (split-joined 10 46 no_point (omega arith) (omega arith) a (b ∷ c ∷ d ∷ []) small)
-    ∙ ap (λ x. four_bytes x (short_number 255 (decimal b)) (short_number 255 (decimal c)) (short_number 255 (decimal d))) (number a (all 0 0 (omega arith)))
-    ∙ ap (λ x. four_bytes (Some a) x (short_number 255 (decimal c)) (short_number 255 (decimal d))) (number b (all 1 0 (omega arith)))
-    ∙ ap (λ x. four_bytes (Some a) (Some b) x (short_number 255 (decimal d))) (number c (all 2 0 (omega arith)))
-    ∙ ap (λ x. four_bytes (Some a) (Some b) (Some c) x) (number d (all 3 0 (omega arith)))
+    let number : (n : ℕ) → n < 256 → decimal_number 3 255 (decimal n) ≡ Some n = λ n h. short_number-decimal 255 n (omega arith) (omega arith) in
+    ap (λ pieces. of_all four_bytes (map (decimal_number 3 255) pieces)) (split-joined 10 46 no_point (omega arith) (omega arith) a (b ∷ c ∷ d ∷ []) small)
+    ∙ ap (of_all four_bytes)
+    (λ i. number a (all 0 0 (omega arith)) i ∷ number b (all 1 0 (omega arith)) i ∷ number c (all 2 0 (omega arith)) i ∷ number d (all 3 0 (omega arith)) i ∷ [])
     ∙ ap (λ n. Some (((n * 256 + b) * 256 + c) * 256 + d)) (first a)
   where
     first : (a : ℕ) → a ≡ 0 * 256 + a

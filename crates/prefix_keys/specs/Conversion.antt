@@ -11,8 +11,7 @@ mapped_prefix = 65535 * 2 ^ 32
 -- the address in the given version, unchanged if it is of that version; none for an IPv6 address that maps no IPv4
 -- address
 abbrev pub converted : Version → AddressOf → Option AddressOf
-converted V4 (V4, value) = Some (V4, value)
 converted V4 (V6, value) =
     if block_number 128 96 value == block_number 128 96 mapped_prefix then Some (V4, value - mapped_prefix) else None
 converted V6 (V4, value) = Some (V6, value + mapped_prefix)
-converted V6 (V6, value) = Some (V6, value)
+converted _ address = Some address

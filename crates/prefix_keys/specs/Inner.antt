@@ -1,6 +1,7 @@
 use Rattle.std.specs.Prelude.{ℕ, ◌+◌, ◌*◌, List, Option, Some, None, fold, length, nat_le, if◌then◌else◌, ◌≡◌, ◌||◌, ◌==◌, Bool, true, ◌++◌, option_map}
 use Rattle.std.specs.List.{list_all}
-use Rattle.prefix_keys.specs.Text.{around_gap, colon_address, hex_group, is_hex_digit, side_groups}
+use Rattle.std.specs.Char.{is_ascii_hexdigit}
+use Rattle.prefix_keys.specs.Text.{around_gap, colon_address, hex_group, side_groups}
 
 -- Steps of the code, for the contracts of private functions. Callers of the crate need not read them.
 
@@ -21,7 +22,7 @@ pub record BeginsWithGroup (text rest : List ℕ) (group : ℕ) : Type 0 where
 
 -- a byte that occurs in groups separated by colons
 abbrev pub is_colon_byte : ℕ → Bool
-is_colon_byte b = is_hex_digit b || b == 58
+is_colon_byte b = is_ascii_hexdigit b || b == 58
 
 -- a text put before the front side of a `::`
 abbrev pub behind : List ℕ → Option (List ℕ × List ℕ) → Option (List ℕ × List ℕ)

@@ -1,4 +1,5 @@
-use Rattle.std.specs.Prelude.{ℕ, ◌+◌, ◌-◌, ◌*◌, ◌/◌, ◌%◌, ◌&&◌, ◌||◌, ◌==◌, Bool, true, false, List, [], ◌∷◌, ◌++◌, Option, Some, None, Result, Err, length, fold, replicate, nat_le, if◌then◌else◌, ok_or, option_and_then, option_map}
+use Rattle.std.specs.Prelude.{ℕ, ◌+◌, ◌-◌, ◌*◌, ◌/◌, ◌%◌, ◌&&◌, ◌==◌, Bool, true, false, List, [], ◌∷◌, ◌++◌, Option, Some, None, Result, Err, length, fold, map, replicate, nat_le, if◌then◌else◌, ok_or, option_and_then, option_map}
+use Rattle.std.specs.Char.{is_ascii_hexdigit}
 use Rattle.std.specs.List.{list_all, list_any, slice_split, before_first, after_first}
 use Rattle.prefix_keys.specs.Block.{block_number, first_of, width_of, Version, V4, V6}
 use Rattle.prefix_keys.specs.declared.text.BlockFault.{BlockFault}
@@ -21,27 +22,20 @@ decimal_number digits limit text =
     then Some (decimal_value text)
     else None
 
--- a number of one to three digits, at most the limit
-abbrev pub short_number : ℕ → List ℕ → Option ℕ
-short_number limit text = decimal_number 3 limit text
+-- the items, if all exist
+abbrev pub all_some : {X : Type 0} → List (Option X) → Option (List X)
+all_some [] = Some []
+all_some (o ∷ os) = option_and_then (λ x. option_map (λ xs. x ∷ xs) (all_some os)) o
 
--- the number of four bytes, the first the highest, if each exists
-abbrev pub four_bytes : Option ℕ → Option ℕ → Option ℕ → Option ℕ → Option ℕ
-four_bytes (Some a) (Some b) (Some c) (Some d) = Some (((a * 256 + b) * 256 + c) * 256 + d)
-four_bytes _ _ _ _ = None
+-- the number of four bytes, the first the highest
+abbrev pub four_bytes : List ℕ → Option ℕ
+four_bytes (a ∷ b ∷ c ∷ d ∷ []) = Some (((a * 256 + b) * 256 + c) * 256 + d)
+four_bytes _ = None
 
--- the number of four pieces, each a number from 0 to 255
-abbrev pub four_pieces : List (List ℕ) → Option ℕ
-four_pieces (a ∷ b ∷ c ∷ d ∷ []) = four_bytes (short_number 255 a) (short_number 255 b) (short_number 255 c) (short_number 255 d)
-four_pieces _ = None
-
--- the IPv4 address of a text in dotted decimal form: four numbers from 0 to 255 separated by points
+-- the IPv4 address of a text in dotted decimal form: four numbers from 0 to 255, of one to three digits each, separated
+-- by points
 abbrev pub dotted_address : List ℕ → Option ℕ
-dotted_address text = four_pieces (slice_split (λ b. b == 46) text)
-
--- a byte from `0` to `9`, from `A` to `F` or from `a` to `f`
-abbrev pub is_hex_digit : ℕ → Bool
-is_hex_digit b = is_digit b || ((nat_le 65 b && nat_le b 70) || (nat_le 97 b && nat_le b 102))
+dotted_address text = option_and_then four_bytes (all_some (map (decimal_number 3 255) (slice_split (λ b. b == 46) text)))
 
 -- the value of one hexadecimal digit
 abbrev pub hex_digit_value : ℕ → ℕ
@@ -51,10 +45,10 @@ hex_digit_value b = if is_digit b then b - 48 else if nat_le b 70 then b - 55 el
 abbrev pub hex_value : List ℕ → ℕ
 hex_value digits = fold (λ n b. n * 16 + hex_digit_value b) 0 digits
 
--- a group of 16 bits: one to four hexadecimal digits
+-- a group of 16 bits: one to four hexadecimal digits in either case
 abbrev pub hex_group : List ℕ → Option ℕ
 hex_group text =
-    if nat_le 1 (length text) && (nat_le (length text) 4 && list_all is_hex_digit text) then Some (hex_value text) else None
+    if nat_le 1 (length text) && (nat_le (length text) 4 && list_all is_ascii_hexdigit text) then Some (hex_value text) else None
 
 -- the groups of the last piece: one group, or two if an IPv4 text is allowed and the piece is one
 abbrev pub last_groups : Bool → List ℕ → Option (List ℕ)
@@ -130,7 +124,7 @@ BlockOf = Version × ℕ × ℕ
 abbrev pub block_from : Option AddressOf → List ℕ → Result BlockOf BlockFault
 block_from (Some (version, value)) text =
     let W = width_of version in
-    ok_or (option_map (λ len. (version, first_of W len (block_number W len value), len)) (short_number W text)) BadLength
+    ok_or (option_map (λ len. (version, first_of W len (block_number W len value), len)) (decimal_number 3 W text)) BadLength
 block_from None text = Err BadAddress
 
 -- the block of a text: an address, a `/` and a length; without a `/` the length is missing

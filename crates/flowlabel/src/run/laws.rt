@@ -1,7 +1,7 @@
 ghost use Rattle.std.specs.Prelude.{◌≡◌, ◌≤◌, ℕ, List, Ok, length};
 ghost use Rattle.pmap_text.specs.ListModel.{ListModel};
 ghost use Rattle.pmap_text.specs.MapModel.{MapModel};
-ghost use Rattle.pmap_text.specs.Reading.{ReadsMap, label_limit, mapping_limit};
+ghost use Rattle.pmap_text.specs.Reading.{label_limit, mapping_limit, map_reading};
 ghost use Rattle.pmap_cert.specs.CertificateModel.{CertificateModel};
 ghost use Rattle.pmap_print.specs.List.{labels_of};
 ghost use Rattle.flowlabel.specs.Headline.{IsHeadline, IsShortest, StandsAgain};
@@ -38,7 +38,7 @@ pub fn one_output()
 /// For each map text, `shrink` prints a shortest list, or its certificate. If the list is within the limits of a text,
 /// its text is read again as the same list, and `check` accepts it with the certificate, compacted or not.
 pub fn shrunk_list_is_least()
-    ensures { (map : Text) (m : MapModel) → ReadsMap map m → (l : ListModel) × (c : CertificateModel)
+    ensures { (map : Text) (m : MapModel) → map_reading map ≡ Ok m → (l : ListModel) × (c : CertificateModel)
         × ((printed : Shrunk) → IsOutput (shrink map printed) (Ok (shrunk_text printed l c)))
         × IsShortest m l c
         × (length l.prefixes ≤ mapping_limit → length (labels_of l.prefixes) ≤ label_limit → StandsAgain map l c) }

@@ -1,5 +1,6 @@
 ghost use Rattle.std.specs.Prelude.{◌≡◌, ◌≤◌, ◌<◌, ◌+◌, ◌*◌, ◌-◌, ◌^◌, IfSome, Some, None, List, [], ◌∷◌, option_map, nat_le, if◌then◌else◌};
-ghost use Rattle.prefix_keys.specs.Text.{is_hex_digit, hex_digit_value, hex_group, last_groups, text_groups, side_groups, around_gap, colon_address};
+ghost use Rattle.std.specs.Char.{is_ascii_hexdigit};
+ghost use Rattle.prefix_keys.specs.Text.{hex_digit_value, hex_group, last_groups, text_groups, side_groups, around_gap, colon_address};
 ghost use Rattle.prefix_keys.specs.Inner.{BeginsWithColon, BeginsWithGroup, BeginsWithSide, more_groups};
 
 use crate::cutting::cut;
@@ -70,7 +71,7 @@ static DIGITS: [u8; 256] = [
 // Returns the value of a hexadecimal digit.
 #[inline(always)]
 fn digit_value(byte: u8) -> Option<u32>
-    ensures value { result ≡ if is_hex_digit byte then Some (hex_digit_value byte) else None }
+    ensures value { result ≡ if is_ascii_hexdigit byte then Some (hex_digit_value byte) else None }
     ensures limited { IfSome result (λ digit. digit < 16) }
 {
     let digit = DIGITS[byte as usize];

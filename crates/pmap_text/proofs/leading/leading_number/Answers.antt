@@ -1,6 +1,6 @@
 use Rattle.std.proofs.Common.{ℕ, ◌≡◌, Some, List, take, sym, subst, arith}
 use Rattle.std.proofs.lemmas.List.{take_rest, take-append-drop}
-use Rattle.prefix_keys.specs.Text.{short_number}
+use Rattle.prefix_keys.specs.Text.{decimal_number}
 use Rattle.pmap_text.specs.Inner.{BeginsWithNumber}
 use Rattle.pmap_text.proofs.LeadingWords.{number-some}
 use Rattle.pmap_text.proofs.leading.leading_number.Goals as goal
@@ -11,7 +11,7 @@ returns-then-number-limit-clause-number c =
     let at : ℕ = c.loop-at.at in
     let number : ℕ = c.loop-at.number in
     let digits = c.loop-at.invariant in
-    let reads : short_number c.args.limit (take at text) ≡ Some number =
+    let reads : decimal_number 3 c.args.limit (take at text) ≡ Some number =
     number-some c.args.limit text at number digits.value digits.digits c.if-at-gt0.true digits.short (omega arith) c.if-number-limit.true in
     subst (λ (rest : List ℕ). BeginsWithNumber text rest c.args.limit number) (sym (take_rest text at))
     (record { front = take at text; whole = sym (take-append-drop at text); reads = reads })

@@ -6,7 +6,7 @@ use Rattle.pmap_text.specs.MapModel.{MapModel}
 use Rattle.pmap_text.specs.MapText.{map_of}
 use Rattle.pmap_text.specs.PrefixList.{list_of}
 use Rattle.pmap_cert.specs.FormatReading.{format_reading}
-use Rattle.pmap_text.specs.Reading.{ReadsList, ReadsMap, list_reading, map_reading}
+use Rattle.pmap_text.specs.Reading.{list_reading, map_reading}
 use Rattle.cert_check.specs.Checking.{first_fault}
 use Rattle.cert_check.specs.declared.fault.CheckFault.{CheckFault}
 use Rattle.flowlabel.specs.BytesFault.{role_of}
@@ -46,14 +46,14 @@ list_behind m texts fault =
 
 module _ {R : Type 0} {left : R → Option (List ℕ)} {failed : R → Bool} where
   then_map : (old : ByFile (Option (Source R))) (none : any_failed failed old ≡ false) (m : MapModel) (mid new : ByFile (Option (Source R))) (text : Vec ℕ)
-      (result : Result (Vec ℕ) OutputFault) → IsReadOf left failed role.Map old mid (Ok text) → ReadsMap text.items m
+      (result : Result (Vec ℕ) OutputFault) → IsReadOf left failed role.Map old mid (Ok text) → map_reading text.items ≡ Ok m
       → ((p : Role) → result ≡ Err (Unread p) → 0 < turn p) → IsMade left failed (OverList m) mid new result → IsMade left failed OverMap old new result
   then_map old none m mid new text result read reads behind =
       then_made old none OverMap (OverList m) role.Map mid new text result (λ texts fault is. omega arith) read
       (λ texts outcome is. rw reads is) (λ texts outcome is. rw reads at is) behind
 
   then_list : (old : ByFile (Option (Source R))) (none : any_failed failed old ≡ false) (m : MapModel) (l : ListModel) (mid new : ByFile (Option (Source R)))
-      (text : Vec ℕ) (result : Result (Vec ℕ) OutputFault) → IsReadOf left failed role.List old mid (Ok text) → ReadsList text.items l
+      (text : Vec ℕ) (result : Result (Vec ℕ) OutputFault) → IsReadOf left failed role.List old mid (Ok text) → list_reading text.items ≡ Ok l
       → ((p : Role) → result ≡ Err (Unread p) → 1 < turn p) → IsMade left failed (OverCertificate m l) mid new result
       → IsMade left failed (OverList m) old new result
   then_list old none m l mid new text result read reads behind =

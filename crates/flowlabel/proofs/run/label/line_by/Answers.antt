@@ -8,7 +8,7 @@ use Rattle.prefix_keys.specs.Block.{width_of}
 use Rattle.prefix_keys.specs.declared.addr.Addr.{Addr}
 use Rattle.prefix_keys.specs.declared.version.Version.{Version}
 use Rattle.pmap_text.specs.MapModel.{Label}
-use Rattle.label_lookup.specs.Labelling.{at_addresses, label_by, labelling}
+use Rattle.label_lookup.specs.Labelling.{label_by, labelling}
 use Rattle.label_lookup.proofs.Labellings.{same_at_addresses}
 use Rattle.flowlabel.proofs.run.label.line_by.Goals as goal
 
@@ -16,7 +16,7 @@ at_place : (v : Version) (f : ℕ → Option Label) (address : AddressOf) (place
     → place.version ≡ v → f place.value ≡ label_by (labelling v f) address
 at_place v f address place is own =
     same_at_addresses v f place.value (subst (λ (w : Version). place.value < 2 ^ width_of w) own place.in_range)
-    ∙ ap (λ (found : Option AddressOf). option_and_then (λ p. at_addresses v f p.1) found) is
+    ∙ ap (λ (found : Option AddressOf). option_and_then (λ p. (labelling v f).label p.1) found) is
 
 pub returns-in-Some : goal.returns-in-Some
 returns-in-Some g c =

@@ -5,7 +5,7 @@ use Rattle.std.specs.Option.{ForSome}
 use Rattle.pmap_text.specs.ListModel.{ListModel}
 use Rattle.pmap_text.specs.MapModel.{MapModel}
 use Rattle.pmap_cert.specs.FormatReading.{format_reading}
-use Rattle.pmap_text.specs.Reading.{ReadsList, ReadsMap, list_reading, map_reading}
+use Rattle.pmap_text.specs.Reading.{list_reading, map_reading}
 use Rattle.pmap_cert.specs.CertificateText.{certificate_text}
 use Rattle.pmap_cert.specs.CertificateModel.{CertificateModel}
 use Rattle.pmap_cert.specs.Compacting.{compact}
@@ -43,7 +43,7 @@ faultless None count out is = (refl, cc)
 faultless (Some fault) count out is = cc
 
 checked_of : (map list certificate : Text) (out : List ℕ) → IsOutput (check map list certificate) (Ok out)
-    → (m : MapModel) × (l : ListModel) × (c : CertificateModel) × ReadsMap map m × ReadsList list l × (format_reading certificate ≡ Ok c)
+    → (m : MapModel) × (l : ListModel) × (c : CertificateModel) × (map_reading map ≡ Ok m) × (list_reading list ≡ Ok l) × (format_reading certificate ≡ Ok c)
     × (first_fault m l c ≡ None) × (out ≡ minimal_text (length l.prefixes))
 checked_of map list certificate out is =
     let (m, map_is, listed) = printed_of InMap (λ m. ListThen (λ l. CertificateThen (Checks m l) certificate) list) (map_reading map) out is in

@@ -6,7 +6,7 @@ use Rattle.pmap_cert.specs.CertificateModel.{CertificateModel}
 use Rattle.pmap_cert.specs.Compacting.{compact}
 use Rattle.cert_check.specs.Checking.{first_fault}
 use Rattle.cert_check.specs.declared.fault.CheckFault.{CheckFault}
-use Rattle.pmap_text.specs.Reading.{ReadsList}
+use Rattle.pmap_text.specs.Reading.{list_reading}
 use Rattle.pmap_print.specs.List.{IsListAgain, list_text}
 use Rattle.pmap_cert.specs.FormatReading.{format_reading}
 use Rattle.flowlabel.specs.Output.{checked, minimal_text}
@@ -44,7 +44,7 @@ returns c map m reads =
           let is : IsListAgain l again = subst (λ (x : ListModel). IsListAgain l x) one is_again in
           record {
             table = again.table;
-            reads = subst (λ (x : ListModel). ReadsList (list_text l) x)
+            reads = subst (λ (x : ListModel). list_reading (list_text l) ≡ Ok x)
                 (λ i. record {
                   version = is.version i;
                   name = is.name i;

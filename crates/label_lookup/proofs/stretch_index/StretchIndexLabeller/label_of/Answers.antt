@@ -2,7 +2,7 @@ use Rattle.std.proofs.Common.{◌≡◌, ◌∙◌, ℕ, ◌^◌, ◌<◌, ap, o
 use Rattle.prefix_keys.specs.Block.{width_of}
 use Rattle.prefix_keys.specs.declared.version.Version.{Version}
 use Rattle.pmap_text.specs.Stretches.{text_held}
-use Rattle.label_lookup.specs.Labelling.{at_addresses, StretchModel}
+use Rattle.label_lookup.specs.Labelling.{StretchModel, labelling}
 use Rattle.label_lookup.proofs.Tops.{label_found, read_begins, read_below, read_ends, read_order}
 use Rattle.label_lookup.proofs.stretch_index.StretchIndexLabeller.label_of.Goals as goal
 
@@ -44,7 +44,7 @@ returns c =
     c.text.ensures.value
     ∙ ap (option_and_then (λ id. slice_get m.table id.0)) (sym c.in_ok-id.was ∙ c.label.ensures)
     ∙ label_found m c.len-count.ensures.every c.args.addr.value c.find-index.result c.find-index.ensures.holds (fits_version _ _ _ same c.args.addr.in_range)
-    ∙ ap (λ (x : StretchModel). at_addresses x.stretches.version (text_held x.table x.stretches) c.args.addr.value) c.self.view_is
+    ∙ ap (λ (x : StretchModel). (labelling x.stretches.version (text_held x.table x.stretches)).label c.args.addr.value) c.self.view_is
 
 pub returns-in_err-id : goal.returns-in_err-id
 returns-in_err-id c =
@@ -53,4 +53,4 @@ returns-in_err-id c =
     ap (option_map (λ t. t.now)) c.from_residual.ensures
     ∙ ap (option_and_then (λ id. slice_get m.table id.0)) (sym c.in_err-id.was ∙ c.label.ensures)
     ∙ label_found m c.len-count.ensures.every c.args.addr.value c.find-index.result c.find-index.ensures.holds (fits_version _ _ _ same c.args.addr.in_range)
-    ∙ ap (λ (x : StretchModel). at_addresses x.stretches.version (text_held x.table x.stretches) c.args.addr.value) c.self.view_is
+    ∙ ap (λ (x : StretchModel). (labelling x.stretches.version (text_held x.table x.stretches)).label c.args.addr.value) c.self.view_is

@@ -1,13 +1,14 @@
 use Rattle.std.proofs.Common.{◌≡◌, ◌≤◌, ◌<◌, ◌^◌, true, take}
 use Rattle.std.specs.List.{list_all}
-use Rattle.prefix_keys.specs.Text.{is_hex_digit, hex_value}
+use Rattle.std.specs.Char.{is_ascii_hexdigit}
+use Rattle.prefix_keys.specs.Text.{hex_value}
 use Rattle.prefix_keys.proofs.text.colon.leading_group.Given as goal
 
 -- the number of the at most four digits so far
 abbrev pub invariant-loop-at : goal.invariant-loop-at
 invariant-loop-at l = record {
   value : l.group ≡ hex_value (take l.at l.text);
-  digits : list_all is_hex_digit (take l.at l.text) ≡ true;
+  digits : list_all is_ascii_hexdigit (take l.at l.text) ≡ true;
   small : l.group < 16 ^ l.at;
   short : l.at ≤ 4;
 }
