@@ -1,15 +1,19 @@
 -- The kind of the node with a number.
-use Rattle.std.proofs.Common.{◌≡◌, ℕ, suc, ◌+◌, ◌*◌, ◌<◌, ◌≤◌, ◌∙◌, inl, inr, List, Option, Some, length, slice_get, get_or, refl, sym, ap, subst, arith}
+use Rattle.std.proofs.Common.{◌≡◌, ℕ, suc, ◌+◌, ◌*◌, ◌<◌, ◌≤◌, ◌∙◌, inl, inr, List, [], Option, Some, length, slice_get, get_or, refl, sym, ap, subst, arith}
 use Rattle.std.specs.Option.{ForSome}
 use Rattle.std.proofs.lemmas.Bool.{cases_lt}
+use Rattle.std.proofs.lemmas.List.{append-nil}
 use Rattle.std.proofs.lemmas.Option.{same_Some, slice_get-get_or}
 use Rattle.pmap_text.specs.declared.label.LabelId.{LabelId}
 use Rattle.label_trie.specs.Tree.{IsKindOf, Tree, Tip, Fork, HasNodes, leaves_of, nodes_of, size, top_of, Kind, Divided, Leaf}
 use Rattle.label_trie.specs.Inner.{IsAt, IsTrie, leaf_node, tree_of, Node, Inner}
 use Rattle.label_trie.specs.TrieModel.{NodeModel}
-use Rattle.label_trie.proofs.Encoded.{leaf_is_not_inner, leaf_tree, length_nodes, size_leaves, size_pos}
+use Rattle.label_trie.proofs.Encoded.{leaf_is_not_inner, leaf_tree, length_nodes, nodes_at, size_leaves, size_pos}
 use Rattle.label_trie.proofs.NodeLeaves.{length_leaves}
-use Rattle.label_trie.proofs.Places.{whole_nodes}
+
+-- the nodes of a tree are in their own list
+whole_nodes : (t : Tree) → HasNodes (nodes_of t 0 0) 0 t 0 0
+whole_nodes t = subst (λ (nodes : List NodeModel). HasNodes nodes 0 t 0 0) (append-nil (nodes_of t 0 0)) (nodes_at [] t 0 0 [] 0 refl)
 
 -- the tree whose first node has the number
 record HasTree (nodes : List Node) (models : List NodeModel) (number : ℕ) : Type 0 where

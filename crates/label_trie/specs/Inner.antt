@@ -8,8 +8,7 @@ use Rattle.pmap_text.specs.Stretches.{AreStretches, StretchesModel}
 use Rattle.pmap_text.specs.Windows.{number_at}
 use Rattle.pmap_text.specs.declared.window.Window.{Window}
 use Rattle.pmap_text.specs.declared.statement.Statement.{Statement}
-use Rattle.label_trie.specs.TrieModel.{number_of}
-use Rattle.label_trie.specs.Tree.{Tree, Tip, Fork, size, nodes_of, HasNodes, HasRoom, Fits, IsLabelled, leaf_count}
+use Rattle.label_trie.specs.Tree.{Tree, Tip, Fork, size, HasRoom, Fits, IsLabelled, leaf_count}
 pub use Rattle.label_trie.specs.declared.node.Node.{Node}
 pub use Rattle.label_trie.specs.declared.node.Node.TheVariants.{Inner, Labelled, Unlabelled}
 
@@ -60,7 +59,6 @@ pub record IsPlace (nodes : List Node) (at : ℕ) (block : Block) : Type 0 where
   pub here : IsAt nodes at (tree_at nodes at)
   pub small : size (tree_at nodes at) ≤ length nodes
   pub room : HasRoom (tree_at nodes at) (width_of block.version - block.len)
-  pub known : HasNodes (nodes_of (tree_of nodes) 0 0) at (tree_at nodes at) block.len (number_of block)
 
 -- How the stretches of statements divide a block.
 

@@ -73,14 +73,8 @@ abbrev pub model_of : Leaf → LeafModel
 model_of leaf =
     record { bits = leaf.block.len; number = number_of leaf.block; label = option_map (λ id. id.0) leaf.label }
 
--- A cursor in a trie as contracts see it: the block of its node, the leaves at and below the node in ascending order,
--- the number of the node, and the nodes of the trie in the order of their numbers.
+-- A cursor in a trie as contracts see it: the block of its node, and the leaves at and below the node in ascending
+-- order.
 pub record CursorModel : Type 0 where
   pub block : Block
   pub leaves : List LeafModel
-  pub number : ℕ
-  pub nodes : List NodeModel
-
-abbrev pub IsNode : CursorModel → Type 0
-IsNode c = slice_get c.nodes c.number
-    ≡ Some (record { bits = c.block.len; number = number_of c.block; leaves = c.leaves })

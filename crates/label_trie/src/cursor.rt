@@ -1,16 +1,15 @@
 ghost use Rattle.std.specs.Prelude.{◌≡◌, ◌+◌};
 ghost use Rattle.prefix_keys.specs.Block.{first_of, last_of, width_of};
-ghost use Rattle.label_trie.specs.TrieModel.{IsNode, number_of, IsCut};
-ghost use Rattle.label_trie.specs.Inner.{IsPlace, tree_at, tree_of};
-ghost use Rattle.label_trie.specs.Tree.{leaves_of, nodes_of};
+ghost use Rattle.label_trie.specs.TrieModel.{number_of, IsCut};
+ghost use Rattle.label_trie.specs.Inner.{IsPlace, tree_at};
+ghost use Rattle.label_trie.specs.Tree.{leaves_of};
 
 use crate::node::Node;
 use pmap_text::LabelId;
 use prefix_keys::Block;
 use std::marker::Model;
 
-/// A cursor at a node of a trie: a divided block or a leaf. A walk starts at `Trie::root`, or at any node with
-/// `Trie::node`.
+/// A cursor at a node of a trie: a divided block or a leaf. A walk starts at `Trie::root`.
 #[derive(Drop)]
 pub struct Cursor<'a> {
     nodes: &'a [Node],
@@ -25,14 +24,12 @@ impl<'a> Model for Cursor<'a> {
 
     ghost Value = { CursorModel };
 
-    ghost use Rattle.label_trie.specs.Inner.{IsPlace, tree_at, tree_of};
-    ghost use Rattle.label_trie.specs.Tree.{leaves_of, nodes_of};
+    ghost use Rattle.label_trie.specs.Inner.{IsPlace, tree_at};
+    ghost use Rattle.label_trie.specs.Tree.{leaves_of};
 
     ghost view = { λ c. record {
       block = c.block;
       leaves = leaves_of (tree_at c.nodes.now c.number) c.block.len (number_of c.block);
-      number = c.number;
-      nodes = nodes_of (tree_of c.nodes.now) 0 0;
     } };
 
     ghost invariant = { λ c. IsPlace c.nodes.now c.number c.block };
@@ -50,8 +47,6 @@ pub fn cursor_at<'a>(nodes: &'a [Node], number: u32, block: Block) -> Cursor<'a>
     requires { IsPlace nodes.now number block }
     ensures block { result.block ≡ block }
     ensures leaves { result.leaves ≡ leaves_of (tree_at nodes.now number) block.len (number_of block) }
-    ensures number { result.number ≡ number }
-    ensures nodes { result.nodes ≡ nodes_of (tree_of nodes.now) 0 0 }
 {
     Cursor {
         nodes,
@@ -69,15 +64,6 @@ impl Cursor<'_> {
             IsCut W (first_of W result.len number) (last_of W result.len number + 1) self.now.leaves }
     {
         self.block
-    }
-
-    /// Returns the number of the node, which is below `Trie::node_count`. No two nodes of a trie share a number. The
-    /// root has number 0, and the halves of a block have greater numbers than the block.
-    pub fn number(&self) -> u32
-        ensures value { result ≡ self.now.number }
-        ensures node { IsNode self.now }
-    {
-        self.number
     }
 }
 

@@ -27,7 +27,6 @@ mod growing;
 mod kind;
 mod laws;
 mod leaf;
-mod leaves;
 mod node;
 mod trie;
 
@@ -35,5 +34,4 @@ pub use cursor::{Cursor, Parts};
 pub use kind::Kind;
 pub use laws::{labelling_has_its_runs, runs_cover_each_address_once};
 pub use leaf::Leaf;
-pub use leaves::Leaves;
 pub use trie::Trie;

@@ -16,7 +16,6 @@ use crate::cursor::{Cursor, Parts, cursor_at};
 use crate::growing::push_block;
 use crate::kind::Kind;
 use crate::leaf::Leaf;
-use crate::leaves::Leaves;
 use crate::node::Node;
 use pmap_text::{LabelId, MapText, PrefixList, Stretches, Window};
 use prefix_keys::{Addr, Version, whole_space};
@@ -121,11 +120,11 @@ impl Trie {
     }
 
     /// Returns the leaves in ascending order of their blocks.
-    pub fn leaves(&self, alloc: Global) -> Result<Leaves, AllocError>
-        ensures version { IfOk result (All (λ leaf. leaf.block.version ≡ self.now.version)) }
-        ensures leaves { IfOk result (λ leaves. map model_of leaves ≡ self.now.leaves) }
+    pub fn leaves(&self, alloc: Global) -> Result<Vec<Leaf>, AllocError>
+        ensures version { IfOk result (λ leaves. All (λ leaf. leaf.block.version ≡ self.now.version) leaves.items) }
+        ensures leaves { IfOk result (λ leaves. map model_of leaves.items ≡ self.now.leaves) }
     {
-        let mut leaves = Leaves::new(alloc);
+        let mut leaves = Vec::new(alloc);
         push_leaves(&mut leaves, &self.root())?;
         Ok(leaves)
     }
@@ -136,30 +135,8 @@ impl Trie {
         ensures value { result.block.value ≡ 0 }
         ensures len { result.block.len ≡ 0 }
         ensures leaves { result.leaves ≡ self.now.leaves }
-        ensures number { result.number ≡ 0 }
-        ensures nodes { result.nodes ≡ self.now.nodes }
     {
         cursor_at(self.nodes.as_slice(), 0, whole_space(self.version))
-    }
-
-    /// Returns a cursor at the node with this number, which must be below `node_count`. The cursor descends from the
-    /// root, one step for each bit of the block's length.
-    pub fn node(&self, number: u32) -> Cursor
-        requires { number < length self.now.nodes }
-        ensures version { result.block.version ≡ self.now.version }
-        ensures number { result.number ≡ number }
-        ensures nodes { result.nodes ≡ self.now.nodes }
-    {
-        // For the proof: the number of nodes is one less than twice the number of leaves.
-        let _count = self.node_count();
-        let mut place = self.root();
-        while place.number() < number {
-            let Parts::Inner(low, high) = place.parts() else {
-                unreachable!()
-            };
-            place = if number < high.number() { low } else { high };
-        }
-        place
     }
 }
 
@@ -200,19 +177,20 @@ fn label_from_root(nodes: &[Node], addr: Addr) -> Option<LabelId>
 }
 
 // Appends the leaves at and below the node. If an allocation fails, some of them may have been appended.
-fn push_leaves(leaves: &mut Leaves, place: &Cursor) -> Result<(), AllocError>
-    ensures version { OnOk result (All (λ leaf. leaf.block.version ≡ place.now.block.version) leaves.old
-        → All (λ leaf. leaf.block.version ≡ place.now.block.version) leaves.new) }
-    ensures leaves { OnOk result (map model_of leaves.new ≡ map model_of leaves.old ++ place.now.leaves) }
+fn push_leaves(leaves: &mut Vec<Leaf>, place: &Cursor) -> Result<(), AllocError>
+    ensures version { OnOk result (All (λ leaf. leaf.block.version ≡ place.now.block.version) leaves.old.items
+        → All (λ leaf. leaf.block.version ≡ place.now.block.version) leaves.new.items) }
+    ensures leaves { OnOk result (map model_of leaves.new.items ≡ map model_of leaves.old.items ++ place.now.leaves) }
 {
     match place.parts() {
         Parts::Leaf(label) => leaves.push(Leaf {
             block: place.block(),
             label,
-        }),
+        })?,
         Parts::Inner(low, high) => {
             push_leaves(leaves, &low)?;
-            push_leaves(leaves, &high)
+            push_leaves(leaves, &high)?;
         }
     }
+    Ok(())
 }

@@ -50,5 +50,4 @@ returns-in-Some c =
     let upper = c.cursor_at-in-Inner.ensures in
     rw (← c.self.view_is)
     (place_divided nodes at c.in-Inner.high_number block c.cursor_at.result c.cursor_at-in-Inner.result inner
-    (rw lower.block low_half) (rw upper.block high_half) (rw lower.block lower.leaves) (rw upper.block upper.leaves)
-    lower.number upper.number lower.nodes upper.nodes)
+    (rw lower.block low_half) (rw upper.block high_half) (rw lower.block lower.leaves) (rw upper.block upper.leaves))
