@@ -3,13 +3,13 @@ use Rattle.std.proofs.Common.{◌≡◌, ◌∙◌, ℕ, ◌+◌, ◌<◌, List,
 use Rattle.std.specs.Io.KnownBytes.{Consumes}
 use Rattle.std.specs.Result.{result_map_both}
 use Rattle.std.proofs.KnownBytes.{Consumes-nil, Consumes-trans}
-use Rattle.std.proofs.lemmas.List.{flat_map_more, length_push}
+use Rattle.std.proofs.lemmas.List.{length_push}
 use Rattle.ipfix_read.specs.Message.{ReadFault, ReadFaultKind, MessageView, HasHeader, events_of_message, message_next, whole_reading}
-use Rattle.ipfix_read.specs.Messages.{Going, Ended, Failed, ProgressView, AnswersNext, Gathers, IsIncomplete, ReadsInput, events_of_messages, file_reading}
+use Rattle.ipfix_read.specs.Messages.{Going, Ended, Failed, ProgressView, AnswersNext, Gathers, IsIncomplete, ReadsInput, file_reading}
 use Rattle.ipfix_read.specs.Set.{ReadsUnder}
-use Rattle.ipfix_templates.specs.declared.event.TemplateEvent.{TemplateEvent}
-use Rattle.ipfix_templates.specs.InForce.{in_force, Follows, Table}
+use Rattle.ipfix_templates.specs.InForce.{Table, in_force, no_templates, template_at}
 use Rattle.ipfix_read.specs.Laws.{CallsJoinFile, CallsStart}
+use Rattle.ipfix_read.proofs.Sets.{in_force_more, none_in_force}
 use Rattle.ipfix_read.proofs.Readings.{front_read, message_cut, messages_end, messages_fault, messages_more, stops_after}
 
 -- The results, by the parts of the state between two calls, which are the view of the old state.
@@ -29,34 +29,36 @@ module _ {view old : ProgressView} (same : view ≡ old) (o n : Option (List ℕ
         refl,
         elim there [
           | inl unread ↦ let e = unread.0 in inr (inl (λ i. record { kind = e i; offset = view.offset }, unread.1))
-          | inr found ↦ inr (inr (found.0, found.1, λ history follows. message_cut history view.count view.offset (taken ++ left) kind found.2))
+          | inr found ↦ inr (inr (found.0, found.1, message_cut (template_at view.table) view.count view.offset (taken ++ left) kind found.2))
         ],
       ))
 
   module _ (front : List ℕ) (is : ReadsInput o n (Gathers view.count (Ok (Some front)))) (counted : view.count < 4294967295) (header : HasHeader front) where
     -- the message that was gathered, whatever follows it
-    there_read : (taken rest : List ℕ) (history : List (ℕ × TemplateEvent)) → front ≡ taken
-        → message_next history view.count view.offset (taken ++ rest) ≡ result_map_both (λ m. (m, rest)) (λ fault. fault) (whole_reading history view.offset front)
-    there_read taken rest history there =
-        ap (λ (l : List ℕ). message_next history view.count view.offset (l ++ rest)) (sym there) ∙ front_read history view.count view.offset front rest counted header
+    there_read : (taken rest : List ℕ) → front ≡ taken
+        → message_next (template_at view.table) view.count view.offset (taken ++ rest) ≡ result_map_both (λ m. (m, rest)) (λ fault. fault) (whole_reading (template_at view.table) view.offset front)
+    there_read taken rest there =
+        ap (λ (l : List ℕ). message_next (template_at view.table) view.count view.offset (l ++ rest)) (sym there)
+        ∙ front_read (template_at view.table) view.count view.offset front rest counted header
 
     -- a fault of the sets, or a failed allocation
-    pub answers_fault_of_sets : (fault : ReadFault) (table : Table) → ReadsUnder view.table table events_of_message (λ history. whole_reading history view.offset front) (Err fault)
+    pub answers_fault_of_sets : (fault : ReadFault) (table : Table) → ReadsUnder view.table table events_of_message (whole_reading (template_at view.table) view.offset front) (Err fault)
         → ReadsInput o n (AnswersNext old (Err fault) (record view { state = Failed }))
     answers_fault_of_sets fault table refused =
         by_taken (Ok (Some front)) (Err fault) (record view { state = Failed }) is (λ taken left there. (
           refl,
           elim refused.1 [
             | inl memory ↦ inl memory
-            | inr found ↦ inr (inr (refused.0, omega (arith, ap length there, header.least), λ history follows. there_read taken left history there ∙ rw (found history follows) refl))
+            | inr found ↦ inr (inr (refused.0, omega (arith, ap length there, header.least), there_read taken left there ∙ rw found refl))
           ],
         ))
 
-    pub answers_message : (new : ProgressView) (m : MessageView) → ReadsUnder view.table new.table events_of_message (λ history. whole_reading history view.offset front) (Ok m)
+    pub answers_message : (new : ProgressView) (m : MessageView) → ReadsUnder view.table new.table events_of_message (whole_reading (template_at view.table) view.offset front) (Ok m)
         → new.offset ≡ view.offset + length front → new.count ≡ view.count + 1 → new.state ≡ Going → ReadsInput o n (AnswersNext old (Ok (Some m)) new)
     answers_message new m read offset count state =
         by_taken (Ok (Some front)) (Ok (Some m)) new is (λ taken left there. (
-          (λ history follows. ((λ rest. there_read taken rest history there ∙ rw (read history follows).0 refl), (read history follows).1)),
+          (λ rest. there_read taken rest there ∙ rw read.0 refl),
+          read.1,
           offset ∙ ap (λ (l : List ℕ). view.offset + length l) there,
           count,
           state,
@@ -64,12 +66,8 @@ module _ {view old : ProgressView} (same : view ≡ old) (o n : Option (List ℕ
 
 -- ---- calls for messages join to the whole File
 
-nothing_follows : Follows ([], []) []
-unfolding in_force
-nothing_follows domain id = refl
-
 pub calls_start : CallsStart
-calls_start given = record { taken = []; consumed = Consumes-nil given; read = λ rest. refl; follows = nothing_follows; counted = refl; placed = refl }
+calls_start given = record { taken = []; consumed = Consumes-nil given; read = λ rest. refl; table = sym (none_in_force no_templates); counted = refl; placed = refl }
 
 -- all bytes that the reader gives, if it reports them
 all_bytes : (given now gives : Option (List ℕ)) (bytes taken : List ℕ) → Consumes given now bytes → Consumes now gives taken → IfSome given (λ all. bytes ++ (taken ++ unwrap_or gives []) ≡ all)
@@ -80,18 +78,16 @@ all_bytes (Some all) (Some left) (Some rest) bytes taken first second = sym (fir
 
 pub calls_join_file : CallsJoinFile
 calls_join_file given now gives messages old new (Ok (Some m)) so_far (taken, consumed, a) =
-    let is = a.0 (events_of_messages messages) so_far.follows in
     record {
       taken = so_far.taken ++ taken;
       consumed = Consumes-trans _ _ _ _ _ so_far.consumed consumed;
       read = λ rest.
           ap file_reading (append_assoc so_far.taken taken rest) ∙ so_far.read (taken ++ rest)
-          ∙ messages_more messages old.offset (taken ++ rest) m rest new.offset
-          (subst (λ (n : ℕ). message_next (events_of_messages messages) n old.offset (taken ++ rest) ≡ Ok (m, rest)) so_far.counted (is.0 rest))
-          (omega (arith, a.1, length-append taken rest));
-      follows = subst (Follows new.table) (flat_map_more events_of_message [] messages m) is.1;
-      counted = omega (arith, a.2, so_far.counted, length_push messages m);
-      placed = omega (arith, a.1, so_far.placed, length-append so_far.taken taken);
+          ∙ messages_more messages _ so_far.table _ so_far.counted old.offset (taken ++ rest) m rest new.offset (a.0 rest)
+          (omega (arith, a.2, length-append taken rest));
+      table = a.1 ∙ ap (λ templates. in_force templates (events_of_message m)) so_far.table ∙ in_force_more events_of_message no_templates messages m;
+      counted = omega (arith, a.3, so_far.counted, length_push messages m);
+      placed = omega (arith, a.2, so_far.placed, length-append so_far.taken taken);
     }
 calls_join_file given now gives messages old new (Ok None) so_far (taken, consumed, a) =
     let left = taken ++ unwrap_or gives [] in
@@ -106,11 +102,10 @@ calls_join_file given now gives messages old new (Err fault) so_far (taken, cons
           inr (inl (so_far.taken ++ taken, Consumes-trans _ _ _ _ _ so_far.consumed consumed, rw (so_far.read taken) stops))
       | inr (inr found) ↦
           let left = taken ++ unwrap_or gives [] in
-          let here = subst (λ (n : ℕ). message_next (events_of_messages messages) n old.offset left ≡ Err fault) so_far.counted (found.2 (events_of_messages messages) so_far.follows) in
           inr (inr (
             found.0,
             so_far.taken ++ left,
             all_bytes _ _ _ _ _ so_far.consumed consumed,
-            so_far.read left ∙ messages_fault messages old.offset left fault (omega (arith, found.1, length-append taken (unwrap_or gives []))) here,
+            so_far.read left ∙ messages_fault messages _ so_far.table _ so_far.counted old.offset left fault (omega (arith, found.1, length-append taken (unwrap_or gives []))) found.2,
           ))
     ]

@@ -1,30 +1,48 @@
 -- The content of a set, and consecutive sets.
-use Rattle.std.proofs.Common.{◌≡◌, ℕ, ◌+◌, ◌<◌, List, [], ◌∷◌, ◌++◌, length, get_or, take, sym, ap, ◌∙◌, append_assoc, ◌-◌, ◌≤◌, true, false, eqb, ltb, drop, refl, subst, inl, inr, arith, length-drop, Some, Result, Ok, Err}
-use Rattle.std.specs.Prelude.{◌==◌, ◌||◌}
+use Rattle.std.proofs.Common.{◌≡◌, ℕ, ◌+◌, ◌<◌, List, [], ◌∷◌, ◌++◌, length, get_or, take, sym, ap, ◌∙◌, ◌-◌, ◌≤◌, true, false, eqb, ltb, drop, refl, subst, inl, inr, arith, length-drop, Result, Ok, Err}
+use Rattle.std.specs.Prelude.{◌==◌, ◌||◌, flat_map}
 use Rattle.std.specs.Result.{result_map_both}
 use Rattle.std.proofs.lemmas.Bool.{le-ltb}
 use Rattle.std.proofs.lemmas.Bool.Decides.{nat_tests}
 use Rattle.std.proofs.lemmas.Grind.{common_steps}
-use Rattle.std.proofs.lemmas.List.{map_push, take_more, append-nil, take_all, get_or-take, get_or-drop}
-use Rattle.std.proofs.lemmas.List.Sums.{sum_by-append, sum_by-cons}
+use Rattle.std.proofs.lemmas.List.{flat_map_more, map_push, take_more, take_all, get_or-take, get_or-drop}
+use Rattle.std.proofs.lemmas.List.Sums.{fold-append, sum_by-append, sum_by-cons}
 use Rattle.byteorder.specs.Endian.{big_number}
+use Rattle.ipfix_templates.specs.Reading.{IsFault, items_from}
 use Rattle.ipfix_templates.specs.declared.event.TemplateEvent.{TemplateEvent}
-use Rattle.ipfix_templates.specs.declared.kind.Kind.{Kind}
-use Rattle.ipfix_templates.specs.Reading.{items_from, template_set_reading}
-use Rattle.ipfix_templates.specs.InForce.{Follows, Table}
+use Rattle.ipfix_templates.specs.InForce.{InForce, after_event, in_force}
 use Rattle.ipfix_templates.proofs.Choice.{chosen}
 use Rattle.ipfix_templates.proofs.Reading.{at_end, at_fault, at_item}
-use Rattle.ipfix_read.specs.Fault.{BadSetLength}
-use Rattle.ipfix_read.specs.Set.{Set, Templates, in_domain, in_file, events_of_sets, template_kind, content_reading, written_length, set_next}
+use Rattle.ipfix_read.specs.Fault.{BadSetLength, is_of_calls, out_of_memory}
+use Rattle.ipfix_read.specs.Set.{Set, in_domain, events_of_sets, content_reading, written_length, set_next}
 use Rattle.ipfix_read.specs.Message.{ReadFault, set_size, message_size}
 
--- a history with one more event
-pub in_domain_more : (history : List (ℕ × TemplateEvent)) (domain : ℕ) (events : List TemplateEvent) (i : ℕ) (d : TemplateEvent) → i < length events
-    → (history ++ in_domain domain (take i events)) ++ (domain, get_or events i d) ∷ [] ≡ history ++ in_domain domain (take (i + 1) events)
-in_domain_more history domain events i d lt =
+-- the templates in force after more events, and after those of one more item
+in_force-append : (before : InForce) (xs ys : List (ℕ × TemplateEvent)) → in_force before (xs ++ ys) ≡ in_force (in_force before xs) ys
+unfolding in_force
+in_force-append before xs ys = fold-append after_event before xs ys
+
+pub in_force_more : {A : Type 0} (events : A → List (ℕ × TemplateEvent)) (before : InForce) (items : List A) (item : A)
+    → in_force (in_force before (flat_map events items)) (events item) ≡ in_force before (flat_map events (items ++ item ∷ []))
+in_force_more events before items item = sym (in_force-append before (flat_map events items) (events item)) ∙ ap (in_force before) (flat_map_more events [] items item)
+
+pub none_in_force : (before : InForce) → in_force before [] ≡ before
+unfolding in_force
+none_in_force before = refl
+
+pub one_in_force : (before : InForce) (domain : ℕ) (events : List TemplateEvent) (i : ℕ) (d : TemplateEvent) → i < length events
+    → after_event (in_force before (in_domain domain (take i events))) (domain, get_or events i d) ≡ in_force before (in_domain domain (take (i + 1) events))
+unfolding in_force
+one_in_force before domain events i d lt =
     let more : in_domain domain (take (i + 1) events) ≡ in_domain domain (take i events) ++ (domain, get_or events i d) ∷ [] =
     ap (in_domain domain) (take_more events i d lt) ∙ map_push (λ (event : TemplateEvent). (domain, event)) (take i events) (get_or events i d) in
-    append_assoc history (in_domain domain (take i events)) ((domain, get_or events i d) ∷ []) ∙ ap (λ (es : List (ℕ × TemplateEvent)). history ++ es) (sym more)
+    sym (ap (in_force before) more ∙ in_force-append before (in_domain domain (take i events)) ((domain, get_or events i d) ∷ []))
+
+-- a fault of a part is one of the whole
+pub fault_kept : {A B : Type 0} (part : Result A ReadFault) (whole : Result B ReadFault) (fault : ReadFault) → (part ≡ Err fault → whole ≡ Err fault)
+    → (is_of_calls fault.kind ≡ false) × IsFault out_of_memory part fault → (is_of_calls fault.kind ≡ false) × IsFault out_of_memory whole fault
+fault_kept part whole fault step (calls, inl memory) = (calls, inl memory)
+fault_kept part whole fault step (calls, inr found) = (calls, inr (step found))
 
 -- bytes that are not empty
 pub not_empty : (xs : List ℕ) → eqb (length xs) 0 ≡ false → 0 < length xs
@@ -48,66 +66,60 @@ pub result_mapped : {A B F : Type 0} (r : Result A F) (f : A → B) (y : B) → 
 result_mapped (Ok x) f y e = (x, refl, cc)
 result_mapped (Err fault) f y e = absurd (cc)
 
-pub same_history : (table : Table) (history : List (ℕ × TemplateEvent)) → Follows table history → Follows table (history ++ [])
-same_history table history follows = subst (λ (h : List (ℕ × TemplateEvent)). Follows table h) (sym (append-nil history)) follows
-
--- ---- the content of a set
-
-module _ (history : List (ℕ × TemplateEvent)) (domain id offset : ℕ) (bytes : List ℕ) where
-  pub templates_read : (kind : Kind) → template_kind id ≡ Some kind
-      → content_reading history domain id offset bytes ≡ result_map_both (Templates kind) (in_file offset) (template_set_reading kind bytes)
-  templates_read kind is = rw is refl
-
 -- ---- a set
 
 fits : (many size : ℕ) → (ltb many 4 || (ltb size 4 || ltb many size)) ≡ false → (4 ≤ size) × (size ≤ many)
 fits many size e = (grind (arith, nat_tests, common_steps), grind (arith, nat_tests, common_steps))
 
-module _ (history : List (ℕ × TemplateEvent)) (domain offset : ℕ) (bytes : List ℕ) where
+module _ (templates : InForce) (domain offset : ℕ) (bytes : List ℕ) where
   -- the length in the header cuts off a set
   pub set_read : (size id : ℕ) (front after : List ℕ) (read : Result Set ReadFault) → size ≡ written_length bytes → 4 ≤ length bytes → 4 ≤ size → size ≤ length bytes
       → front ≡ take size bytes → after ≡ drop size bytes → id ≡ big_number 2 bytes
-      → content_reading history domain id (offset + 4) (take (length front - 4) (drop 4 front)) ≡ read
-      → set_next history domain offset bytes ≡ result_map_both (λ set. (set, after)) (λ fault. fault) read
+      → content_reading templates domain id (offset + 4) (take (length front - 4) (drop 4 front)) ≡ read
+      → set_next templates domain offset bytes ≡ result_map_both (λ set. (set, after)) (λ fault. fault) read
   set_read size id front after read is long least within front_is after_is id_is e =
       let content : drop 4 (take (written_length bytes) bytes) ≡ take (length front - 4) (drop 4 front) =
       ap (λ (n : ℕ). drop 4 (take n bytes)) (sym is) ∙ ap (drop 4) (sym front_is) ∙ sym (from_place 4 front) in
-      let there : content_reading history domain (big_number 2 bytes) (offset + 4) (drop 4 (take (written_length bytes) bytes)) ≡ read =
-      ap (λ (n : ℕ). content_reading history domain n (offset + 4) (drop 4 (take (written_length bytes) bytes))) (sym id_is)
-      ∙ ap (λ (xs : List ℕ). content_reading history domain id (offset + 4) xs) content ∙ e in
+      let there : content_reading templates domain (big_number 2 bytes) (offset + 4) (drop 4 (take (written_length bytes) bytes)) ≡ read =
+      ap (λ (n : ℕ). content_reading templates domain n (offset + 4) (drop 4 (take (written_length bytes) bytes))) (sym id_is)
+      ∙ ap (λ (xs : List ℕ). content_reading templates domain id (offset + 4) xs) content ∙ e in
       let behind : after ≡ drop (written_length bytes) bytes = after_is ∙ ap (λ (n : ℕ). drop n bytes) is in
       rw (le-ltb (length bytes) 4 long, le-ltb (written_length bytes) 4 (omega (arith, is, least)), le-ltb (length bytes) (written_length bytes) (omega (arith, is, within)), there, behind) refl
 
-set_smaller : (history : List (ℕ × TemplateEvent)) (domain offset : ℕ) (bytes : List ℕ) (set : Set) (after : List ℕ) → set_next history domain offset bytes ≡ Ok (set, after) → length after < length bytes
-set_smaller history domain offset bytes set after e =
+set_smaller : (templates : InForce) (domain offset : ℕ) (bytes : List ℕ) (set : Set) (after : List ℕ) → set_next templates domain offset bytes ≡ Ok (set, after) → length after < length bytes
+set_smaller templates domain offset bytes set after e =
     let size = written_length bytes in
     elim (chosen (ltb (length bytes) 4 || (ltb size 4 || ltb (length bytes) size)) (Err (record { kind = BadSetLength; offset = offset })) _ (Ok (set, after)) e) [
       | inl p ↦ absurd (cc)
       | inr p ↦
-          let read = result_mapped (content_reading history domain (big_number 2 bytes) (offset + 4) (drop 4 (take size bytes))) (λ (s : Set). (s, drop size bytes)) (set, after) p.1 in
+          let read = result_mapped (content_reading templates domain (big_number 2 bytes) (offset + 4) (drop 4 (take size bytes))) (λ (s : Set). (s, drop size bytes)) (set, after) p.1 in
           omega (arith, fits (length bytes) size p.0, ap (λ (x : Set × List ℕ). length x.1) read.2, length-drop size bytes)
     ]
 
 -- ---- several sets
 
-abbrev pub sets_from : List (ℕ × TemplateEvent) → ℕ → List Set → ℕ → List ℕ → Result (List Set) ReadFault
-sets_from history domain = items_from (λ rest. length rest == 0) (λ sets. set_next (history ++ events_of_sets domain sets) domain)
+abbrev pub sets_from : InForce → ℕ → List Set → ℕ → List ℕ → Result (List Set) ReadFault
+sets_from templates domain = items_from (λ rest. length rest == 0) (λ sets. set_next (in_force templates (events_of_sets domain sets)) domain)
 
-module _ (history : List (ℕ × TemplateEvent)) (domain : ℕ) (sets : List Set) (offset : ℕ) (rest : List ℕ) where
+-- under the templates in force after these sets
+module _ (templates : InForce) (domain : ℕ) (sets : List Set) (now : InForce) (is : now ≡ in_force templates (events_of_sets domain sets)) (offset : ℕ) (rest : List ℕ) where
   abbrev Next : List Set → ℕ → List ℕ → Result (Set × List ℕ) ReadFault
-  Next earlier = set_next (history ++ events_of_sets domain earlier) domain
+  Next earlier = set_next (in_force templates (events_of_sets domain earlier)) domain
 
   smaller : (earlier : List Set) (place : ℕ) (bytes : List ℕ) (set : Set) (after : List ℕ) → eqb (length bytes) 0 ≡ false → Next earlier place bytes ≡ Ok (set, after) → length after < length bytes
-  smaller earlier place bytes set after some e = set_smaller (history ++ events_of_sets domain earlier) domain place bytes set after e
+  smaller earlier place bytes set after some e = set_smaller (in_force templates (events_of_sets domain earlier)) domain place bytes set after e
 
-  pub sets_more : (set : Set) (after : List ℕ) (later : ℕ) → eqb (length rest) 0 ≡ false → Next sets offset rest ≡ Ok (set, after) → later ≡ offset + (length rest - length after)
-      → sets_from history domain sets offset rest ≡ sets_from history domain (sets ++ set ∷ []) later after
-  sets_more = at_item (λ rest. length rest == 0) Next refl smaller sets offset rest
+  there : (read : Result (Set × List ℕ) ReadFault) → set_next now domain offset rest ≡ read → Next sets offset rest ≡ read
+  there read = subst (λ (t : InForce). set_next t domain offset rest ≡ read) is
 
-  pub sets_fault : (fault : ReadFault) → eqb (length rest) 0 ≡ false → Next sets offset rest ≡ Err fault → sets_from history domain sets offset rest ≡ Err fault
-  sets_fault = at_fault (λ rest. length rest == 0) Next refl smaller sets offset rest
+  pub sets_more : (set : Set) (after : List ℕ) (later : ℕ) → eqb (length rest) 0 ≡ false → set_next now domain offset rest ≡ Ok (set, after) → later ≡ offset + (length rest - length after)
+      → sets_from templates domain sets offset rest ≡ sets_from templates domain (sets ++ set ∷ []) later after
+  sets_more set after later some read = at_item (λ rest. length rest == 0) Next refl smaller sets offset rest set after later some (there _ read)
 
-  pub sets_end : eqb (length rest) 0 ≡ true → sets_from history domain sets offset rest ≡ Ok sets
+  pub sets_fault : (fault : ReadFault) → eqb (length rest) 0 ≡ false → set_next now domain offset rest ≡ Err fault → sets_from templates domain sets offset rest ≡ Err fault
+  sets_fault fault some read = at_fault (λ rest. length rest == 0) Next refl smaller sets offset rest fault some (there _ read)
+
+  pub sets_end : eqb (length rest) 0 ≡ true → sets_from templates domain sets offset rest ≡ Ok sets
   sets_end = at_end (λ rest. length rest == 0) Next refl smaller sets offset rest
 
 pub message_size_push : (sets : List Set) (set : Set) → message_size (sets ++ set ∷ []) ≡ message_size sets + set_size set

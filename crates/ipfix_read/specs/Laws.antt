@@ -1,12 +1,13 @@
 -- Laws about the definitions.
 use Rattle.std.specs.Prelude.{◌≡◌, ℕ, ◌+◌, ◌-◌, List, [], ◌∷◌, ◌++◌, length, Option, Ok, Result}
+use Rattle.ipfix_templates.specs.InForce.{in_force, no_templates}
 use Rattle.ipfix_read.specs.Message.{ReadFault, MessageView, message_next}
 use Rattle.ipfix_read.specs.Messages.{ProgressView, at_start, events_of_messages, messages_from, AnswersNext, IsReadTo, JoinsFile, ReadsInput}
 
 -- the next message of a File is at the start of the remaining bytes, and the rest is read after it
 abbrev pub FirstMessageAndRest : Type 0
 FirstMessageAndRest = (messages : List MessageView) (offset : ℕ) (bytes after : List ℕ) (m : MessageView)
-    → message_next (events_of_messages messages) (length messages) offset bytes ≡ Ok (m, after)
+    → message_next (in_force no_templates (events_of_messages messages)) (length messages) offset bytes ≡ Ok (m, after)
     → messages_from messages offset bytes ≡ messages_from (messages ++ m ∷ []) (offset + (length bytes - length after)) after
 
 -- before any call nothing is read of the bytes

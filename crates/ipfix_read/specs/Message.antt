@@ -4,6 +4,7 @@ use Rattle.std.specs.Option.{option_map_or, option_or}
 use Rattle.std.specs.Result.{result_map_both}
 use Rattle.byteorder.specs.Endian.{big_number}
 use Rattle.ipfix_templates.specs.declared.event.TemplateEvent.{TemplateEvent}
+use Rattle.ipfix_templates.specs.InForce.{InForce}
 use Rattle.ipfix_read.specs.Set.{Set, Templates, Values, Skipped, written_length, sets_reading, events_of_sets}
 pub use Rattle.ipfix_read.specs.declared.fault.ReadFault.{ReadFault}
 pub use Rattle.ipfix_read.specs.declared.fault.ReadFaultKind.{ReadFaultKind}
@@ -51,17 +52,17 @@ header_fault count bytes =
     else option_or (own_fault count bytes) (if nat_lt (length bytes) (written_length bytes) then Some TruncatedMessage else None)
 
 -- the message whose header has no fault and which is exactly these bytes, or the first fault of its sets
-abbrev pub whole_reading : List (ℕ × TemplateEvent) → ℕ → List ℕ → Result MessageView ReadFault
-whole_reading history offset bytes =
+abbrev pub whole_reading : InForce → ℕ → List ℕ → Result MessageView ReadFault
+whole_reading templates offset bytes =
     let domain = big_number 4 (drop 12 bytes) in
     result_map_both
     (λ sets. record { export_time = big_number 4 (drop 4 bytes); sequence = big_number 4 (drop 8 bytes); domain = domain; sets = sets }) (λ fault. fault)
-    (sets_reading history domain (offset + 16) (drop 16 bytes))
+    (sets_reading templates domain (offset + 16) (drop 16 bytes))
 
--- the message at the start of bytes at this offset, and the bytes after it, or its first fault; a history of template
--- events and `count` messages precede it
-abbrev pub message_next : List (ℕ × TemplateEvent) → ℕ → ℕ → List ℕ → Result (MessageView × List ℕ) ReadFault
-message_next history count offset bytes =
+-- the message at the start of bytes at this offset, and the bytes after it, or its first fault; `count` messages precede it,
+-- after which these templates are in force
+abbrev pub message_next : InForce → ℕ → ℕ → List ℕ → Result (MessageView × List ℕ) ReadFault
+message_next templates count offset bytes =
     let size = written_length bytes in
     option_map_or (λ kind. Err (record { kind = kind; offset = offset })) (header_fault count bytes)
-    (result_map_both (λ m. (m, drop size bytes)) (λ fault. fault) (whole_reading history offset (take size bytes)))
+    (result_map_both (λ m. (m, drop size bytes)) (λ fault. fault) (whole_reading templates offset (take size bytes)))

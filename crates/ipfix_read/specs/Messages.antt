@@ -3,7 +3,7 @@ use Rattle.std.specs.List.{flat_map}
 use Rattle.std.specs.Io.KnownBytes.{Consumes}
 use Rattle.ipfix_templates.specs.declared.event.TemplateEvent.{TemplateEvent}
 use Rattle.ipfix_templates.specs.Reading.{items_from}
-use Rattle.ipfix_templates.specs.InForce.{Follows, Table}
+use Rattle.ipfix_templates.specs.InForce.{Table, in_force, no_templates, template_at}
 use Rattle.ipfix_read.specs.Message.{ReadFault, MessageView, header_fault, message_next, events_of_message, ReadFaultKind}
 use Rattle.ipfix_read.specs.declared.fault.ReadFaultKind.TheVariants.{ReadFault as Unread}
 use Rattle.ipfix_read.specs.declared.progress.State.{State}
@@ -19,7 +19,7 @@ events_of_messages messages = flat_map events_of_message messages
 -- these messages and all that follow them, in the remaining bytes, which begin at this offset; or the first fault
 abbrev pub messages_from : List MessageView → ℕ → List ℕ → Result (List MessageView) ReadFault
 messages_from messages offset bytes =
-    items_from (λ rest. length rest == 0) (λ earlier. message_next (events_of_messages earlier) (length earlier)) messages offset bytes
+    items_from (λ rest. length rest == 0) (λ earlier. message_next (in_force no_templates (events_of_messages earlier)) (length earlier)) messages offset bytes
 
 -- the messages of a File, or its first fault
 abbrev pub file_reading : List ℕ → Result (List MessageView) ReadFault
@@ -62,20 +62,18 @@ at_start = record { table = ([], []); offset = 0; count = 0; state = Going }
 -- The result of a call in the state Going, and the state after the call, by the bytes that the call took and the bytes
 -- left. A message consists of the taken bytes, whatever bytes follow them. If there are no bytes, there is no message. A
 -- fault is the first one of the File, in this message, or that an allocation failed. It is the fault of a failed reader
--- only if the taken bytes are the beginning of a message and have no fault so far. The message is read from the table,
--- the offset and the number of messages, for each history that the table follows.
+-- only if the taken bytes are the beginning of a message and have no fault so far.
 abbrev pub AnswersNext : ProgressView → Result (Option MessageView) ReadFault → ProgressView → List ℕ → List ℕ → Type 0
 AnswersNext old (Ok (Some m)) new taken left =
-    ((history : List (ℕ × TemplateEvent)) → Follows old.table history
-    → ((rest : List ℕ) → message_next history old.count old.offset (taken ++ rest) ≡ Ok (m, rest)) × Follows new.table (history ++ events_of_message m))
-    × (new.offset ≡ old.offset + length taken) × (new.count ≡ old.count + 1) × (new.state ≡ Going)
+    ((rest : List ℕ) → message_next (template_at old.table) old.count old.offset (taken ++ rest) ≡ Ok (m, rest))
+    × (template_at new.table ≡ in_force (template_at old.table) (events_of_message m)) × (new.offset ≡ old.offset + length taken) × (new.count ≡ old.count + 1) × (new.state ≡ Going)
 AnswersNext old (Ok None) new taken left = (taken ++ left ≡ []) × (new.state ≡ Ended)
 AnswersNext old (Err fault) new taken left =
     (new.state ≡ Failed)
     × ((fault ≡ out_of_memory)
     ⊎ (((fault ≡ read_fault old.offset) × IsIncomplete old.count taken)
     ⊎ ((is_of_calls fault.kind ≡ false) × (0 < length taken)
-    × ((history : List (ℕ × TemplateEvent)) → Follows old.table history → message_next history old.count old.offset (taken ++ left) ≡ Err fault))))
+    × (message_next (template_at old.table) old.count old.offset (taken ++ left) ≡ Err fault))))
 
 -- whether a result is that the reader failed
 abbrev pub is_read_fault : {A : Type 0} → Result A ReadFault → Bool
@@ -97,7 +95,7 @@ pub record IsReadTo (given : Option (List ℕ)) (messages : List MessageView) (p
   pub taken : List ℕ
   pub consumed : Consumes given now taken
   pub read : (rest : List ℕ) → file_reading (taken ++ rest) ≡ messages_from messages p.offset rest
-  pub follows : Follows p.table (events_of_messages messages)
+  pub table : template_at p.table ≡ in_force no_templates (events_of_messages messages)
   pub counted : p.count ≡ length messages
   pub placed : p.offset ≡ length taken
 

@@ -1,5 +1,5 @@
 -- The sets of a message (RFC 7011 section 3.3).
-use Rattle.std.specs.Prelude.{◌≡◌, false, ℕ, ◌+◌, ◌⊎◌, List, [], ◌++◌, length, take, drop, map, Option, Some, None, Result, Ok, Err, nat_lt, ◌==◌, ◌||◌, if◌then◌else◌}
+use Rattle.std.specs.Prelude.{◌≡◌, false, ℕ, ◌+◌, List, [], length, take, drop, map, Option, Some, None, Result, Ok, Err, nat_lt, ◌==◌, ◌||◌, if◌then◌else◌}
 use Rattle.std.specs.List.{flat_map}
 use Rattle.std.specs.Option.{option_map_or}
 use Rattle.std.specs.Result.{result_map_both}
@@ -9,8 +9,8 @@ use Rattle.ipfix_templates.specs.declared.fault.TemplateFault.{TemplateFault}
 use Rattle.ipfix_templates.specs.declared.kind.Kind.{Kind}
 use Rattle.ipfix_templates.specs.declared.kind.Kind.TheVariants.{Flow, Options}
 use Rattle.ipfix_templates.specs.Template.{set_id}
-use Rattle.ipfix_templates.specs.Reading.{items_from, template_set_reading}
-use Rattle.ipfix_templates.specs.InForce.{in_force, Follows, Table}
+use Rattle.ipfix_templates.specs.Reading.{IsFault, items_from, template_set_reading}
+use Rattle.ipfix_templates.specs.InForce.{InForce, Table, in_force, template_at}
 pub use Rattle.ipfix_read.specs.declared.set.Set.{Set}
 pub use Rattle.ipfix_read.specs.declared.set.Set.TheVariants.{Skipped, Templates, Values}
 use Rattle.ipfix_read.specs.declared.fault.ReadFault.{ReadFault}
@@ -38,13 +38,13 @@ template_kind id = if id == set_id Flow then Some Flow else (if id == set_id Opt
 abbrev pub in_file : ℕ → TemplateFault → ReadFault
 in_file base fault = record { kind = BadTemplate fault.kind; offset = base + fault.offset }
 
--- The content of a set with this ID, after a history of template events, or the first fault. Its bytes begin at this
--- offset. It consists of templates, or of records under the template in force. It is skipped if its ID has no meaning or
--- no template in force.
-abbrev pub content_reading : List (ℕ × TemplateEvent) → ℕ → ℕ → ℕ → List ℕ → Result Set ReadFault
-content_reading history domain id offset bytes =
+-- The content of a set with this ID, under the templates in force, or the first fault. Its bytes begin at this offset. It
+-- consists of templates, or of records under the template in force. It is skipped if its ID has no meaning or no template
+-- in force.
+abbrev pub content_reading : InForce → ℕ → ℕ → ℕ → List ℕ → Result Set ReadFault
+content_reading templates domain id offset bytes =
     option_map_or (λ kind. result_map_both (Templates kind) (in_file offset) (template_set_reading kind bytes)) (template_kind id)
-    (option_map_or (λ t. result_map_both (Values t.kind) (λ fault. fault) (data_set_reading t offset bytes)) (if nat_lt id 256 then None else in_force history domain id)
+    (option_map_or (λ t. result_map_both (Values t.kind) (λ fault. fault) (data_set_reading t offset bytes)) (if nat_lt id 256 then None else templates domain id)
     (Ok (Skipped id)))
 
 -- the length in a set's header, and in a message's header
@@ -53,25 +53,20 @@ written_length bytes = big_number 2 (drop 2 bytes)
 
 -- The set at the start of bytes at this offset, and the bytes after it, or its first fault. Its length is at least that
 -- of its header and at most that of the bytes.
-abbrev pub set_next : List (ℕ × TemplateEvent) → ℕ → ℕ → List ℕ → Result (Set × List ℕ) ReadFault
-set_next history domain offset bytes =
+abbrev pub set_next : InForce → ℕ → ℕ → List ℕ → Result (Set × List ℕ) ReadFault
+set_next templates domain offset bytes =
     let size = written_length bytes in
     if nat_lt (length bytes) 4 || (nat_lt size 4 || nat_lt (length bytes) size) then Err (record { kind = BadSetLength; offset = offset })
     else result_map_both (λ set. (set, drop size bytes)) (λ fault. fault)
-    (content_reading history domain (big_number 2 bytes) (offset + 4) (drop 4 (take size bytes)))
+    (content_reading templates domain (big_number 2 bytes) (offset + 4) (drop 4 (take size bytes)))
 
 -- the sets of a message, given the bytes after its header, which begin at this offset; or the first fault
-abbrev pub sets_reading : List (ℕ × TemplateEvent) → ℕ → ℕ → List ℕ → Result (List Set) ReadFault
-sets_reading history domain offset bytes =
-    items_from (λ rest. length rest == 0) (λ sets. set_next (history ++ events_of_sets domain sets) domain) [] offset bytes
+abbrev pub sets_reading : InForce → ℕ → ℕ → List ℕ → Result (List Set) ReadFault
+sets_reading templates domain offset bytes =
+    items_from (λ rest. length rest == 0) (λ sets. set_next (in_force templates (events_of_sets domain sets)) domain) [] offset bytes
 
--- The result of reading under a table, and the table after it. It holds for each history that the old table follows. An
--- item is the reading, and the new table follows the history with the item's events. A fault is that of the reading, or
--- that an allocation failed. It is not one of calls.
-abbrev pub ReadsUnder : {A : Type 0} → Table → Table → (A → List (ℕ × TemplateEvent))
-    → (List (ℕ × TemplateEvent) → Result A ReadFault) → Result A ReadFault → Type 0
-ReadsUnder old new events reading (Ok item) =
-    (history : List (ℕ × TemplateEvent)) → Follows old history → (reading history ≡ Ok item) × Follows new (history ++ events item)
-ReadsUnder old new events reading (Err fault) =
-    (is_of_calls fault.kind ≡ false)
-    × ((fault ≡ out_of_memory) ⊎ ((history : List (ℕ × TemplateEvent)) → Follows old history → reading history ≡ Err fault))
+-- The result of reading under a table, and the table after it. An item is the reading, and its events change the table. A
+-- fault is that of the reading, or that an allocation failed. It is not one of calls.
+abbrev pub ReadsUnder : {A : Type 0} → Table → Table → (A → List (ℕ × TemplateEvent)) → Result A ReadFault → Result A ReadFault → Type 0
+ReadsUnder old new events reading (Ok item) = (reading ≡ Ok item) × (template_at new ≡ in_force (template_at old) (events item))
+ReadsUnder old new events reading (Err fault) = (is_of_calls fault.kind ≡ false) × IsFault out_of_memory reading fault

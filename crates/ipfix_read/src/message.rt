@@ -1,5 +1,6 @@
 ghost use Rattle.std.specs.Prelude.{◌≡◌, ◌^◌, ◌+◌, ◌<◌, ◌≤◌, length, false, IfOk, IfErr, OnOk, None, Some};
 ghost use Rattle.std.specs.Result.{result_map_both};
+ghost use Rattle.ipfix_templates.specs.InForce.{template_at};
 ghost use Rattle.ipfix_read.specs.Fault.{is_of_calls};
 ghost use Rattle.ipfix_read.specs.Message.{header_fault, own_fault, events_of_message, message_next, message_size, whole_reading, HasHeader};
 ghost use Rattle.ipfix_read.specs.Set.{written_length, ReadsUnder};
@@ -93,7 +94,7 @@ pub fn whole_message<'a>(
     requires header { HasHeader bytes.now }
     requires room { base + length bytes.now < 2 ^ 64 }
     ensures { ReadsUnder table.old table.new events_of_message
-        (λ history. whole_reading history base bytes.now) result }
+        (whole_reading (template_at table.old) base bytes.now) result }
 {
     let export_time = BigEndian::read_u32(&bytes[4..]);
     let sequence = BigEndian::read_u32(&bytes[8..]);
@@ -139,7 +140,7 @@ pub fn read_message<'a>(
 ) -> Result<(Message<'a>, &'a [u8]), ReadFault>
     requires { base + length bytes.now < 2 ^ 64 }
     ensures read { ReadsUnder table.old table.new (λ read. events_of_message read.0)
-        (λ history. message_next history count base bytes.now)
+        (message_next (template_at table.old) count base bytes.now)
         (result_map_both (λ read. (read.0, read.1.now)) (λ fault. fault) result) }
     ensures counted { OnOk result (count < 4294967295) }
     ensures shorter { IfOk result (λ read. length read.1.now < length bytes.now) }

@@ -1,7 +1,6 @@
-ghost use Rattle.std.specs.Prelude.{◌≡◌, ◌^◌, ◌+◌, ◌<◌, ◌≤◌, ◌++◌, ℕ, List, length, IfOk, None, OnOk};
+ghost use Rattle.std.specs.Prelude.{◌≡◌, ◌^◌, ◌+◌, ◌<◌, ◌≤◌, length, IfOk, OnOk};
 ghost use Rattle.std.specs.Result.{result_map_both};
-ghost use Rattle.ipfix_templates.specs.declared.event.TemplateEvent.{TemplateEvent as Event};
-ghost use Rattle.ipfix_templates.specs.InForce.{Follows};
+ghost use Rattle.ipfix_templates.specs.InForce.{in_force, template_at};
 ghost use Rattle.ipfix_read.specs.Set.{in_domain, events_of_set, events_of_sets, content_reading, set_next, sets_reading, template_kind, ReadsUnder};
 ghost use Rattle.ipfix_read.specs.Message.{set_size, message_size};
 
@@ -49,8 +48,8 @@ fn apply_events(
     domain: u32,
     events: &TemplateEvents,
 ) -> Result<(), AllocError>
-    ensures { OnOk result ((history : List (ℕ × Event)) → Follows table.old history
-        → Follows table.new (history ++ in_domain domain events.now)) }
+    ensures { OnOk result (template_at table.new
+        ≡ in_force (template_at table.old) (in_domain domain events.now)) }
 {
     for event in events.as_slice() {
         match event {
@@ -77,6 +76,7 @@ fn template_kind(id: u16) -> Option<Kind>
 
 // Reads the content of a set with this ID. The events of a template set change the table, even if an allocation fails
 // after some of them.
+#[tactic(auto, using(crate::proofs::Sets::none_in_force))]
 fn read_content<'a>(
     alloc: Global,
     table: &mut TemplateTable,
@@ -87,7 +87,7 @@ fn read_content<'a>(
 ) -> Result<Set<'a>, ReadFault>
     requires { base + length bytes.now < 2 ^ 64 }
     ensures read { ReadsUnder table.old table.new (events_of_set domain)
-        (λ history. content_reading history domain id base bytes.now) result }
+        (content_reading (template_at table.old) domain id base bytes.now) result }
     ensures size { IfOk result (λ set. set_size set ≤ 1 + length bytes.now) }
 {
     let Some(kind) = template_kind(id) else {
@@ -125,7 +125,7 @@ fn read_set<'a>(
 ) -> Result<(Set<'a>, &'a [u8]), ReadFault>
     requires { base + length bytes.now < 2 ^ 64 }
     ensures read { ReadsUnder table.old table.new (λ read. events_of_set domain read.0)
-        (λ history. set_next history domain base bytes.now)
+        (set_next (template_at table.old) domain base bytes.now)
         (result_map_both (λ read. (read.0, read.1.now)) (λ fault. fault) result) }
     ensures size { IfOk result (λ read. set_size read.0 + length read.1.now < length bytes.now) }
 {
@@ -157,7 +157,7 @@ pub fn read_sets<'a>(
 ) -> Result<SetList<'a>, ReadFault>
     requires { base + length bytes.now < 2 ^ 64 }
     ensures read { ReadsUnder table.old table.new (events_of_sets domain)
-        (λ history. sets_reading history domain base bytes.now) result }
+        (sets_reading (template_at table.old) domain base bytes.now) result }
     ensures size { IfOk result (λ sets. message_size sets ≤ length bytes.now) }
 {
     let mut sets = SetList::new(alloc);

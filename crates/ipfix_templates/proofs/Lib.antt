@@ -1,5 +1,4 @@
 pub mod Choice
 pub mod Reading
 pub mod Records
-pub mod History
 pub mod Parts

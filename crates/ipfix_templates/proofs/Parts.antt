@@ -1,5 +1,5 @@
 -- Maps of maps, and a table for each kind.
-use Rattle.std.proofs.Common.{◌≡◌, ◌==◌, ◌&&◌, ◌∙◌, ℕ, ◌<◌, Bool, true, false, cond, ltb, eqb, not, List, [], ◌∷◌, map, Option, Some, None, Result, Ok, Err, refl, sym, ap, arith}
+use Rattle.std.proofs.Common.{◌≡◌, ◌==◌, ◌&&◌, ◌∙◌, ℕ, ◌<◌, Bool, true, false, cond, ltb, eqb, List, [], ◌∷◌, map, Option, Some, None, Result, Ok, Err, refl, sym, ap, arith}
 use Rattle.std.specs.Prelude.{OnErr, nat_eq, option_and_then, option_map}
 use Rattle.std.specs.declared.cmp.Ordering.TheVariants.{Less, Equal, Greater}
 use Rattle.std.specs.Ordering.{nat_cmp, is_eq}
@@ -8,8 +8,8 @@ use Rattle.std.specs.Map.{lookup, set_value}
 use Rattle.std.specs.Option.{option_or}
 use Rattle.std.proofs.lemmas.Map.Made.{lookup-map_values}
 use Rattle.std.proofs.lemmas.Bool.{ltb-true, ne_eqb, eqb-true}
-use Rattle.ipfix_templates.specs.Template.{Flow, Options, Template, same_kind}
-use Rattle.ipfix_templates.specs.InForce.{AreParted, ByDomain, ChangesAt, DropsKind, IsInItsPart, kept_where, stored, template_at}
+use Rattle.ipfix_templates.specs.Template.{Flow, Kind, Options, Template, same_kind}
+use Rattle.ipfix_templates.specs.InForce.{AreParted, ByDomain, InForce, IsInItsPart, WithdrawAll, after_event, changed_at, stored, template_at}
 
 same_test : (x y : ℕ) → is_eq (nat_cmp x y) ≡ eqb x y
 same_test x y =
@@ -43,6 +43,10 @@ stored_at domains d i =
     inner None = refl
     inner (Some m) = at_number i m.entries
 
+-- these templates without those of a domain
+abbrev pub emptied : InForce → ℕ → InForce
+emptied before domain = λ d i. cond (domain == d) None (before d i)
+
 -- a map for one domain, or none, in place of the old one
 module _ (old new : BTreeMap ℕ Templates) (domain : ℕ) (m : Option Templates)
     (outer : (q : ℕ) → get nat_cmp new q ≡ cond (is_at (nat_cmp domain) q) m (get nat_cmp old q)) where
@@ -56,16 +60,16 @@ module _ (old new : BTreeMap ℕ Templates) (domain : ℕ) (m : Option Templates
 
   -- with one change
   pub changed : (id : ℕ) (value : Option Template) → ((q : ℕ) → found q m ≡ cond (is_at (nat_cmp id) q) value (found q (get nat_cmp old domain)))
-      → ChangesAt (stored (plain old)) (stored (plain new)) domain id value
-  changed id value inner d i =
+      → stored (plain new) ≡ changed_at (stored (plain old)) domain id value
+  changed id value inner = λ k d i. (
       there d i
       ∙ elim (eqb domain d) as (λ b. eqb domain d ≡ b → cond b (found i m) (stored (plain old) d i) ≡ cond (b && id == i) value (stored (plain old) d i)) [
         | true ↦ λ here. inner i ∙ rw (same_test id i) (ap (λ (o : Option Template). cond (id == i) value o) (at_domain d i here))
         | false ↦ λ _. refl
-      ] refl
+      ] refl) k
 
-  pub dropped : m ≡ None → (d i : ℕ) → stored (plain new) d i ≡ cond (domain == d) None (stored (plain old) d i)
-  dropped none d i = there d i ∙ ap (λ (o : Option Templates). cond (domain == d) (found i o) (stored (plain old) d i)) none
+  pub dropped : m ≡ None → stored (plain new) ≡ emptied (stored (plain old)) domain
+  dropped none = λ k d i. (there d i ∙ ap (λ (o : Option Templates). cond (domain == d) (found i o) (stored (plain old) d i)) none) k
 
 -- a map replaced by another with the same entries
 pub same_entries : (test : ℕ → Bool) (es : List (ℕ × Templates)) (m w : Templates) → Some m ≡ lookup test es → w.entries ≡ m.entries
@@ -78,14 +82,13 @@ same_entries test (x ∷ xs) m w e same =
     ] e
 
 -- no map in the domain
-pub nothing_there : (old : BTreeMap ℕ Templates) (domain id : ℕ) → get nat_cmp old domain ≡ None → ChangesAt (stored (plain old)) (stored (plain old)) domain id None
-nothing_there old domain id none d i =
-    elim (eqb domain d) as (λ b. eqb domain d ≡ b → stored (plain old) d i ≡ cond (b && id == i) None (stored (plain old) d i)) [
-      | true ↦ λ here.
-          let gone : stored (plain old) d i ≡ None = stored_at old d i ∙ ap (λ (k : ℕ). found i (get nat_cmp old k)) (sym (eqb-true domain d here)) ∙ ap (found i) none in
-          rw gone (elim (eqb id i) as (λ c. ◌≡◌ {A = Option Template} None (cond c None None)) [ true ↦ refl | false ↦ refl ])
-      | false ↦ λ _. refl
-    ] refl
+pub nothing_there : (old : BTreeMap ℕ Templates) (domain id : ℕ) → get nat_cmp old domain ≡ None → stored (plain old) ≡ changed_at (stored (plain old)) domain id None
+nothing_there old domain id none =
+    changed old old domain None (λ q. kept q (is_at (nat_cmp domain) q) refl) id None (λ q. elim (is_at (nat_cmp id) q) as (λ c. ◌≡◌ {A = Option Template} None (cond c None (found q (get nat_cmp old domain)))) [ true ↦ refl | false ↦ ap (found q) (sym none) ])
+  where
+    kept : (q : ℕ) (b : Bool) → is_at (nat_cmp domain) q ≡ b → get nat_cmp old q ≡ cond b None (get nat_cmp old q)
+    kept q true here = ap (get nat_cmp old) (sym (eqb-true domain q (sym (same_test domain q) ∙ here))) ∙ none
+    kept q false _ = refl
 
 -- ---- the parts of the two kinds
 
@@ -97,57 +100,43 @@ part_both : (s : Bool) (v w f o : Option Template) → IsInItsPart v w → IsInI
 part_both true v w f o new old = new
 part_both false v w f o new old = old
 
--- each part without the other
-parts_alone : (f o : Option Template) → IsInItsPart f o → IsInItsPart None o × IsInItsPart f None
-parts_alone None None p = (tt, tt)
-parts_alone None (Some u) p = (p, tt)
-parts_alone (Some t) None p = (tt, p)
-parts_alone (Some t) (Some u) p = absurd p
+abbrev without : Kind → Bool → Option Template → Option Template
+without kind here there = cond here (option_and_then (λ t. cond (same_kind kind t.kind) None (Some t)) there) there
 
-drops_first : (b : Bool) (f o : Option Template) → IsInItsPart f o
-    → option_or (cond b None f) o ≡ cond b (kept_where (λ t. not (same_kind Flow t.kind)) (option_or f o)) (option_or f o)
-drops_first false f o p = refl
-drops_first true None None p = refl
-drops_first true None (Some u) p = rw p refl
-drops_first true (Some t) None p = rw p refl
+-- a part that is emptied: what is left of both, and that they are parted still
+drops_first : (b : Bool) (f o : Option Template) → IsInItsPart f o → (option_or (cond b None f) o ≡ without Flow b (option_or f o)) × IsInItsPart (cond b None f) o
+drops_first false f o p = (refl, p)
+drops_first true None None p = (refl, p)
+drops_first true None (Some u) p = (rw p refl, p)
+drops_first true (Some t) None p = (rw p refl, tt)
 drops_first true (Some t) (Some u) p = absurd p
 
-drops_second : (b : Bool) (f o : Option Template) → IsInItsPart f o
-    → option_or f (cond b None o) ≡ cond b (kept_where (λ t. not (same_kind Options t.kind)) (option_or f o)) (option_or f o)
-drops_second false f o p = refl
-drops_second true None None p = refl
-drops_second true None (Some u) p = rw p refl
-drops_second true (Some t) None p = rw p refl
+drops_second : (b : Bool) (f o : Option Template) → IsInItsPart f o → (option_or f (cond b None o) ≡ without Options b (option_or f o)) × IsInItsPart f (cond b None o)
+drops_second false f o p = (refl, p)
+drops_second true None None p = (refl, p)
+drops_second true None (Some u) p = (rw p refl, tt)
+drops_second true (Some t) None p = (rw p refl, p)
 drops_second true (Some t) (Some u) p = absurd p
 
-abbrev Drops : ByDomain → ByDomain → ℕ → Type 0
-Drops old new domain = (d i : ℕ) → stored new d i ≡ cond (domain == d) None (stored old d i)
+alike : {before after : InForce} → ((d i : ℕ) → before d i ≡ after d i) → before ≡ after
+alike same = λ k d i. same d i k
 
-module _ (f f' o o' : ByDomain) (domain id : ℕ) (v w : Option Template) (first : ChangesAt (stored f) (stored f') domain id v) (second : ChangesAt (stored o) (stored o') domain id w) where
-  pub put : ChangesAt (template_at (f, o)) (template_at (f', o')) domain id (option_or v w)
-  put d i = rw (first d i, second d i) (put_both (domain == d && id == i) v w (stored f d i) (stored o d i))
+here : {before after : InForce} → before ≡ after → (d i : ℕ) → before d i ≡ after d i
+here same d i = ap (λ (table : InForce). table d i) same
+
+module _ (f f' o o' : ByDomain) (domain id : ℕ) (v w : Option Template) (first : stored f' ≡ changed_at (stored f) domain id v) (second : stored o' ≡ changed_at (stored o) domain id w) where
+  pub put : template_at (f', o') ≡ changed_at (template_at (f, o)) domain id (option_or v w)
+  put = alike (λ d i. rw (here first d i, here second d i) (put_both (domain == d && id == i) v w (stored f d i) (stored o d i)))
 
   pub parted : IsInItsPart v w → AreParted f o → AreParted f' o'
-  parted new p d i = rw (first d i, second d i) (part_both (domain == d && id == i) v w (stored f d i) (stored o d i) new (p d i))
+  parted new p d i = rw (here first d i, here second d i) (part_both (domain == d && id == i) v w (stored f d i) (stored o d i) new (p d i))
 
 module _ (f o : ByDomain) (domain : ℕ) (p : AreParted f o) where
-  pub flow_dropped : (f' : ByDomain) → Drops f f' domain → DropsKind (template_at (f, o)) (template_at (f', o)) domain Flow
-  flow_dropped f' first d i = rw (first d i) (drops_first (domain == d) (stored f d i) (stored o d i) (p d i))
+  pub flow_dropped : (f' : ByDomain) → stored f' ≡ emptied (stored f) domain → (template_at (f', o) ≡ after_event (template_at (f, o)) (domain, WithdrawAll Flow)) × AreParted f' o
+  flow_dropped f' first = (alike (λ d i. rw (here first d i) (drops_first (domain == d) (stored f d i) (stored o d i) (p d i)).0), λ d i. rw (here first d i) (drops_first (domain == d) (stored f d i) (stored o d i) (p d i)).1)
 
-  pub options_dropped : (o' : ByDomain) → Drops o o' domain → DropsKind (template_at (f, o)) (template_at (f, o')) domain Options
-  options_dropped o' second d i = rw (second d i) (drops_second (domain == d) (stored f d i) (stored o d i) (p d i))
-
-  pub flow_dropped_parted : (f' : ByDomain) → Drops f f' domain → AreParted f' o
-  flow_dropped_parted f' first d i =
-      rw (first d i) (elim (domain == d) as (λ b. IsInItsPart (cond b None (stored f d i)) (stored o d i)) [ true ↦ (parts_alone _ _ (p d i)).0 | false ↦ p d i ])
-
-  pub options_dropped_parted : (o' : ByDomain) → Drops o o' domain → AreParted f o'
-  options_dropped_parted o' second d i =
-      rw (second d i) (elim (domain == d) as (λ b. IsInItsPart (stored f d i) (cond b None (stored o d i))) [ true ↦ (parts_alone _ _ (p d i)).1 | false ↦ p d i ])
-
-pub from_view : {V : Type 0} (at : V → ℕ → ℕ → Option Template) (inside old new : V) (domain id : ℕ) (value : Option Template) → inside ≡ old
-    → ChangesAt (at inside) (at new) domain id value → ChangesAt (at old) (at new) domain id value
-from_view at inside old new domain id value is change = rw is at change
+  pub options_dropped : (o' : ByDomain) → stored o' ≡ emptied (stored o) domain → (template_at (f, o') ≡ after_event (template_at (f, o)) (domain, WithdrawAll Options)) × AreParted f o'
+  options_dropped o' second = (alike (λ d i. rw (here second d i) (drops_second (domain == d) (stored f d i) (stored o d i) (p d i)).0), λ d i. rw (here second d i) (drops_second (domain == d) (stored f d i) (stored o d i) (p d i)).1)
 
 pub on_err : {A E : Type 0} (P : Type 0) (r : Result A E) → P → OnErr r P
 on_err P (Ok x) p = tt

@@ -5,4 +5,3 @@ pub mod Elements
 pub mod Layout
 pub mod Reading
 pub mod InForce
-pub mod Laws

@@ -1,6 +1,6 @@
-ghost use Rattle.std.specs.Prelude.{◌≡◌, ◌==◌, ℕ, [], None, Some, OnOk, OnErr, if◌then◌else◌};
+ghost use Rattle.std.specs.Prelude.{◌≡◌, ◌==◌, [], None, Some, OnOk, OnErr, if◌then◌else◌};
 ghost use Rattle.std.specs.Option.{option_copied};
-ghost use Rattle.ipfix_templates.specs.InForce.{ChangesAt, stored};
+ghost use Rattle.ipfix_templates.specs.InForce.{changed_at, stored};
 
 use crate::template::Template;
 use std::alloc::{AllocError, Global};
@@ -45,7 +45,7 @@ impl KindTable {
 
     /// Adds a template to the domain, replacing the one with its ID. If an allocation fails, the table is unchanged.
     pub fn insert(&mut self, domain: u32, template: Template) -> Result<(), AllocError>
-        ensures ok { OnOk result (ChangesAt (stored self.old) (stored self.new) domain template.id (Some template)) }
+        ensures ok { OnOk result (stored self.new ≡ changed_at (stored self.old) domain template.id (Some template)) }
         ensures err { OnErr result (self.new ≡ self.old) }
     {
         let id = template.id;
@@ -61,7 +61,7 @@ impl KindTable {
 
     /// Removes the template with this ID from the domain, if there is one.
     pub fn remove(&mut self, domain: u32, id: u16)
-        ensures { ChangesAt (stored self.old) (stored self.new) domain id None }
+        ensures { stored self.new ≡ changed_at (stored self.old) domain id None }
     {
         let Some(templates) = self.domains.get_mut(&domain) else {
             return;
@@ -71,7 +71,7 @@ impl KindTable {
 
     /// Removes all templates of the domain.
     pub fn remove_all(&mut self, domain: u32)
-        ensures { (d i : ℕ) → stored self.new d i ≡ (if domain == d then None else stored self.old d i) }
+        ensures { stored self.new ≡ (λ d i. if domain == d then None else stored self.old d i) }
     {
         self.domains.remove(&domain);
     }

@@ -15,8 +15,8 @@
 //! set or an options template set. It returns template events: definitions, withdrawals of one template, and
 //! withdrawals of all templates of a kind. `TemplateTable` holds the templates of each observation domain. Callers may
 //! rely on this: the events are those of the bytes, record by record, or the fault is that of the first malformed
-//! record. A table that was changed by each event of a history in turn has at each domain and ID the template in force,
-//! which depends on the history alone (`in_force`).
+//! record. A table that was changed by each event of a history in turn has at each domain and ID the template in force
+//! (`in_force`).
 #![tactic(auto)]
 
 mod event;
@@ -26,7 +26,6 @@ mod fields;
 mod items;
 mod kind;
 mod kind_table;
-mod laws;
 mod layout;
 mod record;
 mod set;
@@ -39,7 +38,6 @@ pub use field::{Field, VARIABLE_LENGTH};
 pub use fields::Fields;
 pub use items::Items;
 pub use kind::Kind;
-pub use laws::event_after_history;
 pub use layout::{Place, Places, RowLayout};
 pub use set::read_template_set;
 pub use table::TemplateTable;

@@ -1,6 +1,6 @@
-ghost use Rattle.std.specs.Prelude.{◌≡◌, ◌++◌, ◌∷◌, [], List, ℕ, Some, None, OnOk, OnErr};
+ghost use Rattle.std.specs.Prelude.{◌≡◌, [], OnOk, OnErr};
 ghost use Rattle.std.specs.Option.{option_copied};
-ghost use Rattle.ipfix_templates.specs.InForce.{TemplateEvent as Event, Define, Withdraw, WithdrawAll, ChangesAt, DropsKind, Follows, template_at};
+ghost use Rattle.ipfix_templates.specs.InForce.{Define, Withdraw, WithdrawAll, after_event, template_at};
 
 use crate::kind::Kind;
 use crate::kind_table::KindTable;
@@ -36,10 +36,8 @@ impl Model for TemplateTable {
 
 impl TemplateTable {
     /// Returns an empty table.
-    #[tactic(auto, unfolding(crate::specs::InForce::in_force))]
     pub fn new(alloc: Global) -> Self
-        ensures empty { result ≡ ([], []) }
-        ensures follows { Follows result [] }
+        ensures { result ≡ ([], []) }
     {
         TemplateTable {
             flow: KindTable::new(alloc),
@@ -59,12 +57,8 @@ impl TemplateTable {
 
     /// Defines a template in the domain, replacing the one with its ID. If an allocation fails, the table is unchanged.
     pub fn set(&mut self, domain: u32, template: Template) -> Result<(), AllocError>
-        ensures ok { OnOk result (ChangesAt (template_at self.old) (template_at self.new) domain template.id (Some template)) }
+        ensures ok { OnOk result (template_at self.new ≡ after_event (template_at self.old) (domain, Define template)) }
         ensures err { OnErr result (self.new ≡ self.old) }
-
-        // After the events of a history and this definition the table follows both.
-        ensures follows { OnOk result ((history : List (ℕ × Event)) → Follows self.old history
-            → Follows self.new (history ++ (domain, Define template) ∷ [])) }
     {
         let id = template.id;
         match template.kind {
@@ -82,11 +76,7 @@ impl TemplateTable {
 
     /// Withdraws the template with this ID in the domain, if there is one.
     pub fn withdraw(&mut self, domain: u32, id: u16)
-        ensures change { ChangesAt (template_at self.old) (template_at self.new) domain id None }
-
-        // After the events of a history and this withdrawal the table follows both.
-        ensures follows { (history : List (ℕ × Event)) → Follows self.old history
-            → Follows self.new (history ++ (domain, Withdraw id) ∷ []) }
+        ensures { template_at self.new ≡ after_event (template_at self.old) (domain, Withdraw id) }
     {
         self.flow.remove(domain, id);
         self.options.remove(domain, id);
@@ -94,11 +84,7 @@ impl TemplateTable {
 
     /// Withdraws all templates of the kind in the domain.
     pub fn withdraw_all(&mut self, domain: u32, kind: Kind)
-        ensures change { DropsKind (template_at self.old) (template_at self.new) domain kind }
-
-        // After the events of a history and this withdrawal the table follows both.
-        ensures follows { (history : List (ℕ × Event)) → Follows self.old history
-            → Follows self.new (history ++ (domain, WithdrawAll kind) ∷ []) }
+        ensures { template_at self.new ≡ after_event (template_at self.old) (domain, WithdrawAll kind) }
     {
         match kind {
             Kind::Flow => self.flow.remove_all(domain),

@@ -1,11 +1,11 @@
-use Rattle.std.proofs.Common.{◌≡◌, ◌∙◌, ℕ, ◌-◌, [], length, Ok, Err, inl, inr, refl, subst, sym, ap, arith}
+use Rattle.std.proofs.Common.{◌∙◌, ℕ, ◌-◌, [], length, refl, sym, ap, arith}
 use Rattle.std.proofs.lemmas.Bool.{eqb-true}
-use Rattle.std.proofs.lemmas.List.{flat_map_more, length_push, nil_from_length}
+use Rattle.std.proofs.lemmas.List.{length_push, nil_from_length}
 use Rattle.std.proofs.lemmas.Result.{err_from_is_err_and}
-use Rattle.ipfix_templates.specs.InForce.{Follows}
-use Rattle.ipfix_read.specs.Message.{events_of_message, message_next}
-use Rattle.ipfix_read.specs.Messages.{events_of_messages, messages_from}
-use Rattle.ipfix_read.proofs.Sets.{not_empty}
+use Rattle.ipfix_templates.specs.InForce.{in_force, no_templates}
+use Rattle.ipfix_read.specs.Message.{events_of_message}
+use Rattle.ipfix_read.specs.Messages.{messages_from}
+use Rattle.ipfix_read.proofs.Sets.{fault_kept, in_force_more, none_in_force, not_empty}
 use Rattle.ipfix_read.proofs.Readings.{messages_end, messages_fault, messages_more}
 use Rattle.ipfix_read.proofs.file.read_file.Goals as goal
 
@@ -14,7 +14,7 @@ loop-rest-init c = rw c.new-messages.ensures (record {
   within = omega arith;
   counted = refl;
   read = ap (λ (n : ℕ). messages_from [] n c.args.bytes.now) (omega arith);
-  follows = c.new-table.ensures.follows;
+  table = rw c.new-table.ensures (sym (none_in_force no_templates));
 })
 
 pub returns-in_err-message-clause-fault : goal.returns-in_err-message-clause-fault
@@ -22,11 +22,9 @@ returns-in_err-message-clause-fault c =
     let p = err_from_is_err_and c.from_residual.result c.from_residual.ensures.1 in
     let now = c.loop-rest.invariant in
     let base = length c.args.bytes.now - length c.loop-rest.rest.now in
-    rw (p.1, p.2) (elim c.in_err-message.ensures.read.1 [
-      | inl memory ↦ inl memory
-      | inr found ↦ inr (now.read ∙ messages_fault c.loop-rest.messages base c.loop-rest.rest.now c.in_err-message.field-0.0 (not_empty c.loop-rest.rest.now (sym c.loop-rest-test.ensures))
-          (subst (λ (n : ℕ). message_next (events_of_messages c.loop-rest.messages) n base c.loop-rest.rest.now ≡ Err c.in_err-message.field-0.0) now.counted (found (events_of_messages c.loop-rest.messages) now.follows)))
-    ])
+    rw (p.1, p.2) (fault_kept _ _ c.in_err-message.field-0.0 (λ found.
+    now.read ∙ messages_fault c.loop-rest.messages _ now.table _ now.counted base c.loop-rest.rest.now c.in_err-message.field-0.0 (not_empty c.loop-rest.rest.now (sym c.loop-rest-test.ensures)) found)
+    c.in_err-message.ensures.read).1
 
 pub returns-in_err-message-clause-of_bytes : goal.returns-in_err-message-clause-of_bytes
 returns-in_err-message-clause-of_bytes c =
@@ -37,14 +35,13 @@ pub loop-rest-preserved : goal.loop-rest-preserved
 loop-rest-preserved c =
     let now = c.loop-rest.invariant in
     let base = length c.args.bytes.now - length c.loop-rest.rest.now in
-    let is = c.in_ok-message.ensures.read (events_of_messages c.loop-rest.messages) now.follows in
+    let is = c.in_ok-message.ensures.read in
     rw c.in_ok-push.ensures.ok (record {
       within = omega (arith, c.in_ok-message.ensures.shorter, now.within);
       counted = omega (arith, length_push c.loop-rest.messages c.in_ok-message.message, now.counted);
-      read = now.read ∙ messages_more c.loop-rest.messages base c.loop-rest.rest.now c.in_ok-message.message c.in_ok-message.after.now _
-          (subst (λ (n : ℕ). message_next (events_of_messages c.loop-rest.messages) n base c.loop-rest.rest.now ≡ Ok (c.in_ok-message.message, c.in_ok-message.after.now)) now.counted is.0)
+      read = now.read ∙ messages_more c.loop-rest.messages _ now.table _ now.counted base c.loop-rest.rest.now c.in_ok-message.message c.in_ok-message.after.now _ is.0
           (omega (arith, c.in_ok-message.ensures.shorter, now.within));
-      follows = subst (Follows c.read_message.new.table) (flat_map_more events_of_message [] c.loop-rest.messages c.in_ok-message.message) is.1;
+      table = is.1 ∙ ap (λ templates. in_force templates (events_of_message c.in_ok-message.message)) now.table ∙ in_force_more events_of_message no_templates c.loop-rest.messages c.in_ok-message.message;
     })
 
 pub returns-clause-ok : goal.returns-clause-ok

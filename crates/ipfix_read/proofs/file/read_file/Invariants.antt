@@ -1,5 +1,5 @@
 use Rattle.std.proofs.Common.{◌≡◌, ◌-◌, ◌≤◌, length}
-use Rattle.ipfix_templates.specs.InForce.{Follows}
+use Rattle.ipfix_templates.specs.InForce.{in_force, no_templates, template_at}
 use Rattle.ipfix_read.specs.Messages.{events_of_messages, file_reading, messages_from}
 use Rattle.ipfix_read.proofs.file.read_file.Given as goal
 
@@ -8,7 +8,7 @@ invariant-loop-rest l = record {
   within : length l.rest ≤ length l.bytes;
   counted : l.count ≡ length l.messages;
   read : file_reading l.bytes ≡ messages_from l.messages (length l.bytes - length l.rest) l.rest;
-  follows : Follows l.table (events_of_messages l.messages);
+  table : template_at l.table ≡ in_force no_templates (events_of_messages l.messages);
 }
 
 abbrev pub decreases-loop-rest : goal.decreases-loop-rest

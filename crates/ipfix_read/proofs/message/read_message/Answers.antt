@@ -1,10 +1,11 @@
-use Rattle.std.proofs.Common.{◌∙◌, length, inl, inr, refl, ap, arith, length-drop}
+use Rattle.std.proofs.Common.{◌∙◌, length, inr, refl, ap, arith, length-drop}
 use Rattle.std.proofs.lemmas.List.{length-take-le}
 use Rattle.std.proofs.lemmas.Result.{err_from_is_err_and}
+use Rattle.ipfix_templates.specs.InForce.{template_at}
 use Rattle.ipfix_read.specs.Message.{HasHeader}
 use Rattle.ipfix_read.proofs.Gathering.{Own, header_sound}
 use Rattle.ipfix_read.proofs.Readings.{message_cut, message_read}
-use Rattle.ipfix_read.proofs.Sets.{front_length, front_number}
+use Rattle.ipfix_read.proofs.Sets.{fault_kept, front_length, front_number}
 use Rattle.ipfix_read.proofs.message.read_message.Goals as goal
 use Rattle.ipfix_read.proofs.message.read_message.Goals.{After-split_at}
 
@@ -29,19 +30,14 @@ whole_message-requires-clause-header c = whole (goal.at.whole_message-requires-c
 
 pub returns-in-Err-clause-read : goal.returns-in-Err-clause-read
 returns-in-Err-clause-read c =
-    (c.in-Err.ensures.fault.1, inr (λ history follows. message_cut history c.args.count c.args.base c.args.bytes.now c.in-Err.kind c.in-Err.ensures.fault.0))
+    (c.in-Err.ensures.fault.1, inr (message_cut (template_at c.args.table.now) c.args.count c.args.base c.args.bytes.now c.in-Err.kind c.in-Err.ensures.fault.0))
 
 pub returns-in_err-message-clause-read : goal.returns-in_err-message-clause-read
 returns-in_err-message-clause-read c =
     let p = err_from_is_err_and c.from_residual.result c.from_residual.ensures.1 in
-    rw (p.1, p.2) (
-      c.in_err-message.ensures.0,
-      elim c.in_err-message.ensures.1 [
-        | inl memory ↦ inl memory
-        | inr found ↦ inr (λ history follows.
-            message_read history c.args.count c.args.base c.args.bytes.now c.in-Ok.size c.in-Ok.ensures.ok c.in-Ok.ensures.whole ∙ rw (← c.split_at.ensures.front, found history follows) refl)
-      ],
-    )
+    rw (p.1, p.2) (fault_kept _ _ c.in_err-message.field-0.0 (λ found.
+    message_read (template_at c.args.table.now) c.args.count c.args.base c.args.bytes.now c.in-Ok.size c.in-Ok.ensures.ok c.in-Ok.ensures.whole ∙ rw (← c.split_at.ensures.front, found) refl)
+    c.in_err-message.ensures)
 
 pub returns-clause-counted : goal.returns-clause-counted
 returns-clause-counted c = let s = (goal.at.returns-clause-counted c).After-split_at in (header s).counted
@@ -52,9 +48,9 @@ returns-clause-shorter c =
     omega (arith, ap length c.split_at.ensures.back, length-drop c.in-Ok.size c.args.bytes.now, (header s).least, c.in-Ok.ensures.whole, c.in-Ok.ensures.within)
 
 pub returns-clause-read : goal.returns-clause-read
-returns-clause-read c = λ history follows.
-    let read = c.in_ok-message.ensures history follows in (
-      message_read history c.args.count c.args.base c.args.bytes.now c.in-Ok.size c.in-Ok.ensures.ok c.in-Ok.ensures.whole
+returns-clause-read c =
+    let read = c.in_ok-message.ensures in (
+      message_read (template_at c.args.table.now) c.args.count c.args.base c.args.bytes.now c.in-Ok.size c.in-Ok.ensures.ok c.in-Ok.ensures.whole
           ∙ rw (← c.split_at.ensures.front, read.0, ← c.split_at.ensures.back) refl,
       read.1,
     )

@@ -1,6 +1,5 @@
-use Rattle.std.proofs.Common.{◌≡◌, ℕ, ◌+◌, ◌-◌, ◌≤◌, List, ◌++◌, length}
-use Rattle.ipfix_templates.specs.declared.event.TemplateEvent.{TemplateEvent}
-use Rattle.ipfix_templates.specs.InForce.{Follows}
+use Rattle.std.proofs.Common.{◌≡◌, ◌+◌, ◌-◌, ◌≤◌, length}
+use Rattle.ipfix_templates.specs.InForce.{in_force, template_at}
 use Rattle.ipfix_read.specs.Set.{events_of_sets, sets_reading}
 use Rattle.ipfix_read.specs.Message.{message_size}
 use Rattle.ipfix_read.proofs.Sets.{sets_from}
@@ -9,9 +8,9 @@ use Rattle.ipfix_read.proofs.set.read_sets.Given as goal
 abbrev pub invariant-loop-rest : goal.invariant-loop-rest
 invariant-loop-rest l = record {
   within : message_size l.sets + length l.rest ≤ length l.bytes;
-  read : (history : List (ℕ × TemplateEvent)) → Follows l.initial.table history
-      → (sets_reading history l.domain l.base l.bytes ≡ sets_from history l.domain l.sets (l.base + (length l.bytes - length l.rest)) l.rest)
-      × Follows l.table (history ++ events_of_sets l.domain l.sets);
+  read : sets_reading (template_at l.initial.table) l.domain l.base l.bytes
+      ≡ sets_from (template_at l.initial.table) l.domain l.sets (l.base + (length l.bytes - length l.rest)) l.rest;
+  table : template_at l.table ≡ in_force (template_at l.initial.table) (events_of_sets l.domain l.sets);
 }
 
 abbrev pub decreases-loop-rest : goal.decreases-loop-rest

@@ -1,33 +1,19 @@
-use Rattle.std.proofs.Common.{subst}
-use Rattle.ipfix_templates.specs.InForce.{DropsKind, Table, template_at}
-use Rattle.ipfix_templates.proofs.Parts.{flow_dropped, options_dropped, flow_dropped_parted, options_dropped_parted}
-use Rattle.ipfix_templates.proofs.History.{follows_withdraw_all}
+use Rattle.std.proofs.Common.{ap, ◌∙◌}
+use Rattle.ipfix_templates.specs.InForce.{Table, WithdrawAll, after_event, template_at}
+use Rattle.ipfix_templates.specs.Template.{Flow, Options}
+use Rattle.ipfix_templates.proofs.Parts.{flow_dropped, options_dropped}
 use Rattle.ipfix_templates.proofs.table.TemplateTable.withdraw_all.Goals as goal
 
-flow_changes : (c : goal.After-remove_all) → DropsKind (template_at c.args.self.now) (template_at (c.remove_all.new.self, c.self.inside.options)) c.args.domain c.args.kind
-flow_changes c =
-    subst (λ (old : Table). DropsKind (template_at old) (template_at (c.remove_all.new.self, c.self.inside.options)) c.args.domain c.args.kind) c.self.view_is
-    (rw c.in-Flow.is (flow_dropped _ _ c.args.domain c.self.invariant _ c.remove_all.ensures))
-
-options_changes : (c : goal.After-remove_all-in-Options) → DropsKind (template_at c.args.self.now) (template_at (c.self.inside.flow, c.remove_all-in-Options.new.self)) c.args.domain c.args.kind
-options_changes c =
-    subst (λ (old : Table). DropsKind (template_at old) (template_at (c.self.inside.flow, c.remove_all-in-Options.new.self)) c.args.domain c.args.kind) c.self.view_is
-    (rw c.in-Options.is (options_dropped _ _ c.args.domain c.self.invariant _ c.remove_all-in-Options.ensures))
-
 pub invariant_of-self : goal.invariant_of-self
-invariant_of-self c = flow_dropped_parted _ _ c.args.domain c.self.invariant _ c.remove_all.ensures
+invariant_of-self c = (flow_dropped _ _ c.args.domain c.self.invariant _ c.remove_all.ensures).1
 
 pub invariant_of-self-in-Options : goal.invariant_of-self-in-Options
-invariant_of-self-in-Options c = options_dropped_parted _ _ c.args.domain c.self.invariant _ c.remove_all-in-Options.ensures
+invariant_of-self-in-Options c = (options_dropped _ _ c.args.domain c.self.invariant _ c.remove_all-in-Options.ensures).1
 
-pub returns-in-Flow-clause-change : goal.returns-in-Flow-clause-change
-returns-in-Flow-clause-change c = flow_changes c
+pub returns-in-Flow : goal.returns-in-Flow
+returns-in-Flow c = rw c.in-Flow.is ((flow_dropped _ _ c.args.domain c.self.invariant _ c.remove_all.ensures).0
+    ∙ ap (λ (table : Table). after_event (template_at table) (c.args.domain, WithdrawAll Flow)) c.self.view_is)
 
-pub returns-in-Flow-clause-follows : goal.returns-in-Flow-clause-follows
-returns-in-Flow-clause-follows c = follows_withdraw_all c.args.self.now _ c.args.domain c.args.kind (flow_changes c)
-
-pub returns-in-Options-clause-change : goal.returns-in-Options-clause-change
-returns-in-Options-clause-change c = options_changes c
-
-pub returns-in-Options-clause-follows : goal.returns-in-Options-clause-follows
-returns-in-Options-clause-follows c = follows_withdraw_all c.args.self.now _ c.args.domain c.args.kind (options_changes c)
+pub returns-in-Options : goal.returns-in-Options
+returns-in-Options c = rw c.in-Options.is ((options_dropped _ _ c.args.domain c.self.invariant _ c.remove_all-in-Options.ensures).0
+    ∙ ap (λ (table : Table). after_event (template_at table) (c.args.domain, WithdrawAll Options)) c.self.view_is)
