@@ -1,18 +1,59 @@
 -- The items of a text that is read item by item, and the options that are read one by one.
-use Rattle.std.proofs.Common.{◌≡◌, ◌∙◌, inl, inr, ℕ, zero, suc, ◌+◌, ◌<◌, false, List, [], ◌∷◌, ◌++◌, Option, Some, None, Ok, add-one, append_assoc, arith, drop, get_or, length, map, option_map, refl, sym, ap}
-use Rattle.std.specs.Prelude.{find}
-use Rattle.std.specs.Option.{option_to_list}
+use Rattle.std.proofs.Common.{◌≡◌, ◌∙◌, inl, inr, ℕ, zero, suc, ◌+◌, ◌<◌, ◌==◌, ◌&&◌, ◌||◌, false, List, [], ◌∷◌, ◌++◌, Option, Some, None, Ok, add-one, append_assoc, arith, drop, get_or, length, map, option_map, refl, sym, ap}
+use Rattle.std.specs.Prelude.{find, is_none}
+use Rattle.std.specs.List.{list_any}
+use Rattle.std.specs.Option.{option_map_or, option_to_list}
 use Rattle.std.proofs.lemmas.List.{append-nil}
 use Rattle.std.proofs.lemmas.List.Folds.{find-append}
-use Rattle.flow_filter.specs.Condition.{Condition, Part, filter_of, given, is_malformed, unless_malformed}
-use Rattle.flow_filter.specs.Filters.{IsFault, IsRefused}
-use Rattle.flow_filter.specs.Options.{FilterFaultKind, FilterOption}
-use Rattle.prefix_keys.specs.Text.{all_some}
+use Rattle.std.proofs.lemmas.List.Splits.{slice_split_none}
+use Rattle.std.proofs.lemmas.Option.{same_Some}
+use Rattle.prefix_keys.specs.Text.{AddressOf, all_some}
+use Rattle.flow_rows.specs.Elements.{RowView}
+use Rattle.flow_filter.specs.Condition.{Condition, Part, Range, RowTest, filter_of, given, is_malformed, item_test, items_of, meets, unless_malformed}
+use Rattle.flow_filter.specs.Filters.{HasRanges, IsFault, IsRefused}
+use Rattle.flow_filter.specs.Options.{FilterFaultKind, FilterOption, is_list, AnyLabel, DestinationLabel, SourceLabel}
 use Rattle.flow_filter.specs.declared.option.TheConstants.{ALL_OPTIONS}
 
--- the items that were read, followed by those of the remaining parts
-abbrev pub as_read : {X : Type 0} → (List ℕ → Option X) → List X → List (List ℕ) → Option (List X)
-as_read read xs rest = option_map (λ ys. xs ++ ys) (all_some (map read rest))
+-- one more item that exists
+pub all_some-push : {X : Type 0} (os : List (Option X)) (xs : List X) (x : X) → all_some os ≡ Some xs
+    → all_some (os ++ Some x ∷ []) ≡ Some (xs ++ x ∷ [])
+all_some-push [] xs x is = ap (λ l. Some (l ++ x ∷ [])) (same_Some _ _ is)
+all_some-push (None ∷ os) xs x is = absurd (cc)
+all_some-push {X} (Some y ∷ os) xs x is = by (all_some os) (λ ys. all_some-push os ys x) is
+  where
+    by : (r : Option (List X)) → ((ys : List X) → r ≡ Some ys → all_some (os ++ Some x ∷ []) ≡ Some (ys ++ x ∷ []))
+        → option_map (λ ys. y ∷ ys) r ≡ Some xs → option_map (λ ys. y ∷ ys) (all_some (os ++ Some x ∷ [])) ≡ Some (xs ++ x ∷ [])
+    by None more is = absurd (cc)
+    by (Some ys) more is = rw (more ys refl) (ap (λ l. Some (l ++ x ∷ [])) (same_Some _ _ is))
+
+-- an item that doesn't exist
+pub all_some-none : {X : Type 0} (os : List (Option X)) (k : ℕ) (d : Option X) → k < length os → get_or os k d ≡ None → all_some os ≡ None
+all_some-none [] k d within is = absurd (omega (arith, within))
+all_some-none (o ∷ os) zero d within is = rw is refl
+all_some-none (None ∷ os) (suc k) d within is = refl
+all_some-none (Some y ∷ os) (suc k) d within is = rw (all_some-none os k d (omega (arith, within)) is) refl
+
+-- the whole text is the only item of an option without a list
+only_item : (o : FilterOption) (text : List ℕ) → is_list o ≡ false → items_of o text ≡ text ∷ []
+only_item o text single = slice_split_none (λ b. is_list o && b == 44) text (λ k d within. rw single refl)
+
+pub meets_one : (o : FilterOption) (text : List ℕ) (label : AddressOf → Option (List ℕ)) (row : RowView) → is_list o ≡ false
+    → meets label row (o, text) ≡ option_map_or (λ test. test label row || false) (item_test o text) false
+meets_one o text label row single =
+    ap (λ items. option_map_or (list_any (λ test. test label row)) (all_some (map (item_test o) items)) false) (only_item o text single)
+    ∙ one (item_test o text)
+  where
+    one : (test : Option RowTest)
+        → option_map_or (list_any (λ test. test label row)) (all_some (test ∷ [])) false ≡ option_map_or (λ test. test label row || false) test false
+    one None = refl
+    one (Some test) = refl
+
+-- a text with ranges is well formed, and so is any label
+pub is_sound : (o : FilterOption) (text : List ℕ) (ranges : List Range) → HasRanges (o, text) ranges → is_malformed (o, text) ≡ false
+is_sound SourceLabel text ranges has = ap (λ items. is_none (all_some (map (item_test SourceLabel) items))) (only_item SourceLabel text refl)
+is_sound DestinationLabel text ranges has = ap (λ items. is_none (all_some (map (item_test DestinationLabel) items))) (only_item DestinationLabel text refl)
+is_sound AnyLabel text ranges has = ap (λ items. is_none (all_some (map (item_test AnyLabel) items))) (only_item AnyLabel text refl)
+is_sound o text ranges has = ap is_none (has refl)
 
 -- the parts are the options before an index that are given, and none is malformed
 pub record AreRead (texts : List (Option (List ℕ))) (at : ℕ) (parts : Condition) : Type 0 where

@@ -1,6 +1,6 @@
-use Rattle.std.specs.Prelude.{ℕ, ◌-◌, ◌^◌, ◌==◌, Bool, true, false, List, [], ◌∷◌, ◌++◌, Option, Some, None, Result, Ok, Err, ◌&&◌, nat_le, ◌||◌, filter, find, if◌then◌else◌, is_none, map, option_map}
+use Rattle.std.specs.Prelude.{ℕ, ◌-◌, ◌^◌, ◌==◌, Bool, true, false, List, [], ◌∷◌, ◌++◌, Option, Some, None, Result, Ok, Err, ◌&&◌, nat_le, ◌||◌, filter, find, is_none, map, option_map}
 use Rattle.std.specs.List.{list_all, list_any, slice_split}
-use Rattle.std.specs.Option.{option_map_or, option_to_list}
+use Rattle.std.specs.Option.{option_eq, option_map_or, option_to_list}
 use Rattle.std.specs.Str.{bytes_eq}
 use Rattle.prefix_keys.specs.Block.{block_number, width_of}
 use Rattle.prefix_keys.specs.Conversion.{converted}
@@ -25,44 +25,37 @@ covers (version, value, len) address =
 abbrev pub in_range : ℕ → Range → Bool
 in_range n r = nat_le r.low n && nat_le n r.high
 
--- the label exists and is this one
-abbrev pub is_this_label : List ℕ → Option (List ℕ) → Bool
-is_this_label label found = option_map_or (λ text. bytes_eq text label) found false
-
 -- a test of a row, by the labels of its addresses
 abbrev pub RowTest : Type 0
 RowTest = (AddressOf → Option (List ℕ)) → RowView → Bool
 
--- the test that a range covers a number of the row, and that a block covers an address of the row
+-- the test that a range covers a number of the row, that a block covers an address of the row, and that an address of the
+-- row has this label
 abbrev pub by_number : (RowView → ℕ) → Option Range → Option RowTest
 by_number number = option_map (λ range label row. in_range (number row) range)
 
-abbrev pub by_address : (RowView → AddressOf) → Option BlockOf → Option RowTest
-by_address address = option_map (λ block label row. covers block (address row))
+abbrev pub by_address : (RowView → ℕ) → Option BlockOf → Option RowTest
+by_address address = option_map (λ block label row. covers block (row.version, address row))
 
--- the source and the destination of a row
-abbrev pub src : RowView → AddressOf
-src row = (row.version, row.src)
-
-abbrev pub dst : RowView → AddressOf
-dst row = (row.version, row.dst)
+abbrev pub by_label : (RowView → ℕ) → List ℕ → RowTest
+by_label address item label row = option_eq bytes_eq (label (row.version, address row)) (Some item)
 
 -- the test that an item of an option's text states
 abbrev pub item_test : FilterOption → List ℕ → Option RowTest
 item_test Protocol item = by_number (λ row. row.protocol) (number_range false 255 item)
 item_test SourcePort item = by_number (λ row. row.sport) (number_range false 65535 item)
 item_test DestinationPort item = by_number (λ row. row.dport) (number_range false 65535 item)
-item_test SourceAddress item = by_address src (address_item item)
-item_test DestinationAddress item = by_address dst (address_item item)
+item_test SourceAddress item = by_address (λ row. row.src) (address_item item)
+item_test DestinationAddress item = by_address (λ row. row.dst) (address_item item)
 item_test Packets item = by_number (λ row. row.packets) (number_range true (2 ^ 64 - 1) item)
 item_test Bytes item = by_number (λ row. row.octets) (number_range true (2 ^ 64 - 1) item)
-item_test SourceLabel item = Some (λ label row. is_this_label item (label (src row)))
-item_test DestinationLabel item = Some (λ label row. is_this_label item (label (dst row)))
-item_test AnyLabel item = Some (λ label row. is_this_label item (label (src row)) || is_this_label item (label (dst row)))
+item_test SourceLabel item = Some (by_label (λ row. row.src) item)
+item_test DestinationLabel item = Some (by_label (λ row. row.dst) item)
+item_test AnyLabel item = Some (λ label row. by_label (λ row. row.src) item label row || by_label (λ row. row.dst) item label row)
 
 -- the items of an option's text: those between commas if it is a list, otherwise the whole text
 abbrev pub items_of : FilterOption → List ℕ → List (List ℕ)
-items_of o = if is_list o then slice_split (λ b. b == 44) else (λ text. text ∷ [])
+items_of o = slice_split (λ b. is_list o && b == 44)
 
 -- an option that is given, with its text
 abbrev pub Part : Type 0

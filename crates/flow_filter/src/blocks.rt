@@ -1,5 +1,5 @@
 //! The blocks of the items of an address list, and the IPv6 numbers of their addresses.
-ghost use Rattle.std.specs.Prelude.{◌≡◌, option_map};
+ghost use Rattle.std.specs.Prelude.{◌≡◌, ℕ, option_map};
 ghost use Rattle.prefix_keys.specs.Text.{AddressOf};
 ghost use Rattle.flow_rows.specs.Elements.{RowView};
 ghost use Rattle.flow_filter.specs.Condition.{by_address, covers, in_range};
@@ -42,7 +42,7 @@ pub fn place_of(addr: Addr) -> u128
 
 /// Reads the IPv6 numbers of the addresses that an item of an address list covers.
 pub fn read_places(text: &[u8]) -> Option<Range>
-    ensures { (address : RowView → AddressOf) → option_map (λ range label row. in_range (mapped_number (address row)) range) result
+    ensures { (address : RowView → ℕ) → option_map (λ range label row. in_range (mapped_number (row.version, address row)) range) result
         ≡ by_address address (address_item text.now) }
 {
     let block = read_item(text)?;

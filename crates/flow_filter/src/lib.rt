@@ -17,11 +17,10 @@
 //! if each text given is well formed, and otherwise the fault is that of the first malformed text, in the order of the
 //! options. `passes` returns whether the row meets each condition given. `needs_map` returns whether a condition is on
 //! a label. Contracts see a filter as its condition: the options given, each with its text. How the numbers that a text
-//! allows are stored is private. A row is looked up in them by a search in sorted ranges, which allocates nothing.
+//! allows are stored is private. `passes` allocates nothing.
 #![tactic(auto)]
 
 mod blocks;
-mod cut;
 mod fault;
 mod filter;
 mod items;
@@ -30,7 +29,6 @@ mod number;
 mod option;
 mod part;
 mod range;
-mod ranges;
 mod words;
 
 pub use fault::{FilterFault, FilterFaultKind};

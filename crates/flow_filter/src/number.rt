@@ -1,15 +1,16 @@
 //! The numbers and the ranges of texts.
 ghost use Rattle.std.specs.Prelude.{◌≡◌};
-ghost use Rattle.flow_filter.specs.Texts.{bounded_number, number_range, upper_end};
+ghost use Rattle.prefix_keys.specs.Text.{decimal_number};
+ghost use Rattle.flow_filter.specs.Texts.{number_range, upper_end};
 
-use crate::cut::cut;
 use crate::range::Range;
+use prefix_keys::cut;
 
 // Returns the number that 1 to 20 digits represent, or `None` if the text is anything else or the number exceeds the
 // limit.
 #[tactic(auto, using(crate::proofs::Digits::digits_room))]
 fn read_number(text: &[u8], limit: u64) -> Option<u128>
-    ensures { result ≡ bounded_number limit text.now }
+    ensures { result ≡ decimal_number 20 limit text.now }
 {
     if text.is_empty() || text.len() > 20 {
         return None;
@@ -46,9 +47,10 @@ pub fn read_range(text: &[u8], limit: u64, may_be_open: bool) -> Option<Range>
 {
     let (front, back) = cut(text, b'-');
     let low = read_number(front, limit)?;
-    let high = match back {
-        None => low,
-        Some(back) => read_end(back, limit, may_be_open)?,
+    let high = if text.contains(&b'-') {
+        read_end(back, limit, may_be_open)?
+    } else {
+        low
     };
     if low <= high {
         Some(Range { low, high })

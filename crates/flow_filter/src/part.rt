@@ -1,6 +1,9 @@
-ghost use Rattle.std.specs.Prelude.{◌≡◌, ◌++◌, ◌∷◌, [], IfErr, OnOk, false};
+ghost use Rattle.std.specs.Prelude.{◌≡◌, ◌++◌, ◌∷◌, [], IfErr, OnOk, Some, false, true};
 ghost use Rattle.label_lookup.specs.Labelling.{label_where, labelling_lent};
-ghost use Rattle.flow_filter.specs.Condition.{is_malformed, is_this_label, meets};
+ghost use Rattle.std.specs.List.{list_any};
+ghost use Rattle.std.specs.Option.{option_eq};
+ghost use Rattle.std.specs.Str.{bytes_eq};
+ghost use Rattle.flow_filter.specs.Condition.{in_range, is_malformed, meets};
 ghost use Rattle.flow_filter.specs.Filters.{IsRefused, number_of};
 ghost use Rattle.flow_filter.specs.Options.{is_on_labels};
 
@@ -8,7 +11,7 @@ use crate::blocks::place_of;
 use crate::fault::FilterFaultKind;
 use crate::items::{push, read_ranges};
 use crate::option::FilterOption;
-use crate::ranges::Ranges;
+use crate::range::Range;
 use flow_rows::Row;
 use label_lookup::{Labeller, label_row_under};
 use prefix_keys::Addr;
@@ -20,8 +23,8 @@ use std::marker::Model;
 pub struct ReadPart<'a> {
     option: FilterOption,
     text: &'a str,
-    // The numbers that the text allows, unless it is a label.
-    ranges: Ranges,
+    // The ranges of the items of the text, unless it is a label.
+    ranges: Vec<Range>,
 }
 
 impl<'a> Model for ReadPart<'a> {
@@ -32,7 +35,7 @@ impl<'a> Model for ReadPart<'a> {
 
     ghost view = { λ p. (p.option, p.text.now) };
 
-    ghost invariant = { λ p. HasRanges (p.option, p.text.now) p.ranges };
+    ghost invariant = { λ p. HasRanges (p.option, p.text.now) p.ranges.items };
 }
 
 // Returns the number that an option compares. That of an address is its number as an IPv6 address.
@@ -51,16 +54,21 @@ fn number_of(option: FilterOption, row: &Row<'_>) -> u128
     }
 }
 
-// Returns `true` if the row's address has this label. Out of line, so that `meets` needs little of the stack.
-#[inline(never)]
-fn has_label<L: Labeller>(label: &str, labeller: Option<&L>, addr: Addr) -> bool
-    ensures { result ≡ is_this_label label.now
-        (label_where (labelling_lent L.version_of L.label labeller.entry) (addr.version, addr.value)) }
+// Returns `true` if the number is in one of the ranges.
+fn is_in(number: u128, ranges: &[Range]) -> bool
+    ensures { result ≡ list_any (in_range number) ranges.now }
 {
-    match label_row_under(labeller, addr) {
-        None => false,
-        Some(found) => found == label.as_bytes(),
-    }
+    ranges
+        .iter()
+        .any(|range| range.low <= number && number <= range.high)
+}
+
+// Returns `true` if the address has this label.
+fn has_label<L: Labeller>(label: &str, labeller: Option<&L>, addr: Addr) -> bool
+    ensures { result ≡ option_eq bytes_eq
+        (label_where (labelling_lent L.version_of L.label labeller.entry) (addr.version, addr.value)) (Some label.now) }
+{
+    label_row_under(labeller, addr) == Some(label.as_bytes())
 }
 
 /// Reads the text of an option, and appends the part.
@@ -88,14 +96,25 @@ impl<'a> ReadPart<'a> {
     pub fn meets<L: Labeller>(&self, row: &Row<'_>, labeller: Option<&L>) -> bool
         ensures { result ≡ meets (label_where (labelling_lent L.version_of L.label labeller.entry)) row.now self.now }
     {
+        if self.is_on_labels() {
+            return self.meets_label(row, labeller);
+        }
+        is_in(number_of(self.option, row), self.ranges.as_slice())
+    }
+
+    // Whether an address of the row has the label. Out of line, so that `meets` needs little of the stack.
+    #[inline(never)]
+    fn meets_label<L: Labeller>(&self, row: &Row<'_>, labeller: Option<&L>) -> bool
+        requires { is_on_labels self.now.0 ≡ true }
+        ensures { result ≡ meets (label_where (labelling_lent L.version_of L.label labeller.entry)) row.now self.now }
+    {
         match self.option {
             FilterOption::SourceLabel => has_label(self.text, labeller, row.src()),
             FilterOption::DestinationLabel => has_label(self.text, labeller, row.dst()),
-            FilterOption::AnyLabel => {
+            _ => {
                 has_label(self.text, labeller, row.src())
                     || has_label(self.text, labeller, row.dst())
             }
-            option => self.ranges.covers(number_of(option, row)),
         }
     }
 

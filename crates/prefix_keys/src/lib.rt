@@ -31,7 +31,7 @@ mod version;
 pub use addr::Addr;
 pub use block::{Block, block_of, whole_space};
 pub use conversion::convert;
-pub use cutting::find_byte;
+pub use cutting::{cut, find_byte};
 pub use decimal::{are_digits, read_decimal};
 pub use laws::{address_is_read_back, block_is_read_back, longest_run_is_longest};
 pub use print::{print_addr, print_block, write_addr};
