@@ -1,7 +1,7 @@
 -- The lines of nodes as the code stores them.
-use Rattle.std.proofs.Common.{◌≡◌, ℕ, zero, suc, ◌+◌, ◌-◌, ◌<◌, ◌≤◌, ◌∙◌, List, [], ◌∷◌, ◌++◌, All, length, map, take, drop, refl, sym, ap, subst, arith, length-append, length-drop}
+use Rattle.std.proofs.Common.{◌≡◌, ℕ, zero, suc, ◌+◌, ◌-◌, ◌<◌, ◌≤◌, ◌∙◌, List, [], ◌∷◌, ◌++◌, All, length, map, reverse, take, drop, refl, sym, ap, subst, arith, length-append, length-drop}
 use Rattle.std.specs.List.{slice_range}
-use Rattle.std.proofs.lemmas.List.{drop-append-le, append-nil, get_or_append_left, get_or_push, map-append, take-append-le}
+use Rattle.std.proofs.lemmas.List.{drop-append-le, append-nil, get_or_append_left, get_or_push, map-append, reverse-append, take-append-le}
 use Rattle.std.proofs.lemmas.List.Elements.{All-head, All-push, All-tail, All-weaker}
 use Rattle.pmap_text.specs.declared.label.LabelId.{LabelId}
 use Rattle.pmap_cert.specs.FormatReading.{ChainLine, DueLine, InnerLine}
@@ -121,3 +121,9 @@ module _ (s s' : Store) (ps : List Packed) (lines : List DueLine) (m : IsMore s 
       line-pushed ps' (Chain low high) (ChainLine c.cost (bits_in c.path) c.side.0 numbers)
       (omega arith, subst (λ (chain : PackedChain). HasSet s'.labels chain.set) (sym here) held.whole)
       (ap (chain_in s') here ∙ (λ i. ChainLine c.cost (bits_in c.path) c.side.0 (held.set i))) pushed
+
+pub map-reverse : {A B : Type 0} (f : A → B) (xs : List A) → map f (reverse xs) ≡ reverse (map f xs)
+map-reverse f [] = refl
+map-reverse f (x ∷ xs) =
+    ap (map f) (reverse-append (x ∷ []) xs) ∙ map-append f (reverse xs) (x ∷ [])
+    ∙ (λ i. map-reverse f xs i ++ f x ∷ []) ∙ sym (reverse-append (f x ∷ []) (map f xs))

@@ -1,4 +1,4 @@
-ghost use Rattle.std.specs.Prelude.{◌≡◌, ◌<◌, ◌++◌, ◌∷◌, [], IfOk, None, OnErr, OnOk, length, map, option_map, slice_index_or};
+ghost use Rattle.std.specs.Prelude.{◌≡◌, ◌<◌, ◌++◌, ◌∷◌, [], IfOk, None, OnErr, OnOk, length, map, option_map, reverse, slice_index_or};
 ghost use Rattle.pmap_cert.specs.FormatReading.{ChainLine, InnerLine, LeafLine};
 ghost use Rattle.pmap_cert.specs.Node.{bits_of, cost_of, label_of, node_of, set_of, side_of};
 ghost use Rattle.pmap_cert.specs.Packed.{bits_in};
@@ -75,6 +75,17 @@ impl Nodes {
             chains: Vec::new(alloc),
             sets: SetPool::new(alloc),
         }
+    }
+
+    /// Constructs an empty list with room for this many lines and chains.
+    pub fn with_capacity(alloc: Global, lines: usize, chains: usize) -> Result<Nodes, AllocError>
+        ensures { IfOk result (λ nodes. nodes ≡ []) }
+    {
+        Ok(Nodes {
+            lines: Vec::with_capacity(alloc, lines)?,
+            chains: Vec::with_capacity(alloc, chains)?,
+            sets: SetPool::new(alloc),
+        })
     }
 
     /// Returns the number of nodes.
@@ -189,6 +200,13 @@ impl Nodes {
             Packed::Leaf(_) | Packed::Inner(_, _) => None,
             Packed::Chain(low, high) => Some(self.chains[joined_halves(low, high)].side),
         }
+    }
+
+    /// Reverses the order of the lines.
+    pub fn reverse(&mut self)
+        ensures { self.new ≡ reverse self.old }
+    {
+        self.lines.reverse();
     }
 
     /// Copies the nodes.

@@ -1,4 +1,4 @@
-ghost use Rattle.std.specs.Prelude.{◌≡◌, IfOk};
+ghost use Rattle.std.specs.Prelude.{◌≡◌, IfOk, reverse};
 ghost use Rattle.pmap_cert.specs.Node.{IsTree, Node, lines_of};
 
 use crate::nodes::Nodes;
@@ -32,6 +32,16 @@ impl Root {
         ensures { (node : Node) → nodes ≡ lines_of node → result ≡ node }
     {
         Root { nodes }
+    }
+
+    /// Returns the tree whose lines in reverse order are these: the line of a node follows those of the nodes below it.
+    pub fn of_reversed(nodes: Nodes) -> Root
+        requires { IsTree (reverse nodes) }
+        ensures { (node : Node) → reverse nodes ≡ lines_of node → result ≡ node }
+    {
+        let mut nodes = nodes;
+        nodes.reverse();
+        Root::new(nodes)
     }
 
     /// Returns the lines of the tree.
