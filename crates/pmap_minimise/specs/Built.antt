@@ -19,37 +19,13 @@ use Rattle.pmap_cert.specs.CertificateText.{IsAscending, inner_line, leaf_line, 
 use Rattle.pmap_minimise.specs.Runs.{IsMade}
 use Rattle.pmap_text.specs.declared.window.Window.{Window}
 use Rattle.pmap_minimise.specs.Numbers.{IsCertified, has_number, IsExactSet}
+pub use Rattle.pmap_minimise.specs.Opened.{cost_above, node_over, node_text, path_node, set_above, side_after, side_before, with_number}
 pub use Rattle.pmap_minimise.specs.declared.built.Built.{Built}
 pub use Rattle.pmap_minimise.specs.declared.built.Chain.{Chain}
 pub use Rattle.pmap_minimise.specs.declared.built.Claim.{Claim}
 use Rattle.pmap_minimise.specs.declared.built.Line.TheVariants.{Chain as ChainLine, Inner as InnerLine, Leaf as LeafLine}
 
 -- The compact certificate as it is built: the lines of a node come after those of its halves, the higher half's first.
-
--- the set with one more number, in ascending order
-abbrev pub with_number : ℕ → List ℕ → List ℕ
-with_number n [] = n ∷ []
-with_number n (m ∷ ms) = if nat_lt n m then n ∷ m ∷ ms else m ∷ with_number n ms
-
--- The set of a node of a run that has `more` nodes of the run below it, and the cost of each node of the run, by the
--- side label and the run's end.
-abbrev pub set_above : ℕ → List ℕ → ℕ → List ℕ
-set_above side set zero = if has_number set side then side ∷ [] else with_number side set
-set_above side set (suc more) = side ∷ []
-
-abbrev pub cost_above : ℕ → Node → ℕ
-cost_above side end = if has_number (set_of end) side then cost_of end else cost_of end + 1
-
--- an inner node over the half that a run chooses, the lower one if the digit is 0, and the side block's leaf
-abbrev pub node_over : ℕ → ℕ → List ℕ → Node → Node → Node
-node_over zero cost set path side = Inner cost set path side
-node_over (suc digit) cost set path side = Inner cost set side path
-
--- the node from which a run of `bits` bits leads to the node `end`, whose block has the number `value`
-abbrev pub path_node : ℕ → ℕ → ℕ → Node → Node
-path_node side value zero end = end
-path_node side value (suc bits) end =
-    node_over (digit value bits) (cost_above side end) (set_above side (set_of end) bits) (path_node side value bits end) (Leaf side)
 
 pub record IsLeafAt (b : Built) (label : ℕ) (node : Node) (from to : ℕ) : Type 0 where
   pub line_is : slice_get b.lines.items from ≡ Some (LeafLine (record { 0 = label }))
@@ -176,24 +152,12 @@ pub record AddsChain (below : Claim) (side : LabelId) (end bits : ℕ) (old new 
   pub held : IsHeldAs old.sets new.sets (side.0 ∷ []) claim.set
   pub fits : side.0 < 2 ^ 32
 
-abbrev pub node_text : Node → List ℕ
-node_text node = text_of_lines (map line_text (lines_of node))
-
 -- the line of a chain's node that claims the side label alone, and that of a side block
 abbrev pub path_line : Chain → List ℕ
 path_line chain = inner_line chain.cost (chain.side.0 ∷ []) ++ 10 ∷ []
 
 abbrev pub side_line : Chain → List ℕ
 side_line chain = leaf_line chain.side.0 ++ 10 ∷ []
-
--- a side block's line if it comes before the chain's end, and if it comes after it, by the digit of the chain there
-abbrev pub side_before : ℕ → ℕ → List ℕ
-side_before side zero = []
-side_before side (suc digit) = leaf_line side ++ 10 ∷ []
-
-abbrev pub side_after : ℕ → ℕ → List ℕ
-side_after side zero = leaf_line side ++ 10 ∷ []
-side_after side (suc digit) = []
 
 -- the text of the last `bits` nodes of a chain and of their side blocks before its end, whose set is `set`
 abbrev pub text_down : Chain → List ℕ → ℕ → List ℕ

@@ -1,4 +1,5 @@
 pub mod Numbers
+pub mod Opened
 pub mod Listing
 pub mod Runs
 pub mod Built

@@ -1,0 +1,83 @@
+use Rattle.std.specs.Prelude.{◌≡◌, ℕ, zero, suc, ◌+◌, ◌≤◌, Bool, List, [], ◌∷◌, ◌++◌, if◌then◌else◌, map, nat_lt}
+use Rattle.pmap_cert.specs.CertificateText.{inner_line, leaf_line, text_of_lines}
+use Rattle.pmap_cert.specs.Node.{Chain, Inner, Leaf, Node, cost_of, line_text, lines_of, set_of}
+use Rattle.pmap_cert.specs.Paths.{digit, path_to}
+use Rattle.pmap_minimise.specs.Numbers.{has_number}
+
+-- A compact node and the node with each of its chains opened: a chain turns into the inner nodes of its run, each with
+-- its exact claim, and the leaves beside them.
+
+-- the set with one more number, in ascending order
+abbrev pub with_number : ℕ → List ℕ → List ℕ
+with_number n [] = n ∷ []
+with_number n (m ∷ ms) = if nat_lt n m then n ∷ m ∷ ms else m ∷ with_number n ms
+
+-- The set of a node of a run that has `more` nodes of the run below it, and the cost of each node of the run, by the
+-- side label and the run's end.
+abbrev pub set_above : ℕ → List ℕ → ℕ → List ℕ
+set_above side set zero = if has_number set side then side ∷ [] else with_number side set
+set_above side set (suc more) = side ∷ []
+
+abbrev pub cost_above : ℕ → Node → ℕ
+cost_above side end = if has_number (set_of end) side then cost_of end else cost_of end + 1
+
+-- an inner node over the half that a run chooses, the lower one if the digit is 0, and the side block's leaf
+abbrev pub node_over : ℕ → ℕ → List ℕ → Node → Node → Node
+node_over zero cost set path side = Inner cost set path side
+node_over (suc digit) cost set path side = Inner cost set side path
+
+-- the node from which a run of `bits` bits leads to the node `end`, whose block has the number `value`
+abbrev pub path_node : ℕ → ℕ → ℕ → Node → Node
+path_node side value zero end = end
+path_node side value (suc bits) end =
+    node_over (digit value bits) (cost_above side end) (set_above side (set_of end) bits) (path_node side value bits end) (Leaf side)
+
+pub record OpensInner (cost : ℕ) (set : List ℕ) (OpensLower OpensUpper : Node → Type 0) (node : Node) : Type 0 where
+  pub lower : Node
+  pub upper : Node
+  pub low : OpensLower lower
+  pub high : OpensUpper upper
+  pub node_is : node ≡ Inner cost set lower upper
+
+-- the chain has two bits or more, and its claim is the exact one of the run's first node
+pub record OpensChain (cost : ℕ) (set : List ℕ) (bits : List Bool) (side : ℕ) (OpensEnd : Node → Type 0) (node : Node) : Type 0 where
+  pub value : ℕ
+  pub count : ℕ
+  pub end : Node
+  pub below : OpensEnd end
+  pub cost_is : cost ≡ cost_above side end
+  pub set_is : set ≡ side ∷ []
+  pub bits_are : bits ≡ path_to value count
+  pub long : 2 ≤ count
+  pub few : count ≤ 128
+  pub node_is : node ≡ path_node side value count end
+
+-- opening each chain of the first node gives the second one
+abbrev pub Opens : Node → Node → Type 0
+Opens (Leaf label) node = node ≡ Leaf label
+Opens (Inner cost set lower upper) node = OpensInner cost set (Opens lower) (Opens upper) node
+Opens (Chain cost set bits side end) node = OpensChain cost set bits side (Opens end) node
+
+abbrev pub node_text : Node → List ℕ
+node_text node = text_of_lines (map line_text (lines_of node))
+
+-- a side block's line if it comes before a chain's end, and if it comes after it, by the digit of the chain there
+abbrev pub side_before : ℕ → ℕ → List ℕ
+side_before side zero = []
+side_before side (suc digit) = leaf_line side ++ 10 ∷ []
+
+abbrev pub side_after : ℕ → ℕ → List ℕ
+side_after side zero = leaf_line side ++ 10 ∷ []
+side_after side (suc digit) = []
+
+-- The text of the last `bits` nodes of a chain and of their side blocks before its end, whose set is `set`. The chain
+-- has this cost, this side label and this end.
+abbrev pub text_down : ℕ → ℕ → ℕ → List ℕ → ℕ → List ℕ
+text_down cost side value set zero = []
+text_down cost side value set (suc bits) =
+    (inner_line cost (set_above side set bits) ++ 10 ∷ []) ++ (side_before side (digit value bits) ++ text_down cost side value set bits)
+
+-- the text of the side blocks after a chain's end, for the last `bits` nodes of the chain
+abbrev pub text_up : ℕ → ℕ → ℕ → List ℕ
+text_up side value zero = []
+text_up side value (suc bits) = text_up side value bits ++ side_after side (digit value bits)
