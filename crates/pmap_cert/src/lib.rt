@@ -49,7 +49,7 @@ pub use chain_laws::{
     opened_is_accepted, text_of_format_is_read_or_has_a_fault,
 };
 pub use compacting::compact;
-pub use cursor::Cursor;
+pub use cursor::{Cursor, cursor_of};
 pub use fault::{CertFault, CertFaultKind};
 pub use format::Format;
 pub use laws::{

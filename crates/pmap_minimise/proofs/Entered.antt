@@ -3,10 +3,11 @@ use Rattle.std.proofs.Common.{◌≡◌, ℕ, suc, ◌+◌, ◌-◌, ◌*◌, �
 use Rattle.std.specs.Option.{ForSome}
 use Rattle.std.proofs.lemmas.Bool.{cond-true, cond-false}
 use Rattle.std.proofs.lemmas.List.{append-nil, append_assoc, map-append}
-use Rattle.std.proofs.lemmas.List.Elements.{All-push, All-weaker}
+use Rattle.std.proofs.lemmas.List.Elements.{All-push}
 use Rattle.std.proofs.lemmas.Option.{none-some, same_Some}
 use Rattle.prefix_keys.specs.Block.{first_of, width_of}
 use Rattle.prefix_keys.specs.declared.block.Block.{Block}
+use Rattle.prefix_keys.specs.declared.version.Version.{Version}
 use Rattle.pmap_text.specs.Label.{IsLabelTable}
 use Rattle.pmap_text.specs.ListModel.{Prefix}
 use Rattle.pmap_text.specs.MapModel.{Label}
@@ -38,11 +39,11 @@ block-first block =
     sym (first_of-whole (width_of block.version) block.len block.value (width_of block.version - block.len) refl block.no_host_bit)
 
 -- a node with the set s adds its own entry, if it has one, and passes on the label `id`
-record IsHanded (table : List Label) (s : List Label) (block : Block) (inherited : Option LabelId) (old new : List Entry) (id : LabelId) : Type 0 where
-  entries : map (prefix_of table) new ≡ map (prefix_of table) old
+pub record IsHanded (table : List Label) (s : List Label) (block : Block) (inherited : Option LabelId) (old new : List Entry) (id : LabelId) : Type 0 where
+  pub entries : map (prefix_of table) new ≡ map (prefix_of table) old
       ++ own_entry (width_of block.version) table s (text_of table inherited) block.len (number_of block)
-  label : handed_on table s (text_of table inherited) ≡ Some (text_at table id.0)
-  known : id.0 < length table
+  pub label : handed_on table s (text_of table inherited) ≡ Some (text_at table id.0)
+  pub known : id.0 < length table
 
 module _ (table : List Label) (ok : IsLabelTable table) (ids : List LabelId) (block : Block) (inherited : Option LabelId) (old new : List Entry) (id : LabelId)
     (ascending : IsAscending (length table) 0 (numbers_of ids)) (known : ForSome inherited (λ i. i.0 < length table)) where
@@ -79,23 +80,23 @@ module _ (table : List Label) (ok : IsLabelTable table) (ids : List LabelId) (bl
         known = subst (λ (i : LabelId). i.0 < length table) is up.1;
       }
 
-  handed : (ns : List ℕ) → numbers_of ids ≡ ns → IsOwn ids block inherited old new id → IsHanded table (map (text_at table) ns) block inherited old new id
+  pub handed : (ns : List ℕ) → numbers_of ids ≡ ns → IsOwn ids block inherited old new id → IsHanded table (map (text_at table) ns) block inherited old new id
   handed ns is own =
       subst (λ (l : List ℕ). IsHanded table (map (text_at table) l) block inherited old new id) is (by_test (keeps ids inherited) refl own ids refl)
 
 -- a label that is passed on is known
-one-known : (count : ℕ) (id : LabelId) → id.0 < count → ForSome (Some id) (λ i. i.0 < count)
+pub one-known : (count : ℕ) (id : LabelId) → id.0 < count → ForSome (Some id) (λ i. i.0 < count)
 one-known count id known = λ x e. subst (λ (i : LabelId). i.0 < count) (same_Some id x e) known
 
 -- the own entry fits the block, and the label that is passed on is known
-own-fit : (count : ℕ) (ids : List LabelId) (block : Block) (inherited : Option LabelId) (old new : List Entry) (id : LabelId)
+pub own-fit : (count : ℕ) (ids : List LabelId) (block : Block) (inherited : Option LabelId) (old new : List Entry) (id : LabelId)
     → IsAscending count 0 (numbers_of ids) → ForSome inherited (λ i. i.0 < count) → IsOwn ids block inherited old new id
-    → All (IsEntryOf block count) old → All (IsEntryOf block count) new × (id.0 < count)
+    → All (IsEntryOf block.version count) old → All (IsEntryOf block.version count) new × (id.0 < count)
 own-fit count ids block inherited old new id ascending known own all = by (keeps ids inherited) own ids refl
   where
-    by : (b : Bool) → IsOwnBy b ids block inherited old new id → (ids' : List LabelId) → ids ≡ ids' → All (IsEntryOf block count) new × (id.0 < count)
+    by : (b : Bool) → IsOwnBy b ids block inherited old new id → (ids' : List LabelId) → ids ≡ ids' → All (IsEntryOf block.version count) new × (id.0 < count)
     by true own ids' same = (
-      subst (λ (es : List Entry). All (IsEntryOf block count) es) (sym own.0) all,
+      subst (λ (es : List Entry). All (IsEntryOf block.version count) es) (sym own.0) all,
       known id own.1,
     )
     by false own [] same = absurd (none-some id (subst (λ (l : List LabelId). slice_get l 0 ≡ Some id) same own.1))
@@ -103,8 +104,8 @@ own-fit count ids block inherited old new id ascending known own all = by (keeps
         let is : first ≡ id = same_Some first id (subst (λ (l : List LabelId). slice_get l 0 ≡ Some id) same own.1) in
         let up : IsAscending count 0 (first.0 ∷ numbers_of rest) = subst (λ (l : List LabelId). IsAscending count 0 (numbers_of l)) same ascending in
         let small : id.0 < count = subst (λ (i : LabelId). i.0 < count) is up.1 in (
-          subst (λ (es : List Entry). All (IsEntryOf block count) es) (sym own.0)
-              (All-push (IsEntryOf block count) old (record { block = block; label = id }) all (record { version = refl; known = small })),
+          subst (λ (es : List Entry). All (IsEntryOf block.version count) es) (sym own.0)
+              (All-push (IsEntryOf block.version count) old (record { block = block; label = id }) all (record { version_is = refl; known = small })),
           small,
         )
 
@@ -154,10 +155,10 @@ inner-adds (Inner cost set l r) left right block low high inherited old new0 new
       let inner = opened count form in
       let own_all = own-fit count ids block inherited old new0 id (subst (λ (ns : List ℕ). IsAscending count 0 ns) (sym is) inner.0.1) known own all in
       let low_all = lower.fit count (one-known count id own_all.1) (left_form count (inner.0.2, inner.1.0))
-      (All-weaker (IsEntryOf block count) (IsEntryOf low count) (λ e fits. record { version = fits.version ∙ sym low_half.version; known = fits.known }) new0 own_all.0) in
+      (subst (λ (v : Version). All (IsEntryOf v count) new0) (sym low_half.version) own_all.0) in
       let high_all = upper.fit count (one-known count id own_all.1) (right_form count (inner.0.3, inner.1.1))
-      (All-weaker (IsEntryOf low count) (IsEntryOf high count) (λ e fits. record { version = fits.version ∙ low_half.version ∙ sym high_half.version; known = fits.known }) new1 low_all) in
-      All-weaker (IsEntryOf high count) (IsEntryOf block count) (λ e fits. record { version = fits.version ∙ high_half.version; known = fits.known }) new2 high_all;
+      (subst (λ (v : Version). All (IsEntryOf v count) new1) (low_half.version ∙ sym high_half.version) low_all) in
+      subst (λ (v : Version). All (IsEntryOf v count) new2) high_half.version high_all;
 }
   where
     opened : (count : ℕ) → HasNumberForm count (Inner cost set l r) (width_of block.version - block.len)

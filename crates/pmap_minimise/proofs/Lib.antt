@@ -11,6 +11,8 @@ pub mod Paths
 pub mod MadeNodes
 pub mod BuiltNodes
 pub mod PathEntries
+pub mod ChainEntries
+pub mod NodeEntries
 pub mod Opened
 pub mod RunEnds
 pub mod TreeNodes

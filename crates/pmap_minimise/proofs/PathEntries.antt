@@ -1,10 +1,10 @@
 -- The entries of a block from which a run leads down.
-use Rattle.std.proofs.Common.{◌≡◌, ℕ, zero, suc, ◌+◌, ◌-◌, ◌*◌, ◌<◌, ◌≤◌, ◌==◌, ◌||◌, ◌∙◌, Bool, true, false, cond, List, [], ◌∷◌, ◌++◌, Option, Some, None, length, map, get_or, refl, sym, ap, subst, arith}
+use Rattle.std.proofs.Common.{◌≡◌, ℕ, zero, suc, ◌+◌, ◌-◌, ◌*◌, ◌<◌, ◌≤◌, ◌==◌, ◌||◌, ◌∙◌, Bool, true, false, cond, List, [], ◌∷◌, ◌++◌, Option, Some, None, All, length, map, get_or, refl, sym, ap, subst, arith}
 use Rattle.std.proofs.lemmas.Bool.{eq-eqb, eqb-true}
-use Rattle.std.proofs.lemmas.List.Elements.{All-weaker}
 use Rattle.std.proofs.lemmas.Option.{get_or_from_slice_get, same_Some}
 use Rattle.prefix_keys.specs.Block.{width_of}
 use Rattle.prefix_keys.specs.declared.block.Block.{Block}
+use Rattle.prefix_keys.specs.declared.version.Version.{Version}
 use Rattle.pmap_text.specs.declared.entry.Entry.{Entry}
 use Rattle.pmap_text.specs.declared.label.LabelId.{LabelId}
 use Rattle.pmap_text.specs.PrefixList.{prefix_of}
@@ -31,9 +31,8 @@ same-adds node block end inherited old new version len number adds =
     record {
       texts = λ table ok known form. adds.texts table ok known (subst (HasNumberForm (length table) node) (sym room) form)
           ∙ (λ i. map (prefix_of table) old ++ entries_of (width_of (version i)) table (tree_of table node) (text_of table inherited) (len i) (number i));
-      fit = λ count known form entries. All-weaker (IsEntryOf end count) (IsEntryOf block count) (λ e is. record { version = is.version ∙ version; known = is.known }) new
-          (adds.fit count known (subst (HasNumberForm count node) (sym room) form)
-          (All-weaker (IsEntryOf block count) (IsEntryOf end count) (λ e is. record { version = is.version ∙ sym version; known = is.known }) old entries));
+      fit = λ count known form entries. subst (λ (v : Version). All (IsEntryOf v count) new) version
+          (adds.fit count known (subst (HasNumberForm count node) (sym room) form) (subst (λ (v : Version). All (IsEntryOf v count) old) (sym version) entries));
     }
 
 -- the first bit of a path leads to a half, and the others from there to the end

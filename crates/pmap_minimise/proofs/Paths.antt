@@ -48,6 +48,15 @@ with-has n (m ∷ ms) =
     or-true true = refl
     or-true false = refl
 
+-- each node of a run has the side label
+pub above-has : (side : ℕ) (set : List ℕ) (more : ℕ) → has_number (set_above side set more) side ≡ true
+above-has side set zero = by (has_number set side)
+  where
+    by : (t : Bool) → has_number (cond t (side ∷ []) (with_number side set)) side ≡ true
+    by true = ap (λ (t : Bool). t || false) (eq-eqb side side refl)
+    by false = with-has side set
+above-has side set (suc more) = ap (λ (t : Bool). t || false) (eq-eqb side side refl)
+
 with-any : (p : ℕ → Bool) (n : ℕ) (set : List ℕ) → list_any p (with_number n set) ≡ (p n || list_any p set)
 with-any p n [] = refl
 with-any p n (m ∷ ms) =
@@ -85,14 +94,6 @@ module _ (side : ℕ) (fits : side < 2 ^ 32) (end : Node) (ascending : IsAscendi
   abbrev above : ℕ → List ℕ
   above more = set_above side (set_of end) more
 
-  above-has : (more : ℕ) → has_number (above more) side ≡ true
-  above-has zero = by (has_number (set_of end) side)
-    where
-      by : (t : Bool) → has_number (cond t (side ∷ []) (with_number side (set_of end))) side ≡ true
-      by true = ap (λ (t : Bool). t || false) (eq-eqb side side refl)
-      by false = with-has side (set_of end)
-  above-has (suc more) = ap (λ (t : Bool). t || false) (eq-eqb side side refl)
-
   pub above-ascending : (more : ℕ) → IsAscending (2 ^ 32) 0 (above more)
   above-ascending zero = by (has_number (set_of end) side) refl
     where
@@ -128,7 +129,7 @@ module _ (side : ℕ) (fits : side < 2 ^ 32) (end : Node) (ascending : IsAscendi
           swap x y = grind arith
   exact-low (suc bits) =
       subst (λ (shared : List ℕ). IsExactBy (cost_above side end) 0 (above bits) (side ∷ []) shared (cost_above side end) (side ∷ []))
-      (sym (common-one (2 ^ 32) 0 side (above bits) (above-ascending bits) ∙ ap (λ (t : Bool). only_if t side) (above-has bits)))
+      (sym (common-one (2 ^ 32) 0 side (above bits) (above-ascending bits) ∙ ap (λ (t : Bool). only_if t side) (above-has side (set_of end) bits)))
       (omega arith, refl)
 
   exact-high : (bits : ℕ) → IsExactBy 0 (path_cost bits) (side ∷ []) (path_set bits) (common_numbers (side ∷ []) (path_set bits)) (cost_above side end) (above bits)
@@ -147,7 +148,7 @@ module _ (side : ℕ) (fits : side < 2 ^ 32) (end : Node) (ascending : IsAscendi
           add x y = grind arith
   exact-high (suc bits) =
       subst (λ (t : Bool). IsExactBy 0 (cost_above side end) (side ∷ []) (above bits) (only_if t side) (cost_above side end) (side ∷ []))
-      (sym (above-has bits)) (omega arith, refl)
+      (sym (above-has side (set_of end) bits)) (omega arith, refl)
 
   abbrev path : ℕ → ℕ → Node
   path value bits = path_node side value bits end

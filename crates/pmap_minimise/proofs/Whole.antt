@@ -163,11 +163,11 @@ listed-entries m leaves root items listed ok known =
     let width : width_of block.version ≡ width_of m.version = ap width_of listed.whole.version_is in
     let room : width_of m.version ≡ width_of block.version - block.len = omega arith in
     let form : HasNumberForm (length m.labels) root (width_of m.version) = listed.certified.form (length m.labels) known in
-    let fit : All (IsEntryOf block (length m.labels)) items =
-    listed.adds.fit (length m.labels) (λ x e. absurd (none-some x e)) (subst (λ (r : ℕ). HasNumberForm (length m.labels) root r) room form) (All-from_recursion (IsEntryOf block (length m.labels)) [] tt) in
+    let fit : All (IsEntryOf block.version (length m.labels)) items =
+    listed.adds.fit (length m.labels) (λ x e. absurd (none-some x e)) (subst (λ (r : ℕ). HasNumberForm (length m.labels) root r) room form) (All-from_recursion (IsEntryOf block.version (length m.labels)) [] tt) in
     record {
-      versions = All-weaker (IsEntryOf block (length m.labels)) (λ e. e.block.version ≡ m.version) (λ e fits. fits.version ∙ listed.whole.version_is) items fit;
-      known = All-weaker (IsEntryOf block (length m.labels)) (λ e. e.label.0 < length m.labels) (λ e fits. fits.known) items fit;
+      versions = All-weaker (IsEntryOf block.version (length m.labels)) (λ e. e.block.version ≡ m.version) (λ e fits. fits.version_is ∙ listed.whole.version_is) items fit;
+      known = All-weaker (IsEntryOf block.version (length m.labels)) (λ e. e.label.0 < length m.labels) (λ e fits. fits.known) items fit;
       form = form;
       entries = whole-entries m root block [] items listed.whole ok form refl listed.adds;
     }

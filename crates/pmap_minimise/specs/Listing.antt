@@ -22,8 +22,8 @@ pub record IsWhole (version : Version) (block : Block) : Type 0 where
 abbrev pub text_of : List Label → Option LabelId → Option Label
 text_of table inherited = option_map (λ id. text_at table id.0) inherited
 
-pub record IsEntryOf (block : Block) (count : ℕ) (e : Entry) : Type 0 where
-  pub version : e.block.version ≡ block.version
+pub record IsEntryOf (version : Version) (count : ℕ) (e : Entry) : Type 0 where
+  pub version_is : e.block.version ≡ version
   pub known : e.label.0 < count
 
 -- The new entries are the old ones and those of the node for this block and its inherited label, in each table that has
@@ -35,7 +35,7 @@ pub record AddsEntries (node : Node) (block : Block) (inherited : Option LabelId
       ++ entries_of (width_of block.version) table (tree_of table node) (text_of table inherited) block.len (number_of block)
   pub fit : (count : ℕ) → ForSome inherited (λ id. id.0 < count)
       → HasNumberForm count node (width_of block.version - block.len)
-      → All (IsEntryOf block count) old → All (IsEntryOf block count) new
+      → All (IsEntryOf block.version count) old → All (IsEntryOf block.version count) new
 
 -- the entries are those of the node, which is the certificate's for the address space with these leaves
 pub record IsListedBy (version : Version) (leaves : List LeafModel) (node : Node) (entries : List Entry) : Type 0 where

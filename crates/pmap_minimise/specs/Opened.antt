@@ -1,8 +1,8 @@
-use Rattle.std.specs.Prelude.{◌≡◌, ℕ, zero, suc, ◌+◌, ◌≤◌, Bool, List, [], ◌∷◌, ◌++◌, if◌then◌else◌, map, nat_lt}
+use Rattle.std.specs.Prelude.{◌≡◌, ℕ, zero, suc, ◌+◌, ◌<◌, ◌≤◌, Bool, List, [], ◌∷◌, ◌++◌, if◌then◌else◌, length, map, nat_lt}
 use Rattle.pmap_cert.specs.CertificateText.{inner_line, leaf_line, text_of_lines}
-use Rattle.pmap_cert.specs.Node.{Chain, Inner, Leaf, Node, cost_of, line_text, lines_of, set_of}
+use Rattle.pmap_cert.specs.Node.{Chain, Inner, Leaf, Node, cost_of, first_node, line_text, lines_of, set_of}
 use Rattle.pmap_cert.specs.Paths.{digit, path_to}
-use Rattle.pmap_minimise.specs.Numbers.{has_number}
+use Rattle.pmap_minimise.specs.Numbers.{IsSound, has_number}
 
 -- A compact node and the node with each of its chains opened: a chain turns into the inner nodes of its run, each with
 -- its exact claim, and the leaves beside them.
@@ -57,6 +57,13 @@ abbrev pub Opens : Node → Node → Type 0
 Opens (Leaf label) node = node ≡ Leaf label
 Opens (Inner cost set lower upper) node = OpensInner cost set (Opens lower) (Opens upper) node
 Opens (Chain cost set bits side end) node = OpensChain cost set bits side (Opens end) node
+
+-- the first of the nodes opens to a sound one with at most this many levels below it
+pub record IsSoundAt (nodes : List Node) (room : ℕ) : Type 0 where
+  pub some : 0 < length nodes
+  pub node : Node
+  pub opens : Opens (first_node nodes) node
+  pub sound : IsSound node room
 
 abbrev pub node_text : Node → List ℕ
 node_text node = text_of_lines (map line_text (lines_of node))

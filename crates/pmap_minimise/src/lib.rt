@@ -23,6 +23,7 @@ mod building;
 mod built;
 mod compacting;
 mod entering;
+mod entries;
 mod listing;
 mod minimal;
 mod opening;

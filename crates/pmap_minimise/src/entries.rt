@@ -1,0 +1,59 @@
+//! Reads the entries of a map's shortest list off its certificate, compact or not, from the root down.
+ghost use Rattle.std.specs.Prelude.{◌≡◌, ◌-◌, List, IfOk, OnOk, drop};
+ghost use Rattle.prefix_keys.specs.Block.{width_of};
+ghost use Rattle.pmap_cert.specs.Node.{Node, first_node};
+ghost use Rattle.label_trie.specs.TrieModel.{LeafModel};
+ghost use Rattle.pmap_minimise.specs.Listing.{AddsEntries, IsListedBy};
+ghost use Rattle.pmap_minimise.specs.Numbers.{IsCertified};
+ghost use Rattle.pmap_minimise.specs.Opened.{IsSoundAt, Opens};
+
+use crate::entering::push_own;
+use pmap_cert::{Cursor, Root, cursor_of};
+use pmap_text::{Entry, LabelId};
+use prefix_keys::{Block, Version, whole_space};
+use std::alloc::{AllocError, Global};
+
+// Adds the entries of the node at the cursor for the block `here`. The cursor moves past the node.
+fn push_entries(
+    entries: &mut Vec<Entry>,
+    at: &mut Cursor<'_>,
+    here: &Block,
+    inherited: Option<LabelId>,
+) -> Result<(), AllocError>
+    requires { IsSoundAt at.old (width_of here.now.version - here.now.len) }
+    ensures next { OnOk result (at.new ≡ drop 1 at.old) }
+    ensures adds { OnOk result ((node : Node) → Opens (first_node at.old) node
+        → AddsEntries node here.now inherited entries.old.items entries.new.items) }
+{
+    let label = push_own(entries, at.set(), *here, inherited)?;
+    let is_leaf = at.label().is_some();
+    let path = at.path();
+    *at = at.next();
+    if is_leaf {
+        return Ok(());
+    }
+    if path.count > 0 {
+        return push_entries(entries, at, &path.end(here), Some(label));
+    }
+    let Some((low, high)) = here.halves() else {
+        unreachable!()
+    };
+    push_entries(entries, at, &low, Some(label))?;
+    push_entries(entries, at, &high, Some(label))
+}
+
+/// Returns the entries of the shortest list by ascending first address, by the root of a map's certificate.
+pub fn entries_of(alloc: Global, root: &Root, version: Version) -> Result<Vec<Entry>, AllocError>
+    requires { (leaves : List LeafModel) × (node : Node)
+        × IsCertified 0 0 (width_of version) leaves node × Opens root.now node }
+    ensures { IfOk result (λ entries. (leaves : List LeafModel) (node : Node)
+        → IsCertified 0 0 (width_of version) leaves node → Opens root.now node
+        → IsListedBy version leaves node entries.items) }
+{
+    let mut at = cursor_of(root);
+    // The list has one entry more than the root's cost.
+    let count = (at.cost() as usize).saturating_add(1);
+    let mut entries = Vec::with_capacity(alloc, count)?;
+    push_entries(&mut entries, &mut at, &whole_space(version), None)?;
+    Ok(entries)
+}
