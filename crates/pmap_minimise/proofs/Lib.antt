@@ -13,7 +13,8 @@ pub mod BuiltNodes
 pub mod PathEntries
 pub mod ChainEntries
 pub mod NodeEntries
-pub mod Opened
+pub mod OpenedBuilt
+pub mod OpenedTexts
 pub mod RunEnds
 pub mod TreeNodes
 pub mod Walked

@@ -58,6 +58,11 @@ Opens (Leaf label) node = node ≡ Leaf label
 Opens (Inner cost set lower upper) node = OpensInner cost set (Opens lower) (Opens upper) node
 Opens (Chain cost set bits side end) node = OpensChain cost set bits side (Opens end) node
 
+pub record IsOpenedAt (nodes : List Node) : Type 0 where
+  pub some : 0 < length nodes
+  pub node : Node
+  pub opens : Opens (first_node nodes) node
+
 -- the first of the nodes opens to a sound one with at most this many levels below it
 pub record IsSoundAt (nodes : List Node) (room : ℕ) : Type 0 where
   pub some : 0 < length nodes

@@ -26,6 +26,7 @@ mod entering;
 mod entries;
 mod listing;
 mod minimal;
+mod opened;
 mod opening;
 mod runs;
 mod sets;

@@ -6,7 +6,7 @@ use Rattle.pmap_cert.specs.Node.{Node}
 use Rattle.pmap_minimise.specs.Built.{IsAt, node_text, side_line, text_down, path_line}
 use Rattle.pmap_minimise.specs.Numbers.{numbers_of}
 use Rattle.pmap_minimise.proofs.Compacted.{if_ok, line-inside, read-chained, read-inner, read-leaf, to-some}
-use Rattle.pmap_minimise.proofs.Opened.{chain-added, inner-added, leaf-added, text-after}
+use Rattle.pmap_minimise.proofs.OpenedBuilt.{chain-added, inner-added, leaf-added, text-after}
 use Rattle.pmap_minimise.proofs.PathEntries.{read-few, read-long, read-node, read-price}
 use Rattle.pmap_minimise.proofs.opening.+push_node.Goals as goal
 

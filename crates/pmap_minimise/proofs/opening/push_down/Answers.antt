@@ -3,7 +3,7 @@ use Rattle.std.proofs.Math.Seq.{drop-append_seam, take-append_seam}
 use Rattle.std.proofs.lemmas.List.{append-nil}
 use Rattle.pmap_minimise.specs.Numbers.{numbers_of}
 use Rattle.pmap_minimise.specs.Built.{side_line, text_down, path_line}
-use Rattle.pmap_minimise.proofs.Opened.{down-added, path-added}
+use Rattle.pmap_minimise.proofs.OpenedBuilt.{down-added, path-added}
 use Rattle.pmap_minimise.proofs.opening.push_down.Goals as goal
 use Rattle.pmap_minimise.proofs.opening.push_down.Goals.{then-before, else-before}
 

@@ -3,7 +3,7 @@ use Rattle.pmap_cert.specs.CertificateText.{inner_line}
 use Rattle.pmap_minimise.specs.Built.{set_above, with_number}
 use Rattle.pmap_minimise.specs.Numbers.{numbers_of}
 use Rattle.pmap_minimise.proofs.Compacted.{on_ok}
-use Rattle.pmap_minimise.proofs.Opened.{above-last}
+use Rattle.pmap_minimise.proofs.OpenedBuilt.{above-last}
 use Rattle.pmap_minimise.proofs.Texts.{any-numbers}
 use Rattle.pmap_minimise.proofs.opening.push_last_line.Goals as goal
 

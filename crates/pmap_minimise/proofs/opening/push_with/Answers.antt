@@ -4,7 +4,7 @@ use Rattle.pmap_text.specs.declared.label.LabelId.{LabelId}
 use Rattle.pmap_minimise.specs.Built.{with_number}
 use Rattle.pmap_minimise.specs.Numbers.{numbers_of}
 use Rattle.pmap_minimise.proofs.Merged.{no_items, numbers-append}
-use Rattle.pmap_minimise.proofs.Opened.{with-first, with-later}
+use Rattle.pmap_minimise.proofs.OpenedBuilt.{with-first, with-later}
 use Rattle.pmap_minimise.proofs.opening.push_with.Goals as goal
 
 pub returns-then-side-id : goal.returns-then-side-id

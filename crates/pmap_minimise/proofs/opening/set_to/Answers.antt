@@ -4,7 +4,7 @@ use Rattle.pmap_cert.specs.Node.{set_of}
 use Rattle.pmap_minimise.specs.Numbers.{numbers_of}
 use Rattle.pmap_minimise.specs.declared.built.Chain.{Chain}
 use Rattle.pmap_minimise.proofs.Compacted.{line-inside, read-chained, read-inner, read-leaf, to-some}
-use Rattle.pmap_minimise.proofs.Opened.{long-set}
+use Rattle.pmap_minimise.proofs.OpenedBuilt.{long-set}
 use Rattle.pmap_minimise.proofs.PathEntries.{read-long, read-node}
 use Rattle.pmap_minimise.proofs.opening.set_to.Goals as goal
 

@@ -1,0 +1,115 @@
+-- The text of a certificate's nodes, with each chain opened.
+use Rattle.std.proofs.Common.{◌≡◌, ℕ, zero, suc, ◌+◌, ◌<◌, ◌≤◌, ◌==◌, ◌∙◌, Bool, false, cond, List, [], ◌∷◌, ◌++◌, Some, drop, get_or, length, map, refl, sym, ap, arith}
+use Rattle.std.proofs.lemmas.Bool.{cond_above, cond_below}
+use Rattle.std.proofs.lemmas.List.{append-nil, append_assoc, map-append}
+use Rattle.std.proofs.lemmas.Option.{none-some, same_Some}
+use Rattle.pmap_cert.proofs.Paths.{path-length}
+use Rattle.pmap_cert.proofs.Written.{text_of_lines-append}
+use Rattle.pmap_cert.specs.CertificateText.{inner_line, leaf_line, text_of_lines}
+use Rattle.pmap_cert.specs.FormatReading.{DueLine}
+use Rattle.pmap_cert.specs.Node.{Chain, Inner, Leaf, Node, bits_of, cost_of, first_node, from_next_line, line_text, lines_of, set_of, side_of}
+use Rattle.pmap_cert.specs.Paths.{digit, path_to}
+use Rattle.pmap_minimise.specs.Numbers.{has_number}
+use Rattle.pmap_minimise.specs.Opened.{Opens, cost_above, node_over, node_text, path_node, set_above, with_number}
+
+-- a line with its end
+abbrev ended : List ℕ → List ℕ
+ended text = text ++ 10 ∷ []
+
+lines-text : (a b : List DueLine) → text_of_lines (map line_text (a ++ b)) ≡ text_of_lines (map line_text a) ++ text_of_lines (map line_text b)
+lines-text a b = ap text_of_lines (map-append line_text a b) ∙ text_of_lines-append (map line_text a) (map line_text b)
+
+leaf-text : (n : ℕ) → node_text (Leaf n) ≡ ended (leaf_line n)
+leaf-text n = append-nil (ended (leaf_line n))
+
+inner-text : (cost : ℕ) (set : List ℕ) (lower upper : Node) → node_text (Inner cost set lower upper) ≡ ended (inner_line cost set) ++ (node_text lower ++ node_text upper)
+inner-text cost set lower upper = ap (λ (t : List ℕ). ended (inner_line cost set) ++ t) (lines-text (lines_of lower) (lines_of upper))
+
+-- a leaf's text is appended
+pub leaf-added : (n : ℕ) (old new : List ℕ) → new ≡ old ++ ended (leaf_line n) → new ≡ old ++ node_text (Leaf n)
+leaf-added n old new is = is ∙ ap (λ (t : List ℕ). old ++ t) (sym (leaf-text n))
+
+-- the text of an inner node is appended: its own line, and those of its halves
+pub inner-added : (cost : ℕ) (set : List ℕ) (lower upper : Node) (old own middle new : List ℕ) → own ≡ old ++ ended (inner_line cost set) → middle ≡ own ++ node_text lower → new ≡ middle ++ node_text upper
+    → new ≡ old ++ node_text (Inner cost set lower upper)
+inner-added cost set lower upper old own middle new first second third =
+    third ∙ ap (λ (t : List ℕ). t ++ node_text upper) (second ∙ ap (λ (t : List ℕ). t ++ node_text lower) first)
+    ∙ append_assoc (old ++ ended (inner_line cost set)) (node_text lower) (node_text upper)
+    ∙ append_assoc old (ended (inner_line cost set)) (node_text lower ++ node_text upper)
+    ∙ ap (λ (t : List ℕ). old ++ t) (sym (inner-text cost set lower upper))
+
+-- the text of a run's node is appended, with the leaf of its side block after or before the half that the run chooses
+pub lower-added : (d cost side : ℕ) (set : List ℕ) (path : Node) (old own middle new : List ℕ) → d ≡ 0 → own ≡ old ++ ended (inner_line cost set) → middle ≡ own ++ node_text path → new ≡ middle ++ ended (leaf_line side)
+    → new ≡ old ++ node_text (node_over d cost set path (Leaf side))
+lower-added d cost side set path old own middle new none first second third =
+    inner-added cost set path (Leaf side) old own middle new first second (leaf-added side middle new third) ∙ ap (λ (k : ℕ). old ++ node_text (node_over k cost set path (Leaf side))) (sym none)
+
+pub upper-added : (d cost side : ℕ) (set : List ℕ) (path : Node) (old own middle new : List ℕ) → d ≡ 1 → own ≡ old ++ ended (inner_line cost set) → middle ≡ own ++ ended (leaf_line side) → new ≡ middle ++ node_text path
+    → new ≡ old ++ node_text (node_over d cost set path (Leaf side))
+upper-added d cost side set path old own middle new one first second third =
+    inner-added cost set (Leaf side) path old own middle new first (leaf-added side own middle second) third ∙ ap (λ (k : ℕ). old ++ node_text (node_over k cost set path (Leaf side))) (sym one)
+
+-- equal bits lead to the end from the same node
+same-digit : (d e : ℕ) → d < 2 → e < 2 → (d == 1) ≡ (e == 1) → d ≡ e
+same-digit zero zero small less same = refl
+same-digit (suc zero) (suc zero) small less same = refl
+same-digit zero (suc zero) small less same = absurd cc
+same-digit (suc zero) zero small less same = absurd cc
+same-digit (suc (suc d)) e small less same = absurd (omega arith)
+same-digit d (suc (suc e)) small less same = absurd (omega arith)
+
+same-path : (side value other : ℕ) (end : Node) (count many : ℕ) → path_to value count ≡ path_to other many → path_node side value count end ≡ path_node side other many end
+same-path side value other end zero zero same = refl
+same-path side value other end zero (suc many) same = absurd (omega (arith, ap length same))
+same-path side value other end (suc count) zero same = absurd (omega (arith, ap length same))
+same-path side value other end (suc count) (suc many) same =
+    let rest : path_to value count ≡ path_to other many = ap (drop 1) same in
+    let counts : count ≡ many = omega (arith, path-length value count, path-length other many, ap length rest) in
+    let digits = same-digit (digit value count) (digit other many) (omega arith) (omega arith) (ap (λ (l : List Bool). get_or l 0 false) same) in
+    λ i. node_over (digits i) (cost_above side end) (set_above side (set_of end) (counts i)) (same-path side value other end count many rest i) (Leaf side)
+
+-- the text of a chain is that of the node from which its bits lead to its end
+pub chain-added : (nodes : List Node) (side cost value count : ℕ) (old new : List ℕ) → 0 < length nodes → side_of (first_node nodes) ≡ Some side → cost ≡ cost_of (first_node nodes)
+    → path_to value count ≡ bits_of (first_node nodes)
+    → ((end : Node) → Opens (first_node (from_next_line nodes)) end → cost ≡ cost_above side end → new ≡ old ++ node_text (path_node side value count end))
+    → (node : Node) → Opens (first_node nodes) node → new ≡ old ++ node_text node
+chain-added [] side cost value count old new some is price bits added node opens = absurd (omega arith)
+chain-added (Leaf n ∷ rest) side cost value count old new some is price bits added node opens = absurd (none-some side is)
+chain-added (Inner claimed set lower upper ∷ rest) side cost value count old new some is price bits added node opens = absurd (none-some side is)
+chain-added (Chain claimed set path own end ∷ rest) side cost value count old new some is price bits added node opens =
+    let same : own ≡ side = same_Some own side is in
+    added opens.end opens.below (price ∙ opens.cost_is ∙ ap (λ (n : ℕ). cost_above n opens.end) same)
+    ∙ ap (λ (k : Node). old ++ node_text k)
+    (same-path side value opens.value opens.end count opens.count (bits ∙ opens.bits_are) ∙ ap (λ (n : ℕ). path_node n opens.value opens.count opens.end) (sym same) ∙ sym opens.node_is)
+
+over-set : (d cost : ℕ) (own : List ℕ) (x y : Node) → set_of (node_over d cost own x y) ≡ own
+over-set zero cost own x y = refl
+over-set (suc d) cost own x y = refl
+
+-- a node claims the set of the node that it opens to
+pub opened-set : (compact node : Node) → Opens compact node → set_of compact ≡ set_of node
+opened-set (Leaf n) node opens = sym (ap set_of opens)
+opened-set (Inner cost set lower upper) node opens = sym (ap set_of opens.node_is)
+opened-set (Chain cost set bits side end) node opens = opens.set_is ∙ sym (by opens.count opens.long) ∙ sym (ap set_of opens.node_is)
+  where
+    by : (count : ℕ) → 2 ≤ count → set_of (path_node side opens.value count opens.end) ≡ side ∷ []
+    by zero long = absurd (omega arith)
+    by (suc zero) long = absurd (omega arith)
+    by (suc (suc count)) long =
+        over-set (digit opens.value (suc count)) (cost_above side opens.end) (side ∷ []) (path_node side opens.value (suc count) opens.end) (Leaf side)
+
+-- the set of a node of a run that isn't right above the end
+pub above-more : (side : ℕ) (set : List ℕ) (more : ℕ) → 0 < more → set_above side set more ≡ side ∷ []
+above-more side set zero some = absurd (omega arith)
+above-more side set (suc more) some = refl
+
+pub above-last : (side : ℕ) (set : List ℕ) (more : ℕ) (b : Bool) → more ≡ 0 → has_number set side ≡ b → set_above side set more ≡ cond b (side ∷ []) (with_number side set)
+above-last side set zero b none is = ap (λ (t : Bool). cond t (side ∷ []) (with_number side set)) is
+above-last side set (suc more) b none is = absurd (omega arith)
+
+-- a set with one more number, by whether that is below the set's first number
+pub with-first : (side x : ℕ) (xs : List ℕ) → side < x → with_number side (x ∷ xs) ≡ side ∷ x ∷ xs
+with-first side x xs less = sym (cond_below side x (side ∷ x ∷ xs) (x ∷ with_number side xs) less)
+
+pub with-later : (side x : ℕ) (xs : List ℕ) → x ≤ side → with_number side (x ∷ xs) ≡ x ∷ with_number side xs
+with-later side x xs most = sym (cond_above side x (side ∷ x ∷ xs) (x ∷ with_number side xs) (x ∷ with_number side xs) most refl)
