@@ -1,10 +1,10 @@
--- What a block adds to the compact certificate that is built.
-use Rattle.std.proofs.Common.{◌≡◌, ℕ, zero, suc, ◌+◌, ◌-◌, ◌*◌, ◌^◌, ◌<◌, ◌≤◌, ◌∙◌, inl, inr, cond, Bool, List, [], ◌∷◌, ◌++◌, Option, Some, None, IsSome, length, slice_get, get_or, refl, sym, ap, subst, arith, length-append}
+-- What a block adds to the lines of the compact certificate that is built.
+use Rattle.std.proofs.Common.{◌≡◌, ℕ, zero, suc, ◌+◌, ◌-◌, ◌^◌, ◌<◌, ◌≤◌, ◌∙◌, inl, inr, cond, List, [], ◌∷◌, ◌++◌, Option, Some, None, IsSome, length, reverse, slice_index_or, get_or, refl, sym, ap, subst, arith, length-append}
 use Rattle.std.specs.Option.{option_or}
 use Rattle.std.proofs.Math.Seq.{get_or-append_seam}
 use Rattle.std.proofs.Math.Nat.{mul-le-mul_right, zero-div}
-use Rattle.std.proofs.lemmas.List.{append-nil, append_assoc, get_or_append_left}
-use Rattle.std.proofs.lemmas.Option.{get_or_from_slice_get, none-some, same_Some, slice_get-get_or, slice_get_within}
+use Rattle.std.proofs.lemmas.List.{append_assoc, append-nil, reverse-append, reverse-reverse}
+use Rattle.std.proofs.lemmas.Option.{none-some, same_Some}
 use Rattle.prefix_keys.specs.Block.{block_number, width_of}
 use Rattle.prefix_keys.specs.declared.version.Version.{Version}
 use Rattle.pmap_text.specs.MapText.{map_of}
@@ -12,12 +12,10 @@ use Rattle.pmap_text.specs.Stretches.{AreStretches, StretchesModel, label_at, la
 use Rattle.pmap_text.specs.declared.statement.Statement.{Statement}
 use Rattle.pmap_text.specs.declared.label.LabelId.{LabelId}
 use Rattle.pmap_text.specs.declared.map_text.MapText.{MapText}
-use Rattle.pmap_cert.specs.Node.{Chain, Inner, Leaf, Node, cost_of, label_of, set_of}
+use Rattle.pmap_cert.specs.FormatReading.{ChainLine, DueLine, InnerLine, LeafLine}
+use Rattle.pmap_cert.specs.Node.{Chain, Inner, Leaf, Node, cost_of, label_of, lines_of, node_of, set_of}
 use Rattle.pmap_cert.specs.CertificateText.{IsAscending}
-use Rattle.pmap_cert.specs.declared.pool.SetId.{SetId}
-use Rattle.pmap_cert.specs.Packed.{IsGrown, IsHeld, set_in}
 use Rattle.pmap_cert.specs.Inner.{IsCompactNode, bits_down, end_down, side_below}
-use Rattle.pmap_cert.proofs.PackedLines.{held-more}
 use Rattle.pmap_cert.proofs.CompactNodes.{compact-chain, compact-leaf, compact-none, compact-short}
 use Rattle.label_trie.specs.Tree.{Fork, Tip, Tree, leaves_of}
 use Rattle.pmap_text.specs.Settled.{IsMapOf, divisions}
@@ -27,169 +25,137 @@ use Rattle.label_trie.proofs.NodeLeaves.{fits_HasRoom, leaves_settled, leaves_un
 use Rattle.pmap_minimise.specs.Runs.{AreCountable, AreCountedHalves, IsCounted, IsChoice, IsMade, IsRun, IsRunTo, IsStop, IsTreeOf, own_label}
 use Rattle.pmap_text.specs.Windows.{IsWindow, number_at}
 use Rattle.pmap_text.specs.declared.window.Window.{Window}
-use Rattle.pmap_minimise.specs.Built.{AddsChain, AddsInner, AddsLeaf, HasAscendingSet, exact_cost, HasGrown, IsAt, IsBuilt, IsBuiltFor, IsBuiltOf, IsBuiltOn, cost_above, path_node, Built, Claim}
+use Rattle.pmap_minimise.specs.Built.{AddsInner, AreHalves, IsBuilt, IsBuiltFor, IsBuiltOf, IsBuiltOn, last_node, node_at}
+use Rattle.pmap_minimise.specs.Opened.{Opens, cost_above, path_node}
 use Rattle.pmap_cert.specs.Paths.{path_to}
 use Rattle.pmap_cert.proofs.Paths.{path-length}
-use Rattle.pmap_minimise.specs.Numbers.{IsExact, IsExactBy, IsExactSet, IsExactSetBy, common_numbers, has_number}
-use Rattle.pmap_minimise.specs.declared.built.Line.TheVariants.{Chain as ChainLine, Inner as InnerLine, Leaf as LeafLine}
+use Rattle.pmap_minimise.specs.Numbers.{IsExact, IsExactBy, common_numbers, has_number}
 use Rattle.pmap_minimise.proofs.MadeNodes.{AreSameHalves, counted-sum, halves-made, leaf-made, made-side, made-stop, run-below, run-down, run-made, same-halves, path_tree}
 use Rattle.pmap_minimise.proofs.TreeNodes.{node-cost, tree-certified}
 use Rattle.pmap_minimise.proofs.Texts.{exact-ascending}
 use Rattle.prefix_keys.proofs.Groups.{width-le}
 use Rattle.pmap_minimise.proofs.Paths.{down-high, down-low, path-cost, path-set}
 
--- an item of a list keeps its index if more items are appended
-listed-on : {X : Type 0} (xs more : List X) (n : ℕ) (x : X) → slice_get xs n ≡ Some x → slice_get (xs ++ more) n ≡ Some x
-listed-on {X} xs more n x is =
-    let inside = slice_get_within xs n x is in
-    let long : n < length (xs ++ more) = omega (arith, length-append xs more) in
-    slice_get-get_or (xs ++ more) n x long
-    ∙ ap (λ (y : X). Some y) (get_or_append_left xs more x n inside ∙ get_or_from_slice_get xs n x x is)
+-- the line with this index has the claim of the node
+pub record HasClaimOf (lines : List DueLine) (number : ℕ) (node : Node) : Type 0 where
+  pub inside : number < length lines
+  pub cost : cost_of (node_at lines number) ≡ cost_of node
+  pub set : set_of (node_at lines number) ≡ set_of node
 
-listed-grown : {X : Type 0} (xs more new : List X) (n : ℕ) (x : X) → new ≡ xs ++ more → slice_get xs n ≡ Some x → slice_get new n ≡ Some x
-listed-grown {X} xs more new n x is listed = subst (λ (l : List X). slice_get l n ≡ Some x) (sym is) (listed-on xs more n x listed)
+-- the last of a node's lines in reverse order has the claim of the node
+module _ (front more : List DueLine) where
+  has-claim : (node : Node) (line : DueLine) (rest : List DueLine) → lines_of node ≡ line ∷ rest → cost_of (node_of line) ≡ cost_of node → set_of (node_of line) ≡ set_of node
+      → HasClaimOf ((front ++ reverse (lines_of node)) ++ more) (length (front ++ reverse (lines_of node)) - 1) node
+  has-claim node line rest is cost set =
+      let before = front ++ reverse rest in
+      let whole : front ++ reverse (lines_of node) ≡ before ++ line ∷ [] =
+      ap (λ (l : List DueLine). front ++ reverse l) is ∙ ap (λ (l : List DueLine). front ++ l) (reverse-append (line ∷ []) rest) ∙ sym (append_assoc front (reverse rest) (line ∷ [])) in
+      let number : length (front ++ reverse (lines_of node)) - 1 ≡ length before = omega (arith, ap length whole, length-append before (line ∷ [])) in
+      let there : slice_index_or ((front ++ reverse (lines_of node)) ++ more) (length (front ++ reverse (lines_of node)) - 1) (LeafLine 0) ≡ line =
+      (λ i. get_or (whole i ++ more) (number i) (LeafLine 0)) ∙ ap (λ (l : List DueLine). get_or l (length before) (LeafLine 0)) (append_assoc before (line ∷ []) more)
+      ∙ get_or-append_seam before line more (LeafLine 0) in
+      record {
+        inside = omega (arith, length-append (front ++ reverse (lines_of node)) more, ap length whole, length-append before (line ∷ []));
+        cost = ap (λ (l : DueLine). cost_of (node_of l)) there ∙ cost;
+        set = ap (λ (l : DueLine). set_of (node_of l)) there ∙ set;
+      }
 
-listed-last : {X : Type 0} (front whole : List X) (x : X) → whole ≡ front ++ x ∷ [] → slice_get whole (length front) ≡ Some x
-listed-last {X} front whole x is =
-    let long : length front < length whole = omega (arith, ap length is, length-append front (x ∷ [])) in
-    slice_get-get_or whole (length front) x long
-    ∙ ap (λ (y : X). Some y) (ap (λ (l : List X). get_or l (length front) x) is ∙ get_or-append_seam front x [] x)
+  pub node-claim : (node : Node) → HasClaimOf ((front ++ reverse (lines_of node)) ++ more) (length (front ++ reverse (lines_of node)) - 1) node
+  node-claim (Leaf label) = has-claim (Leaf label) _ _ refl refl refl
+  node-claim (Inner cost set lower upper) = has-claim (Inner cost set lower upper) _ _ refl refl refl
+  node-claim (Chain cost set bits side end) = has-claim (Chain cost set bits side end) _ _ refl refl refl
 
-pub ascending-held : (pool : List LabelId) (id : SetId) (set : List ℕ) → IsHeld pool id set → IsAscending (2 ^ 32) 0 set → HasAscendingSet pool id
-ascending-held pool id set is ascending = record { has = is.whole; ascending = subst (IsAscending (2 ^ 32) 0) (sym is.set) ascending }
+-- lines that end with those of a node, in reverse order
+pub last-claim : (front lines : List DueLine) (node : Node) → lines ≡ front ++ reverse (lines_of node) → HasClaimOf lines (length lines - 1) node
+last-claim front lines node are =
+    subst (λ (l : List DueLine). HasClaimOf l (length l - 1) node) (sym are)
+    (subst (λ (l : List DueLine). HasClaimOf l (length (front ++ reverse (lines_of node)) - 1) node) (append-nil (front ++ reverse (lines_of node))) (node-claim front [] node))
 
-grown-twice : {X : Type 0} (old middle new : List X) → IsGrown old middle → IsGrown middle new → IsGrown old new
-grown-twice {X} old middle new first second =
-    (first.0 ++ second.0, second.1 ∙ ap (λ (l : List X). l ++ second.0) first.1 ∙ append_assoc old first.0 second.0)
+-- and lines to which those of another node were added
+pub earlier-claim : (front middle lines : List DueLine) (node other : Node) → middle ≡ front ++ reverse (lines_of node) → lines ≡ middle ++ reverse (lines_of other)
+    → HasClaimOf lines (length middle - 1) node
+earlier-claim front middle lines node other are more =
+    subst (λ (l : List DueLine). HasClaimOf l (length middle - 1) node) (sym more)
+    (subst (λ (l : List DueLine). HasClaimOf (l ++ reverse (lines_of other)) (length l - 1) node) (sym are) (node-claim front (reverse (lines_of other)) node))
 
-grown-again : (old middle new : Built) → HasGrown old middle → HasGrown middle new → HasGrown old new
-grown-again old middle new first second = record {
-  sets = grown-twice old.sets middle.sets new.sets first.sets second.sets;
-  lines = grown-twice old.lines.items middle.lines.items new.lines.items first.lines second.lines;
-  chains = grown-twice old.chains.items middle.chains.items new.chains.items first.chains second.chains;
+-- an inner node's line completes the lines of its halves
+pub inner-lines : (old middle after new : List DueLine) (cost : ℕ) (set : List ℕ) (lower upper : Node) → middle ≡ old ++ reverse (lines_of upper) → after ≡ middle ++ reverse (lines_of lower)
+    → new ≡ after ++ InnerLine cost set ∷ [] → new ≡ old ++ reverse (lines_of (Inner cost set lower upper))
+inner-lines old middle after new cost set lower upper high low own =
+    let line = InnerLine cost set ∷ [] in
+    let up = reverse (lines_of upper) in
+    let down = reverse (lines_of lower) in
+    own ∙ (λ i. (low ∙ ap (λ (l : List DueLine). l ++ down) high) i ++ line)
+    ∙ append_assoc (old ++ up) down line ∙ append_assoc old up (down ++ line)
+    ∙ ap (λ (l : List DueLine). old ++ l) (sym (append_assoc up down line) ∙ ap (λ (l : List DueLine). l ++ line) (sym (reverse-append (lines_of lower) (lines_of upper)))
+    ∙ sym (reverse-append line (lines_of lower ++ lines_of upper)))
+
+-- what the line of an inner node claims is the exact claim of its halves
+pub halves-exact : (lines : List DueLine) (upper : ℕ) (low high : Node) (cost : ℕ) (set : List ℕ) → HasClaimOf lines (length lines - 1) low → HasClaimOf lines upper high
+    → IsExact (last_node lines) (node_at lines upper) cost set → IsExact low high cost set
+halves-exact lines upper low high cost set below above exact =
+    subst (λ (k : ℕ). IsExactBy k (cost_of high) (set_of low) (set_of high) (common_numbers (set_of low) (set_of high)) cost set) below.cost
+    (subst (λ (k : ℕ). IsExactBy (cost_of (last_node lines)) k (set_of low) (set_of high) (common_numbers (set_of low) (set_of high)) cost set) above.cost
+    (subst (λ (l : List ℕ). IsExactBy (cost_of (last_node lines)) (cost_of (node_at lines upper)) l (set_of high) (common_numbers l (set_of high)) cost set) below.set
+    (subst (λ (l : List ℕ). IsExactBy (cost_of (last_node lines)) (cost_of (node_at lines upper)) (set_of (last_node lines)) l (common_numbers (set_of (last_node lines)) l) cost set) above.set exact)))
+
+pub are-halves : (lines : List DueLine) (upper : ℕ) (low high : Node) → HasClaimOf lines (length lines - 1) low → HasClaimOf lines upper high
+    → IsAscending (2 ^ 32) 0 (set_of low) → IsAscending (2 ^ 32) 0 (set_of high) → cost_of low + cost_of high + 1 < 2 ^ 32 → AreHalves lines upper
+are-halves lines upper low high below above low_ascending high_ascending few = record {
+  inside = above.inside;
+  low = subst (IsAscending (2 ^ 32) 0) (sym below.set) low_ascending;
+  high = subst (IsAscending (2 ^ 32) 0) (sym above.set) high_ascending;
+  few = omega (arith, below.cost, above.cost, few);
 }
 
--- the lines of a node stay when others are appended
-pub at-grown : (old new : Built) (compact node : Node) (from to : ℕ) → HasGrown old new → IsAt old compact node from to → IsAt new compact node from to
-at-grown old new (Leaf label) node from to grown is = record {
-  line_is = listed-grown old.lines.items grown.lines.0 new.lines.items from _ grown.lines.1 is.line_is;
-  to_is = is.to_is;
-  node_is = is.node_is;
-}
-at-grown old new (Inner cost set lower upper) node from to grown is = record {
-  id = is.id;
-  middle = is.middle;
-  last = is.last;
-  lower = is.lower;
-  upper = is.upper;
-  high = at-grown old new upper is.upper from is.middle grown is.high;
-  low = at-grown old new lower is.lower is.middle is.last grown is.low;
-  line_is = listed-grown old.lines.items grown.lines.0 new.lines.items is.last _ grown.lines.1 is.line_is;
-  to_is = is.to_is;
-  set_is = held-more old.sets new.sets is.id set grown.sets is.set_is;
-  node_is = is.node_is;
-}
-at-grown old new (Chain cost set bits side end) node from to grown is = record {
-  number = is.number;
-  chain = is.chain;
-  last = is.last;
-  end = is.end;
-  below = at-grown old new end is.end from is.last grown is.below;
-  line_is = listed-grown old.lines.items grown.lines.0 new.lines.items is.last _ grown.lines.1 is.line_is;
-  to_is = is.to_is;
-  listed = listed-grown old.chains.items grown.chains.0 new.chains.items is.number is.chain grown.chains.1 is.listed;
-  cost_is = is.cost_is;
-  price_is = is.price_is;
-  set_is = is.set_is;
-  side_is = is.side_is;
-  bits_are = is.bits_are;
-  long = is.long;
-  few = is.few;
-  node_is = is.node_is;
+-- a compact node has the claim of the node that it opens to
+pub opens-cost : (compact node : Node) → Opens compact node → cost_of compact ≡ cost_of node
+opens-cost (Leaf label) node is = sym (ap cost_of is)
+opens-cost (Inner cost set lower upper) node is = sym (ap cost_of is.node_is)
+opens-cost (Chain cost set bits side end) node is = is.cost_is ∙ sym (by is.count is.long) ∙ sym (ap cost_of is.node_is)
+  where
+    by : (count : ℕ) → 2 ≤ count → cost_of (path_node side is.value count is.end) ≡ cost_above side is.end
+    by zero long = absurd (omega arith)
+    by (suc count) long = path-cost side is.end is.value (suc count)
+
+pub opens-set : (compact node : Node) → Opens compact node → set_of compact ≡ set_of node
+opens-set (Leaf label) node is = sym (ap set_of is)
+opens-set (Inner cost set lower upper) node is = sym (ap set_of is.node_is)
+opens-set (Chain cost set bits side end) node is = is.set_is ∙ sym (by is.count is.long) ∙ sym (ap set_of is.node_is)
+  where
+    by : (count : ℕ) → 2 ≤ count → set_of (path_node side is.value count is.end) ≡ side ∷ []
+    by zero long = absurd (omega arith)
+    by (suc zero) long = absurd (omega arith)
+    by (suc (suc count)) long = path-set side is.end is.value (suc (suc count))
+
+-- the line with this index has the claim of the node that a compact node opens to
+pub opened-claim : (lines : List DueLine) (number : ℕ) (compact node : Node) → Opens compact node → HasClaimOf lines number compact → HasClaimOf lines number node
+opened-claim lines number compact node opens is = record {
+  inside = is.inside;
+  cost = is.cost ∙ opens-cost compact node opens;
+  set = is.set ∙ opens-set compact node opens;
 }
 
-pushed-length : {X : Type 0} (front whole : List X) (x : X) → whole ≡ front ++ x ∷ [] → length whole ≡ length front + 1
-pushed-length front whole x is = omega (arith, ap length is, length-append front (x ∷ []))
+-- the claims of the lines of what was built last, and of what was built before
+pub built-claim : (s : StretchesModel) (a : Window) (old new : List DueLine) (built : IsBuilt s a old new) → HasClaimOf new (length new - 1) built.node
+built-claim s a old new built = opened-claim new (length new - 1) built.compact built.node built.opens (last-claim old new built.compact built.lines_are)
 
--- the node of a leaf was added
-pub record IsLeafAdded (id : LabelId) (old new : Built) : Type 0 where
-  pub grown : HasGrown old new
-  pub at : IsAt new (Leaf id.0) (Leaf id.0) (length old.lines.items) (length new.lines.items)
-
-pub leaf-added : (id : LabelId) (old new : Built) (claim : Claim) → AddsLeaf id old new claim → IsLeafAdded id old new
-leaf-added id old new claim adds = record {
-  grown = record {
-    sets = adds.held.grown;
-    lines = (LeafLine id ∷ [], adds.lines_are);
-    chains = ([], adds.chains_are ∙ sym (append-nil old.chains.items));
-  };
-  at = record {
-    line_is = listed-last old.lines.items new.lines.items (LeafLine id) adds.lines_are;
-    to_is = pushed-length old.lines.items new.lines.items (LeafLine id) adds.lines_are;
-    node_is = refl;
-  };
-}
-
--- the node of two halves was added
-pub record IsInnerAdded (old new : Built) (claim : Claim) (set : List ℕ) (low lower high upper : Node) (from : ℕ) : Type 0 where
-  pub grown : HasGrown old new
-  pub exact : IsExact lower upper claim.cost set
-  pub at : IsAt new (Inner claim.cost set low high) (Inner claim.cost set lower upper) from (length new.lines.items)
-
-exact-by : (low_cost high_cost : ℕ) (low high shared set : List ℕ) (apart : Bool) → IsExactSetBy low high apart shared set
-    → IsExactBy low_cost high_cost low high shared (exact_cost low_cost high_cost apart) set
-exact-by low_cost high_cost low high [] set apart exact = (ap (exact_cost low_cost high_cost) exact.0, exact.1, exact.2)
-exact-by low_cost high_cost low high (n ∷ ns) set apart exact = (ap (exact_cost low_cost high_cost) exact.0, exact.1)
-
-pub inner-added : (old new : Built) (below above claim : Claim) (low lower high upper : Node) (from middle : ℕ) → IsAt old high upper from middle → IsAt old low lower middle (length old.lines.items)
-    → below.cost ≡ cost_of lower → above.cost ≡ cost_of upper → IsHeld old.sets below.set (set_of lower) → IsHeld old.sets above.set (set_of upper)
-    → (adds : AddsInner below above old new claim) → IsInnerAdded old new claim adds.held.set low lower high upper from
-inner-added old new below above claim low lower high upper from middle high_at low_at low_cost high_cost low_set high_set adds =
-    let grown : HasGrown old new = record {
-      sets = adds.held.held.grown;
-      lines = (InnerLine claim.cost claim.set ∷ [], adds.lines_are);
-      chains = ([], adds.chains_are ∙ sym (append-nil old.chains.items));
-    } in
-    let exact : IsExactSet (set_of lower) (set_of upper) adds.apart adds.held.set =
-    subst (λ (l : List ℕ). IsExactSet l (set_of upper) adds.apart adds.held.set) low_set.set
-    (subst (λ (l : List ℕ). IsExactSet (set_in old.sets below.set) l adds.apart adds.held.set) high_set.set adds.held.exact) in
-    let cost : claim.cost ≡ exact_cost (cost_of lower) (cost_of upper) adds.apart =
-    adds.cost_is ∙ (λ i. exact_cost (low_cost i) (high_cost i) adds.apart) in
-    record {
-      grown = grown;
-      exact = subst (λ (k : ℕ). IsExact lower upper k adds.held.set) (sym cost)
-          (exact-by (cost_of lower) (cost_of upper) (set_of lower) (set_of upper) (common_numbers (set_of lower) (set_of upper)) adds.held.set adds.apart exact);
-      at = record {
-        id = claim.set;
-        middle = middle;
-        last = length old.lines.items;
-        lower = lower;
-        upper = upper;
-        high = at-grown old new high upper from middle grown high_at;
-        low = at-grown old new low lower middle (length old.lines.items) grown low_at;
-        line_is = listed-last old.lines.items new.lines.items (InnerLine claim.cost claim.set) adds.lines_are;
-        to_is = pushed-length old.lines.items new.lines.items (InnerLine claim.cost claim.set) adds.lines_are;
-        set_is = adds.held.held.stands;
-        node_is = refl;
-      };
-    }
+pub before-claim : (s : StretchesModel) (low high : Window) (old middle new : List DueLine) (above : IsBuilt s high old middle) → IsBuilt s low middle new → HasClaimOf new (length middle - 1) above.node
+before-claim s low high old middle new above below =
+    opened-claim new (length middle - 1) above.compact above.node above.opens (earlier-claim old middle new above.compact below.compact above.lines_are below.lines_are)
 
 -- a leaf's line is what a block in one stretch adds
-pub leaf-built : (s : StretchesModel) (a : Window) (id : LabelId) (old new : Built) (claim : Claim) → IsCounted s a → own_label s a ≡ Some id.0 → AddsLeaf id old new claim
-    → IsBuilt s a old new claim
-leaf-built s a id old new claim is own adds =
-    let added = leaf-added id old new claim adds in
-    record {
-      tree = Tip (Some (record { 0 = id.0 }));
-      node = Leaf id.0;
-      compact = Leaf id.0;
-      made = leaf-made s a id.0 is own adds.fits;
-      compact_is = compact-leaf id.0;
-      at = added.at;
-      grown = added.grown;
-      cost_is = adds.cost_is;
-      set_is = adds.held.stands;
-    }
+pub leaf-built : (s : StretchesModel) (a : Window) (n : ℕ) (old new : List DueLine) → IsCounted s a → own_label s a ≡ Some n → n < 2 ^ 32 → new ≡ old ++ LeafLine n ∷ []
+    → IsBuilt s a old new
+leaf-built s a n old new is own fits lines = record {
+  tree = Tip (Some (record { 0 = n }));
+  node = Leaf n;
+  compact = Leaf n;
+  made = leaf-made s a n is own fits;
+  compact_is = compact-leaf n;
+  opens = refl;
+  lines_are = lines;
+}
 
 -- the sum that bounds the leaves of a block also bounds the cost of its node
 pub made-cost : (s : StretchesModel) (a : Window) (tree : Tree) (node : Node) (is : IsCounted s a) → IsMade s a tree node
@@ -252,111 +218,93 @@ IsShortRun s a None = Unit {0}
 IsShortRun s a (Some side) = (end : Window) × (run : IsRunTo s side a end) × (run.count < 2)
 
 -- an inner node's line completes a block with two halves and a short run
-pub halves-built : (s : StretchesModel) (a low high : Window) (old middle after new : Built) (above below claim : Claim) → IsCounted s a → AreCountedHalves s a low high
-    → IsShortRun s a (option_or (own_label s low) (own_label s high)) → IsBuilt s high old middle above → IsBuilt s low middle after below → AddsInner below above after new claim
-    → IsBuilt s a old new claim
-halves-built s a low high old middle after new above below claim is are short upper lower adds =
-    let high_set = held-more middle.sets after.sets above.set (set_of upper.node) lower.grown.sets upper.set_is in
-    let high_at = at-grown middle after upper.compact upper.node (length old.lines.items) (length middle.lines.items) lower.grown upper.at in
-    let added = inner-added after new below above claim lower.compact lower.node upper.compact upper.node (length old.lines.items) (length middle.lines.items)
-    high_at lower.at lower.cost_is upper.cost_is lower.set_is high_set adds in
-    let made = halves-made s a low high lower.tree upper.tree lower.node upper.node claim.cost adds.held.set is are lower.made upper.made added.exact
-    (exact-ascending (2 ^ 32) (cost_of lower.node) (cost_of upper.node) (set_of lower.node) (set_of upper.node) claim.cost adds.held.set lower.made.ascending upper.made.ascending added.exact) in
+pub halves-built : (s : StretchesModel) (a low high : Window) (old middle after new : List DueLine) → IsCounted s a → AreCountedHalves s a low high
+    → IsShortRun s a (option_or (own_label s low) (own_label s high)) → IsBuilt s high old middle → IsBuilt s low middle after → AddsInner (length middle - 1) after new
+    → IsBuilt s a old new
+halves-built s a low high old middle after new is are short upper lower adds =
+    let exact = halves-exact after (length middle - 1) lower.node upper.node adds.cost adds.set (built-claim s low middle after lower) (before-claim s low high old middle after upper lower) adds.exact in
+    let made = halves-made s a low high lower.tree upper.tree lower.node upper.node adds.cost adds.set is are lower.made upper.made exact
+    (exact-ascending (2 ^ 32) (cost_of lower.node) (cost_of upper.node) (set_of lower.node) (set_of upper.node) adds.cost adds.set lower.made.ascending upper.made.ascending exact) in
     let labels : option_or (label_of lower.node) (label_of upper.node) ≡ option_or (own_label s low) (own_label s high) =
     (λ i. option_or (lower.made.own i) (upper.made.own i)) in
     record {
       tree = Fork lower.tree upper.tree;
-      node = Inner claim.cost adds.held.set lower.node upper.node;
-      compact = Inner claim.cost adds.held.set lower.compact upper.compact;
+      node = Inner adds.cost adds.set lower.node upper.node;
+      compact = Inner adds.cost adds.set lower.compact upper.compact;
       made = made;
-      compact_is = go made adds.held.set (option_or (own_label s low) (own_label s high)) labels short;
-      at = added.at;
-      grown = grown-again old middle new upper.grown (grown-again middle after new lower.grown added.grown);
-      cost_is = refl;
-      set_is = adds.held.held.stands;
+      compact_is = go made (option_or (own_label s low) (own_label s high)) labels short;
+      opens = record { lower = lower.node; upper = upper.node; low = lower.opens; high = upper.opens; node_is = refl };
+      lines_are = inner-lines old middle after new adds.cost adds.set lower.compact upper.compact upper.lines_are lower.lines_are adds.lines_are;
     }
   where
-    go : {tree : Tree} → IsMade s a tree (Inner claim.cost adds.held.set lower.node upper.node) → (set : List ℕ) → (o : Option ℕ)
+    go : {tree : Tree} → IsMade s a tree (Inner adds.cost adds.set lower.node upper.node) → (o : Option ℕ)
         → option_or (label_of lower.node) (label_of upper.node) ≡ o → IsShortRun s a o
-        → IsCompactNode (Inner claim.cost adds.held.set lower.node upper.node) (Inner claim.cost adds.held.set lower.compact upper.compact)
-    go made set None e short = compact-none claim.cost adds.held.set lower.node upper.node lower.compact upper.compact lower.compact_is upper.compact_is e
-    go {tree} made set (Some side) e short =
-        compact-short claim.cost adds.held.set lower.node upper.node lower.compact upper.compact lower.compact_is upper.compact_is side e
-        (short-run s a low high lower.tree upper.tree lower.node upper.node are lower.made upper.made tree claim.cost adds.held.set side short.0 made short.1 short.2)
+        → IsCompactNode (Inner adds.cost adds.set lower.node upper.node) (Inner adds.cost adds.set lower.compact upper.compact)
+    go made None e short = compact-none adds.cost adds.set lower.node upper.node lower.compact upper.compact lower.compact_is upper.compact_is e
+    go {tree} made (Some side) e short =
+        compact-short adds.cost adds.set lower.node upper.node lower.compact upper.compact lower.compact_is upper.compact_is side e
+        (short-run s a low high lower.tree upper.tree lower.node upper.node are lower.made upper.made tree adds.cost adds.set side short.0 made short.1 short.2)
 
 -- a chain's line completes a block from which a run of two bits or more leads to its end
-pub chain-built : (s : StretchesModel) (a low high end : Window) (old middle new : Built) (below claim : Claim) (side : LabelId) (number bits : ℕ) → IsCounted s a → AreCountedHalves s a low high
-    → option_or (own_label s low) (own_label s high) ≡ Some side.0 → (run : IsRunTo s side.0 a end) → 2 ≤ run.count → bits ≡ end.len - a.len → number ≡ number_at s end
-    → IsBuilt s end old middle below → AddsChain below side number bits middle new claim → IsBuilt s a old new claim
-chain-built s a low high end old middle new below claim side number bits is are label run more bits_same number_is built adds =
+pub chain-built : (s : StretchesModel) (a low high end : Window) (old middle new : List DueLine) (side number bits : ℕ) → IsCounted s a → AreCountedHalves s a low high
+    → option_or (own_label s low) (own_label s high) ≡ Some side → side < 2 ^ 32 → (run : IsRunTo s side a end) → 2 ≤ run.count → bits ≡ end.len - a.len → number ≡ number_at s end
+    → IsBuilt s end old middle → new ≡ middle ++ ChainLine (cost_above side (last_node middle)) (path_to number bits) side (side ∷ []) ∷ [] → IsBuilt s a old new
+chain-built s a low high end old middle new side number bits is are label fits run more bits_same number_is built own =
     let len = run.len in
     let bits_is : bits ≡ run.count = omega (arith, bits_same) in
-    let long : 2 ≤ bits = omega arith in
-    let grown : HasGrown middle new = record {
-      sets = adds.held.grown;
-      lines = (ChainLine (length middle.chains.items) ∷ [], adds.lines_are);
-      chains = (record { cost = claim.cost; side = side; end = number; bits = bits } ∷ [], adds.chains_are);
-    } in
     let value : ℕ = number_at s end in
     let count : ℕ = run.count in
-    let node : Node = path_node side.0 value count built.node in
-    let made = run-made s side.0 adds.fits end built.tree built.node built.made count a is run.run in
-    let down = run-down s side.0 adds.fits end built.tree built.node built.made run.stop count a is run.run in
+    let node : Node = path_node side value count built.node in
+    let made = run-made s side fits end built.tree built.node built.made count a is run.run in
+    let down = run-down s side fits end built.tree built.node built.made run.stop count a is run.run in
     let parts = made.halves are.divided in
-    let some : 1 ≤ count = omega arith in
-    let below_set = built.set_is.set in
-    let cost : claim.cost ≡ cost_of node =
-    adds.cost_is ∙ (λ i. cond (has_number (below_set i) side.0) (built.cost_is i) (built.cost_is i + 1)) ∙ sym (first-cost count some) in
-    let set : set_of node ≡ side.0 ∷ [] = first-set count (omega arith) in
-    let parts_cost : cost_of node ≡ parts.cost = ap cost_of parts.node_is in
-    let parts_set : set_of node ≡ parts.set = ap set_of parts.node_is in
-    let sides : option_or (label_of parts.lower) (label_of parts.upper) ≡ Some side.0 =
-    sym (ap side_below parts.node_is) ∙ made-side s a low high (path_tree side.0 value count built.tree) node made are ∙ label in
+    let claim = built-claim s end old middle built in
+    let cost : cost_above side (last_node middle) ≡ cost_above side built.node =
+    λ i. cond (has_number (claim.set i) side) (claim.cost i) (claim.cost i + 1) in
+    let compact = Chain (cost_above side built.node) (side ∷ []) (path_to value count) side built.compact in
+    let opens : Opens compact node = record {
+      value = value;
+      count = count;
+      end = built.node;
+      below = built.opens;
+      cost_is = refl;
+      set_is = refl;
+      bits_are = refl;
+      long = more;
+      few = let inside = run.counted.window.within in omega (arith, width-le s.version);
+      node_is = refl;
+    } in
+    let parts_cost : cost_above side built.node ≡ parts.cost = opens-cost compact node opens ∙ ap cost_of parts.node_is in
+    let parts_set : side ∷ [] ≡ parts.set = opens-set compact node opens ∙ ap set_of parts.node_is in
+    let sides : option_or (label_of parts.lower) (label_of parts.upper) ≡ Some side =
+    sym (ap side_below parts.node_is) ∙ made-side s a low high (path_tree side value count built.tree) node made are ∙ label in
     record {
-      tree = path_tree side.0 value count built.tree;
+      tree = path_tree side value count built.tree;
       node = node;
-      compact = Chain parts.cost parts.set (path_to value count) side.0 built.compact;
+      compact = compact;
       made = made;
-      compact_is = subst (λ (n : Node). IsCompactNode n (Chain parts.cost parts.set (path_to value count) side.0 built.compact)) (sym parts.node_is)
-          (compact-chain parts.cost parts.set parts.lower parts.upper side.0 (path_to value count) built.node built.compact sides
-          (sym down.bits ∙ ap (bits_down side.0) parts.node_is) (sym down.last ∙ ap (end_down side.0) parts.node_is) (omega (arith, path-length value count)) built.compact_is);
-      at = record {
-        number = length middle.chains.items;
-        chain = record { cost = claim.cost; side = side; end = number; bits = bits };
-        last = length middle.lines.items;
-        end = built.node;
-        below = at-grown middle new built.compact built.node (length old.lines.items) (length middle.lines.items) grown built.at;
-        line_is = listed-last middle.lines.items new.lines.items (ChainLine (length middle.chains.items)) adds.lines_are;
-        to_is = pushed-length middle.lines.items new.lines.items (ChainLine (length middle.chains.items)) adds.lines_are;
-        listed = listed-last middle.chains.items new.chains.items (record { cost = claim.cost; side = side; end = number; bits = bits }) adds.chains_are;
-        cost_is = sym parts_cost ∙ sym cost;
-        price_is = adds.cost_is ∙ (λ i. cond (has_number (below_set i) side.0) (built.cost_is i) (built.cost_is i + 1));
-        set_is = sym parts_set ∙ set;
-        side_is = refl;
-        bits_are = λ i. path_to (sym number_is i) (sym bits_is i);
-        long = long;
-        few = let inside = run.counted.window.within in let len = run.len in omega (arith, width-le s.version);
-        node_is = λ i. path_node side.0 (sym number_is i) (sym bits_is i) built.node;
-      };
-      grown = grown-again old middle new built.grown grown;
-      cost_is = cost;
-      set_is = subst (IsHeld new.sets claim.set) (sym set) adds.held.stands;
+      compact_is =
+          subst (λ (n : Node). IsCompactNode n compact) (sym parts.node_is)
+          (subst (IsCompactNode (Inner parts.cost parts.set parts.lower parts.upper)) (λ i. Chain (sym parts_cost i) (sym parts_set i) (path_to value count) side built.compact)
+          (compact-chain parts.cost parts.set parts.lower parts.upper side (path_to value count) built.node built.compact sides
+          (sym down.bits ∙ ap (bits_down side) parts.node_is) (sym down.last ∙ ap (end_down side) parts.node_is) (omega (arith, path-length value count)) built.compact_is));
+      opens = opens;
+      lines_are =
+          own ∙ (λ i. built.lines_are i ++ ChainLine (cost i) (path_to (number_is i) (bits_is i)) side (side ∷ []) ∷ [])
+          ∙ append_assoc old (reverse (lines_of built.compact)) _
+          ∙ ap (λ (l : List DueLine). old ++ l) (sym (reverse-append (ChainLine (cost_above side built.node) (path_to value count) side (side ∷ []) ∷ []) (lines_of built.compact)));
     }
-  where
-    first-cost : (count : ℕ) → 1 ≤ count → cost_of (path_node side.0 (number_at s end) count built.node) ≡ cost_above side.0 built.node
-    first-cost zero some = absurd (omega arith)
-    first-cost (suc count) some = path-cost side.0 adds.fits built.node built.made.ascending (number_at s end) (suc count)
 
-    first-set : (count : ℕ) → 2 ≤ count → set_of (path_node side.0 (number_at s end) count built.node) ≡ side.0 ∷ []
-    first-set zero some = absurd (omega arith)
-    first-set (suc zero) some = absurd (omega arith)
-    first-set (suc (suc count)) some = path-set side.0 adds.fits built.node built.made.ascending (number_at s end) (suc (suc count))
+-- all lines, reversed, are those of the node
+pub reversed-lines : (old new : List DueLine) (node : Node) → old ≡ [] → new ≡ old ++ reverse (lines_of node) → reverse new ≡ lines_of node
+reversed-lines old new node none is = ap reverse (is ∙ ap (λ (l : List DueLine). l ++ reverse (lines_of node)) none) ∙ reverse-reverse (lines_of node)
 
 -- what is built for the whole address space is the node of each map of the stretches
-pub whole-built : (s : StretchesModel) (a : Window) (old new : Built) (claim : Claim) → AreCountable s → a.first ≡ 0 → a.len ≡ 0 → old.lines.items ≡ [] → IsBuilt s a old new claim
-    → IsBuiltOn s new
-whole-built s a old new claim can first len none built =
-    let few = (tree_is can.statements can.default can.stretches).few in
+pub whole-built : (s : StretchesModel) (a : Window) (old new : List DueLine) (root : Node) → AreCountable s → a.first ≡ 0 → a.len ≡ 0 → old ≡ [] → IsBuilt s a old new
+    → ((node : Node) → reverse new ≡ lines_of node → root ≡ node) → IsBuiltOn s root
+whole-built s a old new root can first len none built root_is =
+    subst (IsBuiltOn s) (sym (root_is built.compact (reversed-lines old new built.compact none built.lines_are)))
+    (let few = (tree_is can.statements can.default can.stretches).few in
     let most = mul-le-mul_right (length can.statements) (width-le s.version) in
     record {
       leaves = leaves_of built.tree 0 0;
@@ -368,11 +316,10 @@ whole-built s a old new claim can first len none built =
         certified =
             tree-certified built.tree 0 0 (width_of s.version) built.node (fits_HasRoom can.map built.tree 0 0 (width_of s.version) room ((tree_is can.statements can.default can.stretches).fits can.map can.is)) built.made.node_is
             (omega (arith, length_leaves built.tree 0 0, few, ends_most (width_of s.version) can.statements, most, can.few));
-        compact = built.compact;
         compact_is = built.compact_is;
-        at = subst (λ (k : ℕ). IsAt new built.compact built.node k (length new.lines.items)) (ap length none) built.at;
+        opens = built.opens;
       };
-    }
+    })
   where
     room : width_of s.version + 0 ≡ width_of can.map.version
     room = omega (arith, can.is.width)
@@ -398,15 +345,15 @@ map-countable m s version are = record {
 }
 
 -- what is built on the stretches of a map is the map's
-pub map-built : (m : MapText) (s : StretchesModel) (b : Built) → s.version ≡ m.version → AreStretches m.statements (Some m.default) s → IsBuiltOn s b → IsBuiltFor m b
-map-built m s b version are built =
+pub map-built : (m : MapText) (s : StretchesModel) (compact : Node) → s.version ≡ m.version → AreStretches m.statements (Some m.default) s → IsBuiltOn s compact → IsBuiltFor m compact
+map-built m s compact version are built =
     let settled = built.settled m.statements (Some m.default) (map_of m) are refl (map-is m s version) in
     record {
       leaves = built.leaves;
       node = built.node;
       settled = settled.0;
       undivided = settled.1;
-      built = subst (λ (v : Version). IsBuiltOf v built.leaves b built.node) version built.built;
+      built = subst (λ (v : Version). IsBuiltOf v built.leaves compact built.node) version built.built;
     }
 
 -- a block's first stretch has a label
@@ -428,28 +375,15 @@ end-smaller s a end side is run more =
     omega arith
 
 -- the costs of two halves and one more can be counted
-pub both-cost : (s : StretchesModel) (a low high : Window) (low_tree high_tree : Tree) (lower upper : Node) (low_cost high_cost : ℕ) (is : IsCounted s a) → AreCountedHalves s a low high
-    → IsMade s low low_tree lower → IsMade s high high_tree upper → low_cost ≡ cost_of lower → high_cost ≡ cost_of upper → low_cost + high_cost + 1 < 2 ^ 32
-both-cost s a low high low_tree high_tree lower upper low_cost high_cost is are low_made high_made low_is high_is =
-    let node = Inner 0 [] lower upper in
+pub both-cost : (s : StretchesModel) (a low high : Window) (low_tree high_tree : Tree) (lower upper : Node) (is : IsCounted s a) → AreCountedHalves s a low high
+    → IsMade s low low_tree lower → IsMade s high high_tree upper → cost_of lower + cost_of upper + 1 < 2 ^ 32
+both-cost s a low high low_tree high_tree lower upper is are low_made high_made =
     let ss = is.few.statements in
-    let default = is.few.default in
-    let stretches = is.few.stretches in
-    let low_few = (low_made.tree_of ss default stretches).few in
-    let high_few = (high_made.tree_of ss default stretches).few in
+    let low_few = (low_made.tree_of ss is.few.default is.few.stretches).few in
+    let high_few = (high_made.tree_of ss is.few.default is.few.stretches).few in
     let sum = counted-sum s a is are.divided low high are.halves in
     let few = is.few.few in
-    omega (
-      arith,
-      low_few,
-      high_few,
-      sum,
-      few,
-      low_is,
-      high_is,
-      node-cost low_tree lower low_made.node_is,
-      node-cost high_tree upper high_made.node_is,
-    )
+    omega (arith, low_few, high_few, sum, few, node-cost low_tree lower low_made.node_is, node-cost high_tree upper high_made.node_is)
 
 -- the leaves of the window of all addresses can be counted
 pub whole-counted : (s : StretchesModel) (a : Window) → AreCountable s → IsWindow s a → a.first ≡ 0 → a.len ≡ 0 → IsCounted s a

@@ -23,12 +23,12 @@ use Rattle.pmap_text.proofs.Stretched.{held_text, stretches_known}
 use Rattle.pmap_cert.specs.Acceptance.{HasItsLabels, IsMinimalPair, StandsFor}
 use Rattle.pmap_cert.specs.CertificateModel.{CertificateModel, has}
 use Rattle.pmap_cert.specs.CertificateText.{HasTextForm}
-use Rattle.pmap_cert.specs.Node.{tree_of}
+use Rattle.pmap_cert.specs.Node.{Node, tree_of}
 use Rattle.pmap_cert.proofs.InOrder.{list-form}
 use Rattle.pmap_cert.proofs.InTableOrder.{pair-listed}
 use Rattle.pmap_cert.proofs.SameLists.{other, same-entries}
 use Rattle.label_trie.specs.TrieModel.{IsSettledLeaf}
-use Rattle.pmap_minimise.specs.Built.{Built, IsBuiltOn}
+use Rattle.pmap_minimise.specs.Built.{IsBuiltOn}
 use Rattle.pmap_minimise.specs.Listing.{IsListedBy}
 use Rattle.pmap_minimise.specs.Numbers.{IsKnownLeaf}
 use Rattle.pmap_minimise.specs.Runs.{AreCountable}
@@ -105,7 +105,7 @@ module _ (m : MapText) (s : StretchesModel) (version : s.version ≡ m.version) 
     few = omega (arith, length-layers_to s (length s.firsts), few, m.within_limit);
   }
 
-  module _ (ok : IsLabelTable m.labels) (b : Built) (built : IsBuiltOn s b) (items : List Entry) (listed : IsListedBy m.version built.leaves built.node items) where
+  module _ (ok : IsLabelTable m.labels) (root : Node) (built : IsBuiltOn s root) (items : List Entry) (listed : IsListedBy m.version built.leaves built.node items) where
     pub runs-entries : AreEntriesOf m built.node items
     runs-entries =
         listed-entries m built.leaves built.node items listed ok

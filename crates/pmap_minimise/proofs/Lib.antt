@@ -5,16 +5,12 @@ pub mod Entered
 pub mod Distinct
 pub mod Whole
 pub mod LabelRuns
-pub mod Halves
-pub mod Compacted
 pub mod Paths
 pub mod MadeNodes
 pub mod BuiltNodes
-pub mod PathEntries
 pub mod ChainEntries
 pub mod NodeEntries
-pub mod OpenedBuilt
 pub mod OpenedTexts
 pub mod RunEnds
 pub mod TreeNodes
-pub mod Walked
+pub mod Claimed

@@ -8,7 +8,7 @@ use Rattle.std.specs.Option.{option_or}
 use Rattle.prefix_keys.specs.Block.{first_of, last_of, width_of}
 use Rattle.prefix_keys.specs.declared.version.Version.{Version}
 use Rattle.prefix_keys.proofs.Quotients.{above_first, below_end, quotient_is}
-use Rattle.pmap_text.specs.Stretches.{AreStretches, HasEveryAddress, HasStretch, HoldsAddress, StretchesModel, first_at, label_at, last_at}
+use Rattle.pmap_text.specs.Stretches.{HasEveryAddress, HasStretch, HoldsAddress, StretchesModel, first_at, label_at, last_at}
 use Rattle.pmap_text.specs.declared.label.LabelId.{LabelId}
 use Rattle.pmap_text.specs.declared.statement.Statement.{Statement}
 use Rattle.pmap_cert.specs.CertificateText.{IsAscending}
@@ -23,7 +23,7 @@ use Rattle.pmap_text.specs.declared.window.Window.{Window}
 use Rattle.pmap_text.proofs.Windows.{one_index, ordered_window}
 use Rattle.pmap_minimise.specs.Runs.{AreCountedHalves, IsCounted, IsChoice, IsMade, IsRun, IsStep, IsStop, IsTreeOf, own_label}
 use Rattle.pmap_cert.specs.Paths.{digit, path_to}
-use Rattle.pmap_minimise.specs.Built.{cost_above, node_over, set_above, path_node}
+use Rattle.pmap_minimise.specs.Opened.{cost_above, node_over, set_above, path_node}
 use Rattle.pmap_minimise.specs.Numbers.{IsExact}
 use Rattle.pmap_minimise.proofs.Paths.{above-ascending, down-high, down-low, down-none, path-high, path-low, path-set}
 
@@ -313,7 +313,7 @@ module _ (s : StretchesModel) (side : ℕ) (fits : side < 2 ^ 32) (end : Window)
 
   path-ascending : (count : ℕ) → IsAscending (2 ^ 32) 0 (set_of (node_of count))
   path-ascending zero = made.ascending
-  path-ascending (suc count) = subst (IsAscending (2 ^ 32) 0) (sym (path-set side fits node made.ascending value (suc count))) (above-ascending side fits node made.ascending count)
+  path-ascending (suc count) = subst (IsAscending (2 ^ 32) 0) (sym (path-set side node value (suc count))) (above-ascending side fits node made.ascending count)
 
   over-made : (a : Window) (count d : ℕ) → IsMade s a (tree_over d (tree_of count) (Tip (Some (id_of side))))
       (node_over d (cost_above side node) (set_above side (set_of node) count) (node_of count) (Leaf side)) → digit value count ≡ d

@@ -10,7 +10,7 @@ use Rattle.pmap_cert.specs.Paths.{LeadsTo, path_to}
 use Rattle.pmap_cert.proofs.Paths.{path-length}
 use Rattle.pmap_minimise.specs.Listing.{AddsEntries}
 use Rattle.pmap_minimise.specs.Numbers.{IsOwn, IsSound, numbers_of}
-use Rattle.pmap_minimise.specs.Opened.{IsSoundAt, Opens, OpensChain, OpensInner}
+use Rattle.pmap_minimise.specs.Opened.{IsSoundAt, Opens, OpensChain}
 use Rattle.pmap_minimise.proofs.ChainEntries.{chain-adds, path-deep, sound-passes}
 use Rattle.pmap_minimise.proofs.Entered.{inner-adds, leaf-adds}
 

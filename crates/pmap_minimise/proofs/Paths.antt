@@ -6,7 +6,7 @@ use Rattle.pmap_cert.specs.CertificateText.{IsAscending}
 use Rattle.pmap_cert.specs.Node.{Chain, Inner, Leaf, Node, cost_of, label_of, set_of}
 use Rattle.pmap_cert.specs.Inner.{bits_down, end_down, is_leaf}
 use Rattle.pmap_cert.specs.Paths.{digit}
-use Rattle.pmap_minimise.specs.Built.{cost_above, node_over, set_above, path_node, with_number}
+use Rattle.pmap_minimise.specs.Opened.{cost_above, node_over, set_above, path_node, with_number}
 use Rattle.pmap_minimise.specs.Numbers.{IsExact, IsExactBy, common_numbers, has_number}
 use Rattle.pmap_minimise.proofs.Merged.{lacks}
 
@@ -86,6 +86,32 @@ with-ascending b k n (m ∷ ms) ascending least below none =
     rest true y e = absurd (true-not e)
     rest false y e = e
 
+-- The cost and the set that the node of a run with `bits` bits below it claims.
+module _ (side : ℕ) (end : Node) where
+  abbrev path_cost : ℕ → ℕ
+  path_cost zero = cost_of end
+  path_cost (suc bits) = cost_above side end
+
+  abbrev path_set : ℕ → List ℕ
+  path_set zero = set_of end
+  path_set (suc bits) = set_above side (set_of end) bits
+
+  over-cost : (d cost : ℕ) (set : List ℕ) (x y : Node) → cost_of (node_over d cost set x y) ≡ cost
+  over-cost zero cost set x y = refl
+  over-cost (suc d) cost set x y = refl
+
+  over-set : (d cost : ℕ) (set : List ℕ) (x y : Node) → set_of (node_over d cost set x y) ≡ set
+  over-set zero cost set x y = refl
+  over-set (suc d) cost set x y = refl
+
+  pub path-cost : (value bits : ℕ) → cost_of (path_node side value bits end) ≡ path_cost bits
+  path-cost value zero = refl
+  path-cost value (suc bits) = over-cost (digit value bits) (cost_above side end) (set_above side (set_of end) bits) (path_node side value bits end) (Leaf side)
+
+  pub path-set : (value bits : ℕ) → set_of (path_node side value bits end) ≡ path_set bits
+  path-set value zero = refl
+  path-set value (suc bits) = over-set (digit value bits) (cost_above side end) (set_above side (set_of end) bits) (path_node side value bits end) (Leaf side)
+
 -- What the nodes of a run claim.
 module _ (side : ℕ) (fits : side < 2 ^ 32) (end : Node) (ascending : IsAscending (2 ^ 32) 0 (set_of end)) where
   one-ascending : IsAscending (2 ^ 32) 0 (side ∷ [])
@@ -102,16 +128,7 @@ module _ (side : ℕ) (fits : side < 2 ^ 32) (end : Node) (ascending : IsAscendi
       by false e = with-ascending (2 ^ 32) 0 side (set_of end) ascending (omega arith) fits e
   above-ascending (suc more) = one-ascending
 
-  -- what the node with `bits` bits of the run below it claims
-  abbrev path_cost : ℕ → ℕ
-  path_cost zero = cost_of end
-  path_cost (suc bits) = cost_above side end
-
-  abbrev path_set : ℕ → List ℕ
-  path_set zero = set_of end
-  path_set (suc bits) = above bits
-
-  exact-low : (bits : ℕ) → IsExactBy (path_cost bits) 0 (path_set bits) (side ∷ []) (common_numbers (path_set bits) (side ∷ [])) (cost_above side end) (above bits)
+  exact-low : (bits : ℕ) → IsExactBy (path_cost side end bits) 0 (path_set side end bits) (side ∷ []) (common_numbers (path_set side end bits) (side ∷ [])) (cost_above side end) (above bits)
   exact-low zero =
       subst (λ (shared : List ℕ). IsExactBy (cost_of end) 0 (set_of end) (side ∷ []) shared (cost_above side end) (above zero)) (sym (common-one (2 ^ 32) 0 side (set_of end) ascending))
       (by (has_number (set_of end) side) refl)
@@ -132,7 +149,7 @@ module _ (side : ℕ) (fits : side < 2 ^ 32) (end : Node) (ascending : IsAscendi
       (sym (common-one (2 ^ 32) 0 side (above bits) (above-ascending bits) ∙ ap (λ (t : Bool). only_if t side) (above-has side (set_of end) bits)))
       (omega arith, refl)
 
-  exact-high : (bits : ℕ) → IsExactBy 0 (path_cost bits) (side ∷ []) (path_set bits) (common_numbers (side ∷ []) (path_set bits)) (cost_above side end) (above bits)
+  exact-high : (bits : ℕ) → IsExactBy 0 (path_cost side end bits) (side ∷ []) (path_set side end bits) (common_numbers (side ∷ []) (path_set side end bits)) (cost_above side end) (above bits)
   exact-high zero = by (has_number (set_of end) side) refl
     where
       by : (t : Bool) → has_number (set_of end) side ≡ t
@@ -153,31 +170,15 @@ module _ (side : ℕ) (fits : side < 2 ^ 32) (end : Node) (ascending : IsAscendi
   abbrev path : ℕ → ℕ → Node
   path value bits = path_node side value bits end
 
-  over-cost : (d cost : ℕ) (set : List ℕ) (x y : Node) → cost_of (node_over d cost set x y) ≡ cost
-  over-cost zero cost set x y = refl
-  over-cost (suc d) cost set x y = refl
-
-  over-set : (d cost : ℕ) (set : List ℕ) (x y : Node) → set_of (node_over d cost set x y) ≡ set
-  over-set zero cost set x y = refl
-  over-set (suc d) cost set x y = refl
-
-  pub path-cost : (value bits : ℕ) → cost_of (path value bits) ≡ path_cost bits
-  path-cost value zero = refl
-  path-cost value (suc bits) = over-cost (digit value bits) (cost_above side end) (above bits) (path value bits) (Leaf side)
-
-  pub path-set : (value bits : ℕ) → set_of (path value bits) ≡ path_set bits
-  path-set value zero = refl
-  path-set value (suc bits) = over-set (digit value bits) (cost_above side end) (above bits) (path value bits) (Leaf side)
-
   pub path-low : (value bits : ℕ) → IsExact (path value bits) (Leaf side) (cost_above side end) (above bits)
   path-low value bits =
-      subst (λ (cost : ℕ). IsExactBy cost 0 (set_of (path value bits)) (side ∷ []) (common_numbers (set_of (path value bits)) (side ∷ [])) (cost_above side end) (above bits)) (sym (path-cost value bits))
-      (subst (λ (set : List ℕ). IsExactBy (path_cost bits) 0 set (side ∷ []) (common_numbers set (side ∷ [])) (cost_above side end) (above bits)) (sym (path-set value bits)) (exact-low bits))
+      subst (λ (cost : ℕ). IsExactBy cost 0 (set_of (path value bits)) (side ∷ []) (common_numbers (set_of (path value bits)) (side ∷ [])) (cost_above side end) (above bits)) (sym (path-cost side end value bits))
+      (subst (λ (set : List ℕ). IsExactBy (path_cost side end bits) 0 set (side ∷ []) (common_numbers set (side ∷ [])) (cost_above side end) (above bits)) (sym (path-set side end value bits)) (exact-low bits))
 
   pub path-high : (value bits : ℕ) → IsExact (Leaf side) (path value bits) (cost_above side end) (above bits)
   path-high value bits =
-      subst (λ (cost : ℕ). IsExactBy 0 cost (side ∷ []) (set_of (path value bits)) (common_numbers (side ∷ []) (set_of (path value bits))) (cost_above side end) (above bits)) (sym (path-cost value bits))
-      (subst (λ (set : List ℕ). IsExactBy 0 (path_cost bits) (side ∷ []) set (common_numbers (side ∷ []) set) (cost_above side end) (above bits)) (sym (path-set value bits)) (exact-high bits))
+      subst (λ (cost : ℕ). IsExactBy 0 cost (side ∷ []) (set_of (path value bits)) (common_numbers (side ∷ []) (set_of (path value bits))) (cost_above side end) (above bits)) (sym (path-cost side end value bits))
+      (subst (λ (set : List ℕ). IsExactBy 0 (path_cost side end bits) (side ∷ []) set (common_numbers (side ∷ []) set) (cost_above side end) (above bits)) (sym (path-set side end value bits)) (exact-high bits))
 
 -- a node without the side label is no leaf with it
 pub no-leaf : (side : ℕ) (node : Node) → (label_of node ≡ Some side → ⊥) → is_leaf side node ≡ false

@@ -1,12 +1,13 @@
 -- The certificate's node of a trie's tree.
-use Rattle.std.proofs.Common.{◌≡◌, ℕ, suc, ◌+◌, ◌-◌, ◌*◌, ◌^◌, ◌<◌, ◌≤◌, ◌++◌, List, [], Option, Some, None, All, IsSome, length, refl, sym, subst, arith, length-append, true≢false}
+use Rattle.std.proofs.Common.{◌≡◌, ℕ, zero, suc, ◌+◌, ◌-◌, ◌*◌, ◌^◌, ◌<◌, ◌≤◌, ◌++◌, List, [], Option, Some, None, All, IsSome, length, refl, sym, subst, arith, length-append, true≢false}
 use Rattle.std.proofs.lemmas.List.Elements.{All-head}
 use Rattle.pmap_text.specs.declared.label.LabelId.{LabelId}
 use Rattle.pmap_cert.specs.Node.{Chain, Inner, Leaf, Node, cost_of, set_of}
 use Rattle.label_trie.specs.Tree.{IsOfTree, Fork, HasRoom, IsLabelled, Tip, Tree, leaf_count, leaves_of}
 use Rattle.label_trie.specs.TrieModel.{LeafModel, TrieModel}
 use Rattle.label_trie.proofs.NodeLeaves.{inner_unsettled}
-use Rattle.pmap_minimise.specs.Numbers.{IsCertified, IsNodeFor, IsJoined}
+use Rattle.pmap_minimise.specs.Numbers.{IsCertified, IsNodeFor, IsJoined, IsSound}
+use Rattle.pmap_minimise.specs.Opened.{Opens}
 use Rattle.pmap_minimise.proofs.Joined.{all-left, all-right, joined-certified, leaf-certified}
 use Rattle.pmap_minimise.proofs.Texts.{exact-cost}
 
@@ -58,3 +59,11 @@ tree-certified (Fork low high) n q h node room is few =
     (joined-certified n q (h - 1) low_leaves high_leaves is.0 is.1 (λ m undivided. inner_unsettled m low high n q undivided) few
     (tree-certified low (suc n) (2 * q) (h - 1) is.0 room.1 is.2 (omega arith))
     (tree-certified high (suc n) (2 * q + 1) (h - 1) is.1 room.2 is.3 (omega arith)) node is.4)
+
+-- a node without chains opens to itself
+pub sound-opens : (node : Node) (room : ℕ) → IsSound node room → Opens node node
+sound-opens (Leaf id) room is = refl
+sound-opens (Inner cost set lower upper) zero is = absurd is
+sound-opens (Inner cost set lower upper) (suc room) is =
+    record { lower = lower; upper = upper; low = sound-opens lower room is.1; high = sound-opens upper room is.2; node_is = refl }
+sound-opens (Chain cost set bits side end) room is = absurd is

@@ -7,7 +7,7 @@ use Rattle.prefix_keys.specs.declared.block.Block.{Block}
 use Rattle.prefix_keys.specs.declared.version.Version.{Version}
 use Rattle.pmap_text.specs.Label.{IsLabelTable}
 use Rattle.pmap_text.specs.ListModel.{ListModel}
-use Rattle.pmap_text.specs.MapModel.{Label, MapModel}
+use Rattle.pmap_text.specs.MapModel.{MapModel}
 use Rattle.pmap_text.specs.MapText.{map_of, mapping_of, text_at}
 use Rattle.pmap_text.specs.PrefixList.{prefix_of}
 use Rattle.pmap_text.specs.declared.entry.Entry.{Entry}
@@ -29,10 +29,10 @@ use Rattle.pmap_minimise.specs.Listing.{AddsEntries, IsEntryOf, IsWhole, IsListe
 use Rattle.pmap_minimise.proofs.Distinct.{order-distinct}
 use Rattle.pmap_minimise.proofs.Entered.{half-entries}
 use Rattle.pmap_minimise.specs.Numbers.{IsCertified, IsKnownLeaf}
-use Rattle.pmap_minimise.specs.Walks.{IsClaimed}
-use Rattle.pmap_minimise.specs.declared.built.Built.{Built}
+use Rattle.pmap_minimise.specs.Opened.{Opens}
 use Rattle.pmap_minimise.proofs.Joined.{settled-known, whole-number}
 use Rattle.pmap_minimise.proofs.Texts.{table-has}
+use Rattle.pmap_minimise.proofs.TreeNodes.{sound-opens}
 
 -- the prefix list with these entries, and with the map's name and label table
 abbrev pub list_with : MapText → List Entry → ListModel
@@ -177,14 +177,17 @@ pub record IsShortestBy (m : MapText) (root : Node) (items : List Entry) : Type 
   pub of : AreEntriesOf m root items
   pub stands : StandsFor (map_of m) (tree_of m.labels root) 0 0
 
--- the entries chosen by a trie are those of the certificate's root, which represents the address space
-pub chosen-shortest : (m : MapText) (version : Version) (leaves : List LeafModel) (b : Built) (root : Node) (items : List Entry) (top : Node) → IsClaimed version leaves b root → version ≡ m.version
+-- the entries of a certificate's root without chains, which represents the address space
+pub claimed-shortest : (m : MapText) (version : Version) (leaves : List LeafModel) (root : Node) (items : List Entry) → IsCertified 0 0 (width_of version) leaves root → version ≡ m.version
     → IsLabelTable m.labels → All (IsSettledLeaf (map_of m)) leaves → All (IsUndivided (map_of m)) leaves
-    → ((leaves : List LeafModel) (node : Node) → IsClaimed m.version leaves b node → IsListedBy m.version leaves node items × (top ≡ node)) → IsShortestBy m root items × (top ≡ root)
-chosen-shortest m version leaves b root items top claimed same ok settled undivided chosen =
-    let done = chosen leaves root (subst (λ (v : Version). IsClaimed v leaves b root) same claimed) in
+    → ((leaves : List LeafModel) (node : Node) → IsCertified 0 0 (width_of m.version) leaves node → Opens root node → IsListedBy m.version leaves node items) → IsShortestBy m root items
+claimed-shortest m version leaves root items certified same ok settled undivided listed =
     let known = All-weaker (IsSettledLeaf (map_of m)) (IsKnownLeaf (length m.labels)) (settled-known (map_of m)) leaves settled in
-    (record { of = listed-entries m leaves root items done.0 ok known; stands = done.0.certified.stands (map_of m) ok settled undivided }, done.1)
+    let is = subst (λ (v : Version). IsCertified 0 0 (width_of v) leaves root) same certified in
+    record {
+      of = listed-entries m leaves root items (listed leaves root is (sound-opens root (width_of m.version) is.sound)) ok known;
+      stands = is.stands (map_of m) ok settled undivided;
+    }
 
 module _ (m : MapText) (root : Node) (items : List Entry) (shortest : IsShortestBy m root items) where
   -- the blocks of the entries are distinct

@@ -1,6 +1,6 @@
 pub mod Numbers
-pub mod Opened
 pub mod Listing
 pub mod Runs
+pub mod Opened
 pub mod Built
-pub mod Walks
+pub mod Claims

@@ -24,15 +24,6 @@ common_numbers low high = filter (has_number high) low
 abbrev pub IsUnion : List ℕ → List ℕ → List ℕ → Type 0
 IsUnion low high set = (p : ℕ → Bool) → list_any p set ≡ (list_any p low || list_any p high)
 
--- The exact set of two sets, by their common numbers: these, if there are any. Otherwise the sets are apart, and the
--- exact set has the numbers of either.
-abbrev pub IsExactSetBy : List ℕ → List ℕ → Bool → List ℕ → List ℕ → Type 0
-IsExactSetBy low high apart [] set = (apart ≡ true) × IsUnion low high set × IsAscending (2 ^ 32) 0 set
-IsExactSetBy low high apart (n ∷ ns) set = (apart ≡ false) × (set ≡ n ∷ ns)
-
-abbrev pub IsExactSet : List ℕ → List ℕ → Bool → List ℕ → Type 0
-IsExactSet low high apart set = IsExactSetBy low high apart (common_numbers low high) set
-
 -- The exact cost and set of two costs and sets, by the sets' common numbers: the sum of the costs and these numbers, if
 -- there are any, otherwise one more than the sum and the numbers of either set.
 abbrev pub IsExactBy : ℕ → ℕ → List ℕ → List ℕ → List ℕ → ℕ → List ℕ → Type 0

@@ -1,5 +1,5 @@
-use Rattle.std.specs.Prelude.{◌≡◌, ℕ, zero, suc, ◌+◌, ◌<◌, ◌≤◌, Bool, List, [], ◌∷◌, ◌++◌, if◌then◌else◌, length, map, nat_lt}
-use Rattle.pmap_cert.specs.CertificateText.{inner_line, leaf_line, text_of_lines}
+use Rattle.std.specs.Prelude.{◌≡◌, ℕ, zero, suc, ◌+◌, ◌<◌, ◌≤◌, Bool, List, [], ◌∷◌, if◌then◌else◌, length, map, nat_lt}
+use Rattle.pmap_cert.specs.CertificateText.{text_of_lines}
 use Rattle.pmap_cert.specs.Node.{Chain, Inner, Leaf, Node, cost_of, first_node, line_text, lines_of, set_of}
 use Rattle.pmap_cert.specs.Paths.{digit, path_to}
 use Rattle.pmap_minimise.specs.Numbers.{IsSound, has_number}
@@ -72,24 +72,3 @@ pub record IsSoundAt (nodes : List Node) (room : ℕ) : Type 0 where
 
 abbrev pub node_text : Node → List ℕ
 node_text node = text_of_lines (map line_text (lines_of node))
-
--- a side block's line if it comes before a chain's end, and if it comes after it, by the digit of the chain there
-abbrev pub side_before : ℕ → ℕ → List ℕ
-side_before side zero = []
-side_before side (suc digit) = leaf_line side ++ 10 ∷ []
-
-abbrev pub side_after : ℕ → ℕ → List ℕ
-side_after side zero = leaf_line side ++ 10 ∷ []
-side_after side (suc digit) = []
-
--- The text of the last `bits` nodes of a chain and of their side blocks before its end, whose set is `set`. The chain
--- has this cost, this side label and this end.
-abbrev pub text_down : ℕ → ℕ → ℕ → List ℕ → ℕ → List ℕ
-text_down cost side value set zero = []
-text_down cost side value set (suc bits) =
-    (inner_line cost (set_above side set bits) ++ 10 ∷ []) ++ (side_before side (digit value bits) ++ text_down cost side value set bits)
-
--- the text of the side blocks after a chain's end, for the last `bits` nodes of the chain
-abbrev pub text_up : ℕ → ℕ → ℕ → List ℕ
-text_up side value zero = []
-text_up side value (suc bits) = text_up side value bits ++ side_after side (digit value bits)

@@ -1,47 +1,41 @@
-//! Builds the nodes of the compact certificate of a map's minimal pair from the map's stretches.
-ghost use Rattle.std.specs.Prelude.{◌≡◌, ◌+◌, ◌^◌, ◌<◌, IfOk, if◌then◌else◌, option_map};
+//! Builds the compact certificate of a map's minimal pair from the map's stretches, from the leaves up.
+ghost use Rattle.std.specs.Prelude.{◌≡◌, ◌+◌, ◌-◌, ◌^◌, ◌<◌, ◌++◌, ◌∷◌, [], IfOk, OnOk, if◌then◌else◌, length, option_map};
 ghost use Rattle.std.specs.Option.{option_or};
-ghost use Rattle.pmap_cert.specs.Packed.{HasSet};
+ghost use Rattle.pmap_cert.specs.FormatReading.{ChainLine};
+ghost use Rattle.pmap_cert.specs.Node.{cost_of};
+ghost use Rattle.pmap_cert.specs.Paths.{path_to};
 ghost use Rattle.pmap_text.specs.Windows.{IsWindow, number_at};
-ghost use Rattle.pmap_minimise.specs.Runs.{AreCountable, IsCounted, own_label};
-ghost use Rattle.pmap_minimise.specs.Built.{AddsChain, AddsInner, AddsLeaf, HasAscendingSet, IsBuilt, IsBuiltFor, IsBuiltOn};
+ghost use Rattle.pmap_minimise.specs.Built.{AddsInner, AreHalves, IsBuilt, IsBuiltOn, last_node};
 ghost use Rattle.pmap_minimise.specs.Numbers.{has_number, numbers_of};
+ghost use Rattle.pmap_minimise.specs.Opened.{cost_above};
+ghost use Rattle.pmap_minimise.specs.Runs.{AreCountable, IsCounted, own_label};
 
-use crate::built::{Built, Chain, Claim, Line};
 use crate::entering::has_label;
 use crate::runs::{own_label, run_end};
-use crate::sets::joined;
-use pmap_cert::SetPool;
-use pmap_text::{LabelId, MapText, Stretches, Window};
+use crate::sets::exact_claim;
+use pmap_cert::{Nodes, Path, Root};
+use pmap_text::{LabelId, Stretches, Window};
 use std::alloc::{AllocError, Global};
 use std::slice;
 
-/// Adds the line of a leaf, and returns its claim: the cost 0 and its label.
-pub fn push_leaf(built: &mut Built, id: LabelId) -> Result<Claim, AllocError>
-    ensures { IfOk result (AddsLeaf id built.old built.new) }
+/// Adds the line of an inner node over two nodes, of which the lower one has the last line and the upper one the line
+/// `upper`. The node claims their exact claim.
+pub fn push_inner(alloc: Global, nodes: &mut Nodes, upper: usize) -> Result<(), AllocError>
+    requires { AreHalves nodes.old upper }
+    ensures { OnOk result (AddsInner upper nodes.old nodes.new) }
 {
-    built.lines.push(Line::Leaf(id))?;
-    let set = built.sets.hold(slice::from_ref(&id))?;
-    Ok(Claim { cost: 0, set })
-}
-
-/// Adds the line of an inner node whose halves claim `low` and `high`, and returns its claim: their exact claim.
-pub fn push_inner(
-    alloc: Global,
-    built: &mut Built,
-    low: Claim,
-    high: Claim,
-) -> Result<Claim, AllocError>
-    requires low { HasAscendingSet built.old.sets low.set }
-    requires high { HasAscendingSet built.old.sets high.set }
-    requires few { low.cost + high.cost + 1 < 2 ^ 32 }
-    ensures { IfOk result (AddsInner low high built.old built.new) }
-{
-    let sum = low.cost + high.cost;
-    let (set, apart) = joined(alloc, &mut built.sets, low.set, high.set)?;
-    let cost = if apart { sum + 1 } else { sum };
-    built.lines.push(Line::Inner(cost, set))?;
-    Ok(Claim { cost, set })
+    let lower = nodes.len() - 1;
+    let (low_cost, high_cost) = (nodes.cost(lower), nodes.cost(upper));
+    let (low, high) = (nodes.set(lower), nodes.set(upper));
+    // An optimisation: halves that claim one and the same label are frequent.
+    if let ([x], [y]) = (low, high)
+        && x.0 == y.0
+    {
+        let id = *x;
+        return nodes.push_inner(low_cost + high_cost, slice::from_ref(&id));
+    }
+    let (cost, set) = exact_claim(alloc, low_cost, low, high_cost, high)?;
+    nodes.push_inner(cost, set.as_slice())
 }
 
 // Returns the cost of a chain, by the set and the cost of its end.
@@ -52,75 +46,65 @@ fn chain_cost(set: &[LabelId], cost: u32, side: LabelId) -> u32
     if has_label(set, side) { cost } else { cost + 1 }
 }
 
-// Adds the line of a chain of `bits` bits to the block with the number `end`, whose node claims `below`.
-fn push_chain(
-    built: &mut Built,
-    below: Claim,
-    side: LabelId,
-    end: u128,
-    bits: u32,
-) -> Result<Claim, AllocError>
-    requires held { HasSet built.old.sets below.set }
-    requires few { below.cost + 1 < 2 ^ 32 }
-    ensures { IfOk result (AddsChain below side end bits built.old built.new) }
+// Adds the line of a chain over the node of the last line. The chain claims the side label alone.
+fn push_chain(nodes: &mut Nodes, path: Path, side: LabelId) -> Result<(), AllocError>
+    requires some { 0 < length nodes.old }
+    requires few { cost_of (last_node nodes.old) + 1 < 2 ^ 32 }
+    ensures { OnOk result (nodes.new ≡ nodes.old
+        ++ ChainLine (cost_above side.0 (last_node nodes.old)) (path_to path.value path.count) side.0 (side.0 ∷ []) ∷ []) }
 {
-    let cost = chain_cost(built.sets.labels(&below.set), below.cost, side);
-    built.lines.push(Line::Chain(built.chains.len()))?;
-    built.chains.push(Chain {
-        cost,
-        side,
-        end,
-        bits,
-    })?;
-    let set = built.sets.hold(slice::from_ref(&side))?;
-    Ok(Claim { cost, set })
+    let end = nodes.len() - 1;
+    let cost = chain_cost(nodes.set(end), nodes.cost(end), side);
+    nodes.push_chain(cost, path, side, slice::from_ref(&side))
 }
 
-// Adds the lines of a block, and returns the claim of its node.
+// Adds the lines of a block, in reverse order.
 #[cycle(window)]
 #[inline(always)]
 fn push_window(
     alloc: Global,
-    built: &mut Built,
+    nodes: &mut Nodes,
     stretches: &Stretches,
     window: &Window,
-) -> Result<Claim, AllocError>
+) -> Result<(), AllocError>
     requires { IsCounted stretches.now window.now }
-    ensures { IfOk result (IsBuilt stretches.now window.now built.old built.new) }
+    ensures { OnOk result (IsBuilt stretches.now window.now nodes.old nodes.new) }
 {
     if window.from < window.to {
-        return push_divided(alloc, built, stretches, window);
+        return push_divided(alloc, nodes, stretches, window);
     }
     let Some(id) = stretches.label(window.from) else {
         unreachable!()
     };
-    push_leaf(built, id)
+    nodes.push_leaf(id)
 }
 
-// Adds the lines of a block with addresses of two stretches or more, and returns the claim of its node.
+// Adds the lines of a block with addresses of two stretches or more, in reverse order.
 #[cycle(window)]
 fn push_divided(
     alloc: Global,
-    built: &mut Built,
+    nodes: &mut Nodes,
     stretches: &Stretches,
     window: &Window,
-) -> Result<Claim, AllocError>
+) -> Result<(), AllocError>
     requires counted { IsCounted stretches.now window.now }
     requires divided { window.now.from < window.now.to }
-    ensures { IfOk result (IsBuilt stretches.now window.now built.old built.new) }
+    ensures { OnOk result (IsBuilt stretches.now window.now nodes.old nodes.new) }
 {
     let (low, high) = window.halves(stretches);
     if let Some(side) = side_of(stretches, &low, &high) {
         let end = run_end(stretches, window, side);
-        let bits = end.len - window.len;
-        if bits >= 2 {
-            let below = push_window(alloc, built, stretches, &end)?;
-            return push_chain(built, below, side, number_of(stretches, &end), bits);
+        let count = end.len - window.len;
+        if count >= 2 {
+            push_window(alloc, nodes, stretches, &end)?;
+            let value = number_of(stretches, &end);
+            return push_chain(nodes, Path { value, count }, side);
         }
     }
-    let above = push_window(alloc, built, stretches, &high)?;
-    let below = push_window(alloc, built, stretches, &low)?;
-    push_inner(alloc, built, below, above)
+    push_window(alloc, nodes, stretches, &high)?;
+    let upper = nodes.len() - 1;
+    push_window(alloc, nodes, stretches, &low)?;
+    push_inner(alloc, nodes, upper)
 }
 
 // Returns the number of a block among the blocks of its size. The block is not the whole address space.
@@ -143,26 +127,13 @@ fn side_of(stretches: &Stretches, low: &Window, high: &Window) -> Option<LabelId
     own_label(stretches, low).or_else(|| own_label(stretches, high))
 }
 
-/// Builds the nodes of a compact certificate from stretches.
-pub fn built_of(alloc: Global, stretches: Stretches) -> Result<Built, AllocError>
+/// Builds a compact certificate from stretches.
+pub fn built_of(alloc: Global, stretches: Stretches) -> Result<Root, AllocError>
     requires { AreCountable stretches }
     ensures { IfOk result (IsBuiltOn stretches) }
 {
-    let to = stretches.len() - 1;
-    let mut built = Built {
-        lines: Vec::with_capacity(alloc, 2 * to + 1)?,
-        chains: Vec::new(alloc),
-        sets: SetPool::new(alloc),
-    };
-    push_window(alloc, &mut built, &stretches, &Window::whole(&stretches))?;
-    Ok(built)
-}
-
-/// Builds the nodes of the compact certificate of a map's minimal pair.
-pub fn built(alloc: Global, map: &MapText) -> Result<Built, AllocError>
-    ensures { IfOk result (IsBuiltFor map.now) }
-{
-    let stretches = Stretches::of_map(alloc, map)?;
-    let built = built_of(alloc, stretches)?;
-    Ok(built)
+    let count = stretches.len();
+    let mut nodes = Nodes::with_capacity(alloc, 2 * count - 1, count)?;
+    push_window(alloc, &mut nodes, &stretches, &Window::whole(&stretches))?;
+    Ok(Root::of_reversed(nodes))
 }

@@ -20,16 +20,12 @@
 #![tactic(auto)]
 
 mod building;
-mod built;
-mod compacting;
+mod claiming;
 mod entering;
 mod entries;
-mod listing;
 mod minimal;
 mod opened;
-mod opening;
 mod runs;
 mod sets;
-mod walks;
 
 pub use minimal::{Minimal, certificate_text, compact_text, minimise, shortest};

@@ -9,14 +9,14 @@ ghost use Rattle.pmap_cert.specs.CertificateText.{HasTextForm, certificate_text}
 ghost use Rattle.pmap_cert.specs.CertificateModel.{CertificateModel, claim_of};
 ghost use Rattle.pmap_cert.specs.Compacting.{compact};
 ghost use Rattle.label_trie.specs.TrieModel.{IsSettledLeaf, IsUndivided};
+ghost use Rattle.pmap_minimise.specs.Built.{IsBuiltFor};
 
-use crate::building::{built, built_of};
-use crate::compacting::compacted;
-use crate::listing::listed;
-use crate::opening::push_text;
-use crate::walks::{chosen, claimed};
+use crate::building::built_of;
+use crate::claiming::claimed;
+use crate::entries::entries_of;
+use crate::opened::push_opened;
 use label_trie::Trie;
-use pmap_cert::{Certificate, Format, minimal_pair_is_accepted, push_head, write_cert};
+use pmap_cert::{Certificate, Format, Root, minimal_pair_is_accepted, push_head, write_cert};
 use pmap_text::{Entries, Entry, Labels, MapText, Name, PrefixList, Stretches};
 use prefix_keys::Version;
 use std::alloc::{AllocError, Global};
@@ -51,8 +51,8 @@ pub fn minimise(alloc: Global, map: &MapText, trie: &Trie) -> Result<Minimal, Al
     // Provides the laws that a minimal pair is accepted, and that the table's labels are distinct.
     minimal_pair_is_accepted();
     let _labels = map.labels.len();
-    let claims = claimed(alloc, trie)?;
-    let (entries, root) = chosen(alloc, &claims, map.version)?;
+    let root = claimed(alloc, trie)?;
+    let entries = entries_of(alloc, &root, map.version)?;
     let name = copy_name(alloc, &map.name)?;
     let list = list_with(map.version, name, map.labels.copy()?, entries);
     let labels = map.labels.copy()?;
@@ -85,8 +85,8 @@ pub fn shortest(alloc: Global, map: MapText) -> Result<PrefixList, AllocError>
     let runs = Stretches::runs_of_map(alloc, &map)?;
     let version = map.version;
     let (name, labels) = named_labels_of(map);
-    let built = built_of(alloc, runs)?;
-    let items = listed(alloc, &built, version)?;
+    let root = built_of(alloc, runs)?;
+    let items = entries_of(alloc, &root, version)?;
     Ok(list_with(version, name, labels, items))
 }
 
@@ -98,12 +98,11 @@ pub fn certificate_text(alloc: Global, map: MapText) -> Result<Vec<u8>, AllocErr
 {
     // Provides the law that the table's labels are distinct.
     let _labels = map.labels.len();
-    let built = built(alloc, &map)?;
     let version = map.version;
-    let labels = labels_of(map);
+    let (root, labels) = compact_root(alloc, map)?;
     let mut out = Vec::new(alloc);
     push_head(&mut out, Format::One, version, &labels)?;
-    push_text(&mut out, alloc, &built, built.lines.len())?;
+    push_opened(&mut out, alloc, &root)?;
     Ok(out)
 }
 
@@ -116,17 +115,24 @@ pub fn compact_text(alloc: Global, map: MapText) -> Result<Vec<u8>, AllocError>
 {
     // Provides the law that the table's labels are distinct.
     let _labels = map.labels.len();
-    let built = built(alloc, &map)?;
-    let root = compacted(alloc, &built)?;
-    let certificate = Certificate::of_format(Format::Two, map.version, labels_of(map), root);
-    write_cert(alloc, &certificate)
+    let version = map.version;
+    let (root, labels) = compact_root(alloc, map)?;
+    write_cert(
+        alloc,
+        &Certificate::of_format(Format::Two, version, labels, root),
+    )
 }
 
-// Returns the map's label table. The memory of its statements is given back.
-fn labels_of(map: MapText) -> Labels
-    ensures { result ≡ map.labels }
+// Returns the root of the compact certificate of the map's minimal pair, and the map's label table. The memory of the
+// map's statements is freed first.
+fn compact_root(alloc: Global, map: MapText) -> Result<(Root, Labels), AllocError>
+    ensures built { IfOk result (λ built. IsBuiltFor map built.0) }
+    ensures labels { IfOk result (λ built. built.1 ≡ map.labels) }
 {
-    map.labels
+    let stretches = Stretches::of_map(alloc, &map)?;
+    let (_, labels) = named_labels_of(map);
+    let root = built_of(alloc, stretches)?;
+    Ok((root, labels))
 }
 
 // Returns the map's name and label table. The memory of its statements is given back.

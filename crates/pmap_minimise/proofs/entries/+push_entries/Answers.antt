@@ -1,14 +1,12 @@
-use Rattle.std.proofs.Common.{◌≡◌, ℕ, ◌+◌, ◌-◌, ◌*◌, ◌∙◌, List, ap, arith, drop, length, refl, subst, sym}
-use Rattle.std.proofs.lemmas.List.{length-map}
+use Rattle.std.proofs.Common.{◌≡◌, ℕ, ◌+◌, ◌-◌, ◌*◌, ◌∙◌, List, ap, arith, drop, refl, subst, sym}
 use Rattle.std.proofs.lemmas.Result.{on_ok_weaker}
 use Rattle.prefix_keys.specs.Block.{block_number, width_of}
 use Rattle.label_trie.specs.TrieModel.{number_of}
 use Rattle.label_trie.proofs.Divided.{is_half}
-use Rattle.pmap_cert.specs.Node.{Node, first_node, from_next_line}
+use Rattle.pmap_cert.specs.Node.{Node, first_node}
 use Rattle.pmap_cert.proofs.Paths.{path-length}
-use Rattle.pmap_minimise.specs.Listing.{AddsEntries}
 use Rattle.pmap_minimise.specs.Opened.{IsSoundAt, Opens}
-use Rattle.pmap_minimise.proofs.NodeEntries.{end-at, end-entries, halves-at, inner-entries, leaf-by, leaf-entries, leaf-next, set-there}
+use Rattle.pmap_minimise.proofs.NodeEntries.{end-at, end-entries, halves-at, inner-entries, leaf-by, leaf-entries, leaf-next}
 use Rattle.pmap_minimise.proofs.entries.+push_entries.Goals as goal
 
 pub returns-then-is_leaf : goal.returns-then-is_leaf

@@ -7,29 +7,34 @@ use Rattle.pmap_text.specs.PrefixList.{list_of, prefix_of}
 use Rattle.pmap_cert.specs.Certificate.{certificate_of}
 use Rattle.pmap_cert.specs.Format.{format_number}
 use Rattle.pmap_cert.specs.Node.{HasNumberForm, Node, cost_of, first_node, tree_of}
+use Rattle.prefix_keys.specs.declared.version.Version.{Version}
+use Rattle.pmap_minimise.specs.Numbers.{IsCertified}
 use Rattle.pmap_minimise.proofs.Joined.{claim-cost}
-use Rattle.pmap_minimise.proofs.Whole.{chosen-shortest, list_with, listed-form, listed-minimal, shortest-distinct}
+use Rattle.pmap_minimise.proofs.TreeNodes.{sound-opens}
+use Rattle.pmap_minimise.proofs.Whole.{claimed-shortest, list_with, listed-form, listed-minimal, shortest-distinct}
 use Rattle.pmap_minimise.proofs.minimal.minimise.Goals as goal
+
+pub entries_of-requires : goal.entries_of-requires
+entries_of-requires c =
+    let certified = subst (λ (v : Version). IsCertified 0 0 (width_of v) c.args.trie.now.leaves c.in_ok-root.root) c.requires.version c.in_ok-root.ensures in
+    (c.args.trie.now.leaves, c.in_ok-root.root, certified, sound-opens c.in_ok-root.root (width_of c.args.map.now.version) certified.sound)
 
 pub list_with-list-requires : goal.list_with-list-requires
 list_with-list-requires c =
-    let claimed = c.in_ok-claims.ensures in
-    let made = chosen-shortest c.args.map.now c.args.trie.now.version c.args.trie.now.leaves c.in_ok-claims.claims claimed.0 c.in_ok-entries.entries.items c.in_ok-entries.root claimed.1
+    let made = claimed-shortest c.args.map.now c.args.trie.now.version c.args.trie.now.leaves c.in_ok-root.root c.in_ok-entries.entries.items c.in_ok-root.ensures
     c.requires.version c.len-labels.ensures.table c.requires.settled c.requires.undivided c.in_ok-entries.ensures in
     record {
-      versions = made.0.of.versions;
-      known = subst (λ (t : List Label). All (λ e. e.label.0 < length t) c.in_ok-entries.entries.items) (sym c.in_ok-copy.ensures) made.0.of.known;
-      distinct = shortest-distinct c.args.map.now claimed.0 c.in_ok-entries.entries.items made.0;
+      versions = made.of.versions;
+      known = subst (λ (t : List Label). All (λ e. e.label.0 < length t) c.in_ok-entries.entries.items) (sym c.in_ok-copy.ensures) made.of.known;
+      distinct = shortest-distinct c.args.map.now c.in_ok-root.root c.in_ok-entries.entries.items made;
     }
 
 pub new-certificate-requires : goal.new-certificate-requires
 new-certificate-requires c =
     let m = c.args.map.now in
-    let claimed = c.in_ok-claims.ensures in
-    let made = chosen-shortest m c.args.trie.now.version c.args.trie.now.leaves c.in_ok-claims.claims claimed.0 c.in_ok-entries.entries.items c.in_ok-entries.root claimed.1
+    let made = claimed-shortest m c.args.trie.now.version c.args.trie.now.leaves c.in_ok-root.root c.in_ok-entries.entries.items c.in_ok-root.ensures
     c.requires.version c.len-labels.ensures.table c.requires.settled c.requires.undivided c.in_ok-entries.ensures in
-    subst (λ (t : List Label). HasNumberForm (length t) c.in_ok-entries.root (width_of m.version)) (sym c.in_ok-labels.ensures)
-    (subst (λ (n : Node). HasNumberForm (length m.labels) n (width_of m.version)) (sym made.1) made.0.of.form)
+    subst (λ (t : List Label). HasNumberForm (length t) c.in_ok-root.root (width_of m.version)) (sym c.in_ok-labels.ensures) made.of.form
 
 pub returns : goal.returns
 returns c =
@@ -40,13 +45,12 @@ returns c =
     let is : l ≡ list_with m items =
     c.list_with-list.ensures ∙ (λ i. record { version = m.version; name = c.in_ok-name.ensures i; prefixes = map (prefix_of (c.in_ok-copy.ensures i)) items; table = c.in_ok-copy.ensures i }) in
     let certificate = certificate_of c.new-certificate.result in
-    let claimed = c.in_ok-claims.ensures in
-    let made = chosen-shortest m c.args.trie.now.version c.args.trie.now.leaves c.in_ok-claims.claims claimed.0 c.in_ok-entries.entries.items c.in_ok-entries.root claimed.1
+    let made = claimed-shortest m c.args.trie.now.version c.args.trie.now.leaves c.in_ok-root.root c.in_ok-entries.entries.items c.in_ok-root.ensures
     c.requires.version c.len-labels.ensures.table c.requires.settled c.requires.undivided c.in_ok-entries.ensures in
     let table = c.new-certificate.ensures.labels ∙ c.in_ok-labels.ensures in
-    let same : certificate ≡ record { format = 1; version = m.version; table = m.labels; root = tree_of m.labels claimed.0 } =
-    λ i. record { format = format_number (c.new-certificate.ensures.format i); version = c.new-certificate.ensures.version i; table = table i; root = tree_of (table i) ((c.new-certificate.ensures.root ∙ made.1) i) } in
-    let pair = listed-minimal m claimed.0 c.in_ok-entries.entries.items made.0 l is certificate same in
+    let same : certificate ≡ record { format = 1; version = m.version; table = m.labels; root = tree_of m.labels c.in_ok-root.root } =
+    λ i. record { format = format_number (c.new-certificate.ensures.format i); version = c.new-certificate.ensures.version i; table = table i; root = tree_of (table i) (c.new-certificate.ensures.root i) } in
+    let pair = listed-minimal m c.in_ok-root.root c.in_ok-entries.entries.items made l is certificate same in
     let count = c.minimal_pair_is_accepted.ensures.count (map_of m) l certificate pair in
     let entries : length l.prefixes ≡ length made_list.entries = length-map made_list.entries (prefix_of made_list.labels) in
     let cost = claim-cost c.new-certificate.result.labels c.new-certificate.result.root in
@@ -58,5 +62,5 @@ returns c =
       count = omega (arith, count, entries, cost, own, c.from-root_cost.ensures);
       least = c.minimal_pair_is_accepted.ensures.least (map_of m) l certificate pair;
       accepted = c.minimal_pair_is_accepted.ensures.accepted (map_of m) l certificate pair;
-      order = listed-form m claimed.0 c.in_ok-entries.entries.items made.0 l is;
+      order = listed-form m c.in_ok-root.root c.in_ok-entries.entries.items made l is;
     }
