@@ -14,11 +14,14 @@ use Rattle.flow_rows.specs.Elements.{rows_of_record, RowView}
 use Rattle.flow_rows.specs.Walk.{CanTake, Takes}
 use Rattle.flow_filter.specs.Condition.{Condition, passing, row_passes}
 use Rattle.pmap_print.specs.declared.labels.RowLabels.{RowLabels}
-use Rattle.pmap_print.specs.Reports.{LabelTexts, label_fields, label_texts, label_titles, row_fields, row_line, row_titles, title_line}
-use Rattle.pmap_print.specs.Table.{Line}
+use Rattle.flow_uniq.specs.Groups.{GroupsModel, groups_of}
+use Rattle.flow_uniq.specs.declared.field.KeyField.{KeyField}
+use Rattle.pmap_print.specs.declared.table.Table.{Table}
+use Rattle.pmap_print.specs.Reports.{LabelTexts, column_count, label_fields, label_texts, label_titles, row_fields, row_line, row_titles, title_line}
+use Rattle.pmap_print.specs.Table.{IsTable, Line}
 use Rattle.label_lookup.specs.Labelling.{Labelling, StretchModel, label_where}
 use Rattle.flowlabel.specs.Output.{labelled_row_lines, row_labels}
-use Rattle.flowlabel.specs.Reports.{IsAfter, labelling_found}
+use Rattle.flowlabel.specs.Reports.{HasGroups, HasRows, IsAfter, labelling_found}
 
 zip_more : {X Y : Type 0} (f : X → Y) (xs : List X) (x : X) → zip (xs ++ x ∷ []) (map f (xs ++ x ∷ [])) ≡ zip xs (map f xs) ++ (x, f x) ∷ []
 zip_more f [] x = refl
@@ -62,11 +65,31 @@ pub with_passing : (condition : Condition) (labels : Option Labelling) (rows : L
 with_passing condition labels rows row passed =
     passing_one condition labels rows row ∙ ap (λ (b : Bool). passing condition labels rows ++ cond b (row ∷ []) []) passed
 
-pub without_failing : (condition : Condition) (labels : Option Labelling) (rows : List RowView) (row : RowView) → row_passes condition (label_where labels) row ≡ false
+without_failing : (condition : Condition) (labels : Option Labelling) (rows : List RowView) (row : RowView) → row_passes condition (label_where labels) row ≡ false
     → passing condition labels (rows ++ row ∷ []) ≡ passing condition labels rows
 without_failing condition labels rows row failed =
     passing_one condition labels rows row ∙ ap (λ (b : Bool). passing condition labels rows ++ cond b (row ∷ []) []) failed
     ∙ append-nil (passing condition labels rows)
+
+-- a row that doesn't meet the condition changes neither a table nor groups
+pub failing_row : (condition : Condition) (columns : Bool) (labels : Option Labelling) (rows : List RowView) (row : RowView) (table : Table)
+    → HasRows condition columns labels rows table → row_passes condition (label_where labels) row ≡ false
+    → HasRows condition columns labels (rows ++ row ∷ []) table
+failing_row condition columns labels rows row table has failed = record {
+  padded = has.padded;
+  lines =
+      subst (λ (shown : List RowView). IsTable (column_count (is_some labels)) (labelled_row_lines labels shown) table)
+      (sym (without_failing condition labels rows row failed)) has.lines;
+}
+
+pub failing_in_group : (keys : List KeyField) (condition : Condition) (labels : Option Labelling) (rows : List RowView) (row : RowView) (had : GroupsModel)
+    → HasGroups keys condition labels rows had → row_passes condition (label_where labels) row ≡ false
+    → HasGroups keys condition labels (rows ++ row ∷ []) had
+failing_in_group keys condition labels rows row had has failed = record {
+  fields = has.fields;
+  count = omega (arith, has.count, length-append rows (row ∷ []));
+  groups = has.groups ∙ ap (groups_of keys (label_where labels)) (sym (without_failing condition labels rows row failed));
+}
 
 -- the rows of messages, with those of one more message
 messages_more : (messages : List MessageView) (message : MessageView)

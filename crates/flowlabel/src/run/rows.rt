@@ -35,6 +35,7 @@ impl<'a> TakesRows for RowsReport<'a> {
 
     ghost has_taken = { λ report. HasRows report.filter.now report.columns (labelling_found report.labels) };
 
+    #[tactic(auto, using(crate::proofs::RowLemmas::failing_row))]
     fn take_row(&self, table: &mut Table, row: &Row<'_>) -> Result<(), AllocError> {
         if !self.filter.passes(row, self.labels) {
             return Ok(());

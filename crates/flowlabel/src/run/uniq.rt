@@ -35,6 +35,7 @@ impl<'a> TakesRows for UniqReport<'a> {
 
     ghost has_taken = { λ report. HasGroups report.keys.now report.filter.now (labelling_found report.labels) };
 
+    #[tactic(auto, using(crate::proofs::RowLemmas::failing_in_group))]
     fn take_row(&self, groups: &mut Groups, row: &Row<'_>) -> Result<(), AllocError> {
         if !self.filter.passes(row, self.labels) {
             return Ok(());

@@ -1,33 +1,20 @@
-use Rattle.std.proofs.Common.{◌≡◌, ◌∙◌, ◌+◌, ◌++◌, ◌∷◌, [], List, Option, Result, Ok, Err, OnOk, ap, arith, length, length-append, sym}
+use Rattle.std.proofs.Common.{◌≡◌, ◌∙◌, ◌+◌, ◌++◌, ◌∷◌, [], List, Option, Result, Ok, Err, OnOk, true, ap, arith, length, length-append, rules, sym}
 use Rattle.std.proofs.lemmas.List.{map-append}
 use Rattle.std.proofs.lemmas.Result.{IfOk-weaker}
 use Rattle.flow_rows.specs.Elements.{RowView}
-use Rattle.flow_filter.specs.Condition.{Condition, passing}
+use Rattle.flow_filter.specs.Condition.{Condition, passing, row_passes}
 use Rattle.flow_uniq.specs.Groups.{KeyedRow, groups_of, groups_of_keyed}
 use Rattle.flow_uniq.proofs.Grouping.{keyed}
 use Rattle.flow_uniq.specs.Key.{key_of}
 use Rattle.flow_uniq.specs.declared.field.KeyField.{KeyField}
 use Rattle.label_lookup.specs.Labelling.{Labelling, label_where}
 use Rattle.flowlabel.specs.Reports.{labelling_found}
-use Rattle.flowlabel.proofs.RowLemmas.{with_passing, without_failing}
+use Rattle.flowlabel.proofs.RowLemmas.{with_passing}
 use Rattle.flowlabel.proofs.run.uniq.UniqReportTakesRows.take_row.Goals as goal
 
 both : {E : Type 0} (A B : Type 0) (r : Result (Unit {0}) E) → OnOk r A → OnOk r B → OnOk r (A × B)
 both A B (Ok done) a b = (a, b)
 both A B (Err fault) a b = tt
-
-pub returns-then-not-passes : goal.returns-then-not-passes
-returns-then-not-passes c = λ rows few has.
-    let labels : Option Labelling = labelling_found c.args.self.now.labels in
-    let condition : Condition = c.args.self.now.filter.now in
-    record {
-      fields = has.fields;
-      count = omega (arith, has.count, length-append rows (c.args.row.now ∷ []));
-      groups =
-          has.groups
-          ∙ ap (groups_of c.args.self.now.keys.now (label_where labels))
-          (sym (without_failing condition labels rows c.args.row.now (sym c.passes.ensures ∙ c.if-not-passes.true)));
-    }
 
 pub add-requires : goal.add-requires
 add-requires c = let (rows, few, has) = c.requires in omega (arith, has.count, few)
@@ -38,6 +25,7 @@ returns c =
     let condition : Condition = c.args.self.now.filter.now in
     let keys : List KeyField = c.args.self.now.keys.now in
     let row : RowView = c.args.row.now in
+    let passed : row_passes condition (label_where labels) row ≡ true = search rules in
     IfOk-weaker c.add.result _ _ (λ done added. λ rows few has.
     let shown : List RowView = passing condition labels rows in
     record {
@@ -47,5 +35,5 @@ returns c =
           added.1 (keyed keys (label_where labels) shown) has.groups
           ∙ ap (λ (fields : List KeyField). groups_of_keyed (keyed keys (label_where labels) shown ++ (key_of (label_where labels) fields row, row) ∷ [])) has.fields
           ∙ ap groups_of_keyed (sym (map-append (λ (r : RowView). (key_of (label_where labels) keys r, r)) shown (row ∷ [])))
-          ∙ ap (groups_of keys (label_where labels)) (sym (with_passing condition labels rows row (sym c.passes.ensures ∙ c.if-not-passes.false)));
+          ∙ ap (groups_of keys (label_where labels)) (sym (with_passing condition labels rows row passed));
     }) (both _ _ c.add.result c.add.ensures.count c.add.ensures.ok)
