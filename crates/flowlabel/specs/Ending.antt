@@ -8,7 +8,7 @@ use Rattle.flowlabel.specs.Answer.{Answers, IsFaultAt, words_fault_of}
 use Rattle.flowlabel.specs.ByFile.{ByFile}
 use Rattle.flowlabel.specs.Faults.{exit_status_of, fault_text}
 use Rattle.flowlabel.specs.Opening.{AreOpened, CannotOpenFirst}
-use Rattle.flowlabel.specs.Request.{Request, Text, files_of}
+use Rattle.flowlabel.specs.Request.{Command, Request, Text, files_of, request_of}
 use Rattle.flowlabel.specs.Run.{CannotOpen, IsRunOf, RunFault, Source, Usage}
 use Rattle.flowlabel.specs.declared.usage.UsageFault.TheVariants as usage
 
@@ -23,9 +23,9 @@ module _ {R W : Type 0} (answers : Text → Option R → Type 0) (left : R → O
   IsEndOf words old new (Err (CannotOpen file)) =
       (request : Request) × Answers words (Ok request) × CannotOpenFirst answers (files_of request) (CannotOpen file) × (new ≡ old)
   IsEndOf words old new result =
-      (request : Request) × Answers words (Ok request)
-      × (files : ByFile (Option (Source R))) × AreOpened answers (files_of request) files
-      × (files' : ByFile (Option (Source R))) × IsRunOf left failed taken last stuck request files files' old new result
+      (command : Command) × Answers words (Ok (request_of command))
+      × (files : ByFile (Option (Source R))) × AreOpened answers (files_of (request_of command)) files
+      × (files' : ByFile (Option (Source R))) × IsRunOf left failed taken last stuck command files files' old new result
 
 -- the writer took the text whole and was flushed, or it failed before that
 module _ {W : Type 0} (taken : W → Option (List ℕ)) (last : W → LastCall) (failed : W → Bool) where

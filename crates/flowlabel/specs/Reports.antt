@@ -22,7 +22,8 @@ use Rattle.pmap_print.specs.Table.{IsTable, has_columns}
 use Rattle.flowlabel.specs.ByFile.{ByFile, Role, at, with_at}
 use Rattle.flowlabel.specs.declared.by_file.Role.TheVariants as roles
 use Rattle.flowlabel.specs.declared.bytes_fault.BytesFault.TheVariants.{Flows as InFlows}
-use Rattle.flowlabel.specs.Output.{Faulty, FlowsThen, IsFaultFor, NoMemory, Outcome, OutputFault, Prints, Unread, labelled_row_lines}
+use Rattle.flowlabel.specs.Output.{Faulty, FlowsThen, IsFaultFor, NoMemory, Outcome, OutputFault, Prints, Returns, Unread, labelled_row_lines}
+use Rattle.flowlabel.specs.declared.command.LabelFile.{LabelFile}
 use Rattle.flowlabel.specs.Request.{FromList, FromMap, LabelSource, Text, source_with}
 use Rattle.flowlabel.specs.Run.{AreTexts, IsFaultOf, Source, any_failed, bytes_of, is_unread, source_failed}
 use Rattle.flowlabel.specs.declared.run.labels.LabelsRead.{LabelsRead}
@@ -50,6 +51,12 @@ ReadsLabels (Some (FromList text)) labels = (l : ListModel) × (list_reading tex
 -- the report on a File under the labels of a source, or without one: a text that depends on its messages
 abbrev pub ReportsThen : (Option Labelling → List MessageView → List ℕ) → Option LabelSource → List ℕ → Outcome → Type 0
 ReportsThen text source flows = FlowsThen (λ labels messages. Prints (text labels messages)) source flows
+
+-- what a call returns that reads the text of a source: its labels, or any report's fault of this text
+abbrev pub AreLabelsOf : LabelSource → Result LabelsRead OutputFault → Type 0
+AreLabelsOf source (Ok read) = ReadsLabels (Some source) (labelling_read read)
+AreLabelsOf source (Err fault) =
+    (text : Option Labelling → List MessageView → List ℕ) (flows : List ℕ) → Returns (ReportsThen text (Some source) flows) (Err fault)
 
 -- the fault of a command for that of a call for a message
 abbrev pub IsFaultOfCall : ReadFault → OutputFault → Type 0
@@ -81,23 +88,22 @@ module _ {R : Type 0} (left : R → Option (List ℕ)) (failed : R → Bool) whe
     pub others : new ≡ with_at role (at role new) old
     pub unread : source_failed failed (at role new) ≡ is_unread result
 
-  -- What a command returns, by its outcomes over the texts of its files. No reader had failed before.
+  -- What a command returns, by its outcomes over the texts of its files.
   abbrev pub IsMadeOf : (Outcome → Type 0) → ByFile (Option (Source R)) → ByFile (Option (Source R)) → Result (Vec ℕ) OutputFault → Type 0
-  IsMadeOf Is old new (Ok out) = Is (Ok out.items)
+  IsMadeOf Is old new (Ok out) = Is (Ok out.items) × (any_failed failed new ≡ false)
   IsMadeOf Is old new (Err fault) = IsFaultOf left failed Is old new fault
 
   pub record IsMade (Is : ByFile Text → Outcome → Type 0) (old new : ByFile (Option (Source R))) (result : Result (Vec ℕ) OutputFault) : Type 0 where
     pub texts : ByFile Text
     pub given : AreTexts left old texts
     pub made : IsMadeOf (Is texts) old new result
-    pub unread : any_failed failed new ≡ is_unread result
 
   -- The labels of a report are read, if it has labels. A report under a source of labels ends with any fault of them.
-  abbrev pub AreLabels : Option LabelSource → ByFile (Option (Source R)) → ByFile (Option (Source R)) → Result LabelsRead OutputFault → Type 0
-  AreLabels source old new (Ok read) = (texts : ByFile Text) × AreTexts left old texts
-      × ReadsLabels (option_map (source_with texts) source) (labelling_read read) × (new.flows ≡ old.flows) × (any_failed failed new ≡ false)
-  AreLabels source old new (Err fault) = (text : Option Labelling → List MessageView → List ℕ)
-      → IsMade (λ texts. ReportsThen text (option_map (source_with texts) source) texts.flows) old new (Err fault)
+  abbrev pub AreLabels : Option LabelFile → ByFile (Option (Source R)) → ByFile (Option (Source R)) → Result LabelsRead OutputFault → Type 0
+  AreLabels labels old new (Ok read) = (texts : ByFile Text) × AreTexts left old texts
+      × ReadsLabels (option_map (source_with texts) labels) (labelling_read read) × (new.flows ≡ old.flows) × (any_failed failed new ≡ false)
+  AreLabels labels old new (Err fault) = (text : Option Labelling → List MessageView → List ℕ)
+      → IsMade (λ texts. ReportsThen text (option_map (source_with texts) labels) texts.flows) old new (Err fault)
 
 -- The state of a report after the rows that it has taken.
 

@@ -6,7 +6,8 @@ use Rattle.flow_filter.specs.Condition.{Condition}
 pub use Rattle.flowlabel.specs.declared.command.Command.{Command}
 pub use Rattle.flowlabel.specs.declared.command.Command.TheVariants.{Cat, Check, Info, Label, Recert, Rows, Shrink, Uniq}
 use Rattle.flow_uniq.specs.declared.field.KeyField.{KeyField}
-use Rattle.flowlabel.specs.ByFile.{ByFile, each}
+use Rattle.flowlabel.specs.ByFile.{ByFile, Role, each}
+use Rattle.flowlabel.specs.declared.by_file.Role.TheVariants as role
 use Rattle.flowlabel.specs.declared.command.LabelFile.{LabelFile}
 use Rattle.flowlabel.specs.declared.command.LabelFile.TheVariants.{Map, List as Prefixes}
 pub use Rattle.flowlabel.specs.declared.command.Shrunk.{Shrunk}
@@ -44,6 +45,16 @@ IsProper request = Unit {0}
 abbrev pub source_of : LabelFile → LabelSource
 source_of (Map file) = FromMap file.now
 source_of (Prefixes file) = FromList file.now
+
+-- which file a file of labels is
+abbrev pub role_in : LabelFile → Role
+role_in (Map file) = role.Map
+role_in (Prefixes file) = role.List
+
+-- a file of labels as a source of labels, with this text
+abbrev pub source_by : LabelFile → Text → LabelSource
+source_by (Map file) = FromMap
+source_by (Prefixes file) = FromList
 
 -- the request of a command
 abbrev pub request_of : Command → Request
@@ -91,18 +102,18 @@ files_of (recert certificate) = record { map = None; list = None; certificate = 
 abbrev pub needs_of : Request → ByFile Bool
 needs_of request = each is_some (files_of request)
 
--- the request with the texts of its files in place of their names
-abbrev pub source_with : ByFile Text → LabelSource → LabelSource
-source_with texts (FromMap file) = FromMap texts.map
-source_with texts (FromList file) = FromList texts.list
+-- the request of a command with the texts of its files in place of their names
+abbrev pub source_with : ByFile Text → LabelFile → LabelSource
+source_with texts (Map file) = FromMap texts.map
+source_with texts (Prefixes file) = FromList texts.list
 
-abbrev pub with_texts : ByFile Text → Request → Request
-with_texts texts (label source address) = label (source_with texts source) address
-with_texts texts (info flows) = info texts.flows
-with_texts texts (rows source condition columns flows) = rows (option_map (source_with texts) source) condition columns texts.flows
-with_texts texts (uniq fields source condition sorted columns flows) =
-    uniq fields (option_map (source_with texts) source) condition sorted columns texts.flows
-with_texts texts (cat source) = cat (source_with texts source)
-with_texts texts (shrink map printed) = shrink texts.map printed
-with_texts texts (check map list certificate) = check texts.map texts.list texts.certificate
-with_texts texts (recert certificate) = recert texts.certificate
+abbrev pub with_texts : ByFile Text → Command → Request
+with_texts texts (Label labels addr) = label (source_with texts labels) (addr.version, addr.value)
+with_texts texts (Info flows) = info texts.flows
+with_texts texts (Rows labels filter columns flows) = rows (option_map (source_with texts) labels) filter columns texts.flows
+with_texts texts (Uniq keys labels filter sorted columns flows) =
+    uniq keys (option_map (source_with texts) labels) filter sorted columns texts.flows
+with_texts texts (Cat labels) = cat (source_with texts labels)
+with_texts texts (Shrink map printed) = shrink texts.map printed
+with_texts texts (Check map list certificate) = check texts.map texts.list texts.certificate
+with_texts texts (Recert certificate) = recert texts.certificate

@@ -11,7 +11,7 @@ use Rattle.flowlabel.specs.ByFile.{ByFile, Role, at, each, turn}
 use Rattle.flowlabel.specs.declared.by_file.Role.TheVariants as roles
 use Rattle.flowlabel.specs.Headline.{IsHeadline}
 use Rattle.flowlabel.specs.Output.{BytesFault, Faulty, IsOutput, NoMemory as OutOfMemory, Outcome, OutputFault, Unread}
-use Rattle.flowlabel.specs.Request.{Request, Text, with_texts}
+use Rattle.flowlabel.specs.Request.{Command, Request, Text, with_texts}
 pub use Rattle.flowlabel.specs.declared.inputs.Inputs.{Inputs}
 pub use Rattle.flowlabel.specs.declared.inputs.Source.{Source}
 pub use Rattle.flowlabel.specs.declared.fault.RunFault.{RunFault}
@@ -19,18 +19,10 @@ pub use Rattle.flowlabel.specs.declared.fault.RunFault.TheVariants.{CannotOpen, 
 
 -- What a run of a command does with the readers of its files and the writer of its output.
 
--- a command ended because a reader failed; a run ended because a reader or the writer failed
+-- a command ended because a reader failed
 abbrev pub is_unread : {A : Type 0} → Result A OutputFault → Bool
 is_unread (Err (Unread role)) = true
 is_unread result = false
-
-abbrev pub is_read_stop : {A : Type 0} → Result A RunFault → Bool
-is_read_stop (Err (CannotRead file)) = true
-is_read_stop result = false
-
-abbrev pub is_write_stop : {A : Type 0} → Result A RunFault → Bool
-is_write_stop (Err CannotWrite) = true
-is_write_stop result = false
 
 -- the fault of a run is this one of its command, with the name of the file
 abbrev pub IsNamed : ByFile Text → OutputFault → RunFault → Type 0
@@ -63,34 +55,33 @@ module _ {R : Type 0} where
   abbrev pub AreKeptBehind : Role → ByFile (Option (Source R)) → ByFile (Option (Source R)) → Type 0
   AreKeptBehind role old new = (later : Role) → turn role < turn later → at later new ≡ at later old
 
-  -- A fault of a command, by the outcomes that it may have. A fault of a file's bytes is the outcome. If a reader has
-  -- failed, no earlier file has a fault, and of a File it gave whole messages without a fault and the beginning of one
-  -- that isn't complete.
+  -- A fault of a command, by the outcomes that it may have. A fault of a file's bytes is the outcome. It is a fault of a
+  -- reader exactly if one failed. Then no earlier file has a fault, and of a File the reader gave whole messages without a
+  -- fault and the beginning of one that isn't complete.
   abbrev pub IsFaultOf : (R → Option (List ℕ)) → (R → Bool) → (Outcome → Type 0) → ByFile (Option (Source R)) → ByFile (Option (Source R)) → OutputFault → Type 0
-  IsFaultOf left failed Is old new OutOfMemory = Unit {0}
+  IsFaultOf left failed Is old new OutOfMemory = any_failed failed new ≡ false
   IsFaultOf left failed Is old new (Unread role) =
       (source_failed failed (at role new) ≡ true) × AreKeptBehind role old new
       × ((fault : BytesFault) → Is (Err fault) → turn role ≤ turn (role_of fault))
       × (role ≡ roles.Flows → (given : List ℕ) × (stop : ReadFault) × StopsReading given stop × Consumes (bytes_of left old.flows) (bytes_of left new.flows) given)
-  IsFaultOf left failed Is old new (Faulty fault) = Is (Err fault) × AreKeptBehind (role_of fault) old new
+  IsFaultOf left failed Is old new (Faulty fault) = Is (Err fault) × AreKeptBehind (role_of fault) old new × (any_failed failed new ≡ false)
 
 -- What a run of a request does, if neither a reader nor the writer has failed before.
-module _ {R W : Type 0} (left : R → Option (List ℕ)) (failed : R → Bool) (taken : W → Option (List ℕ)) (last : W → LastCall) where
+module _ {R W : Type 0} (left : R → Option (List ℕ)) (failed : R → Bool) (taken : W → Option (List ℕ)) (last : W → LastCall) (stuck : W → Bool) where
   -- The writer took exactly the output over the texts, for which the headline holds, and was flushed. After a write
-  -- fault it has a prefix of the output, or all of it if the flush failed. Any other fault comes before it is called.
+  -- fault it has a prefix of the output, or all of it if the flush failed. Any other fault comes before it is called. A
+  -- fault of a device comes exactly from a device that failed.
   abbrev pub IsResult : Request → ByFile (Option (Source R)) → ByFile (Option (Source R)) → W → W → Result (Unit {0}) RunFault → Type 0
   IsResult request old new writer writer' (Ok done) =
       (out : Text) × IsOutput request (Ok out) × IsHeadline request out × Appends (taken writer) (taken writer') out × (last writer' ≡ Flush)
+      × (any_failed failed new ≡ false) × (stuck writer' ≡ false)
   IsResult request old new writer writer' (Err CannotWrite) =
-      (out : Text) × IsOutput request (Ok out) × StopsWriting taken last writer writer' out
+      (out : Text) × IsOutput request (Ok out) × StopsWriting taken last writer writer' out × (any_failed failed new ≡ false) × (stuck writer' ≡ true)
   IsResult request old new writer writer' (Err fault) =
       (made : OutputFault) × IsNamed (each name_in old) made fault × IsFaultOf left failed (IsOutput request) old new made × (writer' ≡ writer)
 
-  pub record IsRunOf (stuck : W → Bool) (request : Request) (old new : ByFile (Option (Source R))) (writer writer' : W) (result : Result (Unit {0}) RunFault) : Type 0 where
+  pub record IsRunOf (command : Command) (old new : ByFile (Option (Source R))) (writer writer' : W) (result : Result (Unit {0}) RunFault) : Type 0 where
     -- the texts of the files
     pub texts : ByFile Text
     pub given : AreTexts left old texts
-    pub ends : IsResult (with_texts texts request) old new writer writer' result
-    -- device faults come exactly from devices that failed
-    pub read_fault : any_failed failed new ≡ is_read_stop result
-    pub write_fault : stuck writer' ≡ is_write_stop result
+    pub ends : IsResult (with_texts texts command) old new writer writer' result

@@ -1,11 +1,11 @@
 ghost use Rattle.std.specs.Prelude.{◌≡◌, false};
 ghost use Rattle.flowlabel.specs.Output.{IsOutput};
 ghost use Rattle.flowlabel.specs.Reports.{IsMade};
-ghost use Rattle.flowlabel.specs.Request.{request_of, with_texts};
+ghost use Rattle.flowlabel.specs.Request.{with_texts};
 ghost use Rattle.flowlabel.specs.Run.{any_failed, IsRunOf};
 
 use crate::by_file::{ByFile, Role};
-use crate::command::{Command, LabelFile};
+use crate::command::Command;
 use crate::fault::RunFault;
 use crate::inputs::{Inputs, Source};
 use crate::output_fault::OutputFault;
@@ -38,20 +38,13 @@ fn output<R: Input>(
     hashing: KeyHashing,
 ) -> Result<Vec<u8>, OutputFault>
     requires { any_failed R.failed files.old ≡ false }
-    ensures { IsMade R.bytes_left R.failed (λ texts. IsOutput (with_texts texts (request_of command.now))) files.old files.new
-        result }
+    ensures { IsMade R.bytes_left R.failed (λ texts. IsOutput (with_texts texts command.now)) files.old files.new result }
 {
     match command {
-        Command::Label { labels, addr } => match labels {
-            LabelFile::Map(_) => {
-                let map = read(alloc, Role::Map, files)?;
-                label::under_map(alloc, map, *addr, hashing)
-            }
-            LabelFile::List(_) => {
-                let list = read(alloc, Role::List, files)?;
-                label::under_list(alloc, list, *addr, hashing)
-            }
-        },
+        Command::Label { labels, addr } => {
+            let text = read(alloc, labels.role(), files)?;
+            label::output(alloc, *labels, text, *addr, hashing)
+        }
         Command::Info { .. } => info::output(alloc, files),
         Command::Rows {
             labels,
@@ -69,16 +62,10 @@ fn output<R: Input>(
         } => uniq::output(
             alloc, keys, *labels, files, filter, *sorted, *columns, hashing,
         ),
-        Command::Cat { labels } => match labels {
-            LabelFile::Map(_) => {
-                let map = read(alloc, Role::Map, files)?;
-                cat::under_map(alloc, map, hashing)
-            }
-            LabelFile::List(_) => {
-                let list = read(alloc, Role::List, files)?;
-                cat::under_list(alloc, list, hashing)
-            }
-        },
+        Command::Cat { labels } => {
+            let text = read(alloc, labels.role(), files)?;
+            cat::output(alloc, *labels, text, hashing)
+        }
         Command::Shrink { printed, .. } => {
             let map = read(alloc, Role::Map, files)?;
             shrink::output(alloc, map, *printed, hashing)
@@ -107,8 +94,8 @@ pub fn run<'a, R: Input, W: Output>(
 ) -> Result<(), RunFault<'a>>
     requires readers { any_failed R.failed inputs.old.files ≡ false }
     requires writer { W.failed writer.old ≡ false }
-    ensures { IsRunOf R.bytes_left R.failed W.bytes_taken W.last_call W.failed (request_of command.now) inputs.old.files inputs.new.files
-        writer.old writer.new result }
+    ensures { IsRunOf R.bytes_left R.failed W.bytes_taken W.last_call W.failed command.now inputs.old.files inputs.new.files writer.old
+        writer.new result }
 {
     // Provides the law that each output keeps the headline.
     output_keeps_headline();

@@ -1,31 +1,35 @@
 //! The output of `cat`.
 ghost use Rattle.flowlabel.specs.Output.{IsOutput, Returns};
-ghost use Rattle.flowlabel.specs.Request.{FromList, FromMap, cat};
+ghost use Rattle.flowlabel.specs.Request.{cat, source_by};
 
+use crate::command::LabelFile;
 use crate::output_fault::OutputFault;
 use crate::run::reading::{list_in, map_in};
 use pmap_print::{labelling_has_one_runs_text, print_runs};
 use pmap_text::{KeyHashing, Stretches};
 use std::alloc::Global;
 
-/// Returns the ranges of addresses with the same label under the text of a map.
-pub fn under_map(alloc: Global, text: Vec<u8>, hashing: KeyHashing) -> Result<Vec<u8>, OutputFault>
-    ensures { Returns (IsOutput (cat (FromMap text.items))) result }
+/// Returns the ranges of addresses with the same label under the text of a map or a list.
+pub fn output(
+    alloc: Global,
+    labels: LabelFile<'_>,
+    text: Vec<u8>,
+    hashing: KeyHashing,
+) -> Result<Vec<u8>, OutputFault>
+    ensures { Returns (IsOutput (cat (source_by labels.entry text.items))) result }
 {
     // Provides the law that labellings that agree on each address have one text of their runs.
     labelling_has_one_runs_text();
-    let map = map_in(alloc, text, hashing)?;
-    let stretches = Stretches::of_map(alloc, &map)?;
-    Ok(print_runs(alloc, &stretches, &map.labels)?)
-}
-
-/// Like [`under_map`], under the text of a list.
-pub fn under_list(alloc: Global, text: Vec<u8>, hashing: KeyHashing) -> Result<Vec<u8>, OutputFault>
-    ensures { Returns (IsOutput (cat (FromList text.items))) result }
-{
-    // Provides the law that labellings that agree on each address have one text of their runs.
-    labelling_has_one_runs_text();
-    let list = list_in(alloc, text, hashing)?;
-    let stretches = Stretches::of_list(alloc, &list)?;
-    Ok(print_runs(alloc, &stretches, &list.labels)?)
+    match labels {
+        LabelFile::Map(_) => {
+            let map = map_in(alloc, text, hashing)?;
+            let stretches = Stretches::of_map(alloc, &map)?;
+            Ok(print_runs(alloc, &stretches, &map.labels)?)
+        }
+        LabelFile::List(_) => {
+            let list = list_in(alloc, text, hashing)?;
+            let stretches = Stretches::of_list(alloc, &list)?;
+            Ok(print_runs(alloc, &stretches, &list.labels)?)
+        }
+    }
 }

@@ -1,12 +1,12 @@
 //! The output of `check`.
-ghost use Rattle.std.specs.Prelude.{◌≡◌, [], false};
+ghost use Rattle.std.specs.Prelude.{◌≡◌, false};
 ghost use Rattle.pmap_text.specs.MapText.{map_of};
 ghost use Rattle.pmap_text.specs.PrefixList.{list_of};
 ghost use Rattle.pmap_cert.specs.FormatReading.{format_reading};
 ghost use Rattle.flowlabel.specs.declared.bytes_fault.BytesFault.TheVariants.{Certificate as InCertificate};
 ghost use Rattle.flowlabel.specs.Output.{Checks, IsOutput, Returns, Then};
 ghost use Rattle.flowlabel.specs.Reports.{IsMade};
-ghost use Rattle.flowlabel.specs.Request.{check, with_texts};
+ghost use Rattle.flowlabel.specs.Request.{check};
 ghost use Rattle.flowlabel.specs.Run.{any_failed};
 
 use crate::by_file::{ByFile, Role};
@@ -44,7 +44,8 @@ pub fn output<R: Input>(
     hashing: KeyHashing,
 ) -> Result<Vec<u8>, OutputFault>
     requires { any_failed R.failed files.old ≡ false }
-    ensures { IsMade R.bytes_left R.failed (λ texts. IsOutput (with_texts texts (check [] [] []))) files.old files.new result }
+    ensures { IsMade R.bytes_left R.failed (λ texts. IsOutput (check texts.map texts.list texts.certificate)) files.old files.new
+        result }
 {
     let text = read(alloc, Role::Map, files)?;
     let map = map_in(alloc, text, hashing)?;

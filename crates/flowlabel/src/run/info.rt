@@ -1,8 +1,8 @@
 //! The output of `info`.
-ghost use Rattle.std.specs.Prelude.{◌≡◌, [], false};
+ghost use Rattle.std.specs.Prelude.{◌≡◌, false};
 ghost use Rattle.flowlabel.specs.Output.{IsOutput};
 ghost use Rattle.flowlabel.specs.Reports.{IsMade};
-ghost use Rattle.flowlabel.specs.Request.{info, with_texts};
+ghost use Rattle.flowlabel.specs.Request.{info};
 ghost use Rattle.flowlabel.specs.Run.{any_failed};
 
 use crate::by_file::ByFile;
@@ -38,7 +38,7 @@ pub fn output<R: Input>(
     files: &mut ByFile<Option<Source<'_, R>>>,
 ) -> Result<Vec<u8>, OutputFault>
     requires { any_failed R.failed files.old ≡ false }
-    ensures { IsMade R.bytes_left R.failed (λ texts. IsOutput (with_texts texts (info []))) files.old files.new result }
+    ensures { IsMade R.bytes_left R.failed (λ texts. IsOutput (info texts.flows)) files.old files.new result }
 {
     let mut counts = Counts::new();
     take_messages(alloc, &mut files.flows, &InfoReport, &mut counts)?;

@@ -2,8 +2,9 @@
 ghost use Rattle.std.specs.Prelude.{◌≡◌, ◌++◌, ◌∷◌, [], IfOk, option_map, unwrap_or};
 ghost use Rattle.label_lookup.specs.Labelling.{labelling};
 ghost use Rattle.flowlabel.specs.Output.{IsOutput, Returns, label_text};
-ghost use Rattle.flowlabel.specs.Request.{FromList, FromMap, label};
+ghost use Rattle.flowlabel.specs.Request.{label, source_by};
 
+use crate::command::LabelFile;
 use crate::output_fault::OutputFault;
 use crate::run::reading::{list_in, map_in};
 use label_lookup::{Labeller, ListScan, Scan};
@@ -32,29 +33,25 @@ fn line_by<L: Labeller>(alloc: Global, labels: &L, addr: Addr) -> Result<Vec<u8>
     }
 }
 
-/// Returns the line of the label that the text of a map gives an address. It searches all statements once, which takes
-/// less time than building an index.
-pub fn under_map(
+/// Returns the line of the label that the text of a map or a list gives an address. It searches all statements or entries
+/// once, which takes less time than building an index.
+pub fn output(
     alloc: Global,
+    labels: LabelFile<'_>,
     text: Vec<u8>,
     addr: Addr,
     hashing: KeyHashing,
 ) -> Result<Vec<u8>, OutputFault>
-    ensures { Returns (IsOutput (label (FromMap text.items) (addr.version, addr.value))) result }
+    ensures { Returns (IsOutput (label (source_by labels.entry text.items) (addr.version, addr.value))) result }
 {
-    let map = map_in(alloc, text, hashing)?;
-    Ok(line_by(alloc, &Scan::new(&map), addr)?)
-}
-
-/// Like [`under_map`], under the text of a list.
-pub fn under_list(
-    alloc: Global,
-    text: Vec<u8>,
-    addr: Addr,
-    hashing: KeyHashing,
-) -> Result<Vec<u8>, OutputFault>
-    ensures { Returns (IsOutput (label (FromList text.items) (addr.version, addr.value))) result }
-{
-    let list = list_in(alloc, text, hashing)?;
-    Ok(line_by(alloc, &ListScan::new(&list), addr)?)
+    match labels {
+        LabelFile::Map(_) => {
+            let map = map_in(alloc, text, hashing)?;
+            Ok(line_by(alloc, &Scan::new(&map), addr)?)
+        }
+        LabelFile::List(_) => {
+            let list = list_in(alloc, text, hashing)?;
+            Ok(line_by(alloc, &ListScan::new(&list), addr)?)
+        }
+    }
 }

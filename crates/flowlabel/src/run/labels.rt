@@ -1,11 +1,11 @@
 //! The labels of a report.
 ghost use Rattle.std.specs.Prelude.{◌≡◌, IfOk, false, option_map};
 ghost use Rattle.label_lookup.specs.Labelling.{labelling_of_stretches};
-ghost use Rattle.flowlabel.specs.Reports.{AreLabels, labelling_read};
-ghost use Rattle.flowlabel.specs.Request.{source_of};
+ghost use Rattle.flowlabel.specs.Reports.{AreLabels, AreLabelsOf, labelling_read};
+ghost use Rattle.flowlabel.specs.Request.{source_by};
 ghost use Rattle.flowlabel.specs.Run.{any_failed};
 
-use crate::by_file::{ByFile, Role};
+use crate::by_file::ByFile;
 use crate::command::LabelFile;
 use crate::inputs::Source;
 use crate::output_fault::OutputFault;
@@ -32,20 +32,26 @@ impl LabelsRead {
         hashing: KeyHashing,
     ) -> Result<LabelsRead, OutputFault>
         requires { any_failed R.failed files.old ≡ false }
-        ensures { AreLabels R.bytes_left R.failed (option_map source_of labels.entry) files.old files.new result }
+        ensures { AreLabels R.bytes_left R.failed labels.entry files.old files.new result }
     {
         let Some(labels) = labels else {
             return Ok(LabelsRead::None);
         };
+        let text = read(alloc, labels.role(), files)?;
+        LabelsRead::of_text(alloc, labels, text, hashing)
+    }
+
+    fn of_text(
+        alloc: Global,
+        labels: LabelFile<'_>,
+        text: Vec<u8>,
+        hashing: KeyHashing,
+    ) -> Result<LabelsRead, OutputFault>
+        ensures { AreLabelsOf (source_by labels.entry text.items) result }
+    {
         match labels {
-            LabelFile::Map(_) => {
-                let text = read(alloc, Role::Map, files)?;
-                Ok(LabelsRead::Map(map_in(alloc, text, hashing)?))
-            }
-            LabelFile::List(_) => {
-                let text = read(alloc, Role::List, files)?;
-                Ok(LabelsRead::List(list_in(alloc, text, hashing)?))
-            }
+            LabelFile::Map(_) => Ok(LabelsRead::Map(map_in(alloc, text, hashing)?)),
+            LabelFile::List(_) => Ok(LabelsRead::List(list_in(alloc, text, hashing)?)),
         }
     }
 

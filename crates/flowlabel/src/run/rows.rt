@@ -1,9 +1,9 @@
 //! The output of `rows`.
-ghost use Rattle.std.specs.Prelude.{◌≡◌, [], false, option_map};
+ghost use Rattle.std.specs.Prelude.{◌≡◌, false, option_map};
 ghost use Rattle.pmap_print.specs.Reports.{label_texts};
 ghost use Rattle.flowlabel.specs.Output.{IsOutput, row_labels};
 ghost use Rattle.flowlabel.specs.Reports.{IsMade, labelling_found};
-ghost use Rattle.flowlabel.specs.Request.{rows, source_of, with_texts};
+ghost use Rattle.flowlabel.specs.Request.{rows, source_with};
 ghost use Rattle.flowlabel.specs.Run.{any_failed};
 
 use crate::by_file::ByFile;
@@ -79,7 +79,7 @@ pub fn output<R: Input>(
 ) -> Result<Vec<u8>, OutputFault>
     requires { any_failed R.failed files.old ≡ false }
     ensures { IsMade R.bytes_left R.failed
-        (λ texts. IsOutput (with_texts texts (rows (option_map source_of labels.entry) filter.now columns [])))
+        (λ texts. IsOutput (rows (option_map (source_with texts) labels.entry) filter.now columns texts.flows))
         files.old files.new result }
 {
     let read = LabelsRead::of_files(alloc, labels, files, hashing)?;

@@ -1,8 +1,8 @@
 //! The output of `uniq`.
-ghost use Rattle.std.specs.Prelude.{◌≡◌, [], false, option_map};
+ghost use Rattle.std.specs.Prelude.{◌≡◌, false, option_map};
 ghost use Rattle.flowlabel.specs.Output.{IsOutput};
 ghost use Rattle.flowlabel.specs.Reports.{IsMade};
-ghost use Rattle.flowlabel.specs.Request.{source_of, uniq, with_texts};
+ghost use Rattle.flowlabel.specs.Request.{source_with, uniq};
 ghost use Rattle.flowlabel.specs.Run.{any_failed};
 
 use crate::by_file::ByFile;
@@ -70,7 +70,7 @@ pub fn output<R: Input>(
 ) -> Result<Vec<u8>, OutputFault>
     requires { any_failed R.failed files.old ≡ false }
     ensures { IsMade R.bytes_left R.failed
-        (λ texts. IsOutput (with_texts texts (uniq keys.now (option_map source_of labels.entry) filter.now sorted columns [])))
+        (λ texts. IsOutput (uniq keys.now (option_map (source_with texts) labels.entry) filter.now sorted columns texts.flows))
         files.old files.new result }
 {
     let read = LabelsRead::of_files(alloc, labels, files, hashing)?;

@@ -17,7 +17,7 @@ is_of messages counts = numbers_of counts ≡ counts_of messages
 pub returns-in_err-take_messages : goal.returns-in_err-take_messages
 returns-in_err-take_messages g c =
     let old = c.args.files.now in
-    report_fault old c.requires text None old None (texts_of g.R.Input.bytes_left old) (texts_given g.R.Input.bytes_left old) refl refl c.requires c.take_messages.new.flows
+    report_fault c.requires text None old None (texts_of g.R.Input.bytes_left old) (texts_given g.R.Input.bytes_left old) refl refl c.requires c.take_messages.new.flows
     is_of c.take_messages.new.taken c.in_err-take_messages.field-0.0 c.from_residual.result c.from_residual.ensures.1
     c.in_err-take_messages.ensures.taken c.in_err-take_messages.ensures.failed
 
@@ -29,6 +29,6 @@ returns-in_err-print_info g c =
 pub returns : goal.returns
 returns g c =
     let old = c.args.files.now in
-    report_done old c.requires text None old None (texts_of g.R.Input.bytes_left old) (texts_given g.R.Input.bytes_left old) refl refl c.requires
+    report_done c.requires text None old None (texts_of g.R.Input.bytes_left old) (texts_given g.R.Input.bytes_left old) refl refl c.requires
     c.take_messages.new.flows is_of c.take_messages.new.taken c.in_ok-print_info.field-0 c.in_ok-take_messages.ensures.taken c.in_ok-take_messages.ensures.failed
     (λ messages is. c.in_ok-print_info.ensures ∙ ap info_text is)

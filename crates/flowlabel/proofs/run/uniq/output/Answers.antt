@@ -8,13 +8,13 @@ use Rattle.flowlabel.specs.declared.by_file.Role.TheVariants as role
 use Rattle.flowlabel.specs.Output.{IsOutput}
 use Rattle.flowlabel.proofs.Outcomes.{report_of_groups}
 use Rattle.flowlabel.specs.Reports.{HasGroups, IsAfter, IsMade, labelling_found, labelling_read}
-use Rattle.flowlabel.specs.Request.{source_of, uniq, with_texts}
+use Rattle.flowlabel.specs.Request.{source_with, uniq}
 use Rattle.flowlabel.proofs.MadeLemmas.{found_is, handed_on, memory_made, one_tells, report_done, report_fault}
 use Rattle.flowlabel.proofs.run.uniq.output.Goals as goal
 
 pub returns-in_err-read : goal.returns-in_err-read
 returns-in_err-read g c =
-    handed_on (IsMade g.R.Input.bytes_left g.R.Input.failed (λ texts. IsOutput (with_texts texts (uniq c.args.keys.now (option_map source_of c.args.labels) c.args.filter.now c.args.sorted c.args.columns []))) c.args.files.now c.of_files.new.files)
+    handed_on (IsMade g.R.Input.bytes_left g.R.Input.failed (λ texts. IsOutput (uniq c.args.keys.now (option_map (source_with texts) c.args.labels) c.args.filter.now c.args.sorted c.args.columns texts.flows)) c.args.files.now c.of_files.new.files)
     c.from_residual.result c.in_err-read.field-0.0 c.from_residual.ensures.1
     (c.in_err-read.ensures (report_of_groups c.args.keys.now c.args.filter.now c.args.sorted c.args.columns))
 
@@ -34,7 +34,7 @@ take_messages-requires-clause-none g c =
 pub returns-in_err-take_messages : goal.returns-in_err-take_messages
 returns-in_err-take_messages g c =
     let (texts, given, reads, same, still) = c.in_ok-read.ensures in
-    report_fault c.args.files.now c.requires (report_of_groups c.args.keys.now c.args.filter.now c.args.sorted c.args.columns) (option_map source_of c.args.labels) c.of_files.new.files
+    report_fault c.requires (report_of_groups c.args.keys.now c.args.filter.now c.args.sorted c.args.columns) c.args.labels c.of_files.new.files
     (labelling_read c.in_ok-read.read) texts given reads same still c.take_messages.new.flows
     (IsAfter (HasGroups c.args.keys.now c.args.filter.now (labelling_found c.as_ref-labels.result))) c.take_messages.new.taken
     c.in_err-take_messages.field-0.0 c.from_residual-in_err-take_messages.result c.from_residual-in_err-take_messages.ensures.1
@@ -54,8 +54,8 @@ returns g c =
     let found : Option Labelling = labelling_found c.as_ref-labels.result in
     let is : found ≡ labels = found_is c.as_ref-labels.result c.in_ok-index.index labels c.as_ref-labels.ensures.value c.in_ok-index.ensures in
     let (texts, given, reads, same, still) = c.in_ok-read.ensures in
-    report_done c.args.files.now c.requires (report_of_groups c.args.keys.now c.args.filter.now c.args.sorted c.args.columns)
-    (option_map source_of c.args.labels) mid labels texts given reads same still c.take_messages.new.flows
+    report_done c.requires (report_of_groups c.args.keys.now c.args.filter.now c.args.sorted c.args.columns)
+    c.args.labels mid labels texts given reads same still c.take_messages.new.flows
     (IsAfter (HasGroups c.args.keys.now c.args.filter.now (labelling_found c.as_ref-labels.result))) c.take_messages.new.taken c.in_ok-print_groups.field-0
     c.in_ok-take_messages.ensures.taken c.in_ok-take_messages.ensures.failed
     (λ messages has. c.in_ok-print_groups.ensures ∙ (λ j. groups_text (has.rows.fields j) (shown_groups c.args.sorted (has.rows.groups j)) c.args.columns)

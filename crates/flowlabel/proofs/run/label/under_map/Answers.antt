@@ -1,5 +1,0 @@
-use Rattle.std.proofs.Common.{rules, Ok, ap}
-use Rattle.flowlabel.proofs.run.label.under_map.Goals as goal
-
-pub returns : goal.returns
-returns c = rw c.in_ok-map.ensures (ap Ok (search rules))
