@@ -1,5 +1,5 @@
 -- Joining neighbouring stretches that have one label.
-use Rattle.std.proofs.Common.{◌≡◌, ◌∙◌, ℕ, ◌+◌, ◌-◌, ◌^◌, ◌<◌, ◌≤◌, inl, inr, Bool, true, false, List, [], ◌∷◌, Option, Some, None, eqb-true, get_or, length, nat_eq, not, ap, arith, refl, sym}
+use Rattle.std.proofs.Common.{◌≡◌, ◌∙◌, ℕ, ◌+◌, ◌-◌, ◌^◌, ◌<◌, ◌≤◌, inl, inr, Bool, true, false, Option, Some, None, eqb-true, length, nat_eq, not, ap, arith, refl, sym}
 use Rattle.std.specs.Option.{option_eq}
 use Rattle.std.proofs.lemmas.Bool.{cases_lt}
 use Rattle.prefix_keys.specs.Block.{width_of}
@@ -29,19 +29,6 @@ same-label (Some x) (Some y) r is e = by (nat_eq x.0 y.0) (sym e ∙ is) (λ t. 
     by : (b : Bool) → false ≡ not b → (b ≡ true → x.0 ≡ y.0) → ◌≡◌ {A = Option LabelId} (Some x) (Some y)
     by true h same = ap (λ n. Some (record { 0 = n })) (same refl)
     by false h same = absurd (let g : false ≡ true = h in cc)
-
--- the first stretch has all addresses
-pub joined-first : (s j : StretchesModel) → HasEveryAddress s → HasEveryAddress j → j.version ≡ s.version → j.firsts ≡ 0 ∷ [] → j.labels ≡ label_at s 0 ∷ [] → AreJoined s j 1
-joined-first s j every every' version firsts labels =
-    let one : length j.firsts ≡ 1 = ap (λ (l : List ℕ). length l) firsts in
-    record {
-      every = every';
-      version = version;
-      fewer = omega (arith, one);
-      from = omega (arith, ap (λ (n : ℕ). first_at j (n - 1)) one, every'.zero);
-      last = ap (λ (n : ℕ). label_at j (n - 1)) one ∙ ap (λ (l : List (Option LabelId)). get_or l 0 None) labels;
-      before = λ a less. absurd (omega (arith, less, every.zero));
-    }
 
 module _ (s j : StretchesModel) (n : ℕ) (every : HasEveryAddress s) (some : 0 < n) (within : n ≤ length s.firsts) (are : AreJoined s j n) where
   -- the labels agree at the addresses of the first n stretches

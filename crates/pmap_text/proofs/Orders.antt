@@ -1,7 +1,7 @@
 -- Mappings that meet a block, and mappings that cover it.
-use Rattle.std.proofs.Common.{◌≡◌, ◌∙◌, ℕ, ◌<◌, ◌≤◌, ◌⊎◌, inl, inr, true, false, nat_le, ◌&&◌, List, Option, Some, length, sym, ap, arith, slice_get, unwrap_or, []}
+use Rattle.std.proofs.Common.{◌≡◌, ◌∙◌, ℕ, ◌<◌, ◌≤◌, true, nat_le, ◌&&◌, List, Option, Some, length, sym, ap, arith, slice_get, unwrap_or, []}
 use Rattle.std.proofs.lemmas.Option.{slice_get-get_or}
-use Rattle.std.proofs.lemmas.Bool.{leb-true, le-leb, lt-leb, and_parts, and_from, and_left, and_right}
+use Rattle.std.proofs.lemmas.Bool.{leb-true, le-leb, and_parts, and_from}
 use Rattle.prefix_keys.specs.Block.{first_of, last_of}
 use Rattle.pmap_text.specs.MapModel.{Label, Mapping, meets, spans, spans_all}
 use Rattle.pmap_text.specs.MapText.{text_at}
@@ -11,11 +11,6 @@ both_le a b c d h = let parts = and_parts (nat_le a b) (nat_le c d) h in (leb-tr
 
 pub le_both : (a b c d : ℕ) → a ≤ b → c ≤ d → (nat_le a b && nat_le c d) ≡ true
 le_both a b c d h k = and_from (nat_le a b) (nat_le c d) (le-leb a b h) (le-leb c d k)
-
--- a conjunction of two order tests fails if one of them does
-pub not_both : (a b c d : ℕ) → (b < a) ⊎ (d < c) → (nat_le a b && nat_le c d) ≡ false
-not_both a b c d (inl h) = and_left (nat_le a b) (nat_le c d) (lt-leb a b h)
-not_both a b c d (inr h) = and_right (nat_le a b) (nat_le c d) (lt-leb c d h)
 
 -- a mapping that covers an address of a block meets the block, and one that covers the block covers the address
 pub meets_around : (W n q a : ℕ) → first_of W n q ≤ a → a ≤ last_of W n q → (s : Mapping) → spans a s ≡ true → meets W n q s ≡ true

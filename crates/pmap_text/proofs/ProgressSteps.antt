@@ -1,6 +1,7 @@
 -- The state of a reading is the content of the lines so far, also after one more line.
-use Rattle.std.proofs.Common.{◌≡◌, ℕ, ◌<◌, ◌≤◌, Bool, true, false, cond, List, [], ◌∷◌, ◌++◌, map, length, length-append, Option, Some, None, refl, sym, ap, ◌∙◌, arith, All, slice_get, unwrap_or}
+use Rattle.std.proofs.Common.{◌≡◌, ℕ, ◌<◌, ◌≤◌, Bool, true, false, cond, List, [], ◌∷◌, ◌++◌, map, length, length-append, Option, Some, None, refl, sym, ap, ◌∙◌, arith, All, slice_get, unwrap_or, ◌==◌, ◌&&◌}
 use Rattle.std.proofs.lemmas.List.Elements.{All-head, All-tail}
+use Rattle.std.specs.List.{list_any}
 use Rattle.std.proofs.lemmas.List.Folds.{list_any_at}
 use Rattle.std.proofs.lemmas.Option.{slice_get-get_or, unwrap_or-slice_get}
 use Rattle.std.proofs.lemmas.Slice.Eq.{bytes_eq-Decides}
@@ -9,7 +10,6 @@ use Rattle.std.specs.Str.{bytes_eq}
 use Rattle.prefix_keys.specs.declared.version.Version.{Version}
 use Rattle.prefix_keys.specs.declared.version.Version.TheVariants.{V4}
 use Rattle.pmap_text.specs.Label.{has_label, with_label}
-use Rattle.pmap_text.specs.ListEntries.{has_entry}
 use Rattle.pmap_text.specs.MapModel.{Label, MapModel}
 use Rattle.pmap_text.specs.MapText.{mapping_of, text_at, Statement}
 use Rattle.pmap_text.specs.PrefixList.{prefix_of, Entry}
@@ -24,7 +24,8 @@ version-decided v None e = absurd (cc)
 version-decided v (Some w) e = cc
 
 -- a block has an entry if one of the prefixes has it
-pub has_prefix-entries : (table : List Label) (entries : List Entry) (start bits : ℕ) → has_prefix (map (prefix_of table) entries) start bits ≡ has_entry entries start bits
+pub has_prefix-entries : (table : List Label) (entries : List Entry) (start bits : ℕ) → has_prefix (map (prefix_of table) entries) start bits
+    ≡ list_any (λ e. e.block.value == start && e.block.len == bits) entries
 has_prefix-entries table entries start bits = list_any-map (prefix_of table) _ entries
 
 -- a table is not shorter after a label is added

@@ -1,13 +1,12 @@
 -- Windows: blocks with the stretches at their ends.
-use Rattle.std.proofs.Common.{◌≡◌, ℕ, suc, ◌+◌, ◌-◌, ◌*◌, ◌/◌, ◌^◌, ◌<◌, ◌≤◌, inl, inr, ◌∙◌, length, sym, ap, refl, arith, mul-div_cancel, pow_pos}
+use Rattle.std.proofs.Common.{◌≡◌, ℕ, suc, ◌+◌, ◌-◌, ◌*◌, ◌/◌, ◌^◌, ◌<◌, ◌≤◌, ◌∙◌, length, sym, ap, refl, arith, mul-div_cancel, pow_pos}
 use Rattle.std.proofs.Math.Nat.{zero-div}
-use Rattle.std.proofs.lemmas.Bool.{cases_lt}
 use Rattle.prefix_keys.specs.Block.{block_number, first_of, last_of, width_of}
 use Rattle.pmap_text.specs.Stretches.{HasEveryAddress, HoldsAddress, StretchesModel, last_at}
 use Rattle.pmap_text.specs.Windows.{AreHalvesOf, IsBlock, IsWindow, number_at}
 use Rattle.pmap_text.specs.declared.window.Window.{Window}
 use Rattle.pmap_text.proofs.BlockHalves.{halves_ends, has_halves}
-use Rattle.pmap_text.proofs.Ranges.{held_apart, held_index, held_order, last_end, next_first, ordered_at}
+use Rattle.pmap_text.proofs.Ranges.{held_apart, held_index, held_order, last_end, ordered_at}
 
 -- a block is not empty
 pub block_some : (W n q : ℕ) → first_of W n q ≤ last_of W n q
@@ -40,19 +39,6 @@ module _ (s : StretchesModel) (every : HasEveryAddress s) where
   -- only one stretch has an address
   pub one_index : (a i j : ℕ) → HoldsAddress s a i → HoldsAddress s a j → i ≡ j
   one_index a i j first second = sym (held_index s every a i first) ∙ held_index s every a j second
-
-  -- the address after a stretch's last one is in the next stretch
-  pub next_stretch : (a i : ℕ) → HoldsAddress s a i → a + 1 < 2 ^ width_of s.version → last_at s i ≡ a → HoldsAddress s (a + 1) (i + 1)
-  next_stretch a i holds below last =
-      elim (cases_lt (i + 1) (length s.firsts)) [
-        | inl more ↦
-            let next = next_first s every i more in
-            let some = ordered_at s every (i + 1) more in
-            record { index = more; from = omega arith; to = omega arith }
-        | inr end ↦
-            let most = last_end s i end in
-            absurd (omega arith)
-      ]
 
   -- all addresses are a window
   pub whole_window : (w : Window) → w.first ≡ 0 → w.len ≡ 0 → w.from ≡ 0 → w.to + 1 ≡ length s.firsts → w.last ≡ last_at s w.to → IsWindow s w

@@ -1,13 +1,10 @@
 use Rattle.std.specs.Prelude.{ℕ, ◌+◌, ◌*◌, ◌&&◌, ◌==◌, Bool, List}
-use Rattle.std.specs.List.{list_any, IsDistinct}
+use Rattle.std.specs.List.{IsDistinct}
 use Rattle.prefix_keys.specs.declared.block.Block.{Block}
 use Rattle.pmap_text.specs.declared.entry.Entry.{Entry}
 
 -- The entries of a prefix list and their blocks. The blocks of one list are of one version, so start and length
 -- identify a block.
-
-abbrev pub has_entry : List Entry → ℕ → ℕ → Bool
-has_entry entries start bits = list_any (λ e. e.block.value == start && e.block.len == bits) entries
 
 abbrev pub same_block : Entry → Entry → Bool
 same_block d e = d.block.value == e.block.value && d.block.len == e.block.len

@@ -9,7 +9,6 @@ use Rattle.pmap_text.specs.MapModel.{Label}
 use Rattle.pmap_text.specs.MapText.{text_at, Statement}
 pub use Rattle.pmap_text.specs.declared.entry.Entry.{Entry}
 pub use Rattle.pmap_text.specs.declared.prefix_list.PrefixList.{PrefixList}
-pub use Rattle.pmap_text.specs.ListEntries.{has_entry}
 
 -- an entry as a prefix with its label text
 abbrev pub prefix_of : List Label → Entry → Prefix

@@ -88,14 +88,9 @@ impl Labels {
     pub fn copy(&self) -> Result<Labels, AllocError>
         ensures { IfOk result (λ copy. copy ≡ self.now) }
     {
-        let hashing = *self.texts.hasher();
-        let mut texts = IndexSet::with_capacity_and_hasher(self.alloc, self.texts.len(), hashing)?;
-        for text in self.texts.as_slice() {
-            texts.insert(Vec::from_slice(self.alloc, text.as_slice())?)?;
-        }
         Ok(Labels {
             alloc: self.alloc,
-            texts,
+            texts: self.texts.clone()?,
         })
     }
 

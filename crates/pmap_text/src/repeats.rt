@@ -1,8 +1,8 @@
 //! Repeated blocks of entries.
-ghost use Rattle.std.specs.Prelude.{◌≡◌, ℕ, IfOk, IsTrue, List, map, not, true, if◌then◌else◌};
+ghost use Rattle.std.specs.Prelude.{◌≡◌, ◌==◌, ◌&&◌, ℕ, IfOk, IsTrue, List, map, not, true, if◌then◌else◌};
+ghost use Rattle.std.specs.List.{list_any};
 ghost use Rattle.std.specs.Ordering.{is_eq};
 ghost use Rattle.pmap_text.specs.Inner.{IsFirstRepeat, has_key, key_cmp};
-ghost use Rattle.pmap_text.specs.ListEntries.{has_entry};
 ghost use Rattle.pmap_text.specs.MapModel.{Label};
 ghost use Rattle.pmap_text.specs.PrefixList.{prefix_of};
 
@@ -14,7 +14,7 @@ use std::collections::BTreeSet;
 
 /// Returns `true` if an entry has the start and the length of this block.
 pub fn has_block(entries: &[Entry], block: &Block) -> bool
-    ensures { result ≡ has_entry entries.now block.now.value block.now.len }
+    ensures { result ≡ list_any (λ e. e.block.value == block.now.value && e.block.len == block.now.len) entries.now }
 {
     entries.iter().any(|entry| entry.block.value == block.value && entry.block.len == block.len)
 }

@@ -6,15 +6,6 @@ use Rattle.prefix_keys.specs.Print.{joined_text}
 
 -- Numbers separated by a separator.
 
--- one more piece
-pub join_push : (c : ℕ) (pieces : List (List ℕ)) (piece : List ℕ) → 0 < length pieces →
-    join_with_byte c (pieces ++ piece ∷ []) ≡ join_with_byte c pieces ++ (c ∷ piece)
-join_push c [] piece h = absurd (omega arith)
-join_push c (x ∷ []) piece h = refl
-join_push c (x ∷ y ∷ rest) piece h =
-    ap (λ text. x ++ (c ∷ text)) (join_push c (y ∷ rest) piece (omega arith))
-    ∙ sym (append_assoc x (c ∷ join_with_byte c (y ∷ rest)) (c ∷ piece))
-
 -- one more piece before other pieces, or before nothing
 pub join_before : (c : ℕ) (piece : List ℕ) (pieces : List (List ℕ)) → 0 < length pieces →
     join_with_byte c (piece ∷ pieces) ≡ piece ++ (c ∷ join_with_byte c pieces)

@@ -144,16 +144,6 @@ read-last text rest left c n g c' n' has group more =
           ∙ behind-behind has.done f (around_gap back);
     }
 
--- no groups
-pub side-none : (text : List ℕ) → BeginsWithSide text text 0 0
-side-none text = record {
-  front = [];
-  whole = refl;
-  bytes = refl;
-  groups = λ dotted. refl;
-  gap = λ back. behind-nil (around_gap back);
-}
-
 -- two sides of a `::`, and eight groups without one
 pub colon-gap : (text rest back left : List ℕ) (c n d m : ℕ) (value : ℕ) → BeginsWithSide text rest c n → rest ≡ 58 ∷ 58 ∷ back
     → BeginsWithSide back left d m → Some value ≡ (if nat_le (c + d) 7 then Some (n * 2 ^ (16 * (8 - c)) + m) else None)

@@ -15,10 +15,8 @@ pub fn cut(text: &[u8], byte: u8) -> (&[u8], &[u8])
     ensures front { result.0.now ≡ before_first (λ b. b == byte) text.now }
     ensures back { result.1.now ≡ after_first (λ b. b == byte) text.now }
 {
-    for (at, b) in text.iter().enumerate() {
-        if *b == byte {
-            return (&text[..at], &text[at + 1..]);
-        }
+    match find_byte(text, byte) {
+        Some(at) => (&text[..at], &text[at + 1..]),
+        None => (text, &[]),
     }
-    (text, &[])
 }

@@ -1,6 +1,0 @@
-use Rattle.std.proofs.Common.{◌≡◌, ◌==◌, ◌<◌, ℕ, get_or, false}
-use Rattle.prefix_keys.proofs.cutting.cut.Given as goal
-
--- no byte so far is the one that is searched for
-abbrev pub invariant-loop-at : goal.invariant-loop-at
-invariant-loop-at l = (k : ℕ) → k < l.at → (get_or l.text k 0 == l.byte) ≡ false
