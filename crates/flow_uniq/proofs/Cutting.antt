@@ -1,12 +1,10 @@
 -- The bytes that are written for a key are read back as this key.
-use Rattle.std.proofs.Common.{◌≡◌, ℕ, zero, suc, ◌+◌, ◌^◌, ◌<◌, ◌≤◌, false, List, [], ◌∷◌, ◌++◌, length, take, drop, nat_lt, get_or, map, Option, Some, None, refl, sym, ap, subst, ◌∙◌, arith}
-use Rattle.std.proofs.lemmas.List.{append-nil, append_assoc, drop_all, drop-append-le, length-append, length-drop, take_all, take-append-le}
+use Rattle.std.proofs.Common.{◌≡◌, ℕ, zero, suc, ◌+◌, ◌*◌, ◌/◌, ◌%◌, ◌^◌, ◌<◌, ◌≤◌, false, List, [], ◌∷◌, ◌++◌, length, take, drop, nat_lt, get_or, map, Option, Some, None, refl, sym, ap, subst, ◌∙◌, arith}
+use Rattle.std.proofs.lemmas.List.{append_assoc, drop_all, drop-append-le, length-append, length-drop, take_all, take-append-le}
 use Rattle.std.proofs.lemmas.Bool.Decides.{nat_tests}
 use Rattle.std.proofs.lemmas.Grind.{common_steps}
 use Rattle.std.proofs.lemmas.Nat.{from_be_bytes-to_be_bytes_2, from_be_bytes-to_be_bytes_4, from_be_bytes-to_be_bytes_8}
-use Rattle.std.specs.Int.{w16, w32, w64, w128, from_be_bytes, to_be_bytes}
-use Rattle.byteorder.specs.Endian.{big_from}
-use Rattle.byteorder.specs.Numbers.{big_number-reads_back}
+use Rattle.std.specs.Int.{w16, w32, w64, from_be_bytes, to_be_bytes}
 use Rattle.prefix_keys.specs.declared.version.Version.TheVariants.{V4, V6}
 use Rattle.pmap_text.specs.MapModel.{Label}
 use Rattle.flow_uniq.specs.Key.{KeyField, Key, KeyPartModel, AddressPart, NumberPart, LabelPart}
@@ -29,14 +27,6 @@ front_bytes-back n xs r e = rw (not_less (length (xs ++ r)) n (omega (arith, e, 
 text_front-back : (t r : List ℕ) → text_front (length t) (t ++ r) ≡ (Some t, r)
 text_front-back t r = rw (not_less (length (t ++ r)) (length t) (omega (arith, length-append t r)), take-front (length t) t r refl, drop-front (length t) t r refl) refl
 
-wide_back : (n : ℕ) → n < 2 ^ 128 → from_be_bytes w128 (to_be_bytes w128 n) ≡ n
-wide_back n h =
-    let bytes : List ℕ = to_be_bytes w128 n in
-    numbers bytes ∙ ap (big_from 0 16) (sym (append-nil bytes)) ∙ big_number-reads_back 16 n [] h
-  where
-    numbers : (bytes : List ℕ) → from_be_bytes w128 bytes ≡ big_from 0 16 bytes
-    numbers bytes = omega arith
-
 -- a part that was written is read back, and the bytes after it remain
 parts_in-back : (p : KeyPartModel) (most : ℕ) (r : List ℕ) → IsSmall p → parts_in (suc most) (part_code p ++ r) ≡ p ∷ parts_in most r
 parts_in-back (NumberPart n) most r h =
@@ -53,8 +43,14 @@ parts_in-back (AddressPart (V4, v)) most r h =
     ap (λ (c : List ℕ × List ℕ). AddressPart (V4, from_be_bytes w32 c.0) ∷ parts_in most c.1) (front_bytes-back 4 (to_be_bytes w32 v) r refl)
     ∙ ap (λ (m : ℕ). AddressPart (V4, m) ∷ parts_in most r) (from_be_bytes-to_be_bytes_4 v h)
 parts_in-back (AddressPart (V6, v)) most r h =
-    ap (λ (c : List ℕ × List ℕ). AddressPart (V6, from_be_bytes w128 c.0) ∷ parts_in most c.1) (front_bytes-back 16 (to_be_bytes w128 v) r refl)
-    ∙ ap (λ (m : ℕ). AddressPart (V6, m) ∷ parts_in most r) (wide_back v h)
+    let high : List ℕ = to_be_bytes w64 (v / 2 ^ 64) in
+    let low : List ℕ = to_be_bytes w64 (v % 2 ^ 64) in
+    let value : from_be_bytes w64 high * 2 ^ 64 + from_be_bytes w64 low ≡ v =
+    omega (arith, from_be_bytes-to_be_bytes_8 (v / 2 ^ 64) (omega (arith, h)), from_be_bytes-to_be_bytes_8 (v % 2 ^ 64) (omega arith)) in
+    ap (λ (c : List ℕ × List ℕ). let f = front_bytes 8 c.1 in AddressPart (V6, from_be_bytes w64 c.0 * 2 ^ 64 + from_be_bytes w64 f.0) ∷ parts_in most f.1)
+    (ap (front_bytes 8) (append_assoc high low r) ∙ front_bytes-back 8 high (low ++ r) refl)
+    ∙ ap (λ (c : List ℕ × List ℕ). AddressPart (V6, from_be_bytes w64 high * 2 ^ 64 + from_be_bytes w64 c.0) ∷ parts_in most c.1) (front_bytes-back 8 low r refl)
+    ∙ ap (λ (m : ℕ). AddressPart (V6, m) ∷ parts_in most r) value
 
 one_byte : (p : KeyPartModel) → 1 ≤ length (part_code p)
 one_byte (NumberPart n) = omega arith
@@ -94,7 +90,8 @@ rest_shorter kind code =
     let front : List ℕ × List ℕ = front_bytes 8 code in
     let text : length (text_front (from_be_bytes w64 front.0) front.1).1 ≤ length code
     = omega (arith, text_shorter (from_be_bytes w64 front.0) front.1, front_shorter 8 code) in
-    grind (arith, front_shorter 2 code, front_shorter 4 code, front_shorter 16 code, text)
+    let low : length (front_bytes 8 front.1).1 ≤ length code = omega (arith, front_shorter 8 front.1, front_shorter 8 code) in
+    grind (arith, front_shorter 2 code, front_shorter 4 code, low, text)
 
 -- a limit of as many parts as there are bytes omits no part
 enough : (m n : ℕ) (code : List ℕ) → length code ≤ m → length code ≤ n → parts_in m code ≡ parts_in n code

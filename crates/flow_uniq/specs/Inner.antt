@@ -1,5 +1,5 @@
-use Rattle.std.specs.Prelude.{◌≡◌, ℕ, zero, suc, ◌^◌, ◌<◌, ◌==◌, ◌++◌, Bool, List, [], ◌∷◌, Option, Some, None, length, take, drop, nat_lt, option_copied, replicate, if◌then◌else◌, ◌+◌, ◌-◌, ◌*◌, ◌≤◌, map, unwrap_or}
-use Rattle.std.specs.Int.{w16, w32, w64, w128, from_be_bytes, to_be_bytes}
+use Rattle.std.specs.Prelude.{◌≡◌, ℕ, zero, suc, ◌^◌, ◌<◌, ◌==◌, ◌++◌, Bool, List, [], ◌∷◌, Option, Some, None, length, take, drop, nat_lt, option_copied, replicate, if◌then◌else◌, ◌+◌, ◌-◌, ◌*◌, ◌/◌, ◌%◌, ◌≤◌, map, unwrap_or}
+use Rattle.std.specs.Int.{w16, w32, w64, from_be_bytes, to_be_bytes}
 use Rattle.std.specs.List.{AllByRecursion, IsDistinct, flat_map}
 use Rattle.std.specs.Map.{keys_of, lookup}
 use Rattle.std.specs.Str.{bytes_eq}
@@ -30,7 +30,7 @@ part_code (NumberPart number) = 0 ∷ to_be_bytes w16 number
 part_code (LabelPart None) = 1 ∷ []
 part_code (LabelPart (Some text)) = 2 ∷ to_be_bytes w64 (length text) ++ text
 part_code (AddressPart (V4, value)) = 4 ∷ to_be_bytes w32 value
-part_code (AddressPart (V6, value)) = 6 ∷ to_be_bytes w128 value
+part_code (AddressPart (V6, value)) = 6 ∷ to_be_bytes w64 (value / 2 ^ 64) ++ to_be_bytes w64 (value % 2 ^ 64)
 
 abbrev pub key_code : Key → List ℕ
 key_code key = flat_map part_code key
@@ -60,11 +60,12 @@ text_front len code = if nat_lt (length code) len then (None, code) else (Some (
 abbrev pub part_after : ℕ → List ℕ → KeyPartModel × List ℕ
 part_after kind code =
     let label = text_front (from_be_bytes w64 (front_bytes 8 code).0) (front_bytes 8 code).1 in
+    let low = front_bytes 8 (front_bytes 8 code).1 in
     if kind == 0 then (NumberPart (from_be_bytes w16 (front_bytes 2 code).0), (front_bytes 2 code).1)
     else if kind == 1 then (LabelPart None, code)
     else if kind == 2 then (LabelPart label.0, label.1)
     else if kind == 4 then (AddressPart (V4, from_be_bytes w32 (front_bytes 4 code).0), (front_bytes 4 code).1)
-    else (AddressPart (V6, from_be_bytes w128 (front_bytes 16 code).0), (front_bytes 16 code).1)
+    else (AddressPart (V6, from_be_bytes w64 (front_bytes 8 code).0 * 2 ^ 64 + from_be_bytes w64 low.0), low.1)
 
 -- the parts that the bytes encode, up to a maximum number
 abbrev pub parts_in : ℕ → List ℕ → Key

@@ -121,7 +121,9 @@ fn append_address(out: &mut Vec<u8>, addr: Addr) -> Result<(), AllocError>
         }
         Version::V6 => {
             out.push(6)?;
-            out.extend_from_slice(&addr.value.to_be_bytes())?;
+            let (high, low) = (addr.value >> 64, addr.value % (1 << 64));
+            out.extend_from_slice(&(high as u64).to_be_bytes())?;
+            out.extend_from_slice(&(low as u64).to_be_bytes())?;
         }
     }
     Ok(())
@@ -230,9 +232,11 @@ fn part_after(kind: u8, code: &[u8]) -> (KeyPart<'_>, &[u8])
             (KeyPart::Address(Addr { version, value }), rest)
         }
         _ => {
-            let (bytes, rest) = front_bytes(code);
+            let (high, low_and_rest) = front_bytes(code);
+            let (low, rest) = front_bytes(low_and_rest);
             let version = Version::V6;
-            let value = u128::from_be_bytes(bytes);
+            let (high, low) = (u64::from_be_bytes(high), u64::from_be_bytes(low));
+            let value = (u128::from(high) << 64) + u128::from(low);
             (KeyPart::Address(Addr { version, value }), rest)
         }
     }
