@@ -5,4 +5,4 @@ pub mod Grouping
 pub mod Entering
 pub mod Reading
 pub mod Listing
-mod Dividing
+pub mod Dividing

@@ -10,9 +10,9 @@ line_more p [] x rest = append_assoc p (124 ∷ join_with_byte 124 (x ∷ rest))
 line_more p (q ∷ qs) x rest = append_assoc p (124 ∷ join_with_byte 124 (q ∷ (qs ++ x ∷ rest))) (10 ∷ [])
 
 -- one more field of a line is printed
-pub field_more : (out printed new all : Text) (p : Text) (ps : Line) (x : Text) (rest : Line)
-    → out ++ line_text (p ∷ (ps ++ x ∷ rest)) ≡ all → printed ≡ out ++ p → new ≡ printed ++ 124 ∷ [] → new ++ line_text (ps ++ x ∷ rest) ≡ all
-field_more out printed new all p ps x rest so_far is bar =
+pub field_more : (out new all : Text) (p : Text) (ps : Line) (x : Text) (rest : Line)
+    → out ++ line_text (p ∷ (ps ++ x ∷ rest)) ≡ all → new ≡ out ++ (p ++ 124 ∷ []) → new ++ line_text (ps ++ x ∷ rest) ≡ all
+field_more out new all p ps x rest so_far is =
     let one : line_text (p ∷ (ps ++ x ∷ rest)) ≡ p ++ 124 ∷ line_text (ps ++ x ∷ rest) = line_more p ps x rest in grind (arith, common_steps)
 
 -- the length of one more field is noted

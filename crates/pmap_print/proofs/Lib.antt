@@ -5,6 +5,7 @@ pub mod LastMatch
 pub mod ReadLines
 pub mod ReadList
 pub mod Again
+pub mod Appended
 pub mod FewLabels
 pub mod MinimalLists
 pub mod GroupLines

@@ -12,10 +12,10 @@ text_added : (old new : Text) (lines : List Line) (line : Line) → old ≡ flat
 text_added old new lines line so_far text = grind (arith, common_steps)
 
 pub line_printed : (count : ℕ) (lines : List Line) (line : Line) (old new : Table) → IsTable count lines old
-    → new.text.items ≡ old.text.items ++ line_text line → ForSome new.columns (IsNoted count (lines ++ line ∷ []))
+    → new.text ≡ old.text ++ line_text line → ForSome new.columns (IsNoted count (lines ++ line ∷ []))
     → IsTable count (lines ++ line ∷ []) new
 line_printed count lines line old new is text noted = record {
-  text = text_added old.text.items new.text.items lines line is.text text;
+  text = text_added old.text new.text lines line is.text text;
   noted = noted;
 }
 

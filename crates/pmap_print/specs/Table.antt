@@ -66,7 +66,7 @@ has_columns t = is_some t.columns
 
 -- the table has these lines, each of `count` fields
 pub record IsTable (count : ℕ) (lines : List Line) (t : Table) : Type 0 where
-  pub text : t.text.items ≡ flat_map line_text lines
+  pub text : t.text ≡ flat_map line_text lines
   pub noted : ForSome t.columns (IsNoted count lines)
 
 -- texts one after the other and, with the first at an index, with each filled to the width of its column

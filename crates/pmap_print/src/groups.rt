@@ -5,20 +5,19 @@ ghost use Rattle.flow_uniq.specs.Groups.{shown_groups};
 ghost use Rattle.pmap_print.specs.Table.{has_columns, IsTable, sizes, Line, line_text};
 ghost use Rattle.pmap_print.specs.Reports.{group_fields, group_titles, groups_text, part_text, total_fields};
 
-use crate::number::print_number;
 use crate::table::Table;
+use crate::text::Text;
 use flow_uniq::{Group, Groups, KeyField, KeyPart, Totals};
-use prefix_keys::print_addr;
 use std::alloc::{AllocError, Global};
 
 // Appends the text of a part of a key. The text of a missing label is empty.
-fn print_part(out: &mut Vec<u8>, part: KeyPart<'_>) -> Result<(), AllocError>
-    ensures { OnOk result (out.new.items ≡ out.old.items ++ part_text (part_model part.entry)) }
+fn print_part(out: &mut Text, part: KeyPart<'_>) -> Result<(), AllocError>
+    ensures { OnOk result (out.new ≡ out.old ++ (part_text (part_model part.entry) ++ 124 ∷ [])) }
 {
     match part {
-        KeyPart::Address(addr) => print_addr(out, addr),
-        KeyPart::Number(number) => print_number(out, number),
-        KeyPart::Label(label) => out.extend_from_slice(label.unwrap_or(b"")),
+        KeyPart::Address(addr) => out.push_address(addr, b'|'),
+        KeyPart::Number(number) => out.push_number(u64::from(number), b'|'),
+        KeyPart::Label(label) => out.push_bytes(label.unwrap_or(b""), b'|'),
     }
 }
 
@@ -28,57 +27,53 @@ const TOTALS: usize = 3;
 // Appends the header of groups by these fields, and the length of each of its fields with the byte that ends it. If an
 // allocation fails, a part of the header may have been appended.
 fn print_title(
-    out: &mut Vec<u8>,
+    out: &mut Text,
     lengths: &mut Vec<usize>,
     fields: &[KeyField],
 ) -> Result<(), AllocError>
     requires { lengths.old.items ≡ [] }
-    ensures text { OnOk result (out.new.items ≡ out.old.items ++ line_text (group_titles fields.now)) }
+    ensures text { OnOk result (out.new ≡ out.old ++ line_text (group_titles fields.now)) }
     ensures lengths { OnOk result (lengths.new.items ≡ sizes (group_titles fields.now)) }
 {
     for field in fields {
         let name = field.name();
-        out.extend_from_slice(name.as_bytes())?;
-        out.push(b'|')?;
+        out.push_bytes(name.as_bytes(), b'|')?;
         lengths.push(name.len() + 1)?;
     }
-    out.extend_from_slice(b"records|packets|bytes\n")?;
-    lengths.extend_from_slice(&[8usize, 8, 6])
+    out.push_bytes(b"records|packets|bytes", b'\n')?;
+    lengths.extend_from_slice(&[8usize, 8, 6])?;
+    Ok(())
 }
 
 // Appends the totals of a group and the end of its line. Returns their lengths, each with the byte that ends it.
-fn print_totals(out: &mut Vec<u8>, totals: &Totals) -> Result<[usize; TOTALS], AllocError>
-    ensures text { OnOk result (out.new.items ≡ out.old.items ++ line_text (total_fields totals.now)) }
+fn print_totals(out: &mut Text, totals: &Totals) -> Result<[usize; TOTALS], AllocError>
+    ensures text { OnOk result (out.new ≡ out.old ++ line_text (total_fields totals.now)) }
     ensures lengths { IfOk result (λ lengths. lengths ≡ sizes (total_fields totals.now)) }
 {
     let begin = out.len();
-    print_number(out, totals.records)?;
-    out.push(b'|')?;
+    out.push_number(totals.records, b'|')?;
     let packets = out.len();
-    print_number(out, totals.packets)?;
-    out.push(b'|')?;
+    out.push_total(totals.packets, b'|')?;
     let octets = out.len();
-    print_number(out, totals.octets)?;
-    out.push(b'\n')?;
+    out.push_total(totals.octets, b'\n')?;
     Ok([packets - begin, octets - packets, out.len() - octets])
 }
 
 // Appends the line of a group and, if `noted`, the lengths of its fields, each with the byte that ends it.
 fn print_group(
-    out: &mut Vec<u8>,
+    out: &mut Text,
     lengths: &mut Vec<usize>,
     group: &Group<'_>,
     noted: bool,
 ) -> Result<(), AllocError>
     requires { lengths.old.items ≡ [] }
-    ensures text { OnOk result (out.new.items ≡ out.old.items ++ line_text (group_fields (group_model group.now))) }
+    ensures text { OnOk result (out.new ≡ out.old ++ line_text (group_fields (group_model group.now))) }
     ensures lengths { OnOk result (noted ≡ true → lengths.new.items ≡ sizes (group_fields (group_model group.now))) }
 {
     let mut rest = group.key;
     while let Some((part, behind)) = rest.split_first() {
         let begin = out.len();
         print_part(out, part)?;
-        out.push(b'|')?;
         if noted {
             lengths.push(out.len() - begin)?;
         }

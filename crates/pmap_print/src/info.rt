@@ -3,26 +3,23 @@ ghost use Rattle.std.specs.Prelude.{◌≡◌, ◌++◌, IfOk, OnOk};
 ghost use Rattle.flow_rows.specs.Counts.{numbers_of};
 ghost use Rattle.pmap_print.specs.Reports.{count_text, info_text};
 
-use crate::number::print_number;
+use crate::text::Text;
 use flow_rows::Counts;
 use std::alloc::{AllocError, Global};
 
 // Appends the line of a count: its name and its number.
-fn print_count(out: &mut Vec<u8>, name: &[u8], number: u64) -> Result<(), AllocError>
-    ensures { OnOk result (out.new.items ≡ out.old.items ++ count_text name.now number) }
+fn print_count(out: &mut Text, name: &[u8], number: u64) -> Result<(), AllocError>
+    ensures { OnOk result (out.new ≡ out.old ++ count_text name.now number) }
 {
-    out.extend_from_slice(name)?;
-    out.push(b' ')?;
-    print_number(out, number)?;
-    out.push(b'\n')?;
-    Ok(())
+    out.push_bytes(name, b' ')?;
+    out.push_number(number, b'\n')
 }
 
 /// Returns the text of counts: a line for each, with its name and its number.
 pub fn print_info(alloc: Global, counts: &Counts) -> Result<Vec<u8>, AllocError>
     ensures { IfOk result (λ out. out.items ≡ info_text (numbers_of counts.now)) }
 {
-    let mut out = Vec::new(alloc);
+    let mut out = Text::new(alloc);
     print_count(&mut out, b"messages", counts.messages)?;
     print_count(&mut out, b"templates", counts.templates)?;
     print_count(&mut out, b"options-templates", counts.options_templates)?;
@@ -32,5 +29,5 @@ pub fn print_info(alloc: Global, counts: &Counts) -> Result<Vec<u8>, AllocError>
     print_count(&mut out, b"records", counts.records)?;
     print_count(&mut out, b"options-records", counts.options_records)?;
     print_count(&mut out, b"rows", counts.rows)?;
-    Ok(out)
+    Ok(out.into_bytes())
 }

@@ -28,6 +28,7 @@ mod number;
 mod rows;
 mod runs;
 mod table;
+mod text;
 
 pub use groups::print_groups;
 pub use info::print_info;

@@ -1,9 +1,6 @@
 //! Numbers in decimal.
 ghost use Rattle.std.specs.Prelude.{◌≡◌, ◌+◌, ◌-◌, ◌/◌, ◌%◌, ◌<◌, ◌≤◌, ◌∷◌, ◌++◌, OnOk, decimal, drop, length};
 
-use itoa::{Buffer, Integer};
-use std::alloc::AllocError;
-
 // The numbers from 00 to 99.
 static PAIRS: [u8; 200] =
     *b"00010203040506070809101112131415161718192021222324252627282930313233343536373839404142434445464748495051525354555657585960616263646566676869707172737475767778798081828384858687888990919293949596979899";
@@ -24,13 +21,4 @@ pub fn write_four(number: u64, buf: &mut [u8], end: usize)
     buf[end - 2] = PAIRS[low];
     buf[end - 3] = PAIRS[high + 1];
     buf[end - 4] = PAIRS[high];
-}
-
-/// Appends a number in decimal.
-#[inline]
-pub fn print_number<I: Integer>(out: &mut Vec<u8>, number: I) -> Result<(), AllocError>
-    ensures { OnOk result (out.new.items ≡ out.old.items ++ I.text number) }
-{
-    let mut buffer = Buffer::new();
-    out.extend_from_slice(buffer.format(number).as_bytes())
 }

@@ -9,6 +9,7 @@ ghost use Rattle.pmap_print.specs.Reports.{column_count, labels_at, given_labels
 use crate::labels::RowLabels;
 use crate::number::write_four;
 use crate::table::Table;
+use crate::text::Text;
 use flow_rows::Row;
 use itoa::write_digits;
 use prefix_keys::write_addr;
@@ -28,15 +29,19 @@ const TITLE_LENGTHS: [usize; COLUMNS_WITH_LABELS] = [4, 4, 6, 6, 6, 6, 8, 6, 6, 
 
 // Appends the header of rows, with the names of the label columns if `labelled`. If an allocation fails, a part of the
 // header may have been appended.
-fn print_title(out: &mut Vec<u8>, labelled: bool) -> Result<(), AllocError>
-    ensures { OnOk result (out.new.items ≡ out.old.items ++ line_text (title_line labelled)) }
+fn print_title(out: &mut Text, labelled: bool) -> Result<(), AllocError>
+    ensures { OnOk result (out.new ≡ out.old ++ line_text (title_line labelled)) }
 {
     if labelled {
-        out.extend_from_slice(
-            b"sip|dip|sport|dport|proto|flags|packets|bytes|stime|etime|src-label|dst-label\n",
+        out.push_bytes(
+            b"sip|dip|sport|dport|proto|flags|packets|bytes|stime|etime|src-label|dst-label",
+            b'\n',
         )
     } else {
-        out.extend_from_slice(b"sip|dip|sport|dport|proto|flags|packets|bytes|stime|etime\n")
+        out.push_bytes(
+            b"sip|dip|sport|dport|proto|flags|packets|bytes|stime|etime",
+            b'\n',
+        )
     }
 }
 
@@ -81,17 +86,16 @@ fn write_time(time: u64, buf: &mut [u8], end: usize) -> usize
 // after it, and 0 for each label.
 #[inline(always)]
 fn print_fields(
-    out: &mut Vec<u8>,
+    out: &mut Text,
     row: &Row<'_>,
     last: u8,
 ) -> Result<[usize; COLUMNS_WITH_LABELS], AllocError>
-    ensures text { OnOk result (out.new.items
-        ≡ out.old.items ++ (join_with_byte 124 (row_fields row.now) ++ last ∷ [])) }
+    ensures text { OnOk result (out.new
+        ≡ out.old ++ (join_with_byte 124 (row_fields row.now) ++ last ∷ [])) }
     ensures lengths { IfOk result (λ lengths. lengths ≡ sizes (row_fields row.now) ++ 0 ∷ 0 ∷ []) }
 {
     let mut line = [0; LINE];
     let last_at = LINE - 1;
-    line[last_at] = last;
     let end = write_time(row.end_ms(), &mut line, last_at);
     let start = write_time(row.start_ms(), &mut line, end);
     let octets = write_number(row.octets(), &mut line, start);
@@ -103,7 +107,7 @@ fn print_fields(
     let dst = write_addr(row.dst(), &mut line, sport) - 1;
     line[dst] = b'|';
     let src = write_addr(row.src(), &mut line, dst);
-    out.extend_from_slice(&line[src..])?;
+    out.push_bytes(&line[src..last_at], last)?;
     Ok([
         dst - src + 1,
         sport - dst,
@@ -121,14 +125,11 @@ fn print_fields(
 }
 
 // Appends the labels of a row, and the end of its line. A field without a label is empty.
-fn print_labels(out: &mut Vec<u8>, labels: RowLabels<'_>) -> Result<(), AllocError>
-    ensures { OnOk result (out.new.items ≡ out.old.items ++ line_text (label_fields (label_texts labels.entry))) }
+fn print_labels(out: &mut Text, labels: RowLabels<'_>) -> Result<(), AllocError>
+    ensures { OnOk result (out.new ≡ out.old ++ line_text (label_fields (label_texts labels.entry))) }
 {
-    out.extend_from_slice(labels.src.unwrap_or(b""))?;
-    out.push(b'|')?;
-    out.extend_from_slice(labels.dst.unwrap_or(b""))?;
-    out.push(b'\n')?;
-    Ok(())
+    out.push_bytes(labels.src.unwrap_or(b""), b'|')?;
+    out.push_bytes(labels.dst.unwrap_or(b""), b'\n')
 }
 
 // Returns the length of a label with the byte that ends its field.
@@ -142,12 +143,12 @@ fn label_length(label: Option<&[u8]>) -> usize
 // that ends it. If an allocation fails, a part of the line may have been appended.
 #[inline(always)]
 fn print_row(
-    out: &mut Vec<u8>,
+    out: &mut Text,
     row: &Row<'_>,
     labels: Option<RowLabels<'_>>,
 ) -> Result<[usize; COLUMNS_WITH_LABELS], AllocError>
-    ensures text { OnOk result (out.new.items
-        ≡ out.old.items ++ line_text (row_line row.now (option_map label_texts labels.entry))) }
+    ensures text { OnOk result (out.new
+        ≡ out.old ++ line_text (row_line row.now (option_map label_texts labels.entry))) }
     ensures lengths { IfOk result (λ lengths. take (column_count (is_some labels.entry)) lengths
         ≡ sizes (row_line row.now (option_map label_texts labels.entry))) }
 {

@@ -3,8 +3,9 @@ ghost use Rattle.pmap_text.specs.Stretches.{AreLabelsBelow, HasEveryAddress, tex
 ghost use Rattle.pmap_print.specs.Runs.{IsRunsText, run_text, run_titles, run_of, stretch_view, view_at};
 ghost use Rattle.pmap_print.specs.Table.{line_text};
 
+use crate::text::Text;
 use pmap_text::{LabelId, Labels, Stretches};
-use prefix_keys::{Addr, print_addr};
+use prefix_keys::Addr;
 use std::alloc::{AllocError, Global};
 
 // The addresses from `low` to `high`, with the number of their label, if they have one.
@@ -40,27 +41,25 @@ fn stretch_at(stretches: &Stretches, index: usize) -> Stretch
 }
 
 // Appends the line of a stretch: its first and last address, and its label.
-fn print_stretch(out: &mut Vec<u8>, stretch: &Stretch, labels: &Labels) -> Result<(), AllocError>
+fn print_stretch(out: &mut Text, stretch: &Stretch, labels: &Labels) -> Result<(), AllocError>
     requires { stretch.now.high.version ≡ stretch.now.low.version }
-    ensures { OnOk result (out.new.items
-        ≡ out.old.items ++ run_text stretch.now.low.version (run_of labels.now (stretch_view stretch.now))) }
+    ensures { OnOk result (out.new
+        ≡ out.old ++ run_text stretch.now.low.version (run_of labels.now (stretch_view stretch.now))) }
 {
-    print_addr(out, stretch.low)?;
-    out.push(b'|')?;
-    print_addr(out, stretch.high)?;
-    out.push(b'|')?;
-    if let Some(label) = stretch.label {
-        out.extend_from_slice(labels.text(label).unwrap_or(b""))?;
-    }
-    out.push(b'\n')?;
-    Ok(())
+    out.push_address(stretch.low, b'|')?;
+    out.push_address(stretch.high, b'|')?;
+    let text = match stretch.label {
+        Some(label) => labels.text(label).unwrap_or(b""),
+        None => b"",
+    };
+    out.push_bytes(text, b'\n')
 }
 
 // Appends the lines of the runs of the stretches to the header.
-fn push_runs(out: &mut Vec<u8>, stretches: &Stretches, labels: &Labels) -> Result<(), AllocError>
-    requires title { out.old.items ≡ line_text run_titles }
+fn push_runs(out: &mut Text, stretches: &Stretches, labels: &Labels) -> Result<(), AllocError>
+    requires title { out.old ≡ line_text run_titles }
     requires known { AreLabelsBelow (length labels.now) stretches.now }
-    ensures { OnOk result (IsRunsText stretches.now.version (text_held labels.now stretches.now) out.new.items) }
+    ensures { OnOk result (IsRunsText stretches.now.version (text_held labels.now stretches.now) out.new) }
 {
     // Provides the law that no two texts of the table are equal.
     let _count = labels.len();
@@ -88,8 +87,8 @@ pub fn print_runs(
     requires { AreLabelsBelow (length labels.now) stretches.now }
     ensures { IfOk result (λ out. IsRunsText stretches.now.version (text_held labels.now stretches.now) out.items) }
 {
-    let mut out = Vec::new(alloc);
-    out.extend_from_slice(b"low|high|label\n")?;
+    let mut out = Text::new(alloc);
+    out.push_bytes(b"low|high|label", b'\n')?;
     push_runs(&mut out, stretches, labels)?;
-    Ok(out)
+    Ok(out.into_bytes())
 }

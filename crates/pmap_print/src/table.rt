@@ -4,13 +4,14 @@ ghost use Rattle.std.specs.Option.{ForSome};
 ghost use Rattle.pmap_print.specs.Table.{has_columns, IsNoted, IsTable, sizes, Line, table_text};
 
 use crate::columns::Columns;
+use crate::text::Text;
 use std::alloc::{AllocError, Global};
 
 /// A table that is built line by line. Its fields are padded to columns, or are not.
 #[derive(Drop)]
 pub struct Table {
     // The lines, without padding.
-    pub(crate) text: Vec<u8>,
+    pub(crate) text: Text,
     // The lengths of the fields, if they are to be padded.
     pub(crate) columns: Option<Columns>,
 }
@@ -28,7 +29,7 @@ impl Table {
             None
         };
         Ok(Table {
-            text: Vec::new(alloc),
+            text: Text::new(alloc),
             columns: noted,
         })
     }
@@ -58,7 +59,7 @@ impl Table {
         ensures { (count : ℕ) → (lines : List Line) → IsTable count lines self
             → IfOk result (λ out. out.items ≡ table_text (has_columns self) lines) }
     {
-        let mut text = self.text;
+        let mut text = self.text.into_bytes();
         if let Some(columns) = &self.columns {
             columns.pad(&mut text)?;
         }

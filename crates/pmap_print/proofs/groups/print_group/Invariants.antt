@@ -7,8 +7,8 @@ use Rattle.pmap_print.proofs.groups.print_group.Given as goal
 
 abbrev pub invariant-loop-part : goal.invariant-loop-part
 invariant-loop-part l = record {
-  text : l.out.items ++ line_text (map part_text (key_model l.rest) ++ total_fields l.group.totals)
-      ≡ l.initial.out.items ++ line_text (group_fields (group_model l.group));
+  text : l.out ++ line_text (map part_text (key_model l.rest) ++ total_fields l.group.totals)
+      ≡ l.initial.out ++ line_text (group_fields (group_model l.group));
   lengths : l.noted ≡ true → l.lengths.items ++ sizes (map part_text (key_model l.rest)) ≡ sizes (map part_text (key_model l.group.key));
 }
 

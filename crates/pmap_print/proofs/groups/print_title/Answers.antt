@@ -1,5 +1,6 @@
 use Rattle.std.proofs.Common.{ℕ, suc, ◌≡◌, ◌+◌, ◌∙◌, List, [], ◌∷◌, ◌++◌, ap, arith, drop, drop-cons, get_or, length, map, sym}
 use Rattle.std.specs.Prelude.{codes}
+use Rattle.std.proofs.lemmas.List.{drop_all}
 use Rattle.flow_uniq.specs.declared.field.KeyField.{KeyField}
 use Rattle.flow_uniq.specs.declared.field.KeyField.TheVariants.{SourceAddress}
 use Rattle.flow_uniq.specs.Key.{field_name}
@@ -19,13 +20,19 @@ loop-field-preserved c =
     let behind : Line = map field_name (drop (i + 1) fields) in
     record {
       text =
-          field_more c.loop-field.out.items c.extend_from_slice.new.self.items c.push.new.self.items _ (field_name field) behind
+          field_more c.loop-field.out c.push_bytes.new.self _ (field_name field) behind
           (codes "records") (codes "packets" ∷ codes "bytes" ∷ [])
-          (ap (λ (l : List KeyField). c.loop-field.out.items ++ line_text (map field_name l ++ total_titles)) (sym next) ∙ c.loop-field.invariant.text)
-          (c.in_ok-extend_from_slice.ensures.items ∙ ap (λ (l : List ℕ). c.loop-field.out.items ++ l) (c.as_bytes.ensures.value ∙ c.name-name.ensures))
-          c.in_ok-push.ensures.items;
+          (ap (λ (l : List KeyField). c.loop-field.out ++ line_text (map field_name l ++ total_titles)) (sym next) ∙ c.loop-field.invariant.text)
+          (c.in_ok-push_bytes.ensures ∙ ap (λ (l : List ℕ). c.loop-field.out ++ (l ++ 124 ∷ [])) (c.as_bytes.ensures.value ∙ c.name-name.ensures));
       lengths =
-          size_more c.loop-field.lengths.items c.push-in-loop-field.new.self.items _ (sizes behind) (length (field_name field) + 1)
+          size_more c.loop-field.lengths.items c.push.new.self.items _ (sizes behind) (length (field_name field) + 1)
           (ap (λ (l : List KeyField). c.loop-field.lengths.items ++ sizes (map field_name l)) (sym next) ∙ c.loop-field.invariant.lengths)
-          (c.in_ok-push-2.ensures.items ∙ ap (λ (l : List ℕ). c.loop-field.lengths.items ++ (length l + 1) ∷ []) c.name-name.ensures);
+          (c.in_ok-push.ensures.items ∙ ap (λ (l : List ℕ). c.loop-field.lengths.items ++ (length l + 1) ∷ []) c.name-name.ensures);
     }
+
+pub returns-clause-text : goal.returns-clause-text
+returns-clause-text c =
+    c.in_ok-push_bytes-2.ensures
+    ∙ ap (λ (l : List KeyField). c.loop-field.out ++ line_text (map field_name l ++ total_titles))
+    (sym (drop_all c.loop-field.field-index c.args.fields.now (omega (arith, c.loop-field-test.false))))
+    ∙ c.loop-field.invariant.text

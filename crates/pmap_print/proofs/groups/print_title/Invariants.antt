@@ -7,6 +7,6 @@ use Rattle.pmap_print.proofs.groups.print_title.Given as goal
 
 abbrev pub invariant-loop-field : goal.invariant-loop-field
 invariant-loop-field l = record {
-  text : l.out.items ++ line_text (map field_name (drop l.field-index l.fields) ++ total_titles) ≡ l.initial.out.items ++ line_text (group_titles l.fields);
+  text : l.out ++ line_text (map field_name (drop l.field-index l.fields) ++ total_titles) ≡ l.initial.out ++ line_text (group_titles l.fields);
   lengths : l.lengths.items ++ sizes (map field_name (drop l.field-index l.fields)) ≡ sizes (map field_name l.fields);
 }

@@ -1,11 +1,7 @@
-use Rattle.std.proofs.Common.{ℕ, ◌<◌, ◌≤◌, ◌^◌, length, ◌≡◌, ◌+◌, ◌-◌, ◌∙◌, List, ◌∷◌, ap, drop, arith}
-use Rattle.std.specs.Fmt.{decimal}
-use Rattle.std.proofs.lemmas.Fmt.{length-decimal-le}
+use Rattle.std.proofs.Common.{ℕ, ◌≡◌, ◌+◌, ◌-◌, ◌∙◌, List, ◌∷◌, ap, drop, arith}
 use Rattle.std.proofs.lemmas.List.{drop-set}
+use Rattle.pmap_print.proofs.Appended.{short}
 use Rattle.pmap_print.proofs.rows.write_number.Goals as goal
-
-short : (n : ℕ) → n < 2 ^ 64 → length (decimal n) ≤ 20
-short n fits = length-decimal-le 20 n (omega arith) (omega (arith, fits)) (omega (arith, fits))
 
 pub write_digits-at-requires : goal.write_digits-at-requires
 write_digits-at-requires c =

@@ -11,5 +11,5 @@ returns-clause-line c = λ lines is.
     let same : c.column_count-count.result ≡ count = c.column_count-count.ensures ∙ ap column_count c.is_some.ensures in
     let sized : take c.column_count-count.result c.in_ok-lengths.lengths ≡ sizes line =
     ap (λ n. take n c.in_ok-lengths.lengths) same ∙ c.in_ok-lengths.ensures.lengths in
-    line_printed count lines line c.args.self.now c.note.new.self is (ap (λ t. t.items) c.in_ok-note.ensures.text ∙ c.in_ok-lengths.ensures.text)
+    line_printed count lines line c.args.self.now c.note.new.self is (c.in_ok-note.ensures.text ∙ c.in_ok-lengths.ensures.text)
     (c.in_ok-note.ensures.noted count lines line is.noted (length-row_line c.args.row.now c.args.labels) sized)

@@ -16,6 +16,6 @@ pub returns-clause-header : goal.returns-clause-header
 returns-clause-header c =
     let none = subst (λ n. IsTable n [] c.in_ok-table.table) c.column_count-count.ensures c.in_ok-table.ensures.none in
     line_printed (column_count c.args.labelled) [] (title_line c.args.labelled) c.in_ok-table.table c.note.new.self none
-    (ap (λ t. t.items) c.in_ok-note.ensures.text ∙ c.in_ok-print_title.ensures)
+    (c.in_ok-note.ensures.text ∙ c.in_ok-print_title.ensures)
     (c.in_ok-note.ensures.noted (column_count c.args.labelled) [] (title_line c.args.labelled) none.noted (length-title c.args.labelled)
     (ap (λ n. take n (4 ∷ 4 ∷ 6 ∷ 6 ∷ 6 ∷ 6 ∷ 8 ∷ 6 ∷ 6 ∷ 6 ∷ 10 ∷ 10 ∷ [])) c.column_count-count.ensures ∙ title-sizes c.args.labelled))
