@@ -40,13 +40,9 @@ among_passes p k (x ∷ xs) (inr rest) e = or_right (p x) _ (among_passes p k xs
 -- the fault of an error says about the words what clap's theorem says about the kind of the error
 pub fault_at : (words : List Text) (k : ErrorKind) (f : UsageFault) → (k ≡ kind.OutOfMemory) ⊎ IsAmong k (fault_of flowlabel_app words)
     → IsFaultOfKind k f → IsFaultAt words f
-fault_at words k (Refused text) (inl e) h =
-    let bad : false ≡ true = rw e at h in
-    cc
+fault_at words k (Refused text) (inl e) h = let bad : false ≡ true = rw e at h in cc
 fault_at words k (Refused text) (inr among) h = among_passes is_mistake k _ among h
-fault_at words k (Help text) (inl e) h =
-    let bad : false ≡ true = rw e at h in
-    cc
+fault_at words k (Help text) (inl e) h = let bad : false ≡ true = rw e at h in cc
 fault_at words k (Help text) (inr among) h = among_passes is_help k _ among h
 fault_at words k NoMemory from h = tt
 fault_at words k fault from h = absurd h
@@ -140,29 +136,18 @@ answer_own p =
     (Ok (check (text_in_rows (codes "pmap") p.1) (text_in_rows (codes "list") p.1) (text_in_rows (codes "cert") p.1))) _ tt
     (either_own (bytes_eq p.0 (codes "recert")) (Ok (recert (text_in_rows (codes "cert") p.1))) _ tt (label_own p.1)))))))
 
--- a fault that is the answer's unless it is out of memory
-fault_unless_memory : (answer : Answer) (fault : UsageFault) → (fault ≢ NoMemory → answer ≡ Err fault) → IsUnlessMemory answer (Err fault)
-fault_unless_memory answer NoMemory says = tt
-fault_unless_memory answer fault says = says (λ e. cc)
-
+-- a result that is the answer, or a fault that is the answer's unless it is out of memory
 pub unless_memory : (answer : Answer) (r : Result Command UsageFault) → IfOk r (λ command. answer ≡ Ok (request_of command))
     → IfErr r (λ fault. fault ≢ NoMemory → answer ≡ Err fault) → IsUnlessMemory answer r
 unless_memory answer (Ok command) ok err = ok
-unless_memory answer (Err fault) ok err = fault_unless_memory answer fault err
-
--- a fault that is the answer's unless it is out of memory is one of the two
-said_or_memory : (answer : Answer) (fault : UsageFault) → IsUnlessMemory answer (Err fault) → (fault ≡ NoMemory) ⊎ (answer ≡ Err fault)
-said_or_memory answer NoMemory says = inl refl
-said_or_memory answer fault says = inr says
-
-own_or_memory : (answer : Answer) (fault : UsageFault) → IsOwnAnswer answer → (fault ≡ NoMemory) ⊎ (answer ≡ Err fault) → IsOwnFault fault
-own_or_memory answer fault is (inl none) = rw none tt
-own_or_memory answer fault is (inr says) = rw says at is
+unless_memory answer (Err NoMemory) ok err = tt
+unless_memory answer (Err fault) ok err = err (λ e. cc)
 
 -- if the answer is neither a refusal of clap's nor help, a result that is the answer or out of memory is neither
 pub own : (answer : Answer) (r : Result Command UsageFault) → IsOwnAnswer answer → IsUnlessMemory answer r → IsOwnAnswer r
 own answer (Ok command) is says = tt
-own answer (Err fault) is says = own_or_memory answer fault is (said_or_memory answer fault says)
+own answer (Err NoMemory) is says = tt
+own answer (Err fault) is says = rw says at is
 
 -- a pair in an option is determined by its parts
 pair_is : {A B : Type 0} (o : Option (A × B)) (a : A) (b : B) → option_map (λ p. p.0) o ≡ Some a → option_map (λ p. p.1) o ≡ Some b → o ≡ Some (a, b)
@@ -182,20 +167,13 @@ subcommand_is m name rows e f = pair_is (subcommand_rows_of m) name rows (map_tw
 pub answers : (words : List Text) (p : Text × List Row) (r : Result Command UsageFault) → fault_of flowlabel_app words ≡ []
     → subcommand_of flowlabel_app words ≡ Some p → IsUnlessMemory (answer_of p) r → IsAnswer words r
 answers words p (Ok command) none found says = (none, ap (option_map answer_of) found ∙ ap Some says)
-answers words p (Err fault) none found says = elim (said_or_memory (answer_of p) fault says) [
-  | inl memory ↦ rw memory tt
-  | inr said ↦
-      let own_fault : IsOwnFault fault = own (answer_of p) (Err fault) (answer_own p) says in
-      fault_of_answer words fault own_fault (none, ap (option_map answer_of) found ∙ ap Some said)
-]
+answers words p (Err NoMemory) none found says = tt
+answers words p (Err fault) none found says =
+    fault_of_answer words fault (own (answer_of p) (Err fault) (answer_own p) says) (none, ap (option_map answer_of) found ∙ ap Some says)
 
 -- the fault of an error that reports out of memory is neither a refusal of clap's nor help
 pub own_of_memory : (k : ErrorKind) (f : UsageFault) → k ≡ kind.OutOfMemory → IsFaultOfKind k f → IsOwnFault f
-own_of_memory k (Refused text) e h =
-    let bad : false ≡ true = rw e at h in
-    cc
-own_of_memory k (Help text) e h =
-    let bad : false ≡ true = rw e at h in
-    cc
+own_of_memory k (Refused text) e h = let bad : false ≡ true = rw e at h in cc
+own_of_memory k (Help text) e h = let bad : false ≡ true = rw e at h in cc
 own_of_memory k NotUtf8 e h = absurd h
 own_of_memory k fault e h = tt

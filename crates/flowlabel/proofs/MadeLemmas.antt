@@ -8,18 +8,15 @@ use Rattle.std.specs.Io.KnownBytes.{Consumes}
 use Rattle.ipfix_read.specs.Message.{MessageView}
 use Rattle.ipfix_read.specs.Messages.{file_reading}
 use Rattle.label_lookup.specs.Labelling.{Labelling, StretchModel, labelling_of_list, labelling_of_map, labelling_of_stretches}
-use Rattle.prefix_keys.specs.Text.{AddressOf}
 use Rattle.flowlabel.specs.BytesFault.{role_of}
 use Rattle.flowlabel.specs.ByFile.{ByFile, Role, at, each, turn, with_at}
 use Rattle.flowlabel.specs.declared.by_file.Role.TheVariants as role
-use Rattle.flowlabel.specs.declared.bytes_fault.BytesFault.TheVariants.{Map as InMap, List as InList, Certificate as InCertificate, Flows as InFlows}
-use Rattle.flowlabel.specs.Output.{BytesFault, Decodes, Faulty, LabelsThen, NoMemory, Outcome, OutputFault, Prints, label_text, Returns, Then, Unread}
-use Rattle.flowlabel.proofs.Outcomes.{CertificateThen, ListThen, PrintsCompact, PrintsRuns, ReportsOf}
+use Rattle.flowlabel.specs.declared.bytes_fault.BytesFault.TheVariants.{List as InList, Certificate as InCertificate, Flows as InFlows}
+use Rattle.flowlabel.specs.Output.{BytesFault, Decodes, Faulty, LabelsThen, NoMemory, Outcome, OutputFault, Prints, Returns, Then, Unread}
+use Rattle.flowlabel.proofs.Outcomes.{CertificateThen, ListThen, PrintsCompact, ReportsOf}
 use Rattle.pmap_text.specs.ListModel.{ListModel}
-use Rattle.pmap_text.specs.MapText.{map_of}
-use Rattle.pmap_text.specs.PrefixList.{list_of}
 use Rattle.pmap_cert.specs.FormatReading.{format_reading}
-use Rattle.pmap_text.specs.Reading.{list_reading, map_reading}
+use Rattle.pmap_text.specs.Reading.{list_reading}
 use Rattle.flowlabel.specs.declared.run.labels.LabelsRead.{LabelsRead}
 use Rattle.flowlabel.specs.Reports.{AreLabels, AreLabelsOf, IsMade, IsMadeOf, IsReadOf, IsWhole, ReadsLabels, ReportsThen, TakesFile, labelling_found, labelling_read}
 use Rattle.flowlabel.specs.declared.command.LabelFile.{LabelFile}

@@ -1,4 +1,4 @@
-use Rattle.std.specs.Prelude.{◌≡◌, ℕ, List, [], ◌∷◌, ◌++◌, Bool, true, false, Option, Some, None, Result, Ok, Err, map, option_map, unwrap_or, codes, decimal, length}
+use Rattle.std.specs.Prelude.{◌≡◌, ℕ, List, [], ◌∷◌, ◌++◌, true, false, Option, Some, None, Result, Ok, Err, map, option_map, unwrap_or, codes, decimal, length}
 use Rattle.std.specs.Global.{Vec}
 use Rattle.prefix_keys.specs.Text.{AddressOf}
 use Rattle.pmap_text.specs.ListModel.{ListModel}
@@ -15,8 +15,7 @@ use Rattle.ipfix_read.specs.Messages.{file_reading}
 use Rattle.ipfix_read.specs.Message.{MessageView}
 use Rattle.flow_rows.specs.Counts.{counts_of, rows_of_messages}
 use Rattle.flow_rows.specs.Elements.{RowView}
-use Rattle.flow_filter.specs.Condition.{Condition, passing}
-use Rattle.flow_uniq.specs.declared.field.KeyField.{KeyField}
+use Rattle.flow_filter.specs.Condition.{passing}
 use Rattle.flow_uniq.specs.Groups.{groups_of, shown_groups}
 use Rattle.pmap_print.specs.Reports.{groups_text, info_text, LabelTexts, row_lines}
 use Rattle.pmap_print.specs.List.{list_text}

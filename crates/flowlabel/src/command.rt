@@ -140,10 +140,8 @@ impl<'a> Command<'a> {
                 flows: None,
             },
             Command::Recert { certificate } => ByFile {
-                map: None,
-                list: None,
                 certificate: Some(certificate),
-                flows: None,
+                ..files_named(None, None)
             },
         }
     }

@@ -13,19 +13,10 @@ pub struct Source<'a, R> {
 }
 
 /// The files that a command reads, and how labels and groups are hashed. What is written doesn't depend on the hashing.
+#[derive(Drop)]
 pub struct Inputs<'a, R> {
     pub files: ByFile<Option<Source<'a, R>>>,
     pub hashing: KeyHashing,
-}
-
-// A drop is one call, so the proofs of functions that drop this type have one step instead of one for each part.
-impl<R: Drop> Drop for Inputs<'_, R> {
-    fn drop(self) {
-        let Inputs {
-            files: _,
-            hashing: _,
-        } = self;
-    }
 }
 
 // Returns the name of a file, which is empty if the file isn't there.

@@ -63,17 +63,14 @@ fn output<R: Input>(
             alloc, keys, *labels, files, filter, *sorted, *columns, hashing,
         ),
         Command::Cat { labels } => {
-            let text = read(alloc, labels.role(), files)?;
-            cat::output(alloc, *labels, text, hashing)
+            cat::output(alloc, *labels, read(alloc, labels.role(), files)?, hashing)
         }
         Command::Shrink { printed, .. } => {
-            let map = read(alloc, Role::Map, files)?;
-            shrink::output(alloc, map, *printed, hashing)
+            shrink::output(alloc, read(alloc, Role::Map, files)?, *printed, hashing)
         }
         Command::Check { .. } => check::output(alloc, files, hashing),
         Command::Recert { .. } => {
-            let certificate = read(alloc, Role::Certificate, files)?;
-            recert::output(alloc, certificate, hashing)
+            recert::output(alloc, read(alloc, Role::Certificate, files)?, hashing)
         }
     }
 }

@@ -1,5 +1,5 @@
 //! Reads a file whole, and decodes a text. A text is given away once it is decoded.
-ghost use Rattle.std.specs.Prelude.{◌≡◌, Err, IfErr, IfOk, Ok, false};
+ghost use Rattle.std.specs.Prelude.{◌≡◌, Err, Ok, false};
 ghost use Rattle.pmap_text.specs.MapText.{map_of};
 ghost use Rattle.pmap_text.specs.PrefixList.{list_of};
 ghost use Rattle.pmap_text.specs.Reading.{list_reading, map_reading};

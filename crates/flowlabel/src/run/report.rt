@@ -9,6 +9,7 @@ use crate::bytes_fault::BytesFault;
 use crate::inputs::Source;
 use crate::output_fault::OutputFault;
 use flow_io::Input;
+use flow_rows::{TakesRows, give_rows};
 use ipfix_read::{Buffer, Message, Progress, ReadFault, ReadFaultKind};
 use std::alloc::{AllocError, Global};
 
@@ -25,6 +26,19 @@ pub trait Report {
         requires { (messages : List MessageView) × (length messages < 4294967295) × is_of self.now messages taken.old }
         ensures { (messages : List MessageView) → length messages < 4294967295 → is_of self.now messages taken.old
             → OnOk result (is_of self.now (messages ++ message.now ∷ []) taken.new) };
+}
+
+// What takes rows takes those of each message.
+impl<P: TakesRows> Report for P {
+    ghost use Rattle.flowlabel.specs.Reports.{IsAfter};
+
+    type Taken = P::Taken;
+
+    ghost is_of = { λ report. IsAfter (P.has_taken report) };
+
+    fn take(&self, taken: &mut P::Taken, message: &Message<'_>) -> Result<(), AllocError> {
+        give_rows(message, self, taken)
+    }
 }
 
 // Returns the fault of a command for that of a call for a message.

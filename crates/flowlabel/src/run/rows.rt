@@ -11,11 +11,10 @@ use crate::command::LabelFile;
 use crate::inputs::Source;
 use crate::output_fault::OutputFault;
 use crate::run::labels::LabelsRead;
-use crate::run::report::{Report, take_messages};
+use crate::run::report::take_messages;
 use flow_filter::Filter;
 use flow_io::Input;
-use flow_rows::{Row, TakesRows, give_rows};
-use ipfix_read::Message;
+use flow_rows::{Row, TakesRows};
 use label_lookup::{StretchIndex, label_row};
 use pmap_print::{RowLabels, Table};
 use pmap_text::KeyHashing;
@@ -41,18 +40,6 @@ impl<'a> TakesRows for RowsReport<'a> {
             return Ok(());
         }
         table.add_row(row, labels_under(self.labels, row))
-    }
-}
-
-impl<'a> Report for RowsReport<'a> {
-    ghost use Rattle.flowlabel.specs.Reports.{HasRows, IsAfter, labelling_found};
-
-    type Taken = Table;
-
-    ghost is_of = { λ report. IsAfter (HasRows report.filter.now report.columns (labelling_found report.labels)) };
-
-    fn take(&self, table: &mut Table, message: &Message<'_>) -> Result<(), AllocError> {
-        give_rows(message, self, table)
     }
 }
 

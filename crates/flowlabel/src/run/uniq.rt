@@ -10,12 +10,11 @@ use crate::command::LabelFile;
 use crate::inputs::Source;
 use crate::output_fault::OutputFault;
 use crate::run::labels::LabelsRead;
-use crate::run::report::{Report, take_messages};
+use crate::run::report::take_messages;
 use flow_filter::Filter;
 use flow_io::Input;
-use flow_rows::{Row, TakesRows, give_rows};
+use flow_rows::{Row, TakesRows};
 use flow_uniq::{Groups, Keys};
-use ipfix_read::Message;
 use label_lookup::StretchIndex;
 use pmap_print::print_groups;
 use pmap_text::KeyHashing;
@@ -41,18 +40,6 @@ impl<'a> TakesRows for UniqReport<'a> {
             return Ok(());
         }
         groups.add(row, self.labels)
-    }
-}
-
-impl<'a> Report for UniqReport<'a> {
-    ghost use Rattle.flowlabel.specs.Reports.{HasGroups, IsAfter, labelling_found};
-
-    type Taken = Groups;
-
-    ghost is_of = { λ report. IsAfter (HasGroups report.keys.now report.filter.now (labelling_found report.labels)) };
-
-    fn take(&self, groups: &mut Groups, message: &Message<'_>) -> Result<(), AllocError> {
-        give_rows(message, self, groups)
     }
 }
 

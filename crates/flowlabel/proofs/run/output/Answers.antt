@@ -24,43 +24,43 @@ returns-in_ok-text-in-Label g c =
     (λ texts fault. labels_first (λ l. Prints (label_text address l)) labels texts fault (λ l is. cc)) (rw c.role.ensures at c.in_ok-text-in-Label.ensures)
     (of_source (λ source flows. Returns (IsOutput (label source address)) c.output.result) labels _ (texts_of g.R.Input.bytes_left c.read.new.files) c.output.ensures))
 
-pub returns-in_err-text-in-Cat : goal.returns-in_err-text-in-Cat
-returns-in_err-text-in-Cat g c =
+pub returns-in_err-read-in-Cat : goal.returns-in_err-read-in-Cat
+returns-in_err-read-in-Cat g c =
     let labels = c.in-Cat.labels in
     rw c.in-Cat.is
-    (unread_made c.requires _ (role_in labels) c.from_residual-in_err-text-in-Cat.result c.from_residual-in_err-text-in-Cat.ensures.1 (early labels)
-    (λ texts fault. labels_first PrintsRuns labels texts fault (λ l (out, runs, is). cc)) (rw c.role-in-Cat.ensures at c.in_err-text-in-Cat.ensures))
+    (unread_made c.requires _ (role_in labels) c.from_residual-in_err-read-in-Cat.result c.from_residual-in_err-read-in-Cat.ensures.1 (early labels)
+    (λ texts fault. labels_first PrintsRuns labels texts fault (λ l (out, runs, is). cc)) (rw c.role-in-Cat.ensures at c.in_err-read-in-Cat.ensures))
 
-pub returns-in_ok-text-in-Cat : goal.returns-in_ok-text-in-Cat
-returns-in_ok-text-in-Cat g c =
+pub returns-in_ok-read-in-Cat : goal.returns-in_ok-read-in-Cat
+returns-in_ok-read-in-Cat g c =
     let labels = c.in-Cat.labels in
     rw c.in-Cat.is
     (whole_made c.requires _ (role_in labels) c.output-in-Cat.result
-    (λ texts fault. labels_first PrintsRuns labels texts fault (λ l (out, runs, is). cc)) (rw c.role-in-Cat.ensures at c.in_ok-text-in-Cat.ensures)
+    (λ texts fault. labels_first PrintsRuns labels texts fault (λ l (out, runs, is). cc)) (rw c.role-in-Cat.ensures at c.in_ok-read-in-Cat.ensures)
     (of_source (λ source flows. Returns (IsOutput (cat source)) c.output-in-Cat.result) labels _ (texts_of g.R.Input.bytes_left c.read-in-Cat.new.files) c.output-in-Cat.ensures))
 
-pub returns-in_err-map-in-Shrink : goal.returns-in_err-map-in-Shrink
-returns-in_err-map-in-Shrink g c =
+pub returns-in_err-read-in-Shrink : goal.returns-in_err-read-in-Shrink
+returns-in_err-read-in-Shrink g c =
     rw c.in-Shrink.is
-    (unread_made c.requires _ role.Map c.from_residual-in_err-map-in-Shrink.result c.from_residual-in_err-map-in-Shrink.ensures.1 (omega arith)
-    (λ texts fault is. omega arith) c.in_err-map-in-Shrink.ensures)
+    (unread_made c.requires _ role.Map c.from_residual-in_err-read-in-Shrink.result c.from_residual-in_err-read-in-Shrink.ensures.1 (omega arith)
+    (λ texts fault is. omega arith) c.in_err-read-in-Shrink.ensures)
 
-pub returns-in_ok-map-in-Shrink : goal.returns-in_ok-map-in-Shrink
-returns-in_ok-map-in-Shrink g c =
+pub returns-in_ok-read-in-Shrink : goal.returns-in_ok-read-in-Shrink
+returns-in_ok-read-in-Shrink g c =
     rw c.in-Shrink.is
-    (whole_made c.requires _ role.Map c.output-in-Shrink.result (λ texts fault is. omega arith) c.in_ok-map-in-Shrink.ensures c.output-in-Shrink.ensures)
+    (whole_made c.requires _ role.Map c.output-in-Shrink.result (λ texts fault is. omega arith) c.in_ok-read-in-Shrink.ensures c.output-in-Shrink.ensures)
 
-pub returns-in_err-certificate-in-Recert : goal.returns-in_err-certificate-in-Recert
-returns-in_err-certificate-in-Recert g c =
+pub returns-in_err-read-in-Recert : goal.returns-in_err-read-in-Recert
+returns-in_err-read-in-Recert g c =
     rw c.in-Recert.is
-    (unread_made c.requires _ role.Certificate c.from_residual-in_err-certificate-in-Recert.result c.from_residual-in_err-certificate-in-Recert.ensures.1 (omega arith)
-    (λ texts fault. certificate_first texts.certificate fault) c.in_err-certificate-in-Recert.ensures)
+    (unread_made c.requires _ role.Certificate c.from_residual-in_err-read-in-Recert.result c.from_residual-in_err-read-in-Recert.ensures.1 (omega arith)
+    (λ texts fault. certificate_first texts.certificate fault) c.in_err-read-in-Recert.ensures)
 
-pub returns-in_ok-certificate-in-Recert : goal.returns-in_ok-certificate-in-Recert
-returns-in_ok-certificate-in-Recert g c =
+pub returns-in_ok-read-in-Recert : goal.returns-in_ok-read-in-Recert
+returns-in_ok-read-in-Recert g c =
     rw c.in-Recert.is
     (whole_made c.requires _ role.Certificate c.output-in-Recert.result (λ texts fault. certificate_first texts.certificate fault)
-    c.in_ok-certificate-in-Recert.ensures c.output-in-Recert.ensures)
+    c.in_ok-read-in-Recert.ensures c.output-in-Recert.ensures)
 
 pub returns-in-Rows : goal.returns-in-Rows
 returns-in-Rows g c = rw c.in-Rows.is c.output-in-Rows.ensures

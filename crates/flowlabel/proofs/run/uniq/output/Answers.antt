@@ -1,4 +1,4 @@
-use Rattle.std.proofs.Common.{◌≡◌, ◌∙◌, [], Option, ap, arith, false}
+use Rattle.std.proofs.Common.{◌≡◌, ◌∙◌, Option, ap, arith, false}
 use Rattle.std.specs.Prelude.{option_map}
 use Rattle.flow_filter.specs.Condition.{Condition}
 use Rattle.flow_uniq.specs.Groups.{record_count, shown_groups}

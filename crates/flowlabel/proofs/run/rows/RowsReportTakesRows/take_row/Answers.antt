@@ -1,6 +1,5 @@
 use Rattle.std.proofs.Common.{◌≡◌, ◌∙◌, ◌++◌, ◌∷◌, [], Bool, true, List, Option, ap, is_some, option_map, rules, subst, sym}
 use Rattle.std.proofs.lemmas.Result.{IfOk-weaker}
-use Rattle.flow_rows.specs.Elements.{RowView}
 use Rattle.flow_filter.specs.Condition.{Condition, passing, row_passes}
 use Rattle.label_lookup.specs.Labelling.{Labelling, label_where}
 use Rattle.pmap_print.specs.Reports.{column_count, label_texts, row_line}

@@ -1,9 +1,9 @@
-use Rattle.std.proofs.Common.{◌≡◌, ◌∙◌, ◌+◌, ◌++◌, ◌∷◌, [], List, Option, Result, Ok, Err, OnOk, true, ap, arith, length, length-append, rules, sym}
+use Rattle.std.proofs.Common.{◌≡◌, ◌∙◌, ◌+◌, ◌++◌, ◌∷◌, [], List, Option, Result, Ok, Err, OnOk, true, ap, arith, length-append, rules, sym}
 use Rattle.std.proofs.lemmas.List.{map-append}
 use Rattle.std.proofs.lemmas.Result.{IfOk-weaker}
 use Rattle.flow_rows.specs.Elements.{RowView}
 use Rattle.flow_filter.specs.Condition.{Condition, passing, row_passes}
-use Rattle.flow_uniq.specs.Groups.{KeyedRow, groups_of, groups_of_keyed}
+use Rattle.flow_uniq.specs.Groups.{groups_of, groups_of_keyed}
 use Rattle.flow_uniq.proofs.Grouping.{keyed}
 use Rattle.flow_uniq.specs.Key.{key_of}
 use Rattle.flow_uniq.specs.declared.field.KeyField.{KeyField}
