@@ -3,7 +3,6 @@ pub mod Lookup
 pub mod Divided
 pub mod Encoded
 pub mod Places
-pub mod Path
 pub mod Grown
 pub mod Built
 pub mod SeenLeaves

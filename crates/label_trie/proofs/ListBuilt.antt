@@ -19,8 +19,8 @@ use Rattle.pmap_text.specs.declared.entry.Entry.{Entry}
 use Rattle.pmap_text.specs.declared.prefix_list.PrefixList.{PrefixList}
 use Rattle.pmap_text.specs.declared.statement.Statement.{Statement}
 use Rattle.label_trie.specs.Inner.{tree_of, Node}
-use Rattle.label_trie.specs.Tree.{Tree, Tip, Fork, Fits, HasRoom, leaf_count, leaves_of}
-use Rattle.label_trie.specs.TrieModel.{IsDecidedLeaf, label_among}
+use Rattle.label_trie.specs.Tree.{Tree, Tip, Fork, Fits, leaf_count, leaves_of}
+use Rattle.label_trie.specs.TrieModel.{IsCut, IsDecidedLeaf, label_among}
 use Rattle.label_trie.proofs.Built.{IsGrown}
 use Rattle.pmap_text.proofs.Blocks.{address-between, address-first, address-last, block_number-first_of, block_number-half, block_number-shorter}
 use Rattle.pmap_text.proofs.Ends.{halves-most}
@@ -165,14 +165,14 @@ list_decided l root all =
     All-weaker (IsSeenLeaf (width_of l.version) l.labels (map (prefix_of l.labels) l.entries)) (IsDecidedLeaf (list_of l))
     (λ leaf f. leaf_decided (list_of l) leaf (list_blocks l) f) (leaves_of root 0 0) all
 
-pub list_labels : (l : PrefixList) (root : Tree) (a : ℕ) → HasRoom root (width_of l.version)
+pub list_labels : (l : PrefixList) (root : Tree) (a : ℕ) → IsCut (width_of l.version) 0 (2 ^ width_of l.version) (leaves_of root 0 0)
     → All (IsSeenLeaf (width_of l.version) l.labels (map (prefix_of l.labels) l.entries)) (leaves_of root 0 0)
     → a < 2 ^ width_of l.version
     → option_and_then (slice_get l.labels) (label_among (width_of l.version) (leaves_of root 0 0) a) ≡ list_label (list_of l) a
-list_labels l root a room all below =
+list_labels l root a cut all below =
     let W = width_of l.version in
     let ps = map (prefix_of l.labels) l.entries in
-    let here = leaf_with W (IsSeenLeaf W l.labels ps) root a room below all in
+    let here = leaf_with W (IsSeenLeaf W l.labels ps) (leaves_of root 0 0) a cut below all in
     let leaf = here.0 in
     rw here.3 (sym (label_seen W l.labels ps leaf.bits leaf.number a (suc W) leaf.label (list_blocks l) here.2
     (λ bits _ fits. omega (arith, fits)) here.1))

@@ -1,129 +1,163 @@
 -- The label of an address among the leaves of a node.
-use Rattle.std.proofs.Common.{◌≡◌, ℕ, suc, All, ◌+◌, ◌-◌, ◌*◌, ◌/◌, ◌%◌, ◌^◌, ◌<◌, ◌≤◌, inl, inr, ◌++◌, Option, Some, None, option_and_then, option_map, refl, sym, ◌∙◌, ap, arith, find, slice_get}
-use Rattle.std.specs.Option.{option_or}
-use Rattle.std.proofs.lemmas.Bool.{cases_eq, eq-eqb, eqb-true, ne_eqb}
+use Rattle.std.proofs.Common.{◌≡◌, ℕ, suc, All, ◌+◌, ◌-◌, ◌^◌, ◌<◌, ◌≤◌, inl, inr, List, [], ◌∷◌, ◌++◌, false, Some, None, option_and_then, refl, subst, sym, ◌∙◌, ap, arith, find, slice_get}
+use Rattle.std.proofs.lemmas.Bool.{cases_lt, eq-eqb, eqb-true, ne_eqb}
 use Rattle.std.proofs.lemmas.List.Elements.{All-contains}
 use Rattle.std.proofs.lemmas.List.Folds.{find-append}
-use Rattle.std.proofs.lemmas.Nat.{pow_pos, shr-shr, div_below}
-use Rattle.prefix_keys.specs.Block.{block_number, width_of}
+use Rattle.std.proofs.lemmas.Nat.{pow_pos}
+use Rattle.prefix_keys.specs.Covers.{BlockCovers}
+use Rattle.prefix_keys.specs.declared.addr.Addr.{Addr}
+use Rattle.prefix_keys.specs.declared.block.Block.{Block}
+use Rattle.prefix_keys.specs.declared.version.Version.{Version}
+use Rattle.prefix_keys.specs.Block.{block_number, first_of, last_of, width_of}
 use Rattle.pmap_text.specs.MapModel.{MapModel, map_label}
 use Rattle.pmap_text.specs.MapText.{text_at}
-use Rattle.label_trie.specs.TrieModel.{LeafModel, IsSettledLeaf, has_address, label_among}
-use Rattle.label_trie.specs.Tree.{Tree, Tip, Fork, leaves_of, HasRoom}
+use Rattle.label_trie.specs.TrieModel.{CursorModel, LeafModel, TrieModel, number_of, IsCut, IsSettledLeaf, has_address, label_among, label_in}
+use Rattle.label_trie.specs.Parts.{IsDivided}
+use Rattle.pmap_text.proofs.Blocks.{address-between, address-first, address-last, block_number-halves}
 use Rattle.pmap_text.proofs.Finds.{find_passes}
 use Rattle.pmap_text.proofs.Orders.{known_text}
 use Rattle.pmap_text.proofs.Settled.{map_label-settled}
 
--- an address is in the half whose number, halved, is that of its block
-outer_block : (W n a : ℕ) → n < W → block_number W n a ≡ block_number W (suc n) a / 2
-outer_block W n a below =
-    let more : W - n ≡ (W - suc n) + 1 = omega arith in
-    rw more (sym (shr-shr a (W - suc n) 1))
+-- leaves that cut addresses end no earlier than they begin
+cut_ordered : (W from to : ℕ) (leaves : List LeafModel) → IsCut W from to leaves → from ≤ to
+cut_ordered W from to [] cut = omega (arith, cut)
+cut_ordered W from to (leaf ∷ leaves) cut =
+    let positive = pow_pos (W - leaf.bits) in
+    let rest = cut_ordered W (last_of W leaf.bits leaf.number + 1) to leaves cut.2 in
+    let begins = cut.1 in
+    omega arith
 
-or_none : (o : Option LeafModel) → option_or o None ≡ o
-or_none None = refl
-or_none (Some leaf) = refl
+-- a leaf that ends before an address doesn't have it
+ends_before : (W a : ℕ) (leaf : LeafModel) → last_of W leaf.bits leaf.number < a → has_address W a leaf ≡ false
+ends_before W a leaf less =
+    ne_eqb leaf.number (block_number W leaf.bits a) (λ same. omega (arith, less, address-last W leaf.bits leaf.number a (sym same)))
 
--- no leaf of a block has an address outside it
-found_outside : (W : ℕ) (node : Tree) (n q h a : ℕ) → h + n ≡ W → HasRoom node h → (q ≡ block_number W n a → ⊥)
-    → find (has_address W a) (leaves_of node n q) ≡ None
-found_outside W (Tip label) n q h a e room outside = rw (ne_eqb q (block_number W n a) outside)
-found_outside W (Fork low high) n q h a e room outside =
-    let outer = outer_block W n a (omega (arith, room.0)) in
-    find-append (has_address W a) (leaves_of low (suc n) (2 * q)) (leaves_of high (suc n) (2 * q + 1))
-    ∙ rw (found_outside W low (suc n) (2 * q) (h - 1) a (omega (arith, room.0)) room.1 (λ same. outside (omega (arith, outer, same))))
-    (found_outside W high (suc n) (2 * q + 1) (h - 1) a (omega (arith, room.0)) room.2 (λ same. outside (omega (arith, outer, same))))
+-- no leaf has an address after the last leaf
+cut_behind : (W from to a : ℕ) (leaves : List LeafModel) → IsCut W from to leaves → to ≤ a → find (has_address W a) leaves ≡ None
+cut_behind W from to a [] cut behind = refl
+cut_behind W from to a (leaf ∷ leaves) cut behind =
+    let next : ℕ = last_of W leaf.bits leaf.number + 1 in
+    rw (ends_before W a leaf (omega (arith, behind, cut_ordered W next to leaves cut.2))) (cut_behind W next to a leaves cut.2 behind)
 
--- among the leaves of both halves, an address is found among those of its half
-found_low : (W : ℕ) (low high : Tree) (n q h a : ℕ) → h + n ≡ W → 0 < h → HasRoom high (h - 1) → 2 * q ≡ block_number W (suc n) a
-    → find (has_address W a) (leaves_of low (suc n) (2 * q) ++ leaves_of high (suc n) (2 * q + 1))
-    ≡ find (has_address W a) (leaves_of low (suc n) (2 * q))
-found_low W low high n q h a e positive room inside =
-    let none = found_outside W high (suc n) (2 * q + 1) (h - 1) a (omega arith) room (λ same. omega (arith, inside, same)) in
-    rw (find-append (has_address W a) (leaves_of low (suc n) (2 * q)) (leaves_of high (suc n) (2 * q + 1)), none)
-    (or_none (find (has_address W a) (leaves_of low (suc n) (2 * q))))
-
-found_high : (W : ℕ) (low high : Tree) (n q h a : ℕ) → h + n ≡ W → 0 < h → HasRoom low (h - 1) → 2 * q + 1 ≡ block_number W (suc n) a
-    → find (has_address W a) (leaves_of low (suc n) (2 * q) ++ leaves_of high (suc n) (2 * q + 1))
-    ≡ find (has_address W a) (leaves_of high (suc n) (2 * q + 1))
-found_high W low high n q h a e positive room inside =
-    let none = found_outside W low (suc n) (2 * q) (h - 1) a (omega arith) room (λ same. omega (arith, inside, same)) in
-    rw (find-append (has_address W a) (leaves_of low (suc n) (2 * q)) (leaves_of high (suc n) (2 * q + 1)), none)
-
--- so it has the label that it has among those
-pub label_among_low : (W : ℕ) (low high : Tree) (n q h a : ℕ) → h + n ≡ W → 0 < h → HasRoom high (h - 1) → 2 * q ≡ block_number W (suc n) a
-    → label_among W (leaves_of low (suc n) (2 * q) ++ leaves_of high (suc n) (2 * q + 1)) a ≡ label_among W (leaves_of low (suc n) (2 * q)) a
-label_among_low W low high n q h a e positive room inside =
-    ap (option_and_then (λ leaf. leaf.label)) (found_low W low high n q h a e positive room inside)
-
-pub label_among_high : (W : ℕ) (low high : Tree) (n q h a : ℕ) → h + n ≡ W → 0 < h → HasRoom low (h - 1) → 2 * q + 1 ≡ block_number W (suc n) a
-    → label_among W (leaves_of low (suc n) (2 * q) ++ leaves_of high (suc n) (2 * q + 1)) a ≡ label_among W (leaves_of high (suc n) (2 * q + 1)) a
-label_among_high W low high n q h a e positive room inside =
-    ap (option_and_then (λ leaf. leaf.label)) (found_high W low high n q h a e positive room inside)
-
--- the labels of a half, by the host bits of the node, one more than those of the half
-pub label_below_low : (W : ℕ) (low high : Tree) (h a : ℕ) → h ≤ W → 0 < h → HasRoom high (h - 1) → a / 2 ^ (h - 1) % 2 ≡ 0
-    → label_among W (leaves_of low (W - (h - 1)) (a / 2 ^ (h - 1))) a
-    ≡ label_among W (leaves_of low (suc (W - h)) (2 * (a / 2 ^ h)) ++ leaves_of high (suc (W - h)) (2 * (a / 2 ^ h) + 1)) a
-label_below_low W low high h a within positive room even =
-    let rest : W - suc (W - h) ≡ h - 1 = omega arith in
-    let most : h ≡ (h - 1) + 1 = omega arith in
-    let outer : a / 2 ^ h ≡ a / 2 ^ (h - 1) / 2 = sym (shr-shr a (h - 1) 1 ∙ ap (λ (k : ℕ). a / 2 ^ k) (sym most)) in
-    let here : a / 2 ^ (h - 1) ≡ 2 * (a / 2 ^ h) = omega (arith, outer, even) in
-    let inside : 2 * (a / 2 ^ h) ≡ block_number W (suc (W - h)) a = rw rest (sym here) in
-    let bits : W - (h - 1) ≡ suc (W - h) = omega arith in
-    rw (bits, here) (sym (label_among_low W low high (W - h) (a / 2 ^ h) h a (omega arith) positive room inside))
-
-pub label_below_high : (W : ℕ) (low high : Tree) (h a : ℕ) → h ≤ W → 0 < h → HasRoom low (h - 1) → (a / 2 ^ (h - 1) % 2 ≡ 0 → ⊥)
-    → label_among W (leaves_of high (W - (h - 1)) (a / 2 ^ (h - 1))) a
-    ≡ label_among W (leaves_of low (suc (W - h)) (2 * (a / 2 ^ h)) ++ leaves_of high (suc (W - h)) (2 * (a / 2 ^ h) + 1)) a
-label_below_high W low high h a within positive room odd =
-    let rest : W - suc (W - h) ≡ h - 1 = omega arith in
-    let most : h ≡ (h - 1) + 1 = omega arith in
-    let outer : a / 2 ^ h ≡ a / 2 ^ (h - 1) / 2 = sym (shr-shr a (h - 1) 1 ∙ ap (λ (k : ℕ). a / 2 ^ k) (sym most)) in
-    let here : a / 2 ^ (h - 1) ≡ 2 * (a / 2 ^ h) + 1 = omega (arith, outer, odd) in
-    let inside : 2 * (a / 2 ^ h) + 1 ≡ block_number W (suc (W - h)) a = rw rest (sym here) in
-    let bits : W - (h - 1) ≡ suc (W - h) = omega arith in
-    rw (bits, here) (sym (label_among_high W low high (W - h) (a / 2 ^ h) h a (omega arith) positive room inside))
-
--- each address of the block is in a leaf
-pub leaf_found : (W : ℕ) (node : Tree) (n q h a : ℕ) → h + n ≡ W → HasRoom node h → q ≡ block_number W n a
-    → (leaf : LeafModel) × (find (has_address W a) (leaves_of node n q) ≡ Some leaf)
-leaf_found W (Tip label) n q h a e room inside =
-    (record { bits = n; number = q; label = option_map (λ id. id.0) label }, rw (eq-eqb q (block_number W n a) inside))
-leaf_found W (Fork low high) n q h a e room inside =
-    let outer = outer_block W n a (omega (arith, room.0)) in
-    elim (cases_eq (2 * q) (block_number W (suc n) a)) [
-      | inl side ↦
-          let below = leaf_found W low (suc n) (2 * q) (h - 1) a (omega (arith, room.0)) room.1 side in
-          (below.0, found_low W low high n q h a e room.0 room.2 side ∙ below.1)
-      | inr other ↦
-          let side : 2 * q + 1 ≡ block_number W (suc n) a = omega (arith, outer, inside, other) in
-          let below = leaf_found W high (suc n) (2 * q + 1) (h - 1) a (omega (arith, room.0)) room.2 side in
-          (below.0, found_high W low high n q h a e room.0 room.1 side ∙ below.1)
+-- each other address is in a leaf
+cut_found : (W from to a : ℕ) (leaves : List LeafModel) → IsCut W from to leaves → from ≤ a → a < to
+    → (leaf : LeafModel) × (find (has_address W a) leaves ≡ Some leaf)
+cut_found W from to a [] cut ge lt = absurd (omega (arith, cut, ge, lt))
+cut_found W from to a (leaf ∷ leaves) cut ge lt =
+    elim (cases_lt (last_of W leaf.bits leaf.number) a) [
+      | inl behind ↦
+          let rest = cut_found W (last_of W leaf.bits leaf.number + 1) to a leaves cut.2 (omega (arith, behind)) lt in
+          (rest.0, rw (ends_before W a leaf behind) rest.1)
+      | inr within ↦
+          let here = address-between W leaf.bits leaf.number a (omega (arith, cut.1, ge)) within in
+          (leaf, rw (eq-eqb leaf.number (block_number W leaf.bits a) (sym here)))
     ]
 
+-- an address has the label that it has among the leaves of its half
+label_low : (W from to a : ℕ) (low high : List LeafModel) → IsCut W from to low → from ≤ a → a < to → label_among W (low ++ high) a ≡ label_among W low a
+label_low W from to a low high cut ge lt =
+    let found = cut_found W from to a low cut ge lt in
+    let first : find (has_address W a) (low ++ high) ≡ find (has_address W a) low = find-append (has_address W a) low high ∙ rw found.1 refl in
+    ap (option_and_then (λ leaf. leaf.label)) first
+
+label_high : (W from to a : ℕ) (low high : List LeafModel) → IsCut W from to low → to ≤ a → label_among W (low ++ high) a ≡ label_among W high a
+label_high W from to a low high cut behind =
+    let later : find (has_address W a) (low ++ high) ≡ find (has_address W a) high =
+    find-append (has_address W a) low high ∙ rw (cut_behind W from to a low cut behind) refl in
+    ap (option_and_then (λ leaf. leaf.label)) later
+
+-- the half that has the address, and the address's label there
+low_label : (W a : ℕ) (place low high : CursorModel) → IsDivided place low high
+    → IsCut W (first_of W low.block.len (number_of low.block)) (last_of W low.block.len (number_of low.block) + 1) low.leaves
+    → block_number W low.block.len a ≡ number_of low.block → label_among W low.leaves a ≡ label_among W place.leaves a
+low_label W a place low high halves cut inside =
+    let from = address-first W low.block.len (number_of low.block) a inside in
+    let to = address-last W low.block.len (number_of low.block) a inside in
+    sym (ap (λ leaves. label_among W leaves a) halves.leaves ∙ label_low W _ _ a low.leaves high.leaves cut from (omega (arith, to)))
+
+high_number : (W a : ℕ) (place low high : CursorModel) → IsDivided place low high → low.block.len ≤ W
+    → block_number W place.block.len a ≡ number_of place.block → (block_number W low.block.len a ≡ number_of low.block → ⊥)
+    → block_number W high.block.len a ≡ number_of high.block
+high_number W a place low high halves short inside outside =
+    let low_len : suc place.block.len ≡ low.block.len = omega (arith, halves.low_half.len) in
+    let high_len : suc place.block.len ≡ high.block.len = omega (arith, halves.high_half.len) in
+    elim (block_number-halves W place.block.len (number_of place.block) a (omega (arith, short, low_len)) inside) [
+      | inl lower ↦ absurd (outside (omega (arith, ap (λ n. block_number W n a) low_len, lower, halves.low_half.number)))
+      | inr upper ↦ omega (arith, ap (λ n. block_number W n a) high_len, upper, halves.high_half.number)
+    ]
+
+high_label : (W a : ℕ) (place low high : CursorModel) → IsDivided place low high
+    → IsCut W (first_of W low.block.len (number_of low.block)) (last_of W low.block.len (number_of low.block) + 1) low.leaves
+    → block_number W high.block.len a ≡ number_of high.block → label_among W high.leaves a ≡ label_among W place.leaves a
+high_label W a place low high halves cut inside =
+    let len : high.block.len ≡ low.block.len = omega (arith, halves.low_half.len, halves.high_half.len) in
+    let next : block_number W low.block.len a ≡ number_of low.block + 1 =
+    omega (arith, ap (λ n. block_number W n a) len, inside, halves.low_half.number, halves.high_half.number) in
+    let positive = pow_pos (W - low.block.len) in
+    let from = address-first W low.block.len (number_of low.block + 1) a next in
+    sym (ap (λ leaves. label_among W leaves a) halves.leaves ∙ label_high W _ _ a low.leaves high.leaves cut (omega arith))
+
+-- the address is in the cursor's block, and has the same label among the leaves there as among all
+pub record IsOnPath (t : TrieModel) (a : ℕ) (c : CursorModel) : Type 0 where
+  pub version : c.block.version ≡ t.version
+  pub inside : block_number (width_of t.version) c.block.len a ≡ number_of c.block
+  pub label : label_among (width_of t.version) c.leaves a ≡ label_in t a
+
+abbrev pub HasCut : Block → List LeafModel → Type 0
+HasCut b leaves =
+    IsCut (width_of b.version) (first_of (width_of b.version) b.len (number_of b)) (last_of (width_of b.version) b.len (number_of b) + 1) leaves
+
+module _ (t : TrieModel) (addr : Addr) (place low high : CursorModel) (path : IsOnPath t addr.value place) (halves : IsDivided place low high) (cut : HasCut low.block low.leaves) where
+  abbrev at : Version → ℕ → ℕ
+  at v n = block_number (width_of v) n addr.value
+
+  low_version : low.block.version ≡ t.version
+  low_version = halves.low_half.version ∙ path.version
+
+  low_cut : IsCut (width_of t.version) (first_of (width_of t.version) low.block.len (number_of low.block)) (last_of (width_of t.version) low.block.len (number_of low.block) + 1) low.leaves
+  low_cut = let q = number_of low.block in
+      subst (λ (v : Version). IsCut (width_of v) (first_of (width_of v) low.block.len q) (last_of (width_of v) low.block.len q + 1) low.leaves) low_version cut
+
+  pub path_low : BlockCovers low.block addr → IsOnPath t addr.value low
+  path_low covers =
+      let inside = sym (ap (λ (v : Version). at v low.block.len) low_version) ∙ covers.1 in
+      record {
+        version = low_version;
+        inside = inside;
+        label = low_label (width_of t.version) addr.value place low high halves low_cut inside ∙ path.label;
+      }
+
+  pub path_high : addr.version ≡ t.version → (BlockCovers low.block addr → ⊥) → IsOnPath t addr.value high
+  path_high own outside =
+      let short = subst (λ (v : Version). low.block.len ≤ width_of v) low_version low.block.len_in_range in
+      let not_low = λ (same : at t.version low.block.len ≡ number_of low.block).
+      outside (low_version ∙ sym own, ap (λ (v : Version). at v low.block.len) low_version ∙ same) in
+      let inside = high_number (width_of t.version) addr.value place low high halves short path.inside not_low in
+      record {
+        version = halves.high_half.version ∙ path.version;
+        inside = inside;
+        label = high_label (width_of t.version) addr.value place low high halves low_cut inside ∙ path.label;
+      }
+
 -- what is true of each leaf is true of the leaf that has the address
-pub leaf_with : (W : ℕ) (P : LeafModel → Type 0) (node : Tree) (a : ℕ) → HasRoom node W → a < 2 ^ W → All P (leaves_of node 0 0)
-    → (leaf : LeafModel) × P leaf × (leaf.number ≡ block_number W leaf.bits a) × (label_among W (leaves_of node 0 0) a ≡ leaf.label)
-leaf_with W P node a room below all =
-    let whole : W - 0 ≡ W = omega arith in
-    let first : a / 2 ^ W < 1 = div_below a (2 ^ W) 1 (pow_pos W) (omega (arith, below)) in
-    let found = leaf_found W node 0 0 W a (omega arith) room (rw whole (omega (arith, first))) in
-    let passes = find_passes (has_address W a) (leaves_of node 0 0) found.0 found.1 in (
+pub leaf_with : (W : ℕ) (P : LeafModel → Type 0) (leaves : List LeafModel) (a : ℕ) → IsCut W 0 (2 ^ W) leaves → a < 2 ^ W → All P leaves
+    → (leaf : LeafModel) × P leaf × (leaf.number ≡ block_number W leaf.bits a) × (label_among W leaves a ≡ leaf.label)
+leaf_with W P leaves a cut below all =
+    let found = cut_found W 0 (2 ^ W) a leaves cut (omega arith) below in
+    let passes = find_passes (has_address W a) leaves found.0 found.1 in (
       found.0,
-      All-contains P (leaves_of node 0 0) found.0 all passes.0,
+      All-contains P leaves found.0 all passes.0,
       eqb-true found.0.number (block_number W found.0.bits a) passes.1,
       ap (option_and_then (λ leaf. leaf.label)) found.1,
     )
 
 -- so the label of a whole trie is the map's label at each address
-pub labels_fit : (m : MapModel) (node : Tree) (a : ℕ) → HasRoom node (width_of m.version) → All (IsSettledLeaf m) (leaves_of node 0 0)
-    → a < 2 ^ width_of m.version
-    → option_and_then (slice_get m.table) (label_among (width_of m.version) (leaves_of node 0 0) a) ≡ Some (map_label m a)
-labels_fit m node a room all below =
+pub labels_fit : (m : MapModel) (leaves : List LeafModel) (a : ℕ) → IsCut (width_of m.version) 0 (2 ^ width_of m.version) leaves
+    → All (IsSettledLeaf m) leaves → a < 2 ^ width_of m.version
+    → option_and_then (slice_get m.table) (label_among (width_of m.version) leaves a) ≡ Some (map_label m a)
+labels_fit m leaves a cut all below =
     let W = width_of m.version in
-    let here = leaf_with W (IsSettledLeaf m) node a room below all in
+    let here = leaf_with W (IsSettledLeaf m) leaves a cut below all in
     let leaf = here.0 in
     let f = here.1 in
     let same = map_label-settled m leaf.bits leaf.number a (text_at m.table f.id) (sym here.2) f.settled in

@@ -10,7 +10,7 @@ ghost use Rattle.pmap_text.specs.Stretches.{AreStretches};
 ghost use Rattle.pmap_text.specs.declared.label.LabelId.{LabelId as LabelNumber};
 ghost use Rattle.pmap_text.specs.declared.statement.Statement.{Statement};
 ghost use Rattle.label_trie.specs.Inner.{AddsTree, IsTrie, tree_of};
-ghost use Rattle.label_trie.specs.TrieModel.{model_of, IsCut, IsDecidedLeaf, IsSettledLeaf, IsUndivided, label_among, label_in};
+ghost use Rattle.label_trie.specs.TrieModel.{model_of, IsCut, IsDecidedLeaf, IsSettledLeaf, IsUndivided, label_in};
 
 use crate::cursor::{Cursor, Parts, cursor_at};
 use crate::growing::push_block;
@@ -94,7 +94,15 @@ impl Trie {
         requires { addr.version ≡ self.now.version }
         ensures { option_map (λ id. id.0) result ≡ label_in self.now addr.value }
     {
-        label_from_root(self.nodes.as_slice(), addr)
+        let mut place = self.root();
+        loop {
+            match place.parts() {
+                Parts::Leaf(label) => return label,
+                Parts::Inner(low, high) => {
+                    place = if low.block().covers(&addr) { low } else { high };
+                }
+            }
+        }
     }
 
     /// Returns the number of nodes: the leaves, and the divided blocks, one fewer than the leaves.
@@ -150,30 +158,6 @@ fn grow(alloc: Global, stretches: &Stretches) -> Result<Vec<Node>, AllocError>
     let mut nodes = Vec::new(alloc);
     push_block(&mut nodes, stretches, Window::whole(stretches))?;
     Ok(nodes)
-}
-
-// Returns the number of the label at `addr`: that of the leaf to which its bits lead from the root.
-fn label_from_root(nodes: &[Node], addr: Addr) -> Option<LabelId>
-    requires { IsTrie (width_of addr.version) nodes.now }
-    ensures { let W = width_of addr.version in
-        option_map (λ id. id.0) result ≡ label_among W (leaves_of (tree_of nodes.now) 0 0) addr.value }
-{
-    let mut number = 0;
-    let mut host_bits = addr.version.width();
-    loop {
-        match nodes[number as usize] {
-            Node::Labelled(label) => return Some(label),
-            Node::Unlabelled => return None,
-            Node::Inner(high) => {
-                host_bits -= 1;
-                number = if (addr.value >> host_bits) % 2 == 0 {
-                    number + 1
-                } else {
-                    high
-                };
-            }
-        }
-    }
 }
 
 // Appends the leaves at and below the node. If an allocation fails, some of them may have been appended.

@@ -3,6 +3,7 @@ use Rattle.prefix_keys.specs.Block.{width_of}
 use Rattle.pmap_text.specs.MapText.{map_of}
 use Rattle.pmap_text.proofs.Settling.{map_is}
 use Rattle.label_trie.specs.Inner.{tree_of}
+use Rattle.label_trie.specs.Tree.{leaves_of}
 use Rattle.label_trie.proofs.Built.{grown_trie, map_bounded, trie_cut}
 use Rattle.label_trie.proofs.Lookup.{labels_fit}
 use Rattle.label_trie.proofs.NodeLeaves.{leaves_settled, leaves_undivided}
@@ -33,11 +34,12 @@ returns c =
     let tree = tree_of nodes in
     let fits = grown.fits (map_of text) layers in
     let settled = leaves_settled (map_of text) tree fits (grown.labelled refl) in
+    let cut = trie_cut (width_of text.version) nodes grown.trie in
     record {
       version = refl;
-      cut = trie_cut (width_of text.version) nodes grown.trie;
+      cut = cut;
       settled = settled;
       undivided = leaves_undivided (map_of text) tree fits (grown.labelled refl);
-      labels = λ a below. labels_fit (map_of text) tree a grown.trie.room settled below;
+      labels = λ a below. labels_fit (map_of text) (leaves_of tree 0 0) a cut settled below;
       bounded = map_bounded (width_of text.version) ss (Some text.default) nodes grown;
     }

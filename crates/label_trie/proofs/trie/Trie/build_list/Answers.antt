@@ -39,10 +39,11 @@ returns c =
     let tree = tree_of nodes in
     let seen = list_seen list ready.sorted tree ready.moved ready.up
     (λ fallback. grown.fits (painting list.version list.labels (map (prefix_of list.labels) ready.sorted) fallback) (ready.layers.layers fallback)) in
+    let cut = trie_cut (width_of list.version) nodes grown.trie in
     record {
       version = refl;
-      cut = trie_cut (width_of list.version) nodes grown.trie;
+      cut = cut;
       decided = list_decided list tree seen;
-      labels = λ a below. list_labels list tree a grown.trie.room seen below;
+      labels = λ a below. list_labels list tree a cut seen below;
       bounded = list_bounded list ready.sorted ss nodes ready.moved ready.layers grown;
     }
