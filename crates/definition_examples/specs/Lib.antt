@@ -5,3 +5,4 @@ pub mod Maps
 pub mod Reports
 pub mod Rows
 pub mod Files
+pub mod Samples

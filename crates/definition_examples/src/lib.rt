@@ -19,4 +19,5 @@ pub mod maps;
 pub mod printed_addresses;
 pub mod rows;
 pub mod runs;
+pub mod samples;
 pub mod tables;
