@@ -185,8 +185,8 @@ within_record direction number offset (f ∷ fs) rest x read none =
     refl none
 
 -- the number at the place of an element is that of the record's values
-pub said_there : (direction : Option ℕ) (number : ℕ) (fields : List FieldView) (bytes : List ℕ) (values : List FieldValueView)
-    → values_at fields bytes ≡ Some (values, [])
+pub said_there : (direction : Option ℕ) (number : ℕ) (fields : List FieldView) (bytes : List ℕ) (values : List FieldValueView) (rest : List ℕ)
+    → values_at fields bytes ≡ Some (values, rest)
     → number_there (place direction number 0 0 fields) (runs_behind 0 fields) bytes ≡ unwrap_or (element direction values number) 0
-said_there direction number fields bytes values read =
-    said_behind direction number bytes fields [] [] bytes 0 0 (values, []) refl refl refl read
+said_there direction number fields bytes values rest read =
+    said_behind direction number bytes fields [] [] bytes 0 0 (values, rest) refl refl refl read

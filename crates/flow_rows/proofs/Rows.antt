@@ -114,7 +114,7 @@ module _ (num : Place → ℕ) where
         }))
 
 -- a record with these values and bytes
-module _ (values : List FieldValueView) (bytes : List ℕ) (read : values_at (fields_of values) bytes ≡ Some (values, [])) where
+module _ (values : List FieldValueView) (bytes : List ℕ) (read : (rest : List ℕ) × (values_at (fields_of values) bytes ≡ Some (values, rest))) where
   abbrev num : Place → ℕ
   num p = number_there p (runs_behind 0 (fields_of values)) bytes
 
@@ -124,7 +124,7 @@ module _ (values : List FieldValueView) (bytes : List ℕ) (read : values_at (fi
   of : (direction : Option ℕ) (number : ℕ)
       → (num (at direction number) ≡ unwrap_or (element direction values number) 0)
       × (is_there (at direction number) ≡ is_some (element direction values number))
-  of direction number = (said_there direction number (fields_of values) bytes values read, there-place direction number 0 0 values)
+  of direction number = (said_there direction number (fields_of values) bytes values read.0 read.1, there-place direction number 0 0 values)
 
   first_there : option_map (λ places. row_at places num) (first_places (at forward)) ≡ row_of_elements (element forward values)
   first_there = first_is num (at forward) (element forward values) (of forward)
@@ -268,7 +268,7 @@ module _ (fields : List FieldView) (bytes : List ℕ) (x : List FieldValueView �
 
 module _ (kind : Kind) (is_flow : kind ≡ Options → ⊥) (values : List FieldValueView) (fields : List FieldView) (runs bytes : List ℕ)
     (same : fields ≡ fields_of values) (runs_are : runs ≡ runs_behind 0 fields)
-    (read : values_at (fields_of values) bytes ≡ Some (values, [])) where
+    (read : (rest : List ℕ) × (values_at (fields_of values) bytes ≡ Some (values, rest))) where
   abbrev said : Place → ℕ
   said p = number_there p runs bytes
 
@@ -276,7 +276,7 @@ module _ (kind : Kind) (is_flow : kind ≡ Options → ⊥) (values : List Field
   runs_of = runs_are ∙ ap (runs_behind 0) same
 
   pub usable : (l : RowLayout) → Some l ≡ layout_of fields → AreUsable (length bytes) l.first × AreUsable (length bytes) l.second
-  usable l found = layout_usable fields bytes (values, []) (ap (λ (fs : List FieldView). values_at fs bytes) same ∙ read) l (sym found)
+  usable l found = layout_usable fields bytes (values, read.0) (ap (λ (fs : List FieldView). values_at fs bytes) same ∙ read.1) l (sym found)
 
   pub row_missing : None ≡ layout_of fields → (None ≡ first_row_of kind values) × (None ≡ option_and_then (row_back (element back values)) (first_row_of kind values))
   row_missing none = no_rows values bytes read kind is_flow (ap layout_of (sym same) ∙ sym none)

@@ -1,17 +1,16 @@
 -- The values at the start of bytes, and the bytes that they take.
-use Rattle.std.proofs.Common.{◌≡◌, ℕ, ◌+◌, ◌-◌, ◌<◌, ◌≤◌, Bool, true, false, cond, ltb, eqb, List, [], ◌∷◌, ◌++◌, length, take, drop, Option, Some, None, Result, Ok, Err, inl, inr, refl, sym, ap, subst, ◌∙◌, append_assoc, take-append-drop, length-append, length-drop, drop-drop, arith, zero, suc, ◌*◌, ◌/◌, All, map}
+use Rattle.std.proofs.Common.{◌≡◌, ℕ, ◌+◌, ◌-◌, ◌<◌, ◌≤◌, Bool, true, false, cond, ltb, eqb, List, [], ◌∷◌, ◌++◌, length, take, drop, Option, Some, None, Result, Ok, Err, inl, inr, refl, sym, ap, subst, ◌∙◌, append_assoc, length-append, length-drop, drop-drop, arith, zero, suc, ◌*◌, ◌/◌, All, map}
 use Rattle.std.specs.Prelude.{ok_or, option_and_then, option_map, ◌||◌}
 use Rattle.std.proofs.lemmas.Bool.{cases_lt, ltb-true, ltb-false, lt-ltb, le-ltb}
 use Rattle.std.proofs.lemmas.Bool.Decides.{nat_tests}
 use Rattle.std.proofs.lemmas.Grind.{common_steps}
-use Rattle.std.proofs.lemmas.List.{append-nil, take_at, drop_at, length-take-le, length-map}
 use Rattle.byteorder.specs.Endian.{big_number}
 use Rattle.ipfix_templates.specs.declared.field.Field.{Field}
 use Rattle.ipfix_templates.specs.Field.{is_variable, least_field_length, least_length}
 use Rattle.ipfix_templates.specs.Runs.{runs_behind, last_run_behind}
 use Rattle.ipfix_templates.specs.Reading.{items_from}
 use Rattle.ipfix_read.specs.Value.{FieldValueView, bytes_at, variable_at, value_at, values_at, whole_values}
-use Rattle.ipfix_templates.proofs.Choice.{chosen, gave, some_is, mapped}
+use Rattle.ipfix_templates.proofs.Choice.{gave, some_is, mapped}
 use Rattle.ipfix_templates.proofs.Reading.{at_end, at_fault, at_item}
 use Rattle.std.proofs.lemmas.List.Sums.{sum_by-cons}
 use Rattle.ipfix_templates.specs.declared.template.Template.{Template}
@@ -22,67 +21,6 @@ use Rattle.std.proofs.Math.Nat.{add-mul, le-div_iff_mul-le, suc-mul}
 use Rattle.std.proofs.lemmas.List.Elements.{All-cons, All-nil}
 use Rattle.ipfix_templates.specs.declared.kind.Kind.{Kind}
 use Rattle.ipfix_read.specs.WholeRecords.{ArePacked, whole_records}
-
--- the value that was read is at the start, and is read in the same way whatever follows it
-abbrev pub Front : {A : Type 0} → (List ℕ → Option (A × List ℕ)) → List ℕ → A × List ℕ → Type 0
-Front read bytes x = (front : List ℕ) × (bytes ≡ front ++ x.1) × ((more : List ℕ) → read (front ++ more) ≡ Some (x.0, more))
-
-at_front : (count : ℕ) (front more : List ℕ) → length front ≡ count → bytes_at count (front ++ more) ≡ Some (front, more)
-at_front count front more e =
-    rw (le-ltb (length (front ++ more)) count (omega (arith, length-append front more, e)), take_at front more count e, drop_at front more count e) refl
-
-bytes_front : (count : ℕ) (bytes : List ℕ) (x : List ℕ × List ℕ) → bytes_at count bytes ≡ Some x → Front (bytes_at count) bytes x
-bytes_front count bytes x e =
-    elim (chosen (ltb (length bytes) count) None _ (Some x) e) [
-      | inl p ↦ absurd (cc)
-      | inr p ↦
-          let long = length-take-le count bytes (ltb-false (length bytes) count p.0) in
-          subst (λ (y : List ℕ × List ℕ). Front (bytes_at count) bytes y) (some_is _ _ p.1) (take count bytes, sym (take-append-drop count bytes), λ more. at_front count (take count bytes) more long)
-    ]
-
--- a length in two bytes, and the value
-abbrev long_at : List ℕ → Option (List ℕ × List ℕ)
-long_at bytes = cond (ltb (length bytes) 2) None (bytes_at (big_number 2 bytes) (drop 2 bytes))
-
-long_front : (bytes : List ℕ) (x : List ℕ × List ℕ) → long_at bytes ≡ Some x → Front long_at bytes x
-long_front [] x e = absurd (cc)
-long_front (a ∷ []) x e = absurd (cc)
-long_front (a ∷ b ∷ bytes) x e =
-    let size = big_number 2 (a ∷ b ∷ []) in
-    let short : (more : List ℕ) → long_at (a ∷ b ∷ more) ≡ bytes_at size more =
-    λ more. ap (λ (c : Bool). cond c None (bytes_at size more)) (le-ltb (length (a ∷ b ∷ more)) 2 (omega arith)) in
-    let f = bytes_front size bytes x (sym (short bytes) ∙ e) in
-    (a ∷ b ∷ f.0, ap (λ (ys : List ℕ). a ∷ b ∷ ys) f.1, λ more. short (f.0 ++ more) ∙ f.2 more)
-
-variable_front : (bytes : List ℕ) (x : List ℕ × List ℕ) → variable_at bytes ≡ Some x → Front variable_at bytes x
-variable_front [] x e = absurd (cc)
-variable_front (first ∷ bytes) x e =
-    elim (chosen (ltb first 255) (bytes_at first bytes) _ (Some x) e) [
-      | inl p ↦ let f = bytes_front first bytes x p.1 in (first ∷ f.0, ap (λ (ys : List ℕ). first ∷ ys) f.1, λ more. rw p.0 (f.2 more))
-      | inr p ↦ let f = long_front bytes x p.1 in (first ∷ f.0, ap (λ (ys : List ℕ). first ∷ ys) f.1, λ more. rw p.0 (f.2 more))
-    ]
-
-pub value_front : (field : Field) (bytes : List ℕ) (x : List ℕ × List ℕ) → value_at field bytes ≡ Some x → Front (value_at field) bytes x
-unfolding value_at
-value_front field bytes x e =
-    elim (eqb field.length 65535) as (λ b. cond b (variable_at bytes) (bytes_at field.length bytes) ≡ Some x → Front (λ bs. cond b (variable_at bs) (bytes_at field.length bs)) bytes x) [
-      | true ↦ λ p. variable_front bytes x p
-      | false ↦ λ p. bytes_front field.length bytes x p
-    ] e
-
-pub values_front : (fields : List Field) (bytes : List ℕ) (x : List FieldValueView × List ℕ) → values_at fields bytes ≡ Some x → Front (values_at fields) bytes x
-unfolding values_at
-values_front [] bytes x e = subst (λ (y : List FieldValueView × List ℕ). Front (values_at []) bytes y) (some_is ([], bytes) x e) ([], refl, λ more. refl)
-values_front (field ∷ fields) bytes x e =
-    let a = gave (value_at field bytes) (λ v. option_and_then (λ vs. Some (record { field = field; value = v.0 } ∷ vs.0, vs.1)) (values_at fields v.1)) x e in
-    let b = gave (values_at fields a.0.1) (λ vs. Some (record { field = field; value = a.0.0 } ∷ vs.0, vs.1)) x a.2 in
-    let f = value_front field bytes a.0 a.1 in
-    let g = values_front fields a.0.1 b.0 b.1 in
-    subst (λ (y : List FieldValueView × List ℕ). Front (values_at (field ∷ fields)) bytes y) (some_is _ _ b.2) (
-      f.0 ++ g.0,
-      f.1 ∙ ap (λ (ys : List ℕ). f.0 ++ ys) g.1 ∙ sym (append_assoc f.0 g.0 b.0.1),
-      λ more. rw (append_assoc f.0 g.0 more, f.2 (g.0 ++ more), g.2 more) refl,
-    )
 
 whole_step : (field : Field) (fields : List Field) (bytes : List ℕ) (v : List ℕ × List ℕ) → value_at field bytes ≡ Some v
     → whole_values (field ∷ fields) bytes ≡ record { field = field; value = v.0 } ∷ whole_values fields v.1
@@ -97,16 +35,6 @@ whole_is (field ∷ fields) bytes x e =
     let b = gave (values_at fields a.0.1) (λ vs. Some (record { field = field; value = a.0.0 } ∷ vs.0, vs.1)) x a.2 in
     whole_step field fields bytes a.0 a.1 ∙ ap (λ (vs : List FieldValueView). record { field = field; value = a.0.0 } ∷ vs) (whole_is fields a.0.1 b.0 b.1)
     ∙ ap (λ (y : List FieldValueView × List ℕ). y.0) (some_is _ _ b.2)
-
--- the bytes before the remaining ones are those of the values
-pub taken : (fields : List Field) (bytes : List ℕ) (x : List FieldValueView × List ℕ) (n : ℕ) → values_at fields bytes ≡ Some x → n ≡ length bytes - length x.1
-    → (values_at fields (take n bytes) ≡ Some (whole_values fields (take n bytes), [])) × (whole_values fields (take n bytes) ≡ x.0)
-taken fields bytes x n e is =
-    let f = values_front fields bytes x e in
-    let front : take n bytes ≡ f.0 = ap (take n) f.1 ∙ take_at f.0 x.1 n (omega (arith, is, ap length f.1, length-append f.0 x.1)) in
-    let read : values_at fields (take n bytes) ≡ Some (x.0, []) = ap (values_at fields) (front ∙ sym (append-nil f.0)) ∙ f.2 [] in
-    let whole = whole_is fields (take n bytes) (x.0, []) read in
-    (read ∙ ap (λ (vs : List FieldValueView). Some (vs, [])) (sym whole), whole)
 
 -- ---- the bytes after values, run by run
 
@@ -199,31 +127,20 @@ runs_are fields bytes = runs_behind_lem 0 fields bytes ∙ no_bytes_first (λ bs
 -- ---- the bytes that a data record takes
 
 bytes_shorter : (count : ℕ) (bytes : List ℕ) (x : List ℕ × List ℕ) → bytes_at count bytes ≡ Some x → length x.1 + count ≤ length bytes
-bytes_shorter count bytes x e =
-    elim (chosen (ltb (length bytes) count) None _ (Some x) e) [
-      | inl p ↦ absurd (cc)
-      | inr p ↦ omega (arith, ltb-false (length bytes) count p.0, length-drop count bytes, ap (λ (y : List ℕ × List ℕ). length y.1) (some_is _ _ p.1))
-    ]
+bytes_shorter count bytes x e = let rest = length-drop count bytes in grind (arith, common_steps)
 
 variable_shorter : (bytes : List ℕ) (x : List ℕ × List ℕ) → variable_at bytes ≡ Some x → length x.1 + 1 ≤ length bytes
 variable_shorter [] x e = absurd (cc)
 variable_shorter (first ∷ bytes) x e =
-    elim (chosen (ltb first 255) (bytes_at first bytes) _ (Some x) e) [
-      | inl p ↦ omega (arith, bytes_shorter first bytes x p.1)
-      | inr p ↦
-          elim (chosen (ltb (length bytes) 2) None _ (Some x) p.1) [
-            | inl q ↦ absurd (cc)
-            | inr q ↦ omega (arith, bytes_shorter (big_number 2 bytes) (drop 2 bytes) x q.1, length-drop 2 bytes)
-          ]
-    ]
+    let short = bytes_shorter first bytes x in
+    let long = bytes_shorter (big_number 2 bytes) (drop 2 bytes) x in
+    let two = length-drop 2 bytes in grind (arith, common_steps)
 
 value_shorter : (field : Field) (bytes : List ℕ) (x : List ℕ × List ℕ) → value_at field bytes ≡ Some x → length x.1 + least_field_length field ≤ length bytes
 unfolding value_at
 value_shorter field bytes x e =
-    elim (eqb field.length 65535) as (λ b. cond b (variable_at bytes) (bytes_at field.length bytes) ≡ Some x → length x.1 + cond b 1 field.length ≤ length bytes) [
-      | true ↦ λ p. variable_shorter bytes x p
-      | false ↦ λ p. bytes_shorter field.length bytes x p
-    ] e
+    let variable = variable_shorter bytes x in
+    let fixed = bytes_shorter field.length bytes x in grind (arith, common_steps)
 
 -- a record takes at least its template's least length
 pub values_shorter : (fields : List Field) (bytes : List ℕ) (x : List FieldValueView × List ℕ) → values_at fields bytes ≡ Some x → length x.1 + least_length fields ≤ length bytes
@@ -283,10 +200,6 @@ fields_are (field ∷ fields) bytes x e =
     let b = gave (values_at fields a.0.1) (λ vs. Some (record { field = field; value = a.0.0 } ∷ vs.0, vs.1)) x a.2 in
     sym (ap (λ (y : List FieldValueView × List ℕ). map (λ v. v.field) y.0) (some_is _ _ b.2))
     ∙ ap (λ (fs : List Field). field ∷ fs) (fields_are fields a.0.1 b.0 b.1)
-
--- a value for each field
-pub as_many : (fields : List Field) (bytes : List ℕ) (x : List FieldValueView × List ℕ) → values_at fields bytes ≡ Some x → length x.0 ≡ length fields
-as_many fields bytes x e = sym (length-map x.0 (λ v. v.field)) ∙ ap length (fields_are fields bytes x e)
 
 none_first : (kind : Kind) (fields : List Field) (count : ℕ) (bytes : List ℕ) → values_at fields bytes ≡ None → whole_records kind fields count bytes ≡ []
 unfolding whole_records

@@ -31,10 +31,7 @@ fn count_records(template: &Template, bytes: &[u8], base: u64) -> Result<usize, 
     while rest.len() >= least {
         let Some(after) = skip_values(fields, rest) else {
             let offset = base + (bytes.len() - rest.len()) as u64;
-            return Err(ReadFault {
-                kind: ReadFaultKind::BadRecord,
-                offset,
-            });
+            return Err(ReadFaultKind::BadRecord.at(offset));
         };
         count += 1;
         rest = after;

@@ -33,6 +33,15 @@ pub enum ReadFaultKind {
     Failed,
 }
 
+impl ReadFaultKind {
+    /// Returns the fault of this kind at an offset in the File.
+    pub(crate) fn at(self, offset: u64) -> ReadFault
+        ensures { result ≡ record { kind = self; offset = offset } }
+    {
+        ReadFault { kind: self, offset }
+    }
+}
+
 /// The first fault of a File.
 #[derive(Clone, Copy, Debug, PartialEq, Eq, Error)]
 #[error("{kind:?} at {offset}")]
@@ -49,9 +58,6 @@ impl From<AllocError> for ReadFault {
     ghost from_gives = { λ _ fault. fault ≡ out_of_memory };
 
     fn from(_error: AllocError) -> ReadFault {
-        ReadFault {
-            kind: ReadFaultKind::NoMemory,
-            offset: 0,
-        }
+        ReadFaultKind::NoMemory.at(0)
     }
 }

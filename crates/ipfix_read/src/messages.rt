@@ -41,12 +41,10 @@ impl<'r, R: Input> Messages<'r, R, Progress, Buffer> {
         ensures reader { IfOk result (λ m. m.reader.now ≡ reader.old) }
         ensures begins { IfOk result (λ m. m.progress ≡ at_start) }
     {
-        let buffer = Buffer::new(alloc)?;
-        let progress = Progress::new(alloc);
         Ok(Messages {
             reader,
-            progress,
-            buffer,
+            progress: Progress::new(alloc),
+            buffer: Buffer::new(alloc)?,
         })
     }
 

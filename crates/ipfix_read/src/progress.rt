@@ -85,12 +85,7 @@ impl Progress {
         match self.state {
             State::Going => {}
             State::Ended => return Ok(None),
-            State::Failed => {
-                return Err(ReadFault {
-                    kind: ReadFaultKind::Failed,
-                    offset: 0,
-                });
-            }
+            State::Failed => return Err(ReadFaultKind::Failed.at(0)),
         }
         let offset = self.offset;
         let gathered = match gather(reader, self.count, buffer.bytes.as_mut_slice()) {

@@ -104,10 +104,7 @@ fn read_content<'a>(
         Ok(events) => events,
         Err(fault) if fault.kind == TemplateFaultKind::NoMemory => return Err(AllocError.into()),
         Err(fault) => {
-            return Err(ReadFault {
-                kind: ReadFaultKind::BadTemplate(fault.kind),
-                offset: base + fault.offset,
-            });
+            return Err(ReadFaultKind::BadTemplate(fault.kind).at(base + fault.offset));
         }
     };
     apply_events(table, domain, &events)?;
@@ -129,10 +126,7 @@ fn read_set<'a>(
         (result_map_both (λ read. (read.0, read.1.now)) (λ fault. fault) result) }
     ensures size { IfOk result (λ read. set_size read.0 + length read.1.now < length bytes.now) }
 {
-    let bad_length = ReadFault {
-        kind: ReadFaultKind::BadSetLength,
-        offset: base,
-    };
+    let bad_length = ReadFaultKind::BadSetLength.at(base);
     if bytes.len() < HEADER_LENGTH {
         return Err(bad_length);
     }

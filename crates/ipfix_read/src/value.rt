@@ -1,4 +1,4 @@
-ghost use Rattle.std.specs.Prelude.{◌≡◌, [], Some, IfSome, length, map, option_map};
+ghost use Rattle.std.specs.Prelude.{◌≡◌, ℕ, List, Some, IfSome, map, option_map};
 ghost use Rattle.std.specs.Iterator.{YieldsFirst, item_count};
 ghost use Rattle.ipfix_read.specs.Value.{bytes_at, variable_at, value_at, values_at};
 
@@ -24,8 +24,8 @@ impl<'a> Model for FieldValue<'a> {
     ghost view = { λ v. record { field = v.field; value = v.value.now } };
 }
 
-/// The values of a data record, one for each field of its template. The list holds the record's bytes and borrows the
-/// template's fields. Each value is cut out of the bytes when it is requested.
+/// The values of a data record, one for each field of its template. The list holds the bytes from the record on, and
+/// borrows the template's fields. Each value is cut out of the bytes when it is requested.
 #[derive(Drop)]
 pub struct FieldValues<'f, 'a> {
     specifiers: &'f Fields,
@@ -33,24 +33,18 @@ pub struct FieldValues<'f, 'a> {
 }
 
 impl<'f, 'a> Model for FieldValues<'f, 'a> {
-    ghost use Rattle.std.specs.Prelude.{◌≡◌, List, [], Some};
+    ghost use Rattle.std.specs.Prelude.{◌≡◌, ℕ, List, Some};
     ghost use Rattle.ipfix_read.specs.Value.{FieldValueView, values_at, whole_values};
 
     ghost Value = { List FieldValueView };
 
     ghost view = { λ a. whole_values a.specifiers.now a.bytes.now };
 
-    ghost invariant = { λ a. values_at a.specifiers.now a.bytes.now ≡ Some (whole_values a.specifiers.now a.bytes.now, []) };
+    ghost invariant = { λ a. (rest : List ℕ)
+        × (values_at a.specifiers.now a.bytes.now ≡ Some (whole_values a.specifiers.now a.bytes.now, rest)) };
 }
 
 impl<'f, 'a> FieldValues<'f, 'a> {
-    /// Returns the number of values.
-    pub fn len(&self) -> usize
-        ensures { result ≡ length self.now }
-    {
-        self.specifiers.len()
-    }
-
     /// Returns the fields of the values, in order.
     pub fn specifiers(&self) -> &'f Fields
         ensures { result.now ≡ map (λ v. v.field) self.now }
@@ -58,9 +52,9 @@ impl<'f, 'a> FieldValues<'f, 'a> {
         self.specifiers
     }
 
-    /// Returns the bytes of the record, which are those of its values.
+    /// Returns the bytes of the values, and all that follow them in the data set.
     pub fn bytes(&self) -> &'a [u8]
-        ensures { values_at (map (λ v. v.field) self.now) result.now ≡ Some (self.now, []) }
+        ensures { (rest : List ℕ) × (values_at (map (λ v. v.field) self.now) result.now ≡ Some (self.now, rest)) }
     {
         self.bytes
     }
@@ -173,7 +167,7 @@ pub fn read_values<'f, 'a>(
     let rest = skip_values(fields, bytes)?;
     let values = FieldValues {
         specifiers: fields,
-        bytes: &bytes[..bytes.len() - rest.len()],
+        bytes,
     };
     Some((values, rest))
 }

@@ -1,4 +1,4 @@
-use Rattle.std.specs.Prelude.{ℕ, Bool, true, false}
+use Rattle.std.specs.Prelude.{ℕ, Bool, ◌==◌}
 pub use Rattle.ipfix_templates.specs.declared.kind.Kind.{Kind}
 pub use Rattle.ipfix_templates.specs.declared.kind.Kind.TheVariants.{Flow, Options}
 pub use Rattle.ipfix_templates.specs.declared.field.Field.{Field}
@@ -11,7 +11,4 @@ set_id Options = 3
 
 -- whether two kinds are the same
 abbrev pub same_kind : Kind → Kind → Bool
-same_kind Flow Flow = true
-same_kind Flow Options = false
-same_kind Options Flow = false
-same_kind Options Options = true
+same_kind kind other = set_id kind == set_id other

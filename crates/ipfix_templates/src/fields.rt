@@ -82,14 +82,6 @@ impl Fields {
         })
     }
 
-    /// Returns the number of fields.
-    pub fn len(&self) -> usize
-        ensures value { result ≡ length self.now }
-        ensures bound { result ≤ 65535 }
-    {
-        self.shared.items.len()
-    }
-
     /// Returns the fields in order.
     pub fn as_slice(&self) -> &[Field]
         ensures value { result.now ≡ self.now }

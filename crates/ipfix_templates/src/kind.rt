@@ -25,9 +25,6 @@ impl Kind {
     pub fn is(self, other: Kind) -> bool
         ensures { result ≡ same_kind self other }
     {
-        match (self, other) {
-            (Kind::Flow, Kind::Flow) | (Kind::Options, Kind::Options) => true,
-            (Kind::Flow, Kind::Options) | (Kind::Options, Kind::Flow) => false,
-        }
+        self.set_id() == other.set_id()
     }
 }

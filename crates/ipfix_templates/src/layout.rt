@@ -9,34 +9,20 @@ use crate::field::Field;
 /// minimum and the maximum length of its field. A number may be sent in fewer bytes than its type has (RFC 7011 section
 /// 6.2).
 pub const ELEMENTS: [(u16, (u16, u16)); 14] = [
-    // octetDeltaCount
-    (1, (1, 8)),
-    // packetDeltaCount
-    (2, (1, 8)),
-    // protocolIdentifier
-    (4, (1, 1)),
-    // tcpControlBits
-    (6, (1, 2)),
-    // sourceTransportPort
-    (7, (1, 2)),
-    // sourceIPv4Address
-    (8, (4, 4)),
-    // destinationTransportPort
-    (11, (1, 2)),
-    // destinationIPv4Address
-    (12, (4, 4)),
-    // sourceIPv6Address
-    (27, (16, 16)),
-    // destinationIPv6Address
-    (28, (16, 16)),
-    // octetTotalCount
-    (85, (1, 8)),
-    // packetTotalCount
-    (86, (1, 8)),
-    // flowStartMilliseconds
-    (152, (8, 8)),
-    // flowEndMilliseconds
-    (153, (8, 8)),
+    (1, (1, 8)), // octetDeltaCount
+    (2, (1, 8)), // packetDeltaCount
+    (4, (1, 1)), // protocolIdentifier
+    (6, (1, 2)), // tcpControlBits
+    (7, (1, 2)), // sourceTransportPort
+    (8, (4, 4)), // sourceIPv4Address
+    (11, (1, 2)), // destinationTransportPort
+    (12, (4, 4)), // destinationIPv4Address
+    (27, (16, 16)), // sourceIPv6Address
+    (28, (16, 16)), // destinationIPv6Address
+    (85, (1, 8)), // octetTotalCount
+    (86, (1, 8)), // packetTotalCount
+    (152, (8, 8)), // flowStartMilliseconds
+    (153, (8, 8)), // flowEndMilliseconds
 ];
 
 /// The enterprise number of the elements of the reverse direction (RFC 5103 section 6.1).

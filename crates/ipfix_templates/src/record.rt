@@ -57,17 +57,13 @@ fn read_fields(alloc: Global, count: u16, bytes: &[u8]) -> Read<'_, Fields>
     let mut fields = Vec::new(alloc);
     let mut rest = bytes;
     for _ in 0..count {
-        let Some(read) = read_field(rest) else {
+        let Some((field, after)) = read_field(rest) else {
             return Err(TemplateFaultKind::Truncated);
         };
-        let Ok(()) = fields.push(read.0) else {
-            return Err(TemplateFaultKind::NoMemory);
-        };
-        rest = read.1;
+        fields.push(field).map_err(|_| TemplateFaultKind::NoMemory)?;
+        rest = after;
     }
-    let Ok(fields) = Fields::from_vec(fields) else {
-        return Err(TemplateFaultKind::NoMemory);
-    };
+    let fields = Fields::from_vec(fields).map_err(|_| TemplateFaultKind::NoMemory)?;
     Ok((fields, rest))
 }
 

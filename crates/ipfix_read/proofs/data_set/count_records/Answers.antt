@@ -41,8 +41,8 @@ overflow_sub-offset c = omega (arith, c.loop-rest.invariant.within)
 
 pub returns-in_default-clause-fault : goal.returns-in_default-clause-fault
 returns-in_default-clause-fault c =
-    cut_off c.args.template.now c.args.base c.args.bytes.now c.loop-rest.count c.loop-rest.rest.now c.loop-rest.invariant
-    (omega (arith, c.least_length-least.ensures), omega (arith, c.least_length-least.ensures)) (none_from_left _ c.in_default.ensures)
+    rw c.at.ensures (cut_off c.args.template.now c.args.base c.args.bytes.now c.loop-rest.count c.loop-rest.rest.now c.loop-rest.invariant
+    (omega (arith, c.least_length-least.ensures), omega (arith, c.least_length-least.ensures)) (none_from_left _ c.in_default.ensures))
 
 pub overflow_add-count : goal.overflow_add-count
 overflow_add-count c = omega (arith, c.loop-rest.invariant.within)

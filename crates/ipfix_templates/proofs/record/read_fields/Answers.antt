@@ -8,16 +8,17 @@ use Rattle.ipfix_templates.proofs.record.read_fields.Goals as goal
 pub returns-in_default-clause-fault : goal.returns-in_default-clause-fault
 returns-in_default-clause-fault c = inr (refl, sym (rw (no_field c.args.count c.loop.counter c.loop.rest.now c.loop-test.true (search rules)) at c.loop.invariant.read))
 
+pub returns-clause-ok : goal.returns-clause-ok
+returns-clause-ok c =
+    let fields : c.in_ok-fields.fields ≡ c.loop.fields.items = search rules in
+    rw fields (sym (rw (all_fields c.args.count c.loop.counter c.loop.rest.now c.loop-test.false, append-nil c.loop.fields.items) at c.loop.invariant.read))
+
 pub loop-preserved : goal.loop-preserved
 loop-preserved c = record {
   read =
-      let f = c.in-Some.read.0 in let after = c.in-Some.read.1.now in
-      let items : c.push.new.self.items ≡ c.loop.fields.items ++ f ∷ [] = c.in-Ok.ensures.items in
+      let f = c.in-Some.field in let after = c.in-Some.after.now in
+      let items : c.push.new.self.items ≡ c.loop.fields.items ++ f ∷ [] = search rules in
       rw items (sym (regroup c.loop.fields.items f (fields_at (c.args.count - (c.loop.counter + 1)) after))
       ∙ (rw (next_field c.args.count c.loop.counter c.loop.rest.now f after c.loop-test.true (search rules)) at c.loop.invariant.read));
   counted = grind (arith, common_steps);
 }
-
-pub returns-clause-ok : goal.returns-clause-ok
-returns-clause-ok c =
-    rw c.in-Ok-from_vec.ensures (sym (rw (all_fields c.args.count c.loop.counter c.loop.rest.now c.loop-test.false, append-nil c.loop.fields.items) at c.loop.invariant.read))

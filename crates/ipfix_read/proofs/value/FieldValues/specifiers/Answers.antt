@@ -5,5 +5,5 @@ use Rattle.ipfix_read.proofs.value.FieldValues.specifiers.Goals as goal
 
 pub returns : goal.returns
 returns c =
-    sym (fields_are c.self.inside.specifiers.now c.self.inside.bytes.now _ c.self.invariant)
+    sym (fields_are c.self.inside.specifiers.now c.self.inside.bytes.now _ c.self.invariant.1)
     ∙ ap (λ (vs : List FieldValueView). map (λ v. v.field) vs) c.self.view_is
