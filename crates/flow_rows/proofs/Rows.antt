@@ -1,13 +1,12 @@
 -- The rows at the places of a layout are those of the record's values.
-use Rattle.std.proofs.Common.{◌≡◌, get_or, suc, ◌∙◌, ℕ, ◌+◌, ◌≤◌, All, Bool, true, false, cond, List, [], ◌∷◌, ◌++◌, length, Option, Some, None, is_some, refl, sym, ap, subst, arith}
+use Rattle.std.proofs.Common.{◌≡◌, get_or, suc, ◌∙◌, ℕ, ◌+◌, ◌≤◌, All, Bool, true, false, cond, List, [], ◌∷◌, length, Option, Some, None, is_some, refl, sym, ap, subst, arith}
 use Rattle.std.specs.Prelude.{◌&&◌, ◌||◌, ◌==◌, count_by, option_and_then, option_map, unwrap_or}
 use Rattle.std.specs.List.{flat_map}
 use Rattle.std.specs.Option.{option_or, option_to_list}
-use Rattle.std.proofs.lemmas.Bool.{and_parts, true≢false}
+use Rattle.std.proofs.lemmas.Bool.{and_parts}
 use Rattle.std.proofs.lemmas.List.{length-append}
 use Rattle.std.proofs.lemmas.List.Elements.{All-head, All-tail}
 use Rattle.std.proofs.lemmas.List.Sums.{sum_by-cons}
-use Rattle.prefix_keys.specs.declared.version.Version.{Version}
 use Rattle.prefix_keys.specs.declared.version.Version.TheVariants.{V4, V6}
 use Rattle.ipfix_templates.proofs.Choice.{some_is}
 use Rattle.ipfix_templates.specs.Elements.{back, forward}
@@ -22,17 +21,18 @@ use Rattle.ipfix_templates.specs.declared.kind.Kind.{Kind}
 use Rattle.ipfix_templates.specs.declared.kind.Kind.TheVariants.{Flow, Options}
 use Rattle.ipfix_read.specs.Value.{FieldValueView, values_at}
 use Rattle.ipfix_read.specs.declared.record.Record.{Record}
-use Rattle.flow_rows.specs.Counts.{is_of_kind}
-use Rattle.flow_rows.specs.Elements.{RowView, element, first_row, first_row_of, packets_of, row_back, row_between, row_of_elements, rows_of_record, second_row}
+use Rattle.flow_rows.specs.Elements.{RowView, element, count_of, first_row, row_back, row_between, row_of_elements, rows_of_record, second_row}
 use Rattle.flow_rows.specs.Inner.{AreUsable, IsWithin, number_there, row_at, version_of}
 use Rattle.flow_rows.proofs.Reading.{none_there, said_there, within_record}
 use Rattle.flow_rows.proofs.Usable.{IsListed, fields_of, length-place, there-place}
 
--- the row of a flow record is that of its values
-first_row_of-flow : (kind : Kind) (values : List FieldValueView) → (kind ≡ Options → ⊥)
-    → first_row_of kind values ≡ row_of_elements (element forward values)
-first_row_of-flow Flow values h = refl
-first_row_of-flow Options values h = absurd (h refl)
+-- the first row of a flow record is that of its values
+first_row-flow : (r : Record) → (r.kind ≡ Options → ⊥) → first_row r ≡ row_of_elements (element forward r.fields)
+first_row-flow r is_flow = by r.kind is_flow
+  where
+    by : (kind : Kind) → (kind ≡ Options → ⊥) → cond (same_kind kind Flow) (row_of_elements (element forward r.fields)) None ≡ row_of_elements (element forward r.fields)
+    by Flow h = refl
+    by Options h = absurd (h refl)
 
 -- one of two numbers
 either : (num : Place → ℕ) (p q : Place) (said : Option ℕ) → num p ≡ unwrap_or said 0 → is_there p ≡ is_some said
@@ -112,56 +112,6 @@ module _ (num : Place → ℕ) where
           start_ms = either num (at 152) first.start_ms (said 152) (of 152).0 (of 152).1 i;
           end_ms = either num (at 153) first.end_ms (said 153) (of 153).0 (of 153).1 i;
         }))
-
--- a record with these values and bytes
-module _ (values : List FieldValueView) (bytes : List ℕ) (read : (rest : List ℕ) × (values_at (fields_of values) bytes ≡ Some (values, rest))) where
-  abbrev num : Place → ℕ
-  num p = number_there p (runs_behind 0 (fields_of values)) bytes
-
-  abbrev at : Option ℕ → ℕ → Place
-  at direction number = place direction number 0 0 (fields_of values)
-
-  of : (direction : Option ℕ) (number : ℕ)
-      → (num (at direction number) ≡ unwrap_or (element direction values number) 0)
-      × (is_there (at direction number) ≡ is_some (element direction values number))
-  of direction number = (said_there direction number (fields_of values) bytes values read.0 read.1, there-place direction number 0 0 values)
-
-  first_there : option_map (λ places. row_at places num) (first_places (at forward)) ≡ row_of_elements (element forward values)
-  first_there = first_is num (at forward) (element forward values) (of forward)
-
-  then_back : (first : Option Places) (row : Option RowView) → option_map (λ places. row_at places num) first ≡ row
-      → option_and_then (λ (l : RowLayout). cond (num l.second.packets == 0) None (Some (row_at l.second num)))
-      (option_map (layout_with (at back)) first)
-      ≡ option_and_then (row_back (element back values)) row
-  then_back None row is = ap (option_and_then (row_back (element back values))) is
-  then_back (Some first) row is =
-      back_is num (at back) (element back values) (of back) first ∙ ap (option_and_then (row_back (element back values))) is
-
-  to_first : (first : Option Places) → option_map (λ (l : RowLayout). row_at l.first num) (option_map (layout_with (at back)) first)
-      ≡ option_map (λ places. row_at places num) first
-  to_first None = refl
-  to_first (Some first) = refl
-
-  module _ (kind : Kind) (is_flow : kind ≡ Options → ⊥) where
-    pub no_rows : layout_of (fields_of values) ≡ None → (None ≡ first_row_of kind values) × (None ≡ option_and_then (row_back (element back values)) (first_row_of kind values))
-    unfolding layout_of
-    no_rows none =
-        let first : None ≡ first_row_of kind values =
-        ap (option_map (λ (l : RowLayout). row_at l.first num)) (sym none) ∙ to_first (first_places (at forward)) ∙ first_there ∙ sym (first_row_of-flow kind values is_flow) in
-        (first, ap (option_and_then (row_back (element back values))) first)
-
-    pub first_found : (l : RowLayout) → layout_of (fields_of values) ≡ Some l → Some (row_at l.first num) ≡ first_row_of kind values
-    unfolding layout_of
-    first_found l found =
-        ap (option_map (λ (l : RowLayout). row_at l.first num)) (sym found) ∙ to_first (first_places (at forward)) ∙ first_there ∙ sym (first_row_of-flow kind values is_flow)
-
-    pub second_found : (l : RowLayout) → layout_of (fields_of values) ≡ Some l
-        → cond (num l.second.packets == 0) None (Some (row_at l.second num)) ≡ option_and_then (row_back (element back values)) (first_row_of kind values)
-    unfolding layout_of
-    second_found l found =
-        ap (option_and_then (λ (l : RowLayout). cond (num l.second.packets == 0) None (Some (row_at l.second num)))) (sym found)
-        ∙ then_back (first_places (at forward)) (row_of_elements (element forward values)) first_there
-        ∙ ap (option_and_then (row_back (element back values))) (sym (first_row_of-flow kind values is_flow))
 
 -- ---- the lengths at places
 
@@ -264,114 +214,154 @@ module _ (fields : List FieldView) (bytes : List ℕ) (x : List FieldValueView �
   unfolding layout_of
   layout_usable l found = then_usable (first_places (place_at forward)) of_first l found
 
--- ---- in terms of a record's fields, as they are kept
+-- ---- a record whose fields and runs are these, with its bytes
 
-module _ (kind : Kind) (is_flow : kind ≡ Options → ⊥) (values : List FieldValueView) (fields : List FieldView) (runs bytes : List ℕ)
-    (same : fields ≡ fields_of values) (runs_are : runs ≡ runs_behind 0 fields)
-    (read : (rest : List ℕ) × (values_at (fields_of values) bytes ≡ Some (values, rest))) where
-  abbrev said : Place → ℕ
-  said p = number_there p runs bytes
+module _ (r : Record) (is_flow : r.kind ≡ Options → ⊥) (fields : List FieldView) (runs bytes : List ℕ) (same : fields ≡ fields_of r.fields)
+    (runs_are : runs ≡ runs_behind 0 fields) (read : (rest : List ℕ) × (values_at (fields_of r.fields) bytes ≡ Some (r.fields, rest))) where
+  abbrev num : Place → ℕ
+  num p = number_there p runs bytes
 
-  runs_of : runs ≡ runs_behind 0 (fields_of values)
-  runs_of = runs_are ∙ ap (runs_behind 0) same
+  abbrev at : Option ℕ → ℕ → Place
+  at direction number = place direction number 0 0 fields
+
+  of : (direction : Option ℕ) (number : ℕ) → IsOf num (at direction number) (element direction r.fields number)
+  of direction number =
+      rw (runs_are, same) (said_there direction number (fields_of r.fields) bytes r.fields read.0 read.1, there-place direction number 0 0 r.fields)
+
+  first_there : option_map (λ places. row_at places num) (first_places (at forward)) ≡ first_row r
+  first_there = first_is num (at forward) (element forward r.fields) (of forward) ∙ sym (first_row-flow r is_flow)
+
+  then_back : (first : Option Places) (row : Option RowView) → option_map (λ places. row_at places num) first ≡ row
+      → option_and_then (λ (l : RowLayout). cond (num l.second.packets == 0) None (Some (row_at l.second num))) (option_map (layout_with (at back)) first)
+      ≡ option_and_then (row_back (element back r.fields)) row
+  then_back None row is = ap (option_and_then (row_back (element back r.fields))) is
+  then_back (Some first) row is =
+      back_is num (at back) (element back r.fields) (of back) first ∙ ap (option_and_then (row_back (element back r.fields))) is
+
+  to_first : (first : Option Places) → option_map (λ (l : RowLayout). row_at l.first num) (option_map (layout_with (at back)) first)
+      ≡ option_map (λ places. row_at places num) first
+  to_first None = refl
+  to_first (Some first) = refl
 
   pub usable : (l : RowLayout) → Some l ≡ layout_of fields → AreUsable (length bytes) l.first × AreUsable (length bytes) l.second
-  usable l found = layout_usable fields bytes (values, read.0) (ap (λ (fs : List FieldView). values_at fs bytes) same ∙ read.1) l (sym found)
+  usable l found = layout_usable fields bytes (r.fields, read.0) (ap (λ (fs : List FieldView). values_at fs bytes) same ∙ read.1) l (sym found)
 
-  pub row_missing : None ≡ layout_of fields → (None ≡ first_row_of kind values) × (None ≡ option_and_then (row_back (element back values)) (first_row_of kind values))
-  row_missing none = no_rows values bytes read kind is_flow (ap layout_of (sym same) ∙ sym none)
+  pub row_missing : None ≡ layout_of fields → (None ≡ first_row r) × (None ≡ second_row r)
+  unfolding layout_of
+  row_missing none =
+      let first : None ≡ first_row r = ap (option_map (λ (l : RowLayout). row_at l.first num)) none ∙ to_first (first_places (at forward)) ∙ first_there in
+      (first, ap (option_and_then (row_back (element back r.fields))) first)
 
-  pub row_found : (l : RowLayout) → Some l ≡ layout_of fields → Some (row_at l.first said) ≡ first_row_of kind values
-  row_found l found =
-      ap (λ (rs : List ℕ). Some (row_at l.first (λ p. number_there p rs bytes))) runs_of
-      ∙ first_found values bytes read kind is_flow l (ap layout_of (sym same) ∙ sym found)
+  pub row_found : (l : RowLayout) → Some l ≡ layout_of fields → Some (row_at l.first num) ≡ first_row r
+  unfolding layout_of
+  row_found l found = ap (option_map (λ (l : RowLayout). row_at l.first num)) found ∙ to_first (first_places (at forward)) ∙ first_there
 
   pub reverse_found : (l : RowLayout) → Some l ≡ layout_of fields
-      → cond (said l.second.packets == 0) None (Some (row_at l.second said)) ≡ option_and_then (row_back (element back values)) (first_row_of kind values)
+      → cond (num l.second.packets == 0) None (Some (row_at l.second num)) ≡ second_row r
+  unfolding layout_of
   reverse_found l found =
-      ap (λ (rs : List ℕ). cond (number_there l.second.packets rs bytes == 0) None (Some (row_at l.second (λ p. number_there p rs bytes)))) runs_of
-      ∙ second_found values bytes read kind is_flow l (ap layout_of (sym same) ∙ sym found)
+      ap (option_and_then (λ (l : RowLayout). cond (num l.second.packets == 0) None (Some (row_at l.second num)))) found
+      ∙ then_back (first_places (at forward)) (first_row r) first_there
 
   -- without packets of the reverse direction there is no second row
-  pub reverse_missing : (l : RowLayout) → Some l ≡ layout_of fields → l.second.packets.length ≡ 0
-      → None ≡ option_and_then (row_back (element back values)) (first_row_of kind values)
+  pub reverse_missing : (l : RowLayout) → Some l ≡ layout_of fields → l.second.packets.length ≡ 0 → None ≡ second_row r
   reverse_missing l found none =
-      ap (λ (n : ℕ). cond {A = Option RowView} (n == 0) None (Some (row_at l.second said))) (sym (none_there l.second.packets runs bytes none))
+      ap (λ (n : ℕ). cond {A = Option RowView} (n == 0) None (Some (row_at l.second num))) (sym (none_there l.second.packets runs bytes none))
       ∙ reverse_found l found
 
 -- ---- the number of rows
 
--- a layout says whether there are first rows, and whether there may be second ones
-first_row-there : (first : Option Places) (kind : Kind) (values : List FieldValueView)
-    → first ≡ first_places (λ number. place forward number 0 0 (fields_of values))
-    → is_some (first_row_of kind values) ≡ (same_kind kind Flow && is_some first)
-first_row-there first Options values is = refl
-first_row-there first Flow values is =
-    let at = λ (number : ℕ). place forward number 0 0 (fields_of values) in
-    is_some-row (element forward values)
-    ∙ (λ i.
-    (sym (there-place forward 8 0 0 values) i && sym (there-place forward 12 0 0 values) i)
-    || (sym (there-place forward 27 0 0 values) i && sym (there-place forward 28 0 0 values) i))
-    ∙ sym (is_some-places (is_there (at 8) && is_there (at 12)) (is_there (at 27) && is_there (at 28)) (places_between true (at 8) (at 12) at) (places_between false (at 27) (at 28) at))
-    ∙ ap is_some (sym is)
-  where
-    is_some-places : (a b : Bool) (p q : Places) → is_some (cond a (Some p) (cond b (Some q) None)) ≡ (a || b)
-    is_some-places true b p q = refl
-    is_some-places false true p q = refl
-    is_some-places false false p q = refl
+mapped : (first : Option Places) (at : ℕ → Place) → is_some (option_map (layout_with at) first) ≡ is_some first
+mapped None at = refl
+mapped (Some first) at = refl
 
-    is_some-between : (version : Version) (a b : Option ℕ) (said : ℕ → Option ℕ)
-        → is_some (row_between version a b said) ≡ (is_some a && is_some b)
-    is_some-between version None b said = refl
-    is_some-between version (Some a) None said = refl
-    is_some-between version (Some a) (Some b) said = refl
+-- a layout says whether there are first rows
+module _ (r : Record) where
+  abbrev at_first : ℕ → Place
+  at_first number = place forward number 0 0 (fields_of r.fields)
 
-    is_some-or : (x y : Option RowView) → is_some (option_or x y) ≡ (is_some x || is_some y)
-    is_some-or None y = refl
-    is_some-or (Some x) y = refl
+  abbrev said_first : ℕ → Option ℕ
+  said_first = element forward r.fields
 
-    is_some-row : (said : ℕ → Option ℕ)
-        → is_some (row_of_elements said) ≡ ((is_some (said 8) && is_some (said 12)) || (is_some (said 27) && is_some (said 28)))
-    is_some-row said =
-        is_some-or (row_between V4 (said 8) (said 12) said) (row_between V6 (said 27) (said 28) said)
-        ∙ (λ i. is_some-between V4 (said 8) (said 12) said i || is_some-between V6 (said 27) (said 28) said i)
+  first_row-there : is_some (first_row r) ≡ (same_kind r.kind Flow && is_some (layout_of (fields_of r.fields)))
+  unfolding layout_of
+  first_row-there =
+      if_flow (same_kind r.kind Flow) (row_of_elements said_first)
+      ∙ ap (λ (b : Bool). same_kind r.kind Flow && b)
+      (sym
+      (
+      mapped (first_places at_first) (λ number. place back number 0 0 (fields_of r.fields))
+      ∙ (λ i.
+      is_some (cond (of_first 8 i && of_first 12 i) (Some (places_between true (at_first 8) (at_first 12) at_first))
+      (cond (of_first 27 i && of_first 28 i) (Some (places_between false (at_first 27) (at_first 28) at_first)) None)))
+      ∙ between (said_first 8) (said_first 12) (said_first 27) (said_first 28)
+      ))
+    where
+      of_first : (number : ℕ) → is_there (at_first number) ≡ is_some (said_first number)
+      of_first number = there-place forward number 0 0 r.fields
 
-absent : {X : Type 0} (o : Option X) → is_some o ≡ false → o ≡ None
-absent None is = refl
-absent (Some x) is = absurd (cc)
+      if_flow : (b : Bool) (row : Option RowView) → is_some (cond b row None) ≡ (b && is_some row)
+      if_flow true row = refl
+      if_flow false row = refl
+
+      between : (a b c d : Option ℕ)
+          → is_some (cond (is_some a && is_some b) (Some (places_between true (at_first 8) (at_first 12) at_first))
+          (cond (is_some c && is_some d) (Some (places_between false (at_first 27) (at_first 28) at_first)) None))
+          ≡ is_some (option_or (row_between V4 a b said_first) (row_between V6 c d said_first))
+      between (Some a) (Some b) c d = refl
+      between (Some a) None (Some c) (Some d) = refl
+      between (Some a) None (Some c) None = refl
+      between (Some a) None None d = refl
+      between None b (Some c) (Some d) = refl
+      between None b (Some c) None = refl
+      between None b None d = refl
 
 -- without a place for the packets of the reverse direction there is no second row
-neither_there : (p q : Place) → is_there (place_or p q) ≡ false → (is_there p ≡ false) × (is_there q ≡ false)
-neither_there p q none =
-    elim (is_there p) as (λ b. is_there p ≡ b → is_there (cond b p q) ≡ false → (b ≡ false) × (is_there q ≡ false)) [
-      | true ↦ λ there none. absurd (true≢false (sym there ∙ none))
-      | false ↦ λ _ none. (refl, none)
+or_there : (p q : Place) → is_there (place_or p q) ≡ (is_there p || is_there q)
+or_there p q =
+    elim (is_there p) as (λ b. is_there p ≡ b → is_there (cond b p q) ≡ (b || is_there q)) [
+      | true ↦ λ there. there
+      | false ↦ λ _. refl
     ]
-    refl none
+    refl
 
-no_second : (r : Record) → is_there (place_or (place back 2 0 0 (fields_of r.fields)) (place back 86 0 0 (fields_of r.fields))) ≡ false
-    → is_some (second_row r) ≡ false
-no_second r none =
-    let both = neither_there (place back 2 0 0 (fields_of r.fields)) (place back 86 0 0 (fields_of r.fields)) none in
-    let packets : element back r.fields 2 ≡ None = absent (element back r.fields 2) (sym (there-place back 2 0 0 r.fields) ∙ both.0) in
-    let total : element back r.fields 86 ≡ None = absent (element back r.fields 86) (sym (there-place back 86 0 0 r.fields) ∙ both.1) in
-    without (first_row r) (rw (packets, total) refl)
+packets_there : (first : Option Places) (at : ℕ → Place) (l : RowLayout) → option_map (layout_with at) first ≡ Some l
+    → is_there l.second.packets ≡ (is_there (at 2) || is_there (at 86))
+packets_there None at l is = absurd (cc)
+packets_there (Some first) at l is = ap (λ (l : RowLayout). is_there l.second.packets) (sym (some_is _ _ is)) ∙ or_there (at 2) (at 86)
+
+no_second : (r : Record) (l : RowLayout) → layout_of (fields_of r.fields) ≡ Some l → is_there l.second.packets ≡ false → is_some (second_row r) ≡ false
+unfolding layout_of
+no_second r l found none =
+    without (first_row r)
+    (neither (element back r.fields 2) (element back r.fields 86)
+    (
+    (λ i. sym (there-place back 2 0 0 r.fields) i || sym (there-place back 86 0 0 r.fields) i)
+    ∙ sym (packets_there _ (λ number. place back number 0 0 (fields_of r.fields)) l found) ∙ none
+    ))
   where
-    without : (first : Option RowView) → packets_of (element back r.fields) ≡ 0 → is_some (option_and_then (row_back (element back r.fields)) first) ≡ false
+    neither : (a b : Option ℕ) → (is_some a || is_some b) ≡ false → unwrap_or (option_or a b) 0 ≡ 0
+    neither None None none = refl
+    neither None (Some x) none = absurd (cc)
+    neither (Some x) b none = absurd (cc)
+
+    without : (first : Option RowView) → count_of 2 86 (element back r.fields) ≡ 0 → is_some (option_and_then (row_back (element back r.fields)) first) ≡ false
     without None none = refl
     without (Some row) none = rw none refl
 
-rows_counted : (records : List Record) → All (λ r. is_some (first_row r) ≡ true) records
-    → length (flat_map rows_of_record records) ≡ length records + count_by (λ r. is_some (second_row r)) records
-rows_counted [] all = refl
-rows_counted (r ∷ records) all =
+-- the rows are the first rows and the second rows
+rows_counted : (records : List Record) → length (flat_map rows_of_record records)
+    ≡ count_by (λ r. is_some (first_row r)) records + count_by (λ r. is_some (second_row r)) records
+rows_counted [] = refl
+rows_counted (r ∷ records) =
     omega (
       arith,
       length-append (rows_of_record r) (flat_map rows_of_record records),
       length-append (option_to_list (first_row r)) (option_to_list (second_row r)),
-      one_there (first_row r) (All-head (λ (r : Record). is_some (first_row r) ≡ true) r records all),
+      one_or_none (first_row r),
       one_or_none (second_row r),
-      rows_counted records (All-tail (λ (r : Record). is_some (first_row r) ≡ true) r records all),
+      rows_counted records,
+      sum_by-cons (λ r. cond (is_some (first_row r)) 1 0) r records,
       sum_by-cons (λ r. cond (is_some (second_row r)) 1 0) r records,
     )
   where
@@ -379,15 +369,7 @@ rows_counted (r ∷ records) all =
     one_or_none None = refl
     one_or_none (Some row) = refl
 
-    one_there : (o : Option RowView) → is_some o ≡ true → length (option_to_list o) ≡ 1
-    one_there None is = absurd (cc)
-    one_there (Some row) is = refl
-
 -- if one test decides for all, either all or none pass
-together : (c : Bool) (n : ℕ) → cond c 1 0 + cond c n 0 ≡ cond c (suc n) 0
-together true n = omega arith
-together false n = omega arith
-
 count_alike : {X : Type 0} (p : X → Bool) (b : Bool) (xs : List X) → All (λ x. p x ≡ b) xs → count_by p xs ≡ cond b (length xs) 0
 count_alike p true [] all = refl
 count_alike p false [] all = refl
@@ -395,75 +377,58 @@ count_alike {X} p b (x ∷ xs) all =
     let here : p x ≡ b = All-head (λ (y : X). p y ≡ b) x xs all in
     let more : count_by p xs ≡ cond b (length xs) 0 = count_alike p b xs (All-tail (λ (y : X). p y ≡ b) x xs all) in
     sum_by-cons (λ y. cond (p y) 1 0) x xs ∙ (λ i. cond (here i) 1 0 + more i) ∙ together b (length xs)
+  where
+    together : (c : Bool) (n : ℕ) → cond c 1 0 + cond c n 0 ≡ cond c (suc n) 0
+    together true n = omega arith
+    together false n = omega arith
 
 pub of_kind_counted : (kind : Kind) (records : List Record) (of : Kind) → All (λ r. r.kind ≡ of) records
-    → count_by (is_of_kind kind) records ≡ cond (same_kind of kind) (length records) 0
+    → count_by (λ r. same_kind r.kind kind) records ≡ cond (same_kind of kind) (length records) 0
 of_kind_counted kind records of all =
-    count_alike (is_of_kind kind) (same_kind of kind) records (λ k d within. ap (λ (x : Kind). same_kind x kind) (all k d within))
-
-rows_none : (records : List Record) → All (λ r. is_some (first_row r) ≡ false) records → length (flat_map rows_of_record records) ≡ 0
-rows_none [] all = refl
-rows_none (r ∷ records) all =
-    omega (
-      arith,
-      length-append (rows_of_record r) (flat_map rows_of_record records),
-      no_rows_of (first_row r) (All-head (λ (r : Record). is_some (first_row r) ≡ false) r records all),
-      rows_none records (All-tail (λ (r : Record). is_some (first_row r) ≡ false) r records all),
-    )
-  where
-    no_rows_of : (first : Option RowView) → is_some first ≡ false
-        → length (option_to_list first ++ option_to_list (option_and_then (row_back (element back r.fields)) first)) ≡ 0
-    no_rows_of None is = refl
-    no_rows_of (Some row) is = absurd (cc)
+    count_alike (λ r. same_kind r.kind kind) (same_kind of kind) records (λ k d within. ap (λ (x : Kind). same_kind x kind) (all k d within))
 
 -- records of a kind with these fields
 module _ (fields : List FieldView) (records : List Record) (kind : Kind) (of_kind : All (λ r. r.kind ≡ kind) records)
     (of_fields : All (λ r. fields_of r.fields ≡ fields) records) where
-  abbrev first : Option Places
-  first = first_places (λ number. place forward number 0 0 fields)
-
-  first_rows : All (λ r. is_some (first_row r) ≡ (same_kind kind Flow && is_some first)) records
+  first_rows : All (λ r. is_some (first_row r) ≡ (same_kind kind Flow && is_some (layout_of fields))) records
   first_rows = λ k d within.
-      let r = get_or records k d in
-      first_row-there (first_places (λ number. place forward number 0 0 (fields_of r.fields))) r.kind r.fields refl
-      ∙ (λ i. same_kind (of_kind k d within i) Flow && is_some (first_places (λ number. place forward number 0 0 (of_fields k d within i))))
+      first_row-there (get_or records k d)
+      ∙ (λ i. same_kind (of_kind k d within i) Flow && is_some (layout_of (of_fields k d within i)))
 
-  layout_first : (first : Option Places) (at : ℕ → Place) → is_some (option_map (layout_with at) first) ≡ is_some first
-  layout_first None at = refl
-  layout_first (Some first) at = refl
-
-  is_laid_out : is_some (layout_of fields) ≡ is_some first
-  unfolding layout_of
-  is_laid_out = layout_first first (λ number. place back number 0 0 fields)
+  no_rows : (same_kind kind Flow && is_some (layout_of fields)) ≡ false → length (flat_map rows_of_record records) ≡ 0
+  no_rows none =
+      omega (
+        arith,
+        rows_counted records,
+        count_alike (λ r. is_some (first_row r)) false records (λ k d within. first_rows k d within ∙ none),
+        count_alike (λ r. is_some (second_row r)) false records (λ k d within. without (get_or records k d) (first_rows k d within ∙ none)),
+      )
+    where
+      without : (r : Record) → is_some (first_row r) ≡ false → is_some (second_row r) ≡ false
+      without r none = by (first_row r) none
+        where
+          by : (first : Option RowView) → is_some first ≡ false → is_some (option_and_then (row_back (element back r.fields)) first) ≡ false
+          by None none = refl
+          by (Some row) none = absurd (cc)
 
   pub no_layout : None ≡ layout_of fields → length (flat_map rows_of_record records) ≡ 0
-  no_layout none =
-      rows_none records
-      (λ k d within. first_rows k d within ∙ ap (λ (b : Bool). same_kind kind Flow && b) (sym is_laid_out ∙ ap is_some (sym none)) ∙ never (same_kind kind Flow))
+  no_layout none = no_rows (ap (λ (l : Option RowLayout). same_kind kind Flow && is_some l) (sym none) ∙ never (same_kind kind Flow))
     where
       never : (b : Bool) → (b && false) ≡ false
       never true = refl
       never false = refl
 
   pub no_flows : same_kind kind Flow ≡ false → length (flat_map rows_of_record records) ≡ 0
-  no_flows other = rows_none records (λ k d within. first_rows k d within ∙ ap (λ (b : Bool). b && is_some first) other)
+  no_flows other = no_rows (ap (λ b. b && is_some (layout_of fields)) other)
 
   pub all_rows : (l : RowLayout) → Some l ≡ layout_of fields → same_kind kind Flow ≡ true
       → length (flat_map rows_of_record records) ≡ length records + count_by (λ r. is_some (second_row r)) records
   all_rows l found is_flow =
       rows_counted records
-      (λ k d within. first_rows k d within ∙ (λ i. is_flow i && (sym is_laid_out ∙ ap is_some (sym found)) i))
-
-  second_place : (first : Option Places) (at : ℕ → Place) (l : RowLayout) → option_map (layout_with at) first ≡ Some l → l.second.packets ≡ place_or (at 2) (at 86)
-  second_place None at l is = absurd (cc)
-  second_place (Some first) at l is = ap (λ (l : RowLayout). l.second.packets) (sym (some_is _ _ is))
+      ∙ ap (λ n. n + count_by (λ r. is_some (second_row r)) records)
+      (count_alike (λ r. is_some (first_row r)) true records (λ k d within. first_rows k d within ∙ (λ i. is_flow i && is_some (sym found i))))
 
   pub none_back : (l : RowLayout) → Some l ≡ layout_of fields → is_there l.second.packets ≡ false → count_by (λ r. is_some (second_row r)) records ≡ 0
-  unfolding layout_of
   none_back l found none =
       count_alike (λ r. is_some (second_row r)) false records
-      (λ k d within.
-      let r = get_or records k d in
-      no_second r
-      (ap (λ (fs : List FieldView). is_there (place_or (place back 2 0 0 fs) (place back 86 0 0 fs))) (of_fields k d within)
-      ∙ ap is_there (sym (second_place first (λ number. place back number 0 0 fields) l (sym found))) ∙ none))
+      (λ k d within. no_second (get_or records k d) l (ap layout_of (of_fields k d within) ∙ sym found) none)

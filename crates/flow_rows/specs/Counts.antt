@@ -75,17 +75,14 @@ abbrev pub is_skipped : Set → Bool
 is_skipped (Skipped id) = true
 is_skipped _ = false
 
--- whether the record is described by a template of the kind
-abbrev pub is_of_kind : Kind → Record → Bool
-is_of_kind kind r = same_kind r.kind kind
-
 -- the counts of `messages` messages with these sets: definitions of templates of each kind, withdrawals, data sets and
 -- skipped sets, records of each kind, and rows
 abbrev pub counts_in : ℕ → List Set → List ℕ
 counts_in messages sets =
     messages ∷ count_by (defines Flow) (events_of sets) ∷ count_by (defines Options) (events_of sets)
     ∷ count_by is_withdrawal (events_of sets) ∷ count_by is_data_set sets ∷ count_by is_skipped sets
-    ∷ count_by (is_of_kind Flow) (records_of sets) ∷ count_by (is_of_kind Options) (records_of sets) ∷ length (rows_of sets) ∷ []
+    ∷ count_by (λ r. same_kind r.kind Flow) (records_of sets) ∷ count_by (λ r. same_kind r.kind Options) (records_of sets)
+    ∷ length (rows_of sets) ∷ []
 
 -- the counts of messages
 abbrev pub counts_of : List MessageView → List ℕ

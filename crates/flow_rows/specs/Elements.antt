@@ -4,8 +4,8 @@ use Rattle.byteorder.specs.Endian.{big_number}
 use Rattle.prefix_keys.specs.declared.version.Version.{Version}
 use Rattle.prefix_keys.specs.declared.version.Version.TheVariants.{V4, V6}
 use Rattle.ipfix_templates.specs.Elements.{back, forward, is_usable}
-use Rattle.ipfix_templates.specs.declared.kind.Kind.{Kind}
-use Rattle.ipfix_templates.specs.declared.kind.Kind.TheVariants.{Flow, Options}
+use Rattle.ipfix_templates.specs.Template.{same_kind}
+use Rattle.ipfix_templates.specs.declared.kind.Kind.TheVariants.{Flow}
 use Rattle.ipfix_read.specs.Value.{FieldValueView}
 use Rattle.ipfix_read.specs.declared.record.Record.{Record}
 
@@ -36,13 +36,10 @@ element direction values number = option_map (λ v. big_endian v.value) (find (�
 
 -- The rows of a record, from the numbers of its elements.
 
--- the packets, and the bytes, of a direction; counts since the last report precede those since the flow began, and a
+-- the count of two elements of a direction: the count since the last report precedes that since the flow began, and a
 -- missing count is 0
-abbrev pub packets_of : (ℕ → Option ℕ) → ℕ
-packets_of said = unwrap_or (option_or (said 2) (said 86)) 0
-
-abbrev pub octets_of : (ℕ → Option ℕ) → ℕ
-octets_of said = unwrap_or (option_or (said 1) (said 85)) 0
+abbrev pub count_of : ℕ → ℕ → (ℕ → Option ℕ) → ℕ
+count_of delta total said = unwrap_or (option_or (said delta) (said total)) 0
 
 -- the row between two addresses of a version, if both exist; missing numbers are 0
 abbrev pub row_between : Version → Option ℕ → Option ℕ → (ℕ → Option ℕ) → Option RowView
@@ -54,8 +51,8 @@ row_between version (Some src) (Some dst) said = Some (record {
   dport = unwrap_or (said 11) 0;
   protocol = unwrap_or (said 4) 0;
   flags = unwrap_or (said 6) 0;
-  packets = packets_of said;
-  octets = octets_of said;
+  packets = count_of 2 86 said;
+  octets = count_of 1 85 said;
   start_ms = unwrap_or (said 152) 0;
   end_ms = unwrap_or (said 153) 0;
 })
@@ -65,30 +62,22 @@ row_between version _ _ said = None
 abbrev pub row_of_elements : (ℕ → Option ℕ) → Option RowView
 row_of_elements said = option_or (row_between V4 (said 8) (said 12) said) (row_between V6 (said 27) (said 28) said)
 
--- the first row of the values of a record; an options record has none
-abbrev pub first_row_of : Kind → List FieldValueView → Option RowView
-first_row_of Flow values = row_of_elements (element forward values)
-first_row_of Options values = None
-
+-- the first row of a record; an options record has none
 abbrev pub first_row : Record → Option RowView
-first_row r = first_row_of r.kind r.fields
+first_row r = if same_kind r.kind Flow then row_of_elements (element forward r.fields) else None
 
--- the row of the reverse direction of a row, from the numbers of that direction, if it has packets: addresses and ports
--- are exchanged, the protocol is the same, a missing time is the row's own, and other missing numbers are 0
+-- the numbers of the second row, from those of the reverse direction and the first row: ports are exchanged, the protocol
+-- is the same, and a missing time is that of the first row
+abbrev pub said_back : (ℕ → Option ℕ) → RowView → ℕ → Option ℕ
+said_back said row n =
+    if n == 7 then Some row.dport else if n == 11 then Some row.sport else if n == 4 then Some row.protocol
+    else if n == 152 then Some (unwrap_or (said n) row.start_ms) else if n == 153 then Some (unwrap_or (said n) row.end_ms) else said n
+
+-- the row of the reverse direction of a row, from the numbers of that direction, if it has packets: it is between the
+-- exchanged addresses
 abbrev pub row_back : (ℕ → Option ℕ) → RowView → Option RowView
-row_back said row = if packets_of said == 0 then None else Some (record {
-  version = row.version;
-  src = row.dst;
-  dst = row.src;
-  sport = row.dport;
-  dport = row.sport;
-  protocol = row.protocol;
-  flags = unwrap_or (said 6) 0;
-  packets = packets_of said;
-  octets = octets_of said;
-  start_ms = unwrap_or (said 152) row.start_ms;
-  end_ms = unwrap_or (said 153) row.end_ms;
-})
+row_back said row =
+    if count_of 2 86 said == 0 then None else row_between row.version (Some row.dst) (Some row.src) (said_back said row)
 
 -- the second row of a record: that of the reverse direction of its first row, if it has a first row and packets went
 -- back

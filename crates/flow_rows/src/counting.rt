@@ -1,7 +1,8 @@
 //! Counting the contents of a set by kind.
 ghost use Rattle.std.specs.Prelude.{◌≡◌, ◌+◌, ◌<◌, ◌≤◌, ◌^◌, count_by, length};
 ghost use Rattle.std.specs.List.{flat_map};
-ghost use Rattle.flow_rows.specs.Counts.{defines, is_of_kind, is_withdrawal};
+ghost use Rattle.ipfix_templates.specs.Template.{same_kind};
+ghost use Rattle.flow_rows.specs.Counts.{defines, is_withdrawal};
 ghost use Rattle.flow_rows.specs.Elements.{rows_of_record};
 
 use crate::record::reverse_row_of;
@@ -33,7 +34,7 @@ pub fn withdrawals(events: &[TemplateEvent]) -> u64
 
 /// Returns the number of records that are described by a template of the kind: all of them, or none.
 pub fn of_kind(records: &RecordList<'_>, kind: Kind) -> u64
-    ensures { result ≡ count_by (is_of_kind kind) records.now }
+    ensures { result ≡ count_by (λ r. same_kind r.kind kind) records.now }
 {
     if records.kind().is(kind) {
         records.len() as u64

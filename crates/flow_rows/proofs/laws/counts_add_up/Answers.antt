@@ -4,11 +4,12 @@ use Rattle.std.specs.List.{flat_map}
 use Rattle.std.proofs.lemmas.Grind.{flat_map-append}
 use Rattle.std.proofs.lemmas.List.{append-nil}
 use Rattle.std.proofs.lemmas.List.Sums.{sum_by-append}
+use Rattle.ipfix_templates.specs.Template.{same_kind}
 use Rattle.ipfix_templates.specs.declared.kind.Kind.TheVariants.{Flow, Options}
 use Rattle.ipfix_read.specs.declared.set.Set.{Set}
 use Rattle.ipfix_read.specs.Message.{MessageView}
 use Rattle.flow_rows.specs.Elements.{rows_of_record}
-use Rattle.flow_rows.specs.Counts.{counts_in, counts_of, defines, events_in, is_data_set, is_of_kind, is_skipped, is_withdrawal, records_in, records_of, rows_of, sets_of}
+use Rattle.flow_rows.specs.Counts.{counts_in, counts_of, defines, events_in, is_data_set, is_skipped, is_withdrawal, records_in, records_of, rows_of, sets_of}
 use Rattle.flow_rows.specs.Laws.{sums}
 use Rattle.flow_rows.proofs.laws.counts_add_up.Goals as goal
 
@@ -42,8 +43,8 @@ counts-append front back =
     ∷ has-append is_withdrawal events_in xs ys i
     ∷ count-append is_data_set xs ys i
     ∷ count-append is_skipped xs ys i
-    ∷ has-append (is_of_kind Flow) records_in xs ys i
-    ∷ has-append (is_of_kind Options) records_in xs ys i
+    ∷ has-append (λ r. same_kind r.kind Flow) records_in xs ys i
+    ∷ has-append (λ r. same_kind r.kind Options) records_in xs ys i
     ∷ (ap length (rows-append xs ys) ∙ length-append (rows_of xs) (rows_of ys)) i
     ∷ [])
 

@@ -9,12 +9,12 @@ use Rattle.flow_rows.proofs.record.reverse_row_of.Goals as goal
 
 pub returns-in_default-row_layout : goal.returns-in_default-row_layout
 returns-in_default-row_layout c =
-    (row_missing c.args.source.now.kind c.in_default.not-Options c.args.source.now.fields c.specifiers-fields.result.now _ c.bytes-bytes.result.now
+    (row_missing c.args.source.now c.in_default.not-Options c.specifiers-fields.result.now _ c.bytes-bytes.result.now
     c.specifiers-fields.ensures refl c.bytes-bytes.ensures c.in_default-row_layout.ensures).1
 
 pub returns-then-not-is_there : goal.returns-then-not-is_there
 returns-then-not-is_there c =
-    reverse_missing c.args.source.now.kind c.in_default.not-Options c.args.source.now.fields c.specifiers-fields.result.now _ c.bytes-bytes.result.now
+    reverse_missing c.args.source.now c.in_default.not-Options c.specifiers-fields.result.now _ c.bytes-bytes.result.now
     c.specifiers-fields.ensures refl c.bytes-bytes.ensures c.in-Some.layout.now c.in-Some.ensures
     (zero_of c.in-Some.layout.now.second.packets.length (sym c.is_there.ensures ∙ c.if-not-is_there.true))
   where
@@ -23,7 +23,7 @@ returns-then-not-is_there c =
 
 pub new-row-requires : goal.new-row-requires
 new-row-requires c =
-    (usable c.args.source.now.kind c.in_default.not-Options c.args.source.now.fields c.specifiers-fields.result.now _ c.bytes-bytes.result.now
+    (usable c.args.source.now c.in_default.not-Options c.specifiers-fields.result.now _ c.bytes-bytes.result.now
     c.specifiers-fields.ensures refl c.bytes-bytes.ensures c.in-Some.layout.now c.in-Some.ensures).1
 
 pub returns-then-packets-eq0 : goal.returns-then-packets-eq0
@@ -33,7 +33,7 @@ returns-then-packets-eq0 c =
     let row : RowView = row_at c.in-Some.layout.now.second said in
     let none : said packets ≡ 0 = sym (ap (λ (r : RowView). r.packets) c.new-row.ensures) ∙ sym c.packets.ensures ∙ c.if-packets-eq0.true in
     ap (λ (n : ℕ). cond {A = Option RowView} (n == 0) None (Some row)) (sym none)
-    ∙ reverse_found c.args.source.now.kind c.in_default.not-Options c.args.source.now.fields c.specifiers-fields.result.now c.runs.result.now c.bytes-bytes.result.now
+    ∙ reverse_found c.args.source.now c.in_default.not-Options c.specifiers-fields.result.now c.runs.result.now c.bytes-bytes.result.now
     c.specifiers-fields.ensures c.runs.ensures c.bytes-bytes.ensures c.in-Some.layout.now c.in-Some.ensures
 
 pub returns : goal.returns
@@ -45,5 +45,5 @@ returns c =
     ne_eqb (said packets) 0 (λ zero. c.if-packets-eq0.false (c.packets.ensures ∙ ap (λ (r : RowView). r.packets) c.new-row.ensures ∙ zero)) in
     ap (λ (r : RowView). Some r) c.new-row.ensures
     ∙ ap (λ (b : Bool). cond {A = Option RowView} b None (Some row)) (sym some)
-    ∙ reverse_found c.args.source.now.kind c.in_default.not-Options c.args.source.now.fields c.specifiers-fields.result.now c.runs.result.now c.bytes-bytes.result.now
+    ∙ reverse_found c.args.source.now c.in_default.not-Options c.specifiers-fields.result.now c.runs.result.now c.bytes-bytes.result.now
     c.specifiers-fields.ensures c.runs.ensures c.bytes-bytes.ensures c.in-Some.layout.now c.in-Some.ensures

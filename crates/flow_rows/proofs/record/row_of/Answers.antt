@@ -5,16 +5,16 @@ use Rattle.flow_rows.proofs.record.row_of.Goals as goal
 
 pub returns-in_default-row_layout : goal.returns-in_default-row_layout
 returns-in_default-row_layout c =
-    (row_missing c.args.source.now.kind c.in_default.not-Options c.args.source.now.fields c.specifiers-fields.result.now _ c.bytes-bytes.result.now
+    (row_missing c.args.source.now c.in_default.not-Options c.specifiers-fields.result.now _ c.bytes-bytes.result.now
     c.specifiers-fields.ensures refl c.bytes-bytes.ensures c.in_default-row_layout.ensures).0
 
 pub new-requires : goal.new-requires
 new-requires c =
-    (usable c.args.source.now.kind c.in_default.not-Options c.args.source.now.fields c.specifiers-fields.result.now _ c.bytes-bytes.result.now
+    (usable c.args.source.now c.in_default.not-Options c.specifiers-fields.result.now _ c.bytes-bytes.result.now
     c.specifiers-fields.ensures refl c.bytes-bytes.ensures c.in-Some.layout.now c.in-Some.ensures).0
 
 pub returns : goal.returns
 returns c =
     ap (λ (row : RowView). Some row) c.new.ensures
-    ∙ row_found c.args.source.now.kind c.in_default.not-Options c.args.source.now.fields c.specifiers-fields.result.now c.runs.result.now c.bytes-bytes.result.now
+    ∙ row_found c.args.source.now c.in_default.not-Options c.specifiers-fields.result.now c.runs.result.now c.bytes-bytes.result.now
     c.specifiers-fields.ensures c.runs.ensures c.bytes-bytes.ensures c.in-Some.layout.now c.in-Some.ensures
