@@ -1,7 +1,6 @@
 -- A list in order is the only list that ascends and keeps the order of elements that tie.
-use Rattle.std.proofs.Common.{◌≡◌, get_or, zero, suc, ◌+◌, ◌<◌, Bool, true, false, not, ◌&&◌, cond, if◌then◌else◌, List, [], ◌∷◌, length, map, filter, All, true≢false, refl, sym, ap, subst, ◌∙◌, arith}
+use Rattle.std.proofs.Common.{◌≡◌, get_or, zero, suc, ◌+◌, Bool, true, false, not, ◌&&◌, cond, if◌then◌else◌, List, [], ◌∷◌, map, filter, All, true≢false, refl, sym, ap, subst, ◌∙◌, arith}
 use Rattle.std.proofs.lemmas.Bool.{and_parts, both_ways, false_from_ne_true, not-true}
-use Rattle.std.proofs.lemmas.List.{get_or-map, length-map}
 use Rattle.std.proofs.lemmas.List.Elements.{All-cons, All-filter, All-from_get_or, All-head, All-nil, All-tail, All-weaker}
 use Rattle.std.proofs.lemmas.List.Sorted.{sorted_far}
 use Rattle.std.specs.Cmp.{IsStrictWeakOrder}
@@ -164,11 +163,3 @@ module _ {X Y : Type 0} (f : X → Y) (lt : Y → Y → Bool) where
   map-in_order [] = refl
   map-in_order (x ∷ xs) =
       map-with_in_order x (in_order (λ a b. lt (f a) (f b)) xs) ∙ ap (λ (l : List Y). with_in_order lt (f x) l) (map-in_order xs)
-
--- a list that ascends by a function of its elements ascends after the function is applied
-pub IsSortedBy-map : {X Y : Type 0} (f : X → Y) (lt : Y → Y → Bool) (xs : List X) → IsSortedBy (λ a b. lt (f a) (f b)) xs → IsSortedBy lt (map f xs)
-IsSortedBy-map f lt [] up = λ k d low h. absurd (omega arith)
-IsSortedBy-map f lt (x ∷ xs) up = λ k d low h.
-    let high : k + 1 < length (x ∷ xs) = omega (arith, length-map xs f) in
-    let here : k < length (x ∷ xs) = omega arith in
-    (λ i. lt (get_or-map f (x ∷ xs) (k + 1) x d high i) (get_or-map f (x ∷ xs) k x d here i)) ∙ up k x low high

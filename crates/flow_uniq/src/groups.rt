@@ -1,7 +1,6 @@
 ghost use Rattle.std.specs.Prelude.{All, ◌≡◌, ◌++◌, ℕ, ◌∷◌, [], ◌+◌, ◌-◌, ◌^◌, ◌<◌, false, IsTrue, List, IfOk, OnOk, OnErr, length, map, option_map, slice_get};
-ghost use Rattle.std.specs.List.Sorted.{IsPermutation, IsSortedBy};
 ghost use Rattle.label_lookup.specs.Labelling.{label_where, labelling_lent};
-ghost use Rattle.flow_uniq.specs.Groups.{AreOfNoRows, KeyedRow, groups_of_keyed, record_count, is_before, sorted_groups};
+ghost use Rattle.flow_uniq.specs.Groups.{AreOfNoRows, KeyedRow, groups_of_keyed, record_count, sorted_groups};
 ghost use Rattle.flow_uniq.specs.Key.{key_of};
 ghost use Rattle.flow_uniq.specs.Inner.{HasRow, IsCode, IsKept, group_model, kept_groups, key_in};
 
@@ -214,10 +213,7 @@ impl Groups {
 
     /// Returns the groups in the order of their keys.
     pub fn sorted(&self) -> Result<Vec<Group<'_>>, AllocError>
-        ensures value { IfOk result (λ groups. map group_model groups.items ≡ sorted_groups self.now.groups) }
-        // They are a permutation of the groups, in which no group is less than the one before it.
-        ensures permutation { IfOk result (λ groups. IsPermutation self.now.groups (map group_model groups.items)) }
-        ensures ascends { IfOk result (λ groups. IsSortedBy is_before (map group_model groups.items)) }
+        ensures { IfOk result (λ groups. map group_model groups.items ≡ sorted_groups self.now.groups) }
     {
         let mut groups = listed(self.alloc, self)?;
         groups.sort_by(|a, b| compare_keys(a.key, b.key))?;

@@ -4,7 +4,7 @@ use Rattle.std.specs.List.{AllByRecursion, IsDistinct}
 use Rattle.std.specs.List.Sorted.{IsNonDecreasingBy, IsPermutation}
 use Rattle.std.proofs.lemmas.Bool.Decides.{nat_tests}
 use Rattle.std.proofs.lemmas.List.Elements.{All-contains, All-from_recursion, All-map, recursion_from_All}
-use Rattle.std.proofs.lemmas.List.Sorted.{Contains-permutation, IsPermutation-cons, IsPermutation-map, IsPermutation-middle, IsPermutation-refl, IsPermutation-sym, IsPermutation-trans}
+use Rattle.std.proofs.lemmas.List.Sorted.{Contains-permutation, IsPermutation-cons, IsPermutation-map, IsPermutation-sym, IsPermutation-trans}
 use Rattle.std.proofs.lemmas.Map.Keys.{IsDistinct-IsPermutation, IsDistinct-head, IsDistinct-tail}
 use Rattle.pmap_cert.specs.Acceptance.{IsInOrder, begins_before}
 use Rattle.pmap_text.specs.ListEntries.{HasDistinctBlocks, rank_of, same_block}
@@ -16,6 +16,7 @@ use Rattle.pmap_text.proofs.Filed.{distinct_to_map, flips}
 use Rattle.pmap_text.proofs.ListBlocks.{ranks_ascend, short-block}
 use Rattle.pmap_text.proofs.Finds.{Contains-cases, Contains-first, Contains-later, Contains-nil}
 use Rattle.flow_uniq.specs.Groups.{with_in_order}
+use Rattle.flow_uniq.proofs.Dividing.{same-in_order}
 use Rattle.pmap_print.specs.List.{entries_in_order, starts_alike}
 
 -- the entries with one more, which is placed before the first entry that doesn't precede it
@@ -65,22 +66,8 @@ order-one (p ∷ ps) (r ∷ rs) op or' to from =
     ap (λ (x : Prefix). x ∷ ps) e ∙ ap (λ (xs : List Prefix). r ∷ xs) rest
 
 -- the entries in order are those of the list
-placed-moves : (p : Prefix) (ps : List Prefix) → IsPermutation (p ∷ ps) (placed p ps)
-placed-moves p [] = IsPermutation-refl (p ∷ [])
-placed-moves p (r ∷ rs) = by (begins_before r p) (placed-moves p rs)
-  where
-    by : (b : Bool) → IsPermutation (p ∷ rs) (placed p rs) → IsPermutation (p ∷ r ∷ rs) (cond b (r ∷ placed p rs) (p ∷ r ∷ rs))
-    by false ih = IsPermutation-refl (p ∷ r ∷ rs)
-    by true ih =
-        IsPermutation-trans (p ∷ r ∷ rs) (r ∷ p ∷ rs) (r ∷ placed p rs)
-        (IsPermutation-sym (r ∷ p ∷ rs) (p ∷ r ∷ rs) (IsPermutation-middle (r ∷ []) p rs))
-        (IsPermutation-cons r (p ∷ rs) (placed p rs) ih)
-
 pub in_order-moves : (ps : List Prefix) → IsPermutation ps (entries_in_order ps)
-in_order-moves [] = IsPermutation-refl []
-in_order-moves (p ∷ ps) =
-    IsPermutation-trans (p ∷ ps) (p ∷ entries_in_order ps) (placed p (entries_in_order ps)) (IsPermutation-cons p ps (entries_in_order ps) (in_order-moves ps))
-    (placed-moves p (entries_in_order ps))
+in_order-moves = same-in_order begins_before
 
 -- the entries in order ascend
 placed-all : (P : Prefix → Type 0) (p : Prefix) (ps : List Prefix) → P p → AllByRecursion P ps → AllByRecursion P (placed p ps)

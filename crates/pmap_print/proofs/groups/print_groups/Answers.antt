@@ -1,11 +1,11 @@
 use Rattle.std.proofs.Common.{ℕ, ◌≡◌, ◌+◌, ◌∙◌, All, Bool, List, [], ◌∷◌, None, Some, ap, arith, get_or, length, map, option_map, slice_get, subst, sym}
 use Rattle.std.specs.Prelude.{IfOk}
-use Rattle.std.specs.List.Sorted.{IsPermutation}
 use Rattle.std.proofs.lemmas.List.Sorted.{All-permutation}
 use Rattle.std.proofs.lemmas.List.{length-map, take_all}
 use Rattle.flow_uniq.specs.declared.field.KeyField.{KeyField}
 use Rattle.flow_uniq.specs.declared.group.Group.{Group}
-use Rattle.flow_uniq.specs.Groups.{GroupModel, shown_groups}
+use Rattle.flow_uniq.specs.Groups.{GroupModel, is_before, shown_groups, sorted_groups}
+use Rattle.flow_uniq.proofs.Dividing.{same-in_order}
 use Rattle.flow_uniq.specs.Inner.{group_model}
 use Rattle.flow_uniq.proofs.Listing.{none_past}
 use Rattle.pmap_print.specs.Table.{IsTable, has_columns, Line, table_text}
@@ -16,15 +16,15 @@ use Rattle.pmap_print.proofs.groups.print_groups.Goals.{in-Some+in_ok-add_group-
 
 -- the keys of the shown groups have `count` parts
 shown_parts : (count : ℕ) (groups : List GroupModel) (shown items : List Group) → All (λ g. length g.key ≡ count) groups
-    → IsPermutation groups (map group_model shown) → items ≡ shown → All (λ g. length g.key ≡ count) (map group_model items)
-shown_parts count groups shown items all moved same =
-    rw same (All-permutation (λ (g : GroupModel). length g.key ≡ count) groups (map group_model shown) moved all)
+    → map group_model shown ≡ sorted_groups groups → items ≡ shown → All (λ g. length g.key ≡ count) (map group_model items)
+shown_parts count groups shown items all is same =
+    rw (same, is) (All-permutation (λ (g : GroupModel). length g.key ≡ count) groups (sorted_groups groups) (same-in_order is_before groups) all)
 
 pub add_group-requires : goal.add_group-requires
 add_group-requires c =
     let items : List Group = c.as_slice-group-items.result.now in
     let all = shown_parts (length c.args.groups.now.fields) c.args.groups.now.groups c.in_ok-shown.shown.items items c.fields.ensures.parts
-    c.in_ok-shown.ensures.permutation c.as_slice-group-items.ensures.value in (
+    c.in_ok-shown.ensures c.as_slice-group-items.ensures.value in (
       length c.args.groups.now.fields + 3,
       first_lines c.args.groups.now.fields (map group_model items) c.loop-group.group-index,
       c.loop-group.invariant.lines,
@@ -40,7 +40,7 @@ loop-group-preserved c =
     let items : List Group = c.as_slice-group-items.result.now in
     let i : ℕ = c.loop-group.group-index in
     let at = listed_at items i none c.loop-group-test.true in
-    let all = shown_parts count c.args.groups.now.groups c.in_ok-shown.shown.items items c.fields.ensures.parts c.in_ok-shown.ensures.permutation
+    let all = shown_parts count c.args.groups.now.groups c.in_ok-shown.shown.items items c.fields.ensures.parts c.in_ok-shown.ensures
     c.as_slice-group-items.ensures.value in
     record {
       lines =
@@ -60,7 +60,7 @@ returns-then-sorted c =
     let whole : first_lines fields gs i ≡ group_titles fields ∷ map group_fields (shown_groups c.args.sorted c.args.groups.now.groups) =
     ap (λ (l : List GroupModel). group_titles fields ∷ map group_fields l)
     (take_all i gs (omega (arith, c.loop-group-test.false, length-map c.as_slice-group-items.result.now group_model))
-    ∙ ap (map group_model) c.as_slice-group-items.ensures.value ∙ c.in_ok-shown.ensures.value
+    ∙ ap (map group_model) c.as_slice-group-items.ensures.value ∙ c.in_ok-shown.ensures
     ∙ ap (λ (b : Bool). shown_groups b c.args.groups.now.groups) (sym c.if-sorted.true)) in
     subst (λ (ls : List Line). IfOk c.into_text.result (λ out. out.items ≡ table_text c.args.columns ls)) whole
     (subst (λ (b : Bool). IfOk c.into_text.result (λ out. out.items ≡ table_text b (first_lines fields gs i))) c.loop-group.invariant.columns

@@ -1,13 +1,12 @@
-use Rattle.std.proofs.Common.{Bool, List, ap, rules, subst, ◌∙◌, map}
+use Rattle.std.proofs.Common.{Bool, ap, rules, ◌∙◌, map}
 use borrow.Author.Tests.{tests}
 use Rattle.std.proofs.lemmas.Cmp.{lists_total, nat_list_cmp_total, on_total}
-use Rattle.std.proofs.lemmas.List.Sorted.{IsPermutation-map, answers_always, ranks_by}
+use Rattle.std.proofs.lemmas.List.Sorted.{answers_always, ranks_by}
 use Rattle.std.specs.Cmp.{IsStrictWeakOrder, IsTotalOrder}
-use Rattle.std.specs.List.Sorted.{IsPermutation}
 use Rattle.flow_uniq.specs.Inner.{Group, group_model}
 use Rattle.flow_uniq.specs.Key.{part_numbers}
-use Rattle.flow_uniq.specs.Groups.{GroupModel, is_before, key_order, sorted_groups}
-use Rattle.flow_uniq.proofs.Sorting.{IsSortedBy-map, map-in_order, sorted_is}
+use Rattle.flow_uniq.specs.Groups.{is_before, key_order, sorted_groups}
+use Rattle.flow_uniq.proofs.Sorting.{map-in_order, sorted_is}
 use Rattle.flow_uniq.proofs.groups.Groups.sorted.Goals as goal
 
 abbrev before : Group → Group → Bool
@@ -19,20 +18,10 @@ key_order-total = lists_total (on_total part_numbers nat_list_cmp_total)
 before-order : IsStrictWeakOrder before
 before-order = ranks_by key_order-total (λ (g : Group). (group_model g).key)
 
-pub returns-clause-value : goal.returns-clause-value
-returns-clause-value c =
+pub returns : goal.returns
+returns c =
     let answers = answers_always _ _ _ (λ f a r f' k. search (rules, tests)) in
     ap (map group_model)
     (sorted_is before before-order c.in_ok-groups.groups.items _
     (c.in_ok-sort_by.ensures.sorted before before-order answers) (c.in_ok-sort_by.ensures.stable before before-order answers))
     ∙ map-in_order group_model is_before c.in_ok-groups.groups.items ∙ ap sorted_groups c.in_ok-groups.ensures
-
-pub returns-clause-permutation : goal.returns-clause-permutation
-returns-clause-permutation c =
-    subst (λ (l : List GroupModel). IsPermutation l (map group_model c.sort_by.new.self.items)) c.in_ok-groups.ensures
-    (IsPermutation-map group_model c.in_ok-groups.groups.items _ c.in_ok-sort_by.ensures.permutation)
-
-pub returns-clause-ascends : goal.returns-clause-ascends
-returns-clause-ascends c =
-    IsSortedBy-map group_model is_before _
-    (c.in_ok-sort_by.ensures.sorted before before-order (answers_always _ _ _ (λ f a r f' k. search (rules, tests))))
