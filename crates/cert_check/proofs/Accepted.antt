@@ -16,7 +16,7 @@ use Rattle.pmap_cert.specs.CertificateText.{HasNodeForm, HasRoomBelow}
 use Rattle.pmap_cert.specs.CertificateModel.{CertificateModel, ChainNode, InnerNode, LeafNode, Claim, Tree, claim_of, has, chain_claim, chosen_half, side_half, exact_claim}
 use Rattle.pmap_cert.proofs.ChainWords.{other-room}
 use Rattle.pmap_cert.proofs.Sets.{bytes_eq-same}
-use Rattle.cert_check.specs.Checking.{bits_fault, claim_fault, fault_of_number, first_fault, is_decided, is_label_of, leaf_fault, node_fault, whole_fault, is_same_version, CheckFault, BoundNotMet, CostTooHigh, LeafNotUniform, ListDiffers, SetTooSmall, VersionDiffers}
+use Rattle.cert_check.specs.Checking.{bits_fault, claim_fault, fault_of_number, first_fault, is_decided, is_label_of, leaf_fault, node_fault, is_same_version, CheckFault, BoundNotMet, CostTooHigh, LeafNotUniform, ListDiffers, SetTooSmall, VersionDiffers}
 use Rattle.cert_check.proofs.Lists.{any-filtered, none_kept}
 
 pub same_version-true : (v w : Version) → is_same_version v w ≡ true → v ≡ w
@@ -225,12 +225,12 @@ node-none m ps (ChainNode claim bits side end) k n q h =
 -- a certificate without a fault is accepted
 pub certificate-accepted : (m : MapModel) (l : ListModel) (c : CertificateModel) → HasNodeForm c.table c.root (width_of c.version) → first_fault m l c ≡ None → IsAccepted m l c
 certificate-accepted m l c form none =
-    let bound = cond (nat_lt ((claim_of c.root).cost + 1) (length l.prefixes)) (Some (whole_fault BoundNotMet)) None in
+    let bound = cond (nat_lt ((claim_of c.root).cost + 1) (length l.prefixes)) (Some (fault_of_number 0 BoundNotMet)) None in
     let nodes = node_fault m l.prefixes c.root 1 0 0 in
-    let first = cond_none-else (is_same_version l.version m.version && is_same_version c.version m.version) (option_or nodes bound) (whole_fault VersionDiffers) none in
+    let first = cond_none-else (is_same_version l.version m.version && is_same_version c.version m.version) (option_or nodes bound) (fault_of_number 0 VersionDiffers) none in
     let versions = and_parts (is_same_version l.version m.version) (is_same_version c.version m.version) first.0 in
     let second = or_none-parts nodes bound first.1 in
-    let third = cond_none-then (nat_lt ((claim_of c.root).cost + 1) (length l.prefixes)) None (whole_fault BoundNotMet) second.1 in
+    let third = cond_none-then (nat_lt ((claim_of c.root).cost + 1) (length l.prefixes)) None (fault_of_number 0 BoundNotMet) second.1 in
     let version : c.version ≡ m.version = same_version-true c.version m.version versions.1 in
     let fits : HasRoom c.root (width_of m.version) =
     subst (λ (v : Version). HasRoom c.root (width_of v)) version (room-from_form c.table c.root (width_of c.version) form) in
@@ -250,12 +250,12 @@ certificate-accepted m l c form none =
 
 pub certificate-none : (m : MapModel) (l : ListModel) (c : CertificateModel) → IsAccepted m l c → first_fault m l c ≡ None
 certificate-none m l c h =
-    let bound = cond (nat_lt ((claim_of c.root).cost + 1) (length l.prefixes)) (Some (whole_fault BoundNotMet)) None in
+    let bound = cond (nat_lt ((claim_of c.root).cost + 1) (length l.prefixes)) (Some (fault_of_number 0 BoundNotMet)) None in
     let nodes = node_fault m l.prefixes c.root 1 0 0 in
     let few : nat_lt ((claim_of c.root).cost + 1) (length l.prefixes) ≡ false =
     false_from_ne_true (nat_lt ((claim_of c.root).cost + 1) (length l.prefixes))
     (λ t. absurd (omega (arith, ltb-true ((claim_of c.root).cost + 1) (length l.prefixes) t, h.count))) in
     let versions = and_from (is_same_version l.version m.version) (is_same_version c.version m.version)
     (same_version-from l.version m.version h.list_version) (same_version-from c.version m.version h.certificate_version) in
-    ap (λ b. cond b (option_or nodes bound) (Some (whole_fault VersionDiffers))) versions
-    ∙ or_none-from nodes bound (node-none m l.prefixes c.root 1 0 0 h.root) (ap (λ b. cond b (Some (whole_fault BoundNotMet)) None) few)
+    ap (λ b. cond b (option_or nodes bound) (Some (fault_of_number 0 VersionDiffers))) versions
+    ∙ or_none-from nodes bound (node-none m l.prefixes c.root 1 0 0 h.root) (ap (λ b. cond b (Some (fault_of_number 0 BoundNotMet)) None) few)

@@ -1,11 +1,10 @@
 -- The first faults of nodes, by those of the nodes below them.
-use Rattle.std.proofs.Common.{◌≡◌, ◌∙◌, ℕ, zero, suc, ◌+◌, ◌-◌, ◌*◌, ◌<◌, ◌≤◌, ◌==◌, ◌&&◌, Bool, true, false, cond, not, nat_lt, List, [], ◌∷◌, length, Option, Some, None, Result, Ok, Err, option_map, refl, sym, ap, subst, arith, drop}
+use Rattle.std.proofs.Common.{◌≡◌, ◌∙◌, ℕ, suc, ◌+◌, ◌*◌, ◌==◌, ◌&&◌, Bool, true, false, cond, not, nat_lt, List, [], ◌∷◌, length, Option, Some, None, Result, Ok, Err, option_map, refl, sym, ap, arith}
 use Rattle.std.specs.List.{list_all}
 use Rattle.std.specs.Option.{option_or}
 use Rattle.std.proofs.lemmas.Option.{none-some, same_Some}
 use Rattle.pmap_text.specs.ListModel.{Prefix}
 use Rattle.pmap_text.specs.MapModel.{Label, MapModel, settled_label}
-use Rattle.pmap_text.specs.MapText.{text_at}
 use Rattle.prefix_keys.specs.Block.{width_of}
 use Rattle.pmap_text.specs.Stretches.{StretchesModel}
 use Rattle.pmap_text.specs.Windows.{AreHalvesOf, number_at}
@@ -13,7 +12,7 @@ use Rattle.pmap_text.specs.declared.window.Window.{Window}
 use Rattle.pmap_cert.specs.Compacting.{line_count}
 use Rattle.pmap_cert.specs.CertificateModel.{CertificateModel, ChainNode, InnerNode, LeafNode, Claim, Tree, claim_of, has, chain_claim, chosen_half, side_half, exact_claim}
 use Rattle.cert_check.specs.Inner.{IsHalf}
-use Rattle.cert_check.specs.Checking.{bits_fault, claim_fault, fault_of_number, first_fault, is_decided, is_label_of, is_same_version, leaf_fault, node_fault, text_fault, whole_fault, BoundNotMet, Certificate, Check, CheckFault, CheckFaultKind, CostTooHigh, LeafNotUniform, ListDiffers, NoMemory, SetTooSmall, TextFault, VersionDiffers}
+use Rattle.cert_check.specs.Checking.{bits_fault, claim_fault, fault_of_number, first_fault, is_decided, is_label_of, is_same_version, leaf_fault, node_fault, text_fault, BoundNotMet, Certificate, Check, CheckFault, CheckFaultKind, CostTooHigh, LeafNotUniform, ListDiffers, NoMemory, SetTooSmall, TextFault, VersionDiffers}
 use Rattle.pmap_cert.specs.declared.fault.CertFault.{CertFault}
 use Rattle.pmap_text.specs.ListModel.{ListModel}
 
@@ -97,8 +96,8 @@ module _ (m : MapModel) (ps : List Prefix) where
       (bits-node side k (node_fault m ps end (k + 1)) (λ n' q'. tree-node end (k + 1) n' q') bits n q)
       (claim-node k claim (chain_claim (length bits) side (claim_of end)))
 
-whole-node : (kind : CheckFaultKind) → (kind ≡ NoMemory → ⊥) → IsNodeFault (Some (whole_fault kind))
-whole-node kind not f is none = not (ap (λ (g : CheckFault). g.kind) (same_Some (whole_fault kind) f is) ∙ none)
+whole-node : (kind : CheckFaultKind) → (kind ≡ NoMemory → ⊥) → IsNodeFault (Some (fault_of_number 0 kind))
+whole-node kind not f is none = not (ap (λ (g : CheckFault). g.kind) (same_Some (fault_of_number 0 kind) f is) ∙ none)
 
 -- the first fault of a certificate isn't that an allocation failed
 pub first-node : (m : MapModel) (l : ListModel) (c : CertificateModel) → IsNodeFault (first_fault m l c)
@@ -108,8 +107,8 @@ first-node m l c =
     nodes : IsNodeFault (node_fault m l.prefixes c.root 1 0 0)
     nodes = tree-node m l.prefixes c.root 1 0 0
 
-    by : (same many : Bool) → IsNodeFault (cond same (option_or (node_fault m l.prefixes c.root 1 0 0) (cond many (Some (whole_fault BoundNotMet)) None)) (Some (whole_fault VersionDiffers)))
-    by true true = or-node (node_fault m l.prefixes c.root 1 0 0) (Some (whole_fault BoundNotMet)) nodes (whole-node BoundNotMet (λ e. cc))
+    by : (same many : Bool) → IsNodeFault (cond same (option_or (node_fault m l.prefixes c.root 1 0 0) (cond many (Some (fault_of_number 0 BoundNotMet)) None)) (Some (fault_of_number 0 VersionDiffers)))
+    by true true = or-node (node_fault m l.prefixes c.root 1 0 0) (Some (fault_of_number 0 BoundNotMet)) nodes (whole-node BoundNotMet (λ e. cc))
     by true false = or-node (node_fault m l.prefixes c.root 1 0 0) None nodes (λ f is none. absurd (none-some f is))
     by false many = whole-node VersionDiffers (λ e. cc)
 

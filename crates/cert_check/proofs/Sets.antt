@@ -10,7 +10,7 @@ use Rattle.pmap_text.specs.MapModel.{Label}
 use Rattle.pmap_text.specs.MapText.{text_at}
 use Rattle.pmap_text.specs.declared.label.LabelId.{LabelId}
 use Rattle.pmap_cert.specs.CertificateText.{IsAscending}
-use Rattle.pmap_cert.specs.CertificateModel.{Claim, has, chain_labels, chain_claim, exact_claim, exact_claim_by}
+use Rattle.pmap_cert.specs.CertificateModel.{has, chain_labels, chain_claim, exact_claim, exact_claim_by}
 use Rattle.pmap_cert.proofs.Tables.{ascending-filter, ascending-lower, label-same}
 use Rattle.cert_check.specs.Checking.{claim_fault, CheckFaultKind, CostTooHigh, SetTooSmall}
 use Rattle.cert_check.proofs.Lists.{length-nil}

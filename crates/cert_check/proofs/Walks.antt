@@ -1,8 +1,8 @@
 -- The results of a walk over a tree, by those over the trees below it.
-use Rattle.std.proofs.lemmas.List.{append-nil, append_assoc}
-use Rattle.std.proofs.Common.{◌≡◌, ◌∙◌, ◌≢◌, ℕ, drop, take, suc, ◌+◌, ◌-◌, ◌*◌, ◌<◌, ◌≤◌, Bool, List, [], ◌∷◌, ◌++◌, length, map, Option, Some, None, Result, Ok, Err, option_map, refl, sym, ap, subst, arith}
+use Rattle.std.proofs.Math.Seq.{drop-append_seam, take-append_seam}
+use Rattle.std.proofs.lemmas.List.{append-nil, append_assoc, length-append}
+use Rattle.std.proofs.Common.{◌≡◌, ◌∙◌, ℕ, drop, take, suc, ◌+◌, ◌-◌, ◌*◌, ◌≤◌, Bool, List, [], ◌∷◌, ◌++◌, length, Option, Some, None, Result, Ok, Err, option_map, sym, ap, subst, arith}
 use Rattle.std.specs.Option.{option_or}
-use Rattle.pmap_text.specs.MapModel.{Label, MapModel}
 use Rattle.pmap_text.specs.MapText.{map_of, text_at}
 use Rattle.pmap_text.specs.PrefixList.{list_of}
 use Rattle.pmap_text.specs.Reading.{◌>>=◌}
@@ -10,11 +10,11 @@ use Rattle.pmap_text.specs.Windows.{AreHalvesOf, number_at}
 use Rattle.pmap_text.specs.declared.label.LabelId.{LabelId}
 use Rattle.pmap_cert.specs.Compacting.{line_count}
 use Rattle.pmap_cert.specs.CertificateText.{IsAscending}
-use Rattle.pmap_cert.specs.CertificateModel.{ChainNode, InnerNode, LeafNode, Claim, Tree, chain_claim, claim_of, chosen_half, side_half, exact_claim}
+use Rattle.pmap_cert.specs.CertificateModel.{ChainNode, InnerNode, Claim, Tree, chain_claim, claim_of, chosen_half, side_half, exact_claim}
 use Rattle.pmap_cert.specs.FormatReading.{Place}
 use Rattle.pmap_cert.specs.declared.fault.CertFault.{CertFault}
-use Rattle.cert_check.specs.Checking.{bits_fault, claim_fault, fault_of_number, leaf_fault, node_fault, told, Certificate, Check, CheckFault, CheckFaultKind, TextFault}
-use Rattle.cert_check.specs.Inner.{IsAfter, IsAnswer, IsFaulty, IsFirstOf, IsHalf, IsPassed, IsUnread, Part, Read, Sources, Walk, answer_of, chain_reading, claim_with, fault_of_node, fault_of_path, halves_reading, reading_at}
+use Rattle.cert_check.specs.Checking.{claim_fault, fault_of_number, leaf_fault, node_fault, told, Certificate, Check, CheckFault, CheckFaultKind, TextFault}
+use Rattle.cert_check.specs.Inner.{IsAfter, IsAnswer, IsFirstOf, IsHalf, IsPassed, IsUnread, Part, Read, Sources, Walk, answer_of, chain_reading, claim_with, fault_of_node, fault_of_path, halves_reading, reading_at}
 use Rattle.cert_check.proofs.Nodes.{half-is, high-half, low-half, or-first, or-second, path-step}
 use Rattle.cert_check.proofs.Sets.{numbers}
 
@@ -39,6 +39,14 @@ own-answer s reading fault_at number more old new cost tree set (Some kind) read
   read = read;
   fault = λ k told_is. (fault k told_is).0 ∙ (λ i. Some (record { kind = kind; node = told_is i }));
 }
+
+-- the sets with one more, cut at its beginning
+pub held-at : (old set new : List LabelId) (from : ℕ) → new ≡ old ++ set → from ≡ length old → (take from new ≡ old) × (drop from new ≡ set) × (from ≤ length new)
+held-at old set new from is at = (
+  (λ i. take (at i) (is i)) ∙ take-append_seam old set,
+  (λ i. drop (at i) (is i)) ∙ drop-append_seam old set,
+  let long = ap (λ (ids : List LabelId). length ids) is in omega (arith, at, long, length-append old set),
+)
 
 -- An inner node whose claim has this cost and these numbers, at this place after its line.
 module _ (s : Sources) (p low high : Part) (are : AreHalvesOf s.stretches p.window low.window high.window) (cost : ℕ) (own : List ℕ) (place : Place)
@@ -155,17 +163,6 @@ module _ (s : Sources) (p : Part) (cost : ℕ) (own : List ℕ) (bits : List Boo
   abbrev end_then : Read → Read
   end_then r = r >>= (λ end. Ok (ChainNode chain-claim bits (text_at s.frame.labels.now side) end.0, end.1))
 
-  -- what is below the chain has a fault
-  pub below-failed : (sets old : List LabelId) (new : Walk) (fault : TextFault)
-      → IsAnswer s (reading_at s end_at place) (fault_of_path s p side bits) number 1 sets new (Err fault)
-      → IsAnswer s (chain_reading s p.window.len chain-claim bits side place) (fault_of_node s p) number 0 old new (Err fault)
-  below-failed sets old new (Certificate f) answer = (λ some. ap end_then (answer.0 some), answer.1)
-  below-failed sets old new (Check f) answer = record {
-    tree = ChainNode chain-claim bits (text_at s.frame.labels.now side) answer.tree;
-    read = ap end_then answer.read;
-    fault = λ k told_is. or-first (fault_of_path s p side bits answer.tree k) _ f (answer.fault k told_is);
-  }
-
   -- what is below the chain has no fault
   pub below-passed : (sets old : List LabelId) (last new : Walk) (end_cost : ℕ) (ids : List LabelId) (o : Option CheckFaultKind)
       (below : IsPassed s (reading_at s end_at place) (fault_of_path s p side bits) number 1 sets last end_cost)
@@ -254,19 +251,11 @@ module _ (s : Sources) (p chosen beside : Part) (side : ℕ) (bit : Bool) (bits 
 
 -- Pieces of the list of sets.
 
-drop-past : {X : Type 0} (before rest : List X) → drop (length before) (before ++ rest) ≡ rest
-drop-past [] rest = refl
-drop-past (x ∷ before) rest = drop-past before rest
-
-pub take-front : {X : Type 0} (part rest : List X) → take (length part) (part ++ rest) ≡ part
-take-front [] rest = refl
-take-front (x ∷ part) rest = ap (λ xs. x ∷ xs) (take-front part rest)
-
 pub piece : {X : Type 0} (xs before part rest : List X) (i j : ℕ) → xs ≡ before ++ (part ++ rest) → i ≡ length before → j ≡ length before + length part
     → take (j - i) (drop i xs) ≡ part
 piece xs before part rest i j e at to =
     let count : j - i ≡ length part = omega (arith, at, to) in
-    (λ k. take (count k) (drop (at k) (e k))) ∙ ap (take (length part)) (drop-past before (part ++ rest)) ∙ take-front part rest
+    (λ k. take (count k) (drop (at k) (e k))) ∙ ap (take (length part)) (drop-append_seam before (part ++ rest)) ∙ take-append_seam part rest
 
 -- the sets of a node and of two nodes below it, or of one, in the order in which they are added
 pub record ArePieces (items old own lower upper : List LabelId) : Type 0 where

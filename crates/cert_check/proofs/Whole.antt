@@ -1,11 +1,9 @@
 -- The root of a certificate, with the whole map and the whole list.
-use Rattle.std.proofs.Common.{◌≡◌, ◌∙◌, ℕ, ◌+◌, ◌-◌, ◌^◌, ◌<◌, Bor, List, [], ◌∷◌, None, Err, Ok, Result, length, refl, sym, ap, subst, arith}
+use Rattle.std.proofs.Common.{◌≡◌, ◌∙◌, ℕ, ◌-◌, ◌^◌, ◌<◌, Bor, List, None, Err, Ok, Result, refl, sym, ap, subst, arith}
 use Rattle.std.proofs.Math.Nat.{zero-div}
 use Rattle.std.proofs.lemmas.Option.{none-some}
 use Rattle.prefix_keys.specs.Block.{block_number, width_of}
 use Rattle.prefix_keys.specs.declared.version.Version.{Version}
-use Rattle.pmap_text.specs.ListModel.{Prefix}
-use Rattle.pmap_text.specs.MapModel.{Label, MapModel}
 use Rattle.pmap_text.specs.Stretches.{StretchesModel}
 use Rattle.pmap_text.specs.Windows.{IsWindow, number_at}
 use Rattle.pmap_text.specs.declared.entry.Entry.{Entry}

@@ -1,6 +1,6 @@
 use Rattle.std.specs.Prelude.{Bool, true, false, ℕ, suc, List, [], ◌∷◌, ◌+◌, ◌-◌, ◌*◌, ◌^◌, ◌&&◌, ◌==◌, ◌≡◌, ◌≢◌, Err, Ok, Result, not, Option, Some, None, length, nat_lt, option_map, if◌then◌else◌}
 use Rattle.std.specs.List.{list_all, list_any}
-use Rattle.std.specs.Option.{option_or}
+use Rattle.std.specs.Option.{option_map_or, option_or}
 use Rattle.std.specs.Str.{bytes_eq}
 use Rattle.prefix_keys.specs.declared.version.Version.{Version}
 use Rattle.prefix_keys.specs.declared.version.Version.TheVariants.{V4, V6}
@@ -28,8 +28,7 @@ is_same_version _ _ = false
 
 -- there is a label, and it is x
 abbrev pub is_label_of : Option Label → Label → Bool
-is_label_of None x = false
-is_label_of (Some y) x = bytes_eq y x
+is_label_of label x = option_map_or (λ y. bytes_eq y x) label false
 
 -- the list decides the block by the label: no entry lies strictly inside, and the longest that covers the block has it
 abbrev pub is_decided : ℕ → List Prefix → ℕ → ℕ → Label → Bool
@@ -55,7 +54,7 @@ claim_fault claim exact =
 abbrev pub told : ℕ → ℕ
 told number = if nat_lt number (2 ^ 64) then number else 2 ^ 64 - 1
 
--- a fault of the node with this number
+-- a fault of the node with this number, or of no single node if it is 0
 abbrev pub fault_of_number : ℕ → CheckFaultKind → CheckFault
 fault_of_number number kind = record { kind = kind; node = told number }
 
@@ -80,18 +79,14 @@ node_fault m ps (ChainNode claim bits side end) number n q =
     option_or (bits_fault m ps side number (node_fault m ps end (number + 1)) bits n q)
     (option_map (fault_of_number number) (claim_fault claim (chain_claim (length bits) side (claim_of end))))
 
--- a fault of no single node
-abbrev pub whole_fault : CheckFaultKind → CheckFault
-whole_fault kind = record { kind = kind; node = 0 }
-
 -- the first fault of a certificate for a map and a list: different versions, then the first fault of its nodes with
 -- number 1 for the root, and then a list of more entries than the root's cost plus one
 abbrev pub first_fault : MapModel → ListModel → CertificateModel → Option CheckFault
 first_fault m l c =
     if is_same_version l.version m.version && is_same_version c.version m.version
     then option_or (node_fault m l.prefixes c.root 1 0 0)
-    (if nat_lt ((claim_of c.root).cost + 1) (length l.prefixes) then Some (whole_fault BoundNotMet) else None)
-    else Some (whole_fault VersionDiffers)
+    (if nat_lt ((claim_of c.root).cost + 1) (length l.prefixes) then Some (fault_of_number 0 BoundNotMet) else None)
+    else Some (fault_of_number 0 VersionDiffers)
 
 -- the first fault of a text as a certificate for a map and a list, by what it is read as: the fault of the text, or
 -- otherwise that of the certificate

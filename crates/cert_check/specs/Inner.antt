@@ -1,4 +1,4 @@
-use Rattle.std.specs.Prelude.{ℕ, List, filter, ◌≡◌, ◌+◌, ◌*◌, ◌&&◌, ◌==◌, Bool, [], ◌∷◌, Option, map, nat_lt, option_map, if◌then◌else◌, Some, length, ◌<◌, ◌≤◌, true, Contains, slice_index_or, ◌≢◌, ◌-◌, ◌++◌, None, Result, Ok, Err}
+use Rattle.std.specs.Prelude.{ℕ, List, filter, ◌≡◌, ◌+◌, ◌&&◌, ◌==◌, Bool, [], ◌∷◌, Option, map, nat_lt, option_map, if◌then◌else◌, Some, length, ◌<◌, ◌≤◌, true, Contains, slice_index_or, ◌≢◌, ◌-◌, ◌++◌, None, Result, Ok, Err, drop}
 use Rattle.std.specs.List.{list_any}
 use Rattle.std.specs.Option.{ForSome}
 use Rattle.prefix_keys.specs.Block.{block_number, width_of, first_of, last_of}
@@ -23,6 +23,7 @@ use Rattle.pmap_cert.specs.CertificateModel.{CertificateModel, ChainNode, Claim,
 use Rattle.pmap_cert.specs.Format.{format_number}
 use Rattle.pmap_cert.specs.FormatReading.{Place}
 use Rattle.pmap_cert.specs.declared.fault.CertFault.{CertFault}
+use Rattle.pmap_cert.specs.declared.node.Claim.{Claim as Claimed}
 use Rattle.pmap_cert.specs.declared.fault.CertFaultKind.TheVariants.{NoMemory as NoMemoryForText}
 use Rattle.pmap_cert.specs.Inner.{node_due_at}
 use Rattle.pmap_cert.specs.declared.node_line.Frame.{Frame}
@@ -32,7 +33,7 @@ use Rattle.prefix_keys.specs.declared.version.Version.{Version}
 use Rattle.cert_check.specs.Checking.{is_same_version, is_label_of, bits_fault, first_fault, node_fault, told, Certificate, Check, CheckFault, CheckFaultKind, TextFault}
 pub use Rattle.cert_check.specs.declared.sources.Sources.{Sources}
 pub use Rattle.cert_check.specs.declared.part.Part.{Part}
-pub use Rattle.cert_check.specs.declared.claims.Claimed.{Claimed}
+pub use Rattle.cert_check.specs.declared.walk.Held.{Held}
 pub use Rattle.cert_check.specs.declared.walk.Walk.{Walk}
 
 -- The statements and entries that affect a block. Those of another version than the block's cover no address of it.
@@ -144,6 +145,15 @@ claim_with table cost ns = record { cost = cost; labels = map (text_at table) ns
 
 abbrev pub claim_in : List Label → Claimed → Claim
 claim_in table c = claim_with table c.cost (map (λ i. i.0) c.set.now)
+
+-- the claim that is held, with its set at the end of a walk's sets
+abbrev pub held_claim : Sources → Held → List LabelId → Claim
+held_claim s held sets = claim_with s.frame.labels.now held.cost (map (λ i. i.0) (drop held.from sets))
+
+-- the walk's sets end with the set that is held, whose numbers ascend
+pub record IsHeld (s : Sources) (held : Held) (sets : List LabelId) : Type 0 where
+  pub within : held.from ≤ length sets
+  pub ascending : IsAscending (length s.frame.labels.now) 0 (map (λ i. i.0) (drop held.from sets))
 
 abbrev pub Read : Type 0
 Read = Result (Tree × Place) CertFault

@@ -6,7 +6,7 @@ ghost use Rattle.pmap_text.specs.PrefixList.{list_of};
 ghost use Rattle.pmap_cert.specs.Acceptance.{IsAccepted, IsLeast};
 ghost use Rattle.pmap_cert.specs.Certificate.{certificate_of};
 ghost use Rattle.pmap_cert.specs.FormatReading.{format_reading};
-ghost use Rattle.cert_check.specs.Checking.{IsTextOutcome, first_fault, text_fault, whole_fault, Check, NoMemory};
+ghost use Rattle.cert_check.specs.Checking.{IsTextOutcome, first_fault, fault_of_number, text_fault, Check, NoMemory};
 ghost use Rattle.cert_check.specs.Inner.{AreInOrder, AreSources, IsRootAnswer, IsNodesAnswer, root_reading};
 ghost use Rattle.pmap_cert.specs.CertificateModel.{CertificateModel};
 ghost use Rattle.prefix_keys.specs.Block.{width_of};
@@ -65,7 +65,7 @@ fn check_nodes(
 
 // Returns the fault of a whole certificate.
 fn whole_fault(kind: CheckFaultKind) -> TextFault
-    ensures { result ≡ Check (whole_fault kind) }
+    ensures { result ≡ Check (fault_of_number 0 kind) }
 {
     TextFault::Check(CheckFault { kind, node: 0 })
 }

@@ -11,7 +11,7 @@ ghost use Rattle.cert_check.specs.Checking.{claim_fault as claim_fault_of, CostT
 ghost use Rattle.cert_check.specs.Inner.{claim_in, has_number};
 
 use crate::fault::CheckFaultKind;
-use pmap_cert::Path;
+use pmap_cert::{Claim, Path};
 use pmap_text::{LabelId, Labels};
 
 // Returns the rest of the set from the first number that is at least `id`.
@@ -123,19 +123,12 @@ fn fault_by(cost: u64, exact_cost: u64, has_exact_set: bool) -> Option<CheckFaul
     }
 }
 
-/// What a node claims: a cost, and a set of labels by ascending numbers.
-#[derive(Clone, Copy)]
-pub struct Claimed<'a> {
-    pub cost: u32,
-    pub set: &'a [LabelId],
-}
-
 /// Returns the fault of an inner node's claim, if any, by the claims of the nodes of its halves.
 pub fn claim_fault(
     labels: &Labels,
-    claim: Claimed,
-    left: Claimed,
-    right: Claimed,
+    claim: Claim,
+    left: Claim,
+    right: Claim,
 ) -> Option<CheckFaultKind>
     requires claim { IsAscending (length labels.now) 0 (map (λ i. i.0) claim.set.now) }
     requires left { IsAscending (length labels.now) 0 (map (λ i. i.0) left.set.now) }
@@ -157,8 +150,8 @@ pub fn claim_fault(
 /// Returns the fault of the claim of a chain with this path and side label, if any, by the claim of the node at its end.
 pub fn chain_fault(
     labels: &Labels,
-    claim: Claimed,
-    end: Claimed,
+    claim: Claim,
+    end: Claim,
     path: &Path,
     side: LabelId,
 ) -> Option<CheckFaultKind>

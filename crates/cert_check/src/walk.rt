@@ -1,16 +1,15 @@
 //! The walk over the nodes of a certificate's text, which reads and checks each of them.
-ghost use Rattle.std.specs.Prelude.{◌≡◌, ◌+◌, ◌++◌, ◌<◌, Ok, IfErr, OnOk, length, map};
-ghost use Rattle.pmap_cert.specs.CertificateText.{IsAscending};
+ghost use Rattle.std.specs.Prelude.{◌≡◌, ◌+◌, ◌++◌, ◌<◌, Ok, IfErr, IfOk, OnOk, length, take};
 ghost use Rattle.pmap_cert.specs.CertificateModel.{Tree};
 ghost use Rattle.pmap_cert.specs.Inner.{node_due_at};
 ghost use Rattle.pmap_cert.specs.Packed.{bits_in};
-ghost use Rattle.cert_check.specs.Inner.{AreSources, FitsPath, IsAfter, IsAnswer, IsFirstOf, IsPart, IsUnread, answer_of, chain_reading, claim_with, fault_of_node, fault_of_path, halves_reading, reading_at};
+ghost use Rattle.cert_check.specs.Inner.{AreSources, FitsPath, IsAfter, IsAnswer, IsFirstOf, IsHeld, IsPart, IsUnread, answer_of, chain_reading, fault_of_node, fault_of_path, halves_reading, held_claim, reading_at};
 
-use crate::claims::{Claimed, chain_fault, claim_fault};
+use crate::claims::{chain_fault, claim_fault};
 use crate::fault::{CheckFault, CheckFaultKind, TextFault};
 use crate::part::Part;
 use crate::sources::Sources;
-use pmap_cert::{CertFault, CertFaultKind, Frame, Kept, Lines, NodeLine, Path, skip_node};
+use pmap_cert::{CertFault, CertFaultKind, Claim, Frame, Kept, Lines, Node, Path, skip_node};
 use pmap_text::LabelId;
 use std::alloc::{AllocError, Global};
 
@@ -50,16 +49,29 @@ impl<'a> Walk<'a> {
     }
 }
 
-// Adds a set to others, quickly if it has one label.
+// What a node claims: a cost, and the walk's sets from an index on.
+#[derive(Clone, Copy)]
+struct Held {
+    cost: u32,
+    from: usize,
+}
+
+// Adds the set of a claim to others, quickly if it has one label.
 #[inline(always)]
-fn hold(sets: &mut Vec<LabelId>, set: &[LabelId]) -> Result<(), AllocError>
-    ensures { OnOk result (sets.new.items ≡ sets.old.items ++ set.now) }
+fn hold(sets: &mut Vec<LabelId>, claim: Claim) -> Result<Held, AllocError>
+    ensures cost { IfOk result (λ held. held.cost ≡ claim.entry.cost) }
+    ensures from { IfOk result (λ held. held.from ≡ length sets.old.items) }
+    ensures sets { OnOk result (sets.new.items ≡ sets.old.items ++ claim.entry.set.now) }
 {
-    match set {
+    let from = sets.len();
+    match claim.set {
         [id] => sets.push(*id)?,
-        _ => sets.extend_from_slice(set)?,
+        _ => sets.extend_from_slice(claim.set)?,
     }
-    Ok(())
+    Ok(Held {
+        cost: claim.cost,
+        from,
+    })
 }
 
 // Returns the number of the node after one.
@@ -108,21 +120,24 @@ pub fn check_node(sources: &Sources, walk: &mut Walk, part: &Part) -> Result<u32
     let room = sources.frame.width - part.window.len;
     walk.number = next_number(number);
     match walk.lines.next_node(&mut walk.kept, &sources.frame)? {
-        NodeLine::Leaf(id) => {
+        Node::Leaf(id) => {
             walk.sets.push(id)?;
             unless_fault(part.leaf_fault(sources, id), number, 0)
         }
-        NodeLine::Inner(cost) => {
+        Node::Inner(claim) => {
             if room == 0 {
                 return Err(TextFault::Certificate(deepest));
             }
-            check_inner(sources, walk, part, number, cost)
+            let held = hold(&mut walk.sets, claim)?;
+            check_inner(sources, walk, part, number, held)
         }
-        NodeLine::Chain(cost, side) => {
-            if walk.kept.path.len() > room {
+        Node::Chain { claim, path, side } => {
+            if path.len() > room {
                 return Err(TextFault::Certificate(deepest));
             }
-            check_chain(sources, walk, part, number, cost, side)
+            let path = *path;
+            let held = hold(&mut walk.sets, claim)?;
+            check_chain(sources, walk, part, number, held, &path, side)
         }
     }
 }
@@ -134,20 +149,18 @@ fn check_inner(
     walk: &mut Walk,
     part: &Part,
     number: u64,
-    cost: u32,
+    held: Held,
 ) -> Result<u32, TextFault>
     requires sources { AreSources sources.now }
     requires part { IsPart sources.now part.now }
     requires room { part.now.window.len < sources.now.frame.width }
     requires number { IsAfter number walk.old.number }
-    requires set { IsAscending (length sources.now.frame.labels.now) 0 (map (λ i. i.0) walk.old.kept.set.items) }
-    ensures { let claim = claim_with sources.now.frame.labels.now cost (map (λ i. i.0) walk.old.kept.set.items) in
-        IsAnswer sources.now (halves_reading sources.now part.now.window.len claim walk.old.lines)
-        (fault_of_node sources.now part.now) number 0 walk.old.sets.items walk.new result }
+    requires held { IsHeld sources.now held walk.old.sets.items }
+    ensures { IsAnswer sources.now
+        (halves_reading sources.now part.now.window.len (held_claim sources.now held walk.old.sets.items) walk.old.lines)
+        (fault_of_node sources.now part.now) number 0 (take held.from walk.old.sets.items) walk.new result }
 {
     let (low, high) = part.halves(sources);
-    let own = walk.sets.len();
-    hold(&mut walk.sets, walk.kept.set.as_slice())?;
     let lower = walk.sets.len();
     let lower_cost = match check_node(sources, walk, &low) {
         Ok(cost) => cost,
@@ -161,65 +174,63 @@ fn check_inner(
     let sets = walk.sets.as_slice();
     let fault = claim_fault(
         sources.frame.labels,
-        Claimed {
-            cost,
-            set: &sets[own..lower],
+        Claim {
+            cost: held.cost,
+            set: &sets[held.from..lower],
         },
-        Claimed {
+        Claim {
             cost: lower_cost,
             set: &sets[lower..upper],
         },
-        Claimed {
+        Claim {
             cost: upper_cost,
             set: &sets[upper..],
         },
     );
     walk.sets.truncate(lower);
-    unless_fault(fault, number, cost)
+    unless_fault(fault, number, held.cost)
 }
 
-// Checks what is below a chain with this side label, and then its claim.
+// Checks what is below a chain with these bits and this side label, and then its claim.
 #[cycle(nodes)]
 fn check_chain(
     sources: &Sources,
     walk: &mut Walk,
     part: &Part,
     number: u64,
-    cost: u32,
+    held: Held,
+    path: &Path,
     side: LabelId,
 ) -> Result<u32, TextFault>
     requires sources { AreSources sources.now }
     requires part { IsPart sources.now part.now }
-    requires fits { FitsPath sources.now part.now side.0 (bits_in walk.old.kept.path) }
-    requires some { 0 < length (bits_in walk.old.kept.path) }
+    requires fits { FitsPath sources.now part.now side.0 (bits_in path.now) }
+    requires some { 0 < length (bits_in path.now) }
     requires number { IsAfter number walk.old.number }
-    requires set { IsAscending (length sources.now.frame.labels.now) 0 (map (λ i. i.0) walk.old.kept.set.items) }
-    ensures { let claim = claim_with sources.now.frame.labels.now cost (map (λ i. i.0) walk.old.kept.set.items) in
-        IsAnswer sources.now
-        (chain_reading sources.now part.now.window.len claim (bits_in walk.old.kept.path) side.0 walk.old.lines)
-        (fault_of_node sources.now part.now) number 0 walk.old.sets.items walk.new result }
+    requires held { IsHeld sources.now held walk.old.sets.items }
+    ensures { IsAnswer sources.now
+        (chain_reading sources.now part.now.window.len (held_claim sources.now held walk.old.sets.items)
+        (bits_in path.now) side.0 walk.old.lines)
+        (fault_of_node sources.now part.now) number 0 (take held.from walk.old.sets.items) walk.new result }
 {
-    let path = walk.kept.path;
-    let own = walk.sets.len();
-    hold(&mut walk.sets, walk.kept.set.as_slice())?;
     let end = walk.sets.len();
-    let end_cost = check_below(sources, walk, part, number, &path, side)?;
+    let end_cost = check_below(sources, walk, part, number, path, side)?;
     let sets = walk.sets.as_slice();
     let fault = chain_fault(
         sources.frame.labels,
-        Claimed {
-            cost,
-            set: &sets[own..end],
+        Claim {
+            cost: held.cost,
+            set: &sets[held.from..end],
         },
-        Claimed {
+        Claim {
             cost: end_cost,
             set: &sets[end..],
         },
-        &path,
+        path,
         side,
     );
     walk.sets.truncate(end);
-    unless_fault(fault, number, cost)
+    unless_fault(fault, number, held.cost)
 }
 
 // Checks what is below a chain: the node at its end, and the blocks beside its path unless one look clears them.

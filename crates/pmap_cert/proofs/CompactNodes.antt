@@ -1,5 +1,5 @@
 -- Compacting nodes with label numbers.
-use Rattle.std.proofs.Common.{◌≡◌, ◌++◌, ℕ, zero, suc, ◌<◌, ◌≤◌, ◌∙◌, Bool, true, false, List, [], ◌∷◌, Option, Some, None, cond, length, map, nat_le, option_map, refl, sym, ap, subst, arith}
+use Rattle.std.proofs.Common.{◌≡◌, ◌++◌, ℕ, zero, suc, ◌<◌, ◌≤◌, ◌∙◌, Bool, true, false, List, [], ◌∷◌, Option, Some, None, IsSome, cond, length, map, nat_le, option_map, refl, sym, ap, subst, arith}
 use Rattle.std.specs.Option.{option_or}
 use Rattle.std.proofs.lemmas.Bool.{cond-false, cond-true, le-leb, lt-leb}
 use Rattle.std.proofs.lemmas.List.{append_assoc}
@@ -13,8 +13,8 @@ use Rattle.pmap_cert.specs.CertificateText.{HasRoomBelow}
 use Rattle.pmap_cert.specs.CertificateModel.{CertificateModel, ChainNode, InnerNode, Claim, Tree}
 use Rattle.pmap_cert.specs.Compacting.{compact, compacted, is_side, leaf_label, run_bits, run_compacted, run_end, side_of}
 use Rattle.pmap_cert.specs.Format.{format_number, Format, One, Two}
-use Rattle.pmap_cert.specs.FormatReading.{ChainLine, DueLine, InnerLine, LeafLine}
-use Rattle.pmap_cert.specs.Node.{Chain, HasChainForm, Inner, Leaf, Node, cost_of, label_of, lines_of, set_of, tree_of}
+use Rattle.pmap_cert.specs.FormatReading.{ChainLine, DueLine, InnerLine}
+use Rattle.pmap_cert.specs.Node.{Chain, HasChainForm, Inner, Leaf, Node, cost_of, first_line, label_of, lines_of, node_of, set_of, tree_of}
 use Rattle.pmap_cert.specs.Inner.{IsCompactNode, IsCompacted, IsShort, bits_down, end_down, is_leaf, side_below}
 use Rattle.pmap_cert.proofs.ChainWords.{end-room, other-room}
 use Rattle.pmap_cert.proofs.Compacts.{compact-again, compact-first}
@@ -187,15 +187,17 @@ module _ (cost : ℕ) (set : List ℕ) (lower upper : Node) where
       )
 
 -- the line of a leaf is that of the leaf compacted
-pub leaf-lines : (node : Node) (number : ℕ) (old new : List DueLine) → node ≡ Leaf number → new ≡ old ++ LeafLine number ∷ [] → IsCompacted node old new
-leaf-lines node number old new is pushed =
-    subst (λ (n : Node). IsCompacted n old new) (sym is) (record { compact = Leaf number; is = compact-leaf number; lines = pushed })
+pub leaf-lines : (node : Node) (old new : List DueLine) → IsSome (label_of node) → new ≡ old ++ first_line node ∷ [] → IsCompacted node old new
+leaf-lines (Leaf number) old new leaf pushed = record { compact = Leaf number; is = compact-leaf number; lines = pushed }
+leaf-lines (Inner cost set lower upper) old new leaf pushed = absurd (let e : false ≡ true = leaf in cc)
+leaf-lines (Chain cost set bits side end) old new leaf pushed = absurd (let e : false ≡ true = leaf in cc)
 
 module _ (node : Node) (cost : ℕ) (set : List ℕ) (lower upper : Node) (node_is : node ≡ Inner cost set lower upper) (old : List DueLine) where
-  pub chain-lines : (side cost' : ℕ) (set' : List ℕ) (bits : List Bool) (down : Node) (mid new : List DueLine) → side_below node ≡ Some side → bits ≡ bits_down side node
-      → down ≡ end_down side node → 2 ≤ length bits → cost' ≡ cost_of node → set' ≡ set_of node → mid ≡ old ++ ChainLine cost' bits side set' ∷ [] → IsCompacted down mid new
-      → IsCompacted node old new
-  chain-lines side cost' set' bits down mid new sides are is long cost_is set_is pushed below =
+  pub chain-lines : (side : ℕ) (line : DueLine) (cost' : ℕ) (set' : List ℕ) (bits : List Bool) (down : Node) (mid new : List DueLine) → side_below node ≡ Some side
+      → bits ≡ bits_down side node → down ≡ end_down side node → 2 ≤ length bits → line ≡ first_line node → cost' ≡ cost_of (node_of line) → set' ≡ set_of (node_of line)
+      → mid ≡ old ++ ChainLine cost' bits side set' ∷ [] → IsCompacted down mid new → IsCompacted node old new
+  chain-lines side line cost' set' bits down mid new sides are is long line_is cost_is set_is pushed below =
+      let here = line_is ∙ ap first_line node_is in
       subst (λ (n : Node). IsCompacted n old new) (sym node_is) (record {
         compact = Chain cost set bits side below.compact;
         is =
@@ -204,33 +206,28 @@ module _ (node : Node) (cost : ℕ) (set : List ℕ) (lower upper : Node) (node_
         lines =
             below.lines
             ∙ ap (λ (ls : List DueLine). ls ++ lines_of below.compact)
-            (pushed ∙ (λ i. old ++ ChainLine ((cost_is ∙ ap cost_of node_is) i) bits side ((set_is ∙ ap set_of node_is) i) ∷ []))
+            (pushed
+            ∙ (λ i. old ++ ChainLine ((cost_is ∙ ap (λ (l : DueLine). cost_of (node_of l)) here) i) bits side ((set_is ∙ ap (λ (l : DueLine). set_of (node_of l)) here) i) ∷ []))
             ∙ append_assoc old (ChainLine cost bits side set ∷ []) (lines_of below.compact);
       })
 
-  pub inner-lines : (cost' : ℕ) (set' : List ℕ) (low up : Node) (first second third : List DueLine) → low ≡ lower → up ≡ upper → IsShort node → cost' ≡ cost_of node → set' ≡ set_of node
-      → first ≡ old ++ InnerLine cost' set' ∷ [] → IsCompacted low first second → IsCompacted up second third → IsCompacted node old third
-  inner-lines cost' set' low up first second third low_is up_is short cost_is set_is pushed is_low is_up =
+  pub inner-lines : (first second third : List DueLine) → IsShort node → first ≡ old ++ first_line node ∷ [] → IsCompacted lower first second → IsCompacted upper second third
+      → IsCompacted node old third
+  inner-lines first second third short pushed low up =
       subst (λ (n : Node). IsCompacted n old third) (sym node_is) (record {
-        compact = Inner cost set is_low.compact is_up.compact;
+        compact = Inner cost set low.compact up.compact;
         is = by (option_or (label_of lower) (label_of upper)) refl;
         lines =
-            is_up.lines ∙ ap (λ (ls : List DueLine). ls ++ lines_of is_up.compact) (is_low.lines ∙ ap (λ (ls : List DueLine). ls ++ lines_of is_low.compact)
-            (pushed ∙ (λ i. old ++ InnerLine ((cost_is ∙ ap cost_of node_is) i) ((set_is ∙ ap set_of node_is) i) ∷ [])))
-            ∙ append_assoc (old ++ InnerLine cost set ∷ []) (lines_of is_low.compact) (lines_of is_up.compact)
-            ∙ append_assoc old (InnerLine cost set ∷ []) (lines_of is_low.compact ++ lines_of is_up.compact);
+            up.lines ∙ ap (λ (ls : List DueLine). ls ++ lines_of up.compact) (low.lines ∙ ap (λ (ls : List DueLine). ls ++ lines_of low.compact)
+            (pushed ∙ ap (λ (n : Node). old ++ first_line n ∷ []) node_is))
+            ∙ append_assoc (old ++ InnerLine cost set ∷ []) (lines_of low.compact) (lines_of up.compact)
+            ∙ append_assoc old (InnerLine cost set ∷ []) (lines_of low.compact ++ lines_of up.compact);
       })
     where
-      lower_is : IsCompactNode lower is_low.compact
-      lower_is = subst (λ (n : Node). IsCompactNode n is_low.compact) low_is is_low.is
-
-      upper_is : IsCompactNode upper is_up.compact
-      upper_is = subst (λ (n : Node). IsCompactNode n is_up.compact) up_is is_up.is
-
-      by : (o : Option ℕ) → option_or (label_of lower) (label_of upper) ≡ o → IsCompactNode (Inner cost set lower upper) (Inner cost set is_low.compact is_up.compact)
-      by None e = compact-none cost set lower upper is_low.compact is_up.compact lower_is upper_is e
+      by : (o : Option ℕ) → option_or (label_of lower) (label_of upper) ≡ o → IsCompactNode (Inner cost set lower upper) (Inner cost set low.compact up.compact)
+      by None e = compact-none cost set lower upper low.compact up.compact low.is up.is e
       by (Some side) e =
-          compact-short cost set lower upper is_low.compact is_up.compact lower_is upper_is side e
+          compact-short cost set lower upper low.compact up.compact low.is up.is side e
           (subst (λ (n : Node). length (bits_down side n) < 2) node_is (short side (ap side_below node_is ∙ e)))
 
 -- Compacting a certificate of either format.

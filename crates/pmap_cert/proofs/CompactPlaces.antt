@@ -1,16 +1,14 @@
 -- The lines at which nodes without chains begin and end.
-use Rattle.std.proofs.Common.{◌≡◌, ℕ, zero, suc, ◌+◌, ◌<◌, ◌≤◌, ◌∙◌, false, List, [], ◌∷◌, ◌++◌, All, Option, Some, None, drop, get_or, length, option_map, refl, sym, ap, subst, arith, slice_index}
-use Rattle.pmap_text.specs.declared.label.LabelId.{LabelId}
+use Rattle.std.proofs.Common.{◌≡◌, ℕ, zero, suc, ◌+◌, ◌<◌, ◌≤◌, ◌∙◌, false, List, [], ◌∷◌, ◌++◌, All, Option, Some, None, IsSome, drop, get_or, length, refl, sym, ap, subst, arith, slice_index}
 use Rattle.std.proofs.lemmas.Option.{none-some}
 use Rattle.std.proofs.lemmas.List.Elements.{All-append, All-cons, All-head, All-nil, All-tail}
 use Rattle.pmap_cert.specs.FormatReading.{ChainLine, DueLine, InnerLine, LeafLine}
-use Rattle.pmap_cert.specs.Node.{AreWhole, Inner, HasChainForm, IsPlainNode, Chain, Leaf, Node, first_node, from_next_line, joined, label_of, lines_of, nodes_of, node_of}
+use Rattle.pmap_cert.specs.Node.{AreWhole, Inner, HasChainForm, IsPlainNode, Chain, Leaf, Node, first_line, first_node, from_next_line, joined, label_of, lines_of, nodes_of, node_of}
 use Rattle.pmap_cert.specs.Inner.{AreEndsFrom, ArePlain, EndsAt, HasHalves, HasPlace, IsShallow, bits_down, end_down, is_leaf, node_from}
 use Rattle.pmap_cert.proofs.ChainWords.{left-room}
 use Rattle.pmap_cert.proofs.CompactNodes.{form-down}
-use Rattle.pmap_cert.proofs.NodeWalk.{IsLineOf, line-here, nodes-next, root-of, tree-whole, whole-next, within}
+use Rattle.pmap_cert.proofs.NodeWalk.{line-here, nodes-next, root-of, tree-whole, whole-next, within}
 
--- a node without chains has no line of a chain
 -- the line isn't that of a chain
 abbrev IsPlainLine : DueLine → Type 0
 IsPlainLine line = IsPlainNode (node_of line)
@@ -61,8 +59,8 @@ some-here : (lines : List DueLine) (k : ℕ) → Here lines k → 0 < length (no
 some-here lines k (leaf-here number rest is next) = let e = ap length is in omega arith
 some-here lines k (inner-here cost set lower upper rest is next) = let e = ap length is in omega arith
 
--- the line with a number has the values of the node at that line
-pub line-of : (lines : List DueLine) (k : ℕ) → ArePlain lines → k < length lines → IsLineOf (get_or lines k (LeafLine 0)) (node_from lines k)
+-- the line with a number is that of the node there
+pub line-of : (lines : List DueLine) (k : ℕ) → ArePlain lines → k < length lines → get_or lines k (LeafLine 0) ≡ first_line (node_from lines k)
 line-of lines k are inside =
     line-here lines k (LeafLine 0) (some-here lines k (here lines k are inside)) (whole-drop lines k are.whole)
 
@@ -109,8 +107,8 @@ halves-of lines all k place none = by (here lines k place.plain place.within)
         }
 
 -- a leaf ends at the next line
-pub ends-leaf : (lines : List DueLine) (all : List ℕ) (k number : ℕ) → HasPlace lines all k → node_from lines k ≡ Leaf number → EndsAt lines k (k + 1)
-ends-leaf lines all k number place leaf = by (here lines k place.plain place.within)
+pub ends-leaf : (lines : List DueLine) (all : List ℕ) (k : ℕ) → HasPlace lines all k → IsSome (label_of (node_from lines k)) → EndsAt lines k (k + 1)
+ends-leaf lines all k place leaf = by (here lines k place.plain place.within)
   where
     within : suc k ≤ length lines
     within = let inside = place.within in omega arith
@@ -119,12 +117,21 @@ ends-leaf lines all k number place leaf = by (here lines k place.plain place.wit
     by (leaf-here n rest is next) =
         subst (EndsAt lines k) (omega arith) (record { after = omega arith; within = within; behind = next ∙ sym (ap (drop 1) is) })
     by (inner-here cost set lower upper rest is next) =
-        absurd (none-some number (sym (ap label_of (node-is lines k (Inner cost set lower upper) rest is)) ∙ ap label_of leaf))
+        absurd (none-has (subst (λ (node : Node). IsSome (label_of node)) (node-is lines k (Inner cost set lower upper) rest is) leaf))
+      where
+        none-has : IsSome {T = ℕ} None → ⊥
+        none-has e = cc
 
--- the label of the line with a number is the label of the node at that line
-pub label-at : (lines : List DueLine) (k : ℕ) (o : Option LabelId) → ArePlain lines → k < length lines
-    → option_map (λ id. id.0) o ≡ label_of (node_of (get_or lines k (LeafLine 0))) → label_of (node_from lines k) ≡ option_map (λ id. id.0) o
-label-at lines k o are inside said = sym (said ∙ (line-of lines k are inside).label)
+same-label : (node : Node) → label_of (node_of (first_line node)) ≡ label_of node
+same-label (Leaf number) = refl
+same-label (Inner cost set lower upper) = refl
+same-label (Chain cost set bits side end) = refl
+
+-- the label of the line with a number is the label of the node there
+pub label-at : (lines : List DueLine) (k : ℕ) (line : DueLine) → ArePlain lines → k < length lines → line ≡ get_or lines k (LeafLine 0)
+    → label_of (node_of line) ≡ label_of (node_from lines k)
+label-at lines k line are inside is =
+    ap (λ (l : DueLine). label_of (node_of l)) (is ∙ line-of lines k are inside) ∙ same-label (node_from lines k)
 
 pub leaf-none : (node : Node) (side : ℕ) → label_of node ≡ None → is_leaf side node ≡ false
 leaf-none (Leaf n) side label = absurd (none-of-leaf n label)

@@ -1,6 +1,6 @@
 -- The fault of a text is its first: what follows the faulty line is irrelevant, and the lines before it begin a
 -- certificate.
-use Rattle.std.proofs.Common.{◌≡◌, ◌≢◌, ℕ, zero, suc, ◌+◌, ◌-◌, ◌^◌, ◌<◌, ◌≤◌, ◌==◌, ◌∙◌, inl, inr, Bool, true, false, List, [], ◌∷◌, ◌++◌, Option, Some, None, Result, Ok, Err, cond, length, map, refl, sym, ap, arith}
+use Rattle.std.proofs.Common.{◌≡◌, ◌≢◌, ℕ, zero, suc, ◌+◌, ◌-◌, ◌^◌, ◌<◌, ◌≤◌, ◌==◌, ◌∙◌, inl, inr, Bool, true, false, List, [], ◌∷◌, ◌++◌, Option, Some, None, Result, Ok, Err, cond, length, map, ok_or, option_and_then, option_map, refl, sym, ap, arith}
 use Rattle.std.specs.Fmt.{decimal}
 use Rattle.std.specs.List.{All, onto_first}
 use Rattle.std.proofs.lemmas.Bool.{cases_Bool, cases_lt, cond-false}
@@ -16,13 +16,13 @@ use Rattle.pmap_text.specs.MapText.{text_at}
 use Rattle.pmap_text.specs.Reading.{◌>>=◌}
 use Rattle.pmap_cert.specs.CertificateModel.{CertificateModel, ChainNode, InnerNode, LeafNode, Claim, Tree}
 use Rattle.pmap_cert.specs.CertificateText.{HasFormatText, certificate_lines, certificate_text, format_header, leaf_line, text_of_lines}
-use Rattle.pmap_cert.specs.FormatReading.{ChainLine, DueLine, InnerLine, LeafLine, Place, ended_by, fault_at, fits_header, fits_line, format_header_at, format_reading, header_text, is_ended, labels_at, likely_header, likely_line, line_due_at, line_text, line_value, new_label, nodes_at, or_fault, pieces_of, printed_value, value_by, words_of, CertFault, CertFaultKind, BadHeader, BadLabelTable, BadNode, NodesLeft, NodesMissing, TooDeep}
+use Rattle.pmap_cert.specs.FormatReading.{ChainLine, DueLine, InnerLine, LeafLine, Place, ended_by, fault_at, fits_header, fits_line, format_header_at, format_reading, header_text, is_ended, labels_at, likely_header, likely_line, line_due_at, line_text, line_value, new_label, nodes_at, pieces_of, printed_value, words_of, CertFault, CertFaultKind, BadHeader, BadLabelTable, BadNode, NodesLeft, NodesMissing, TooDeep}
 use Rattle.pmap_cert.proofs.PrintedLines.{IsNumbered, Said, fits-line, header-fits, line-back, line-fits, line-lacks, value-again, value-found}
 use Rattle.pmap_cert.proofs.FormatWhole.{certificate_at, due, header_then, labels_then, no_labels, pieces-found, reading-steps, root_then}
 use Rattle.pmap_cert.proofs.NewLabels.{decimal-bytes, new-label}
 use Rattle.pmap_cert.proofs.Pieces.{is_ended-two, line_from-cons, split_some, text_from_pieces}
 use Rattle.pmap_cert.proofs.ReadingSteps.{chain-deep, chain-in, deeper, node-deep, node-fault, node-leaf}
-use Rattle.pmap_cert.proofs.Tables.{table-new, value_at-again}
+use Rattle.pmap_cert.proofs.Tables.{or_fault, table-new, value_at-again}
 
 abbrev at : ℕ → List (List ℕ) → Place
 at number pieces = record { number = number; pieces = pieces }
@@ -152,7 +152,7 @@ module _ {A : Type 0} (value_of : List ℕ → Option A) (missing : List (List �
                 let many : 0 < length (front ++ rest) = omega (arith, length-append front rest) in
                 let fault : CertFault = fault_at place (missing place.pieces) in
                 failed place here
-                (ap (value_by fault value_of) (line_from-cons number line (front ++ rest) many)
+                (ap (λ next. ok_or (option_and_then (λ n. option_map (λ x. (x, n.1)) (value_of n.0)) next) fault) (line_from-cons number line (front ++ rest) many)
                 ∙ ap (or_fault fault (at (number + 1) (front ++ rest))) h
                 ∙ (λ i. Err (record { kind = same line (front ++ rest) many i; line = number + 1 })))
 

@@ -1,9 +1,9 @@
-use Rattle.std.proofs.Common.{◌≡◌, ℕ, ◌+◌, Bool, true, false, cond, ◌&&◌, ◌||◌, List, [], ◌∷◌, ◌++◌, Option, Some, None, arith, find, unwrap_or, sym, refl, ap, ◌∙◌, bytes_eq}
+use Rattle.std.proofs.Common.{◌≡◌, ℕ, ◌+◌, Bool, true, false, cond, ◌&&◌, ◌||◌, List, [], ◌∷◌, ◌++◌, Option, Some, None, arith, find, slice_index_or, unwrap_or, sym, refl, ap, ◌∙◌, bytes_eq}
 use Rattle.std.proofs.lemmas.Bool.{or_left}
 use Rattle.pmap_text.specs.MapModel.{Label, MapModel}
 use Rattle.pmap_text.proofs.Finds.{find_passes}
 use Rattle.pmap_cert.specs.CertificateModel.{ChainNode, InnerNode, LeafNode, Claim, Tree, claim_of, has, common_labels, exact_claim, exact_claim_by}
-use Rattle.pmap_cert.specs.Acceptance.{StandsFor, first_label, handed_on, least_label}
+use Rattle.pmap_cert.specs.Acceptance.{StandsFor, handed_on, least_label}
 use Rattle.pmap_cert.proofs.Sets.{bytes_eq-same, has-append, has-filter, has-own, has-single, miss, same-listed}
 
 -- A node of a minimal certificate passes on a label of its set, so its halves have as many entries as it costs.
@@ -13,15 +13,15 @@ abbrev pub IsInhabited : List Label → Type 0
 IsInhabited s = (x : Label) × (has s x ≡ true)
 
 -- a set that is not empty has its first and its least label
-has-first_label : (s : List Label) → IsInhabited s → has s (first_label s) ≡ true
-has-first_label [] some = some.1
-has-first_label (x ∷ xs) some = or_left (bytes_eq x x) (has xs x) (bytes_eq-same x)
+has-first : (s : List Label) → IsInhabited s → has s (slice_index_or s 0 []) ≡ true
+has-first [] some = some.1
+has-first (x ∷ xs) some = or_left (bytes_eq x x) (has xs x) (bytes_eq-same x)
 
 pub has-least_label : (table s : List Label) → IsInhabited s → has s (least_label table s) ≡ true
 has-least_label table s some = by_find (find (has s) table) refl
   where
-    by_find : (o : Option Label) → find (has s) table ≡ o → has s (unwrap_or o (first_label s)) ≡ true
-    by_find None e = has-first_label s some
+    by_find : (o : Option Label) → find (has s) table ≡ o → has s (unwrap_or o (slice_index_or s 0 [])) ≡ true
+    by_find None e = has-first s some
     by_find (Some x) e = (find_passes (has s) table x e).1
 
 -- a node with a nonempty set passes on a label of the set

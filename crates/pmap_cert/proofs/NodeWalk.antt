@@ -2,7 +2,7 @@
 use Rattle.std.proofs.Common.{◌≡◌, Bool, ℕ, zero, suc, ◌<◌, ◌≤◌, ◌∙◌, List, [], ◌∷◌, ◌++◌, length, drop, get_or, refl, sym, ap, subst, arith}
 use Rattle.std.proofs.lemmas.List.{append-nil, append_assoc}
 use Rattle.pmap_cert.specs.FormatReading.{ChainLine, DueLine, InnerLine, LeafLine}
-use Rattle.pmap_cert.specs.Node.{AreWhole, Chain, Inner, IsTree, Leaf, Node, bits_of, chained, cost_of, first_node, from_next_line, joined, label_of, lines_of, nodes-lines, nodes_of, set_of, side_of, node_of}
+use Rattle.pmap_cert.specs.Node.{AreWhole, Chain, Inner, IsTree, Leaf, Node, chained, first_line, first_node, from_next_line, joined, lines_of, nodes-lines, nodes_of}
 
 pub whole-lines : (node : Node) (rest : List DueLine) → AreWhole rest → AreWhole (lines_of node ++ rest)
 whole-lines (Leaf number) rest whole = whole
@@ -50,23 +50,15 @@ nodes-next (InnerLine cost numbers ∷ lines) zero whole = halves cost numbers (
 nodes-next (ChainLine cost bits side numbers ∷ lines) zero whole = end-next cost numbers bits side (nodes_of lines) whole.0
 nodes-next (line ∷ lines) (suc k) whole = nodes-next lines k whole
 
--- the line has the values of its node
-pub record IsLineOf (line : DueLine) (node : Node) : Type 0 where
-  pub label : label_of (node_of line) ≡ label_of node
-  pub cost : cost_of (node_of line) ≡ cost_of node
-  pub set : set_of (node_of line) ≡ set_of node
-  pub bits : bits_of (node_of line) ≡ bits_of node
-  pub side : side_of (node_of line) ≡ side_of node
-
-inner-line : (cost : ℕ) (set : List ℕ) (nodes : List Node) → 2 ≤ length nodes → IsLineOf (InnerLine cost set) (first_node (joined cost set nodes))
+inner-line : (cost : ℕ) (set : List ℕ) (nodes : List Node) → 2 ≤ length nodes → InnerLine cost set ≡ first_line (first_node (joined cost set nodes))
 inner-line cost set [] two = absurd (omega arith)
 inner-line cost set (node ∷ []) two = absurd (omega arith)
-inner-line cost set (lower ∷ upper ∷ nodes) two = record { label = refl; cost = refl; set = refl; bits = refl; side = refl }
+inner-line cost set (lower ∷ upper ∷ nodes) two = refl
 
 chain-line : (cost : ℕ) (set : List ℕ) (bits : List Bool) (side : ℕ) (nodes : List Node) → 1 ≤ length nodes
-    → IsLineOf (ChainLine cost bits side set) (first_node (chained cost set bits side nodes))
+    → ChainLine cost bits side set ≡ first_line (first_node (chained cost set bits side nodes))
 chain-line cost set bits side [] some = absurd (omega arith)
-chain-line cost set bits side (end ∷ nodes) some = record { label = refl; cost = refl; set = refl; bits = refl; side = refl }
+chain-line cost set bits side (end ∷ nodes) some = refl
 
 pub within : (lines : List DueLine) (k : ℕ) → 0 < length (nodes_of (drop k lines)) → k < length lines
 within [] zero some = absurd (omega arith)
@@ -75,10 +67,10 @@ within (line ∷ lines) zero some = omega arith
 within (line ∷ lines) (suc k) some = let less = within lines k some in omega arith
 
 pub line-here : (lines : List DueLine) (k : ℕ) (z : DueLine) → 0 < length (nodes_of (drop k lines)) → AreWhole (drop k lines)
-    → IsLineOf (get_or lines k z) (first_node (nodes_of (drop k lines)))
+    → get_or lines k z ≡ first_line (first_node (nodes_of (drop k lines)))
 line-here [] zero z some whole = absurd (omega arith)
 line-here [] (suc k) z some whole = absurd (omega arith)
-line-here (LeafLine number ∷ lines) zero z some whole = record { label = refl; cost = refl; set = refl; bits = refl; side = refl }
+line-here (LeafLine number ∷ lines) zero z some whole = refl
 line-here (InnerLine cost numbers ∷ lines) zero z some whole = inner-line cost numbers (nodes_of lines) whole.0
 line-here (ChainLine cost bits side numbers ∷ lines) zero z some whole = chain-line cost numbers bits side (nodes_of lines) whole.0
 line-here (line ∷ lines) (suc k) z some whole = line-here lines k z some whole

@@ -13,13 +13,13 @@ use Rattle.prefix_keys.specs.Text.{decimal_value}
 use Rattle.prefix_keys.specs.declared.version.Version.{Version}
 use Rattle.prefix_keys.specs.declared.version.Version.TheVariants.{V4, V6}
 use Rattle.pmap_cert.specs.CertificateText.{IsAscending, bit_digits, spaced}
-use Rattle.pmap_cert.specs.FormatReading.{ChainLine, DueLine, InnerLine, LeafLine, Place, fault_at, fits_header, fits_line, header_text, is_ended, likely_header, likely_line, line_due_at, line_from, line_text, or_fault, pieces_of, printed_at, printed_value, value_by, words_of, CertFault, CertFaultKind, BadNode, NodesMissing}
+use Rattle.pmap_cert.specs.FormatReading.{ChainLine, DueLine, InnerLine, LeafLine, Place, fault_at, fits_header, fits_line, header_text, is_ended, likely_header, likely_line, line_due_at, line_text, pieces_of, printed_at, printed_value, line_value, words_of, CertFault, CertFaultKind, BadNode, NodesMissing}
 use Rattle.pmap_cert.specs.Inner.{BeginsWith, Reads}
 use Rattle.pmap_cert.proofs.ChainWords.{Lacks-bits, bits-back}
 use Rattle.pmap_cert.proofs.Headers.{Lacks-line, Lacks-tested}
 use Rattle.pmap_cert.proofs.Numbers.{Lacks-decimal, Lacks-decimals, ascending-passed, ascending-test, decimal_value-decimal, values-decimals}
 use Rattle.pmap_cert.proofs.Pieces.{split_some, words-line}
-use Rattle.pmap_cert.proofs.Tables.{value_at-again, value_at-found}
+use Rattle.pmap_cert.proofs.Tables.{or_fault, value_at-again, value_at-found}
 
 abbrev at : ℕ → List (List ℕ) → Place
 at number pieces = record { number = number; pieces = pieces }
@@ -69,7 +69,7 @@ module _ {A : Type 0} (fits : A → Bool) (text_of : A → List ℕ) (likely : L
       pub nowhere : Reads (BeginsWith fits text_of text) None → found ≡ Err missing
       nowhere none = by (pieces_of text) refl
         where
-          by : (pieces : List (List ℕ)) → pieces_of text ≡ pieces → value_by missing value_of (line_from number pieces) ≡ Err missing
+          by : (pieces : List (List ℕ)) → pieces_of text ≡ pieces → line_value kind value_of (at number pieces) ≡ Err missing
           by [] is = refl
           by (line ∷ []) is = refl
           by (line ∷ piece ∷ pieces) is = by_value (value_of line) refl

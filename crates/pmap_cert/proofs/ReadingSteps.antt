@@ -140,6 +140,18 @@ module _ (format : Format) (most : ℕ) (table : List Label) where
   chain-bits place after cost bits side numbers is =
       let said = line_due-found (format_number format) most (length table) place (ChainLine cost bits side numbers, after) is in said.1.2
 
+  -- the node of a chain's line, by the number of its bits
+  module _ (place after : Place) (cost : ℕ) (bits : List Bool) (side : ℕ) (numbers : List ℕ) (due : due_in place ≡ Ok (ChainLine cost bits side numbers, after))
+      (room count : ℕ) (is : count ≡ length bits) where
+    pub chain-over : room < count → nodes_at due_in table room 0 place ≡ Err (fault_at place TooDeep)
+    chain-over more = chain-deep due_in table place after cost numbers bits side room due (omega (arith, more, is)) (chain-bits place after cost bits side numbers due)
+
+    pub chain-below : count ≤ room → (below : Read) → nodes_at due_in table (room - count) 0 after ≡ below
+        → nodes_at due_in table room 0 place ≡ end_then due_in table place after cost numbers bits side below
+    chain-below fits below e =
+        chain-in due_in table place after cost numbers bits side room due (omega (arith, fits, is)) (chain-bits place after cost bits side numbers due)
+        ∙ ap (end_then due_in table place after cost numbers bits side) (ap (λ (n : ℕ). nodes_at due_in table (room - n) 0 after) (sym is) ∙ e)
+
   -- a leaf that was read, and its line after the old ones
   pub read-leaf : (room : ℕ) (place after : Place) (number : ℕ) (old new : List DueLine) → due_in place ≡ Ok (LeafLine number, after)
       → new ≡ old ++ LeafLine number ∷ [] → IsReadNode format most table room place old new after

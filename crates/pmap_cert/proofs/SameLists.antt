@@ -1,5 +1,5 @@
 -- The list of a minimal pair depends only on the labels of the addresses, not on the blocks that the map settles.
-use Rattle.std.proofs.Common.{◌≡◌, ℕ, suc, inl, inr, ◌+◌, ◌*◌, ◌/◌, ◌^◌, ◌<◌, ◌≤◌, Bool, true, false, cond, List, [], ◌∷◌, ◌++◌, Option, Some, None, find, unwrap_or, bytes_eq, refl, sym, ap, ap₂, ◌∙◌, subst, arith, pow-suc}
+use Rattle.std.proofs.Common.{◌≡◌, ℕ, suc, inl, inr, ◌+◌, ◌*◌, ◌/◌, ◌^◌, ◌<◌, ◌≤◌, Bool, true, false, cond, List, [], ◌∷◌, ◌++◌, Option, Some, None, find, slice_index_or, unwrap_or, bytes_eq, refl, sym, ap, ap₂, ◌∙◌, subst, arith, pow-suc}
 use Rattle.std.proofs.lemmas.Bool.{both_ways, or_cases}
 use Rattle.std.proofs.lemmas.List.{append-nil}
 use Rattle.std.proofs.lemmas.Slice.Eq.{bytes_eq-Decides}
@@ -9,7 +9,7 @@ use Rattle.pmap_text.specs.MapModel.{Label, MapModel, Mapping, map_label}
 use Rattle.pmap_text.proofs.Blocks.{block_number-first_of, block_number-half, first_of-below}
 use Rattle.pmap_text.proofs.Settled.{map_label-settled, unsettled-halves}
 use Rattle.pmap_cert.specs.CertificateModel.{ChainNode, InnerNode, LeafNode, Claim, IsSameClaim, Tree, claim_of, exact_claim, exact_claim_by, has}
-use Rattle.pmap_cert.specs.Acceptance.{HasItsLabels, StandsFor, entries_of, first_label, handed_on, has_inherited, least_label, own_entry}
+use Rattle.pmap_cert.specs.Acceptance.{HasItsLabels, StandsFor, entries_of, handed_on, has_inherited, least_label, own_entry}
 use Rattle.pmap_cert.proofs.Alike.{table-node}
 use Rattle.pmap_cert.proofs.ExactClaims.{same-exact_claim}
 use Rattle.pmap_cert.proofs.Handed.{handed_on-leaf, inhabited}
@@ -33,9 +33,9 @@ found-some test (y ∷ ys) x h passes none =
 -- Two sets with the same labels, one of which is in the table.
 module _ (W : ℕ) (table s s' : List Label) (same : (x : Label) → has s x ≡ has s' x) (x : Label) (inside : has s x ≡ true) (known : has table x ≡ true) where
   same-least : least_label table s ≡ least_label table s'
-  same-least = by (find (has s) table) refl ∙ (λ i. unwrap_or (find (λ y. same y i) table) (first_label s'))
+  same-least = by (find (has s) table) refl ∙ (λ i. unwrap_or (find (λ y. same y i) table) (slice_index_or s' 0 []))
     where
-      by : (o : Option Label) → find (has s) table ≡ o → unwrap_or (find (has s) table) (first_label s) ≡ unwrap_or (find (has s) table) (first_label s')
+      by : (o : Option Label) → find (has s) table ≡ o → unwrap_or (find (has s) table) (slice_index_or s 0 []) ≡ unwrap_or (find (has s) table) (slice_index_or s' 0 [])
       by None e = absurd (found-some (has s) table x known inside e)
       by (Some y) e = rw e refl
 

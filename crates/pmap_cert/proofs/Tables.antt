@@ -1,5 +1,5 @@
 -- Label tables: the numbers of their labels, and their lines.
-use Rattle.std.proofs.Common.{◌≡◌, ℕ, zero, suc, ◌+◌, ◌<◌, ◌≤◌, ◌∙◌, ◌&&◌, ◌==◌, Bool, true, false, not, List, [], ◌∷◌, ◌++◌, Option, None, Some, Result, Ok, Err, cond, filter, length, map, get_or, refl, sym, ap, subst, arith}
+use Rattle.std.proofs.Common.{◌≡◌, ℕ, zero, suc, ◌+◌, ◌<◌, ◌≤◌, ◌∙◌, ◌&&◌, ◌==◌, Bool, true, false, not, List, [], ◌∷◌, ◌++◌, Option, None, Some, Result, Ok, Err, cond, filter, length, map, get_or, ok_or, option_and_then, option_map, refl, sym, ap, subst, arith}
 use Rattle.std.specs.List.{position_or_len}
 use Rattle.std.specs.Str.{bytes_eq}
 use Rattle.std.proofs.lemmas.Bool.{and_from, and_parts, both_ways, cond-true, eq-eqb, eqb-true, false_from_ne_true, not-true, not_from_false, ltb-true}
@@ -13,7 +13,7 @@ use Rattle.pmap_text.specs.MapModel.{Label}
 use Rattle.pmap_text.specs.Reading.{◌>>=◌}
 use Rattle.pmap_text.specs.MapText.{text_at}
 use Rattle.pmap_cert.specs.CertificateText.{IsAscending, place_of}
-use Rattle.pmap_cert.specs.FormatReading.{Place, fault_at, labels_at, line_from, new_label, or_fault, line_value, value_by, CertFault, CertFaultKind, BadLabelTable}
+use Rattle.pmap_cert.specs.FormatReading.{Place, fault_at, labels_at, new_label, line_value, CertFault, CertFaultKind, BadLabelTable}
 use Rattle.pmap_cert.proofs.Pieces.{found_at, line_from-cons}
 
 -- if two steps succeed, the first has a value with which the second succeeds
@@ -57,20 +57,24 @@ texts-places table low [] ascending = refl
 texts-places table low (x ∷ xs) ascending =
     λ i. text_at-place_of table x ascending.1 i ∷ texts-places table (place_of table x + 1) xs ascending.2 i
 
+-- the value of a line with the rest of the text, or the fault if the line has no such value
+abbrev pub or_fault : {A : Type 0} → CertFault → Place → Option A → Result (A × Place) CertFault
+or_fault fault after value = ok_or (option_map (λ x. (x, after)) value) fault
+
 -- a value that is read is that of the next line, and the given rest follows
 pub value_at-found : {A : Type 0} (kind : CertFaultKind) (value_of : List ℕ → Option A) (place : Place) (x : A × Place) → line_value kind value_of place ≡ Ok x
     → (line : List ℕ) × (place.pieces ≡ line ∷ x.1.pieces) × (value_of line ≡ Some x.0)
 value_at-found kind value_of place x e = by place.number place.pieces e
   where
-    fault : CertFault
-    fault = fault_at place kind
-
-    by : (number : ℕ) (pieces : List (List ℕ)) → value_by fault value_of (line_from number pieces) ≡ Ok x
+    by : (number : ℕ) (pieces : List (List ℕ)) → line_value kind value_of (record { number = number; pieces = pieces }) ≡ Ok x
         → (line : List ℕ) × (pieces ≡ line ∷ x.1.pieces) × (value_of line ≡ Some x.0)
     by number [] e = absurd cc
     by number (line ∷ []) e = absurd cc
     by number (line ∷ piece ∷ pieces) e = by_value (value_of line) refl
       where
+        fault : CertFault
+        fault = fault_at (record { number = number; pieces = [] }) kind
+
         by_value : (o : Option _) → value_of line ≡ o → (text : List ℕ) × (line ∷ piece ∷ pieces ≡ text ∷ x.1.pieces) × (value_of text ≡ Some x.0)
         by_value None h = absurd (failed (sym (ap (or_fault fault (record { number = number + 1; pieces = piece ∷ pieces })) h) ∙ e))
           where
@@ -85,7 +89,8 @@ pub value_at-again : {A : Type 0} (kind : CertFaultKind) (value_of : List ℕ �
     → line_value kind value_of (record { number = number; pieces = line ∷ rest }) ≡ Ok (x, record { number = number + 1; pieces = rest })
 value_at-again kind value_of number line rest x e some =
     let fault = fault_at (record { number = number; pieces = line ∷ rest }) kind in
-    ap (value_by fault value_of) (line_from-cons number line rest some) ∙ ap (or_fault fault (record { number = number + 1; pieces = rest })) e
+    ap (λ next. ok_or (option_and_then (λ n. option_map (λ x. (x, n.1)) (value_of n.0)) next) fault) (line_from-cons number line rest some)
+    ∙ ap (or_fault fault (record { number = number + 1; pieces = rest })) e
 
 -- a new label of a table is the line, a label, and not in the table
 new_label-is : (table : List Label) (line : List ℕ) (x : Label) → new_label table line ≡ Some x → (line ≡ x) × (is_label x ≡ true) × (has_label table x ≡ false)

@@ -1,5 +1,6 @@
-use Rattle.std.specs.Prelude.{◌≡◌, ℕ, suc, ◌+◌, ◌*◌, ◌<◌, ◌≤◌, Bool, List, [], ◌∷◌, Some, filter, length, IsTrue, false, ◌++◌, Option, None, find, unwrap_or, if◌then◌else◌, All, ◌-◌, ◌%◌, ◌^◌, ◌&&◌, ◌||◌, ◌==◌, nat_lt, not}
+use Rattle.std.specs.Prelude.{◌≡◌, ℕ, suc, ◌+◌, ◌*◌, ◌<◌, ◌≤◌, Bool, List, [], ◌∷◌, Some, filter, length, IsTrue, false, ◌++◌, Option, None, find, slice_index_or, unwrap_or, if◌then◌else◌, All, ◌-◌, ◌%◌, ◌^◌, ◌&&◌, ◌||◌, ◌==◌, nat_lt, not}
 use Rattle.std.specs.List.{AllByRecursion}
+use Rattle.std.specs.Option.{option_map_or}
 use Rattle.prefix_keys.specs.Block.{first_of, width_of}
 use Rattle.pmap_text.specs.ListModel.{IsEquivalent, ListModel, Prefix, label_below, lies_inside}
 use Rattle.pmap_text.specs.MapModel.{IsSettled, Label, MapModel, settled_label}
@@ -72,19 +73,13 @@ StandsFor m (InnerNode claim lower upper) n q =
     × StandsFor m lower (suc n) (2 * q) × StandsFor m upper (suc n) (2 * q + 1)
 StandsFor m (ChainNode claim bits side end) n q = ⊥
 
--- the first label of a set's list
-abbrev pub first_label : List Label → Label
-first_label [] = []
-first_label (x ∷ xs) = x
-
 -- the label of the set that is first in the table, or, if the table has none of them, the first of the set's list
 abbrev pub least_label : List Label → List Label → Label
-least_label table s = unwrap_or (find (has s) table) (first_label s)
+least_label table s = unwrap_or (find (has s) table) (slice_index_or s 0 [])
 
 -- the set has the inherited label, if there is one
 abbrev pub has_inherited : List Label → Option Label → Bool
-has_inherited s None = false
-has_inherited s (Some x) = has s x
+has_inherited s inherited = option_map_or (has s) inherited false
 
 -- the label that a node with the set s passes on: the inherited one if the set has it, otherwise the set's least label
 abbrev pub handed_on : List Label → List Label → Option Label → Option Label

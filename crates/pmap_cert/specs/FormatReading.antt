@@ -1,4 +1,4 @@
-use Rattle.std.specs.Prelude.{ℕ, zero, suc, ◌+◌, ◌^◌, ◌&&◌, ◌==◌, Bool, true, false, List, [], ◌∷◌, ◌++◌, Option, Some, None, Result, Ok, Err, codes, length, map, nat_le, nat_lt, not, if◌then◌else◌, ◌||◌}
+use Rattle.std.specs.Prelude.{ℕ, zero, suc, ◌+◌, ◌^◌, ◌&&◌, ◌==◌, Bool, true, false, List, [], ◌∷◌, ◌++◌, Option, Some, None, Result, Ok, Err, codes, length, map, nat_le, nat_lt, not, ok_or, option_and_then, option_map, if◌then◌else◌, ◌||◌}
 use Rattle.std.specs.List.{slice_split}
 use Rattle.std.specs.Str.{bytes_eq}
 use Rattle.prefix_keys.specs.Text.{decimal_value}
@@ -46,18 +46,10 @@ is_ended _ = false
 abbrev pub fault_at : Place → CertFaultKind → CertFault
 fault_at place kind = record { kind = kind; line = place.number + 1 }
 
--- the value of a line with the rest of the text, or the fault if the line has no such value
-abbrev pub or_fault : {A : Type 0} → CertFault → Place → Option A → Result (A × Place) CertFault
-or_fault fault after (Some x) = Ok (x, after)
-or_fault fault after None = Err fault
-
-abbrev pub value_by : {A : Type 0} → CertFault → (List ℕ → Option A) → Option (List ℕ × Place) → Result (A × Place) CertFault
-value_by fault value_of (Some (line, after)) = or_fault fault after (value_of line)
-value_by fault value_of None = Err fault
-
 -- reads the value of the next line; a fault of this kind if there is no line or it has no such value
 abbrev pub line_value : {A : Type 0} → CertFaultKind → (List ℕ → Option A) → Place → Result (A × Place) CertFault
-line_value kind value_of place = value_by (fault_at place kind) value_of (next_line place)
+line_value kind value_of place =
+    ok_or (option_and_then (λ next. option_map (λ x. (x, next.1)) (value_of next.0)) (next_line place)) (fault_at place kind)
 
 -- the words of a line: the pieces between its spaces
 abbrev pub words_of : List ℕ → List (List ℕ)

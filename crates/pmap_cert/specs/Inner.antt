@@ -14,8 +14,6 @@ use Rattle.pmap_cert.specs.Node.{HasChainForm, IsPlainNode, Node, lines_of, tree
 use Rattle.pmap_cert.specs.CertificateModel.{CertificateModel, Tree}
 use Rattle.pmap_cert.specs.CertificateText.{IsAscending, bit_digits, format_word, spaced, version_word}
 use Rattle.pmap_cert.specs.Compacting.{compacted}
-use Rattle.pmap_cert.specs.declared.compacting.Below.{Below}
-use Rattle.pmap_cert.specs.declared.compacting.Below.TheVariants.{Halves, Nothing}
 
 -- reads the next node of a text of this format, for addresses of `most` bits, with at most `room` levels below it
 abbrev pub node_due_at : Format → ℕ → List Label → ℕ → Place → Result (Tree × Place) CertFault
@@ -149,10 +147,6 @@ pub record HasHalves (lines : List DueLine) (all : List ℕ) (number lower upper
   pub low_after : number < lower
   pub up_after : number < upper
   pub rest : drop 1 (nodes_of (drop number lines)) ≡ drop 1 (nodes_of (drop upper lines))
-
-abbrev pub IsBelow : List DueLine → List ℕ → ℕ → Below → Type 0
-IsBelow lines all number (Nothing id) = node_from lines number ≡ Leaf id.0
-IsBelow lines all number (Halves lower upper) = HasHalves lines all number lower upper
 
 abbrev pub end_down : ℕ → Node → Node
 end_down side (Inner cost set lower upper) =

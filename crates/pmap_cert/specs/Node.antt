@@ -93,6 +93,12 @@ HasChainForm-prop count (Chain cost set bits side end) room =
       room-prop (HasChainForm count end) (HasChainForm-prop count end) bits room x.4 y.4 i,
     )
 
+-- the line of a node
+abbrev pub first_line : Node → DueLine
+first_line (Leaf number) = LeafLine number
+first_line (Inner cost set lower upper) = InnerLine cost set
+first_line (Chain cost set bits side end) = ChainLine cost bits side set
+
 -- the lines of a node and of those below it: first its own, then all of the lower half, then all of the upper, or all
 -- of a chain's end
 abbrev pub lines_of : Node → List DueLine

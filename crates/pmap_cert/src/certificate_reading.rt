@@ -7,14 +7,13 @@ ghost use Rattle.pmap_cert.specs.FormatReading.{format_reading, is_ended, labels
 ghost use Rattle.pmap_cert.specs.CertificateModel.{Tree};
 ghost use Rattle.pmap_cert.specs.Node.{HasChainForm, tree_of};
 ghost use Rattle.pmap_cert.specs.Inner.{IsReadNode, node_due_at, reading_from};
-ghost use Rattle.pmap_cert.specs.Packed.{bits_in};
-ghost use Rattle.pmap_cert.specs.Words.{line_model};
 
 use crate::certificate::Certificate;
 use crate::fault::{CertFault, CertFaultKind};
 use crate::format::Format;
 use crate::lines::Lines;
-use crate::node_line::{Frame, Kept, NodeLine};
+use crate::node::Node;
+use crate::node_line::{Frame, Kept};
 use crate::nodes::Nodes;
 use crate::root::Root;
 use pmap_text::{KeyHashing, Labels, is_label};
@@ -80,26 +79,23 @@ fn read_node(
     ensures memory { IfErr result (λ fault. fault.kind ≡ NoMemory → fault.line ≡ 0) }
 {
     let deepest = lines.fault(CertFaultKind::TooDeep);
-    match lines.next_node(kept, frame)? {
-        NodeLine::Leaf(id) => {
-            nodes.push_leaf(id)?;
-            Ok(())
-        }
-        NodeLine::Inner(cost) => {
+    let node = lines.next_node(kept, frame)?;
+    nodes.push(node)?;
+    match node {
+        Node::Leaf(_) => Ok(()),
+        Node::Inner(claim) => {
             if room == 0 {
                 return Err(deepest);
             }
-            nodes.push_inner(cost, kept.set.as_slice())?;
             read_node(nodes, kept, frame, room - 1, lines)?;
             read_node(nodes, kept, frame, room - 1, lines)?;
             Ok(())
         }
-        NodeLine::Chain(cost, side) => {
-            let deep = kept.path.len();
+        Node::Chain { claim, path, side } => {
+            let deep = path.len();
             if deep > room {
                 return Err(deepest);
             }
-            nodes.push_chain(cost, kept.path, side, kept.set.as_slice())?;
             read_node(nodes, kept, frame, room - deep, lines)?;
             Ok(())
         }
@@ -120,9 +116,10 @@ pub fn skip_node(
     ensures memory { IfErr result (λ fault. fault.kind ≡ NoMemory → fault.line ≡ 0) }
 {
     let deepest = lines.fault(CertFaultKind::TooDeep);
-    match lines.next_node(kept, frame)? {
-        NodeLine::Leaf(_) => Ok(()),
-        NodeLine::Inner(_) => {
+    let node = lines.next_node(kept, frame)?;
+    match node {
+        Node::Leaf(_) => Ok(()),
+        Node::Inner(claim) => {
             if room == 0 {
                 return Err(deepest);
             }
@@ -130,8 +127,8 @@ pub fn skip_node(
             skip_node(lines, kept, frame, room - 1)?;
             Ok(())
         }
-        NodeLine::Chain(_, _) => {
-            let deep = kept.path.len();
+        Node::Chain { claim, path, side } => {
+            let deep = path.len();
             if deep > room {
                 return Err(deepest);
             }

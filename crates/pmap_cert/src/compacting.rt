@@ -1,34 +1,42 @@
 //! Compacting: a chain replaces each run of inner nodes that each have a leaf of the same label in one half.
-ghost use Rattle.std.specs.Prelude.{◌≡◌, ◌<◌, IfOk, MatchOption, OnOk, length, option_map};
+ghost use Rattle.std.specs.Prelude.{◌≡◌, ◌<◌, IfOk, IsSome, MatchOption, OnOk, length, option_map};
 ghost use Rattle.std.specs.Option.{option_or};
 ghost use Rattle.pmap_cert.specs.Certificate.{certificate_of};
 ghost use Rattle.pmap_cert.specs.Compacting.{compact};
 ghost use Rattle.pmap_cert.specs.Node.{IsPlainNode, label_of};
 ghost use Rattle.pmap_cert.specs.Packed.{bits_in};
-ghost use Rattle.pmap_cert.specs.Inner.{AreEndsFrom, ArePlain, EndsAt, HasHalves, HasPlace, IsBelow, IsCompactNode, IsCompacted, IsLong, IsRun, IsRunEnd, IsShallow, IsShort, IsStep, is_leaf, node_from};
+ghost use Rattle.pmap_cert.specs.Inner.{AreEndsFrom, ArePlain, EndsAt, HasHalves, HasPlace, IsCompactNode, IsCompacted, IsLong, IsRun, IsRunEnd, IsShallow, IsShort, IsStep, is_leaf, node_from};
 
 use crate::certificate::Certificate;
 use crate::format::Format;
+use crate::node::Node;
 use crate::nodes::Nodes;
 use crate::path::Path;
 use crate::root::Root;
 use pmap_text::LabelId;
 use std::alloc::{AllocError, Global};
 
-// A node by what is below it: nothing below a leaf, which has this label, or two halves at the lines with these
-// numbers.
-enum Below {
-    Nothing(LabelId),
-    Halves(usize, usize),
+// Returns the label of the node at line `number` if it is a leaf.
+fn leaf_label(nodes: &Nodes, number: usize) -> Option<LabelId>
+    requires plain { ArePlain nodes.now }
+    requires within { number < length nodes.now }
+    ensures { option_map (λ id. id.0) result ≡ label_of (node_from nodes.now number) }
+{
+    match nodes.node(number) {
+        Node::Leaf(id) => Some(id),
+        Node::Inner(_) | Node::Chain { .. } => None,
+    }
 }
 
-fn look_below(nodes: &Nodes, ends: &[usize], number: usize) -> Below
+// Returns the lines of the halves of the node at line `number`, or `None` for a leaf.
+fn halves_of(nodes: &Nodes, ends: &[usize], number: usize) -> Option<(usize, usize)>
     requires { HasPlace nodes.now ends.now number }
-    ensures { IsBelow nodes.now ends.now number result }
+    ensures { MatchOption result (IsSome (label_of (node_from nodes.now number)))
+        (λ x. HasHalves nodes.now ends.now number x.0 x.1) }
 {
-    match nodes.label(number) {
-        Some(id) => Below::Nothing(id),
-        None => Below::Halves(number + 1, ends[number + 1]),
+    match leaf_label(nodes, number) {
+        Some(_) => None,
+        None => Some((number + 1, ends[number + 1])),
     }
 }
 
@@ -37,9 +45,9 @@ fn end_at(nodes: &Nodes, ends: &[usize], number: usize) -> usize
     requires { HasPlace nodes.now ends.now number }
     ensures { EndsAt nodes.now number result }
 {
-    match look_below(nodes, ends, number) {
-        Below::Nothing(_) => number + 1,
-        Below::Halves(_, upper) => ends[upper],
+    match halves_of(nodes, ends, number) {
+        None => number + 1,
+        Some((_, upper)) => ends[upper],
     }
 }
 
@@ -63,10 +71,7 @@ fn is_leaf(nodes: &Nodes, number: usize, label: LabelId) -> bool
     requires within { number < length nodes.now }
     ensures { result ≡ is_leaf label.0 (node_from nodes.now number) }
 {
-    match nodes.label(number) {
-        Some(id) => id.0 == label.0,
-        None => false,
-    }
+    leaf_label(nodes, number) == Some(label)
 }
 
 // Returns the next step of a run of the side label from the node at line `number`: the bit and the line of the chosen
@@ -76,17 +81,13 @@ fn step(nodes: &Nodes, ends: &[usize], number: usize, side: LabelId) -> Option<(
     ensures { MatchOption result (IsRunEnd nodes.now side.0 number)
         (λ x. IsStep nodes.now ends.now side.0 number x.0 x.1) }
 {
-    match look_below(nodes, ends, number) {
-        Below::Nothing(_) => None,
-        Below::Halves(lower, upper) => {
-            if is_leaf(nodes, lower, side) {
-                Some((true, upper))
-            } else if is_leaf(nodes, upper, side) {
-                Some((false, lower))
-            } else {
-                None
-            }
-        }
+    let (lower, upper) = halves_of(nodes, ends, number)?;
+    if is_leaf(nodes, lower, side) {
+        Some((true, upper))
+    } else if is_leaf(nodes, upper, side) {
+        Some((false, lower))
+    } else {
+        None
     }
 }
 
@@ -112,9 +113,9 @@ fn side_of(nodes: &Nodes, lower: usize, upper: usize) -> Option<LabelId>
     ensures { option_map (λ id. id.0) result
         ≡ option_or (label_of (node_from nodes.now lower)) (label_of (node_from nodes.now upper)) }
 {
-    match nodes.label(lower) {
+    match leaf_label(nodes, lower) {
         Some(id) => Some(id),
-        None => nodes.label(upper),
+        None => leaf_label(nodes, upper),
     }
 }
 
@@ -149,24 +150,26 @@ fn compact_node(
     requires { HasPlace nodes.now ends.now number }
     ensures { OnOk result (IsCompacted (node_from nodes.now number) out.old out.new) }
 {
-    match look_below(nodes, ends, number) {
-        Below::Nothing(id) => {
-            out.push_leaf(id)?;
+    let Some(halves) = halves_of(nodes, ends, number) else {
+        out.push(nodes.node(number))?;
+        return Ok(());
+    };
+    match run_of(nodes, ends, number, halves) {
+        Some((path, side, end)) => {
+            out.push(Node::Chain {
+                claim: nodes.claim(number),
+                path: &path,
+                side,
+            })?;
+            compact_node(out, nodes, ends, end)?;
             Ok(())
         }
-        Below::Halves(lower, upper) => match run_of(nodes, ends, number, (lower, upper)) {
-            Some((path, side, end)) => {
-                out.push_chain(nodes.cost(number), path, side, nodes.set(number))?;
-                compact_node(out, nodes, ends, end)?;
-                Ok(())
-            }
-            None => {
-                out.push_inner(nodes.cost(number), nodes.set(number))?;
-                compact_node(out, nodes, ends, lower)?;
-                compact_node(out, nodes, ends, upper)?;
-                Ok(())
-            }
-        },
+        None => {
+            out.push(nodes.node(number))?;
+            compact_node(out, nodes, ends, halves.0)?;
+            compact_node(out, nodes, ends, halves.1)?;
+            Ok(())
+        }
     }
 }
 

@@ -1,7 +1,8 @@
 ghost use Rattle.std.specs.Prelude.{◌≡◌, ◌<◌, ◌∷◌, [], length, map, option_map};
-ghost use Rattle.pmap_cert.specs.Packed.{bits_in};
-ghost use Rattle.pmap_cert.specs.Node.{bits_of, cost_of, first_node, from_next_line, label_of, set_of, side_of};
+ghost use Rattle.pmap_cert.specs.Packed.{bits_in, line_of};
+ghost use Rattle.pmap_cert.specs.Node.{bits_of, cost_of, first_line, first_node, from_next_line, label_of, set_of, side_of};
 
+use crate::node::Node;
 use crate::nodes::Nodes;
 use crate::path::Path;
 use crate::root::Root;
@@ -41,12 +42,24 @@ pub fn cursor_of(tree: &Root) -> Cursor<'_>
 }
 
 impl<'a> Cursor<'a> {
+    /// Returns the node.
+    pub fn node(&self) -> Node<'a>
+        requires { 0 < length self.now }
+        ensures { line_of result ≡ first_line (first_node self.now) }
+    {
+        self.nodes.node(self.number)
+    }
+
     /// Returns the label of the node if it is a leaf.
     pub fn label(&self) -> Option<LabelId>
         requires { 0 < length self.now }
         ensures { option_map (λ id. id.0) result ≡ label_of (first_node self.now) }
     {
-        self.nodes.label(self.number)
+        match self.node() {
+            Node::Leaf(id) => Some(id),
+            Node::Inner(_) => None,
+            Node::Chain { .. } => None,
+        }
     }
 
     /// Returns the cost that the node claims, 0 for a leaf.
@@ -54,7 +67,7 @@ impl<'a> Cursor<'a> {
         requires { 0 < length self.now }
         ensures { result ≡ cost_of (first_node self.now) }
     {
-        self.nodes.cost(self.number)
+        self.nodes.claim(self.number).cost
     }
 
     /// Returns the set of labels that the node claims, by ascending numbers. A leaf claims only its own label.
@@ -62,7 +75,7 @@ impl<'a> Cursor<'a> {
         requires { 0 < length self.now }
         ensures { map (λ id. id.0) result.now ≡ set_of (first_node self.now) }
     {
-        self.nodes.set(self.number)
+        self.nodes.claim(self.number).set
     }
 
     /// Returns the bits of the node: at least one for a chain, none for another node.
@@ -70,7 +83,11 @@ impl<'a> Cursor<'a> {
         requires { 0 < length self.now }
         ensures { bits_in result ≡ bits_of (first_node self.now) }
     {
-        self.nodes.path(self.number)
+        match self.node() {
+            Node::Leaf(_) => Path { value: 0, count: 0 },
+            Node::Inner(_) => Path { value: 0, count: 0 },
+            Node::Chain { path, .. } => *path,
+        }
     }
 
     /// Returns the side label of the node if it is a chain.
@@ -78,7 +95,11 @@ impl<'a> Cursor<'a> {
         requires { 0 < length self.now }
         ensures { option_map (λ id. id.0) result ≡ side_of (first_node self.now) }
     {
-        self.nodes.side(self.number)
+        match self.node() {
+            Node::Leaf(_) => None,
+            Node::Inner(_) => None,
+            Node::Chain { side, .. } => Some(side),
+        }
     }
 
     /// Returns a cursor at the next line. An inner node is followed by all lines of its lower half and then those of

@@ -33,10 +33,10 @@ mod format;
 mod header;
 mod laws;
 mod lines;
+mod node;
 mod node_line;
 mod nodes;
 mod path;
-mod pool;
 mod root;
 mod writing;
 
@@ -58,9 +58,9 @@ pub use laws::{
     minimal_pair_exists, minimal_pair_is_accepted, minimal_pair_is_unique,
 };
 pub use lines::Lines;
-pub use node_line::{Frame, Kept, NodeLine};
+pub use node::{Claim, Node};
+pub use node_line::{Frame, Kept};
 pub use nodes::Nodes;
 pub use path::Path;
-pub use pool::{SetId, SetPool};
 pub use root::Root;
 pub use writing::{push_head, push_inner_line, push_leaf_line, write_cert};

@@ -1,12 +1,13 @@
 ghost use Rattle.std.specs.Prelude.{◌≡◌, ◌≢◌, Err, IfErr, IfOk, Ok, length, option_map};
 ghost use Rattle.pmap_cert.specs.Format.{format_number};
 ghost use Rattle.pmap_cert.specs.FormatReading.{fault_at, format_header_at, is_ended, line_due_at, next_line, start_of, NoMemory};
-ghost use Rattle.pmap_cert.specs.Packed.{bits_in};
-ghost use Rattle.pmap_cert.specs.Words.{header_model, line_model};
+ghost use Rattle.pmap_cert.specs.Packed.{line_of};
+ghost use Rattle.pmap_cert.specs.Words.{header_model};
 
 use crate::fault::{CertFault, CertFaultKind};
 use crate::header::{Header, read_header};
-use crate::node_line::{Frame, Kept, NodeLine, node_line};
+use crate::node::Node;
+use crate::node_line::{Frame, Kept, node_line};
 use prefix_keys::find_byte;
 use std::marker::Model;
 
@@ -68,25 +69,27 @@ impl<'a> Lines<'a> {
         }
     }
 
-    /// Reads the next line of a node and moves past it. `kept` gets the set of an inner node or a chain, and the bits of
-    /// a chain.
+    /// Reads the next line of a node and moves past it. `kept` gets the node's set and bits.
     #[inline(always)]
-    pub fn next_node(&mut self, kept: &mut Kept, frame: &Frame) -> Result<NodeLine, CertFault>
-        ensures ok { IfOk result (λ line. line_due_at (format_number frame.now.format) frame.now.width
-            (length frame.now.labels.now) self.old
-            ≡ Ok (line_model kept.new.set.items (bits_in kept.new.path) line, self.new)) }
+    pub fn next_node<'s>(
+        &mut self,
+        kept: &'s mut Kept,
+        frame: &Frame,
+    ) -> Result<Node<'s>, CertFault>
+        ensures ok { IfOk result (λ node. line_due_at (format_number frame.now.format) frame.now.width
+            (length frame.now.labels.now) self.old ≡ Ok (line_of node, self.new)) }
         ensures err { IfErr result (λ fault. fault.kind ≢ NoMemory → line_due_at (format_number frame.now.format)
             frame.now.width (length frame.now.labels.now) self.old ≡ Err fault) }
         ensures memory { IfErr result (λ fault. fault.kind ≡ NoMemory → fault.line ≡ 0) }
     {
         let count = frame.labels.len() as u64;
         match node_line(kept, frame, self.rest, count)? {
-            Some((line, rest)) => {
+            Some((node, rest)) => {
                 *self = Lines {
                     rest,
                     number: self.number + 1,
                 };
-                Ok(line)
+                Ok(node)
             }
             None if self.is_ended() => Err(self.fault(CertFaultKind::NodesMissing)),
             None => Err(self.fault(CertFaultKind::BadNode)),

@@ -2,21 +2,13 @@
 ghost use Rattle.std.specs.Prelude.{◌≡◌, ◌≢◌, ◌^◌, ◌<◌, ◌≤◌, ◌⊎◌, ◌∷◌, IfOk, IsTrue, false, length, map, option_map, slice_index};
 ghost use Rattle.pmap_cert.specs.Format.{format_number};
 ghost use Rattle.pmap_cert.specs.Inner.{BeginsWithBits, BeginsWithChain, BeginsWithClaim, BeginsWithLast, BeginsWithLine, BeginsWithNumber, BeginsWithSet, Reads, after_byte as after_byte_of};
-ghost use Rattle.pmap_cert.specs.Packed.{bits_in};
-ghost use Rattle.pmap_cert.specs.Words.{line_model};
+ghost use Rattle.pmap_cert.specs.Packed.{bits_in, line_of};
 
 use crate::format::Format;
+use crate::node::{Claim, Node};
 use crate::path::Path;
 use pmap_text::{LabelId, Labels};
 use std::alloc::{AllocError, Global};
-
-/// The line of a node without its set and bits: a leaf's label, an inner node's cost, or a chain's cost and side label.
-#[derive(Clone, Copy)]
-pub enum NodeLine {
-    Leaf(LabelId),
-    Inner(u32),
-    Chain(u32, LabelId),
-}
 
 /// The limits of node lines: the format, the number of bits of an address, and the label table.
 #[derive(Clone, Copy)]
@@ -27,11 +19,11 @@ pub struct Frame<'a> {
     ghost narrow: { width ≤ 128 },
 }
 
-/// The set and the bits of the line that was read last.
+/// The memory for the set and the bits of the node that was read last.
 #[derive(Drop)]
 pub struct Kept {
-    pub set: Vec<LabelId>,
-    pub path: Path,
+    set: Vec<LabelId>,
+    path: Path,
 }
 
 impl Kept {
@@ -204,33 +196,44 @@ fn chain<'a>(
     }
 }
 
-/// Reads the node line at the beginning of a text, and returns it with the text after it, or `None` if it is malformed
-/// for `count` labels. `kept` gets the set of an inner node or a chain, and the bits of a chain.
+/// Reads the node line at the beginning of a text, and returns its node with the text after it, or `None` if it is
+/// malformed for `count` labels. `kept` gets the node's set and bits.
 #[inline(always)]
-pub fn node_line<'a>(
-    kept: &mut Kept,
+pub fn node_line<'a, 's>(
+    kept: &'s mut Kept,
     frame: &Frame,
     text: &'a [u8],
     count: u64,
-) -> Result<Option<(NodeLine, &'a [u8])>, AllocError>
+) -> Result<Option<(Node<'s>, &'a [u8])>, AllocError>
     requires { count ≤ 2 ^ 32 }
     ensures { IfOk result (λ found. Reads
         (BeginsWithLine (format_number frame.now.format) frame.now.width count text.entry.now)
-        (option_map (λ x. (line_model kept.new.set.items (bits_in kept.new.path) x.0, x.1.now)) found)) }
+        (option_map (λ x. (line_of x.0, x.1.now)) found)) }
 {
     if let Some(rest) = after_byte(text, b'l') {
         match last_number(rest, count) {
-            Some((number, rest)) => Ok(Some((NodeLine::Leaf(LabelId(number)), rest))),
+            Some((number, rest)) => Ok(Some((Node::Leaf(LabelId(number)), rest))),
             None => Ok(None),
         }
     } else if let Some(rest) = after_byte(text, b'n') {
         match claim(&mut kept.set, rest, 1 << 32, count)? {
-            Some((cost, rest)) => Ok(Some((NodeLine::Inner(cost), rest))),
+            Some((cost, rest)) => {
+                let set = kept.set.as_slice();
+                Ok(Some((Node::Inner(Claim { cost, set }), rest)))
+            }
             None => Ok(None),
         }
     } else if let (Format::Two, Some(rest)) = (frame.format, after_byte(text, b'c')) {
         match chain(kept, rest, frame.width, count)? {
-            Some(((cost, side), rest)) => Ok(Some((NodeLine::Chain(cost, side), rest))),
+            Some(((cost, side), rest)) => {
+                let set = kept.set.as_slice();
+                let node = Node::Chain {
+                    claim: Claim { cost, set },
+                    path: &kept.path,
+                    side,
+                };
+                Ok(Some((node, rest)))
+            }
             None => Ok(None),
         }
     } else {

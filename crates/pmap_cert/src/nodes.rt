@@ -1,38 +1,44 @@
-ghost use Rattle.std.specs.Prelude.{◌≡◌, ◌<◌, ◌++◌, ◌∷◌, [], IfOk, None, OnErr, OnOk, length, map, option_map, reverse, slice_index_or};
-ghost use Rattle.pmap_cert.specs.FormatReading.{ChainLine, InnerLine, LeafLine};
-ghost use Rattle.pmap_cert.specs.Node.{bits_of, cost_of, label_of, node_of, set_of, side_of};
-ghost use Rattle.pmap_cert.specs.Packed.{bits_in};
+ghost use Rattle.std.specs.Prelude.{◌≡◌, ◌<◌, ◌++◌, ◌∷◌, [], IfOk, OnErr, OnOk, length, map, reverse, slice_index_or};
+ghost use Rattle.pmap_cert.specs.FormatReading.{ChainLine, LeafLine};
+ghost use Rattle.pmap_cert.specs.Node.{cost_of, node_of, set_of};
+ghost use Rattle.pmap_cert.specs.Packed.{HasSetAt, IsGrown, IsHeldAt, IsLine, IsMore, bits_in, line_of, set_at, store_of};
 
+use crate::node::{Claim, Node};
 use crate::path::Path;
-use crate::pool::{SetId, SetPool, halves, joined_halves};
 use pmap_text::LabelId;
 use std::alloc::{AllocError, Global};
 use std::marker::Model;
 use std::slice;
 
-// The line of a node: a leaf's label, an inner node's cost and set, or the lower and upper 32 bits of a chain's index.
+// The number of values of 32 bits.
+const HALF: usize = 1 << 32;
+
+// The line of a node: a leaf's label, an inner node's cost and set, or the index of a chain. A set of one label is in the
+// line of its inner node, any other in `sets`, from an index on.
 #[derive(Clone, Copy)]
 enum Packed {
     Leaf(LabelId),
-    Inner(u32, SetId),
-    Chain(u32, u32),
+    Single(u32, LabelId),
+    Inner(u32, usize),
+    SideChain(usize),
+    Chain(usize),
 }
 
-// A chain: its claim, its side label, and its bits.
+// A chain. The set of a `SideChain` is its side label alone, any other is in `sets`, from the index `set` on.
 #[derive(Clone, Copy)]
 struct PackedChain {
     cost: u32,
     side: LabelId,
-    set: SetId,
+    set: usize,
     path: Path,
 }
 
-/// The nodes of a certificate in the order of their lines. Each takes 16 bytes, a chain 48 more. A pool has the labels
-/// of the sets that don't have exactly one.
+/// The nodes of a certificate in the order of their lines. Each takes 16 bytes, a chain 48 more.
 pub struct Nodes {
     lines: Vec<Packed>,
     chains: Vec<PackedChain>,
-    sets: SetPool,
+    // For each set: the lower and the upper 32 bits of the number of its labels, and then the labels.
+    sets: Vec<LabelId>,
 }
 
 // A drop is one call, so the proofs of functions that drop this type have one step instead of one for each part.
@@ -50,19 +56,91 @@ impl Model for Nodes {
     ghost use Rattle.std.specs.Prelude.{List, map};
     ghost use Rattle.std.specs.List.{All};
     ghost use Rattle.pmap_cert.specs.FormatReading.{DueLine};
-    ghost use Rattle.pmap_cert.specs.Packed.{IsPacked, line_in};
+    ghost use Rattle.pmap_cert.specs.Packed.{IsPacked, line_in, store_of};
 
     ghost Value = { List DueLine };
 
-    ghost view = { λ n. map (line_in (record {
-      labels = n.sets;
-      chains = n.chains.items;
-    })) n.lines.items };
+    ghost view = { λ n. map (line_in (store_of n.sets.items n.chains.items)) n.lines.items };
 
-    ghost invariant = { λ n. All (IsPacked (record {
-      labels = n.sets;
-      chains = n.chains.items;
-    })) n.lines.items };
+    ghost invariant = { λ n. All (IsPacked (store_of n.sets.items n.chains.items)) n.lines.items };
+}
+
+// Appends a set to the sets, and returns its index.
+fn hold(sets: &mut Vec<LabelId>, set: &[LabelId]) -> Result<usize, AllocError>
+    ensures grown { IsGrown sets.old.items sets.new.items }
+    ensures ok { IfOk result (λ place. IsHeldAt sets.new.items place (map (λ id. id.0) set.now)) }
+{
+    let place = sets.len();
+    sets.push(LabelId((set.len() % HALF) as u32))?;
+    sets.push(LabelId((set.len() / HALF) as u32))?;
+    sets.extend_from_slice(set)?;
+    Ok(place)
+}
+
+// Returns the set with this index.
+#[inline(always)]
+fn held(sets: &[LabelId], place: usize) -> &[LabelId]
+    requires { HasSetAt sets.now place }
+    ensures { map (λ id. id.0) result.now ≡ set_at sets.now place }
+{
+    let start = place + 2;
+    let count = sets[place + 1].0 as usize * HALF + sets[place].0 as usize;
+    &sets[start..start + count]
+}
+
+// Stores a chain with its set, and returns its line.
+fn pack_chain(
+    sets: &mut Vec<LabelId>,
+    chains: &mut Vec<PackedChain>,
+    claim: Claim,
+    path: &Path,
+    side: LabelId,
+) -> Result<Packed, AllocError>
+    ensures more { IsMore (store_of sets.old.items chains.old.items) (store_of sets.new.items chains.new.items) }
+    ensures ok { IfOk result (λ line. IsLine (store_of sets.new.items chains.new.items) line
+        (ChainLine claim.entry.cost (bits_in path.now) side.0 (map (λ id. id.0) claim.entry.set.now))) }
+{
+    let index = chains.len();
+    let cost = claim.cost;
+    if let [id] = claim.set
+        && id.0 == side.0
+    {
+        chains.push(PackedChain {
+            cost,
+            side,
+            set: 0,
+            path: *path,
+        })?;
+        return Ok(Packed::SideChain(index));
+    }
+    let set = hold(sets, claim.set)?;
+    chains.push(PackedChain {
+        cost,
+        side,
+        set,
+        path: *path,
+    })?;
+    Ok(Packed::Chain(index))
+}
+
+// Stores what the line of a node doesn't have itself, and returns the line.
+#[inline(always)]
+fn pack(
+    sets: &mut Vec<LabelId>,
+    chains: &mut Vec<PackedChain>,
+    node: Node,
+) -> Result<Packed, AllocError>
+    ensures more { IsMore (store_of sets.old.items chains.old.items) (store_of sets.new.items chains.new.items) }
+    ensures ok { IfOk result (λ line. IsLine (store_of sets.new.items chains.new.items) line (line_of node.entry)) }
+{
+    match node {
+        Node::Leaf(id) => Ok(Packed::Leaf(id)),
+        Node::Inner(claim) => match claim.set {
+            [id] => Ok(Packed::Single(claim.cost, *id)),
+            set => Ok(Packed::Inner(claim.cost, hold(sets, set)?)),
+        },
+        Node::Chain { claim, path, side } => pack_chain(sets, chains, claim, path, side),
+    }
 }
 
 impl Nodes {
@@ -73,7 +151,7 @@ impl Nodes {
         Nodes {
             lines: Vec::new(alloc),
             chains: Vec::new(alloc),
-            sets: SetPool::new(alloc),
+            sets: Vec::new(alloc),
         }
     }
 
@@ -84,7 +162,7 @@ impl Nodes {
         Ok(Nodes {
             lines: Vec::with_capacity(alloc, lines)?,
             chains: Vec::with_capacity(alloc, chains)?,
-            sets: SetPool::new(alloc),
+            sets: Vec::new(alloc),
         })
     }
 
@@ -95,111 +173,61 @@ impl Nodes {
         self.lines.len()
     }
 
-    /// Adds the line of a leaf with this label. If an allocation fails, the lines are unchanged.
-    pub fn push_leaf(&mut self, id: LabelId) -> Result<(), AllocError>
-        ensures ok { OnOk result (self.new ≡ self.old ++ LeafLine id.0 ∷ []) }
+    /// Adds the line of a node. The lines of an inner node's lower half must follow, then those of its upper half, and
+    /// those of a chain's end. If an allocation fails, the lines are unchanged.
+    #[inline(always)]
+    pub fn push(&mut self, node: Node) -> Result<(), AllocError>
+        ensures ok { OnOk result (self.new ≡ self.old ++ line_of node.entry ∷ []) }
         ensures err { OnErr result (self.new ≡ self.old) }
     {
-        self.lines.push(Packed::Leaf(id))?;
+        let line = pack(&mut self.sets, &mut self.chains, node)?;
+        self.lines.push(line)?;
         Ok(())
     }
 
-    /// Adds the line of an inner node that claims this cost and set. The lines of its lower half must follow, then
-    /// those of its upper half. If an allocation fails, the lines are unchanged.
-    pub fn push_inner(&mut self, cost: u32, set: &[LabelId]) -> Result<(), AllocError>
-        ensures ok { OnOk result (self.new ≡ self.old ++ InnerLine cost (map (λ id. id.0) set.now) ∷ []) }
-        ensures err { OnErr result (self.new ≡ self.old) }
-    {
-        let set = self.sets.hold(set)?;
-        self.lines.push(Packed::Inner(cost, set))?;
-        Ok(())
-    }
-
-    /// Adds the line of a chain with these bits and this side label that claims this cost and set. The lines of its end
-    /// must follow. If an allocation fails, the lines are unchanged.
-    pub fn push_chain(
-        &mut self,
-        cost: u32,
-        path: Path,
-        side: LabelId,
-        set: &[LabelId],
-    ) -> Result<(), AllocError>
-        ensures ok { OnOk result (self.new
-            ≡ self.old ++ ChainLine cost (bits_in path) side.0 (map (λ id. id.0) set.now) ∷ []) }
-        ensures err { OnErr result (self.new ≡ self.old) }
-    {
-        let set = self.sets.hold(set)?;
-        let (low, high) = halves(self.chains.len());
-        self.chains.push(PackedChain {
-            cost,
-            side,
-            set,
-            path,
-        })?;
-        self.lines.push(Packed::Chain(low, high))?;
-        Ok(())
-    }
-
-    /// Returns the label of the node at line `number` if it is a leaf.
-    pub fn label(&self, number: usize) -> Option<LabelId>
+    /// Returns the node at line `number`.
+    #[inline(always)]
+    pub fn node(&self, number: usize) -> Node<'_>
         requires { number < length self.now }
-        ensures { option_map (λ id. id.0) result
-            ≡ label_of (node_of (slice_index_or self.now number (LeafLine 0))) }
+        ensures { line_of result ≡ slice_index_or self.now number (LeafLine 0) }
     {
-        match self.lines[number] {
-            Packed::Leaf(id) => Some(id),
-            Packed::Inner(_, _) | Packed::Chain(_, _) => None,
+        let claim = self.claim(number);
+        match &self.lines[number] {
+            Packed::Leaf(id) => Node::Leaf(*id),
+            Packed::Single(_, _) | Packed::Inner(_, _) => Node::Inner(claim),
+            Packed::SideChain(index) | Packed::Chain(index) => {
+                let chain = &self.chains[*index];
+                Node::Chain {
+                    claim,
+                    path: &chain.path,
+                    side: chain.side,
+                }
+            }
         }
     }
 
-    /// Returns the cost of the node at line `number`, 0 for a leaf.
-    pub fn cost(&self, number: usize) -> u32
+    /// Returns what the node at line `number` claims.
+    #[inline(always)]
+    pub fn claim(&self, number: usize) -> Claim<'_>
         requires { number < length self.now }
-        ensures { result ≡ cost_of (node_of (slice_index_or self.now number (LeafLine 0))) }
-    {
-        match self.lines[number] {
-            Packed::Leaf(_) => 0,
-            Packed::Inner(cost, _) => cost,
-            Packed::Chain(low, high) => self.chains[joined_halves(low, high)].cost,
-        }
-    }
-
-    /// Returns the set of the node at line `number`, only its own label for a leaf.
-    pub fn set(&self, number: usize) -> &[LabelId]
-        requires { number < length self.now }
-        ensures { map (λ id. id.0) result.now
+        ensures cost { result.cost ≡ cost_of (node_of (slice_index_or self.now number (LeafLine 0))) }
+        ensures set { map (λ id. id.0) result.set.now
             ≡ set_of (node_of (slice_index_or self.now number (LeafLine 0))) }
     {
-        match &self.lines[number] {
-            Packed::Leaf(id) => slice::from_ref(id),
-            Packed::Inner(_, set) => self.sets.labels(set),
-            Packed::Chain(low, high) => self
-                .sets
-                .labels(&self.chains[joined_halves(*low, *high)].set),
-        }
-    }
-
-    /// Returns the bits of the node at line `number`, none if it isn't a chain.
-    pub fn path(&self, number: usize) -> Path
-        requires { number < length self.now }
-        ensures { bits_in result ≡ bits_of (node_of (slice_index_or self.now number (LeafLine 0))) }
-    {
-        match self.lines[number] {
-            Packed::Leaf(_) | Packed::Inner(_, _) => Path { value: 0, count: 0 },
-            Packed::Chain(low, high) => self.chains[joined_halves(low, high)].path,
-        }
-    }
-
-    /// Returns the side label of the node at line `number` if it is a chain.
-    pub fn side(&self, number: usize) -> Option<LabelId>
-        requires { number < length self.now }
-        ensures { option_map (λ id. id.0) result
-            ≡ side_of (node_of (slice_index_or self.now number (LeafLine 0))) }
-    {
-        match self.lines[number] {
-            Packed::Leaf(_) | Packed::Inner(_, _) => None,
-            Packed::Chain(low, high) => Some(self.chains[joined_halves(low, high)].side),
-        }
+        let (cost, set) = match &self.lines[number] {
+            Packed::Leaf(id) => (0, slice::from_ref(id)),
+            Packed::Single(cost, id) => (*cost, slice::from_ref(id)),
+            Packed::Inner(cost, place) => (*cost, held(self.sets.as_slice(), *place)),
+            Packed::SideChain(index) => {
+                let chain = &self.chains[*index];
+                (chain.cost, slice::from_ref(&chain.side))
+            }
+            Packed::Chain(index) => {
+                let chain = &self.chains[*index];
+                (chain.cost, held(self.sets.as_slice(), chain.set))
+            }
+        };
+        Claim { cost, set }
     }
 
     /// Reverses the order of the lines.
@@ -216,7 +244,7 @@ impl Nodes {
         Ok(Nodes {
             lines: Vec::from_slice(alloc, self.lines.as_slice())?,
             chains: Vec::from_slice(alloc, self.chains.as_slice())?,
-            sets: self.sets.copy(alloc)?,
+            sets: Vec::from_slice(alloc, self.sets.as_slice())?,
         })
     }
 }

@@ -1,16 +1,16 @@
 //! Writing the text of a certificate.
-ghost use Rattle.std.specs.Prelude.{◌≡◌, ◌<◌, ◌++◌, ◌∷◌, [], IfOk, OnOk, length, map, slice_index_or};
+ghost use Rattle.std.specs.Prelude.{◌≡◌, ◌++◌, ◌∷◌, [], IfOk, OnOk, length, map};
 ghost use Rattle.std.specs.List.{flat_map};
 ghost use Rattle.std.specs.Fmt.{decimal};
 ghost use Rattle.pmap_cert.specs.Certificate.{certificate_of};
 ghost use Rattle.pmap_cert.specs.CertificateText.{bit_digits, certificate_text, chain_line, format_header, format_word, inner_line, leaf_line, text_of_lines, version_word};
 ghost use Rattle.pmap_cert.specs.Format.{format_number};
-ghost use Rattle.pmap_cert.specs.FormatReading.{LeafLine};
 ghost use Rattle.pmap_cert.specs.Node.{line_text};
-ghost use Rattle.pmap_cert.specs.Packed.{bits_in};
+ghost use Rattle.pmap_cert.specs.Packed.{bits_in, line_of};
 
 use crate::certificate::Certificate;
 use crate::format::Format;
+use crate::node::{Claim, Node};
 use crate::nodes::Nodes;
 use crate::path::Path;
 use itoa::Buffer;
@@ -65,11 +65,11 @@ pub fn push_inner_line(out: &mut Vec<u8>, cost: u32, set: &[LabelId]) -> Result<
 }
 
 // Appends a space and the bits as digits 0 and 1.
-fn push_bits(out: &mut Vec<u8>, path: Path) -> Result<(), AllocError>
-    ensures { OnOk result (out.new.items ≡ out.old.items ++ 32 ∷ bit_digits (bits_in path)) }
+fn push_bits(out: &mut Vec<u8>, path: &Path) -> Result<(), AllocError>
+    ensures { OnOk result (out.new.items ≡ out.old.items ++ 32 ∷ bit_digits (bits_in path.now)) }
 {
     out.push(b' ')?;
-    let mut rest = path;
+    let mut rest = *path;
     while let Some((bit, after)) = rest.split_first() {
         out.push(if bit { b'1' } else { b'0' })?;
         rest = after;
@@ -77,38 +77,26 @@ fn push_bits(out: &mut Vec<u8>, path: Path) -> Result<(), AllocError>
     Ok(())
 }
 
-fn push_chain(
-    out: &mut Vec<u8>,
-    cost: u32,
-    path: Path,
-    side: LabelId,
-    set: &[LabelId],
-) -> Result<(), AllocError>
-    ensures { OnOk result (out.new.items
-        ≡ out.old.items ++ (chain_line cost (bits_in path) side.0 (map (λ id. id.0) set.now) ++ 10 ∷ [])) }
+fn push_chain(out: &mut Vec<u8>, claim: Claim, path: &Path, side: LabelId) -> Result<(), AllocError>
+    ensures { OnOk result (out.new.items ≡ out.old.items
+        ++ (chain_line claim.entry.cost (bits_in path.now) side.0 (map (λ id. id.0) claim.entry.set.now) ++ 10 ∷ [])) }
 {
     out.push(b'c')?;
-    push_number(out, cost)?;
+    push_number(out, claim.cost)?;
     push_bits(out, path)?;
     push_number(out, side.0)?;
-    push_set(out, set)?;
+    push_set(out, claim.set)?;
     out.push(b'\n')?;
     Ok(())
 }
 
-fn push_line(out: &mut Vec<u8>, nodes: &Nodes, number: usize) -> Result<(), AllocError>
-    requires { number < length nodes.now }
-    ensures { OnOk result (out.new.items ≡ out.old.items
-        ++ (line_text (slice_index_or nodes.now number (LeafLine 0)) ++ 10 ∷ [])) }
+fn push_line(out: &mut Vec<u8>, node: Node) -> Result<(), AllocError>
+    ensures { OnOk result (out.new.items ≡ out.old.items ++ (line_text (line_of node.entry) ++ 10 ∷ [])) }
 {
-    if let Some(id) = nodes.label(number) {
-        return push_leaf_line(out, id);
-    }
-    let cost = nodes.cost(number);
-    let set = nodes.set(number);
-    match nodes.side(number) {
-        Some(side) => push_chain(out, cost, nodes.path(number), side, set),
-        None => push_inner_line(out, cost, set),
+    match node {
+        Node::Leaf(id) => push_leaf_line(out, id),
+        Node::Inner(claim) => push_inner_line(out, claim.cost, claim.set),
+        Node::Chain { claim, path, side } => push_chain(out, claim, path, side),
     }
 }
 
@@ -116,7 +104,7 @@ fn push_nodes(out: &mut Vec<u8>, nodes: &Nodes) -> Result<(), AllocError>
     ensures { OnOk result (out.new.items ≡ out.old.items ++ text_of_lines (map line_text nodes.now)) }
 {
     for number in 0..nodes.len() {
-        push_line(out, nodes, number)?;
+        push_line(out, nodes.node(number))?;
     }
     Ok(())
 }

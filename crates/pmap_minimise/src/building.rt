@@ -13,7 +13,7 @@ ghost use Rattle.pmap_minimise.specs.Runs.{AreCountable, IsCounted, own_label};
 use crate::entering::has_label;
 use crate::runs::{own_label, run_end};
 use crate::sets::exact_claim;
-use pmap_cert::{Nodes, Path, Root};
+use pmap_cert::{Claim, Node, Nodes, Path, Root};
 use pmap_text::{LabelId, Stretches, Window};
 use std::alloc::{AllocError, Global};
 use std::slice;
@@ -25,17 +25,18 @@ pub fn push_inner(alloc: Global, nodes: &mut Nodes, upper: usize) -> Result<(), 
     ensures { OnOk result (AddsInner upper nodes.old nodes.new) }
 {
     let lower = nodes.len() - 1;
-    let (low_cost, high_cost) = (nodes.cost(lower), nodes.cost(upper));
-    let (low, high) = (nodes.set(lower), nodes.set(upper));
+    let (low, high) = (nodes.claim(lower), nodes.claim(upper));
     // An optimisation: halves that claim one and the same label are frequent.
-    if let ([x], [y]) = (low, high)
+    if let ([x], [y]) = (low.set, high.set)
         && x.0 == y.0
     {
-        let id = *x;
-        return nodes.push_inner(low_cost + high_cost, slice::from_ref(&id));
+        let (id, cost) = (*x, low.cost + high.cost);
+        let set = slice::from_ref(&id);
+        return nodes.push(Node::Inner(Claim { cost, set }));
     }
-    let (cost, set) = exact_claim(alloc, low_cost, low, high_cost, high)?;
-    nodes.push_inner(cost, set.as_slice())
+    let (cost, set) = exact_claim(alloc, low.cost, low.set, high.cost, high.set)?;
+    let set = set.as_slice();
+    nodes.push(Node::Inner(Claim { cost, set }))
 }
 
 // Returns the cost of a chain, by the set and the cost of its end.
@@ -53,9 +54,16 @@ fn push_chain(nodes: &mut Nodes, path: Path, side: LabelId) -> Result<(), AllocE
     ensures { OnOk result (nodes.new ≡ nodes.old
         ++ ChainLine (cost_above side.0 (last_node nodes.old)) (path_to path.value path.count) side.0 (side.0 ∷ []) ∷ []) }
 {
-    let end = nodes.len() - 1;
-    let cost = chain_cost(nodes.set(end), nodes.cost(end), side);
-    nodes.push_chain(cost, path, side, slice::from_ref(&side))
+    let end = nodes.claim(nodes.len() - 1);
+    let claim = Claim {
+        cost: chain_cost(end.set, end.cost, side),
+        set: slice::from_ref(&side),
+    };
+    nodes.push(Node::Chain {
+        claim,
+        path: &path,
+        side,
+    })
 }
 
 // Adds the lines of a block, in reverse order.
@@ -76,7 +84,7 @@ fn push_window(
     let Some(id) = stretches.label(window.from) else {
         unreachable!()
     };
-    nodes.push_leaf(id)
+    nodes.push(Node::Leaf(id))
 }
 
 // Adds the lines of a block with addresses of two stretches or more, in reverse order.

@@ -6,7 +6,7 @@ ghost use Rattle.pmap_minimise.specs.Numbers.{IsCertified};
 
 use crate::building::push_inner;
 use label_trie::{Kind, Trie};
-use pmap_cert::{Nodes, Root};
+use pmap_cert::{Node, Nodes, Root};
 use std::alloc::{AllocError, Global};
 
 fn pop(tops: &mut Vec<usize>) -> usize
@@ -34,7 +34,7 @@ fn push_node(
     match trie.kind(number) {
         Kind::Leaf(label) => {
             let Some(id) = label else { unreachable!() };
-            nodes.push_leaf(id)
+            nodes.push(Node::Leaf(id))
         }
         Kind::Divided => {
             pop(tops);

@@ -1,4 +1,4 @@
-use Rattle.std.proofs.Common.{◌+◌, ◌∙◌, List, ap, ap₂, arith, filter, length, refl, sym}
+use Rattle.std.proofs.Common.{◌+◌, ◌∙◌, List, arith, filter, length, refl, sym}
 use Rattle.pmap_text.specs.declared.label.LabelId.{LabelId}
 use Rattle.cert_check.specs.Inner.{has_number}
 use Rattle.cert_check.proofs.Sets.{all-common, apart-none, apart-some, fault_by, halves-apart, halves-common, numbers, set-ascending}

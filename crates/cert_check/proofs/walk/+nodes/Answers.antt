@@ -1,22 +1,24 @@
-use Rattle.std.proofs.Common.{◌≡◌, ◌∙◌, ◌+◌, ◌-◌, ◌<◌, ◌++◌, ◌∷◌, [], ℕ, Bool, List, Ok, ap, arith, length, option_map, refl, subst, sym, take}
+use Rattle.std.proofs.Common.{◌≡◌, ◌∙◌, ◌+◌, ◌-◌, ◌++◌, ◌∷◌, [], ℕ, Bool, List, Ok, ap, arith, drop, length, option_map, refl, subst, sym, take}
+use Rattle.std.proofs.Math.Seq.{take-append_seam}
 use Rattle.std.proofs.lemmas.Result.{err_from_is_err_and}
-use Rattle.std.proofs.lemmas.List.{append-nil, length-append}
+use Rattle.std.proofs.lemmas.List.{append-nil, length-append, length-take-le, take-append-drop}
 use Rattle.prefix_keys.specs.Block.{width_of}
 use Rattle.pmap_text.specs.MapText.{map_of, text_at}
 use Rattle.pmap_text.specs.PrefixList.{list_of}
 use Rattle.pmap_text.specs.Reading.{◌>>=◌}
 use Rattle.pmap_text.specs.declared.label.LabelId.{LabelId}
-use Rattle.pmap_cert.specs.CertificateModel.{InnerNode, LeafNode, chain_claim, exact_claim}
+use Rattle.pmap_cert.specs.CertificateModel.{Claim, InnerNode, LeafNode, chain_claim, exact_claim}
 use Rattle.pmap_cert.specs.Format.{format_number}
 use Rattle.pmap_cert.specs.FormatReading.{ChainLine, InnerLine, LeafLine, nodes_at}
 use Rattle.pmap_cert.specs.Packed.{bits_in}
+use Rattle.pmap_cert.specs.CertificateText.{IsAscending}
 use Rattle.pmap_cert.proofs.FormatTrees.{line_due-found}
 use Rattle.pmap_cert.proofs.Paths.{path-length}
-use Rattle.pmap_cert.proofs.ReadingSteps.{chain-bits, chain-deep, chain-in, deeper, due_in, end_then, node-deep, node-fault, node-leaf}
+use Rattle.pmap_cert.proofs.ReadingSteps.{chain-below, chain-over, deeper, due_in, node-deep, node-fault, node-leaf}
 use Rattle.cert_check.specs.Checking.{claim_fault, fault_of_number, node_fault}
 use Rattle.cert_check.specs.Inner.{IsAnswer, Read, chain_reading, claim_with, fault_of_node, halves_reading, reading_at}
 use Rattle.cert_check.proofs.Sets.{numbers}
-use Rattle.cert_check.proofs.Walks.{below-failed, below-passed, end-answer, halves-passed, lower-failed, own-answer, piece, pieces, rest-failed, rest-passed, take-front, upper-failed}
+use Rattle.cert_check.proofs.Walks.{below-passed, end-answer, halves-passed, held-at, lower-failed, own-answer, piece, pieces, rest-failed, rest-passed, upper-failed}
 use Rattle.cert_check.proofs.walk.+nodes.Goals as goal
 
 pub check_node-returns-in_err-id : goal.check_node-returns-in_err-id
@@ -36,7 +38,7 @@ check_node-returns-then-room-eq0 t c =
     let room : frame.width - c.args.part.now.window.len ≡ 0 = c.if-room-eq0.true in
     rw c.fault-deepest.ensures (
       λ _. ap (λ (n : ℕ). nodes_at (due_in frame.format frame.width frame.labels.now) frame.labels.now n 0 c.args.walk.now.lines) room
-          ∙ node-deep (due_in frame.format frame.width frame.labels.now) frame.labels.now c.args.walk.now.lines c.next_node.new.self c.in-Inner.cost (numbers c.next_node.new.kept.set.items)
+          ∙ node-deep (due_in frame.format frame.width frame.labels.now) frame.labels.now c.args.walk.now.lines c.next_node.new.self c.in-Inner.claim.cost (numbers c.in-Inner.claim.set.now)
           (rw c.in-Inner.is at c.in_ok-id.ensures.ok),
       λ e. cc,
     )
@@ -45,79 +47,101 @@ pub check_node-check_inner-requires : goal.check_node-check_inner-requires
 check_node-check_inner-requires t c =
     let frame = c.args.sources.now.frame in
     let said = line_due-found (format_number frame.format) frame.width (length frame.labels.now) c.args.walk.now.lines
-    (InnerLine c.in-Inner.cost (numbers c.next_node.new.kept.set.items), c.next_node.new.self) (rw c.in-Inner.is at c.in_ok-id.ensures.ok) in
+    (InnerLine c.in-Inner.claim.cost (numbers c.in-Inner.claim.set.now), c.next_node.new.self) (rw c.in-Inner.is at c.in_ok-id.ensures.ok) in
+    let held = held-at c.args.walk.now.sets.items c.in-Inner.claim.set.now c.hold.new.sets.items c.in_ok-held-in-Inner.held.from c.in_ok-held-in-Inner.ensures.sets c.in_ok-held-in-Inner.ensures.from in
     let some = c.if-room-eq0.false in (
       omega arith,
-      (c.requires.sources, (c.requires.part, (omega (arith, some), (c.next_number-walk.ensures, said.1.1)))),
+      (
+        c.requires.sources,
+        (
+          c.requires.part,
+          (
+            omega (arith, some),
+            (
+              c.next_number-walk.ensures,
+              record { within = held.2; ascending = subst (λ (ids : List LabelId). IsAscending (length frame.labels.now) 0 (numbers ids)) (sym held.1) said.1.1 },
+            ),
+          ),
+        ),
+      ),
     )
 
-pub check_node-returns-else-room-eq0 : goal.check_node-returns-else-room-eq0
-check_node-returns-else-room-eq0 t c =
+pub check_node-returns-in_ok-held-in-Inner : goal.check_node-returns-in_ok-held-in-Inner
+check_node-returns-in_ok-held-in-Inner t c =
     let s = c.args.sources.now in
     let frame = s.frame in
+    let table = frame.labels.now in
     let n = c.args.part.now.window.len in
-    let due = due_in frame.format frame.width frame.labels.now in
-    let numbers' = numbers c.next_node.new.kept.set.items in
-    let claim = claim_with frame.labels.now c.in-Inner.cost numbers' in
+    let due = due_in frame.format frame.width table in
+    let numbers' = numbers c.in-Inner.claim.set.now in
+    let claim = claim_with table c.in-Inner.claim.cost numbers' in
     let some = c.if-room-eq0.false in
     let less : frame.width - n - 1 ≡ frame.width - (n + 1) = omega arith in
+    let held = held-at c.args.walk.now.sets.items c.in-Inner.claim.set.now c.hold.new.sets.items c.in_ok-held-in-Inner.held.from c.in_ok-held-in-Inner.ensures.sets c.in_ok-held-in-Inner.ensures.from in
     let is : reading_at s n c.args.walk.now.lines ≡ halves_reading s n claim c.next_node.new.self =
-    deeper due frame.labels.now c.args.walk.now.lines c.next_node.new.self c.in-Inner.cost numbers' (rw c.in-Inner.is at c.in_ok-id.ensures.ok) (frame.width - n) (omega (arith, some))
-    ∙ ap (λ (m : ℕ). nodes_at due frame.labels.now m 0 c.next_node.new.self >>= (λ lower. nodes_at due frame.labels.now m 0 lower.1 >>= (λ upper.
+    deeper due table c.args.walk.now.lines c.next_node.new.self c.in-Inner.claim.cost numbers' (rw c.in-Inner.is at c.in_ok-id.ensures.ok) (frame.width - n) (omega (arith, some))
+    ∙ ap (λ (m : ℕ). nodes_at due table m 0 c.next_node.new.self >>= (λ lower. nodes_at due table m 0 lower.1 >>= (λ upper.
     Ok (InnerNode claim lower.0 upper.0, upper.1)))) less in
     subst (λ (r : Read). IsAnswer s r (fault_of_node s c.args.part.now) c.args.walk.now.number 0 c.args.walk.now.sets.items c.check_inner.new.walk c.check_inner.result)
-    (sym is) c.check_inner.ensures
+    (sym is)
+    (subst (λ (x : Claim × List LabelId). IsAnswer s (halves_reading s n x.0 c.next_node.new.self) (fault_of_node s c.args.part.now) c.args.walk.now.number 0 x.1 c.check_inner.new.walk c.check_inner.result)
+    (λ i. (claim_with table (c.in_ok-held-in-Inner.ensures.cost i) (numbers (held.1 i)), held.0 i)) c.check_inner.ensures)
 
 pub check_node-returns-then-len-room : goal.check_node-returns-then-len-room
 check_node-returns-then-len-room t c =
-    let frame = c.args.sources.now.frame in
-    let n = c.args.part.now.window.len in
-    let bits : List Bool = bits_in c.next_node.new.kept.path in
-    let numbers' = numbers c.next_node.new.kept.set.items in
-    let due = rw c.in-Chain.is at c.in_ok-id.ensures.ok in
-    let some = chain-bits frame.format frame.width frame.labels.now c.args.walk.now.lines c.next_node.new.self c.in-Chain.cost bits c.in-Chain.side.0 numbers' due in
-    let deep : c.len.result ≡ length bits = omega (arith, c.len.ensures) in
-    let more = c.if-len-room.true in
     rw c.fault-deepest.ensures (
-      λ _. chain-deep (due_in frame.format frame.width frame.labels.now) frame.labels.now c.args.walk.now.lines c.next_node.new.self c.in-Chain.cost numbers' bits c.in-Chain.side.0
-          (frame.width - n) due (omega (arith, more, deep)) some,
+      λ _. chain-over _ _ _ _ _ _ _ _ _ (rw c.in-Chain.is at c.in_ok-id.ensures.ok) _ c.len.result c.len.ensures (omega (arith, c.if-len-room.true)),
       λ e. cc,
     )
 
 pub check_node-check_chain-requires : goal.check_node-check_chain-requires
 check_node-check_chain-requires t c =
     let frame = c.args.sources.now.frame in
-    let bits : List Bool = bits_in c.next_node.new.kept.path in
-    let numbers' = numbers c.next_node.new.kept.set.items in
+    let bits : List Bool = bits_in c.in-Chain.path.now in
     let said = line_due-found (format_number frame.format) frame.width (length frame.labels.now) c.args.walk.now.lines
-    (ChainLine c.in-Chain.cost bits c.in-Chain.side.0 numbers', c.next_node.new.self) (rw c.in-Chain.is at c.in_ok-id.ensures.ok) in
+    (ChainLine c.in-Chain.claim.cost bits c.in-Chain.side.0 (numbers c.in-Chain.claim.set.now), c.next_node.new.self) (rw c.in-Chain.is at c.in_ok-id.ensures.ok) in
+    let held = held-at c.args.walk.now.sets.items c.in-Chain.claim.set.now c.hold-in-Chain.new.sets.items c.in_ok-held-in-Chain.held.from c.in_ok-held-in-Chain.ensures.sets c.in_ok-held-in-Chain.ensures.from in
     let deep : c.len.result ≡ length bits = omega (arith, c.len.ensures) in
     let fits = c.if-len-room.false in
     let some = said.1.2 in (
       omega arith,
-      (c.requires.sources, (c.requires.part, (record { room = omega (arith, fits, deep, some); known = said.1.4 }, (some, (c.next_number-walk.ensures, said.1.5))))),
+      (
+        c.requires.sources,
+        (
+          c.requires.part,
+          (
+            record { room = omega (arith, fits, deep, some); known = said.1.4 },
+            (
+              some,
+              (
+                c.next_number-walk.ensures,
+                record { within = held.2; ascending = subst (λ (ids : List LabelId). IsAscending (length frame.labels.now) 0 (numbers ids)) (sym held.1) said.1.5 },
+              ),
+            ),
+          ),
+        ),
+      ),
     )
 
-pub check_node-returns-else-len-room : goal.check_node-returns-else-len-room
-check_node-returns-else-len-room t c =
+pub check_node-returns-in_ok-held-in-Chain : goal.check_node-returns-in_ok-held-in-Chain
+check_node-returns-in_ok-held-in-Chain t c =
     let s = c.args.sources.now in
     let frame = s.frame in
+    let table = frame.labels.now in
     let n = c.args.part.now.window.len in
-    let bits : List Bool = bits_in c.next_node.new.kept.path in
-    let numbers' = numbers c.next_node.new.kept.set.items in
-    let due = rw c.in-Chain.is at c.in_ok-id.ensures.ok in
-    let some = chain-bits frame.format frame.width frame.labels.now c.args.walk.now.lines c.next_node.new.self c.in-Chain.cost bits c.in-Chain.side.0 numbers' due in
-    let deep : c.len.result ≡ length bits = omega (arith, c.len.ensures) in
-    let fits = c.if-len-room.false in
-    let due_by = due_in frame.format frame.width frame.labels.now in
-    let claim = claim_with frame.labels.now c.in-Chain.cost numbers' in
-    let less : frame.width - n - length bits ≡ frame.width - (n + length bits) = omega arith in
+    let bits : List Bool = bits_in c.in-Chain.path.now in
+    let numbers' = numbers c.in-Chain.claim.set.now in
+    let claim = claim_with table c.in-Chain.claim.cost numbers' in
+    let less : frame.width - n - c.len.result ≡ frame.width - (n + length bits) = omega (arith, c.len.ensures) in
+    let held = held-at c.args.walk.now.sets.items c.in-Chain.claim.set.now c.hold-in-Chain.new.sets.items c.in_ok-held-in-Chain.held.from c.in_ok-held-in-Chain.ensures.sets c.in_ok-held-in-Chain.ensures.from in
     let is : reading_at s n c.args.walk.now.lines ≡ chain_reading s n claim bits c.in-Chain.side.0 c.next_node.new.self =
-    chain-in due_by frame.labels.now c.args.walk.now.lines c.next_node.new.self c.in-Chain.cost numbers' bits c.in-Chain.side.0 (frame.width - n) due (omega (arith, fits, deep)) some
-    ∙ ap (λ (m : ℕ). end_then due_by frame.labels.now c.args.walk.now.lines c.next_node.new.self c.in-Chain.cost numbers' bits c.in-Chain.side.0
-    (nodes_at due_by frame.labels.now m 0 c.next_node.new.self)) less in
+    chain-below frame.format frame.width table c.args.walk.now.lines c.next_node.new.self c.in-Chain.claim.cost bits c.in-Chain.side.0 numbers' (rw c.in-Chain.is at c.in_ok-id.ensures.ok)
+    (frame.width - n) c.len.result c.len.ensures (omega (arith, c.if-len-room.false)) (reading_at s (n + length bits) c.next_node.new.self)
+    (ap (λ (m : ℕ). nodes_at (due_in frame.format frame.width table) table m 0 c.next_node.new.self) less) in
     subst (λ (r : Read). IsAnswer s r (fault_of_node s c.args.part.now) c.args.walk.now.number 0 c.args.walk.now.sets.items c.check_chain.new.walk c.check_chain.result)
-    (sym is) c.check_chain.ensures
+    (sym is)
+    (subst (λ (x : Claim × List LabelId). IsAnswer s (chain_reading s n x.0 bits c.in-Chain.side.0 c.next_node.new.self) (fault_of_node s c.args.part.now) c.args.walk.now.number 0 x.1 c.check_chain.new.walk c.check_chain.result)
+    (λ i. (claim_with table (c.in_ok-held-in-Chain.ensures.cost i) (numbers (held.1 i)), held.0 i)) c.check_chain.ensures)
 
 pub check_node-returns-in_ok-push-in-Leaf : goal.check_node-returns-in_ok-push-in-Leaf
 check_node-returns-in_ok-push-in-Leaf t c =
@@ -130,27 +154,33 @@ check_node-returns-in_ok-push-in-Leaf t c =
     let said = line_due-found (format_number frame.format) frame.width (length frame.labels.now) walk.lines (LeafLine id.0, c.next_node.new.self) due in
     rw c.unless_fault.ensures
     (own-answer s (reading_at s p.window.len walk.lines) (fault_of_node s p) walk.number 0 walk.sets.items
-    (record { lines = c.next_node.new.self; kept = c.next_node.new.kept; number = c.next_number-walk.result; sets = c.push.new.self }) 0
+    _ 0
     (LeafNode (text_at frame.labels.now id.0)) (id ∷ []) c.leaf_fault.result
     (node-leaf (due_in frame.format frame.width frame.labels.now) frame.labels.now walk.lines c.next_node.new.self (frame.width - p.window.len) id.0 due)
     refl (omega arith, said.1, tt) c.in_ok-push-in-Leaf.ensures.items
     (λ k told_is. (ap (option_map (fault_of_number k)) (sym c.leaf_fault.ensures), sym (c.next_number-walk.ensures k told_is))))
 
+pub check_node-leaf_fault-requires-clause-known : goal.check_node-leaf_fault-requires-clause-known
+check_node-leaf_fault-requires-clause-known t c =
+    let frame = c.args.sources.now.frame in
+    let due = rw c.in-Leaf.is at c.in_ok-id.ensures.ok in
+    (line_due-found (format_number frame.format) frame.width (length frame.labels.now) c.args.walk.now.lines (LeafLine c.in-Leaf.id.0, c.next_node.new.self) due).1
+
 pub check_inner-returns-in-Err : goal.check_inner-returns-in-Err
 check_inner-returns-in-Err t c =
     let s = c.args.sources.now in
     let walk = c.args.walk.now in
-    lower-failed s c.args.part.now c.halves.result.0 c.halves.result.1 c.halves.ensures.halves c.args.cost (numbers walk.kept.set.items) walk.lines c.args.number walk.number c.requires.number
-    c.hold.new.sets.items walk.sets.items c.check_node.new.walk c.first_fault.new.walk c.in-Err.fault c.first_fault.result c.in-Err.ensures c.first_fault.ensures
+    lower-failed s c.args.part.now c.halves.result.0 c.halves.result.1 c.halves.ensures.halves c.args.held.cost (numbers (drop c.args.held.from walk.sets.items)) walk.lines c.args.number walk.number c.requires.number
+    walk.sets.items (take c.args.held.from walk.sets.items) c.check_node.new.walk c.first_fault.new.walk c.in-Err.fault c.first_fault.result c.in-Err.ensures c.first_fault.ensures
 
 pub check_inner-returns-in_err-upper_cost : goal.check_inner-returns-in_err-upper_cost
 check_inner-returns-in_err-upper_cost t c =
     let s = c.args.sources.now in
     let walk = c.args.walk.now in
-    let e = err_from_is_err_and c.from_residual-in_err-upper_cost.result c.from_residual-in_err-upper_cost.ensures.1 in
+    let e = err_from_is_err_and c.from_residual.result c.from_residual.ensures.1 in
     rw (e.1, e.2)
-    (upper-failed s c.args.part.now c.halves.result.0 c.halves.result.1 c.halves.ensures.halves c.args.cost (numbers walk.kept.set.items) walk.lines c.args.number walk.number c.requires.number
-    c.hold.new.sets.items c.check_node.new.walk c.in-Ok.cost c.in-Ok.ensures c.check_node.new.walk.sets.items walk.sets.items c.check_node-2.new.walk c.in_err-upper_cost.field-0.0
+    (upper-failed s c.args.part.now c.halves.result.0 c.halves.result.1 c.halves.ensures.halves c.args.held.cost (numbers (drop c.args.held.from walk.sets.items)) walk.lines c.args.number walk.number c.requires.number
+    walk.sets.items c.check_node.new.walk c.in-Ok.cost c.in-Ok.ensures c.check_node.new.walk.sets.items (take c.args.held.from walk.sets.items) c.check_node-2.new.walk c.in_err-upper_cost.field-0.0
     c.in_err-upper_cost.ensures)
 
 pub check_inner-returns : goal.check_inner-returns
@@ -158,62 +188,66 @@ check_inner-returns t c =
     let s = c.args.sources.now in
     let table = s.frame.labels.now in
     let walk = c.args.walk.now in
-    let own = walk.kept.set.items in
+    let own = drop c.args.held.from walk.sets.items in
     let lower = c.in-Ok.ensures in
     let upper = c.in_ok-upper_cost.ensures in
     let last = c.check_node-2.new.walk in
-    let held = c.in_ok-hold.ensures ∙ ap (λ (ids : List LabelId). walk.sets.items ++ ids) c.as_slice.ensures.value in
-    let are = pieces last.sets.items c.hold.new.sets.items c.check_node.new.walk.sets.items walk.sets.items own lower.set upper.set held lower.sets upper.sets in
-    let one : length c.hold.new.sets.items ≡ length walk.sets.items + length own = ap (λ (xs : List LabelId). length xs) held ∙ length-append walk.sets.items own in
-    let two : length c.check_node.new.walk.sets.items ≡ length c.hold.new.sets.items + length lower.set =
-    ap (λ (xs : List LabelId). length xs) lower.sets ∙ length-append c.hold.new.sets.items lower.set in
+    let old = take c.args.held.from walk.sets.items in
+    let held : walk.sets.items ≡ old ++ own = sym (take-append-drop c.args.held.from walk.sets.items) in
+    let from : c.args.held.from ≡ length old = sym (length-take-le c.args.held.from walk.sets.items c.requires.held.within) in
+    let are = pieces last.sets.items walk.sets.items c.check_node.new.walk.sets.items old own lower.set upper.set held lower.sets upper.sets in
+    let one : length walk.sets.items ≡ length old + length own = ap (λ (xs : List LabelId). length xs) held ∙ length-append old own in
+    let two : length c.check_node.new.walk.sets.items ≡ length walk.sets.items + length lower.set =
+    ap (λ (xs : List LabelId). length xs) lower.sets ∙ length-append walk.sets.items lower.set in
     let three : length last.sets.items ≡ length c.check_node.new.walk.sets.items + length upper.set =
     ap (λ (xs : List LabelId). length xs) upper.sets ∙ length-append c.check_node.new.walk.sets.items upper.set in
-    let first = piece last.sets.items walk.sets.items own (lower.set ++ upper.set) c.len-own.result c.len-lower.result are.first (c.len-own.ensures ∙ walk.sets.ok.0) ((c.len-lower.ensures ∙ c.hold.new.sets.ok.0) ∙ one) in
-    let second = piece last.sets.items (walk.sets.items ++ own) lower.set upper.set c.len-lower.result c.len-upper.result are.second
-    ((c.len-lower.ensures ∙ c.hold.new.sets.ok.0) ∙ ap (λ (xs : List LabelId). length xs) held) ((c.len-upper.ensures ∙ c.check_node.new.walk.sets.ok.0) ∙ two ∙ ap (λ (xs : List LabelId). length xs + length lower.set) held) in
-    let third = piece last.sets.items ((walk.sets.items ++ own) ++ lower.set) upper.set [] c.len-upper.result (length last.sets.items) are.third
+    let first = piece last.sets.items old own (lower.set ++ upper.set) c.args.held.from c.len-lower.result are.first from ((c.len-lower.ensures ∙ walk.sets.ok.0) ∙ one) in
+    let second = piece last.sets.items (old ++ own) lower.set upper.set c.len-lower.result c.len-upper.result are.second
+    ((c.len-lower.ensures ∙ walk.sets.ok.0) ∙ ap (λ (xs : List LabelId). length xs) held) ((c.len-upper.ensures ∙ c.check_node.new.walk.sets.ok.0) ∙ two ∙ ap (λ (xs : List LabelId). length xs + length lower.set) held) in
+    let third = piece last.sets.items ((old ++ own) ++ lower.set) upper.set [] c.len-upper.result (length last.sets.items) are.third
     ((c.len-upper.ensures ∙ c.check_node.new.walk.sets.ok.0) ∙ ap (λ (xs : List LabelId). length xs) (lower.sets ∙ ap (λ (xs : List LabelId). xs ++ lower.set) held))
     (three ∙ ap (λ (xs : List LabelId). length xs + length upper.set) (lower.sets ∙ ap (λ (xs : List LabelId). xs ++ lower.set) held)) in
     rw c.unless_fault.ensures
-    (halves-passed s c.args.part.now c.halves.result.0 c.halves.result.1 c.halves.ensures.halves c.args.cost (numbers own) walk.lines c.args.number walk.number c.requires.number
-    c.hold.new.sets.items c.check_node.new.walk c.in-Ok.cost lower c.check_node.new.walk.sets.items walk.sets.items last
-    (record { lines = last.lines; kept = last.kept; number = last.number; sets = c.truncate.new.self }) c.in_ok-upper_cost.upper_cost own c.claim_fault-fault.result upper refl c.requires.set
+    (halves-passed s c.args.part.now c.halves.result.0 c.halves.result.1 c.halves.ensures.halves c.args.held.cost (numbers own) walk.lines c.args.number walk.number c.requires.number
+    walk.sets.items c.check_node.new.walk c.in-Ok.cost lower c.check_node.new.walk.sets.items old last
+    (record { lines = last.lines; kept = last.kept; number = last.number; sets = c.truncate.new.self }) c.in_ok-upper_cost.upper_cost own c.claim_fault-fault.result upper refl c.requires.held.ascending
     (rw c.as_slice-sets.ensures.value at c.claim_fault-fault.ensures
-    ∙ (λ i. claim_fault (claim_with table c.args.cost (numbers (first i)))
+    ∙ (λ i. claim_fault (claim_with table c.args.held.cost (numbers (first i)))
     (exact_claim (claim_with table c.in-Ok.cost (numbers (second i))) (claim_with table c.in_ok-upper_cost.upper_cost (numbers (third i))))))
     refl refl
-    (c.truncate.ensures.items ∙ ap (λ (k : ℕ). take k last.sets.items) (c.len-lower.ensures ∙ c.hold.new.sets.ok.0)
-    ∙ ap (take (length c.hold.new.sets.items)) (are.second ∙ ap (λ (xs : List LabelId). xs ++ (lower.set ++ upper.set)) (sym held))
-    ∙ take-front c.hold.new.sets.items (lower.set ++ upper.set) ∙ held))
+    (c.truncate.ensures.items ∙ ap (λ (k : ℕ). take k last.sets.items) (c.len-lower.ensures ∙ walk.sets.ok.0)
+    ∙ ap (take (length walk.sets.items)) (are.second ∙ ap (λ (xs : List LabelId). xs ++ (lower.set ++ upper.set)) (sym held))
+    ∙ take-append_seam walk.sets.items (lower.set ++ upper.set) ∙ held))
 
 pub check_chain-returns : goal.check_chain-returns
 check_chain-returns t c =
     let s = c.args.sources.now in
     let table = s.frame.labels.now in
     let walk = c.args.walk.now in
-    let own = walk.kept.set.items in
-    let bits = bits_in walk.kept.path in
+    let own = drop c.args.held.from walk.sets.items in
+    let bits = bits_in c.args.path.now in
     let below = c.in_ok-end_cost.ensures in
     let last = c.check_below.new.walk in
-    let held = c.in_ok-hold.ensures ∙ ap (λ (ids : List LabelId). walk.sets.items ++ ids) c.as_slice.ensures.value in
-    let are = pieces last.sets.items c.hold.new.sets.items last.sets.items walk.sets.items own below.set [] held below.sets (sym (append-nil last.sets.items)) in
-    let one : length c.hold.new.sets.items ≡ length walk.sets.items + length own = ap (λ (xs : List LabelId). length xs) held ∙ length-append walk.sets.items own in
-    let two : length last.sets.items ≡ length c.hold.new.sets.items + length below.set = ap (λ (xs : List LabelId). length xs) below.sets ∙ length-append c.hold.new.sets.items below.set in
-    let first = piece last.sets.items walk.sets.items own (below.set ++ []) c.len-own.result c.len-end.result are.first (c.len-own.ensures ∙ walk.sets.ok.0) ((c.len-end.ensures ∙ c.hold.new.sets.ok.0) ∙ one) in
-    let second = piece last.sets.items (walk.sets.items ++ own) below.set [] c.len-end.result (length last.sets.items) are.second
-    ((c.len-end.ensures ∙ c.hold.new.sets.ok.0) ∙ ap (λ (xs : List LabelId). length xs) held) (two ∙ ap (λ (xs : List LabelId). length xs + length below.set) held) in
+    let old = take c.args.held.from walk.sets.items in
+    let held : walk.sets.items ≡ old ++ own = sym (take-append-drop c.args.held.from walk.sets.items) in
+    let from : c.args.held.from ≡ length old = sym (length-take-le c.args.held.from walk.sets.items c.requires.held.within) in
+    let are = pieces last.sets.items walk.sets.items last.sets.items old own below.set [] held below.sets (sym (append-nil last.sets.items)) in
+    let one : length walk.sets.items ≡ length old + length own = ap (λ (xs : List LabelId). length xs) held ∙ length-append old own in
+    let two : length last.sets.items ≡ length walk.sets.items + length below.set = ap (λ (xs : List LabelId). length xs) below.sets ∙ length-append walk.sets.items below.set in
+    let first = piece last.sets.items old own (below.set ++ []) c.args.held.from c.len-end.result are.first from ((c.len-end.ensures ∙ walk.sets.ok.0) ∙ one) in
+    let second = piece last.sets.items (old ++ own) below.set [] c.len-end.result (length last.sets.items) are.second
+    ((c.len-end.ensures ∙ walk.sets.ok.0) ∙ ap (λ (xs : List LabelId). length xs) held) (two ∙ ap (λ (xs : List LabelId). length xs + length below.set) held) in
     rw c.unless_fault.ensures
-    (below-passed s c.args.part.now c.args.cost (numbers own) bits c.args.side.0 walk.lines c.args.number
-    c.hold.new.sets.items walk.sets.items last
-    (record { lines = last.lines; kept = last.kept; number = last.number; sets = c.truncate.new.self }) c.in_ok-end_cost.end_cost own c.chain_fault-fault.result below refl c.requires.set
+    (below-passed s c.args.part.now c.args.held.cost (numbers own) bits c.args.side.0 walk.lines c.args.number
+    walk.sets.items old last
+    (record { lines = last.lines; kept = last.kept; number = last.number; sets = c.truncate.new.self }) c.in_ok-end_cost.end_cost own c.chain_fault-fault.result below refl c.requires.held.ascending
     (rw c.as_slice-sets.ensures.value at c.chain_fault-fault.ensures
-    ∙ (λ i. claim_fault (claim_with table c.args.cost (numbers (first i)))
+    ∙ (λ i. claim_fault (claim_with table c.args.held.cost (numbers (first i)))
     (chain_claim (length bits) (text_at table c.args.side.0) (claim_with table c.in_ok-end_cost.end_cost (numbers (second i))))))
     refl refl
-    (c.truncate.ensures.items ∙ ap (λ (k : ℕ). take k last.sets.items) (c.len-end.ensures ∙ c.hold.new.sets.ok.0)
-    ∙ ap (take (length c.hold.new.sets.items)) (are.second ∙ ap (λ (xs : List LabelId). xs ++ (below.set ++ [])) (sym held))
-    ∙ take-front c.hold.new.sets.items (below.set ++ []) ∙ held))
+    (c.truncate.ensures.items ∙ ap (λ (k : ℕ). take k last.sets.items) (c.len-end.ensures ∙ walk.sets.ok.0)
+    ∙ ap (take (length walk.sets.items)) (are.second ∙ ap (λ (xs : List LabelId). xs ++ (below.set ++ [])) (sym held))
+    ∙ take-append_seam walk.sets.items (below.set ++ []) ∙ held))
 
 pub check_below-clear_end-requires-clause-room : goal.check_below-clear_end-requires-clause-room
 check_below-clear_end-requires-clause-room t c =

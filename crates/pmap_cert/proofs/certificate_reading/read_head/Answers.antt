@@ -1,4 +1,3 @@
-use Rattle.std.proofs.Common.{◌∙◌}
 use Rattle.std.proofs.lemmas.Result.{err_from_is_err_and}
 use Rattle.pmap_cert.specs.Format.{format_number}
 use Rattle.pmap_cert.proofs.FormatWhole.{reading-header_fault, reading-labels_fault, reading-head}

@@ -19,7 +19,7 @@ push_window-returns t c =
     let order = is.window.ordered in
     let single : a.from ≡ a.to = omega (arith, c.if-window.false) in
     let own : own_label s a ≡ Some c.in-Some.id.0 = own-is s a single ∙ ap (λ (l : Option LabelId). option_map (λ (id : LabelId). id.0) l) (sym c.label.ensures ∙ c.in-Some.is) in
-    on_ok_weaker c.push_leaf.result (leaf-built s a c.in-Some.id.0 c.args.nodes.now c.push_leaf.new.self is own (omega arith)) c.push_leaf.ensures.ok
+    on_ok_weaker c.push.result (leaf-built s a c.in-Some.id.0 c.args.nodes.now c.push.new.self is own (omega arith)) c.push.ensures.ok
 
 pub push_divided-halves-requires-clause-some : goal.push_divided-halves-requires-clause-some
 push_divided-halves-requires-clause-some t c =

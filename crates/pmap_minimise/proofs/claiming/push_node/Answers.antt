@@ -40,7 +40,7 @@ unreachable-requires c =
 
 pub returns-in-Some : goal.returns-in-Some
 returns-in-Some c =
-    on_ok_weaker c.push_leaf.result
-    (claim-leaf c.args.trie.now c.args.number c.args.nodes.now c.args.tops.now.items c.requires c.in-Some.id c.push_leaf.new.self (omega arith)
+    on_ok_weaker c.push.result
+    (claim-leaf c.args.trie.now c.args.number c.args.nodes.now c.args.tops.now.items c.requires c.in-Some.id c.push.new.self (omega arith)
     (subst (λ (l : Option LabelId). ForSome (slice_get c.args.trie.now.nodes c.args.number) (λ node. IsKindOf node (Leaf l))) c.in-Some.is c.in-Leaf.ensures))
-    c.push_leaf.ensures.ok
+    c.push.ensures.ok

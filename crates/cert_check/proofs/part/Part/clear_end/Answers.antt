@@ -1,4 +1,4 @@
-use Rattle.std.proofs.Common.{◌≡◌, ◌∙◌, ◌≤◌, arith, sym}
+use Rattle.std.proofs.Common.{◌∙◌, arith, sym}
 use Rattle.pmap_text.specs.MapText.{text_at}
 use Rattle.pmap_text.specs.Windows.{number_at}
 use Rattle.pmap_cert.specs.Packed.{bits_in}

@@ -1,7 +1,5 @@
-use Rattle.std.proofs.Common.{◌∙◌, ◌+◌, ◌*◌, ℕ, List, ap, arith, ltb, rules, subst, suc, sym}
+use Rattle.std.proofs.Common.{◌+◌, ◌*◌, List, ltb, rules, subst, suc, sym}
 use Rattle.std.proofs.lemmas.List.Sorted.{IsPartitionPoint-from_clause, IsPartitionedBy-ltb}
-use Rattle.prefix_keys.specs.Block.{first_of, width_of}
-use Rattle.prefix_keys.specs.declared.version.Version.{Version}
 use Rattle.pmap_text.specs.Windows.{number_at}
 use Rattle.pmap_text.specs.declared.entry.Entry.{Entry}
 use Rattle.cert_check.specs.Inner.{IsListPart}

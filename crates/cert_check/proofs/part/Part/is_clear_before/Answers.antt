@@ -1,4 +1,4 @@
-use Rattle.std.proofs.Common.{◌∙◌, ◌-◌, ◌≤◌, arith, sym}
+use Rattle.std.proofs.Common.{◌∙◌, arith, sym}
 use Rattle.pmap_text.specs.MapText.{text_at}
 use Rattle.cert_check.proofs.Settled.{clear-before, settled-empty}
 use Rattle.cert_check.proofs.part.Part.is_clear_before.Goals as goal

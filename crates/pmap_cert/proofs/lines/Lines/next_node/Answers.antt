@@ -1,22 +1,20 @@
 use Rattle.std.proofs.Common.{◌≤◌, ◌^◌, ◌≡◌, ◌∙◌, ℕ, Bool, Err, ap, arith, cond, false, sym}
 use Rattle.pmap_cert.specs.Format.{format_number}
 use Rattle.pmap_cert.specs.FormatReading.{Place, fault_at, fits_line, is_ended, likely_line, line_text, pieces_of, BadNode, NodesMissing}
-use Rattle.pmap_cert.specs.Packed.{bits_in}
-use Rattle.pmap_cert.specs.Words.{line_model}
+use Rattle.pmap_cert.specs.Packed.{line_of}
 use Rattle.pmap_cert.proofs.PrintedLines.{line-back, line-lacks, nowhere, there}
 use Rattle.pmap_cert.proofs.lines.Lines.next_node.Goals as goal
 
 pub returns-in-Some-clause-ok : goal.returns-in-Some-clause-ok
 returns-in-Some-clause-ok c =
     let frame = c.args.frame.now in
-    let kept = c.node_line.new.kept in
     let format : ℕ = format_number frame.format in
     let count : ℕ = c.len-count.result in
     let few : count ≤ 2 ^ 32 = omega (arith, c.len-count.ensures.value, c.len-count.ensures.few) in
     rw (← c.self.view_is, ← c.len-count.ensures.value)
     (there (fits_line format frame.width count) line_text likely_line (line-lacks format frame.width count few) (line-back format frame.width count few)
     (cond (is_ended (pieces_of c.self.inside.rest.now)) NodesMissing BadNode) c.self.inside.number c.self.inside.rest.now
-    (line_model kept.set.items (bits_in kept.path) c.in-Some.line) c.in-Some.rest.now (rw c.in-Some.is at c.in_ok-line.ensures).right)
+    (line_of c.in-Some.node) c.in-Some.rest.now (rw c.in-Some.is at c.in_ok-node.ensures).right)
 
 pub returns-in-None-2-clause-err : goal.returns-in-None-2-clause-err
 returns-in-None-2-clause-err c = λ _.
@@ -29,5 +27,5 @@ returns-in-None-2-clause-err c = λ _.
     ap (λ (place : Place). is_ended place.pieces) c.self.view_is ∙ sym c.is_ended.ensures ∙ c.if-is_ended.false in
     rw (c.fault-in-None-2.ensures, ← c.self.view_is, ← c.len-count.ensures.value)
     (nowhere (fits_line format frame.width count) line_text likely_line (line-lacks format frame.width count few) (line-back format frame.width count few)
-    (cond (is_ended (pieces_of text)) NodesMissing BadNode) c.self.inside.number text (rw c.in-None-2.is at c.in_ok-line.ensures)
+    (cond (is_ended (pieces_of text)) NodesMissing BadNode) c.self.inside.number text (rw c.in-None-2.is at c.in_ok-node.ensures)
     ∙ ap (λ (b : Bool). Err (fault_at (record { number = c.self.inside.number; pieces = pieces_of text }) (cond b NodesMissing BadNode))) more)

@@ -1,0 +1,22 @@
+use crate::path::Path;
+use pmap_text::LabelId;
+
+/// What a node claims: a cost, and a set of labels by ascending numbers. A leaf claims the cost 0 and only its label.
+#[derive(Clone, Copy)]
+pub struct Claim<'a> {
+    pub cost: u32,
+    pub set: &'a [LabelId],
+}
+
+/// A node without those below it: a leaf with its label, an inner node with its claim, or a chain with its claim, its
+/// bits and its side label.
+#[derive(Clone, Copy)]
+pub enum Node<'a> {
+    Leaf(LabelId),
+    Inner(Claim<'a>),
+    Chain {
+        claim: Claim<'a>,
+        path: &'a Path,
+        side: LabelId,
+    },
+}
