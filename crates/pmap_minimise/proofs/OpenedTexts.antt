@@ -38,16 +38,19 @@ inner-added cost set lower upper old own middle new first second third =
     ∙ append_assoc old (ended (inner_line cost set)) (node_text lower ++ node_text upper)
     ∙ ap (λ (t : List ℕ). old ++ t) (sym (inner-text cost set lower upper))
 
--- the text of a run's node is appended, with the leaf of its side block after or before the half that the run chooses
-pub lower-added : (d cost side : ℕ) (set : List ℕ) (path : Node) (old own middle new : List ℕ) → d ≡ 0 → own ≡ old ++ ended (inner_line cost set) → middle ≡ own ++ node_text path → new ≡ middle ++ ended (leaf_line side)
-    → new ≡ old ++ node_text (node_over d cost set path (Leaf side))
-lower-added d cost side set path old own middle new none first second third =
-    inner-added cost set path (Leaf side) old own middle new first second (leaf-added side middle new third) ∙ ap (λ (k : ℕ). old ++ node_text (node_over k cost set path (Leaf side))) (sym none)
-
-pub upper-added : (d cost side : ℕ) (set : List ℕ) (path : Node) (old own middle new : List ℕ) → d ≡ 1 → own ≡ old ++ ended (inner_line cost set) → middle ≡ own ++ ended (leaf_line side) → new ≡ middle ++ node_text path
-    → new ≡ old ++ node_text (node_over d cost set path (Leaf side))
-upper-added d cost side set path old own middle new one first second third =
-    inner-added cost set (Leaf side) path old own middle new first (leaf-added side own middle second) third ∙ ap (λ (k : ℕ). old ++ node_text (node_over k cost set path (Leaf side))) (sym one)
+-- The lines of a run's node are appended, and of its side block if that comes before the end. With those of the end, `E`,
+-- and of the side blocks after it, `U`, the lines below them are those of the half that the run chooses.
+pub over-down : (d cost side : ℕ) (set : List ℕ) (path : Node) (old own new E U : List ℕ) → d < 2 → own ≡ old ++ (ended (inner_line cost set) ++ cond (d == 1) (ended (leaf_line side)) [])
+    → new ++ (E ++ U) ≡ own ++ node_text path → new ++ (E ++ (U ++ cond (d == 0) (ended (leaf_line side)) [])) ≡ old ++ node_text (node_over d cost set path (Leaf side))
+over-down zero cost side set path old own new E U small first second =
+    ap (λ (t : List ℕ). new ++ t) (sym (append_assoc E U (ended (leaf_line side)))) ∙ sym (append_assoc new (E ++ U) (ended (leaf_line side)))
+    ∙ inner-added cost set path (Leaf side) old own (new ++ (E ++ U)) _ (first ∙ ap (λ (t : List ℕ). old ++ t) (append-nil (ended (inner_line cost set)))) second
+    (ap (λ (t : List ℕ). (new ++ (E ++ U)) ++ t) (sym (leaf-text side)))
+over-down (suc zero) cost side set path old own new E U small first second =
+    ap (λ (t : List ℕ). new ++ (E ++ t)) (append-nil U)
+    ∙ inner-added cost set (Leaf side) path old (old ++ ended (inner_line cost set)) own _ refl
+    (first ∙ sym (append_assoc old (ended (inner_line cost set)) (ended (leaf_line side))) ∙ ap (λ (t : List ℕ). (old ++ ended (inner_line cost set)) ++ t) (sym (leaf-text side))) second
+over-down (suc (suc d)) cost side set path old own new E U small first second = absurd (omega arith)
 
 -- equal bits lead to the end from the same node
 same-digit : (d e : ℕ) → d < 2 → e < 2 → (d == 1) ≡ (e == 1) → d ≡ e

@@ -1,5 +1,5 @@
-use Rattle.std.specs.Prelude.{◌≡◌, ℕ, zero, suc, ◌+◌, ◌<◌, ◌≤◌, Bool, List, [], ◌∷◌, if◌then◌else◌, length, map, nat_lt}
-use Rattle.pmap_cert.specs.CertificateText.{text_of_lines}
+use Rattle.std.specs.Prelude.{◌≡◌, ℕ, zero, suc, ◌+◌, ◌<◌, ◌≤◌, ◌==◌, Bool, List, [], ◌∷◌, ◌++◌, if◌then◌else◌, length, map, nat_lt}
+use Rattle.pmap_cert.specs.CertificateText.{leaf_line, text_of_lines}
 use Rattle.pmap_cert.specs.Node.{Chain, Inner, Leaf, Node, cost_of, first_node, line_text, lines_of, set_of}
 use Rattle.pmap_cert.specs.Paths.{digit, path_to}
 use Rattle.pmap_minimise.specs.Numbers.{IsSound, has_number}
@@ -72,3 +72,9 @@ pub record IsSoundAt (nodes : List Node) (room : ℕ) : Type 0 where
 
 abbrev pub node_text : Node → List ℕ
 node_text node = text_of_lines (map line_text (lines_of node))
+
+-- the text of the side blocks after a chain's end, for the last `bits` nodes of the chain
+abbrev pub text_up : ℕ → ℕ → ℕ → List ℕ
+text_up side value zero = []
+text_up side value (suc bits) =
+    text_up side value bits ++ (if digit value bits == 0 then leaf_line side ++ 10 ∷ [] else [])

@@ -1,18 +1,18 @@
 //! Writes the lines of a certificate's nodes, with each chain opened.
-ghost use Rattle.std.specs.Prelude.{◌≡◌, ◌≤◌, ◌++◌, ◌∷◌, [], OnOk, Some, drop};
+ghost use Rattle.std.specs.Prelude.{◌≡◌, ◌≤◌, ◌++◌, ◌∷◌, [], OnOk, Some, drop, if◌then◌else◌};
 ghost use Rattle.pmap_cert.specs.CertificateText.{inner_line, leaf_line};
-ghost use Rattle.pmap_cert.specs.Node.{Node, first_node, side_of};
+ghost use Rattle.pmap_cert.specs.Node.{Node, first_node, set_of, side_of};
 ghost use Rattle.pmap_minimise.specs.Numbers.{numbers_of};
-ghost use Rattle.pmap_minimise.specs.Opened.{IsOpenedAt, Opens, cost_above, node_text, path_node, set_above, with_number};
+ghost use Rattle.pmap_minimise.specs.Opened.{IsOpenedAt, Opens, cost_above, node_text, path_node, set_above, text_up, with_number};
 
 use crate::entering::has_label;
-use pmap_cert::{Cursor, Root, cursor_of, push_inner_line, push_leaf_line};
+use pmap_cert::{Cursor, Path, Root, cursor_of, push_inner_line, push_leaf_line};
 use pmap_text::LabelId;
 use std::alloc::{AllocError, Global};
 use std::slice;
 
-// A chain whose bits are the last ones of `value`, with the line of a node that claims the side label alone, and the
-// line of a side block.
+// A chain whose bits are the last ones of `value`, with the line of a node that claims the side label alone, the line of
+// a side block, and both.
 #[derive(Clone, Copy)]
 struct Chain<'a> {
     cost: u32,
@@ -20,8 +20,10 @@ struct Chain<'a> {
     value: u128,
     node: &'a [u8],
     leaf: &'a [u8],
+    both: &'a [u8],
     ghost node_is: { node.now ≡ inner_line cost (side.0 ∷ []) ++ 10 ∷ [] },
     ghost leaf_is: { leaf.now ≡ leaf_line side.0 ++ 10 ∷ [] },
+    ghost both_is: { both.now ≡ node.now ++ leaf.now },
 }
 
 // Appends the labels of a set with one more label, in ascending order.
@@ -43,62 +45,77 @@ fn push_with(all: &mut Vec<LabelId>, set: &[LabelId], side: LabelId) -> Result<(
     Ok(())
 }
 
-// Appends the line of a chain's node that has `more` of the chain's nodes below it, by the set of the chain's end.
-fn push_line(
+// Appends the line of a chain's node that has `more` of the chain's nodes below it, by the set of the chain's end, and
+// then the line of the side block if that comes before the end. The labels in `all` are replaced.
+#[inline(always)]
+fn push_step(
     out: &mut Vec<u8>,
-    alloc: Global,
+    all: &mut Vec<LabelId>,
     chain: &Chain<'_>,
-    end: &[LabelId],
+    set: &[LabelId],
     more: u32,
+    before: bool,
 ) -> Result<(), AllocError>
     ensures { OnOk result (out.new.items ≡ out.old.items
-        ++ (inner_line chain.now.cost (set_above chain.now.side.0 (numbers_of end.now) more) ++ 10 ∷ [])) }
+        ++ ((inner_line chain.now.cost (set_above chain.now.side.0 (numbers_of set.now) more) ++ 10 ∷ [])
+        ++ (if before then leaf_line chain.now.side.0 ++ 10 ∷ [] else []))) }
 {
-    if more > 0 || has_label(end, chain.side) {
-        out.extend_from_slice(chain.node)?;
+    if more > 0 || has_label(set, chain.side) {
+        out.extend_from_slice(if before { chain.both } else { chain.node })?;
         return Ok(());
     }
-    let mut all = Vec::new(alloc);
-    push_with(&mut all, end, chain.side)?;
-    push_inner_line(out, chain.cost, all.as_slice())
-}
-
-// Appends the lines of a chain's last `bits` nodes, of the leaves beside them, and of the chain's end, at which the
-// cursor is. The cursor moves past the end.
-#[cycle(node)]
-fn push_path(
-    out: &mut Vec<u8>,
-    alloc: Global,
-    at: &mut Cursor<'_>,
-    chain: &Chain<'_>,
-    bits: u32,
-) -> Result<(), AllocError>
-    requires at { IsOpenedAt at.old }
-    requires bits { bits ≤ 128 }
-    ensures next { OnOk result (at.new ≡ drop 1 at.old) }
-    ensures text { OnOk result ((end : Node) → Opens (first_node at.old) end
-        → chain.now.cost ≡ cost_above chain.now.side.0 end
-        → out.new.items ≡ out.old.items ++ node_text (path_node chain.now.side.0 chain.now.value bits end)) }
-{
-    if bits == 0 {
-        return push_node(out, alloc, at);
-    }
-    let more = bits - 1;
-    push_line(out, alloc, chain, at.set(), more)?;
-    if (chain.value >> more) % 2 == 1 {
+    all.clear();
+    push_with(all, set, chain.side)?;
+    push_inner_line(out, chain.cost, all.as_slice())?;
+    if before {
         out.extend_from_slice(chain.leaf)?;
-        return push_path(out, alloc, at, chain, more);
     }
-    push_path(out, alloc, at, chain, more)?;
-    out.extend_from_slice(chain.leaf)?;
     Ok(())
 }
 
-// Appends the lines of the chain at the cursor, opened. The cursor moves past the chain's end.
+// Appends the lines of a chain's last `bits` nodes, and of the side blocks before the chain's end, by the set of the end.
+// The labels in `all` are replaced.
+fn push_down(
+    out: &mut Vec<u8>,
+    all: &mut Vec<LabelId>,
+    chain: &Chain<'_>,
+    set: &[LabelId],
+    bits: u32,
+) -> Result<(), AllocError>
+    requires { bits ≤ 128 }
+    // The lines of the end and those of the side blocks after it complete those of the chain.
+    ensures { OnOk result ((end : Node) → numbers_of set.now ≡ set_of end → chain.now.cost ≡ cost_above chain.now.side.0 end
+        → out.new.items ++ (node_text end ++ text_up chain.now.side.0 chain.now.value bits)
+        ≡ out.old.items ++ node_text (path_node chain.now.side.0 chain.now.value bits end)) }
+{
+    if bits == 0 {
+        return Ok(());
+    }
+    let more = bits - 1;
+    push_step(out, all, chain, set, more, (chain.value >> more) % 2 == 1)?;
+    push_down(out, all, chain, set, more)
+}
+
+// Appends the lines of the side blocks after a chain's end, each of which is this line.
+fn push_up(out: &mut Vec<u8>, path: &Path, side: LabelId, leaf: &[u8]) -> Result<(), AllocError>
+    requires { leaf.now ≡ leaf_line side.0 ++ 10 ∷ [] }
+    ensures { OnOk result (out.new.items ≡ out.old.items ++ text_up side.0 path.now.value path.now.count) }
+{
+    for place in 0..path.count {
+        if (path.value >> place) % 2 == 0 {
+            out.extend_from_slice(leaf)?;
+        }
+    }
+    Ok(())
+}
+
+// Appends the lines of the chain at the cursor, opened. The cursor moves past the chain's end. The labels in `all` and
+// the texts in `texts` are replaced.
 #[cycle(node)]
 fn push_chain(
     out: &mut Vec<u8>,
-    alloc: Global,
+    all: &mut Vec<LabelId>,
+    texts: &mut Vec<u8>,
     at: &mut Cursor<'_>,
     side: LabelId,
 ) -> Result<(), AllocError>
@@ -110,31 +127,43 @@ fn push_chain(
 {
     let (cost, path) = (at.cost(), at.path());
     *at = at.next();
-    let mut texts = Vec::with_capacity(alloc, 32)?;
-    push_inner_line(&mut texts, cost, slice::from_ref(&side))?;
+    texts.clear();
+    push_inner_line(texts, cost, slice::from_ref(&side))?;
     let len = texts.len();
-    push_leaf_line(&mut texts, side)?;
-    let (node, leaf) = texts.as_slice().split_at(len);
+    push_leaf_line(texts, side)?;
+    let both = texts.as_slice();
+    let (node, leaf) = both.split_at(len);
     let chain = Chain {
         cost,
         side,
         value: path.value,
         node,
         leaf,
+        both,
     };
-    push_path(out, alloc, at, &chain, path.count)
+    push_down(out, all, &chain, at.set(), path.count)?;
+    push_node(out, all, texts, at)?;
+    texts.clear();
+    push_leaf_line(texts, side)?;
+    push_up(out, &path, side, texts.as_slice())
 }
 
-// Appends the lines of the node at the cursor, opened. The cursor moves past the node.
+// Appends the lines of the node at the cursor, opened. The cursor moves past the node. The labels in `all` and the texts
+// in `texts` are replaced.
 #[cycle(node)]
-fn push_node(out: &mut Vec<u8>, alloc: Global, at: &mut Cursor<'_>) -> Result<(), AllocError>
+fn push_node(
+    out: &mut Vec<u8>,
+    all: &mut Vec<LabelId>,
+    texts: &mut Vec<u8>,
+    at: &mut Cursor<'_>,
+) -> Result<(), AllocError>
     requires { IsOpenedAt at.old }
     ensures next { OnOk result (at.new ≡ drop 1 at.old) }
     ensures text { OnOk result ((node : Node) → Opens (first_node at.old) node
         → out.new.items ≡ out.old.items ++ node_text node) }
 {
     if let Some(side) = at.side() {
-        return push_chain(out, alloc, at, side);
+        return push_chain(out, all, texts, at, side);
     }
     let label = at.label();
     let (cost, set) = (at.cost(), at.set());
@@ -143,8 +172,8 @@ fn push_node(out: &mut Vec<u8>, alloc: Global, at: &mut Cursor<'_>) -> Result<()
         return push_leaf_line(out, id);
     }
     push_inner_line(out, cost, set)?;
-    push_node(out, alloc, at)?;
-    push_node(out, alloc, at)
+    push_node(out, all, texts, at)?;
+    push_node(out, all, texts, at)
 }
 
 /// Appends the lines of a root and of the nodes below it, with each chain opened.
@@ -152,7 +181,7 @@ pub fn push_opened(out: &mut Vec<u8>, alloc: Global, root: &Root) -> Result<(), 
     requires { (node : Node) × Opens root.now node }
     ensures { OnOk result ((node : Node) → Opens root.now node → out.new.items ≡ out.old.items ++ node_text node) }
 {
-    // A line takes some 16 bytes, and a chain opens to two lines for each bit.
+    // A line takes some 16 bytes.
     out.reserve(root.nodes().len().saturating_mul(16))?;
-    push_node(out, alloc, &mut cursor_of(root))
+    push_node(out, &mut Vec::new(alloc), &mut Vec::new(alloc), &mut cursor_of(root))
 }
