@@ -6,7 +6,6 @@ use Rattle.pmap_cert.specs.CertificateModel.{CertificateModel}
 use Rattle.pmap_cert.specs.declared.fault.CertFault.{CertFault}
 use Rattle.cert_check.specs.Checking.{first_fault, text_fault}
 use Rattle.cert_check.specs.declared.fault.CheckFault.{CheckFault}
-use Rattle.cert_check.specs.declared.fault.TextFault.{TextFault}
 use Rattle.cert_check.specs.declared.fault.TextFault.TheVariants.{Certificate, Check}
 use Rattle.cert_check.proofs.Nodes.{text-checked, text-none, text-read}
 use Rattle.flowlabel.specs.declared.bytes_fault.BytesFault.TheVariants.{Certificate as InCertificate, Check as InCheck}
