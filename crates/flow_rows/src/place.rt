@@ -31,16 +31,13 @@ fn bytes_behind<'a>(place: &Place, runs: &[u32], bytes: &'a [u8]) -> &'a [u8]
     ensures there { result.now ≡ unwrap_or (bytes_there place.now runs.now bytes.now) [] }
     ensures size { (length result.now ≡ place.now.length) ⊎ (result.now ≡ []) }
 {
-    match find_bytes(place, runs, bytes) {
-        Some(value) => value,
-        None => &bytes[..0],
-    }
+    find_bytes(place, runs, bytes).unwrap_or(&bytes[..0])
 }
 
-// Returns the bytes at a place in a record, or no bytes if the record is too short.
+/// Returns the bytes at a place in a record, or no bytes if the record is too short.
 #[inline(always)]
 #[tactic(auto, using(crate::proofs::Reading::before_values))]
-fn bytes_there<'a>(place: &Place, runs: &[u32], bytes: &'a [u8]) -> &'a [u8]
+pub fn bytes_there<'a>(place: &Place, runs: &[u32], bytes: &'a [u8]) -> &'a [u8]
     requires { place.now.skips ≡ 0 → place.now.offset + place.now.length ≤ length bytes.now }
     ensures there { result.now ≡ unwrap_or (bytes_there place.now runs.now bytes.now) [] }
     ensures size { (length result.now ≡ place.now.length) ⊎ (result.now ≡ []) }
@@ -97,32 +94,4 @@ pub fn u8_there(place: &Place, runs: &[u32], bytes: &[u8]) -> u8
         0 => 0,
         _ => value[0],
     }
-}
-
-/// Returns the number of 4 bytes at a place in a record.
-#[inline(always)]
-pub fn u32_there(place: &Place, runs: &[u32], bytes: &[u8]) -> u32
-    requires within { IsWithin 4 (length bytes.now) place.now }
-    requires size { place.now.length ≡ 4 }
-    ensures { result ≡ number_there place.now runs.now bytes.now }
-{
-    let value = bytes_there(place, runs, bytes);
-    if value.len() < 4 {
-        return 0;
-    }
-    BigEndian::read_u32(value)
-}
-
-/// Returns the number of 16 bytes at a place in a record.
-#[inline(always)]
-pub fn u128_there(place: &Place, runs: &[u32], bytes: &[u8]) -> u128
-    requires within { IsWithin 16 (length bytes.now) place.now }
-    requires size { place.now.length ≡ 16 }
-    ensures { result ≡ number_there place.now runs.now bytes.now }
-{
-    let value = bytes_there(place, runs, bytes);
-    if value.len() < 16 {
-        return 0;
-    }
-    BigEndian::read_u128(value)
 }

@@ -18,9 +18,7 @@ pub fn row_of<'r>(source: &Record<'r, 'r>) -> Option<Row<'r>>
     }
     let fields = source.fields.specifiers();
     let bytes = source.fields.bytes();
-    let Some(layout) = fields.row_layout() else {
-        return None;
-    };
+    let layout = fields.row_layout()?;
     Some(Row::new(&layout.first, fields.runs(), bytes))
 }
 
@@ -37,9 +35,7 @@ pub fn reverse_row_of<'r>(source: &Record<'r, 'r>) -> Option<Row<'r>>
     }
     let fields = source.fields.specifiers();
     let bytes = source.fields.bytes();
-    let Some(layout) = fields.row_layout() else {
-        return None;
-    };
+    let layout = fields.row_layout()?;
     if !layout.second.packets.is_there() {
         return None;
     }

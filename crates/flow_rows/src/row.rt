@@ -1,7 +1,8 @@
 ghost use Rattle.std.specs.Prelude.{◌≡◌, if◌then◌else◌, length};
 ghost use Rattle.flow_rows.specs.Inner.{AreUsable, IsWithin, number_there, row_at, version_of};
 
-use crate::place::{u8_there, u16_there, u32_there, u64_there, u128_there};
+use crate::place::{bytes_there, u8_there, u16_there, u64_there};
+use byteorder::{BigEndian, ByteOrder};
 use ipfix_templates::{Place, Places};
 use prefix_keys::{Addr, Version};
 use std::marker::Model;
@@ -36,15 +37,26 @@ fn address_there(is_v4: bool, place: &Place, runs: &[u32], bytes: &[u8]) -> Addr
     ensures version { result.version ≡ version_of is_v4 }
     ensures value { result.value ≡ number_there place.now runs.now bytes.now }
 {
+    let bytes = bytes_there(place, runs, bytes);
     if is_v4 {
+        let value = if bytes.len() < 4 {
+            0
+        } else {
+            BigEndian::read_u32(bytes)
+        };
         return Addr {
             version: Version::V4,
-            value: u128::from(u32_there(place, runs, bytes)),
+            value: u128::from(value),
         };
     }
+    let value = if bytes.len() < 16 {
+        0
+    } else {
+        BigEndian::read_u128(bytes)
+    };
     Addr {
         version: Version::V6,
-        value: u128_there(place, runs, bytes),
+        value,
     }
 }
 
