@@ -9,7 +9,8 @@ use Rattle.cert_check.specs.declared.fault.CheckFault.{CheckFault}
 use Rattle.cert_check.specs.declared.fault.TextFault.TheVariants.{Certificate, Check}
 use Rattle.cert_check.proofs.Nodes.{text-checked, text-none, text-read}
 use Rattle.flowlabel.specs.declared.bytes_fault.BytesFault.TheVariants.{Certificate as InCertificate, Check as InCheck}
-use Rattle.flowlabel.specs.Output.{Checks, Then, checked, minimal_text}
+use Rattle.flowlabel.specs.Output.{Checks, Then, minimal_text}
+use Rattle.flowlabel.proofs.Outcomes.{checked}
 
 -- The outcome of `check` over the text of a certificate, by the text's first fault for the map and the list.
 

@@ -1,5 +1,7 @@
 -- The outcomes over the texts of files, as proofs name them.
-use Rattle.std.specs.Prelude.{Bool, List, ℕ, Option}
+use Rattle.std.specs.Prelude.{Bool, List, ℕ, Option, Ok, Err}
+use Rattle.std.specs.Option.{option_map_or}
+use Rattle.cert_check.specs.declared.fault.CheckFault.{CheckFault}
 use Rattle.pmap_text.specs.ListModel.{ListModel}
 use Rattle.pmap_text.specs.MapModel.{MapModel}
 use Rattle.pmap_text.specs.Reading.{list_reading, map_reading}
@@ -19,8 +21,8 @@ use Rattle.pmap_print.specs.Reports.{groups_text}
 use Rattle.pmap_print.specs.Runs.{IsRunsText}
 use Rattle.pmap_print.specs.Table.{table_text}
 use Rattle.label_lookup.specs.Labelling.{Labelling, label_where}
-use Rattle.flowlabel.specs.declared.bytes_fault.BytesFault.TheVariants.{Map as InMap, List as InList, Flows as InFlows, Certificate as InCertificate}
-use Rattle.flowlabel.specs.Output.{Outcome, Prints, Then, labelled_row_lines, shrunk_text}
+use Rattle.flowlabel.specs.declared.bytes_fault.BytesFault.TheVariants.{Map as InMap, List as InList, Flows as InFlows, Certificate as InCertificate, Check as InCheck}
+use Rattle.flowlabel.specs.Output.{Outcome, Prints, Then, labelled_row_lines, minimal_text, shrunk_text}
 use Rattle.flowlabel.specs.Request.{Shrunk, Text}
 
 abbrev pub MapThen : (MapModel → Outcome → Type 0) → List ℕ → Outcome → Type 0
@@ -62,3 +64,7 @@ abbrev pub report_of_groups : List KeyField → Condition → Bool → Bool → 
 report_of_groups fields condition sorted columns labels messages =
     let groups = groups_of fields (label_where labels) (passing condition labels (rows_of_messages messages)) in
     groups_text fields (shown_groups sorted groups) columns
+
+-- what `check` prints for the first fault, if there is one, and for the number of entries
+abbrev pub checked : Option CheckFault → ℕ → Outcome
+checked found count = option_map_or (λ fault. Err (InCheck fault)) found (Ok (minimal_text count))

@@ -1,5 +1,6 @@
 use Rattle.std.specs.Prelude.{◌≡◌, ℕ, List, [], ◌∷◌, ◌++◌, true, false, Option, Some, None, Result, Ok, Err, map, option_map, unwrap_or, codes, decimal, length}
 use Rattle.std.specs.Global.{Vec}
+use Rattle.std.specs.Option.{option_map_or}
 use Rattle.prefix_keys.specs.Text.{AddressOf}
 use Rattle.pmap_text.specs.ListModel.{ListModel}
 use Rattle.pmap_text.specs.MapModel.{MapModel}
@@ -10,7 +11,6 @@ use Rattle.pmap_cert.specs.CertificateModel.{CertificateModel}
 use Rattle.pmap_cert.specs.Compacting.{compact}
 use Rattle.pmap_cert.specs.FormatReading.{format_reading}
 use Rattle.cert_check.specs.Checking.{first_fault}
-use Rattle.cert_check.specs.declared.fault.CheckFault.{CheckFault}
 use Rattle.ipfix_read.specs.Messages.{file_reading}
 use Rattle.ipfix_read.specs.Message.{MessageView}
 use Rattle.flow_rows.specs.Counts.{counts_of, rows_of_messages}
@@ -79,12 +79,8 @@ abbrev pub minimal_text : ℕ → List ℕ
 minimal_text count = codes "minimal " ++ decimal count ++ codes "\n"
 
 -- the number of the list's entries, if the certificate has no fault for the map and the list, otherwise the first fault
-abbrev pub checked : Option CheckFault → ℕ → Outcome
-checked None count = Ok (minimal_text count)
-checked (Some fault) count = Err (InCheck fault)
-
 abbrev pub Checks : MapModel → ListModel → CertificateModel → Outcome → Type 0
-Checks m l c outcome = outcome ≡ checked (first_fault m l c) (length l.prefixes)
+Checks m l c outcome = outcome ≡ option_map_or (λ fault. Err (InCheck fault)) (first_fault m l c) (Ok (minimal_text (length l.prefixes)))
 
 -- the outcome is an output of the request for these texts, read in the order map, list, certificate, flows
 abbrev pub IsOutput : Request → Outcome → Type 0

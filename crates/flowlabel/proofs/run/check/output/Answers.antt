@@ -13,8 +13,8 @@ use Rattle.flowlabel.specs.BytesFault.{role_of}
 use Rattle.flowlabel.specs.ByFile.{ByFile, turn}
 use Rattle.flowlabel.specs.declared.by_file.Role.TheVariants as role
 use Rattle.flowlabel.specs.declared.bytes_fault.BytesFault.TheVariants.{Map as InMap, List as InList, Certificate as InCertificate, Check as InCheck}
-use Rattle.flowlabel.specs.Output.{BytesFault, Checks, Outcome, OutputFault, Returns, checked}
-use Rattle.flowlabel.proofs.Outcomes.{CertificateThen, ListThen, MapThen}
+use Rattle.flowlabel.specs.Output.{BytesFault, Checks, Outcome, OutputFault, Returns}
+use Rattle.flowlabel.proofs.Outcomes.{CertificateThen, ListThen, MapThen, checked}
 use Rattle.flowlabel.specs.Reports.{IsMade, IsReadOf}
 use Rattle.flowlabel.specs.Request.{Text}
 use Rattle.flowlabel.specs.Run.{Source, any_failed}

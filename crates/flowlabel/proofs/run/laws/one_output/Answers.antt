@@ -11,8 +11,8 @@ use Rattle.ipfix_read.specs.Messages.{file_reading}
 use Rattle.flow_rows.specs.Counts.{counts_of}
 use Rattle.pmap_print.specs.Reports.{info_text}
 use Rattle.pmap_print.specs.Runs.{IsRunsText, runs_text}
-use Rattle.flowlabel.specs.Output.{BytesFault, Checks, LabelsThen, Outcome, Prints, Then, checked, label_text, shrunk_text}
-use Rattle.flowlabel.proofs.Outcomes.{CertificateThen, ListThen, PrintsCompact, PrintsMinimal, PrintsRuns, ReportsOf, report_of_groups, report_of_rows}
+use Rattle.flowlabel.specs.Output.{BytesFault, Checks, LabelsThen, Outcome, Prints, Then, label_text, shrunk_text}
+use Rattle.flowlabel.proofs.Outcomes.{CertificateThen, ListThen, PrintsCompact, PrintsMinimal, PrintsRuns, ReportsOf, report_of_groups, report_of_rows, checked}
 use Rattle.flowlabel.specs.Reports.{ReportsThen}
 use Rattle.flowlabel.specs.declared.bytes_fault.BytesFault.TheVariants.{Map as InMap, List as InList, Flows as InFlows, Certificate as InCertificate}
 use Rattle.flowlabel.specs.Request.{FromList, FromMap, LabelSource, label, info, rows, cat, shrink, check, uniq, recert}

@@ -24,8 +24,8 @@ use Rattle.flow_uniq.specs.Laws.{DivideRows}
 use Rattle.pmap_print.specs.Reports.{info_text}
 use Rattle.pmap_print.specs.Table.{table_text}
 use Rattle.flowlabel.specs.Headline.{IsSameUnder, PrintsEachOnce, PrintsGroups}
-use Rattle.flowlabel.specs.Output.{BytesFault, Checks, IsOutput, LabelsThen, Outcome, Prints, Then, checked, label_text, minimal_text, shrunk_text, FlowsThen, labelled_row_lines}
-use Rattle.flowlabel.proofs.Outcomes.{CertificateThen, ListThen, PrintsCompact, PrintsMinimal, PrintsRuns, ReportsOf, passing_rows, report_of_groups, report_of_rows}
+use Rattle.flowlabel.specs.Output.{BytesFault, Checks, IsOutput, LabelsThen, Outcome, Prints, Then, label_text, minimal_text, shrunk_text, FlowsThen, labelled_row_lines}
+use Rattle.flowlabel.proofs.Outcomes.{CertificateThen, ListThen, PrintsCompact, PrintsMinimal, PrintsRuns, ReportsOf, passing_rows, report_of_groups, report_of_rows, checked}
 use Rattle.flowlabel.specs.Reports.{ReportsThen}
 use Rattle.flowlabel.specs.Request.{FromList, FromMap, LabelSource, Request, Text, cat, check, info, label, recert, rows, shrink, uniq}
 use Rattle.flowlabel.specs.declared.bytes_fault.BytesFault.TheVariants.{Map as InMap, List as InList, Certificate as InCertificate, Flows as InFlows}

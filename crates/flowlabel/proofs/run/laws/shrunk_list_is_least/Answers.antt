@@ -9,7 +9,8 @@ use Rattle.cert_check.specs.declared.fault.CheckFault.{CheckFault}
 use Rattle.pmap_text.specs.Reading.{list_reading}
 use Rattle.pmap_print.specs.List.{IsListAgain, list_text}
 use Rattle.pmap_cert.specs.FormatReading.{format_reading}
-use Rattle.flowlabel.specs.Output.{checked, minimal_text}
+use Rattle.flowlabel.specs.Output.{minimal_text}
+use Rattle.flowlabel.proofs.Outcomes.{checked}
 use Rattle.flowlabel.proofs.run.laws.shrunk_list_is_least.Goals as goal
 
 pub returns : goal.returns
