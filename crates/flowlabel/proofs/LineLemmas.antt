@@ -1,5 +1,6 @@
 -- What clap's theorems say about the example command lines, by computation.
 use Rattle.std.proofs.Common.{◌≡◌, ◌∙◌, ◌==◌, ℕ, Bool, true, false, not, [], ◌∷◌, Option, Some, None, Ok, Err, refl, sym, ap, codes}
+use Rattle.std.proofs.lemmas.Bool.{not-true}
 use Rattle.std.specs.Prelude.{ok_or, unwrap_or}
 use Rattle.clap.specs.Lexer.{short_of}
 use Rattle.clap.specs.Words.{Text}
@@ -18,10 +19,6 @@ one_answer words answer (Err (Refused text)) own is = let bad : false ≡ true =
 one_answer words answer (Err (Help text)) own is = let bad : false ≡ true = rw own.0 at is in cc
 one_answer words answer (Err fault) own is = ap (λ (o : Option Answer). unwrap_or o answer) (sym own.1 ∙ is.1)
 
-not_true : (b : Bool) → not b ≡ true → b ≡ false
-not_true true e = sym e
-not_true false e = refl
-
 not_short : (x : ℕ) (xs : Text) → (x == 45) ≡ false → short_of (x ∷ xs) ≡ None
 not_short x xs h = rw h refl
 
@@ -35,14 +32,14 @@ module _ (program : Text) where
   unfolding flowlabel_app clap_on_literals
   label_line [] [] h k = (refl {a = []}, refl {a = Some (labelled [] [])})
   label_line (x ∷ xs) [] h k =
-      let e = not_true (x == 45) h in
+      let e = not-true (x == 45) h in
       (rw (e, not_short x xs e) (refl {a = []}), rw (e, not_short x xs e) (refl {a = Some (labelled (x ∷ xs) [])}))
   label_line [] (y ∷ ys) h k =
-      let f = not_true (y == 45) k in
+      let f = not-true (y == 45) k in
       (rw (f, not_short y ys f) (refl {a = []}), rw (f, not_short y ys f) (refl {a = Some (labelled [] (y ∷ ys))}))
   label_line (x ∷ xs) (y ∷ ys) h k =
-      let e = not_true (x == 45) h in
-      let f = not_true (y == 45) k in
+      let e = not-true (x == 45) h in
+      let f = not-true (y == 45) k in
       (rw (e, not_short x xs e, f, not_short y ys f) (refl {a = []}), rw (e, not_short x xs e, f, not_short y ys f) (refl {a = Some (labelled (x ∷ xs) (y ∷ ys))}))
 
   rows_line : (file : Text) → is_plain_word file ≡ true
@@ -51,7 +48,7 @@ module _ (program : Text) where
   unfolding flowlabel_app clap_on_literals
   rows_line [] h = (refl {a = []}, refl {a = Some (condition_in_rows [] >>= (λ condition. Ok (rows None condition true [])))})
   rows_line (x ∷ xs) h =
-      let e = not_true (x == 45) h in
+      let e = not-true (x == 45) h in
       (rw (e, not_short x xs e) (refl {a = []}), rw (e, not_short x xs e) (refl {a = Some (condition_in_rows [] >>= (λ condition. Ok (rows None condition true (x ∷ xs))))}))
 
   shrink_line : (file : Text) → is_plain_word file ≡ true
@@ -59,7 +56,7 @@ module _ (program : Text) where
   unfolding flowlabel_app clap_on_literals
   shrink_line [] h = (refl {a = []}, refl {a = Some (Err CompactAlone)})
   shrink_line (x ∷ xs) h =
-      let e = not_true (x == 45) h in
+      let e = not-true (x == 45) h in
       (rw (e, not_short x xs e) (refl {a = []}), rw (e, not_short x xs e) (refl {a = Some (Err CompactAlone)}))
 
   pub lines_have_answers : LinesHaveAnswers program

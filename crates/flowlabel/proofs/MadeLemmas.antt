@@ -1,5 +1,7 @@
 -- How what a command reads of its files makes its output.
 use Rattle.std.proofs.Common.{◌≡◌, ◌∙◌, ◌⊎◌, ◌≤◌, ◌<◌, ◌+◌, ℕ, Bool, List, [], Option, Some, None, Result, Ok, Err, true, false, ◌||◌, refl, sym, ap, subst, inl, inr, arith}
+use Rattle.std.proofs.Math.Bool.{or-false}
+use Rattle.std.proofs.lemmas.Bool.{or_parts}
 use Rattle.std.specs.Prelude.{IfSome, option_copied, option_map, unwrap_or}
 use Rattle.std.specs.Borrow.{Bor}
 use Rattle.std.specs.Result.{IsErrAnd}
@@ -40,27 +42,19 @@ at_other x files role.Certificate o = inr refl
 at_other x files role.Flows role.Flows = inl refl
 at_other x files role.Flows o = inr refl
 
-neither : (a b : Bool) → (a || b) ≡ false → (a ≡ false) × (b ≡ false)
-neither true b e = cc
-neither false b e = (refl, e)
-
-or_last : (b : Bool) → (b || false) ≡ b
-or_last true = refl
-or_last false = refl
-
 module _ {R : Type 0} (failed : R → Bool) (old : ByFile (Option (Source R))) (none : any_failed failed old ≡ false) where
   none_failed : (source_failed failed old.map ≡ false) × (source_failed failed old.list ≡ false)
       × (source_failed failed old.certificate ≡ false) × (source_failed failed old.flows ≡ false)
   none_failed =
-      let (map, later) = neither (source_failed failed old.map) _ none in
-      let (list, last) = neither (source_failed failed old.list) _ later in
-      let (certificate, flows) = neither (source_failed failed old.certificate) _ last in (map, list, certificate, flows)
+      let (map, later) = or_parts (source_failed failed old.map) _ none in
+      let (list, last) = or_parts (source_failed failed old.list) _ later in
+      let (certificate, flows) = or_parts (source_failed failed old.certificate) _ last in (map, list, certificate, flows)
 
   -- the one that was read since decides whether any has
   pub one_tells : (r : Role) (file : Option (Source R)) → any_failed failed (with_at r file old) ≡ source_failed failed file
-  one_tells role.Map file = rw (none_failed.1, none_failed.2, none_failed.3) (or_last _)
-  one_tells role.List file = rw (none_failed.0, none_failed.2, none_failed.3) (or_last _)
-  one_tells role.Certificate file = rw (none_failed.0, none_failed.1, none_failed.3) (or_last _)
+  one_tells role.Map file = rw (none_failed.1, none_failed.2, none_failed.3) (or-false _)
+  one_tells role.List file = rw (none_failed.0, none_failed.2, none_failed.3) (or-false _)
+  one_tells role.Certificate file = rw (none_failed.0, none_failed.1, none_failed.3) (or-false _)
   one_tells role.Flows file = rw (none_failed.0, none_failed.1, none_failed.2) refl
 
 -- no file is read after the flows
