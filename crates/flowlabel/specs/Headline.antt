@@ -11,8 +11,7 @@ use Rattle.pmap_cert.specs.CertificateModel.{CertificateModel}
 use Rattle.pmap_cert.specs.Compacting.{compact, line_count}
 use Rattle.pmap_cert.specs.FormatReading.{format_reading}
 use Rattle.cert_check.specs.Checking.{first_fault}
-use Rattle.label_trie.specs.Laws.{HasOneRun}
-use Rattle.label_trie.specs.Runs.{Run}
+use Rattle.pmap_text.specs.Runs.{HasOneRun, Run}
 use Rattle.label_lookup.specs.Labelling.{Labelling}
 use Rattle.flow_rows.specs.Counts.{rows_of_messages}
 use Rattle.flow_rows.specs.Elements.{RowView}

@@ -7,6 +7,4 @@ pub mod Grown
 pub mod Built
 pub mod SeenLeaves
 pub mod ListBuilt
-pub mod Runs
 pub mod NodeKinds
-pub mod Covered

@@ -9,7 +9,7 @@ use Rattle.pmap_text.specs.declared.label.LabelId.{LabelId}
 use Rattle.label_trie.specs.TrieModel.{LeafModel, IsCut, IsSettledLeaf, IsUndivided}
 use Rattle.pmap_text.specs.Settled.{Settles}
 use Rattle.label_trie.specs.Tree.{Tree, Tip, Fork, leaves_of, leaf_count, HasRoom, Fits, IsLabelled}
-use Rattle.pmap_text.proofs.BlockHalves.{size_of_halves}
+use Rattle.pmap_text.proofs.Blocks.{first_of-lower, pow-half}
 
 -- a node that fits has room
 pub fits_HasRoom : (m : MapModel) (node : Tree) (n q h : ℕ) → h + n ≡ width_of m.version → Fits m node n q → HasRoom node h
@@ -31,10 +31,7 @@ IsCut-append W from middle to [] ys front back = let e : from ≡ middle = front
 IsCut-append W from middle to (x ∷ xs) ys front back =
     (front.0, front.1, IsCut-append W (last_of W x.bits x.number + 1) middle to xs ys front.2 back)
 
--- the ends of a block and of its halves
-starts : (W n q P : ℕ) → 2 ^ (W - suc n) ≡ P → 2 ^ (W - n) ≡ P * 2 → first_of W n q ≡ first_of W (suc n) (2 * q)
-starts W n q P half whole = rw (half, whole) (omega arith)
-
+-- where the upper half of a block ends, and where it begins
 ends : (W n q P : ℕ) → 0 < P → 2 ^ (W - suc n) ≡ P → 2 ^ (W - n) ≡ P * 2 → last_of W (suc n) (2 * q + 1) ≡ last_of W n q
 ends W n q P positive half whole = rw (half, whole) (omega arith)
 
@@ -50,9 +47,8 @@ leaves_cut W (Fork low high) n q h e room =
     let P = 2 ^ (W - suc n) in
     let front = leaves_cut W low (suc n) (2 * q) (h - 1) (omega (arith, room.0)) room.1 in
     let back = leaves_cut W high (suc n) (2 * q + 1) (h - 1) (omega (arith, room.0)) room.2 in
-    let start = starts W n q P refl (size_of_halves W n below) in
-    let end = ends W n q P (pow_pos (W - suc n)) refl (size_of_halves W n below) in
-    rw (start, ← end)
+    let end = ends W n q P (pow_pos (W - suc n)) refl (pow-half W n below) in
+    rw (← first_of-lower W n q below, ← end)
     (IsCut-append W (first_of W (suc n) (2 * q)) (first_of W (suc n) (2 * q + 1)) (last_of W (suc n) (2 * q + 1) + 1)
     (leaves_of low (suc n) (2 * q)) (leaves_of high (suc n) (2 * q + 1)) (rw (meet W (suc n) q P (pow_pos (W - suc n)) refl) at front) back)
 

@@ -25,13 +25,11 @@
 mod cursor;
 mod growing;
 mod kind;
-mod laws;
 mod leaf;
 mod node;
 mod trie;
 
 pub use cursor::{Cursor, Parts};
 pub use kind::Kind;
-pub use laws::{labelling_has_its_runs, runs_cover_each_address_once};
 pub use leaf::Leaf;
 pub use trie::Trie;

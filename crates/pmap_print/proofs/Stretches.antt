@@ -19,8 +19,8 @@ use Rattle.pmap_text.specs.Stretches.{AreLabelsBelow, HasEveryAddress, Stretches
 use Rattle.pmap_text.specs.declared.label.LabelId.{LabelId}
 use Rattle.pmap_text.proofs.Orders.{known_text}
 use Rattle.pmap_text.proofs.Ranges.{last_end, next_first, ordered_at, text_at_index}
-use Rattle.label_trie.proofs.Runs.{first-label}
-use Rattle.label_trie.specs.Runs.{AreRuns, HasOneLabel, Run}
+use Rattle.pmap_text.proofs.Runs.{first-label}
+use Rattle.pmap_text.specs.Runs.{AreRuns, HasOneLabel, Run}
 use Rattle.pmap_print.specs.Runs.{IsRunsText, run_fields, run_text, run_titles, Numbered, run_of, stretch_view, view_at, Stretch}
 use Rattle.pmap_print.specs.Table.{Text, line_text}
 

@@ -4,7 +4,7 @@ use Rattle.prefix_keys.specs.Print.{address_text}
 use Rattle.prefix_keys.specs.declared.version.Version.{Version}
 use Rattle.pmap_text.specs.MapModel.{Label}
 use Rattle.pmap_text.specs.Stretches.{StretchesModel, first_at, label_at, last_at}
-use Rattle.label_trie.specs.Runs.{AreRunsOf, Run}
+use Rattle.pmap_text.specs.Runs.{AreRunsOf, Run}
 use Rattle.pmap_print.specs.Table.{Line, Text, line_text}
 pub use Rattle.pmap_print.specs.declared.runs.Stretch.{Stretch}
 

@@ -1,14 +1,8 @@
 -- Blocks and their halves. A block of n bits with the number q has the halves 2 * q and 2 * q + 1 of suc n bits.
 use Rattle.std.proofs.Common.{◌≡◌, ℕ, suc, ◌+◌, ◌-◌, ◌*◌, ◌/◌, ◌^◌, ◌<◌, ◌≤◌, inl, inr, refl, ◌∙◌, arith}
-use Rattle.std.proofs.Math.Nat.{pow-suc}
 use Rattle.std.proofs.lemmas.Nat.{pow_pos}
 use Rattle.prefix_keys.specs.Block.{first_of, last_of}
-
--- a block has as many addresses as both its halves
-pub size_of_halves : (W n : ℕ) → n < W → 2 ^ (W - n) ≡ 2 ^ (W - suc n) * 2
-size_of_halves W n below =
-    let more : W - n ≡ suc (W - suc n) = omega arith in
-    rw more (pow-suc 2 (W - suc n))
+use Rattle.pmap_text.proofs.Blocks.{pow-half}
 
 -- the block of n' bits with the number q' is not empty and lies in that of n bits with the number q
 pub record LiesIn (W n q n' q' : ℕ) : Type 0 where
@@ -25,10 +19,10 @@ high_in W n q P positive half whole =
     record { from = rw (half, whole) (omega arith); to = rw (half, whole) (omega arith); some = rw half (omega arith) }
 
 pub low_lies_in : (W n q : ℕ) → n < W → LiesIn W n q (suc n) (2 * q)
-low_lies_in W n q below = low_in W n q (2 ^ (W - suc n)) (pow_pos (W - suc n)) refl (size_of_halves W n below)
+low_lies_in W n q below = low_in W n q (2 ^ (W - suc n)) (pow_pos (W - suc n)) refl (pow-half W n below)
 
 pub high_lies_in : (W n q : ℕ) → n < W → LiesIn W n q (suc n) (2 * q + 1)
-high_lies_in W n q below = high_in W n q (2 ^ (W - suc n)) (pow_pos (W - suc n)) refl (size_of_halves W n below)
+high_lies_in W n q below = high_in W n q (2 ^ (W - suc n)) (pow_pos (W - suc n)) refl (pow-half W n below)
 
 -- the ends of the halves, from the ends of the block
 pub record HalvesEnds (W n q first middle last : ℕ) : Type 0 where
@@ -52,7 +46,7 @@ ends_at W n q first last P positive half whole f l =
 pub halves_ends : (W n q first last : ℕ) → n < W → first ≡ first_of W n q → last ≡ last_of W n q
     → HalvesEnds W n q first (first + (last - first) / 2) last
 halves_ends W n q first last below f l =
-    ends_at W n q first last (2 ^ (W - suc n)) (pow_pos (W - suc n)) refl (size_of_halves W n below) f l
+    ends_at W n q first last (2 ^ (W - suc n)) (pow_pos (W - suc n)) refl (pow-half W n below) f l
 
 -- a block of more than one address has halves
 pub has_halves : (W n q : ℕ) → n ≤ W → first_of W n q < last_of W n q → n < W

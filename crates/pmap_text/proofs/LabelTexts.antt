@@ -1,14 +1,12 @@
 -- Lemmas about label tables.
-use Rattle.std.proofs.Common.{◌≡◌, ℕ, zero, suc, ◌+◌, ◌<◌, Bool, true, false, not, ◌||◌, cond, if◌then◌else◌, List, [], ◌∷◌, ◌++◌, map, length, length-append, Some, None, IsTrue, ◌⊎◌, inl, inr, refl, sym, ap, subst, ◌∙◌, arith, ltb, get_or, take}
+use Rattle.std.proofs.Common.{◌≡◌, ℕ, zero, suc, ◌+◌, ◌<◌, Bool, true, false, not, ◌||◌, cond, if◌then◌else◌, List, [], ◌∷◌, ◌++◌, map, length, length-append, Some, None, IsTrue, ◌⊎◌, inl, inr, refl, sym, ap, subst, ◌∙◌, arith, ltb, get_or}
 use Rattle.std.proofs.lemmas.Bool.Decides.{nat_tests}
-use Rattle.std.proofs.lemmas.Grind.{take_at_read}
 use Rattle.std.proofs.lemmas.List.{length-map, map-append}
 use Rattle.std.proofs.lemmas.List.Folds.{position_or_len_push}
 use Rattle.std.proofs.lemmas.List.Quantifiers.{position-Some}
 use Rattle.std.proofs.lemmas.List.Sums.{prefix_len-le-length}
-use Rattle.std.proofs.lemmas.Option.{get_or_from_slice_get, none-some, same_Some, slice_get-get_or, slice_get_within}
+use Rattle.std.proofs.lemmas.Option.{none-some, slice_get-get_or}
 use Rattle.std.proofs.lemmas.Slice.Eq.{bytes_eq-Decides}
-use Rattle.std.proofs.Math.Numerals.{one-add}
 use Rattle.std.specs.List.{list_any, position_or_len, slice_get}
 use Rattle.std.specs.Prelude.{position}
 use Rattle.std.specs.Str.{bytes_eq}
@@ -136,30 +134,6 @@ module _ (table : List Label) (x : Label) where
       by : (b : Bool) → has_label table x ≡ b → IsLabelTable (with_label table x)
       by true h = subst IsLabelTable (sym (with_label-known h)) ok
       by false h = subst IsLabelTable (sym (with_label-new h)) (IsLabelTable-push table x ok label room h)
-
--- no text before the first occurrence of a text equals it
-none_before : {X : Type 0} (p : X → Bool) (xs : List X) → list_any p (take (position_or_len p xs) xs) ≡ false
-none_before p [] = refl
-none_before {X} p (x ∷ xs) = by (p x) refl (none_before p xs)
-  where
-    by : (b : Bool) → p x ≡ b → list_any p (take (position_or_len p xs) xs) ≡ false
-        → list_any p (take (position_or_len p (x ∷ xs)) (x ∷ xs)) ≡ false
-    by true e ih = rw e refl
-    by false e ih = rw (e, one-add, e) ih
-
--- so if the first texts of a table are a table too, the next one is added at the end
-pub take-with_label : (table : List Label) (k : ℕ) (x : Label) → IsLabelTable table → slice_get table k ≡ Some x
-    → with_label (take k table) x ≡ take (k + 1) table
-take-with_label table k x ok at =
-    let number : number_of table x ≡ Some k = ok.places k x at in
-    let place : Some (position_or_len (bytes_eq x) table) ≡ Some k =
-    sym (number_of-known table x (has_label-number table x k number)) ∙ number in
-    let none : has_label (take k table) x ≡ false =
-    subst (λ (n : ℕ). list_any (bytes_eq x) (take n table) ≡ false) (same_Some (position_or_len (bytes_eq x) table) k place)
-    (none_before (bytes_eq x) table) in
-    with_label-new (take k table) x none
-    ∙ ap (λ (y : Label). take k table ++ y ∷ []) (sym (get_or_from_slice_get table k x x at))
-    ∙ sym (take_at_read table k x (slice_get_within table k x at)).1
 
 -- the table has it
 pub has_label-with_label : (table : List Label) (x : Label) → has_label (with_label table x) x ≡ true

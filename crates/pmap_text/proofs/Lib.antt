@@ -32,3 +32,5 @@ pub mod BlockHalves
 pub mod Windows
 pub mod Ends
 pub mod Settling
+pub mod Runs
+pub mod Covered

@@ -13,3 +13,4 @@ pub mod Stretches
 pub mod Starting
 pub mod Windows
 pub mod Settled
+pub mod Runs

@@ -1,13 +1,15 @@
-//! Laws about maps and prefix lists.
+//! Laws about maps, prefix lists and runs.
 
 ghost use Rattle.std.specs.Option.{option_map_or};
-ghost use Rattle.std.specs.Prelude.{◌≡◌, ◌<◌, ◌≤◌, ◌^◌, ℕ, Option, Some, None, MatchOption, All, nat_le, if◌then◌else◌};
+ghost use Rattle.std.specs.Prelude.{◌≡◌, ◌≢◌, ◌+◌, ◌<◌, ◌≤◌, ◌^◌, ℕ, List, Option, Some, None, MatchOption, All, length, nat_le, slice_index_or, if◌then◌else◌};
 ghost use Rattle.std.specs.List.{IsDistinct};
 ghost use Rattle.std.specs.List.Sorted.{IsPermutation};
 ghost use Rattle.prefix_keys.specs.Block.{block_number, first_of, last_of, width_of};
+ghost use Rattle.prefix_keys.specs.declared.version.Version.{Version};
 ghost use Rattle.pmap_text.specs.ListModel.{ListModel, Prefix, list_label, CoversAddress, HasSamePrefixes, IsLongestMatch, LabelsBlocksOnce, is_same_prefix};
 ghost use Rattle.pmap_text.specs.MapModel.{IsSettled, Label, MapModel, Mapping, map_label, settled_label};
 ghost use Rattle.pmap_text.specs.PrefixList.{list_of, PrefixList};
+ghost use Rattle.pmap_text.specs.Runs.{AreRunsOf, HasOneRun, Run};
 ghost use Rattle.pmap_text.specs.Stretches.{HaveAddresses, IsStretch};
 
 /// A settled block has its label at each of its addresses.
@@ -45,4 +47,25 @@ pub fn order_of_entries_is_free()
     ensures entries { (l r : ListModel) → l.version ≡ r.version → LabelsBlocksOnce (width_of l.version) l.prefixes →
         HasSamePrefixes l.prefixes r.prefixes → (a : ℕ) → list_label l a ≡ list_label r a }
     ensures distinct { (l : PrefixList) → IsDistinct (is_same_prefix (width_of l.version)) (list_of l).prefixes }
+{}
+
+/// The addresses of a version have exactly one list of runs, whatever their labels are. It depends on these labels
+/// alone.
+pub fn labelling_has_its_runs()
+    ensures exist { (v : Version) (f : ℕ → Option Label) → (runs : List Run) × AreRunsOf v f runs }
+    ensures one { (v : Version) (f : ℕ → Option Label) (runs other : List Run) →
+        AreRunsOf v f runs → AreRunsOf v f other → runs ≡ other }
+    ensures alike { (v : Version) (f g : ℕ → Option Label) (runs : List Run) →
+        ((a : ℕ) → a < 2 ^ width_of v → f a ≡ g a) → AreRunsOf v f runs → AreRunsOf v g runs }
+{}
+
+/// Each address is in exactly one run, which has its label. The runs ascend, each begins right after the previous one,
+/// and their labels differ.
+pub fn runs_cover_each_address_once()
+    ensures once { (v : Version) (f : ℕ → Option Label) (runs : List Run) → AreRunsOf v f runs →
+        (a : ℕ) → a < 2 ^ width_of v → HasOneRun f runs a }
+    ensures ascend { (v : Version) (f : ℕ → Option Label) (runs : List Run) → AreRunsOf v f runs →
+        (i : ℕ) (d : Run) → i + 1 < length runs → (slice_index_or runs (i + 1) d).low ≡ (slice_index_or runs i d).high + 1 }
+    ensures differ { (v : Version) (f : ℕ → Option Label) (runs : List Run) → AreRunsOf v f runs →
+        (i : ℕ) (d : Run) → i + 1 < length runs → (slice_index_or runs (i + 1) d).label ≢ (slice_index_or runs i d).label }
 {}

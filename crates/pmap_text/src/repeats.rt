@@ -25,10 +25,7 @@ fn add_key(keys: &mut BTreeSet<(u128, u32)>, key: (u128, u32)) -> Result<bool, A
     ensures ok { IfOk result (λ new. IsTrue new → (q : ℕ × ℕ) →
         has_key keys.new.keys q ≡ (if is_eq (key_cmp key q) then true else has_key keys.old.keys q)) }
 {
-    match keys.insert(key) {
-        Ok(new) => Ok(new),
-        Err(_) => Err(AllocError),
-    }
+    keys.insert(key).map_err(|_| AllocError)
 }
 
 // Returns the index of the first entry with the block of an earlier one, by a look-up of each block.

@@ -134,10 +134,9 @@ pub fn read_map_with_hashing(
     ensures { ReturnsMap text.now result }
 {
     let reading = read_lines(alloc, Form::Map, text, hashing)?;
-    match reading.into_map() {
-        Ok(map) => Ok(map),
-        Err(_) => Err(fault_at(MapFaultKind::NoMemory, 0)),
-    }
+    reading
+        .into_map()
+        .map_err(|_| fault_at(MapFaultKind::NoMemory, 0))
 }
 
 /// Reads a list text. The longest block that covers an address decides, and an address that no block covers has no

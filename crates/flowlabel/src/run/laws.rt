@@ -12,7 +12,6 @@ use cert_check::no_fault_is_acceptance;
 use flow_filter::options_hold_together;
 use flow_rows::counts_add_up;
 use flow_uniq::{groups_divide_the_rows, sorted_groups_are_in_order};
-use label_trie::{labelling_has_its_runs, runs_cover_each_address_once};
 use pmap_cert::{
     acceptance_is_enough, compact_gives_back_equal, compact_has_a_text, compact_has_no_more_lines,
     compact_keeps_acceptance, map_text_has_a_minimal_pair, map_text_has_its_labels,
@@ -23,6 +22,7 @@ use pmap_print::{
     labelling_has_one_runs_text, minimal_list_can_be_read_again, minimal_list_is_accepted_again,
     printed_list_is_read_back, printed_order_is_one,
 };
+use pmap_text::{labelling_has_its_runs, runs_cover_each_address_once};
 
 /// A request has exactly one output over any texts of its files.
 pub fn one_output()

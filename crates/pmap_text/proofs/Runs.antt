@@ -4,7 +4,7 @@ use Rattle.std.specs.Str.{bytes_eq}
 use Rattle.std.proofs.lemmas.Bool.{both_ways, cases_lt, cases_eq}
 use Rattle.std.proofs.lemmas.Slice.Eq.{bytes_eq-Decides}
 use Rattle.pmap_text.specs.MapModel.{Label}
-use Rattle.label_trie.specs.Runs.{AreRuns, HasOneLabel, Run}
+use Rattle.pmap_text.specs.Runs.{AreRuns, HasOneLabel, Run}
 
 -- two labels, or missing labels, are equal or not
 text-cases : (x y : Label) → (b : Bool) → bytes_eq x y ≡ b → (Some x ≡ Some y) ⊎ (Some x ≢ Some y)

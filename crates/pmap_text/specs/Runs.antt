@@ -1,4 +1,4 @@
-use Rattle.std.specs.Prelude.{◌≡◌, ◌≢◌, ℕ, ◌+◌, ◌^◌, ◌<◌, ◌≤◌, List, [], ◌∷◌, Option}
+use Rattle.std.specs.Prelude.{◌≡◌, ◌≢◌, ℕ, ◌+◌, ◌^◌, ◌<◌, ◌≤◌, ◌&&◌, List, [], ◌∷◌, Option, filter, nat_le}
 use Rattle.prefix_keys.specs.Block.{width_of}
 use Rattle.prefix_keys.specs.declared.version.Version.{Version}
 use Rattle.pmap_text.specs.MapModel.{Label}
@@ -27,3 +27,7 @@ AreRuns label_of from to (run ∷ runs) =
 -- the runs of the addresses of a version
 abbrev pub AreRunsOf : Version → (ℕ → Option Label) → List Run → Type 0
 AreRunsOf version label_of runs = AreRuns label_of 0 (2 ^ width_of version) runs
+
+-- exactly one of the runs has the address, and it has the address's label
+abbrev pub HasOneRun : (ℕ → Option Label) → List Run → ℕ → Type 0
+HasOneRun label_of runs a = (run : Run) × (filter (λ r. nat_le r.low a && nat_le a r.high) runs ≡ run ∷ []) × (run.label ≡ label_of a)

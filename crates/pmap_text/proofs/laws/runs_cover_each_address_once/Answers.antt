@@ -1,7 +1,7 @@
 use Rattle.std.proofs.Common.{◌^◌, arith}
 use Rattle.prefix_keys.specs.Block.{width_of}
-use Rattle.label_trie.proofs.Covered.{next-run, one-run}
-use Rattle.label_trie.proofs.laws.runs_cover_each_address_once.Goals as goal
+use Rattle.pmap_text.proofs.Covered.{next-run, one-run}
+use Rattle.pmap_text.proofs.laws.runs_cover_each_address_once.Goals as goal
 
 pub returns-clause-once : goal.returns-clause-once
 returns-clause-once c v f runs are a below = one-run f 0 (2 ^ width_of v) runs are a (omega arith) below

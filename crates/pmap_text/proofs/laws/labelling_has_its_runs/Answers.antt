@@ -1,7 +1,7 @@
 use Rattle.std.proofs.Common.{◌^◌, arith}
 use Rattle.prefix_keys.specs.Block.{width_of}
-use Rattle.label_trie.proofs.Runs.{runs-alike, runs-exist, runs-one}
-use Rattle.label_trie.proofs.laws.labelling_has_its_runs.Goals as goal
+use Rattle.pmap_text.proofs.Runs.{runs-alike, runs-exist, runs-one}
+use Rattle.pmap_text.proofs.laws.labelling_has_its_runs.Goals as goal
 
 pub returns-clause-exist : goal.returns-clause-exist
 returns-clause-exist c v f = runs-exist f 0 (2 ^ width_of v) (omega arith)
