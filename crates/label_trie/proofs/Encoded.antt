@@ -3,9 +3,8 @@ use Rattle.std.proofs.Common.{◌≡◌, ℕ, zero, suc, ◌+◌, ◌*◌, ◌^�
 use Rattle.std.proofs.lemmas.List.{append-nil, get_or_at}
 use Rattle.std.proofs.lemmas.Option.{get_or_from_slice_get, same_Some, slice_get-get_or, slice_get_within}
 use Rattle.pmap_text.specs.declared.label.LabelId.{LabelId}
-use Rattle.label_trie.specs.TrieModel.{NodeModel}
 use Rattle.label_trie.specs.Inner.{leaf_node, encode, IsAt, IsTrie, grown, tree_within, tree_at, tree_of, Node, Unlabelled, Inner}
-use Rattle.label_trie.specs.Tree.{Tree, Tip, Fork, size, leaf_count, nodes_of, top_of, HasNodes, HasRoom}
+use Rattle.label_trie.specs.Tree.{Tree, Tip, Fork, size, leaf_count, nodes_of, HasRoom}
 
 -- sizes
 pub size_pos : (tree : Tree) → 0 < size tree
@@ -56,22 +55,13 @@ encoded_at front (Fork low high) back at e =
           (encoded_at ((front ++ x ∷ []) ++ l) high back (at + 1 + size low) len'),
     )
 
-pub nodes_at : (front : List NodeModel) (tree : Tree) (n q : ℕ) (back : List NodeModel) (at : ℕ) → length front ≡ at
-    → HasNodes (front ++ (nodes_of tree n q ++ back)) at tree n q
-nodes_at front (Tip label) n q back at e = at_middle front (top_of (Tip label) n q) back at e
-nodes_at front (Fork low high) n q back at e =
-    let x = top_of (Fork low high) n q in
-    let l = nodes_of low (suc n) (2 * q) in
-    let h = nodes_of high (suc n) (2 * q + 1) in
-    let len : length (front ++ x ∷ []) ≡ at + 1 = omega (arith, length-append front (x ∷ []), e) in
-    let len' : length ((front ++ x ∷ []) ++ l) ≡ at + 1 + size low = omega (arith, length-append (front ++ x ∷ []) l, len, length_nodes low (suc n) (2 * q)) in
-    let same = regroup front x l h back in (
-      at_middle front x ((l ++ h) ++ back) at e,
-      subst (λ (nodes : List NodeModel). HasNodes nodes (at + 1) low (suc n) (2 * q)) same
-          (nodes_at (front ++ x ∷ []) low (suc n) (2 * q) (h ++ back) (at + 1) len),
-      subst (λ (nodes : List NodeModel). HasNodes nodes (at + 1 + size low) high (suc n) (2 * q + 1)) (append_assoc (front ++ x ∷ []) l (h ++ back) ∙ same)
-          (nodes_at ((front ++ x ∷ []) ++ l) high (suc n) (2 * q + 1) back (at + 1 + size low) len'),
-    )
+-- a list of a tree's nodes
+pub encoded_here : (nodes : List Node) (tree : Tree) → nodes ≡ encode 0 tree → IsAt nodes 0 tree
+encoded_here nodes tree e =
+    subst (λ (ns : List Node). IsAt ns 0 tree) (append-nil (encode 0 tree) ∙ sym e) (encoded_at [] tree [] 0 refl)
+
+pub encoded_size : (nodes : List Node) (tree : Tree) → nodes ≡ encode 0 tree → size tree ≡ length nodes
+encoded_size nodes tree e = sym (ap length e ∙ length_encode 0 tree)
 
 -- the tree that begins at an index is read back
 grown_leaf : (label : Option LabelId) (low : Tree) (of_number : ℕ → Tree) → grown (leaf_node label) low of_number ≡ Tip label
@@ -95,14 +85,12 @@ pub record IsBuilt (W : ℕ) (nodes : List Node) (tree : Tree) : Type 0 where
 
 pub built : (W : ℕ) (nodes : List Node) (tree : Tree) → nodes ≡ encode 0 tree → HasRoom tree W → size tree ≤ 2 ^ 32 → IsBuilt W nodes tree
 built W nodes tree e room few =
-    let long : length nodes ≡ size tree = ap length e ∙ length_encode 0 tree in
-    let here : IsAt nodes 0 tree = subst (λ (ns : List Node). IsAt ns 0 tree) (append-nil (encode 0 tree) ∙ sym e) (encoded_at [] tree [] 0 refl) in
-    let is : tree_of nodes ≡ tree = read_back tree nodes 0 (length nodes) here (omega (arith, long)) in
+    let long = encoded_size nodes tree e in
+    let is : tree_of nodes ≡ tree = read_back tree nodes 0 (length nodes) (encoded_here nodes tree e) (omega (arith, long)) in
     record {
       tree_is = is;
       trie = record {
-        here = subst (λ (t : Tree). IsAt nodes 0 t) (sym is) here;
-        all = ap size is ∙ sym long;
+        encoded = e ∙ ap (encode 0) (sym is);
         room = subst (λ (t : Tree). HasRoom t W) (sym is) room;
         few = omega (arith, long, few);
       };

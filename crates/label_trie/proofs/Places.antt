@@ -3,19 +3,19 @@ use Rattle.std.proofs.Common.{◌≡◌, ℕ, ◌+◌, ◌-◌, ◌≤◌, List,
 use Rattle.prefix_keys.specs.Block.{width_of}
 use Rattle.prefix_keys.specs.declared.block.Block.{Block}
 use Rattle.label_trie.specs.TrieModel.{CursorModel, number_of}
-use Rattle.label_trie.specs.Inner.{IsAt, IsPlace, IsTrie, tree_at, Node}
+use Rattle.label_trie.specs.Inner.{IsAt, IsPlace, IsTrie, tree_at, tree_of, Node}
 use Rattle.label_trie.specs.Parts.{IsHalf, IsDivided}
 use Rattle.label_trie.specs.Tree.{Tree, size, leaves_of, HasRoom}
 use Rattle.label_trie.proofs.Divided.{divided}
-use Rattle.label_trie.proofs.Encoded.{IsInner}
+use Rattle.label_trie.proofs.Encoded.{IsInner, encoded_here, encoded_size}
 
 pub root_place : (nodes : List Node) (block : Block) → IsTrie (width_of block.version) nodes → block.value ≡ 0 → block.len ≡ 0
     → IsPlace nodes 0 block
 root_place nodes block trie value len =
     let bits : width_of block.version - block.len ≡ width_of block.version = omega (arith, len) in
     record {
-      here = trie.here;
-      small = omega (arith, trie.all);
+      here = encoded_here nodes (tree_of nodes) trie.encoded;
+      small = omega (arith, encoded_size nodes (tree_of nodes) trie.encoded);
       room = rw bits trie.room;
     }
 

@@ -50,8 +50,7 @@ tree_of nodes = tree_at nodes 0
 
 -- over addresses of W bits
 pub record IsTrie (W : ℕ) (nodes : List Node) : Type 0 where
-  pub here : IsAt nodes 0 (tree_of nodes)
-  pub all : size (tree_of nodes) ≡ length nodes
+  pub encoded : nodes ≡ encode 0 (tree_of nodes)
   pub room : HasRoom (tree_of nodes) W
   pub few : length nodes ≤ 2 ^ 32
 

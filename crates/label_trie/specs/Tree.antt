@@ -1,4 +1,4 @@
-use Rattle.std.specs.Prelude.{◌≡◌, ℕ, suc, ◌+◌, ◌-◌, ◌*◌, ◌<◌, ◌≤◌, List, [], ◌∷◌, ◌++◌, Option, Some, None, length, option_map, IsSome, slice_get}
+use Rattle.std.specs.Prelude.{◌≡◌, ℕ, suc, ◌+◌, ◌-◌, ◌*◌, ◌<◌, ◌≤◌, List, [], ◌∷◌, ◌++◌, Option, None, length, option_map, IsSome}
 use Rattle.prefix_keys.specs.Block.{width_of}
 use Rattle.pmap_text.specs.MapModel.{MapModel, settled_label}
 use Rattle.pmap_text.specs.Settled.{Settles}
@@ -35,13 +35,6 @@ abbrev pub nodes_of : Tree → ℕ → ℕ → List NodeModel
 nodes_of (Tip label) n q = top_of (Tip label) n q ∷ []
 nodes_of (Fork low high) n q =
     top_of (Fork low high) n q ∷ (nodes_of low (suc n) (2 * q) ++ nodes_of high (suc n) (2 * q + 1))
-
--- the nodes of the tree are in the list from the index `at` on
-abbrev pub HasNodes : List NodeModel → ℕ → Tree → ℕ → ℕ → Type 0
-HasNodes nodes at (Tip label) n q = slice_get nodes at ≡ Some (top_of (Tip label) n q)
-HasNodes nodes at (Fork low high) n q =
-    (slice_get nodes at ≡ Some (top_of (Fork low high) n q)) × HasNodes nodes (at + 1) low (suc n) (2 * q)
-    × HasNodes nodes (at + 1 + size low) high (suc n) (2 * q + 1)
 
 -- the tree's block has enough host bits for the halves below it
 abbrev pub HasRoom : Tree → ℕ → Type 0

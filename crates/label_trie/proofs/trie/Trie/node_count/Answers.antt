@@ -1,20 +1,20 @@
 use Rattle.std.proofs.Common.{refl, arith}
 use Rattle.label_trie.specs.Inner.{tree_of}
-use Rattle.label_trie.proofs.Encoded.{length_nodes, size_leaves}
+use Rattle.label_trie.proofs.Encoded.{encoded_size, length_nodes, size_leaves}
 use Rattle.label_trie.proofs.NodeLeaves.{length_leaves}
 use Rattle.label_trie.proofs.trie.Trie.node_count.Goals as goal
 
 pub overflow_cast-result : goal.overflow_cast-result
-overflow_cast-result c = omega (arith, c.self.invariant.all, c.self.invariant.few, size_leaves (tree_of c.self.inside.nodes.items))
+overflow_cast-result c = omega (arith, encoded_size c.self.inside.nodes.items (tree_of c.self.inside.nodes.items) c.self.invariant.encoded, c.self.invariant.few, size_leaves (tree_of c.self.inside.nodes.items))
 
 pub returns-clause-leaves : goal.returns-clause-leaves
 returns-clause-leaves c =
     rw (← c.self.view_is, length_leaves (tree_of c.self.inside.nodes.items) 0 0)
-    (omega (arith, c.self.invariant.all, size_leaves (tree_of c.self.inside.nodes.items)))
+    (omega (arith, encoded_size c.self.inside.nodes.items (tree_of c.self.inside.nodes.items) c.self.invariant.encoded, size_leaves (tree_of c.self.inside.nodes.items)))
 
 pub returns-clause-nodes : goal.returns-clause-nodes
 returns-clause-nodes c =
-    rw (← c.self.view_is, length_nodes (tree_of c.self.inside.nodes.items) 0 0) (omega (arith, c.self.invariant.all))
+    rw (← c.self.view_is, length_nodes (tree_of c.self.inside.nodes.items) 0 0) (omega (arith, encoded_size c.self.inside.nodes.items (tree_of c.self.inside.nodes.items) c.self.invariant.encoded))
 
 pub returns-clause-tree : goal.returns-clause-tree
 returns-clause-tree c =
