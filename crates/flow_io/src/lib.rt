@@ -16,15 +16,10 @@
 //! byte. A type may also report its bytes: those that a reader will still return, or those that a writer has taken. The
 //! contract of each read and write then says which bytes moved.
 //!
-//! `Watched` wraps any reader or writer of std, and reports the bytes of those that report theirs. A slice or a `Vec`
-//! does. A file does not, as no contract says what the system reads or writes. `Buffered` wraps any `Input`: it reads
-//! ahead, so that not every small read calls the device. It returns the same bytes and fails at the same byte.
-//! `MemoryInput` and `MemoryOutput` report their bytes, and fail at the call that a test chooses.
-//!
-//! `read_whole` returns all the bytes that a reader will still return. It returns a read fault if and only if the
-//! reader failed. Its only other error is that an allocation failed. `write_whole` passes a writer all of some bytes
-//! and flushes it last. It returns a fault if and only if the writer failed: at a write, with a prefix of the bytes
-//! taken, or at the flush, with all of them taken. Nothing else in this crate allocates.
+//! `Watched` wraps any reader or writer of std. A slice or a `Vec` reports its bytes. A file does not, as no contract says
+//! what the system reads or writes. `Buffered` reads ahead from any `Input`. `MemoryInput` and `MemoryOutput` are for
+//! tests. `read_whole` and `write_whole` move all bytes, and return a fault if and only if their reader or writer failed.
+//! Only `read_whole` allocates.
 #![tactic(auto)]
 
 mod buffered;

@@ -6,7 +6,7 @@ use Rattle.std.proofs.lemmas.Bool.Decides.{nat_tests}
 use Rattle.std.proofs.lemmas.Grind.{common_steps}
 use Rattle.byteorder.specs.Endian.{big_number}
 use Rattle.ipfix_templates.specs.declared.field.Field.{Field}
-use Rattle.ipfix_templates.specs.Field.{is_variable, least_field_length, least_length}
+use Rattle.ipfix_templates.specs.Field.{is_variable, least_length}
 use Rattle.ipfix_templates.specs.Runs.{runs_behind, last_run_behind}
 use Rattle.ipfix_templates.specs.Reading.{items_from}
 use Rattle.ipfix_read.specs.Value.{FieldValueView, bytes_at, variable_at, value_at, values_at, whole_values}
@@ -135,6 +135,9 @@ variable_shorter (first ∷ bytes) x e =
     let short = bytes_shorter first bytes x in
     let long = bytes_shorter (big_number 2 bytes) (drop 2 bytes) x in
     let two = length-drop 2 bytes in grind (arith, common_steps)
+
+abbrev least_field_length : Field → ℕ
+least_field_length f = cond (is_variable f) 1 f.length
 
 value_shorter : (field : Field) (bytes : List ℕ) (x : List ℕ × List ℕ) → value_at field bytes ≡ Some x → length x.1 + least_field_length field ≤ length bytes
 unfolding value_at

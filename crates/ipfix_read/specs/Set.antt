@@ -24,8 +24,7 @@ in_domain domain events = map (λ event. (domain, event)) events
 -- the template events of a set, and of sets in order
 abbrev pub events_of_set : ℕ → Set → List (ℕ × TemplateEvent)
 events_of_set domain (Templates kind events) = in_domain domain events
-events_of_set domain (Values kind records) = []
-events_of_set domain (Skipped id) = []
+events_of_set domain set = []
 
 abbrev pub events_of_sets : ℕ → List Set → List (ℕ × TemplateEvent)
 events_of_sets domain sets = flat_map (events_of_set domain) sets

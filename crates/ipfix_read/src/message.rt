@@ -2,7 +2,7 @@ ghost use Rattle.std.specs.Prelude.{◌≡◌, ◌^◌, ◌+◌, ◌<◌, ◌≤
 ghost use Rattle.std.specs.Result.{result_map_both};
 ghost use Rattle.ipfix_templates.specs.InForce.{template_at};
 ghost use Rattle.ipfix_read.specs.Fault.{is_of_calls};
-ghost use Rattle.ipfix_read.specs.Message.{header_fault, own_fault, events_of_message, message_next, message_size, whole_reading, HasHeader};
+ghost use Rattle.ipfix_read.specs.Message.{own_fault, events_of_message, message_next, message_size, whole_reading, HasHeader};
 ghost use Rattle.ipfix_read.specs.Set.{written_length, ReadsUnder};
 
 use crate::fault::{ReadFault, ReadFaultKind};
@@ -109,25 +109,6 @@ pub fn whole_message<'a>(
     Ok(message)
 }
 
-// Returns the length of the message at the start of the bytes, which follows `count` messages, or the fault of its
-// header.
-fn message_length(count: u32, bytes: &[u8]) -> Result<usize, ReadFaultKind>
-    ensures ok { OnOk result (header_fault count bytes.now ≡ None) }
-    ensures whole { IfOk result (λ size. size ≡ written_length bytes.now) }
-    ensures within { IfOk result (λ size. size ≤ length bytes.now) }
-    ensures most { IfOk result (λ size. size ≤ 65535) }
-    ensures fault { IfErr result (λ kind. (header_fault count bytes.now ≡ Some kind) × (is_of_calls kind ≡ false)) }
-{
-    if bytes.len() < HEADER_LENGTH {
-        return Err(ReadFaultKind::TruncatedHeader);
-    }
-    let size = header_length(count, bytes)?;
-    if bytes.len() < size {
-        return Err(ReadFaultKind::TruncatedMessage);
-    }
-    Ok(size)
-}
-
 /// Reads the message at the start of the bytes, which follows `count` messages, and returns it with the bytes after it.
 /// `base` is the offset of the message in the File. The events of its template sets change the table. After a fault the
 /// table may have changed by some of them.
@@ -145,10 +126,16 @@ pub fn read_message<'a>(
     ensures counted { OnOk result (count < 4294967295) }
     ensures shorter { IfOk result (λ read. length read.1.now < length bytes.now) }
 {
-    let size = match message_length(count, bytes) {
+    if bytes.len() < HEADER_LENGTH {
+        return Err(ReadFaultKind::TruncatedHeader.at(base));
+    }
+    let size = match header_length(count, bytes) {
         Ok(size) => size,
-        Err(kind) => return Err(ReadFault { kind, offset: base }),
+        Err(kind) => return Err(kind.at(base)),
     };
+    if bytes.len() < size {
+        return Err(ReadFaultKind::TruncatedMessage.at(base));
+    }
     let (front, after) = bytes.split_at(size);
     let message = whole_message(alloc, table, front, base)?;
     Ok((message, after))

@@ -101,18 +101,22 @@ part_both true v w f o new old = new
 part_both false v w f o new old = old
 
 abbrev without : Kind → Bool → Option Template → Option Template
-without kind here there = cond here (option_and_then (λ t. cond (same_kind kind t.kind) None (Some t)) there) there
+without kind here there = option_and_then (λ t. cond (here && same_kind kind t.kind) None (Some t)) there
+
+all_left : (there : Option Template) → there ≡ option_and_then (λ t. Some t) there
+all_left None = refl
+all_left (Some t) = refl
 
 -- a part that is emptied: what is left of both, and that they are parted still
 drops_first : (b : Bool) (f o : Option Template) → IsInItsPart f o → (option_or (cond b None f) o ≡ without Flow b (option_or f o)) × IsInItsPart (cond b None f) o
-drops_first false f o p = (refl, p)
+drops_first false f o p = (all_left (option_or f o), p)
 drops_first true None None p = (refl, p)
 drops_first true None (Some u) p = (rw p refl, p)
 drops_first true (Some t) None p = (rw p refl, tt)
 drops_first true (Some t) (Some u) p = absurd p
 
 drops_second : (b : Bool) (f o : Option Template) → IsInItsPart f o → (option_or f (cond b None o) ≡ without Options b (option_or f o)) × IsInItsPart f (cond b None o)
-drops_second false f o p = (refl, p)
+drops_second false f o p = (all_left (option_or f o), p)
 drops_second true None None p = (refl, p)
 drops_second true None (Some u) p = (rw p refl, tt)
 drops_second true (Some t) None p = (rw p refl, p)

@@ -6,10 +6,6 @@ pub use Rattle.ipfix_templates.specs.declared.field.Field.{Field}
 abbrev pub is_variable : Field → Bool
 is_variable f = f.length == 65535
 
--- the minimum number of bytes of a value: its fixed length, or one byte of a variable length
-abbrev pub least_field_length : Field → ℕ
-least_field_length f = if is_variable f then 1 else f.length
-
--- the minimum number of bytes of a record of these fields
+-- the minimum number of bytes of a record of these fields: their fixed lengths, and one byte for each variable length
 abbrev pub least_length : List Field → ℕ
-least_length fields = sum_by least_field_length fields
+least_length fields = sum_by (λ f. if is_variable f then 1 else f.length) fields

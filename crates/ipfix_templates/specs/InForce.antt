@@ -22,8 +22,7 @@ abbrev pub after_event : InForce → ℕ × TemplateEvent → InForce
 after_event before (at, Define t) = changed_at before at t.id (Some t)
 after_event before (at, Withdraw id) = changed_at before at id None
 after_event before (at, WithdrawAll kind) = λ domain id.
-    let there = before domain id in
-    if at == domain then option_and_then (λ t. if same_kind kind t.kind then None else Some t) there else there
+    option_and_then (λ t. if at == domain && same_kind kind t.kind then None else Some t) (before domain id)
 
 -- the templates in force after these events, given those before them
 unfoldable pub in_force : InForce → List (ℕ × TemplateEvent) → InForce

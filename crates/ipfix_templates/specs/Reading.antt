@@ -1,4 +1,4 @@
-use Rattle.std.specs.Prelude.{◌≡◌, ◌⊎◌, List, [], ◌∷◌, ◌++◌, ℕ, zero, suc, ◌+◌, ◌-◌, Bool, length, drop, Option, Some, None, Result, Ok, Err, option_and_then, nat_lt, ◌==◌, ◌&&◌, ◌||◌, if◌then◌else◌}
+use Rattle.std.specs.Prelude.{◌≡◌, ◌⊎◌, List, [], ◌∷◌, ◌++◌, ℕ, zero, suc, ◌+◌, ◌-◌, Bool, length, drop, Option, Some, None, Result, Ok, Err, ok_or, option_and_then, option_map, nat_lt, ◌==◌, ◌&&◌, ◌||◌, if◌then◌else◌}
 use Rattle.std.specs.Result.{result_flatten, result_map_both}
 use Rattle.byteorder.specs.Endian.{big_number}
 pub use Rattle.ipfix_templates.specs.declared.fault.TemplateFault.{TemplateFault}
@@ -52,8 +52,7 @@ fields_at (suc n) bytes = option_and_then (λ f. option_and_then (λ fs. Some (f
 
 -- the definition that ends with these specifiers, and the bytes after it
 abbrev pub defined_by : Kind → ℕ → ℕ → Option (List Field × List ℕ) → Result (TemplateEvent × List ℕ) TemplateFaultKind
-defined_by kind id scopes None = Err Truncated
-defined_by kind id scopes (Some fs) = Ok (Define (record { id = id; kind = kind; scope_count = scopes; fields = fs.0 }), fs.1)
+defined_by kind id scopes fields = ok_or (option_map (λ fs. (Define (record { id = id; kind = kind; scope_count = scopes; fields = fs.0 }), fs.1)) fields) Truncated
 
 -- the definition of `count` fields after its ID and field count; in an options template a scope field count comes first
 unfoldable pub definition_at : Kind → ℕ → ℕ → List ℕ → Result (TemplateEvent × List ℕ) TemplateFaultKind
