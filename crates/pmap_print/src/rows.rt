@@ -195,6 +195,7 @@ impl Table {
     ///
     /// # Errors
     /// If an allocation fails. The table may then end with a part of the line, and must not be used any more.
+    #[inline(always)]
     pub fn add_row(
         &mut self,
         row: &Row<'_>,

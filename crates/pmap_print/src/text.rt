@@ -139,6 +139,7 @@ impl Text {
     }
 
     /// Appends a number of up to 128 bits in decimal, and then the byte `last`.
+    #[inline(always)]
     pub fn push_total(&mut self, number: u128, last: u8) -> Result<(), AllocError>
         ensures { OnOk result (self.new ≡ self.old ++ (decimal number ++ last ∷ [])) }
     {
