@@ -1,17 +1,18 @@
 //! Reads the entries of a map's shortest list off its certificate, compact or not, from the root down.
 ghost use Rattle.std.specs.Prelude.{◌≡◌, ◌-◌, List, IfOk, OnOk, drop};
 ghost use Rattle.prefix_keys.specs.Block.{width_of};
-ghost use Rattle.pmap_cert.specs.Node.{Node, first_node};
+ghost use Rattle.pmap_cert.specs.Node.{Node as AnyNode, first_node};
 ghost use Rattle.label_trie.specs.TrieModel.{LeafModel};
 ghost use Rattle.pmap_minimise.specs.Listing.{AddsEntries, IsListedBy};
 ghost use Rattle.pmap_minimise.specs.Numbers.{IsCertified};
 ghost use Rattle.pmap_minimise.specs.Opened.{IsSoundAt, Opens};
 
 use crate::entering::push_own;
-use pmap_cert::{Cursor, Root, cursor_of};
+use pmap_cert::{Cursor, Node, Root, cursor_of};
 use pmap_text::{Entry, LabelId};
 use prefix_keys::{Block, Version, whole_space};
 use std::alloc::{AllocError, Global};
+use std::slice;
 
 // Adds the entries of the node at the cursor for the block `here`. The cursor moves past the node.
 fn push_entries(
@@ -22,31 +23,36 @@ fn push_entries(
 ) -> Result<(), AllocError>
     requires { IsSoundAt at.old (width_of here.now.version - here.now.len) }
     ensures next { OnOk result (at.new ≡ drop 1 at.old) }
-    ensures adds { OnOk result ((node : Node) → Opens (first_node at.old) node
+    ensures adds { OnOk result ((node : AnyNode) → Opens (first_node at.old) node
         → AddsEntries node here.now inherited entries.old.items entries.new.items) }
 {
-    let label = push_own(entries, at.set(), *here, inherited)?;
-    let is_leaf = at.label().is_some();
-    let path = at.path();
+    let node = at.node();
     *at = at.next();
-    if is_leaf {
-        return Ok(());
+    match node {
+        Node::Leaf(id) => {
+            push_own(entries, slice::from_ref(&id), *here, inherited)?;
+            Ok(())
+        }
+        Node::Inner(claim) => {
+            let label = push_own(entries, claim.set, *here, inherited)?;
+            let Some((low, high)) = here.halves() else {
+                unreachable!()
+            };
+            push_entries(entries, at, &low, Some(label))?;
+            push_entries(entries, at, &high, Some(label))
+        }
+        Node::Chain { claim, path, .. } => {
+            let label = push_own(entries, claim.set, *here, inherited)?;
+            push_entries(entries, at, &path.end(here), Some(label))
+        }
     }
-    if path.count > 0 {
-        return push_entries(entries, at, &path.end(here), Some(label));
-    }
-    let Some((low, high)) = here.halves() else {
-        unreachable!()
-    };
-    push_entries(entries, at, &low, Some(label))?;
-    push_entries(entries, at, &high, Some(label))
 }
 
 /// Returns the entries of the shortest list by ascending first address, by the root of a map's certificate.
 pub fn entries_of(alloc: Global, root: &Root, version: Version) -> Result<Vec<Entry>, AllocError>
-    requires { (leaves : List LeafModel) × (node : Node)
+    requires { (leaves : List LeafModel) × (node : AnyNode)
         × IsCertified 0 0 (width_of version) leaves node × Opens root.now node }
-    ensures { IfOk result (λ entries. (leaves : List LeafModel) (node : Node)
+    ensures { IfOk result (λ entries. (leaves : List LeafModel) (node : AnyNode)
         → IsCertified 0 0 (width_of version) leaves node → Opens root.now node
         → IsListedBy version leaves node entries.items) }
 {
