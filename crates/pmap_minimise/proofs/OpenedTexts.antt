@@ -2,12 +2,12 @@
 use Rattle.std.proofs.Common.{◌≡◌, ℕ, zero, suc, ◌<◌, ◌≤◌, ◌==◌, ◌∙◌, Bool, false, cond, List, [], ◌∷◌, ◌++◌, Some, drop, get_or, length, map, refl, sym, ap, arith}
 use Rattle.std.proofs.lemmas.Bool.{cond_above, cond_below}
 use Rattle.std.proofs.lemmas.List.{append-nil, append_assoc, map-append}
-use Rattle.std.proofs.lemmas.Option.{none-some, same_Some}
+use Rattle.std.proofs.lemmas.Option.{same_Some}
 use Rattle.pmap_cert.proofs.Paths.{path-length}
 use Rattle.pmap_cert.proofs.Written.{text_of_lines-append}
 use Rattle.pmap_cert.specs.CertificateText.{inner_line, leaf_line, text_of_lines}
-use Rattle.pmap_cert.specs.FormatReading.{DueLine}
-use Rattle.pmap_cert.specs.Node.{Chain, Inner, Leaf, Node, bits_of, cost_of, first_node, from_next_line, line_text, lines_of, set_of, side_of}
+use Rattle.pmap_cert.specs.FormatReading.{ChainLine, DueLine}
+use Rattle.pmap_cert.specs.Node.{Chain, Inner, Leaf, Node, bits_of, cost_of, first_line, first_node, from_next_line, line_text, lines_of, node_of, set_of, side_of}
 use Rattle.pmap_cert.specs.Paths.{digit, path_to}
 use Rattle.pmap_minimise.specs.Numbers.{has_number}
 use Rattle.pmap_minimise.specs.Opened.{Opens, cost_above, node_over, node_text, path_node, set_above, with_number}
@@ -72,18 +72,18 @@ same-path side value other end (suc count) (suc many) same =
     λ i. node_over (digits i) (cost_above side end) (set_above side (set_of end) (counts i)) (same-path side value other end count many rest i) (Leaf side)
 
 -- the text of a chain is that of the node from which its bits lead to its end
-pub chain-added : (nodes : List Node) (side cost value count : ℕ) (old new : List ℕ) → 0 < length nodes → side_of (first_node nodes) ≡ Some side → cost ≡ cost_of (first_node nodes)
-    → path_to value count ≡ bits_of (first_node nodes)
+pub chain-added : (cost value count side : ℕ) (set : List ℕ) (nodes : List Node) (old new : List ℕ) → 0 < length nodes → ChainLine cost (path_to value count) side set ≡ first_line (first_node nodes)
     → ((end : Node) → Opens (first_node (from_next_line nodes)) end → cost ≡ cost_above side end → new ≡ old ++ node_text (path_node side value count end))
     → (node : Node) → Opens (first_node nodes) node → new ≡ old ++ node_text node
-chain-added [] side cost value count old new some is price bits added node opens = absurd (omega arith)
-chain-added (Leaf n ∷ rest) side cost value count old new some is price bits added node opens = absurd (none-some side is)
-chain-added (Inner claimed set lower upper ∷ rest) side cost value count old new some is price bits added node opens = absurd (none-some side is)
-chain-added (Chain claimed set path own end ∷ rest) side cost value count old new some is price bits added node opens =
-    let same : own ≡ side = same_Some own side is in
-    added opens.end opens.below (price ∙ opens.cost_is ∙ ap (λ (n : ℕ). cost_above n opens.end) same)
+chain-added cost value count side set [] old new some line added node opens = absurd (omega arith)
+chain-added cost value count side set (Leaf n ∷ rest) old new some line added node opens = absurd cc
+chain-added cost value count side set (Inner price claimed lower upper ∷ rest) old new some line added node opens = absurd cc
+chain-added cost value count side set (Chain price claimed path beside end ∷ rest) old new some line added node opens =
+    let same : beside ≡ side = sym (same_Some side beside (ap (λ l. side_of (node_of l)) line)) in
+    added opens.end opens.below (ap (λ l. cost_of (node_of l)) line ∙ opens.cost_is ∙ ap (λ (n : ℕ). cost_above n opens.end) same)
     ∙ ap (λ (k : Node). old ++ node_text k)
-    (same-path side value opens.value opens.end count opens.count (bits ∙ opens.bits_are) ∙ ap (λ (n : ℕ). path_node n opens.value opens.count opens.end) (sym same) ∙ sym opens.node_is)
+    (same-path side value opens.value opens.end count opens.count (ap (λ l. bits_of (node_of l)) line ∙ opens.bits_are)
+    ∙ ap (λ (n : ℕ). path_node n opens.value opens.count opens.end) (sym same) ∙ sym opens.node_is)
 
 over-set : (d cost : ℕ) (own : List ℕ) (x y : Node) → set_of (node_over d cost own x y) ≡ own
 over-set zero cost own x y = refl

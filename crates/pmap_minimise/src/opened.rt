@@ -1,12 +1,12 @@
 //! Writes the lines of a certificate's nodes, with each chain opened.
-ghost use Rattle.std.specs.Prelude.{◌≡◌, ◌≤◌, ◌++◌, ◌∷◌, [], OnOk, Some, drop, if◌then◌else◌};
+ghost use Rattle.std.specs.Prelude.{◌≡◌, ◌≤◌, ◌++◌, ◌∷◌, [], OnOk, drop, if◌then◌else◌};
 ghost use Rattle.pmap_cert.specs.CertificateText.{inner_line, leaf_line};
-ghost use Rattle.pmap_cert.specs.Node.{Node, first_node, set_of, side_of};
+ghost use Rattle.pmap_cert.specs.Node.{Node as AnyNode, first_node, set_of};
 ghost use Rattle.pmap_minimise.specs.Numbers.{numbers_of};
 ghost use Rattle.pmap_minimise.specs.Opened.{IsOpenedAt, Opens, cost_above, node_text, path_node, set_above, text_up, with_number};
 
 use crate::entering::has_label;
-use pmap_cert::{Cursor, Path, Root, cursor_of, push_inner_line, push_leaf_line};
+use pmap_cert::{Cursor, Node, Path, Root, cursor_of, push_inner_line, push_leaf_line};
 use pmap_text::LabelId;
 use std::alloc::{AllocError, Global};
 use std::slice;
@@ -84,7 +84,7 @@ fn push_down(
 ) -> Result<(), AllocError>
     requires { bits ≤ 128 }
     // The lines of the end and those of the side blocks after it complete those of the chain.
-    ensures { OnOk result ((end : Node) → numbers_of set.now ≡ set_of end → chain.now.cost ≡ cost_above chain.now.side.0 end
+    ensures { OnOk result ((end : AnyNode) → numbers_of set.now ≡ set_of end → chain.now.cost ≡ cost_above chain.now.side.0 end
         → out.new.items ++ (node_text end ++ text_up chain.now.side.0 chain.now.value bits)
         ≡ out.old.items ++ node_text (path_node chain.now.side.0 chain.now.value bits end)) }
 {
@@ -109,24 +109,23 @@ fn push_up(out: &mut Vec<u8>, path: &Path, side: LabelId, leaf: &[u8]) -> Result
     Ok(())
 }
 
-// Appends the lines of the chain at the cursor, opened. The cursor moves past the chain's end. The labels in `all` and
-// the texts in `texts` are replaced.
+// Appends the lines of a chain, opened, with those of its end, at which the cursor is. The cursor moves past the end. The
+// labels in `all` and the texts in `texts` are replaced.
 #[cycle(node)]
 fn push_chain(
     out: &mut Vec<u8>,
     all: &mut Vec<LabelId>,
     texts: &mut Vec<u8>,
     at: &mut Cursor<'_>,
+    cost: u32,
+    path: &Path,
     side: LabelId,
 ) -> Result<(), AllocError>
-    requires at { IsOpenedAt at.old }
-    requires side { side_of (first_node at.old) ≡ Some side.0 }
+    requires { IsOpenedAt at.old }
     ensures next { OnOk result (at.new ≡ drop 1 at.old) }
-    ensures text { OnOk result ((node : Node) → Opens (first_node at.old) node
-        → out.new.items ≡ out.old.items ++ node_text node) }
+    ensures text { OnOk result ((end : AnyNode) → Opens (first_node at.old) end → cost ≡ cost_above side.0 end
+        → out.new.items ≡ out.old.items ++ node_text (path_node side.0 path.now.value path.now.count end)) }
 {
-    let (cost, path) = (at.cost(), at.path());
-    *at = at.next();
     texts.clear();
     push_inner_line(texts, cost, slice::from_ref(&side))?;
     let len = texts.len();
@@ -145,7 +144,7 @@ fn push_chain(
     push_node(out, all, texts, at)?;
     texts.clear();
     push_leaf_line(texts, side)?;
-    push_up(out, &path, side, texts.as_slice())
+    push_up(out, path, side, texts.as_slice())
 }
 
 // Appends the lines of the node at the cursor, opened. The cursor moves past the node. The labels in `all` and the texts
@@ -159,27 +158,28 @@ fn push_node(
 ) -> Result<(), AllocError>
     requires { IsOpenedAt at.old }
     ensures next { OnOk result (at.new ≡ drop 1 at.old) }
-    ensures text { OnOk result ((node : Node) → Opens (first_node at.old) node
+    ensures text { OnOk result ((node : AnyNode) → Opens (first_node at.old) node
         → out.new.items ≡ out.old.items ++ node_text node) }
 {
-    if let Some(side) = at.side() {
-        return push_chain(out, all, texts, at, side);
-    }
-    let label = at.label();
-    let (cost, set) = (at.cost(), at.set());
+    let node = at.node();
     *at = at.next();
-    if let Some(id) = label {
-        return push_leaf_line(out, id);
+    match node {
+        Node::Leaf(id) => push_leaf_line(out, id),
+        Node::Inner(claim) => {
+            push_inner_line(out, claim.cost, claim.set)?;
+            push_node(out, all, texts, at)?;
+            push_node(out, all, texts, at)
+        }
+        Node::Chain { claim, path, side } => {
+            push_chain(out, all, texts, at, claim.cost, path, side)
+        }
     }
-    push_inner_line(out, cost, set)?;
-    push_node(out, all, texts, at)?;
-    push_node(out, all, texts, at)
 }
 
 /// Appends the lines of a root and of the nodes below it, with each chain opened.
 pub fn push_opened(out: &mut Vec<u8>, alloc: Global, root: &Root) -> Result<(), AllocError>
-    requires { (node : Node) × Opens root.now node }
-    ensures { OnOk result ((node : Node) → Opens root.now node → out.new.items ≡ out.old.items ++ node_text node) }
+    requires { (node : AnyNode) × Opens root.now node }
+    ensures { OnOk result ((node : AnyNode) → Opens root.now node → out.new.items ≡ out.old.items ++ node_text node) }
 {
     // A line takes some 16 bytes.
     out.reserve(root.nodes().len().saturating_mul(16))?;
