@@ -1,10 +1,9 @@
-ghost use Rattle.std.specs.Prelude.{◌≡◌, ◌<◌, ◌∷◌, [], length, map, option_map};
-ghost use Rattle.pmap_cert.specs.Packed.{bits_in, line_of};
-ghost use Rattle.pmap_cert.specs.Node.{bits_of, cost_of, first_line, first_node, from_next_line, label_of, set_of, side_of};
+ghost use Rattle.std.specs.Prelude.{◌≡◌, ◌<◌, ◌∷◌, [], length, map};
+ghost use Rattle.pmap_cert.specs.Packed.{line_of};
+ghost use Rattle.pmap_cert.specs.Node.{cost_of, first_line, first_node, from_next_line, set_of};
 
 use crate::node::Node;
 use crate::nodes::Nodes;
-use crate::path::Path;
 use crate::root::Root;
 use pmap_text::LabelId;
 use std::marker::Model;
@@ -50,18 +49,6 @@ impl<'a> Cursor<'a> {
         self.nodes.node(self.number)
     }
 
-    /// Returns the label of the node if it is a leaf.
-    pub fn label(&self) -> Option<LabelId>
-        requires { 0 < length self.now }
-        ensures { option_map (λ id. id.0) result ≡ label_of (first_node self.now) }
-    {
-        match self.node() {
-            Node::Leaf(id) => Some(id),
-            Node::Inner(_) => None,
-            Node::Chain { .. } => None,
-        }
-    }
-
     /// Returns the cost that the node claims, 0 for a leaf.
     pub fn cost(&self) -> u32
         requires { 0 < length self.now }
@@ -76,30 +63,6 @@ impl<'a> Cursor<'a> {
         ensures { map (λ id. id.0) result.now ≡ set_of (first_node self.now) }
     {
         self.nodes.claim(self.number).set
-    }
-
-    /// Returns the bits of the node: at least one for a chain, none for another node.
-    pub fn path(&self) -> Path
-        requires { 0 < length self.now }
-        ensures { bits_in result ≡ bits_of (first_node self.now) }
-    {
-        match self.node() {
-            Node::Leaf(_) => Path { value: 0, count: 0 },
-            Node::Inner(_) => Path { value: 0, count: 0 },
-            Node::Chain { path, .. } => *path,
-        }
-    }
-
-    /// Returns the side label of the node if it is a chain.
-    pub fn side(&self) -> Option<LabelId>
-        requires { 0 < length self.now }
-        ensures { option_map (λ id. id.0) result ≡ side_of (first_node self.now) }
-    {
-        match self.node() {
-            Node::Leaf(_) => None,
-            Node::Inner(_) => None,
-            Node::Chain { side, .. } => Some(side),
-        }
     }
 
     /// Returns a cursor at the next line. An inner node is followed by all lines of its lower half and then those of

@@ -183,5 +183,10 @@ pub fn push_opened(out: &mut Vec<u8>, alloc: Global, root: &Root) -> Result<(), 
 {
     // A line takes some 16 bytes.
     out.reserve(root.nodes().len().saturating_mul(16))?;
-    push_node(out, &mut Vec::new(alloc), &mut Vec::new(alloc), &mut cursor_of(root))
+    push_node(
+        out,
+        &mut Vec::new(alloc),
+        &mut Vec::new(alloc),
+        &mut cursor_of(root),
+    )
 }

@@ -1,4 +1,4 @@
-use Rattle.std.proofs.Common.{◌≡◌, ℕ, ◌+◌, ◌-◌, ◌*◌, ◌∙◌, List, ap, arith, drop, subst, sym}
+use Rattle.std.proofs.Common.{◌≡◌, ◌+◌, ◌-◌, ◌*◌, ◌∙◌, List, ap, arith, drop, subst, sym}
 use Rattle.std.proofs.lemmas.Result.{on_ok_weaker}
 use Rattle.prefix_keys.specs.Block.{block_number, width_of}
 use Rattle.label_trie.specs.TrieModel.{number_of}
@@ -7,7 +7,7 @@ use Rattle.pmap_cert.specs.Node.{Node, first_node}
 use Rattle.pmap_cert.proofs.Paths.{path-length}
 use Rattle.pmap_minimise.specs.Numbers.{numbers_of}
 use Rattle.pmap_minimise.specs.Opened.{IsSoundAt, Opens}
-use Rattle.pmap_minimise.proofs.NodeEntries.{end-at, end-entries, inner-entries, leaf-entries, leaf-next}
+use Rattle.pmap_minimise.proofs.NodeEntries.{end-at, end-entries, inner-entries, leaf-entries}
 use Rattle.pmap_minimise.proofs.entries.+push_entries.Goals as goal
 
 pub end-requires : goal.end-requires

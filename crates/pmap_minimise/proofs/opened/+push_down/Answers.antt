@@ -1,4 +1,4 @@
-use Rattle.std.proofs.Common.{◌≡◌, ◌-◌, ◌==◌, ◌∙◌, ◌∷◌, ◌++◌, [], ℕ, Bool, List, suc, ap, arith, cond, subst}
+use Rattle.std.proofs.Common.{◌≡◌, ◌-◌, ◌==◌, ◌∙◌, ◌∷◌, ◌++◌, [], ℕ, List, suc, arith, cond, subst}
 use Rattle.std.proofs.lemmas.Result.{on_ok_weaker}
 use Rattle.pmap_cert.specs.CertificateText.{inner_line, leaf_line}
 use Rattle.pmap_cert.specs.Node.{set_of}

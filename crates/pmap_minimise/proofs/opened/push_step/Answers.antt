@@ -1,4 +1,4 @@
-use Rattle.std.proofs.Common.{◌≡◌, ◌∙◌, ◌∷◌, ◌++◌, [], ℕ, Bool, List, ap, arith, cond, false, sym, true}
+use Rattle.std.proofs.Common.{◌≡◌, ◌∙◌, ◌∷◌, ◌++◌, [], ℕ, List, ap, arith, cond, false, sym, true}
 use Rattle.std.proofs.lemmas.List.{append-nil, append_assoc}
 use Rattle.pmap_cert.specs.CertificateText.{inner_line, leaf_line}
 use Rattle.pmap_minimise.specs.Opened.{set_above, with_number}
