@@ -1,4 +1,4 @@
--- What follows the line of a node, and the entries of the node by those of the nodes below it.
+-- What follows the line of a chain, and the entries of the node by those of the nodes below it.
 use Rattle.std.proofs.Common.{◌≡◌, ℕ, ◌+◌, ◌<◌, ◌∙◌, Bool, List, [], ◌∷◌, Option, Some, drop, length, refl, sym, ap, subst, arith}
 use Rattle.prefix_keys.specs.declared.block.Block.{Block}
 use Rattle.pmap_text.specs.declared.entry.Entry.{Entry}
@@ -21,20 +21,12 @@ set_in line = set_of (node_of line)
 abbrev bits_in : DueLine → List Bool
 bits_in line = bits_of (node_of line)
 
--- the lines of a leaf end with its own
-pub leaf-next : (n : ℕ) (nodes : List Node) → 0 < length nodes → LeafLine n ≡ first_line (first_node nodes) → from_next_line nodes ≡ drop 1 nodes
-leaf-next n [] some line = absurd (omega arith)
-leaf-next n (Leaf m ∷ rest) some line = refl
-leaf-next n (Inner cost set lower upper ∷ rest) some line = absurd cc
-leaf-next n (Chain cost set bits side end ∷ rest) some line = absurd cc
-
 -- the end of a chain
 pub record IsEndAt (nodes : List Node) (count room : ℕ) : Type 0 where
   pub some : 0 < count
   pub left : ℕ
   pub room_is : room ≡ left + count
   pub end : IsSoundAt (from_next_line nodes) left
-  pub next : drop 1 (from_next_line nodes) ≡ drop 1 nodes
 
 pub end-at : (cost value count side : ℕ) (set : List ℕ) (nodes : List Node) (room : ℕ) → IsSoundAt nodes room → ChainLine cost (path_to value count) side set ≡ first_line (first_node nodes)
     → IsEndAt nodes count room
@@ -52,7 +44,6 @@ end-at cost value count side set (Chain own claimed bits beside end ∷ rest) ro
       left = deep.left;
       room_is = omega (arith, same);
       end = record { some = omega arith; node = opens.end; opens = opens.below; sound = deep.is };
-      next = refl;
     }
 
 module _ (block : Block) (inherited : Option LabelId) (old middle : List Entry) (ids : List LabelId) (id : LabelId) (own : IsOwn ids block inherited old middle id) where

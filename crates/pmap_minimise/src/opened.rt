@@ -11,8 +11,8 @@ use pmap_text::LabelId;
 use std::alloc::{AllocError, Global};
 use std::slice;
 
-// A chain whose bits are the last ones of `value`, with the line of a node that claims the side label alone, the line of
-// a side block, and both.
+// A chain whose bits are the last ones of `value`, with the line of a node that claims the side label alone, the line
+// of a side block, and both.
 #[derive(Clone, Copy)]
 struct Chain<'a> {
     cost: u32,
@@ -73,8 +73,8 @@ fn push_step(
     Ok(())
 }
 
-// Appends the lines of a chain's last `bits` nodes, and of the side blocks before the chain's end, by the set of the end.
-// The labels in `all` are replaced.
+// Appends the lines of a chain's last `bits` nodes, and of the side blocks before the chain's end, by the set of the
+// end. The labels in `all` are replaced.
 fn push_down(
     out: &mut Vec<u8>,
     all: &mut Vec<LabelId>,
@@ -84,7 +84,8 @@ fn push_down(
 ) -> Result<(), AllocError>
     requires { bits ≤ 128 }
     // The lines of the end and those of the side blocks after it complete those of the chain.
-    ensures { OnOk result ((end : AnyNode) → numbers_of set.now ≡ set_of end → chain.now.cost ≡ cost_above chain.now.side.0 end
+    ensures { OnOk result ((end : AnyNode) → numbers_of set.now ≡ set_of end
+        → chain.now.cost ≡ cost_above chain.now.side.0 end
         → out.new.items ++ (node_text end ++ text_up chain.now.side.0 chain.now.value bits)
         ≡ out.old.items ++ node_text (path_node chain.now.side.0 chain.now.value bits end)) }
 {
@@ -109,8 +110,8 @@ fn push_up(out: &mut Vec<u8>, path: &Path, side: LabelId, leaf: &[u8]) -> Result
     Ok(())
 }
 
-// Appends the lines of a chain, opened, with those of its end, at which the cursor is. The cursor moves past the end. The
-// labels in `all` and the texts in `texts` are replaced.
+// Appends the lines of a chain, opened, with those of its end, at which the cursor is. The cursor moves past the end.
+// The labels in `all` and the texts in `texts` are replaced.
 #[cycle(node)]
 fn push_chain(
     out: &mut Vec<u8>,
@@ -147,8 +148,8 @@ fn push_chain(
     push_up(out, path, side, texts.as_slice())
 }
 
-// Appends the lines of the node at the cursor, opened. The cursor moves past the node. The labels in `all` and the texts
-// in `texts` are replaced.
+// Appends the lines of the node at the cursor, opened. The cursor moves past the node. The labels in `all` and the
+// texts in `texts` are replaced.
 #[cycle(node)]
 fn push_node(
     out: &mut Vec<u8>,
