@@ -5,7 +5,7 @@ use Rattle.pmap_text.proofs.reading.Reading.read_address_line.Goals as goal
 
 pub returns-in-Some : goal.returns-in-Some
 returns-in-Some c =
-    rw (← c.split_word.ensures.word, ← c.read_addr.ensures, c.in-Some.is, ← c.split_word.ensures.rest) c.read_range-in-Some.ensures
+    rw (← c.split_word.ensures.word, ← c.read_addr.ensures, c.in-Some.is, ← c.split_word.ensures.rest) c.read_range.ensures
 
 -- the block of one address begins at it
 pub returns-in-None : goal.returns-in-None
