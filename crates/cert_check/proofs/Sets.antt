@@ -1,7 +1,8 @@
 -- Sets of labels by their numbers in ascending order.
 use Rattle.std.proofs.Common.{◌≡◌, ◌⊎◌, inl, inr, ℕ, zero, suc, ◌+◌, ◌^◌, ◌<◌, ◌≤◌, Bool, true, false, cond, not, ◌&&◌, ◌||◌, ◌==◌, List, [], ◌∷◌, Option, Some, None, drop, filter, get_or, length, map, nat_lt, slice_get, take, refl, sym, ap, ap₂, ◌∙◌, subst, arith}
 use Rattle.std.specs.List.{list_all}
-use Rattle.std.proofs.lemmas.Bool.{and_from, false≢true, ne_eqb}
+use Rattle.std.proofs.Math.Bool.{or-false}
+use Rattle.std.proofs.lemmas.Bool.{and_from, and_parts, eq-eqb, false≢true, ne_eqb, or_left, or_right}
 use Rattle.std.proofs.lemmas.Cmp.{nat_eq_equiv}
 use Rattle.std.proofs.lemmas.List.Folds.{list_all-append, list_all-map, list_all_at, list_all_more}
 use Rattle.std.proofs.lemmas.Option.{none-some, same_Some}
@@ -149,9 +150,6 @@ pub all-more : (p : LabelId → Bool) (set : List LabelId) (i : ℕ) (d : LabelI
     → list_all p (take i set) ≡ true → list_all p (take (i + 1) set) ≡ true
 all-more p set i d less here so_far = list_all_more p set i d less ∙ and_from (list_all p (take i set)) (p (get_or set i d)) so_far here
 
-pub all-fails : (p : LabelId → Bool) (set : List LabelId) (i : ℕ) (d : LabelId) → i < length set → p (get_or set i d) ≡ false → list_all p set ≡ false
-all-fails p set i d less here = list_all_at p set i d less here
-
 -- filtering labels by their numbers filters the numbers
 pub numbers-filter : (p : ℕ → Bool) (ids : List LabelId) → numbers (filter (λ i. p i.0) ids) ≡ filter p (numbers ids)
 numbers-filter p [] = refl
@@ -163,8 +161,8 @@ numbers-filter p (x ∷ ids) = by (p x.0) (numbers-filter p ids)
     by false rest = rest
 
 -- an ascending set of a table's numbers ascends below 2 ^ 32
-pub set-ascending : (count : ℕ) (ids : List LabelId) → count ≤ 65536 → IsAscending count 0 (numbers ids) → IsAscending (2 ^ 32) 0 (numbers ids)
-set-ascending count ids few h = ascending-bound count (2 ^ 32) 0 (numbers ids) (omega (arith, few)) h
+pub set_ascending : (count : ℕ) (ids : List LabelId) → count ≤ 65536 → IsAscending count 0 (numbers ids) → IsAscending (2 ^ 32) 0 (numbers ids)
+set_ascending count ids few h = ascending-bound count (2 ^ 32) 0 (numbers ids) (omega (arith, few)) h
 
 -- the common labels of two sets have the common numbers
 pub both-numbers : (lower upper both : List LabelId) → both ≡ filter (λ i. has_number (numbers upper) i.0) lower → numbers both ≡ filter (has_number (numbers upper)) (numbers lower)
@@ -235,6 +233,26 @@ all-common p t (x ∷ ids) = by (p x) (all-common p t ids)
         → ((not b || t x) && list_all (λ (i : LabelId). not (p i) || t i) ids) ≡ list_all t (cond b (x ∷ filter p ids) (filter p ids))
     by true rest = ap (λ a. t x && a) rest
     by false rest = rest
+
+-- labels are apart from others exactly if they have none in common that an empty set lacks
+pub apart-alone : (p : LabelId → Bool) (ids : List LabelId) → list_all (λ i. not (p i) || false) ids ≡ list_all (λ i. not (p i)) ids
+apart-alone p [] = refl
+apart-alone p (x ∷ ids) = ap₂ ◌&&◌ (or-false (not (p x))) (apart-alone p ids)
+
+-- a set has all labels exactly if it has those that they have in common with themselves
+has-themselves : (ids all : List LabelId) → ((n : ℕ) → has_number (numbers ids) n ≡ true → has_number (numbers all) n ≡ true)
+    → list_all (λ i. has_number (numbers all) i.0) ids ≡ true
+has-themselves [] all within = refl
+has-themselves (x ∷ ids) all within =
+    and_from _ _ (within x.0 (or_left _ _ (eq-eqb x.0 x.0 refl))) (has-themselves ids all (λ n h. within n (or_right _ _ h)))
+
+all-implied : (p t : LabelId → Bool) (ids : List LabelId) → list_all p ids ≡ true → list_all (λ i. not (p i) || t i) ids ≡ list_all t ids
+all-implied p t [] h = refl
+all-implied p t (x ∷ ids) h =
+    let parts = and_parts (p x) (list_all p ids) h in ap₂ ◌&&◌ (ap (λ b. not b || t x) parts.0) (all-implied p t ids parts.1)
+
+pub all-themselves : (t : LabelId → Bool) (ids : List LabelId) → list_all (λ i. not (has_number (numbers ids) i.0) || t i) ids ≡ list_all t ids
+all-themselves t ids = all-implied (λ i. has_number (numbers ids) i.0) t ids (has-themselves ids ids (λ n h. h))
 
 -- The fault of a chain's claim, by the numbers of its set, its side label and its end's set.
 module _ (table : List Label) (ok : IsLabelTable table) (n cost below side : ℕ) (set ends : List ℕ)

@@ -1,6 +1,6 @@
 -- The results of a walk over a tree, by those over the trees below it.
 use Rattle.std.proofs.Math.Seq.{drop-append_seam, take-append_seam}
-use Rattle.std.proofs.lemmas.List.{append-nil, append_assoc, length-append}
+use Rattle.std.proofs.lemmas.List.{append-nil, append_assoc, length-append, length-drop, length-take-le, take-append-drop}
 use Rattle.std.proofs.Common.{◌≡◌, ◌∙◌, ℕ, drop, take, suc, ◌+◌, ◌-◌, ◌*◌, ◌≤◌, Bool, List, [], ◌∷◌, ◌++◌, length, Option, Some, None, Result, Ok, Err, option_map, sym, ap, subst, arith}
 use Rattle.std.specs.Option.{option_or}
 use Rattle.pmap_text.specs.MapText.{map_of, text_at}
@@ -257,18 +257,26 @@ piece xs before part rest i j e at to =
     let count : j - i ≡ length part = omega (arith, at, to) in
     (λ k. take (count k) (drop (at k) (e k))) ∙ ap (take (length part)) (drop-append_seam before (part ++ rest)) ∙ take-append_seam part rest
 
--- the sets of a node and of two nodes below it, or of one, in the order in which they are added
-pub record ArePieces (items old own lower upper : List LabelId) : Type 0 where
-  pub first : items ≡ old ++ (own ++ (lower ++ upper))
-  pub second : items ≡ (old ++ own) ++ (lower ++ upper)
-  pub third : items ≡ ((old ++ own) ++ lower) ++ (upper ++ [])
+-- the set of a node at the end of some sets, and those of two nodes below it after them, the second of which may be empty
+module _ (sets mid items low up : List LabelId) (from at_low at_up : ℕ) (within : from ≤ length sets) (mid_is : mid ≡ sets ++ low) (items_is : items ≡ mid ++ up)
+    (low_at : at_low ≡ length sets) (up_at : at_up ≡ length mid) where
+  all : items ≡ sets ++ (low ++ up)
+  all = items_is ∙ ap (λ (ids : List LabelId). ids ++ up) mid_is ∙ append_assoc sets low up
 
-pub pieces : (items one two old own lower upper : List LabelId) → one ≡ old ++ own → two ≡ one ++ lower → items ≡ two ++ upper → ArePieces items old own lower upper
-pieces items one two old own lower upper e e' e'' =
-    let all : items ≡ ((old ++ own) ++ lower) ++ upper = e'' ∙ ap (λ (xs : List LabelId). xs ++ upper) (e' ∙ ap (λ (xs : List LabelId). xs ++ lower) e) in
-    let second : items ≡ (old ++ own) ++ (lower ++ upper) = all ∙ append_assoc (old ++ own) lower upper in
-    record {
-      first = second ∙ append_assoc old own (lower ++ upper);
-      second = second;
-      third = all ∙ ap (λ (xs : List LabelId). ((old ++ own) ++ lower) ++ xs) (sym (append-nil upper));
-    }
+  pub own-piece : take (at_low - from) (drop from items) ≡ drop from sets
+  own-piece =
+      piece items (take from sets) (drop from sets) (low ++ up) from at_low
+      (all ∙ ap (λ (ids : List LabelId). ids ++ (low ++ up)) (sym (take-append-drop from sets)) ∙ append_assoc (take from sets) (drop from sets) (low ++ up))
+      (sym (length-take-le from sets within)) (omega (arith, length-take-le from sets within, length-drop from sets, low_at, within))
+
+  pub low-piece : take (at_up - at_low) (drop at_low items) ≡ low
+  low-piece =
+      piece items sets low up at_low at_up all low_at (up_at ∙ ap (λ (ids : List LabelId). length ids) mid_is ∙ length-append sets low)
+
+  pub up-piece : take (length items - at_up) (drop at_up items) ≡ up
+  up-piece =
+      piece items mid up [] at_up (length items) (items_is ∙ ap (λ (ids : List LabelId). mid ++ ids) (sym (append-nil up))) up_at
+      (ap (λ (ids : List LabelId). length ids) items_is ∙ length-append mid up)
+
+  pub sets-kept : take at_low items ≡ take from sets ++ drop from sets
+  sets-kept = (λ i. take (low_at i) (all i)) ∙ take-append_seam sets (low ++ up) ∙ sym (take-append-drop from sets)

@@ -48,21 +48,6 @@ fn has_one(set: &[LabelId], id: LabelId) -> bool
     begins_with(rest_from(set, id), id)
 }
 
-fn are_apart(lower: &[LabelId], upper: &[LabelId]) -> bool
-    requires lower { IsAscending (2 ^ 32) 0 (map (λ i. i.0) lower.now) }
-    requires upper { IsAscending (2 ^ 32) 0 (map (λ i. i.0) upper.now) }
-    ensures { result ≡ list_all (λ i. not (has_number (map (λ j. j.0) upper.now) i.0)) lower.now }
-{
-    let mut rest = upper;
-    for id in lower {
-        rest = rest_from(rest, *id);
-        if begins_with(rest, *id) {
-            return false;
-        }
-    }
-    true
-}
-
 // Whether the set has each label that two others have in common.
 fn has_common(set: &[LabelId], lower: &[LabelId], upper: &[LabelId]) -> bool
     requires set { IsAscending (2 ^ 32) 0 (map (λ i. i.0) set.now) }
@@ -83,19 +68,20 @@ fn has_common(set: &[LabelId], lower: &[LabelId], upper: &[LabelId]) -> bool
     true
 }
 
+fn are_apart(lower: &[LabelId], upper: &[LabelId]) -> bool
+    requires lower { IsAscending (2 ^ 32) 0 (map (λ i. i.0) lower.now) }
+    requires upper { IsAscending (2 ^ 32) 0 (map (λ i. i.0) upper.now) }
+    ensures { result ≡ list_all (λ i. not (has_number (map (λ j. j.0) upper.now) i.0)) lower.now }
+{
+    has_common(&[], lower, upper)
+}
+
 fn has_all(set: &[LabelId], labels: &[LabelId]) -> bool
     requires set { IsAscending (2 ^ 32) 0 (map (λ i. i.0) set.now) }
     requires labels { IsAscending (2 ^ 32) 0 (map (λ i. i.0) labels.now) }
     ensures { result ≡ list_all (λ i. has_number (map (λ j. j.0) set.now) i.0) labels.now }
 {
-    let mut rest = set;
-    for id in labels {
-        rest = rest_from(rest, *id);
-        if !begins_with(rest, *id) {
-            return false;
-        }
-    }
-    true
+    has_common(set, labels, labels)
 }
 
 // Whether the set has each label of two others.
@@ -124,6 +110,7 @@ fn fault_by(cost: u64, exact_cost: u64, has_exact_set: bool) -> Option<CheckFaul
 }
 
 /// Returns the fault of an inner node's claim, if any, by the claims of the nodes of its halves.
+#[tactic(auto, using(crate::proofs::Sets::set_ascending))]
 pub fn claim_fault(
     labels: &Labels,
     claim: Claim,
@@ -148,6 +135,7 @@ pub fn claim_fault(
 }
 
 /// Returns the fault of the claim of a chain with this path and side label, if any, by the claim of the node at its end.
+#[tactic(auto, using(crate::proofs::Sets::set_ascending))]
 pub fn chain_fault(
     labels: &Labels,
     claim: Claim,

@@ -1,23 +1,11 @@
-use Rattle.std.proofs.Common.{◌≡◌, ◌∙◌, ◌+◌, ◌&&◌, Bool, ap, arith, length, sym}
+use Rattle.std.proofs.Common.{◌≡◌, ◌∙◌, ◌+◌, ◌&&◌, Bool, ap, length, sym}
 use Rattle.std.specs.List.{list_all}
 use Rattle.pmap_text.specs.declared.label.LabelId.{LabelId}
 use Rattle.pmap_cert.specs.Packed.{bits_in}
 use Rattle.cert_check.specs.Inner.{has_number}
-use Rattle.cert_check.proofs.Sets.{all-numbers, chain-in, chain-more, chain-one, fault_by, numbers, set-ascending}
+use Rattle.cert_check.proofs.Sets.{all-numbers, chain-in, chain-more, chain-one, fault_by, numbers}
 use Rattle.cert_check.proofs.claims.chain_fault.Goals as goal
 use Rattle.cert_check.proofs.claims.chain_fault.Goals.{else-has_side, then-has_side}
-
-pub has_one-has_side-requires : goal.has_one-has_side-requires
-has_one-has_side-requires c = set-ascending (length c.args.labels.now) c.args.claim.set.now (omega (arith, c.len-count.ensures.few, c.len-count.ensures.value)) c.requires.claim
-
-pub has_one-requires : goal.has_one-requires
-has_one-requires c = set-ascending (length c.args.labels.now) c.args.end.set.now (omega (arith, c.len-count.ensures.few, c.len-count.ensures.value)) c.requires.end
-
-pub has_all-requires-clause-set : goal.has_all-requires-clause-set
-has_all-requires-clause-set c = set-ascending (length c.args.labels.now) c.args.claim.set.now (omega (arith, c.len-count.ensures.few, c.len-count.ensures.value)) c.requires.claim
-
-pub has_all-requires-clause-labels : goal.has_all-requires-clause-labels
-has_all-requires-clause-labels c = set-ascending (length c.args.labels.now) c.args.end.set.now (omega (arith, c.len-count.ensures.few, c.len-count.ensures.value)) c.requires.end
 
 pub returns-then-has_one : goal.returns-then-has_one
 returns-then-has_one c =

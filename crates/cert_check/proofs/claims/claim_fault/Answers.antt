@@ -1,32 +1,8 @@
-use Rattle.std.proofs.Common.{◌+◌, ◌∙◌, List, arith, filter, length, refl, sym}
+use Rattle.std.proofs.Common.{◌+◌, ◌∙◌, List, filter, refl, sym}
 use Rattle.pmap_text.specs.declared.label.LabelId.{LabelId}
 use Rattle.cert_check.specs.Inner.{has_number}
-use Rattle.cert_check.proofs.Sets.{all-common, apart-none, apart-some, fault_by, halves-apart, halves-common, numbers, set-ascending}
+use Rattle.cert_check.proofs.Sets.{all-common, apart-none, apart-some, fault_by, halves-apart, halves-common, numbers}
 use Rattle.cert_check.proofs.claims.claim_fault.Goals as goal
-
-pub are_apart-requires-clause-lower : goal.are_apart-requires-clause-lower
-are_apart-requires-clause-lower c = set-ascending (length c.args.labels.now) c.args.left.set.now (omega (arith, c.len-count.ensures.few, c.len-count.ensures.value)) c.requires.left
-
-pub are_apart-requires-clause-upper : goal.are_apart-requires-clause-upper
-are_apart-requires-clause-upper c = set-ascending (length c.args.labels.now) c.args.right.set.now (omega (arith, c.len-count.ensures.few, c.len-count.ensures.value)) c.requires.right
-
-pub has_both-requires-clause-set : goal.has_both-requires-clause-set
-has_both-requires-clause-set c = set-ascending (length c.args.labels.now) c.args.claim.set.now (omega (arith, c.len-count.ensures.few, c.len-count.ensures.value)) c.requires.claim
-
-pub has_both-requires-clause-lower : goal.has_both-requires-clause-lower
-has_both-requires-clause-lower c = set-ascending (length c.args.labels.now) c.args.left.set.now (omega (arith, c.len-count.ensures.few, c.len-count.ensures.value)) c.requires.left
-
-pub has_both-requires-clause-upper : goal.has_both-requires-clause-upper
-has_both-requires-clause-upper c = set-ascending (length c.args.labels.now) c.args.right.set.now (omega (arith, c.len-count.ensures.few, c.len-count.ensures.value)) c.requires.right
-
-pub has_common-requires-clause-set : goal.has_common-requires-clause-set
-has_common-requires-clause-set c = set-ascending (length c.args.labels.now) c.args.claim.set.now (omega (arith, c.len-count.ensures.few, c.len-count.ensures.value)) c.requires.claim
-
-pub has_common-requires-clause-lower : goal.has_common-requires-clause-lower
-has_common-requires-clause-lower c = set-ascending (length c.args.labels.now) c.args.left.set.now (omega (arith, c.len-count.ensures.few, c.len-count.ensures.value)) c.requires.left
-
-pub has_common-requires-clause-upper : goal.has_common-requires-clause-upper
-has_common-requires-clause-upper c = set-ascending (length c.args.labels.now) c.args.right.set.now (omega (arith, c.len-count.ensures.few, c.len-count.ensures.value)) c.requires.right
 
 pub returns-then-are_apart : goal.returns-then-are_apart
 returns-then-are_apart c =

@@ -1,7 +1,6 @@
-use Rattle.std.proofs.Common.{◌≡◌, ◌∙◌, ◌+◌, ◌-◌, ◌++◌, ◌∷◌, [], ℕ, Bool, List, Ok, ap, arith, drop, length, option_map, refl, subst, sym, take}
-use Rattle.std.proofs.Math.Seq.{take-append_seam}
+use Rattle.std.proofs.Common.{◌≡◌, ◌∙◌, ◌+◌, ◌-◌, ◌∷◌, [], ℕ, Bool, List, Ok, ap, arith, drop, length, option_map, refl, subst, sym, take}
 use Rattle.std.proofs.lemmas.Result.{err_from_is_err_and}
-use Rattle.std.proofs.lemmas.List.{append-nil, length-append, length-take-le, take-append-drop}
+use Rattle.std.proofs.lemmas.List.{append-nil}
 use Rattle.prefix_keys.specs.Block.{width_of}
 use Rattle.pmap_text.specs.MapText.{map_of, text_at}
 use Rattle.pmap_text.specs.PrefixList.{list_of}
@@ -18,7 +17,7 @@ use Rattle.pmap_cert.proofs.ReadingSteps.{chain-below, chain-over, deeper, due_i
 use Rattle.cert_check.specs.Checking.{claim_fault, fault_of_number, node_fault}
 use Rattle.cert_check.specs.Inner.{IsAnswer, Read, chain_reading, claim_with, fault_of_node, halves_reading, reading_at}
 use Rattle.cert_check.proofs.Sets.{numbers}
-use Rattle.cert_check.proofs.Walks.{below-passed, end-answer, halves-passed, held-at, lower-failed, own-answer, piece, pieces, rest-failed, rest-passed, upper-failed}
+use Rattle.cert_check.proofs.Walks.{below-passed, end-answer, halves-passed, held-at, low-piece, lower-failed, own-answer, own-piece, rest-failed, rest-passed, sets-kept, up-piece, upper-failed}
 use Rattle.cert_check.proofs.walk.+nodes.Goals as goal
 
 pub check_node-returns-in_err-id : goal.check_node-returns-in_err-id
@@ -192,32 +191,19 @@ check_inner-returns t c =
     let lower = c.in-Ok.ensures in
     let upper = c.in_ok-upper_cost.ensures in
     let last = c.check_node-2.new.walk in
-    let old = take c.args.held.from walk.sets.items in
-    let held : walk.sets.items ≡ old ++ own = sym (take-append-drop c.args.held.from walk.sets.items) in
-    let from : c.args.held.from ≡ length old = sym (length-take-le c.args.held.from walk.sets.items c.requires.held.within) in
-    let are = pieces last.sets.items walk.sets.items c.check_node.new.walk.sets.items old own lower.set upper.set held lower.sets upper.sets in
-    let one : length walk.sets.items ≡ length old + length own = ap (λ (xs : List LabelId). length xs) held ∙ length-append old own in
-    let two : length c.check_node.new.walk.sets.items ≡ length walk.sets.items + length lower.set =
-    ap (λ (xs : List LabelId). length xs) lower.sets ∙ length-append walk.sets.items lower.set in
-    let three : length last.sets.items ≡ length c.check_node.new.walk.sets.items + length upper.set =
-    ap (λ (xs : List LabelId). length xs) upper.sets ∙ length-append c.check_node.new.walk.sets.items upper.set in
-    let first = piece last.sets.items old own (lower.set ++ upper.set) c.args.held.from c.len-lower.result are.first from ((c.len-lower.ensures ∙ walk.sets.ok.0) ∙ one) in
-    let second = piece last.sets.items (old ++ own) lower.set upper.set c.len-lower.result c.len-upper.result are.second
-    ((c.len-lower.ensures ∙ walk.sets.ok.0) ∙ ap (λ (xs : List LabelId). length xs) held) ((c.len-upper.ensures ∙ c.check_node.new.walk.sets.ok.0) ∙ two ∙ ap (λ (xs : List LabelId). length xs + length lower.set) held) in
-    let third = piece last.sets.items ((old ++ own) ++ lower.set) upper.set [] c.len-upper.result (length last.sets.items) are.third
-    ((c.len-upper.ensures ∙ c.check_node.new.walk.sets.ok.0) ∙ ap (λ (xs : List LabelId). length xs) (lower.sets ∙ ap (λ (xs : List LabelId). xs ++ lower.set) held))
-    (three ∙ ap (λ (xs : List LabelId). length xs + length upper.set) (lower.sets ∙ ap (λ (xs : List LabelId). xs ++ lower.set) held)) in
+    let low_at = c.len-lower.ensures ∙ walk.sets.ok.0 in
+    let up_at = c.len-upper.ensures ∙ c.check_node.new.walk.sets.ok.0 in
+    let first = own-piece _ _ _ _ _ _ _ _ c.requires.held.within lower.sets upper.sets low_at up_at in
+    let second = low-piece _ _ _ _ _ _ _ _ c.requires.held.within lower.sets upper.sets low_at up_at in
+    let third = up-piece _ _ _ _ _ _ _ _ c.requires.held.within lower.sets upper.sets low_at up_at in
     rw c.unless_fault.ensures
     (halves-passed s c.args.part.now c.halves.result.0 c.halves.result.1 c.halves.ensures.halves c.args.held.cost (numbers own) walk.lines c.args.number walk.number c.requires.number
-    walk.sets.items c.check_node.new.walk c.in-Ok.cost lower c.check_node.new.walk.sets.items old last
+    walk.sets.items c.check_node.new.walk c.in-Ok.cost lower c.check_node.new.walk.sets.items (take c.args.held.from walk.sets.items) last
     (record { lines = last.lines; kept = last.kept; number = last.number; sets = c.truncate.new.self }) c.in_ok-upper_cost.upper_cost own c.claim_fault-fault.result upper refl c.requires.held.ascending
     (rw c.as_slice-sets.ensures.value at c.claim_fault-fault.ensures
     ∙ (λ i. claim_fault (claim_with table c.args.held.cost (numbers (first i)))
     (exact_claim (claim_with table c.in-Ok.cost (numbers (second i))) (claim_with table c.in_ok-upper_cost.upper_cost (numbers (third i))))))
-    refl refl
-    (c.truncate.ensures.items ∙ ap (λ (k : ℕ). take k last.sets.items) (c.len-lower.ensures ∙ walk.sets.ok.0)
-    ∙ ap (take (length walk.sets.items)) (are.second ∙ ap (λ (xs : List LabelId). xs ++ (lower.set ++ upper.set)) (sym held))
-    ∙ take-append_seam walk.sets.items (lower.set ++ upper.set) ∙ held))
+    refl refl (c.truncate.ensures.items ∙ sets-kept _ _ _ _ _ _ _ _ c.requires.held.within lower.sets upper.sets low_at up_at))
 
 pub check_chain-returns : goal.check_chain-returns
 check_chain-returns t c =
@@ -228,26 +214,18 @@ check_chain-returns t c =
     let bits = bits_in c.args.path.now in
     let below = c.in_ok-end_cost.ensures in
     let last = c.check_below.new.walk in
-    let old = take c.args.held.from walk.sets.items in
-    let held : walk.sets.items ≡ old ++ own = sym (take-append-drop c.args.held.from walk.sets.items) in
-    let from : c.args.held.from ≡ length old = sym (length-take-le c.args.held.from walk.sets.items c.requires.held.within) in
-    let are = pieces last.sets.items walk.sets.items last.sets.items old own below.set [] held below.sets (sym (append-nil last.sets.items)) in
-    let one : length walk.sets.items ≡ length old + length own = ap (λ (xs : List LabelId). length xs) held ∙ length-append old own in
-    let two : length last.sets.items ≡ length walk.sets.items + length below.set = ap (λ (xs : List LabelId). length xs) below.sets ∙ length-append walk.sets.items below.set in
-    let first = piece last.sets.items old own (below.set ++ []) c.args.held.from c.len-end.result are.first from ((c.len-end.ensures ∙ walk.sets.ok.0) ∙ one) in
-    let second = piece last.sets.items (old ++ own) below.set [] c.len-end.result (length last.sets.items) are.second
-    ((c.len-end.ensures ∙ walk.sets.ok.0) ∙ ap (λ (xs : List LabelId). length xs) held) (two ∙ ap (λ (xs : List LabelId). length xs + length below.set) held) in
+    let at = c.len-end.ensures ∙ walk.sets.ok.0 in
+    let none = sym (append-nil last.sets.items) in
+    let first = own-piece _ _ _ _ _ _ _ (length last.sets.items) c.requires.held.within below.sets none at refl in
+    let second = low-piece _ _ _ _ _ _ _ (length last.sets.items) c.requires.held.within below.sets none at refl in
     rw c.unless_fault.ensures
     (below-passed s c.args.part.now c.args.held.cost (numbers own) bits c.args.side.0 walk.lines c.args.number
-    walk.sets.items old last
+    walk.sets.items (take c.args.held.from walk.sets.items) last
     (record { lines = last.lines; kept = last.kept; number = last.number; sets = c.truncate.new.self }) c.in_ok-end_cost.end_cost own c.chain_fault-fault.result below refl c.requires.held.ascending
     (rw c.as_slice-sets.ensures.value at c.chain_fault-fault.ensures
     ∙ (λ i. claim_fault (claim_with table c.args.held.cost (numbers (first i)))
     (chain_claim (length bits) (text_at table c.args.side.0) (claim_with table c.in_ok-end_cost.end_cost (numbers (second i))))))
-    refl refl
-    (c.truncate.ensures.items ∙ ap (λ (k : ℕ). take k last.sets.items) (c.len-end.ensures ∙ walk.sets.ok.0)
-    ∙ ap (take (length walk.sets.items)) (are.second ∙ ap (λ (xs : List LabelId). xs ++ (below.set ++ [])) (sym held))
-    ∙ take-append_seam walk.sets.items (below.set ++ []) ∙ held))
+    refl refl (c.truncate.ensures.items ∙ sets-kept _ _ _ _ _ _ _ (length last.sets.items) c.requires.held.within below.sets none at refl))
 
 pub check_below-clear_end-requires-clause-room : goal.check_below-clear_end-requires-clause-room
 check_below-clear_end-requires-clause-room t c =
