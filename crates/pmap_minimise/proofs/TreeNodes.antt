@@ -1,14 +1,11 @@
--- The certificate's node of a trie's tree.
-use Rattle.std.proofs.Common.{◌≡◌, ℕ, zero, suc, ◌+◌, ◌-◌, ◌*◌, ◌^◌, ◌<◌, ◌≤◌, ◌++◌, List, [], Option, Some, None, All, IsSome, length, refl, sym, subst, arith, length-append, true≢false}
-use Rattle.std.proofs.lemmas.List.Elements.{All-head}
-use Rattle.pmap_text.specs.declared.label.LabelId.{LabelId}
+-- The certificate's node of a tree.
+use Rattle.std.proofs.Common.{◌≡◌, ℕ, zero, suc, ◌+◌, ◌-◌, ◌*◌, ◌^◌, ◌<◌, ◌≤◌, ◌++◌, Some, None, length, refl, sym, subst, arith, length-append}
 use Rattle.pmap_cert.specs.Node.{Chain, Inner, Leaf, Node, cost_of, set_of}
-use Rattle.label_trie.specs.Tree.{IsOfTree, Fork, HasRoom, IsLabelled, Tip, Tree, leaf_count, leaves_of}
-use Rattle.label_trie.specs.TrieModel.{LeafModel, TrieModel}
+use Rattle.label_trie.specs.Tree.{Fork, HasRoom, Tip, Tree, leaf_count, leaves_of}
 use Rattle.label_trie.proofs.NodeLeaves.{inner_unsettled}
 use Rattle.pmap_minimise.specs.Numbers.{IsCertified, IsNodeFor, IsJoined, IsSound}
 use Rattle.pmap_minimise.specs.Opened.{Opens}
-use Rattle.pmap_minimise.proofs.Joined.{all-left, all-right, joined-certified, leaf-certified}
+use Rattle.pmap_minimise.proofs.Joined.{joined-certified, leaf-certified}
 use Rattle.pmap_minimise.proofs.Texts.{exact-cost}
 
 -- the node of a tree costs less than the tree has leaves
@@ -26,25 +23,7 @@ node-cost (Fork low high) node is =
     let c = joined-cost is.0 is.1 node is.4 in
     omega arith
 
--- each leaf has a label
-abbrev HasLabel : LeafModel → Type 0
-HasLabel leaf = IsSome leaf.label
-
-tip-labelled : (label : Option LabelId) (n q : ℕ) → All HasLabel (leaves_of (Tip label) n q) → IsLabelled (Tip label)
-tip-labelled (Some id) n q all = refl
-tip-labelled None n q all = absurd (true≢false (sym (All-head HasLabel (record { bits = n; number = q; label = None }) [] all)))
-
-tree-labelled : (t : Tree) (n q : ℕ) → All HasLabel (leaves_of t n q) → IsLabelled t
-tree-labelled (Tip label) n q all = tip-labelled label n q all
-tree-labelled (Fork low high) n q all = (
-  tree-labelled low (suc n) (2 * q) (all-left HasLabel (leaves_of (Fork low high) n q) (leaves_of low (suc n) (2 * q)) (leaves_of high (suc n) (2 * q + 1)) refl all),
-  tree-labelled high (suc n) (2 * q + 1) (all-right HasLabel (leaves_of (Fork low high) n q) (leaves_of low (suc n) (2 * q)) (leaves_of high (suc n) (2 * q + 1)) refl all),
-)
-
-pub trie-labelled : (t : TrieModel) (of : IsOfTree t) → All HasLabel t.leaves → IsLabelled of.tree
-trie-labelled t of labelled = tree-labelled of.tree 0 0 (subst (λ (l : List LeafModel). All HasLabel l) of.leaves labelled)
-
--- the node of a trie's tree is the certificate's
+-- the node of a tree is the certificate's
 pub tree-certified : (t : Tree) (n q h : ℕ) (node : Node) → HasRoom t h → IsNodeFor t node → length (leaves_of t n q) < 2 ^ 32
     → IsCertified n q h (leaves_of t n q) node
 tree-certified (Tip None) n q h node room is few = absurd is

@@ -3,4 +3,3 @@ pub mod Listing
 pub mod Runs
 pub mod Opened
 pub mod Built
-pub mod Claims

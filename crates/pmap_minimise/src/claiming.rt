@@ -1,44 +1,29 @@
-//! Builds the certificate of a map's minimal pair from the map's trie, from the last node to the first.
-ghost use Rattle.std.specs.Prelude.{◌≡◌, ◌+◌, ◌-◌, ◌<◌, ◌++◌, ◌∷◌, [], All, IfOk, IsSome, OnOk, length};
+//! Builds the certificate of a map's minimal pair from the map's trie, from the leaves up.
+ghost use Rattle.std.specs.Prelude.{◌^◌, ◌<◌, All, IfOk, IsSome, OnOk, length};
 ghost use Rattle.prefix_keys.specs.Block.{width_of};
-ghost use Rattle.pmap_minimise.specs.Claims.{IsClaimedFrom};
+ghost use Rattle.pmap_minimise.specs.Built.{IsClaimed};
 ghost use Rattle.pmap_minimise.specs.Numbers.{IsCertified};
 
 use crate::building::push_inner;
-use label_trie::{Kind, Trie};
+use label_trie::{Cursor, Parts, Trie};
 use pmap_cert::{Node, Nodes, Root};
 use std::alloc::{AllocError, Global};
 
-fn pop(tops: &mut Vec<usize>) -> usize
-    requires { 0 < length tops.old.items }
-    ensures { tops.old.items ≡ tops.new.items ++ result ∷ [] }
+// Adds the lines of the node for the block at the cursor, in reverse order.
+fn push_node(alloc: Global, nodes: &mut Nodes, place: &Cursor) -> Result<(), AllocError>
+    requires labelled { All (λ leaf. IsSome leaf.label) place.now.leaves }
+    requires few { length place.now.leaves < 2 ^ 32 }
+    ensures { OnOk result (IsClaimed place.now nodes.old nodes.new) }
 {
-    let Some(top) = tops.pop() else {
-        unreachable!()
-    };
-    top
-}
-
-// Adds the line of the node with this number. Takes the indexes of its halves' lines from `tops`: the lower half's is
-// that of the last line.
-fn push_node(
-    alloc: Global,
-    nodes: &mut Nodes,
-    tops: &mut Vec<usize>,
-    trie: &Trie,
-    number: u32,
-) -> Result<(), AllocError>
-    requires { IsClaimedFrom trie.now (number + 1) nodes.old tops.old.items }
-    ensures { OnOk result (IsClaimedFrom trie.now number nodes.new (tops.new.items ++ (length nodes.new - 1) ∷ [])) }
-{
-    match trie.kind(number) {
-        Kind::Leaf(label) => {
+    match place.parts() {
+        Parts::Leaf(label) => {
             let Some(id) = label else { unreachable!() };
             nodes.push(Node::Leaf(id))
         }
-        Kind::Divided => {
-            pop(tops);
-            let upper = pop(tops);
+        Parts::Inner(low, high) => {
+            push_node(alloc, nodes, &high)?;
+            let upper = nodes.len() - 1;
+            push_node(alloc, nodes, &low)?;
             push_inner(alloc, nodes, upper)
         }
     }
@@ -50,13 +35,7 @@ pub fn claimed(alloc: Global, trie: &Trie) -> Result<Root, AllocError>
     requires { All (λ leaf. IsSome leaf.label) trie.now.leaves }
     ensures { IfOk result (IsCertified 0 0 (width_of trie.now.version) trie.now.leaves) }
 {
-    let mut left = trie.node_count();
-    let mut nodes = Nodes::with_capacity(alloc, left as usize, 0)?;
-    let mut tops = Vec::new(alloc);
-    while left > 0 {
-        left -= 1;
-        push_node(alloc, &mut nodes, &mut tops, trie, left)?;
-        tops.push(nodes.len() - 1)?;
-    }
+    let mut nodes = Nodes::with_capacity(alloc, trie.node_count() as usize, 0)?;
+    push_node(alloc, &mut nodes, &trie.root())?;
     Ok(Root::of_reversed(nodes))
 }
