@@ -23,6 +23,7 @@
 mod blocks;
 mod fault;
 mod filter;
+mod item;
 mod items;
 mod laws;
 mod number;

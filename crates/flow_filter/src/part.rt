@@ -3,15 +3,15 @@ ghost use Rattle.label_lookup.specs.Labelling.{label_where, labelling_lent};
 ghost use Rattle.std.specs.List.{list_any};
 ghost use Rattle.std.specs.Option.{option_eq};
 ghost use Rattle.std.specs.Str.{bytes_eq};
-ghost use Rattle.flow_filter.specs.Condition.{in_range, is_malformed, meets};
-ghost use Rattle.flow_filter.specs.Filters.{IsRefused, number_of};
+ghost use Rattle.flow_filter.specs.Condition.{is_malformed, meets};
+ghost use Rattle.flow_filter.specs.Filters.{IsRefused, allows, number_of};
 ghost use Rattle.flow_filter.specs.Options.{is_on_labels};
 
-use crate::blocks::place_of;
+use crate::blocks::covers;
 use crate::fault::FilterFaultKind;
-use crate::items::{push, read_ranges};
+use crate::item::Item;
+use crate::items::{push, read_items};
 use crate::option::FilterOption;
-use crate::range::Range;
 use flow_rows::Row;
 use label_lookup::{Labeller, label_row_under};
 use prefix_keys::Addr;
@@ -23,22 +23,22 @@ use std::marker::Model;
 pub struct ReadPart<'a> {
     option: FilterOption,
     text: &'a str,
-    // The ranges of the items of the text, unless it is a label.
-    ranges: Vec<Range>,
+    // The items of the text, unless it is a label.
+    items: Vec<Item>,
 }
 
 impl<'a> Model for ReadPart<'a> {
     ghost use Rattle.flow_filter.specs.Condition.{Part};
-    ghost use Rattle.flow_filter.specs.Filters.{HasRanges};
+    ghost use Rattle.flow_filter.specs.Filters.{HasItems};
 
     ghost Value = { Part };
 
     ghost view = { λ p. (p.option, p.text.now) };
 
-    ghost invariant = { λ p. HasRanges (p.option, p.text.now) p.ranges.items };
+    ghost invariant = { λ p. HasItems (p.option, p.text.now) p.items.items };
 }
 
-// Returns the number that an option compares. That of an address is its number as an IPv6 address.
+// Returns the number that an option compares.
 fn number_of(option: FilterOption, row: &Row<'_>) -> u128
     ensures { result ≡ number_of option row.now }
 {
@@ -46,21 +46,31 @@ fn number_of(option: FilterOption, row: &Row<'_>) -> u128
         FilterOption::Protocol => u128::from(row.protocol()),
         FilterOption::SourcePort => u128::from(row.sport()),
         FilterOption::DestinationPort => u128::from(row.dport()),
-        FilterOption::SourceAddress => place_of(row.src()),
-        FilterOption::DestinationAddress => place_of(row.dst()),
         FilterOption::Packets => u128::from(row.packets()),
         FilterOption::Bytes => u128::from(row.octets()),
         _ => 0,
     }
 }
 
-// Returns `true` if the number is in one of the ranges.
-fn is_in(number: u128, ranges: &[Range]) -> bool
-    ensures { result ≡ list_any (in_range number) ranges.now }
+// Returns `true` if the item of the option allows the row.
+fn allows(option: FilterOption, item: &Item, row: &Row<'_>) -> bool
+    ensures { result ≡ allows option item.now row.now }
 {
-    ranges
-        .iter()
-        .any(|range| range.low <= number && number <= range.high)
+    match item {
+        Item::Numbers(range) => {
+            let number = number_of(option, row);
+            range.low <= number && number <= range.high
+        }
+        Item::Source(block) => covers(block, row.src()),
+        Item::Destination(block) => covers(block, row.dst()),
+    }
+}
+
+// Returns `true` if one of the items allows the row.
+fn any_allows(option: FilterOption, items: &[Item], row: &Row<'_>) -> bool
+    ensures { result ≡ list_any (λ item. allows option item row.now) items.now }
+{
+    items.iter().any(|item| allows(option, item, row))
 }
 
 // Returns `true` if the address has this label.
@@ -81,11 +91,11 @@ pub fn add_part<'a>(
     ensures ok { OnOk result ((parts.new.items ≡ parts.old.items ++ (option, text.entry.now) ∷ []) × (is_malformed (option, text.entry.now) ≡ false)) }
     ensures err { IfErr result (IsRefused (option, text.entry.now)) }
 {
-    let ranges = read_ranges(alloc, option, text.as_bytes())?;
+    let items = read_items(alloc, option, text.as_bytes())?;
     let part = ReadPart {
         option,
         text,
-        ranges,
+        items,
     };
     push(parts, part)
 }
@@ -99,7 +109,7 @@ impl<'a> ReadPart<'a> {
         if self.is_on_labels() {
             return self.meets_label(row, labeller);
         }
-        is_in(number_of(self.option, row), self.ranges.as_slice())
+        any_allows(self.option, self.items.as_slice(), row)
     }
 
     // Whether an address of the row has the label. Out of line, so that `meets` needs little of the stack.
