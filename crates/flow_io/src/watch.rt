@@ -34,11 +34,9 @@ impl<T: Read> Input for Watched<T> {
     ghost bytes_left = { λ watched. T.remaining watched.inner };
 
     fn read(&mut self, buffer: &mut [u8]) -> Result<usize, DeviceFault> {
-        let Ok(count) = self.inner.read(buffer) else {
-            self.failed = true;
-            return Err(DeviceFault);
-        };
-        Ok(count)
+        let count = self.inner.read(buffer).map_err(|_| DeviceFault);
+        self.failed |= count.is_err();
+        count
     }
 
     fn failed(&self) -> bool {
