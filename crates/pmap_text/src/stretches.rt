@@ -210,6 +210,7 @@ impl Stretches {
 
     // Appends a stretch that begins at the address, where the last stretch ends. If an allocation fails, the stretches
     // are unchanged.
+    #[inline(always)]
     fn push(&mut self, first: u128, label: Option<LabelId>) -> Result<(), AllocError>
         requires above { first_at self.old (length self.old.firsts - 1) < first }
         requires within { first < 2 ^ width_of self.old.version }
