@@ -1,5 +1,5 @@
 -- A field is written into the room after a text.
-use Rattle.std.proofs.Common.{ℕ, ◌≡◌, ◌+◌, ◌-◌, ◌<◌, ◌≤◌, ◌^◌, ◌∙◌, List, [], ◌∷◌, ◌++◌, length, take, drop, set, ap, sym, arith, append_assoc}
+use Rattle.std.proofs.Common.{ℕ, ◌≡◌, ◌+◌, ◌-◌, ◌*◌, ◌<◌, ◌≤◌, ◌^◌, ◌∙◌, List, [], ◌∷◌, ◌++◌, length, take, drop, set, ap, sym, arith, append_assoc}
 use Rattle.std.specs.Fmt.{decimal}
 use Rattle.std.proofs.Math.Seq.{take-append-add}
 use Rattle.std.proofs.lemmas.Fmt.{length-decimal-le}
@@ -10,7 +10,7 @@ pub short : (n : ℕ) → n < 2 ^ 64 → length (decimal n) ≤ 20
 short n fits = length-decimal-le 20 n (omega arith) (omega (arith, fits)) (omega (arith, fits))
 
 -- a field that was written backward, and is moved to the front with the byte at `end` after it
-pub moved : (front back base text : List ℕ) (start end last count : ℕ) → start ≤ end → end + 1 + (end + 1) ≤ length base → length back ≡ length base
+moved : (front back base text : List ℕ) (start end last count : ℕ) → start ≤ end → end + 1 + (end + 1) ≤ length base → length back ≡ length base
     → drop start back ≡ text ++ drop end (set base end last) → count ≡ end + 1 → front ≡ take count (drop start back)
     → take (end + 1 - start) (front ++ back) ≡ text ++ last ∷ []
 moved front back base text start end last count below room same written all is =
@@ -40,3 +40,15 @@ module _ (bytes whole front room : List ℕ) (size len n : ℕ) (is : whole ≡ 
     ap (take (len + n)) joined ∙ ap (λ k. take (k + n) (front ++ room)) (sym front_size) ∙ take-append-add front room n
         ∙ ap (λ (l : List ℕ). l ++ take n room) (front_is ∙ ap (take len) is) ∙ ap (λ (l : List ℕ). take len bytes ++ l) text_is,
   )
+
+-- the text with a field that was written backward into the room, and moved to its front
+pub written : (bytes whole before room front back base text : List ℕ) (size len start end last count : ℕ) → whole ≡ bytes → length whole ≡ size
+    → before ≡ take len whole → len + 3 * (end + 1) ≤ length bytes → length room + len ≡ length whole → length front ≡ end + 1
+    → length base + (end + 1) ≡ length room → length back ≡ length base → start ≤ end → drop start back ≡ text ++ drop end (set base end last)
+    → count ≡ end + 1 → front ≡ take count (drop start back)
+    → let new = take size ((before ++ (front ++ back)) ++ drop (length (before ++ (front ++ back))) bytes) in
+    (len + (end + 1 - start) ≤ length new) × (take (len + (end + 1 - start)) new ≡ take len bytes ++ (text ++ last ∷ []))
+written bytes whole before room front back base text size len start end last count is all before_is enough parts front_size base_size same below there all_is front_is =
+    appended bytes whole before (front ++ back) size len (end + 1 - start) is all before_is (omega (arith, enough))
+    (omega (arith, length-append front back, front_size, base_size, same, parts)) (omega (arith, length-append front back, front_size)) (text ++ last ∷ [])
+    (moved front back base text start end last count below (omega (arith, enough, parts, base_size, ap length is)) same there all_is front_is)

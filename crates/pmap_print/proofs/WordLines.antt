@@ -4,7 +4,7 @@ use Rattle.std.specs.Fmt.{decimal, digit_glyph, digits}
 use Rattle.std.specs.List.{before_first, position_or_len, suffix_len}
 use Rattle.std.proofs.lemmas.Bool.Decides.{nat_tests}
 use Rattle.std.proofs.lemmas.Bool.{both_ways, ne_eqb}
-use Rattle.std.proofs.lemmas.List.{drop_at, get_or-append-add, get_or_append_left, get_or_at, length-append, take_all, take_at}
+use Rattle.std.proofs.lemmas.List.{drop_at, get_or-append-add, length-append, take_all, take_at}
 use Rattle.std.proofs.lemmas.List.Elements.{All-append, All-cons, All-drop, All-head, All-nil, All-tail, All-take, All-weaker}
 use Rattle.std.proofs.lemmas.List.Sums.{AllPass-from_list_all, position_or_len_is, suffix_len-take_no}
 use Rattle.prefix_keys.specs.Print.{address_bytes, address_groups, address_text, block_text, address_groups_text, joined_text, longest_run, shortened_text}
@@ -16,6 +16,7 @@ use Rattle.prefix_keys.proofs.Printed.{Lacks}
 use Rattle.pmap_cert.specs.CertificateText.{text_of_lines}
 use Rattle.pmap_text.specs.Label.{is_blank, is_label, is_label_byte}
 use Rattle.pmap_text.specs.Reading.{behind_word, content_of, first_word, lines_of, trim_end, trim_start}
+use Rattle.pmap_text.proofs.LeadingWords.{first-behind}
 use Rattle.pmap_print.specs.Table.{Text}
 
 -- each printed line is read as one line
@@ -30,14 +31,7 @@ lines-text (line ∷ lines) lacks =
     one-line line (text_of_lines lines) (All-head (Lacks 10) line lines lacks)
     ∙ ap (λ (ls : List Text). line ∷ ls) (lines-text lines (All-tail (Lacks 10) line lines lacks))
 
--- if a byte passes a test and no byte of the text before it does, it is the first byte that passes
-first_behind : (test : ℕ → Bool) (front back : Text) (b : ℕ) → All (λ c. test c ≡ false) front → test b ≡ true
-    → position_or_len test (front ++ b ∷ back) ≡ length front
-first_behind test front back b none is =
-    position_or_len_is test (front ++ b ∷ back) (length front) 0 (omega (arith, length-append front (b ∷ back)))
-    (λ k below. ap test (get_or_append_left front (b ∷ back) 0 k below) ∙ none k 0 below)
-    (λ _. ap test (get_or_at front b back 0 (length front) refl) ∙ is)
-
+-- no byte of the text passes a test
 no_first : (test : ℕ → Bool) (text : Text) → All (λ c. test c ≡ false) text → position_or_len test text ≡ length text
 no_first test text none = position_or_len_is test text (length text) 0 (omega arith) (λ k below. none k 0 below) (λ h. absurd (omega (arith, h)))
 
@@ -97,7 +91,7 @@ module _ (word label : Text) (some : 0 < length word) (high : All (λ b. 45 ≤ 
   line-lacks_feed = line-lacks 10 (omega arith) refl refl
 
   word_at : position_or_len is_blank (word ++ 32 ∷ label) ≡ length word
-  word_at = first_behind is_blank word label 32 no_blank refl
+  word_at = first-behind is_blank word 32 label no_blank refl
 
   pub line-first_word : first_word (word ++ 32 ∷ label) ≡ word
   line-first_word = ap (λ n. take n (word ++ 32 ∷ label)) word_at ∙ take_at word (32 ∷ label) (length word) refl
