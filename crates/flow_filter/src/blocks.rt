@@ -25,9 +25,7 @@ pub fn read_addresses(text: &[u8]) -> Option<Block>
     }
 }
 
-/// Returns `true` if the block covers the address after conversion to the block's version. Out of line, so that
-/// `ReadPart::meets` needs little of the stack.
-#[inline(never)]
+/// Returns `true` if the block covers the address after conversion to the block's version.
 pub fn covers(block: &Block, addr: Addr) -> bool
     ensures { result ≡ covers (view_of block.now) (addr.version, addr.value) }
 {

@@ -1,10 +1,10 @@
-ghost use Rattle.std.specs.Prelude.{◌≡◌, ◌++◌, ◌∷◌, [], IfErr, OnOk, Some, false, true};
+ghost use Rattle.std.specs.Prelude.{◌≡◌, ◌++◌, ◌∷◌, [], IfErr, OnOk, Some, false, if◌then◌else◌, true};
 ghost use Rattle.label_lookup.specs.Labelling.{label_where, labelling_lent};
 ghost use Rattle.std.specs.List.{list_any};
 ghost use Rattle.std.specs.Option.{option_eq};
 ghost use Rattle.std.specs.Str.{bytes_eq};
-ghost use Rattle.flow_filter.specs.Condition.{is_malformed, meets};
-ghost use Rattle.flow_filter.specs.Filters.{IsRefused, allows, number_of};
+ghost use Rattle.flow_filter.specs.Condition.{covers, is_malformed, meets};
+ghost use Rattle.flow_filter.specs.Filters.{IsRefused, allows, number_of, view_of};
 ghost use Rattle.flow_filter.specs.Options.{is_on_labels};
 
 use crate::blocks::covers;
@@ -14,7 +14,7 @@ use crate::items::{push, read_items};
 use crate::option::FilterOption;
 use flow_rows::Row;
 use label_lookup::{Labeller, label_row_under};
-use prefix_keys::Addr;
+use prefix_keys::{Addr, Block};
 use std::alloc::Global;
 use std::marker::Model;
 
@@ -52,6 +52,16 @@ fn number_of(option: FilterOption, row: &Row<'_>) -> u128
     }
 }
 
+// Returns `true` if the block covers the source of the row, or otherwise the destination. Out of line, so that `meets`
+// needs little of the stack.
+#[inline(never)]
+fn covers_end(block: &Block, row: &Row<'_>, source: bool) -> bool
+    ensures { result ≡ covers (view_of block.now) (row.now.version, if source then row.now.src else row.now.dst) }
+{
+    let addr = if source { row.src() } else { row.dst() };
+    covers(block, addr)
+}
+
 // Returns `true` if the item of the option allows the row.
 fn allows(option: FilterOption, item: &Item, row: &Row<'_>) -> bool
     ensures { result ≡ allows option item.now row.now }
@@ -61,8 +71,8 @@ fn allows(option: FilterOption, item: &Item, row: &Row<'_>) -> bool
             let number = number_of(option, row);
             range.low <= number && number <= range.high
         }
-        Item::Source(block) => covers(block, row.src()),
-        Item::Destination(block) => covers(block, row.dst()),
+        Item::Source(block) => covers_end(block, row, true),
+        Item::Destination(block) => covers_end(block, row, false),
     }
 }
 
