@@ -191,14 +191,13 @@ impl Nodes {
         requires { number < length self.now }
         ensures { line_of result ≡ slice_index_or self.now number (LeafLine 0) }
     {
-        let claim = self.claim(number);
         match &self.lines[number] {
             Packed::Leaf(id) => Node::Leaf(*id),
-            Packed::Single(_, _) | Packed::Inner(_, _) => Node::Inner(claim),
+            Packed::Single(_, _) | Packed::Inner(_, _) => Node::Inner(self.claim(number)),
             Packed::SideChain(index) | Packed::Chain(index) => {
                 let chain = &self.chains[*index];
                 Node::Chain {
-                    claim,
+                    claim: self.claim(number),
                     path: &chain.path,
                     side: chain.side,
                 }
