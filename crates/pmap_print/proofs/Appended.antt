@@ -24,7 +24,7 @@ moved front back base text start end last count below room same written all is =
     ∙ ap (take (end + 1 - start)) is ∙ take-take (end + 1 - start) count (drop start back) (omega (arith, all))
     ∙ ap (take (end + 1 - start)) behind ∙ take_at (text ++ last ∷ []) rest (end + 1 - start) size
 
--- the text with a field at the front of the room after it
+-- the text with a field at the beginning of the room after it
 module _ (bytes whole front room : List ℕ) (size len n : ℕ) (is : whole ≡ bytes) (all : length whole ≡ size) (front_is : front ≡ take len whole)
     (within : len ≤ length bytes) (parts : length room + len ≡ length whole) (fits : n ≤ length room) where
   front_size : length front ≡ len
