@@ -39,15 +39,15 @@ impl<'a> Model for ReadPart<'a> {
 }
 
 // Returns the number that an option compares.
-fn number_of(option: FilterOption, row: &Row<'_>) -> u128
+fn number_of(option: FilterOption, row: &Row<'_>) -> u64
     ensures { result ≡ number_of option row.now }
 {
     match option {
-        FilterOption::Protocol => u128::from(row.protocol()),
-        FilterOption::SourcePort => u128::from(row.sport()),
-        FilterOption::DestinationPort => u128::from(row.dport()),
-        FilterOption::Packets => u128::from(row.packets()),
-        FilterOption::Bytes => u128::from(row.octets()),
+        FilterOption::Protocol => u64::from(row.protocol()),
+        FilterOption::SourcePort => u64::from(row.sport()),
+        FilterOption::DestinationPort => u64::from(row.dport()),
+        FilterOption::Packets => row.packets(),
+        FilterOption::Bytes => row.octets(),
         _ => 0,
     }
 }
