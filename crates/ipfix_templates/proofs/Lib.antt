@@ -2,3 +2,4 @@ pub mod Choice
 pub mod Reading
 pub mod Records
 pub mod Parts
+mod InForce

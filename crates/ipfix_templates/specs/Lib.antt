@@ -5,3 +5,4 @@ pub mod Elements
 pub mod Layout
 pub mod Reading
 pub mod InForce
+pub mod Laws
