@@ -36,7 +36,5 @@ pub mod CompactForms
 pub mod PrintedLines
 pub mod FormatTrees
 pub mod FormatWhole
-pub mod NewLabels
-pub mod FirstFault
 pub mod CompactNodes
 pub mod CompactPlaces

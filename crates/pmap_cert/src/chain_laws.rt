@@ -1,14 +1,13 @@
 //! Laws about certificates with chains.
 
-ghost use Rattle.std.specs.Prelude.{◌≡◌, ◌≢◌, ◌<◌, ◌≤◌, ◌⊎◌, ◌↔◌, ◌∷◌, ◌++◌, ℕ, All, Bool, List, Err, Ok, length};
-ghost use Rattle.prefix_keys.specs.declared.version.Version.{Version};
+ghost use Rattle.std.specs.Prelude.{◌≡◌, ◌≤◌, ◌⊎◌, ◌↔◌, ◌∷◌, ℕ, Bool, List, Err, Ok, length};
 ghost use Rattle.pmap_text.specs.ListModel.{ListModel};
 ghost use Rattle.pmap_text.specs.MapModel.{Label, MapModel};
 ghost use Rattle.pmap_cert.specs.Acceptance.{IsAccepted};
-ghost use Rattle.pmap_cert.specs.CertificateText.{HasFormatText, HasTextForm, certificate_lines, certificate_text, format_header};
+ghost use Rattle.pmap_cert.specs.CertificateText.{HasFormatText, HasTextForm, certificate_lines, certificate_text};
 ghost use Rattle.pmap_cert.specs.CertificateModel.{CertificateModel, InnerNode, LeafNode, Claim, Tree, claim_of, IsOfFormat, IsPlain, chain_claim, opened, opened_certificate, claim_by_bits, IsSameClaim};
 ghost use Rattle.pmap_cert.specs.Compacting.{HasNoRun, IsSameShape, IsPath, OpensTo, compact, compacted, line_count, run_bits, run_compacted, run_end, side_of};
-ghost use Rattle.pmap_cert.specs.FormatReading.{format_reading, pieces_of, CertFault};
+ghost use Rattle.pmap_cert.specs.FormatReading.{format_reading, CertFault};
 ghost use Rattle.pmap_cert.specs.Examples.{last_address_certificate, last_address_lines, last_address_opened};
 
 /// A chain's exact claim, which `chain_claim` gives in one step, equals the exact claim taken bit by bit from the end
@@ -85,22 +84,6 @@ pub fn text_of_format_is_read_or_has_a_fault()
         ⊎ ((c : CertificateModel) × HasFormatText c × (text ≡ certificate_text c)) }
     ensures apart { (text : List ℕ) (fault : CertFault) (c : CertificateModel) →
         format_reading text ≡ Err fault → HasFormatText c → ¬ (text ≡ certificate_text c) }
-{}
-
-/// The fault of a text is its first. Here the text is `front`, a line feed and a rest, so the pieces of `front` are its
-/// first lines. If the faulty line is one of them, the text has this fault whatever the rest is. If the faulty line
-/// comes later, there are bytes that complete the text of a certificate in place of the rest. One case is left out: a
-/// header with the count 0. No certificate has one, since each leaf has a label of the table.
-pub fn fault_of_format_is_the_first()
-    ensures after { (front rest other : List ℕ) (fault : CertFault) →
-        format_reading (front ++ 10 ∷ rest) ≡ Err fault → fault.line ≤ length (pieces_of front) →
-        format_reading (front ++ 10 ∷ other) ≡ Err fault }
-    ensures before { (front rest : List ℕ) (fault : CertFault) →
-        format_reading (front ++ 10 ∷ rest) ≡ Err fault → length (pieces_of front) < fault.line →
-        ((format : ℕ) (version : Version) (more : List (List ℕ)) →
-        pieces_of front ≢ format_header format version 0 ∷ more) →
-        (other : List ℕ) × (c : CertificateModel) ×
-        All (λ b. b < 256) other × HasFormatText c × (front ++ 10 ∷ other ≡ certificate_text c) }
 {}
 
 /// The worked example of a chain of 32 bits: opening and compacting it gives it back, and its lines are these.
