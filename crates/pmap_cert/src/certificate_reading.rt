@@ -80,13 +80,16 @@ fn read_node(
 {
     let deepest = lines.fault(CertFaultKind::TooDeep);
     let node = lines.next_node(kept, frame)?;
-    nodes.push(node)?;
     match node {
-        Node::Leaf(_) => Ok(()),
+        Node::Leaf(id) => {
+            nodes.push(Node::Leaf(id))?;
+            Ok(())
+        }
         Node::Inner(claim) => {
             if room == 0 {
                 return Err(deepest);
             }
+            nodes.push(Node::Inner(claim))?;
             read_node(nodes, kept, frame, room - 1, lines)?;
             read_node(nodes, kept, frame, room - 1, lines)?;
             Ok(())
@@ -96,6 +99,7 @@ fn read_node(
             if deep > room {
                 return Err(deepest);
             }
+            nodes.push(Node::Chain { claim, path, side })?;
             read_node(nodes, kept, frame, room - deep, lines)?;
             Ok(())
         }
