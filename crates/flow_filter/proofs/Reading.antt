@@ -9,10 +9,9 @@ use Rattle.std.proofs.lemmas.List.Splits.{slice_split_none}
 use Rattle.std.proofs.lemmas.Option.{same_Some}
 use Rattle.prefix_keys.specs.Text.{AddressOf, all_some}
 use Rattle.flow_rows.specs.Elements.{RowView}
-use Rattle.flow_filter.specs.Condition.{Condition, Part, RowTest, filter_of, given, is_malformed, item_test, items_of, meets, unless_malformed}
-use Rattle.flow_filter.specs.Filters.{HasItems, IsFault, IsRefused}
+use Rattle.flow_filter.specs.Condition.{Condition, Part, Range, RowTest, filter_of, given, is_malformed, item_test, items_of, meets, unless_malformed}
+use Rattle.flow_filter.specs.Filters.{HasRanges, IsFault, IsRefused}
 use Rattle.flow_filter.specs.Options.{FilterFaultKind, FilterOption, is_list, AnyLabel, DestinationLabel, SourceLabel}
-use Rattle.flow_filter.specs.declared.item.Item.{Item}
 use Rattle.flow_filter.specs.declared.option.TheConstants.{ALL_OPTIONS}
 
 -- one more item that exists
@@ -49,12 +48,12 @@ meets_one o text label row single =
     one None = refl
     one (Some test) = refl
 
--- a text with items is well formed, and so is any label
-pub is_sound : (o : FilterOption) (text : List ℕ) (items : List Item) → HasItems (o, text) items → is_malformed (o, text) ≡ false
-is_sound SourceLabel text all has = ap (λ items. is_none (all_some (map (item_test SourceLabel) items))) (only_item SourceLabel text refl)
-is_sound DestinationLabel text all has = ap (λ items. is_none (all_some (map (item_test DestinationLabel) items))) (only_item DestinationLabel text refl)
-is_sound AnyLabel text all has = ap (λ items. is_none (all_some (map (item_test AnyLabel) items))) (only_item AnyLabel text refl)
-is_sound o text all has = ap is_none (has refl)
+-- a text with ranges is well formed, and so is any label
+pub is_sound : (o : FilterOption) (text : List ℕ) (ranges : List Range) → HasRanges (o, text) ranges → is_malformed (o, text) ≡ false
+is_sound SourceLabel text ranges has = ap (λ items. is_none (all_some (map (item_test SourceLabel) items))) (only_item SourceLabel text refl)
+is_sound DestinationLabel text ranges has = ap (λ items. is_none (all_some (map (item_test DestinationLabel) items))) (only_item DestinationLabel text refl)
+is_sound AnyLabel text ranges has = ap (λ items. is_none (all_some (map (item_test AnyLabel) items))) (only_item AnyLabel text refl)
+is_sound o text ranges has = ap is_none (has refl)
 
 -- the parts are the options before an index that are given, and none is malformed
 pub record AreRead (texts : List (Option (List ℕ))) (at : ℕ) (parts : Condition) : Type 0 where

@@ -1,11 +1,12 @@
-use Rattle.std.specs.Prelude.{◌≡◌, ◌⊎◌, ℕ, ◌++◌, ◌∷◌, Bool, true, false, List, Option, Some, None, Err, find, map, option_map}
-use Rattle.prefix_keys.specs.Text.{BlockOf}
+use Rattle.std.specs.Prelude.{◌≡◌, ◌⊎◌, ℕ, ◌+◌, ◌<◌, ◌++◌, ◌∷◌, Bool, true, false, List, Option, Some, None, Err, find, slice_index, length, map, nat_le, option_map, take}
+use Rattle.std.specs.List.{list_any}
+use Rattle.prefix_keys.specs.Conversion.{mapped_prefix}
+use Rattle.prefix_keys.specs.Text.{AddressOf, BlockOf}
 use Rattle.prefix_keys.specs.declared.block.Block.{Block}
+use Rattle.prefix_keys.specs.declared.version.Version.TheVariants.{V4, V6}
 use Rattle.flow_rows.specs.Elements.{RowView}
-use Rattle.flow_filter.specs.Condition.{Condition, FilterFault, Part, RowTest, covers, filter_of, given, in_range, is_malformed, tests_of}
-use Rattle.flow_filter.specs.Options.{FilterFaultKind, FilterOption, is_on_labels, kind_of, Bytes, DestinationPort, NoMemory, Packets, Protocol, SourcePort}
-use Rattle.flow_filter.specs.declared.item.Item.{Item}
-use Rattle.flow_filter.specs.declared.item.Item.TheVariants.{Destination, Numbers, Source}
+use Rattle.flow_filter.specs.Condition.{Condition, FilterFault, Part, Range, RowTest, filter_of, given, in_range, is_malformed, tests_of}
+use Rattle.flow_filter.specs.Options.{FilterFaultKind, FilterOption, is_on_labels, kind_of, Bytes, DestinationAddress, DestinationPort, NoMemory, Packets, Protocol, SourceAddress, SourcePort}
 use Rattle.flow_filter.specs.declared.option.TheConstants.{ALL_OPTIONS}
 use Rattle.flow_filter.specs.declared.words.FilterWords.{FilterWords}
 
@@ -34,24 +35,44 @@ IsRefused part kind = (kind ≡ NoMemory) ⊎ ((is_malformed part ≡ true) × (
 abbrev pub view_of : Block → BlockOf
 view_of block = (block.version, block.value, block.len)
 
+-- the number of the address as an IPv6 address
+abbrev pub mapped_number : AddressOf → ℕ
+mapped_number (V4, value) = value + mapped_prefix
+mapped_number (V6, value) = value
+
+-- the number is in one of the ranges
+abbrev pub in_ranges : List Range → ℕ → Bool
+in_ranges ranges n = list_any (in_range n) ranges
+
+-- one of the first ranges ends at the number or above it
+abbrev pub reaches : List Range → ℕ → ℕ → Bool
+reaches ranges k n = list_any (λ range. nat_le n range.high) (take k ranges)
+
+-- for each range, the highest end of the ranges up to it
+pub record HasTops (ranges : List Range) (tops : List ℕ) : Type 0 where
+  pub long : length tops ≡ length ranges
+  pub each : (k : ℕ) → k < length tops → (n : ℕ) → nat_le n (slice_index tops k) ≡ reaches ranges (k + 1) n
+
 -- the number of a row that the ranges of an option have
 abbrev pub number_of : FilterOption → RowView → ℕ
 number_of Protocol row = row.protocol
 number_of SourcePort row = row.sport
 number_of DestinationPort row = row.dport
+number_of SourceAddress row = mapped_number (row.version, row.src)
+number_of DestinationAddress row = mapped_number (row.version, row.dst)
 number_of Packets row = row.packets
 number_of Bytes row = row.octets
 number_of o row = 0
 
--- the item of an option allows the row
-abbrev pub allows : FilterOption → Item → RowView → Bool
-allows o (Numbers range) row = in_range (number_of o row) range
-allows o (Source block) row = covers (view_of block) (row.version, row.src)
-allows o (Destination block) row = covers (view_of block) (row.version, row.dst)
+abbrev pub by_range : FilterOption → Range → RowTest
+by_range o range label row = in_range (number_of o row) range
 
-abbrev pub by_item : FilterOption → Item → RowTest
-by_item o item label row = allows o item row
+-- the ranges are those of the items of the text, unless it is a label
+abbrev pub HasRanges : Part → List Range → Type 0
+HasRanges part ranges = is_on_labels part.0 ≡ false → tests_of part ≡ Some (map (by_range part.0) ranges)
 
--- the items are those of the text, unless it is a label
-abbrev pub HasItems : Part → List Item → Type 0
-HasItems part items = is_on_labels part.0 ≡ false → tests_of part ≡ Some (map (by_item part.0) items)
+-- the set has the numbers of such ranges
+pub record HasSet (part : Part) (set : List Range) : Type 0 where
+  pub items : List Range
+  pub has : HasRanges part items
+  pub same : in_ranges set ≡ in_ranges items

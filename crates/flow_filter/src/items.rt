@@ -1,31 +1,26 @@
-//! Reading the items of the text of an option.
+//! Reading the items of the text of an option as ranges of numbers. Addresses have IPv6 numbers.
 ghost use Rattle.std.specs.Prelude.{◌≡◌, ◌++◌, ◌∷◌, [], IfErr, IfOk, OnOk, false, option_map};
 ghost use Rattle.flow_filter.specs.Condition.{item_test};
-ghost use Rattle.flow_filter.specs.Filters.{HasItems, IsRefused, by_item};
+ghost use Rattle.flow_filter.specs.Filters.{HasRanges, IsRefused, by_range};
 ghost use Rattle.flow_filter.specs.Options.{NoMemory, is_on_labels};
 
-use crate::blocks::read_addresses;
+use crate::blocks::read_places;
 use crate::fault::FilterFaultKind;
-use crate::item::Item;
 use crate::number::read_range;
 use crate::option::FilterOption;
+use crate::range::Range;
 use std::alloc::Global;
 
 // Reads an item of an option that isn't on labels.
-fn read_item(option: FilterOption, item: &[u8]) -> Option<Item>
+fn read_item(option: FilterOption, item: &[u8]) -> Option<Range>
     requires { is_on_labels option ≡ false }
-    ensures { option_map (by_item option) result ≡ item_test option item.now }
+    ensures { option_map (by_range option) result ≡ item_test option item.now }
 {
     match option {
-        FilterOption::Protocol => Some(Item::Numbers(read_range(item, 255, false)?)),
-        FilterOption::SourcePort | FilterOption::DestinationPort => {
-            Some(Item::Numbers(read_range(item, 65535, false)?))
-        }
-        FilterOption::SourceAddress => Some(Item::Source(read_addresses(item)?)),
-        FilterOption::DestinationAddress => Some(Item::Destination(read_addresses(item)?)),
-        FilterOption::Packets | FilterOption::Bytes => {
-            Some(Item::Numbers(read_range(item, u64::MAX, true)?))
-        }
+        FilterOption::Protocol => read_range(item, 255, false),
+        FilterOption::SourcePort | FilterOption::DestinationPort => read_range(item, 65535, false),
+        FilterOption::SourceAddress | FilterOption::DestinationAddress => read_places(item),
+        FilterOption::Packets | FilterOption::Bytes => read_range(item, u64::MAX, true),
         _ => None,
     }
 }
@@ -38,23 +33,23 @@ pub fn push<T: Drop>(items: &mut Vec<T>, item: T) -> Result<(), FilterFaultKind>
     items.push(item).map_err(|_| FilterFaultKind::NoMemory)
 }
 
-/// Reads the items of a text. A label has none.
-pub fn read_items(
+/// Reads the ranges of the items of a text. A label has none.
+pub fn read_ranges(
     alloc: Global,
     option: FilterOption,
     text: &[u8],
-) -> Result<Vec<Item>, FilterFaultKind>
-    ensures ok { IfOk result (λ items. HasItems (option, text.now) items.items) }
+) -> Result<Vec<Range>, FilterFaultKind>
+    ensures ok { IfOk result (λ ranges. HasRanges (option, text.now) ranges.items) }
     ensures err { IfErr result (IsRefused (option, text.now)) }
 {
-    let mut items = Vec::new(alloc);
+    let mut ranges = Vec::new(alloc);
     if option.is_on_labels() {
-        return Ok(items);
+        return Ok(ranges);
     }
     let is_list = option.is_list();
-    for part in text.split(|byte| is_list && *byte == b',') {
-        let item = read_item(option, part).ok_or(option.fault_kind())?;
-        push(&mut items, item)?;
+    for item in text.split(|byte| is_list && *byte == b',') {
+        let range = read_item(option, item).ok_or(option.fault_kind())?;
+        push(&mut ranges, range)?;
     }
-    Ok(items)
+    Ok(ranges)
 }

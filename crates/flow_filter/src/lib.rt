@@ -23,13 +23,13 @@
 mod blocks;
 mod fault;
 mod filter;
-mod item;
 mod items;
 mod laws;
 mod number;
 mod option;
 mod part;
 mod range;
+mod ranges;
 mod words;
 
 pub use fault::{FilterFault, FilterFaultKind};

@@ -9,7 +9,7 @@ use prefix_keys::cut;
 // Returns the number that 1 to 20 digits represent, or `None` if the text is anything else or the number exceeds the
 // limit.
 #[tactic(auto, using(crate::proofs::Digits::digits_room))]
-fn read_number(text: &[u8], limit: u64) -> Option<u64>
+fn read_number(text: &[u8], limit: u64) -> Option<u128>
     ensures { result ≡ decimal_number 20 limit text.now }
 {
     if text.is_empty() || text.len() > 20 {
@@ -23,18 +23,18 @@ fn read_number(text: &[u8], limit: u64) -> Option<u64>
         number = number * 10 + u128::from(*b - b'0');
     }
     if number <= u128::from(limit) {
-        Some(number as u64)
+        Some(number)
     } else {
         None
     }
 }
 
 // Returns the upper end in the text after a `-`, which may be empty if the range may be open.
-fn read_end(text: &[u8], limit: u64, may_be_open: bool) -> Option<u64>
+fn read_end(text: &[u8], limit: u64, may_be_open: bool) -> Option<u128>
     ensures { result ≡ upper_end may_be_open limit text.now }
 {
     if may_be_open && text.len() == 0 {
-        Some(limit)
+        Some(u128::from(limit))
     } else {
         read_number(text, limit)
     }

@@ -1,20 +1,19 @@
-ghost use Rattle.std.specs.Prelude.{◌≡◌, ◌++◌, ◌∷◌, [], IfErr, OnOk, Some, false, if◌then◌else◌, true};
+ghost use Rattle.std.specs.Prelude.{◌≡◌, ◌++◌, ◌∷◌, [], IfErr, OnOk, Some, false, true};
 ghost use Rattle.label_lookup.specs.Labelling.{label_where, labelling_lent};
-ghost use Rattle.std.specs.List.{list_any};
 ghost use Rattle.std.specs.Option.{option_eq};
 ghost use Rattle.std.specs.Str.{bytes_eq};
-ghost use Rattle.flow_filter.specs.Condition.{covers, is_malformed, meets};
-ghost use Rattle.flow_filter.specs.Filters.{IsRefused, allows, number_of, view_of};
+ghost use Rattle.flow_filter.specs.Condition.{is_malformed, meets};
+ghost use Rattle.flow_filter.specs.Filters.{IsRefused, number_of};
 ghost use Rattle.flow_filter.specs.Options.{is_on_labels};
 
-use crate::blocks::covers;
+use crate::blocks::place_of;
 use crate::fault::FilterFaultKind;
-use crate::item::Item;
-use crate::items::{push, read_items};
+use crate::items::{push, read_ranges};
 use crate::option::FilterOption;
+use crate::ranges::Ranges;
 use flow_rows::Row;
 use label_lookup::{Labeller, label_row_under};
-use prefix_keys::{Addr, Block};
+use prefix_keys::Addr;
 use std::alloc::Global;
 use std::marker::Model;
 
@@ -23,64 +22,35 @@ use std::marker::Model;
 pub struct ReadPart<'a> {
     option: FilterOption,
     text: &'a str,
-    // The items of the text, unless it is a label.
-    items: Vec<Item>,
+    // The numbers of the items of the text, unless it is a label.
+    ranges: Ranges,
 }
 
 impl<'a> Model for ReadPart<'a> {
     ghost use Rattle.flow_filter.specs.Condition.{Part};
-    ghost use Rattle.flow_filter.specs.Filters.{HasItems};
+    ghost use Rattle.flow_filter.specs.Filters.{HasSet};
 
     ghost Value = { Part };
 
     ghost view = { λ p. (p.option, p.text.now) };
 
-    ghost invariant = { λ p. HasItems (p.option, p.text.now) p.items.items };
+    ghost invariant = { λ p. HasSet (p.option, p.text.now) p.ranges };
 }
 
-// Returns the number that an option compares.
-fn number_of(option: FilterOption, row: &Row<'_>) -> u64
+// Returns the number that an option compares. That of an address is its number as an IPv6 address.
+fn number_of(option: FilterOption, row: &Row<'_>) -> u128
     ensures { result ≡ number_of option row.now }
 {
     match option {
-        FilterOption::Protocol => u64::from(row.protocol()),
-        FilterOption::SourcePort => u64::from(row.sport()),
-        FilterOption::DestinationPort => u64::from(row.dport()),
-        FilterOption::Packets => row.packets(),
-        FilterOption::Bytes => row.octets(),
+        FilterOption::Protocol => u128::from(row.protocol()),
+        FilterOption::SourcePort => u128::from(row.sport()),
+        FilterOption::DestinationPort => u128::from(row.dport()),
+        FilterOption::SourceAddress => place_of(row.src()),
+        FilterOption::DestinationAddress => place_of(row.dst()),
+        FilterOption::Packets => u128::from(row.packets()),
+        FilterOption::Bytes => u128::from(row.octets()),
         _ => 0,
     }
-}
-
-// Returns `true` if the block covers the source of the row, or otherwise the destination. Out of line, so that `meets`
-// needs little of the stack.
-#[inline(never)]
-fn covers_end(block: &Block, row: &Row<'_>, source: bool) -> bool
-    ensures { result ≡ covers (view_of block.now) (row.now.version, if source then row.now.src else row.now.dst) }
-{
-    let addr = if source { row.src() } else { row.dst() };
-    covers(block, addr)
-}
-
-// Returns `true` if the item of the option allows the row.
-fn allows(option: FilterOption, item: &Item, row: &Row<'_>) -> bool
-    ensures { result ≡ allows option item.now row.now }
-{
-    match item {
-        Item::Numbers(range) => {
-            let number = number_of(option, row);
-            range.low <= number && number <= range.high
-        }
-        Item::Source(block) => covers_end(block, row, true),
-        Item::Destination(block) => covers_end(block, row, false),
-    }
-}
-
-// Returns `true` if one of the items allows the row.
-fn any_allows(option: FilterOption, items: &[Item], row: &Row<'_>) -> bool
-    ensures { result ≡ list_any (λ item. allows option item row.now) items.now }
-{
-    items.iter().any(|item| allows(option, item, row))
 }
 
 // Returns `true` if the address has this label.
@@ -101,11 +71,12 @@ pub fn add_part<'a>(
     ensures ok { OnOk result ((parts.new.items ≡ parts.old.items ++ (option, text.entry.now) ∷ []) × (is_malformed (option, text.entry.now) ≡ false)) }
     ensures err { IfErr result (IsRefused (option, text.entry.now)) }
 {
-    let items = read_items(alloc, option, text.as_bytes())?;
+    let items = read_ranges(alloc, option, text.as_bytes())?;
+    let ranges = Ranges::new(alloc, items)?;
     let part = ReadPart {
         option,
         text,
-        items,
+        ranges,
     };
     push(parts, part)
 }
@@ -119,7 +90,7 @@ impl<'a> ReadPart<'a> {
         if self.is_on_labels() {
             return self.meets_label(row, labeller);
         }
-        any_allows(self.option, self.items.as_slice(), row)
+        self.ranges.covers(number_of(self.option, row))
     }
 
     // Whether an address of the row has the label. Out of line, so that `meets` needs little of the stack.

@@ -8,4 +8,8 @@ returns-clause-ok c =
     on_ok_weaker c.push.result (λ items. (items, sound)) c.push.ensures.ok
 
 pub invariant_of-part : goal.invariant_of-part
-invariant_of-part c = rw c.as_bytes.ensures.value at c.in_ok-items.ensures.ok
+invariant_of-part c = record {
+  items = c.in_ok-items.items.items;
+  has = rw c.as_bytes.ensures.value at c.in_ok-items.ensures.ok;
+  same = c.in_ok-ranges.ensures;
+}

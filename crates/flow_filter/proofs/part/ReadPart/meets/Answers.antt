@@ -4,17 +4,16 @@ use Rattle.std.specs.Option.{option_map_or}
 use Rattle.prefix_keys.specs.Text.{AddressOf}
 use Rattle.label_lookup.specs.Labelling.{label_where, labelling_lent}
 use Rattle.flow_rows.specs.Elements.{RowView}
-use Rattle.flow_filter.specs.Condition.{RowTest}
-use Rattle.flow_filter.specs.Filters.{allows, by_item}
-use Rattle.flow_filter.specs.declared.item.Item.{Item}
+use Rattle.flow_filter.specs.Condition.{Range, RowTest, in_range}
+use Rattle.flow_filter.specs.Filters.{by_range, in_ranges, number_of}
 use Rattle.flow_filter.specs.Options.{FilterOption}
 use Rattle.flow_filter.proofs.part.ReadPart.meets.Goals as goal
 
--- a row meets one of the tests of items if one of the items allows it
-one_allows : (o : FilterOption) (label : AddressOf → Option (List ℕ)) (row : RowView) (items : List Item)
-    → list_any (λ test. test label row) (map (by_item o) items) ≡ list_any (λ item. allows o item row) items
-one_allows o label row [] = refl
-one_allows o label row (item ∷ items) = ap (λ b. allows o item row || b) (one_allows o label row items)
+-- a test of ranges is that one of them has the number
+one_has : (o : FilterOption) (label : AddressOf → Option (List ℕ)) (row : RowView) (ranges : List Range)
+    → list_any (λ test. test label row) (map (by_range o) ranges) ≡ list_any (in_range (number_of o row)) ranges
+one_has o label row [] = refl
+one_has o label row (range ∷ ranges) = ap (λ b. in_range (number_of o row) range || b) (one_has o label row ranges)
 
 pub returns : goal.returns
 returns g c =
@@ -22,6 +21,6 @@ returns g c =
     let label = label_where (labelling_lent g.L.Labeller.version_of g.L.Labeller.label c.args.labeller) in
     let numbers = rw (← c.self.view_is) at (sym c.is_on_labels.ensures ∙ c.if-is_on_labels.false) in
     rw (← c.self.view_is)
-    (c.any_allows.ensures ∙ ap (list_any (λ item. allows o item c.args.row.now)) c.as_slice.ensures.value
-    ∙ sym (ap (λ (tests : Option (List RowTest)). option_map_or (list_any (λ test. test label c.args.row.now)) tests false) (c.self.invariant numbers)
-    ∙ one_allows o label c.args.row.now c.self.inside.items.items))
+    (c.covers.ensures ∙ ap (in_ranges c.self.inside.ranges) c.number_of.ensures ∙ (λ i. c.self.invariant.same i (number_of o c.args.row.now))
+    ∙ sym (ap (λ (tests : Option (List RowTest)). option_map_or (list_any (λ test. test label c.args.row.now)) tests false) (c.self.invariant.has numbers)
+    ∙ one_has o label c.args.row.now c.self.invariant.items))

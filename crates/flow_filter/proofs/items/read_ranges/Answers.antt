@@ -1,0 +1,53 @@
+use Rattle.std.proofs.Common.{◌≡◌, ◌∙◌, ◌&&◌, ◌==◌, ℕ, true, Option, Some, None, List, ap, arith, get_or, length, map, option_map, rules, sym, tests}
+use Rattle.std.specs.Prelude.{is_none}
+use Rattle.std.proofs.lemmas.Iterator.Consumers.{YieldsList-end, YieldsList-turn}
+use Rattle.std.proofs.lemmas.Iterator.Splits.{YieldsList-from_slice_split}
+use Rattle.std.proofs.lemmas.List.{get_or-map, length-map, map_push}
+use Rattle.flow_filter.specs.Condition.{RowTest, is_malformed, item_test, items_of}
+use Rattle.flow_filter.specs.Filters.{by_range}
+use Rattle.flow_filter.specs.Options.{is_list}
+use Rattle.prefix_keys.specs.Text.{all_some}
+use Rattle.flow_filter.proofs.Reading.{all_some-none, all_some-push}
+use Rattle.flow_filter.proofs.items.read_ranges.Goals as goal
+
+pub returns-in_err-range-clause-err : goal.returns-in_err-range-clause-err
+returns-in_err-range-clause-err c =
+    let turn =
+    YieldsList-turn
+    (YieldsList-from_slice_split _ (λ b. is_list c.args.option && b == 44) c.args.text.now (cc) (cc)
+    (ap (λ s. s.pred) c.into_iter-item-iterator.ensures.into_iter_gives ∙ c.split-item-items.ensures.closure) (λ x b q k. search (rules, tests)))
+    c.loop-item.yielded _ c.loop-item.yielded_by _ _ c.in-Some.item c.in-Some.is c.next.ensures.steps in
+    let items = items_of c.args.option c.args.text.now in
+    let missing : get_or (map (item_test c.args.option) items) (length c.loop-item.yielded) None ≡ None =
+    get_or-map (item_test c.args.option) items (length c.loop-item.yielded) c.in-Some.item.now None turn.0
+    ∙ ap (item_test c.args.option) (sym turn.1) ∙ sym c.read_item.ensures ∙ ap (option_map (by_range c.args.option)) c.in_err-range.ensures.ok_part in
+    let malformed : is_malformed (c.args.option, c.args.text.now) ≡ true =
+    ap is_none
+    (all_some-none (map (item_test c.args.option) items) (length c.loop-item.yielded) None
+    (omega (arith, turn.0, length-map {B = Option RowTest} items)) missing) in
+    search rules
+
+pub loop-item-preserved : goal.loop-item-preserved
+loop-item-preserved c =
+    let o = c.args.option in
+    let read : item_test o c.in-Some.item.now ≡ Some (by_range o c.in_ok-range.range) =
+    sym c.read_item.ensures ∙ ap (option_map (by_range o)) c.in_ok-range.ensures.ok_part in
+    let items : List (List ℕ) = map (λ x. x.now) c.loop-item.yielded in
+    rw (
+      map_push (λ x. x.now) c.loop-item.yielded c.in-Some.item,
+      map_push (item_test o) items c.in-Some.item.now,
+      read,
+      c.in_ok-push.ensures.ok,
+      map_push (by_range o) c.loop-item.ranges.items c.in_ok-range.range,
+    )
+    (all_some-push (map (item_test o) items) (map (by_range o) c.loop-item.ranges.items) (by_range o c.in_ok-range.range) c.loop-item.invariant)
+
+pub returns-clause-ok : goal.returns-clause-ok
+returns-clause-ok c = λ numbers.
+    let o = c.args.option in
+    let all =
+    YieldsList-end
+    (YieldsList-from_slice_split _ (λ b. is_list o && b == 44) c.args.text.now (cc) (cc)
+    (ap (λ s. s.pred) c.into_iter-item-iterator.ensures.into_iter_gives ∙ c.split-item-items.ensures.closure) (λ x b q k. search (rules, tests)))
+    c.loop-item.yielded _ c.loop-item.yielded_by _ _ c.in-None.is c.next.ensures.steps in
+    ap (λ (items : List (List ℕ)). all_some (map (item_test o) items)) (sym all.0) ∙ c.loop-item.invariant
