@@ -1,4 +1,5 @@
 pub mod LeadingWords
+pub mod Unlike
 pub mod Filed
 pub mod Pairs
 pub mod PackedStatements

@@ -35,16 +35,21 @@ fn check_label(rest: &[u8]) -> Result<(), MapFaultKind>
     }
 }
 
-// Returns the fault of a line whose first word begins no statement.
-fn fault_of(word: &[u8]) -> MapFaultKind
-    ensures { result ≡ (if is_digit (slice_index word.now 0) || list_any (λ b. b == 58) word.now
-        then BadAddress else BadStatement) }
+// Returns the address that a word is, or else the fault of a line that begins with the word. A word that begins with no
+// digit and has no colon is no address.
+#[tactic(auto, using(crate::proofs::Unlike::unlike_address))]
+fn word_address(word: &[u8]) -> Result<Addr, MapFaultKind>
+    ensures ok { IfOk result (λ addr. address_of word.now ≡ Some (addr.version, addr.value)) }
+    ensures none { OnErr result (address_of word.now ≡ None) }
+    ensures err { IfErr result (λ kind. kind ≡ (if is_digit (slice_index word.now 0)
+        || list_any (λ b. b == 58) word.now then BadAddress else BadStatement)) }
 {
     match word.first() {
-        Some(byte) if byte.is_ascii_digit() => MapFaultKind::BadAddress,
-        _ if word.contains(&b':') => MapFaultKind::BadAddress,
-        _ => MapFaultKind::BadStatement,
+        Some(byte) if byte.is_ascii_digit() => {}
+        _ if word.contains(&b':') => {}
+        _ => return Err(MapFaultKind::BadStatement),
     }
+    read_addr(word).ok_or(MapFaultKind::BadAddress)
 }
 
 // Returns the version that the word of a mode names.
@@ -265,9 +270,9 @@ impl Reading {
             (one_or_two form self.old (first.version, first.value) (address_of (first_word rest.now)) rest.now) result }
     {
         let (word, behind) = split_word(rest);
-        match read_addr(word) {
-            Some(second) => self.read_range(form, first, second, behind),
-            None => {
+        match word_address(word) {
+            Ok(second) => self.read_range(form, first, second, behind),
+            Err(_) => {
                 let block = block_of(first, first.version.width());
                 self.read_behind_block(form, block, rest)
             }
@@ -305,10 +310,11 @@ impl Reading {
             self.read_default(form, rest)
         } else if word.contains(&b'/') {
             self.read_block_line(form, word, rest)
-        } else if let Some(addr) = read_addr(word) {
-            self.read_address_line(form, addr, rest)
         } else {
-            Err(fault_of(word))
+            match word_address(word) {
+                Ok(addr) => self.read_address_line(form, addr, rest),
+                Err(kind) => Err(kind),
+            }
         }
     }
 
