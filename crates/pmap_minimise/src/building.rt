@@ -141,7 +141,8 @@ pub fn built_of(alloc: Global, stretches: Stretches) -> Result<Root, AllocError>
     ensures { IfOk result (IsBuiltOn stretches) }
 {
     let count = stretches.len();
-    let mut nodes = Nodes::with_capacity(alloc, 2 * count - 1, count)?;
+    // Usual maps have fewer nodes, so that none is copied. Memory that isn't written to isn't used.
+    let mut nodes = Nodes::with_capacity(alloc, 2 * count + count / 8, count)?;
     push_window(alloc, &mut nodes, &stretches, &Window::whole(&stretches))?;
     Ok(Root::of_reversed(nodes))
 }
