@@ -20,12 +20,6 @@ use pmap_text::{KeyHashing, Labels, is_label};
 use prefix_keys::Version;
 use std::alloc::Global;
 
-fn is_known(labels: &Labels, text: &[u8]) -> bool
-    ensures { result ≡ has_label labels.now text.now }
-{
-    labels.id_of(text).is_some()
-}
-
 // Reads the next line as a label that the table doesn't have yet.
 fn read_label<'a>(labels: &Labels, lines: &Lines<'a>) -> Result<(&'a [u8], Lines<'a>), CertFault>
     ensures ok { IfOk result (λ x. line_value BadLabelTable (new_label labels.now) lines.now ≡ Ok (x.0.now, x.1)) }
@@ -35,7 +29,7 @@ fn read_label<'a>(labels: &Labels, lines: &Lines<'a>) -> Result<(&'a [u8], Lines
 {
     if let Some((line, after)) = lines.next()
         && is_label(line)
-        && !is_known(labels, line)
+        && !labels.contains(line)
     {
         return Ok((line, after));
     }

@@ -1,5 +1,5 @@
 -- Lemmas about label tables.
-use Rattle.std.proofs.Common.{◌≡◌, ℕ, zero, suc, ◌+◌, ◌<◌, Bool, true, false, not, ◌||◌, cond, if◌then◌else◌, List, [], ◌∷◌, ◌++◌, map, length, length-append, Some, None, IsTrue, ◌⊎◌, inl, inr, refl, sym, ap, subst, ◌∙◌, arith, ltb, get_or}
+use Rattle.std.proofs.Common.{◌≡◌, ℕ, zero, suc, ◌+◌, ◌<◌, Bool, true, false, not, ◌||◌, cond, if◌then◌else◌, List, [], ◌∷◌, ◌++◌, map, length, length-append, Some, None, IsTrue, ◌⊎◌, inl, inr, refl, sym, ap, subst, ◌∙◌, arith, ltb, get_or, Option, option_map}
 use Rattle.std.proofs.lemmas.Bool.Decides.{nat_tests}
 use Rattle.std.proofs.lemmas.List.{length-map, map-append}
 use Rattle.std.proofs.lemmas.List.Folds.{position_or_len_push}
@@ -8,11 +8,13 @@ use Rattle.std.proofs.lemmas.List.Sums.{prefix_len-le-length}
 use Rattle.std.proofs.lemmas.Option.{none-some, slice_get-get_or}
 use Rattle.std.proofs.lemmas.Slice.Eq.{bytes_eq-Decides}
 use Rattle.std.specs.List.{list_any, position_or_len, slice_get}
+use Rattle.std.specs.Option.{is_some}
 use Rattle.std.specs.Prelude.{position}
 use Rattle.std.specs.Str.{bytes_eq}
 use Rattle.indexmap.specs.IndexSet.{insert_key}
 use Rattle.pmap_text.specs.Label.{is_label, has_label, number_of, with_label, IsLabelTable}
 use Rattle.pmap_text.specs.MapModel.{Label}
+use Rattle.pmap_text.specs.declared.label.LabelId.{LabelId}
 
 -- the first index at which a test passes, and a test of any element, after map
 pub position_or_len-map : {X Y : Type 0} (f : X → Y) (p : Y → Bool) (xs : List X) → position_or_len p (map f xs) ≡ position_or_len (λ x. p (f x)) xs
@@ -81,19 +83,19 @@ IsLabelTable-push table x ok label room h = record {
 
 module _ (table : List Label) (x : Label) where
   -- facts about the table from a text's number
-  pub has_label-number : (i : ℕ) → number_of table x ≡ Some i → has_label table x ≡ true
-  has_label-number i e = by (has_label table x) refl
+  pub is_some-number : (found : Option LabelId) → option_map (λ id. id.0) found ≡ number_of table x → is_some found ≡ has_label table x
+  is_some-number found e = by found ∙ ap is_some (e ∙ position-any (bytes_eq x) table) ∙ from (has_label table x)
     where
-      by : (b : Bool) → has_label table x ≡ b → has_label table x ≡ true
-      by true h = h
-      by false h = absurd (none-some i (sym (ap (λ b. cond b (Some (position_or_len (bytes_eq x) table)) None) h) ∙ sym (position-any (bytes_eq x) table) ∙ e))
+      by : (found : Option LabelId) → is_some found ≡ is_some (option_map (λ id. id.0) found)
+      by None = refl
+      by (Some id) = refl
 
-  pub has_label-no_number : number_of table x ≡ None → has_label table x ≡ false
-  has_label-no_number e = by (has_label table x) refl
-    where
-      by : (b : Bool) → has_label table x ≡ b → has_label table x ≡ false
-      by false h = h
-      by true h = absurd (none-some _ (sym e ∙ position-any (bytes_eq x) table ∙ ap (λ b. cond b (Some (position_or_len (bytes_eq x) table)) None) h))
+      from : (b : Bool) → is_some (cond b (Some (position_or_len (bytes_eq x) table)) None) ≡ b
+      from true = refl
+      from false = refl
+
+  pub has_label-number : (i : ℕ) → number_of table x ≡ Some i → has_label table x ≡ true
+  has_label-number i e = sym (is_some-number (Some (record { 0 = i })) (sym e))
 
   pub number_of-known : has_label table x ≡ true → number_of table x ≡ Some (position_or_len (bytes_eq x) table)
   number_of-known h = position-any (bytes_eq x) table ∙ ap (λ b. cond b (Some (position_or_len (bytes_eq x) table)) None) h

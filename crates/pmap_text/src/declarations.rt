@@ -1,4 +1,4 @@
-ghost use Rattle.std.specs.Prelude.{◌≡◌, [], false, option_map, IfSome, IsTrue, OnErr, OnOk};
+ghost use Rattle.std.specs.Prelude.{◌≡◌, ◌↔◌, [], false, option_map, IfSome, IsTrue, OnErr, OnOk};
 ghost use Rattle.pmap_text.specs.Label.{conflicts, declared_text, label_number as number_of_text, meant_text, with_declared, is_label};
 
 use crate::hashing::KeyHashing;
@@ -51,14 +51,6 @@ impl Declarations {
         }
     }
 
-    /// Returns `true` if nothing is declared.
-    #[inline(always)]
-    pub fn is_empty(&self) -> bool
-        ensures { IsTrue result → self.now ≡ [] }
-    {
-        self.numbers.is_empty()
-    }
-
     /// Returns the text that was declared for a number. The text is a label.
     pub fn text_of(&self, number: u32) -> Option<&[u8]>
         ensures value { option_map (λ t. t.now) result ≡ declared_text self.now number }
@@ -98,8 +90,11 @@ impl Declarations {
     /// label itself.
     pub fn meant<'a>(&'a self, label: &'a [u8]) -> &'a [u8]
         ensures value { result.now ≡ meant_text self.now label.now }
-        ensures label { IsTrue (is_label label.now) → IsTrue (is_label result.now) }
+        ensures label { IsTrue (is_label label.now) ↔ IsTrue (is_label result.now) }
     {
+        if self.numbers.is_empty() {
+            return label;
+        }
         let Some(number) = label_number(label) else {
             return label;
         };

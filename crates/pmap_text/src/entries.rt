@@ -1,4 +1,4 @@
-ghost use Rattle.std.specs.Prelude.{◌≡◌, ◌↔◌, [], length, IsTrue};
+ghost use Rattle.std.specs.Prelude.{◌≡◌, length};
 ghost use Rattle.pmap_text.specs.ListEntries.{HasDistinctBlocks};
 
 use crate::entry::Entry;
@@ -37,13 +37,6 @@ impl Entries {
         ensures distinct { HasDistinctBlocks self.now }
     {
         self.items.len()
-    }
-
-    /// Returns `true` if there are no entries.
-    pub fn is_empty(&self) -> bool
-        ensures { IsTrue result ↔ (self.now ≡ []) }
-    {
-        self.items.is_empty()
     }
 
     /// Returns the entries in order.

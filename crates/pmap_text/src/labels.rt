@@ -1,4 +1,4 @@
-ghost use Rattle.std.specs.Prelude.{◌≡◌, ◌<◌, ◌≤◌, ◌↔◌, IsOk, ℕ, [], List, length, Some, IsTrue, IfOk, IfSome, OnErr, OnOk, option_map, slice_get};
+ghost use Rattle.std.specs.Prelude.{◌≡◌, ◌<◌, ◌≤◌, IsOk, ℕ, [], List, length, Some, IsTrue, IfOk, IfSome, OnErr, OnOk, option_map, slice_get};
 ghost use Rattle.pmap_text.specs.Label.{is_label, has_label, number_of, with_label, IsLabelTable};
 
 use crate::hashing::KeyHashing;
@@ -59,13 +59,6 @@ impl Labels {
         self.texts.len()
     }
 
-    /// Returns `true` if there are no texts.
-    pub fn is_empty(&self) -> bool
-        ensures { IsTrue result ↔ (self.now ≡ []) }
-    {
-        self.texts.is_empty()
-    }
-
     /// Returns the text with a number. The text is a label, and its number is this one.
     #[inline(always)]
     pub fn text(&self, id: LabelId) -> Option<&[u8]>
@@ -76,12 +69,20 @@ impl Labels {
         Some(self.texts.get_index(id.0 as usize)?.as_slice())
     }
 
-    /// Returns the number of a text. The text with that number is this one.
+    /// Returns the number of a text. The text with that number is this one, and it is a label.
     pub fn id_of(&self, text: &[u8]) -> Option<LabelId>
         ensures value { option_map (λ id. id.0) result ≡ number_of self.now text.now }
         ensures text { IfSome result (λ id. slice_get self.now id.0 ≡ Some text.now) }
+        ensures label { IfSome result (λ id. IsTrue (is_label text.now)) }
     {
         Some(LabelId(self.texts.get_index_of(text)? as u32))
+    }
+
+    /// Returns `true` if the text is in the table.
+    pub fn contains(&self, text: &[u8]) -> bool
+        ensures { result ≡ has_label self.now text.now }
+    {
+        self.id_of(text).is_some()
     }
 
     /// Returns a table with the same texts and numbers.

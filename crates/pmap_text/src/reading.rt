@@ -60,25 +60,16 @@ impl Model for Reading {
     ghost invariant = { λ r. IsProgress r.version r.default r.statements r.entries.items r.labels };
 }
 
-// Returns `true` if this is the number of the text. The text is then a label.
-#[inline(always)]
-fn is_number_of(labels: &Labels, id: LabelId, text: &[u8]) -> bool
-    ensures number { IsTrue result → number_of labels.now text.now ≡ Some id.0 }
-    ensures label { IsTrue result → IsTrue (is_label_text text.now) }
-{
-    match labels.text(id) {
-        Some(known) => known == text,
-        None => false,
-    }
-}
-
 // Returns the number of a text in the table. The search starts where the text was last found.
 fn known_number(labels: &Labels, recent: &mut Recent, text: &[u8]) -> Option<LabelId>
-    ensures { option_map (λ id. id.0) result ≡ number_of labels.now text.now }
+    ensures label { IfSome result (λ id. IsTrue (is_label_text text.now)) }
+    ensures known { IfSome result (λ id. has_label labels.now text.now ≡ true) }
+    ensures text { IfSome result (λ id. slice_get labels.now id.0 ≡ Some text.now) }
 {
     let guess = recent.guess(text);
-    if is_number_of(labels, guess, text) {
-        return Some(guess);
+    match labels.text(guess) {
+        Some(known) if known == text => return Some(guess),
+        _ => {}
     }
     let id = labels.id_of(text)?;
     recent.remember(text, id);
@@ -86,11 +77,7 @@ fn known_number(labels: &Labels, recent: &mut Recent, text: &[u8]) -> Option<Lab
 }
 
 // Returns the number of a text, which is added to the table if it isn't there.
-fn number_for(
-    labels: &mut Labels,
-    recent: &mut Recent,
-    text: &[u8],
-) -> Result<LabelId, MapFaultKind>
+fn number_for(labels: &mut Labels, text: &[u8]) -> Result<LabelId, MapFaultKind>
     requires label { IsTrue (is_label_text text.now) }
     requires limit { length labels.old ≤ LABEL_LIMIT }
     ensures room { OnOk result (has_room labels.old text.now ≡ true) }
@@ -101,10 +88,7 @@ fn number_for(
     ensures err { IfErr result (λ kind. ((kind ≡ NoMemory) × (has_room labels.old text.now ≡ true))
         ⊎ ((kind ≡ TooMany) × (has_room labels.old text.now ≡ false))) }
 {
-    if let Some(id) = known_number(labels, recent, text) {
-        return Ok(id);
-    }
-    if labels.len() < LABEL_LIMIT {
+    if labels.len() < LABEL_LIMIT || labels.contains(text) {
         labels.add(text).map_err(|_| MapFaultKind::NoMemory)
     } else {
         Err(MapFaultKind::TooMany)
@@ -156,26 +140,6 @@ impl Reading {
         ensures { result ≡ unwrap_or self.now.version own }
     {
         self.version.unwrap_or(own)
-    }
-
-    /// Returns the number of a label that was found recently, if no number is declared. The label's bytes need not be
-    /// checked, since each text of the table is a label.
-    #[inline(always)]
-    pub fn recent_label(&self, label: &[u8]) -> Option<LabelId>
-        ensures label { IfSome result (λ id. IsTrue (is_label_text label.now)) }
-        ensures known { IfSome result (λ id. has_label self.now.table (meant_text self.now.declared label.now) ≡ true) }
-        ensures text { IfSome result (λ id. slice_get self.now.table id.0
-            ≡ Some (meant_text self.now.declared label.now)) }
-    {
-        if !self.declared.is_empty() {
-            return None;
-        }
-        let id = self.recent.guess(label);
-        if is_number_of(&self.labels, id, label) {
-            Some(id)
-        } else {
-            None
-        }
     }
 
     /// Adds a mapping of the text's version. Its version decides that of the text if nothing decided before.

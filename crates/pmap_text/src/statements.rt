@@ -1,4 +1,4 @@
-ghost use Rattle.std.specs.Prelude.{◌≡◌, ◌<◌, ◌++◌, ◌∷◌, ◌↔◌, [], Some, length, slice_get, IfOk, IsTrue, OnErr, OnOk};
+ghost use Rattle.std.specs.Prelude.{◌≡◌, ◌<◌, ◌++◌, ◌∷◌, [], Some, length, slice_get, OnErr, OnOk};
 ghost use Rattle.prefix_keys.specs.declared.version.Version.TheVariants.{V4};
 ghost use Rattle.pmap_text.specs.Packed.{narrow_statement, wide_statement};
 
@@ -110,13 +110,6 @@ impl Statements {
         self.narrow.len() + self.wide.len()
     }
 
-    /// Returns `true` if there are no mappings.
-    pub fn is_empty(&self) -> bool
-        ensures { IsTrue result ↔ (self.now ≡ []) }
-    {
-        self.len() == 0
-    }
-
     /// Returns the mapping at an index.
     pub fn at(&self, place: usize) -> Statement
         requires { place < length self.now }
@@ -127,17 +120,6 @@ impl Statements {
         } else {
             unpack_wide(self.wide[place - self.narrow.len()])
         }
-    }
-
-    /// Returns the mappings in order, unpacked.
-    pub fn to_vec(&self, alloc: Global) -> Result<Vec<Statement>, AllocError>
-        ensures { IfOk result (λ all. all.items ≡ self.now) }
-    {
-        let mut all = Vec::with_capacity(alloc, self.len())?;
-        for place in 0..self.len() {
-            all.push(self.at(place))?;
-        }
-        Ok(all)
     }
 
     /// Appends a mapping. If an allocation fails, the list is unchanged.

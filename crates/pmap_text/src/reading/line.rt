@@ -15,7 +15,7 @@ use crate::label::{LabelId, is_label};
 use crate::leading::{Word, leading_word};
 use crate::lines::split_word;
 use crate::name::Name;
-use crate::reading::{MAPPING_LIMIT, Reading, number_for};
+use crate::reading::{MAPPING_LIMIT, Reading, known_number, number_for};
 use prefix_keys::{
     Addr, Block, BlockFault, Span, Version, are_digits, block_of, read_addr, read_block,
 };
@@ -95,34 +95,27 @@ impl Reading {
         Ok(())
     }
 
-    // Reads a text for this number, given the text after the number.
-    fn read_declared(&mut self, number: u32, rest: &[u8]) -> Result<(), MapFaultKind>
-        ensures { Reads self.old self.new (label_line self.old (Some number) rest.now) result }
-    {
-        check_label(rest)?;
-        if are_digits(rest) {
-            return Err(MapFaultKind::BadLabel);
-        }
-        if self.declared.conflicts(number, rest) {
-            return Err(MapFaultKind::LabelConflict);
-        }
-        number_for(&mut self.labels, &mut self.recent, rest)?;
-        let Ok(()) = self.declared.add(number, rest) else {
-            return Err(MapFaultKind::NoMemory);
-        };
-        Ok(())
-    }
-
     // Reads `label NUMBER TEXT`, given the text after the first word.
     fn read_label(&mut self, rest: &[u8]) -> Result<(), MapFaultKind>
         ensures { Reads self.old self.new
             (label_line self.old (number_of_label (first_word rest.now)) (behind_word rest.now)) result }
     {
-        let (word, rest) = split_word(rest);
-        match label_number(word) {
-            Some(number) => self.read_declared(number, rest),
-            None => Err(MapFaultKind::BadStatement),
+        let (word, text) = split_word(rest);
+        let Some(number) = label_number(word) else {
+            return Err(MapFaultKind::BadStatement);
+        };
+        check_label(text)?;
+        if are_digits(text) {
+            return Err(MapFaultKind::BadLabel);
         }
+        if self.declared.conflicts(number, text) {
+            return Err(MapFaultKind::LabelConflict);
+        }
+        number_for(&mut self.labels, text)?;
+        let Ok(()) = self.declared.add(number, text) else {
+            return Err(MapFaultKind::NoMemory);
+        };
+        Ok(())
     }
 
     // Reads `default LABEL`, given the text after the first word.
@@ -153,17 +146,15 @@ impl Reading {
             × (has_label_room self.old has_room rest.now ≡ false))) }
         ensures kept { OnErr result (self.new.prefixes ≡ self.old.prefixes) }
     {
-        match self.recent_label(rest) {
-            Some(label) if has_room => Ok(label),
-            _ => {
-                check_label(rest)?;
-                if !has_room {
-                    return Err(MapFaultKind::TooMany);
-                }
-                let text = self.declared.meant(rest);
-                number_for(&mut self.labels, &mut self.recent, text)
-            }
+        let text = self.declared.meant(rest);
+        match known_number(&self.labels, &mut self.recent, text) {
+            Some(label) if has_room => return Ok(label),
+            _ => check_label(rest)?,
         }
+        if !has_room {
+            return Err(MapFaultKind::TooMany);
+        }
+        number_for(&mut self.labels, text)
     }
 
     // Reads a span in the text's version followed by a label, given the text after the span.
@@ -259,7 +250,8 @@ impl Reading {
         }
     }
 
-    // Reads a line that begins with an address, given the address and the text after it.
+    // Reads a line that begins with an address, given the address and the text after it. A second address is read in
+    // one pass if possible.
     fn read_address_line(
         &mut self,
         form: Form,
@@ -269,6 +261,9 @@ impl Reading {
         ensures { Reads self.old self.new
             (one_or_two form self.old (first.version, first.value) (address_of (first_word rest.now)) rest.now) result }
     {
+        if let Some((Word::Address(second), behind)) = leading_word(rest) {
+            return self.read_range(form, first, second, behind);
+        }
         let (word, behind) = split_word(rest);
         match word_address(word) {
             Ok(second) => self.read_range(form, first, second, behind),
@@ -276,23 +271,6 @@ impl Reading {
                 let block = block_of(first, first.version.width());
                 self.read_behind_block(form, block, rest)
             }
-        }
-    }
-
-    // Reads a line that begins with an address, given the address and the text after it. A second address is read in
-    // one pass if possible.
-    fn read_behind_address(
-        &mut self,
-        form: Form,
-        first: Addr,
-        rest: &[u8],
-    ) -> Result<(), MapFaultKind>
-        ensures { Reads self.old self.new
-            (one_or_two form self.old (first.version, first.value) (address_of (first_word rest.now)) rest.now) result }
-    {
-        match leading_word(rest) {
-            Some((Word::Address(second), behind)) => self.read_range(form, first, second, behind),
-            _ => self.read_address_line(form, first, rest),
         }
     }
 
@@ -336,7 +314,7 @@ impl Reading {
     {
         match leading_word(content) {
             Some((Word::Block(block), rest)) => self.read_behind_block(form, block, rest),
-            Some((Word::Address(first), rest)) => self.read_behind_address(form, first, rest),
+            Some((Word::Address(first), rest)) => self.read_address_line(form, first, rest),
             None => self.read_words(form, content),
         }
     }

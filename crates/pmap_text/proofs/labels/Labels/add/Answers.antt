@@ -1,18 +1,18 @@
-use Rattle.std.proofs.Common.{◌≡◌, map, Some, sym, ap, subst, ◌∙◌, true≢false, slice_get}
+use Rattle.std.proofs.Common.{◌≡◌, map, None, Some, sym, ap, subst, ◌∙◌, true≢false, slice_get}
 use Rattle.std.specs.List.{position_or_len}
 use Rattle.std.specs.Str.{bytes_eq}
 use Rattle.pmap_text.specs.Label.{number_of, with_label, IsLabelTable}
-use Rattle.pmap_text.proofs.LabelTexts.{has_label-number, has_label-no_number, with_label-known, number_of-added, slice_get-number, slice_get-with_label, position_or_len-map, map-insert_key, IsLabelTable-with_label}
+use Rattle.pmap_text.proofs.LabelTexts.{has_label-number, is_some-number, with_label-known, number_of-added, slice_get-number, slice_get-with_label, position_or_len-map, map-insert_key, IsLabelTable-with_label}
 use Rattle.pmap_text.proofs.labels.Labels.add.Goals as goal
 
 pub returns-in-Some-clause-ok : goal.returns-in-Some-clause-ok
 returns-in-Some-clause-ok c = sym (with_label-known c.args.self.now c.args.text.now (has_label-number c.args.self.now c.args.text.now c.in-Some.id.0 (sym c.in-Some.ensures.value)))
 
 pub returns-in_err-from_slice-clause-known : goal.returns-in_err-from_slice-clause-known
-returns-in_err-from_slice-clause-known c = λ h. absurd (true≢false (sym h ∙ has_label-no_number c.args.self.now c.args.text.now (sym c.in_default.ensures.value)))
+returns-in_err-from_slice-clause-known c = λ h. absurd (true≢false (sym h ∙ sym (is_some-number c.args.self.now c.args.text.now None c.in_default.ensures.value)))
 
 pub returns-in_err-index-clause-known : goal.returns-in_err-index-clause-known
-returns-in_err-index-clause-known c = λ h. absurd (true≢false (sym h ∙ has_label-no_number c.args.self.now c.args.text.now (sym c.in_default.ensures.value)))
+returns-in_err-index-clause-known c = λ h. absurd (true≢false (sym h ∙ sym (is_some-number c.args.self.now c.args.text.now None c.in_default.ensures.value)))
 
 -- the texts after the call
 added : (c : goal.In_ok-index) → map (λ v. v.items) c.insert_full.new.self.keys ≡ with_label c.args.self.now c.args.text.now

@@ -7,8 +7,8 @@ use Rattle.pmap_text.specs.Reading.{Earlier}
 use Rattle.pmap_text.proofs.ProgressSteps.{progress-with_label}
 use Rattle.pmap_text.proofs.reading.Reading.line_label.Goals as goal
 
-pub returns-else-not-has_room-clause-ok : goal.returns-else-not-has_room-clause-ok
-returns-else-not-has_room-clause-ok c =
+pub returns-clause-ok : goal.returns-clause-ok
+returns-clause-ok c =
     let r = c.self.inside in
     let grown = progress-with_label r.version r.name r.declared r.default r.statements r.entries.items r.labels (meant_text r.declared c.args.rest.now) c.self.invariant in
     on_ok_weaker c.number_for.result (λ to. ap (λ (t : List Label). progress_of r.version r.name r.declared r.default r.statements r.entries.items t) (to ∙ ap (with_label r.labels) c.meant-text.ensures.value)
