@@ -1,13 +1,12 @@
-use Rattle.std.proofs.Common.{◌≡◌, ℕ, suc, ◌+◌, ◌*◌, Bool, true, ◌&&◌, ◌⊎◌, List, [], ◌∷◌, Option, Some, None, IsTrue, All, refl, sym, ap, ◌∙◌, subst, inl, inr, ⊎_elim}
-use Rattle.std.proofs.lemmas.Bool.{and_parts, or_cases}
+use Rattle.std.proofs.Common.{◌≡◌, ℕ, suc, ◌+◌, ◌*◌, Bool, true, List, [], ◌∷◌, Option, Some, None, IsTrue, All, refl, sym, ap, ◌∙◌, subst, inl, inr, ⊎_elim}
 use Rattle.std.proofs.lemmas.Option.{cond_some, none-some, same_Some}
 use Rattle.std.proofs.lemmas.List.Elements.{All-head, All-tail}
 use Rattle.prefix_keys.specs.Block.{width_of}
 use Rattle.pmap_text.specs.ListModel.{ListModel}
 use Rattle.pmap_text.specs.MapModel.{Label, MapModel, Mapping, last_such, meets, settled_by, spans_all}
-use Rattle.pmap_cert.specs.CertificateModel.{CertificateModel, ChainNode, InnerNode, LeafNode, Claim, Tree, claim_of, has, common_labels, exact_claim, exact_claim_by}
+use Rattle.pmap_cert.specs.CertificateModel.{CertificateModel, ChainNode, InnerNode, LeafNode, Tree, claim_of, has, exact_claim}
 use Rattle.pmap_cert.specs.Acceptance.{HasItsLabels, IsMinimalPair, StandsFor, entries_of, in_table_order}
-use Rattle.pmap_cert.proofs.Sets.{has-append, has-filter, has-single, same-listed}
+use Rattle.pmap_cert.proofs.Sets.{exact_claim-labels, has-single, same-listed}
 use Rattle.pmap_text.proofs.LastSuch.{last_such-cases}
 
 -- A map has only one minimal pair.
@@ -67,13 +66,6 @@ table-settled_by W n q table fallback x ms (Some s) default all last h =
     let parts = cond_some (spans_all W n q s) s.label x h in
     subst (λ (y : Label). has table y ≡ true) parts.1 (table-mapping table (meets W n q) ms s all last)
 
--- each label of the exact claim is a label of one of the two claims
-exact_claim_by-labels : (p r : Claim) (x : Label) (common : List Label) →
-    ((y : Label) → has common y ≡ (has p.labels y && has r.labels y)) → has (exact_claim_by p r common).labels x ≡ true →
-    (has p.labels x ≡ true) ⊎ (has r.labels x ≡ true)
-exact_claim_by-labels p r x [] both h = or_cases (has p.labels x) (has r.labels x) (sym (has-append p.labels r.labels x) ∙ h)
-exact_claim_by-labels p r x (y ∷ ys) both h = inl ((and_parts (has p.labels x) (has r.labels x) (sym (both x) ∙ h)).0)
-
 -- each label of a node's set is in the map's table
 pub table-node : (m : MapModel) → HasItsLabels m → (t : Tree) (n q : ℕ) → StandsFor m t n q → (x : Label) →
     has (claim_of t).labels x ≡ true → has m.table x ≡ true
@@ -85,5 +77,4 @@ table-node m inside (ChainNode p bits side end) n q stands x h = absurd stands
 table-node m inside (InnerNode p l r) n q stands x h =
     let same = same-listed m.table p (exact_claim (claim_of l) (claim_of r)) stands.1 in
     ⊎_elim (table-node m inside l (suc n) (2 * q) stands.2 x) (table-node m inside r (suc n) (2 * q + 1) stands.3 x)
-    (exact_claim_by-labels (claim_of l) (claim_of r) x (common_labels (claim_of l) (claim_of r))
-    (λ y. has-filter (has (claim_of r).labels) (claim_of l).labels y) (sym (same.labels x) ∙ h))
+    (exact_claim-labels (claim_of l) (claim_of r) x (sym (same.labels x) ∙ h))

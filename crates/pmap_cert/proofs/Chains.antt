@@ -1,12 +1,10 @@
-use Rattle.std.proofs.Common.{◌≡◌, ℕ, zero, suc, ◌+◌, ◌*◌, ◌<◌, ◌≤◌, Bool, true, false, cond, List, [], ◌∷◌, IsTrue, arith, length, refl, sym, ap₂, ◌∙◌, subst, bytes_eq}
-use Rattle.std.proofs.lemmas.Bool.{or_left}
+use Rattle.std.proofs.Common.{◌≡◌, ℕ, zero, suc, ◌+◌, ◌*◌, ◌<◌, ◌≤◌, Bool, true, false, cond, List, [], ◌∷◌, IsTrue, arith, length, refl, sym, ap₂, ◌∙◌, subst}
 use Rattle.pmap_text.specs.ListModel.{ListModel, Prefix}
 use Rattle.pmap_text.specs.MapModel.{Label, MapModel}
 use Rattle.prefix_keys.specs.Block.{width_of}
 use Rattle.pmap_cert.specs.Acceptance.{AreBitsAccepted, IsAccepted, IsLeafAccepted, IsNodeAccepted, IsWithinExact}
 use Rattle.pmap_cert.specs.CertificateModel.{CertificateModel, ChainNode, InnerNode, LeafNode, Claim, Tree, claim_of, has, IsPlain, chain_labels, chain_opened, chain_claim, chosen_half, link, link_claim, links, opened, opened_certificate, claim_by_bits, side_half, IsSameClaim, exact_claim}
-use Rattle.pmap_cert.proofs.ExactClaims.{exact_claim-apart, exact_claim-common, same-exact_claim}
-use Rattle.pmap_cert.proofs.Sets.{bytes_eq-same, has-own, has-single}
+use Rattle.pmap_cert.proofs.Sets.{exact_claim-apart, exact_claim-common, has-head, has-own, has-single, same-exact_claim}
 
 -- A chain's exact claim is the exact claim taken bit by bit, and an accepted certificate with chains is accepted with
 -- each chain opened.
@@ -78,7 +76,7 @@ claim-first bit side e = by_test (has e.labels side) refl
 
 -- the exact set of a chain with a bit has the side label
 has-chain_labels : (n : ℕ) (side : Label) (s : List Label) → has (chain_labels (suc n) side s) side ≡ true
-has-chain_labels zero side s = or_left (bytes_eq side side) (has s side) (bytes_eq-same side)
+has-chain_labels zero side s = has-head side s
 has-chain_labels (suc n) side s = has-own side
 
 -- the exact claim of a chain with one more bit is that of its first link

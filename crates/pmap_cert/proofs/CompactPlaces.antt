@@ -4,7 +4,7 @@ use Rattle.std.proofs.lemmas.Option.{none-some}
 use Rattle.std.proofs.lemmas.List.Elements.{All-append, All-cons, All-head, All-nil, All-tail}
 use Rattle.pmap_cert.specs.FormatReading.{ChainLine, DueLine, InnerLine, LeafLine}
 use Rattle.pmap_cert.specs.Node.{AreWhole, Inner, HasChainForm, IsPlainNode, Chain, Leaf, Node, first_line, first_node, from_next_line, joined, label_of, lines_of, nodes_of, node_of}
-use Rattle.pmap_cert.specs.Inner.{AreEndsFrom, ArePlain, EndsAt, HasHalves, HasPlace, IsShallow, bits_down, end_down, is_leaf, node_from}
+use Rattle.pmap_cert.specs.Inner.{AreEndsFrom, ArePlain, EndsAt, HasHalves, HasPlace, IsShallow, bits_down, end_down, node_from}
 use Rattle.pmap_cert.proofs.ChainWords.{left-room}
 use Rattle.pmap_cert.proofs.CompactNodes.{form-down}
 use Rattle.pmap_cert.proofs.NodeWalk.{line-here, nodes-next, root-of, tree-whole, whole-next, within}
@@ -132,11 +132,6 @@ pub label-at : (lines : List DueLine) (k : ℕ) (line : DueLine) → ArePlain li
     → label_of (node_of line) ≡ label_of (node_from lines k)
 label-at lines k line are inside is =
     ap (λ (l : DueLine). label_of (node_of l)) (is ∙ line-of lines k are inside) ∙ same-label (node_from lines k)
-
-pub leaf-none : (node : Node) (side : ℕ) → label_of node ≡ None → is_leaf side node ≡ false
-leaf-none (Leaf n) side label = absurd (none-of-leaf n label)
-leaf-none (Inner cost set lower upper) side label = refl
-leaf-none (Chain cost set bits x end) side label = refl
 
 -- nodes below shallow ones are shallow, and so are those from a line on
 below-shallow : (nodes : List Node) → All IsShallow nodes → All IsShallow (from_next_line nodes)

@@ -1,5 +1,5 @@
 -- The nodes of a certificate of either format, read and written.
-use Rattle.std.proofs.Common.{◌≡◌, ℕ, zero, suc, ◌+◌, ◌^◌, ◌<◌, ◌≤◌, ◌∙◌, ◌⊎◌, inl, inr, Bool, true, false, List, [], ◌∷◌, ◌++◌, Result, Ok, Err, cond, length, map, nat_le, refl, sym, ap, subst, arith}
+use Rattle.std.proofs.Common.{◌≡◌, ℕ, zero, suc, ◌+◌, ◌-◌, ◌^◌, ◌<◌, ◌≤◌, ◌∙◌, ◌⊎◌, inl, inr, Bool, true, false, List, [], ◌∷◌, ◌++◌, Result, Ok, Err, cond, length, map, nat_le, refl, sym, ap, subst, arith}
 use Rattle.std.proofs.lemmas.Bool.{cond-false, cond-true, le-leb, leb-true}
 use Rattle.std.proofs.lemmas.List.{append_assoc, length-append}
 use Rattle.pmap_text.specs.Label.{IsLabelTable}
@@ -25,18 +25,20 @@ abbrev pub IsReadIn : List Label → ℕ → ℕ → Place → Tree × Place →
 IsReadIn table format room place x =
     (place.pieces ≡ node_lines table x.0 ++ x.1.pieces) × HasNodeForm table x.0 room × (format ≡ 1 → IsPlain x.0)
 
--- a number that isn't less than another is the other and a rest
-rest-of : (a b : ℕ) → b ≤ a → (l : ℕ) × (a ≡ b + l)
-rest-of zero b le = (zero, omega (arith, le))
-rest-of (suc a) zero le = (suc a, omega arith)
-rest-of (suc a) (suc b) le = let rest = rest-of a b (omega (arith, le)) in (rest.0, omega (arith, rest.1))
-
-either-same : {A : Type 0} (b : Bool) (y : A) → cond b y y ≡ y
-either-same true y = refl
-either-same false y = refl
-
 not-ok : (fault : CertFault) (x : Tree × Place) → ◌≡◌ {A = Result (Tree × Place) CertFault} (Err fault) (Ok x) → ⊥
 not-ok fault x e = cc
+
+-- reads a node that is a number of levels and one more below a node that may have `room` levels below it
+abbrev pub inside_of : (Place → Result (DueLine × Place) CertFault) → List Label → ℕ → Place → ℕ → Place → Result (Tree × Place) CertFault
+inside_of due table zero place = λ deeper after. Err (fault_at place TooDeep)
+inside_of due table (suc room) place = nodes_at due table room
+
+-- a node is read by its line and the nodes below it
+pub nodes-step : (due : Place → Result (DueLine × Place) CertFault) (table : List Label) (room : ℕ) (place : Place) → nodes_at due table room 0 place
+    ≡ due place >>= (λ line. due_node table room place (inside_of due table room place) line.0 line.1)
+unfolding nodes_at
+nodes-step due table zero place = refl
+nodes-step due table (suc room) place = refl
 
 -- a node `down` levels below another is read in the room that is left
 pub nodes_at-down : (due : Place → Result (DueLine × Place) CertFault) (table : List Label) (room down left : ℕ) (place : Place) → room ≡ down + left →
@@ -107,62 +109,59 @@ module _ (table : List Label) (ok : IsLabelTable table) (format most : ℕ) wher
         λ first. absurd (not-both first next.1.0),
       )
 
+  -- what is read below a node is well formed in the room that is left
+  abbrev IsFoundBelow : ℕ → Place → Type 0
+  IsFoundBelow room place = (deeper left : ℕ) (after : Place) (x : Tree × Place) → room ≡ suc deeper + left →
+      inside_of due table room place deeper after ≡ Ok x → IsReadIn table format left after x
+
+  found-by : (room : ℕ) (place after : Place) (x : Tree × Place) (line : DueLine) → IsFoundBelow room place → IsNext line place after →
+      due_node table room place (inside_of due table room place) line after ≡ Ok x → IsReadIn table format room place x
+  found-by room place after x (LeafLine number) below next e = leaf-read room number place after x next e
+  found-by zero place after x (InnerLine cost numbers) below next e = absurd cc
+  found-by (suc room) place after x (InnerLine cost numbers) below next e =
+      let claim : Claim = claim_at cost numbers in
+      let low = bind_ok (nodes_at due table room 0 after) (λ (lower : Tree × Place). nodes_at due table room 0 lower.1 >>= (λ (upper : Tree × Place). Ok (InnerNode claim lower.0 upper.0, upper.1))) x e in
+      let up = bind_ok (nodes_at due table room 0 low.0.1) (λ (upper : Tree × Place). Ok (InnerNode claim low.0.0 upper.0, upper.1)) x low.2 in
+      inner-read room cost numbers place after x low.0 up.0 next
+      (below 0 room after low.0 (omega arith) low.1) (below 0 room low.0.1 up.0 (omega arith) up.1)
+      (ok_is (InnerNode claim low.0.0 up.0.0, up.0.1) x up.2)
+  found-by room place after x (ChainLine cost [] side numbers) below next e = absurd cc
+  found-by room place after x (ChainLine cost (bit ∷ bits) side numbers) below next e = by (nat_le (suc (length bits)) room) refl
+    where
+      inside : Result (Tree × Place) CertFault
+      inside = inside_of due table room place (length bits) after
+
+      chain : Tree × Place → Result (Tree × Place) CertFault
+      chain last = Ok (ChainNode (claim_at cost numbers) (bit ∷ bits) (text_at table side) last.0, last.1)
+
+      by : (b : Bool) → nat_le (suc (length bits)) room ≡ b → IsReadIn table format room place x
+      by false h = absurd (not-ok (fault_at place TooDeep) x (sym (cond-false (nat_le (suc (length bits)) room) (inside >>= chain) (Err (fault_at place TooDeep)) h) ∙ e))
+      by true h =
+          let fits : suc (length bits) ≤ room = leb-true (suc (length bits)) room h in
+          let left : ℕ = room - suc (length bits) in
+          let deep : room ≡ suc (length bits) + left = omega (arith, fits) in
+          let last = bind_ok inside chain x (sym (cond-true (nat_le (suc (length bits)) room) (inside >>= chain) (Err (fault_at place TooDeep)) h) ∙ e) in
+          chain-read room left cost (bit ∷ bits) side numbers place after x last.0 next deep (below (length bits) left after last.0 deep last.1)
+          (ok_is (ChainNode (claim_at cost numbers) (bit ∷ bits) (text_at table side) last.0.0, last.0.1) x last.2)
+
+  found-at : (room : ℕ) (place : Place) (x : Tree × Place) → IsFoundBelow room place → nodes_at due table room 0 place ≡ Ok x → IsReadIn table format room place x
+  found-at room place x below e =
+      let found = bind_ok (due place) (λ (line : DueLine × Place). due_node table room place (inside_of due table room place) line.0 line.1) x
+      (sym (nodes-step due table room place) ∙ e) in
+      found-by room place found.0.1 x found.0.0 below (line_due-found format most (length table) place found.0 found.1) found.2
+
   -- a node that is read `down` levels below another is well formed in the room that is left
   pub nodes_at-found : (room down left : ℕ) (place : Place) (x : Tree × Place) → room ≡ down + left →
       nodes_at due table room down place ≡ Ok x → IsReadIn table format left place x
-  unfolding nodes_at
   nodes_at-found zero down left place x deep e =
-      let found = bind_ok (due place) (λ (line : DueLine × Place). due_node table zero place (λ deeper after. Err (fault_at place TooDeep)) line.0 line.1) x e in
-      let said = line_due-found format most (length table) place found.0 found.1 in
-      by found.0.0 found.0.1 said found.2
-    where
-      by : (line : DueLine) (after : Place) → IsNext line place after →
-          due_node table zero place (λ deeper after. Err (fault_at place TooDeep)) line after ≡ Ok x → IsReadIn table format left place x
-      by (LeafLine number) after next e = leaf-read left number place after x next e
-      by (InnerLine cost numbers) after next e = absurd cc
-      by (ChainLine cost [] side numbers) after next e = absurd cc
-      by (ChainLine cost (bit ∷ bits) side numbers) after next e =
-          absurd (not-ok (fault_at place TooDeep) x
-          (sym (either-same (nat_le (suc (length bits)) zero) (Err (fault_at place TooDeep))) ∙ e))
+      subst (λ (r : ℕ). IsReadIn table format r place x) (omega (arith, deep))
+      (found-at zero place x (λ deeper left after y more. absurd (omega (arith, more))) (sym (nodes_at-down due table zero down zero place (omega (arith, deep))) ∙ e))
   nodes_at-found (suc room) zero left place x deep e =
-      let found = bind_ok (due place) (λ (line : DueLine × Place). due_node table (suc room) place (nodes_at due table room) line.0 line.1) x e in
-      let said = line_due-found format most (length table) place found.0 found.1 in
-      let same : suc room ≡ left = omega (arith, deep) in
-      subst (λ (r : ℕ). IsReadIn table format r place x) same
-      (by found.0.0 found.0.1 said (λ down left place x deep e. nodes_at-found room down left place x deep e) found.2)
-    where
-      by : (line : DueLine) (after : Place) → IsNext line place after →
-          ((down left : ℕ) (place : Place) (x : Tree × Place) → room ≡ down + left →
-          nodes_at due table room down place ≡ Ok x → IsReadIn table format left place x) →
-          due_node table (suc room) place (nodes_at due table room) line after ≡ Ok x → IsReadIn table format (suc room) place x
-      by (LeafLine number) after next below e = leaf-read (suc room) number place after x next e
-      by (InnerLine cost numbers) after next below e =
-          let claim : Claim = claim_at cost numbers in
-          let low = bind_ok (nodes_at due table room 0 after) (λ (lower : Tree × Place). nodes_at due table room 0 lower.1 >>= (λ (upper : Tree × Place). Ok (InnerNode claim lower.0 upper.0, upper.1))) x e in
-          let up = bind_ok (nodes_at due table room 0 low.0.1) (λ (upper : Tree × Place). Ok (InnerNode claim low.0.0 upper.0, upper.1)) x low.2 in
-          inner-read room cost numbers place after x low.0 up.0 next
-          (below 0 room after low.0 (omega arith) low.1) (below 0 room low.0.1 up.0 (omega arith) up.1)
-          (ok_is (InnerNode claim low.0.0 up.0.0, up.0.1) x up.2)
-      by (ChainLine cost [] side numbers) after next below e = absurd cc
-      by (ChainLine cost (bit ∷ bits) side numbers) after next below e =
-          by_test (nat_le (suc (length bits)) (suc room)) refl
-        where
-          chain : Tree × Place → Result (Tree × Place) CertFault
-          chain last = Ok (ChainNode (claim_at cost numbers) (bit ∷ bits) (text_at table side) last.0, last.1)
-
-          by_test : (b : Bool) → nat_le (suc (length bits)) (suc room) ≡ b → IsReadIn table format (suc room) place x
-          by_test false h =
-              absurd (not-ok (fault_at place TooDeep) x
-              (sym (cond-false (nat_le (suc (length bits)) (suc room)) (nodes_at due table room (length bits) after >>= chain) (Err (fault_at place TooDeep)) h) ∙ e))
-          by_test true h =
-              let fits : suc (length bits) ≤ suc room = leb-true (suc (length bits)) (suc room) h in
-              let left : (l : ℕ) × (room ≡ length bits + l) = rest-of room (length bits) (omega (arith, fits)) in
-              let last = bind_ok (nodes_at due table room (length bits) after) chain x
-              (sym (cond-true (nat_le (suc (length bits)) (suc room)) (nodes_at due table room (length bits) after >>= chain) (Err (fault_at place TooDeep)) h) ∙ e) in
-              chain-read (suc room) left.0 cost (bit ∷ bits) side numbers place after x last.0 next (omega (arith, left.1))
-              (below (length bits) left.0 after last.0 left.1 last.1)
-              (ok_is (ChainNode (claim_at cost numbers) (bit ∷ bits) (text_at table side) last.0.0, last.0.1) x last.2)
-  nodes_at-found (suc room) (suc down) left place x deep e = nodes_at-found room down left place x (omega (arith, deep)) e
+      subst (λ (r : ℕ). IsReadIn table format r place x) (omega (arith, deep))
+      (found-at (suc room) place x (λ deeper rest after y more. nodes_at-found room deeper rest after y (omega (arith, more))) e)
+  nodes_at-found (suc room) (suc down) left place x deep e =
+      nodes_at-found room down left place x (omega (arith, deep))
+      (nodes_at-down due table room down left place (omega (arith, deep)) ∙ sym (nodes_at-down due table (suc room) (suc down) left place deep) ∙ e)
 
   abbrev at : ℕ → List (List ℕ) → Place
   at number pieces = record { number = number; pieces = pieces }
@@ -199,16 +198,13 @@ module _ (table : List Label) (ok : IsLabelTable table) (format most : ℕ) wher
   pub nodes_at-again : (tree : Tree) (room : ℕ) (rest : List (List ℕ)) (number : ℕ) → room ≤ most → HasNodeForm table tree room → IsKind tree →
       0 < length rest → IsAgain tree room rest number
   unfolding nodes_at
-  nodes_at-again (LeafNode x) zero rest number most_room form kind some = (
-    number + 1,
-    ap (λ (r : Result (DueLine × Place) CertFault). r >>= (λ line. due_node table zero (at number (leaf_line (place_of table x) ∷ rest)) (λ deeper after. Err (fault_at (at number (leaf_line (place_of table x) ∷ rest)) TooDeep)) line.0 line.1)) (due-again format most (length table) few (LeafLine (place_of table x)) number rest form some)
-        ∙ ap (λ (t : Tree). Ok (t, at (number + 1) rest)) (leaf-is x form),
-  )
-  nodes_at-again (LeafNode x) (suc room) rest number most_room form kind some = (
-    number + 1,
-    ap (λ (r : Result (DueLine × Place) CertFault). r >>= (λ line. due_node table (suc room) (at number (leaf_line (place_of table x) ∷ rest)) (nodes_at due table room) line.0 line.1)) (due-again format most (length table) few (LeafLine (place_of table x)) number rest form some)
-        ∙ ap (λ (t : Tree). Ok (t, at (number + 1) rest)) (leaf-is x form),
-  )
+  nodes_at-again (LeafNode x) room rest number most_room form kind some =
+      let here : Place = at number (leaf_line (place_of table x) ∷ rest) in (
+        number + 1,
+        nodes-step due table room here
+            ∙ ap (λ (r : Result (DueLine × Place) CertFault). r >>= (λ line. due_node table room here (inside_of due table room here) line.0 line.1)) (due-again format most (length table) few (LeafLine (place_of table x)) number rest form some)
+            ∙ ap (λ (t : Tree). Ok (t, at (number + 1) rest)) (leaf-is x form),
+      )
   nodes_at-again (InnerNode claim lower upper) zero rest number most_room form kind some = absurd form
   nodes_at-again (InnerNode claim lower upper) (suc room) rest number most_room form kind some =
       let numbers : List ℕ = map (place_of table) claim.labels in

@@ -1,10 +1,10 @@
-use Rattle.std.proofs.Common.{◌≡◌, ℕ, ◌+◌, Bool, true, false, cond, ◌&&◌, ◌||◌, List, [], ◌∷◌, ◌++◌, Option, Some, None, arith, find, slice_index_or, unwrap_or, sym, refl, ap, ◌∙◌, bytes_eq}
-use Rattle.std.proofs.lemmas.Bool.{or_left}
+use Rattle.std.proofs.Common.{◌≡◌, ℕ, ◌+◌, Bool, true, false, cond, ◌&&◌, ◌||◌, List, [], ◌∷◌, Option, Some, None, arith, find, slice_index_or, unwrap_or, sym, refl, ap, ◌∙◌}
+use Rattle.std.proofs.lemmas.Bool.{and_from, or_left}
 use Rattle.pmap_text.specs.MapModel.{Label, MapModel}
 use Rattle.pmap_text.proofs.Finds.{find_passes}
-use Rattle.pmap_cert.specs.CertificateModel.{ChainNode, InnerNode, LeafNode, Claim, Tree, claim_of, has, common_labels, exact_claim, exact_claim_by}
+use Rattle.pmap_cert.specs.CertificateModel.{ChainNode, InnerNode, LeafNode, Claim, Tree, claim_of, has, exact_claim}
 use Rattle.pmap_cert.specs.Acceptance.{StandsFor, handed_on, least_label}
-use Rattle.pmap_cert.proofs.Sets.{bytes_eq-same, has-append, has-filter, has-own, has-single, miss, same-listed}
+use Rattle.pmap_cert.proofs.Sets.{IsExact, apart, common, exact, has-head, has-own, has-single, miss, same-listed}
 
 -- A node of a minimal certificate passes on a label of its set, so its halves have as many entries as it costs.
 
@@ -15,7 +15,7 @@ IsInhabited s = (x : Label) × (has s x ≡ true)
 -- a set that is not empty has its first and its least label
 has-first : (s : List Label) → IsInhabited s → has s (slice_index_or s 0 []) ≡ true
 has-first [] some = some.1
-has-first (x ∷ xs) some = or_left (bytes_eq x x) (has xs x) (bytes_eq-same x)
+has-first (x ∷ xs) some = has-head x xs
 
 pub has-least_label : (table s : List Label) → IsInhabited s → has s (least_label table s) ≡ true
 has-least_label table s some = by_find (find (has s) table) refl
@@ -41,10 +41,12 @@ handed_on-leaf table x h =
     handed.1 ∙ ap Some (sym (has-single x handed.0 handed.2))
 
 -- the exact claim of sets that are not empty has a label
-inhabited-exact_claim_by : (p r : Claim) (common : List Label) → IsInhabited p.labels → IsInhabited (exact_claim_by p r common).labels
-inhabited-exact_claim_by p r [] some =
-    (some.0, has-append p.labels r.labels some.0 ∙ or_left (has p.labels some.0) (has r.labels some.0) some.1)
-inhabited-exact_claim_by p r (x ∷ xs) some = (x, or_left (bytes_eq x x) (has xs x) (bytes_eq-same x))
+inhabited-exact_claim : (p r : Claim) → IsInhabited p.labels → IsInhabited (exact_claim p r).labels
+inhabited-exact_claim p r some = by (exact p r)
+  where
+    by : IsExact p r (exact_claim p r) → IsInhabited (exact_claim p r).labels
+    by (common x low up is) = (x, is.labels x ∙ and_from (has p.labels x) (has r.labels x) low up)
+    by (apart none is) = (some.0, is.labels some.0 ∙ or_left (has p.labels some.0) (has r.labels some.0) some.1)
 
 -- the set of each node that represents a block has a label
 pub inhabited : (m : MapModel) (t : Tree) (n q : ℕ) → StandsFor m t n q → IsInhabited (claim_of t).labels
@@ -52,8 +54,8 @@ inhabited m (LeafNode x) n q h = (x, has-own x)
 inhabited m (ChainNode p bits side end) n q h = absurd h
 inhabited m (InnerNode claim lower upper) n q h =
     let below = inhabited m lower _ _ h.2 in
-    let exact = inhabited-exact_claim_by (claim_of lower) (claim_of upper) (common_labels (claim_of lower) (claim_of upper)) below in
-    (exact.0, (same-listed m.table claim (exact_claim (claim_of lower) (claim_of upper)) h.1).labels exact.0 ∙ exact.1)
+    let some = inhabited-exact_claim (claim_of lower) (claim_of upper) below in
+    (some.0, (same-listed m.table claim (exact_claim (claim_of lower) (claim_of upper)) h.1).labels some.0 ∙ some.1)
 
 -- if both halves inherit a label of the exact set, they have as many entries as the exact claim costs
 misses-one : (a b c : Bool) → false ≡ (a && b) → c ≡ (a || b) → c ≡ true → cond a 0 1 + cond b 0 1 ≡ 1
@@ -62,18 +64,12 @@ misses-one a b c none is h = grind arith
 misses-none : (a b c : Bool) → c ≡ (a && b) → c ≡ true → cond a 0 1 + cond b 0 1 ≡ 0
 misses-none a b c is h = grind arith
 
-exact_claim_by-cost_of : (p r : Claim) (x : Label) (common : List Label) →
-    ((y : Label) → has common y ≡ (has p.labels y && has r.labels y)) →
-    has (exact_claim_by p r common).labels x ≡ true →
-    (exact_claim_by p r common).cost ≡ p.cost + miss (Some x) p.labels + (r.cost + miss (Some x) r.labels)
-exact_claim_by-cost_of p r x [] both h =
-    omega (
-      arith,
-      misses-one (has p.labels x) (has r.labels x) (has (p.labels ++ r.labels) x) (both x) (has-append p.labels r.labels x) h,
-    )
-exact_claim_by-cost_of p r x (y ∷ ys) both h =
-    omega (arith, misses-none (has p.labels x) (has r.labels x) (has (y ∷ ys) x) (both x) h)
-
 pub exact_claim-cost_of : (p r : Claim) (x : Label) → has (exact_claim p r).labels x ≡ true →
     (exact_claim p r).cost ≡ p.cost + miss (Some x) p.labels + (r.cost + miss (Some x) r.labels)
-exact_claim-cost_of p r x h = exact_claim_by-cost_of p r x (common_labels p r) (λ y. has-filter (has r.labels) p.labels y) h
+exact_claim-cost_of p r x h = by (exact p r)
+  where
+    by : IsExact p r (exact_claim p r) → (exact_claim p r).cost ≡ p.cost + miss (Some x) p.labels + (r.cost + miss (Some x) r.labels)
+    by (common y low up is) =
+        omega (arith, is.cost, misses-none (has p.labels x) (has r.labels x) (has (exact_claim p r).labels x) (is.labels x) h)
+    by (apart none is) =
+        omega (arith, is.cost, misses-one (has p.labels x) (has r.labels x) (has (exact_claim p r).labels x) (sym (none x)) (is.labels x) h)

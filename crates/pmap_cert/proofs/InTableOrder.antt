@@ -1,6 +1,6 @@
 -- The certificate of a minimal pair has its sets in the order of the label table, as a text has them.
 use Rattle.std.proofs.Common.{inl, ◌≡◌, ℕ, zero, suc, ◌+◌, ◌*◌, ◌<◌, ◌≤◌, ◌∙◌, ◌++◌, Bool, true, false, not, List, [], ◌∷◌, Some, ap, append-nil, arith, filter, length, map, refl, subst, sym, bytes_eq, slice_get, Ok}
-use Rattle.std.proofs.lemmas.Bool.{ltb-true, or_left, or_right}
+use Rattle.std.proofs.lemmas.Bool.{ltb-true, or_right}
 use Rattle.prefix_keys.specs.Block.{width_of}
 use Rattle.pmap_text.proofs.LabelTexts.{any_place}
 use Rattle.pmap_text.proofs.Settled.{unsettled-halves}
@@ -12,10 +12,9 @@ use Rattle.pmap_cert.proofs.Plain.{plain-stands}
 use Rattle.pmap_cert.proofs.Alike.{table-node}
 use Rattle.pmap_cert.proofs.Ends.{cost-fits}
 use Rattle.pmap_cert.proofs.Existence.{minimal_pair, pair_of}
-use Rattle.pmap_cert.proofs.MapLabels.{labels-read}
-use Rattle.pmap_cert.proofs.MapLimits.{limits-read}
+use Rattle.pmap_cert.proofs.MapLimits.{labels-read, limits-read}
 use Rattle.pmap_cert.proofs.Pieces.{found_at}
-use Rattle.pmap_cert.proofs.Sets.{bytes_eq-same, has-own, same-listed}
+use Rattle.pmap_cert.proofs.Sets.{has-head, has-own, same-listed}
 use Rattle.pmap_cert.proofs.Tables.{ascending-lower}
 use Rattle.pmap_cert.specs.CertificateText.{HasNodeForm, HasTextForm, IsAscending, place_of}
 use Rattle.pmap_cert.specs.CertificateModel.{CertificateModel, ChainNode, InnerNode, LeafNode, Claim, Tree, claim_of, has, exact_claim}
@@ -44,7 +43,7 @@ ascending-table table p ok =
 none-left : (table xs : List Label) → ((x : Label) → has xs x ≡ true → has table x ≡ true) → filter (λ x. not (has table x)) xs ≡ []
 none-left table [] inside = refl
 none-left table (y ∷ ys) inside =
-    let known = inside y (or_left (bytes_eq y y) (has ys y) (bytes_eq-same y)) in
+    let known = inside y (has-head y ys) in
     rw known (none-left table ys (λ x h. inside x (or_right (bytes_eq x y) (has ys x) h)))
 
 pub listed-known : (table : List Label) (claim : Claim) → ((x : Label) → has claim.labels x ≡ true → has table x ≡ true)

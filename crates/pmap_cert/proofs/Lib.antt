@@ -8,7 +8,6 @@ pub mod Handed
 pub mod Entries
 pub mod Minimal
 pub mod Existence
-pub mod ExactClaims
 pub mod Alike
 pub mod SameLists
 pub mod Pieces
@@ -21,7 +20,6 @@ pub mod NodeWalk
 pub mod ReadingSteps
 pub mod Written
 pub mod LineTexts
-pub mod MapLabels
 pub mod MapLimits
 pub mod Ends
 pub mod InTableOrder

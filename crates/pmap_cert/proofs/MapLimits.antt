@@ -20,6 +20,7 @@ use Rattle.pmap_text.specs.MapModel.{Label, MapModel, Mapping}
 use Rattle.pmap_text.specs.declared.fault.MapFault.{MapFault}
 use Rattle.pmap_text.specs.declared.fault.MapFaultKind.{MapFaultKind}
 use Rattle.pmap_text.specs.declared.form.Form.TheVariants as form
+use Rattle.pmap_cert.specs.Acceptance.{HasItsLabels}
 use Rattle.pmap_cert.proofs.FormatWhole.{no_labels}
 use Rattle.pmap_cert.proofs.Sets.{has-append}
 use Rattle.pmap_cert.proofs.Tables.{bind_ok, ok_is}
@@ -267,11 +268,11 @@ limits-read text m read =
     subst IsLimited found.2
     (record { table = whole-table found.0 within (found.0).fallback refl; mappings = within.mappings; name = within.name })
 
-pub labels-known : (text : List ℕ) (m : MapModel) → map_reading text ≡ Ok m
-    → IsTrue (has_label m.table m.fallback) × All (λ p. IsTrue (has_label m.table p.label)) m.mappings
-labels-known text m read =
+-- a map text has all its labels in its table
+pub labels-read : (text : List ℕ) (m : MapModel) → map_reading text ≡ Ok m → HasItsLabels m
+labels-read text m read =
     let found = read-within text m read in
     let e = found.0 in
     let x : Label = unwrap_or e.fallback unknown in
-    subst (λ (m : MapModel). IsTrue (has_label m.table m.fallback) × All (λ p. IsTrue (has_label m.table p.label)) m.mappings) found.2
-    (has_label-with_label e.table x, all-kept e.table x e.mappings (found.1).labels)
+    subst HasItsLabels found.2
+    (record { fallback = has_label-with_label e.table x; mappings = all-kept e.table x e.mappings (found.1).labels })

@@ -1,12 +1,11 @@
-use Rattle.std.proofs.Common.{◌≡◌, ℕ, suc, ◌+◌, ◌*◌, ◌<◌, ◌≤◌, Bool, true, false, ◌&&◌, List, [], ◌∷◌, arith, length, sym, ap, ap₂, ◌∙◌, subst, bytes_eq}
-use Rattle.std.proofs.lemmas.Bool.{or_left}
+use Rattle.std.proofs.Common.{◌≡◌, ℕ, suc, ◌+◌, ◌*◌, ◌<◌, ◌≤◌, Bool, true, false, List, [], ◌∷◌, arith, length, sym, ap, ap₂, subst}
 use Rattle.pmap_text.specs.ListModel.{Prefix}
 use Rattle.pmap_text.specs.MapModel.{Label, MapModel}
 use Rattle.pmap_cert.specs.Acceptance.{AreBitsAccepted, IsNodeAccepted, IsWithinExact}
-use Rattle.pmap_cert.specs.CertificateModel.{ChainNode, InnerNode, LeafNode, Claim, Tree, claim_of, has, chain_claim, link_claim, claim_by_bits, IsSameClaim, common_labels, exact_claim, exact_claim_by}
+use Rattle.pmap_cert.specs.CertificateModel.{ChainNode, InnerNode, LeafNode, Claim, Tree, claim_of, chain_claim, link_claim, claim_by_bits, IsSameClaim, exact_claim}
 use Rattle.pmap_cert.specs.Compacting.{IsPath, OpensTo, line_count}
 use Rattle.pmap_cert.proofs.Chains.{bits-end, claim-by_bits, within-itself, within-same_claim}
-use Rattle.pmap_cert.proofs.Sets.{bytes_eq-same, has-append, has-filter}
+use Rattle.pmap_cert.proofs.Sets.{IsExact, apart, common, exact}
 
 -- A claim that is within the exact claims along a chain's path is within the chain's exact claim, so a node with chains
 -- is accepted if the node that it opens to is.
@@ -19,60 +18,53 @@ within-then a b c e f = record {
       e.labels (omega (arith, e.cost, f.cost)) x (f.labels (omega (arith, e.cost, f.cost)) x h);
 }
 
--- a set has the first label of its list
-own-first : (y : Label) (ys : List Label) → has (y ∷ ys) y ≡ true
-own-first y ys = or_left (bytes_eq y y) (has ys y) (bytes_eq-same y)
-
--- the list has exactly the labels that both claims have
-abbrev IsCommon : Claim → Claim → List Label → Type 0
-IsCommon p r common = (x : Label) → has common x ≡ (has p.labels x && has r.labels x)
-
-exact-within_by : (p r p' r' : Claim) (common common' : List Label) → IsCommon p r common → IsCommon p' r' common' →
-    IsWithinExact p p' → IsWithinExact r r' → IsWithinExact (exact_claim_by p r common) (exact_claim_by p' r' common')
-exact-within_by p r p' r' [] [] both both' e f = record {
-  cost = omega (arith, e.cost, f.cost);
-  labels = λ cost x h.
-      let low = e.labels (omega (arith, e.cost, f.cost)) x in
-      let up = f.labels (omega (arith, e.cost, f.cost)) x in
-      let own = has-append p.labels r.labels x in
-      let given = has-append p'.labels r'.labels x in
-      grind arith;
-}
-exact-within_by p r p' r' [] (y ∷ ys) both both' e f = record {
-  cost =
-      let low = λ (same : p.cost ≡ p'.cost). e.labels same y in
-      let up = λ (same : r.cost ≡ r'.cost). f.labels same y in
-      let least = e.cost in
-      let less = f.cost in
-      let given = sym (both' y) ∙ own-first y ys in
-      let none = both y in
-      grind arith;
-  labels = λ cost x h.
-      let low = λ (same : p.cost ≡ p'.cost). e.labels same x in
-      let up = λ (same : r.cost ≡ r'.cost). f.labels same x in
-      let least = e.cost in
-      let less = f.cost in
-      let own = has-append p.labels r.labels x in
-      let given = both' x in
-      grind arith;
-}
-exact-within_by p r p' r' (y ∷ ys) [] both both' e f = record {
-  cost = omega (arith, e.cost, f.cost);
-  labels = λ cost x h. absurd (omega (arith, e.cost, f.cost));
-}
-exact-within_by p r p' r' (y ∷ ys) (z ∷ zs) both both' e f = record {
-  cost = omega (arith, e.cost, f.cost);
-  labels = λ cost x h.
-      let low = e.labels (omega (arith, e.cost, f.cost)) x in
-      let up = f.labels (omega (arith, e.cost, f.cost)) x in
-      let own = both x in
-      let given = both' x in
-      grind arith;
-}
-
 pub exact-within : (p r p' r' : Claim) → IsWithinExact p p' → IsWithinExact r r' → IsWithinExact (exact_claim p r) (exact_claim p' r')
-exact-within p r p' r' e f =
-    exact-within_by p r p' r' (common_labels p r) (common_labels p' r') (has-filter (has r.labels) p.labels) (has-filter (has r'.labels) p'.labels) e f
+exact-within p r p' r' e f = by (exact p r) (exact p' r')
+  where
+    by : IsExact p r (exact_claim p r) → IsExact p' r' (exact_claim p' r') → IsWithinExact (exact_claim p r) (exact_claim p' r')
+    by (apart none is) (apart none' is') = record {
+      cost = omega (arith, e.cost, f.cost, is.cost, is'.cost);
+      labels = λ cost x h.
+          let low = e.labels (omega (arith, e.cost, f.cost, is.cost, is'.cost)) x in
+          let up = f.labels (omega (arith, e.cost, f.cost, is.cost, is'.cost)) x in
+          let own = is.labels x in
+          let given = is'.labels x in
+          grind arith;
+    }
+    by (apart none is) (common y l u is') = record {
+      cost =
+          let low = λ (same : p.cost ≡ p'.cost). e.labels same y l in
+          let up = λ (same : r.cost ≡ r'.cost). f.labels same y u in
+          let total = is.cost in
+          let total' = is'.cost in
+          let least = e.cost in
+          let less = f.cost in
+          let apart = none y in
+          grind arith;
+      labels = λ cost x h.
+          let low = λ (same : p.cost ≡ p'.cost). e.labels same x in
+          let up = λ (same : r.cost ≡ r'.cost). f.labels same x in
+          let total = is.cost in
+          let total' = is'.cost in
+          let least = e.cost in
+          let less = f.cost in
+          let own = is.labels x in
+          let given = is'.labels x in
+          grind arith;
+    }
+    by (common y l u is) (apart none' is') = record {
+      cost = omega (arith, e.cost, f.cost, is.cost, is'.cost);
+      labels = λ cost x h. absurd (omega (arith, e.cost, f.cost, is.cost, is'.cost));
+    }
+    by (common y l u is) (common y' l' u' is') = record {
+      cost = omega (arith, e.cost, f.cost, is.cost, is'.cost);
+      labels = λ cost x h.
+          let low = e.labels (omega (arith, e.cost, f.cost, is.cost, is'.cost)) x in
+          let up = f.labels (omega (arith, e.cost, f.cost, is.cost, is'.cost)) x in
+          let own = is.labels x in
+          let given = is'.labels x in
+          grind arith;
+    }
 
 link-within : (bit : Bool) (side : Label) (p r : Claim) → IsWithinExact p r → IsWithinExact (link_claim bit side p) (link_claim bit side r)
 link-within true side p r within =

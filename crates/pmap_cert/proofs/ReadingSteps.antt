@@ -1,5 +1,5 @@
 -- Reading labels and nodes one after the other, as the code does.
-use Rattle.std.proofs.Common.{◌≡◌, ℕ, zero, suc, ◌+◌, ◌-◌, ◌<◌, ◌≤◌, ◌∙◌, Bool, List, [], ◌∷◌, ◌++◌, Result, Ok, Err, length, map, nat_le, sym, ap, subst, arith}
+use Rattle.std.proofs.Common.{◌≡◌, ℕ, zero, suc, ◌+◌, ◌-◌, ◌<◌, ◌≤◌, ◌∙◌, Bool, true, false, cond, List, [], ◌∷◌, ◌++◌, Result, Ok, Err, length, map, nat_le, sym, ap, subst, arith}
 use Rattle.std.proofs.lemmas.Bool.{cond-false, cond-true, le-leb, lt-leb}
 use Rattle.std.proofs.lemmas.List.{append_assoc, length_push}
 use Rattle.pmap_text.specs.MapModel.{Label}
@@ -11,7 +11,7 @@ use Rattle.pmap_cert.specs.FormatReading.{ChainLine, DueLine, InnerLine, LeafLin
 use Rattle.pmap_cert.specs.Node.{Chain, HasChainForm, Inner, Leaf, Node, lines_of, tree_of}
 use Rattle.pmap_cert.specs.Inner.{IsReadNode}
 use Rattle.pmap_cert.proofs.ChainWords.{room-left}
-use Rattle.pmap_cert.proofs.FormatTrees.{line_due-found, nodes_at-down}
+use Rattle.pmap_cert.proofs.FormatTrees.{inside_of, line_due-found, nodes-step, nodes_at-down}
 
 -- Reading one more label of a table.
 
@@ -36,22 +36,15 @@ abbrev Read : Type 0
 Read = Result (Tree × Place) CertFault
 
 module _ (due : Place → Result (DueLine × Place) CertFault) (table : List Label) (place after : Place) where
-  abbrev then_in : ℕ → (ℕ → Place → Read) → Result (DueLine × Place) CertFault → Read
-  then_in room inside r = r >>= (λ line. due_node table room place inside line.0 line.1)
-
-  abbrev too_deep : ℕ → Place → Read
-  too_deep deeper behind = Err (fault_at place TooDeep)
+  abbrev then_in : ℕ → Result (DueLine × Place) CertFault → Read
+  then_in room r = r >>= (λ line. due_node table room place (inside_of due table room place) line.0 line.1)
 
   pub node-fault : (room : ℕ) (fault : CertFault) → due place ≡ Err fault → nodes_at due table room 0 place ≡ Err fault
-  unfolding nodes_at
-  node-fault zero fault e = ap (then_in zero too_deep) e
-  node-fault (suc room) fault e = ap (then_in (suc room) (nodes_at due table room)) e
+  node-fault room fault e = nodes-step due table room place ∙ ap (then_in room) e
 
   pub node-leaf : (room number : ℕ) → due place ≡ Ok (LeafLine number, after)
       → nodes_at due table room 0 place ≡ Ok (LeafNode (text_at table number), after)
-  unfolding nodes_at
-  node-leaf zero number e = ap (then_in zero too_deep) e
-  node-leaf (suc room) number e = ap (then_in (suc room) (nodes_at due table room)) e
+  node-leaf room number e = nodes-step due table room place ∙ ap (then_in room) e
 
   module _ (cost : ℕ) (numbers : List ℕ) where
     abbrev claim : Claim
@@ -59,8 +52,7 @@ module _ (due : Place → Result (DueLine × Place) CertFault) (table : List Lab
 
     module _ (is : due place ≡ Ok (InnerLine cost numbers, after)) where
       pub node-deep : nodes_at due table 0 0 place ≡ Err (fault_at place TooDeep)
-      unfolding nodes_at
-      node-deep = ap (then_in zero too_deep) is
+      node-deep = nodes-step due table zero place ∙ ap (then_in zero) is
 
       abbrev upper_then : Tree → Read → Read
       upper_then lower r = r >>= (λ upper. Ok (InnerNode claim lower upper.0, upper.1))
@@ -69,8 +61,7 @@ module _ (due : Place → Result (DueLine × Place) CertFault) (table : List Lab
       lower_then room r = r >>= (λ lower. upper_then lower.0 (nodes_at due table room 0 lower.1))
 
       inner : (room : ℕ) → nodes_at due table (suc room) 0 place ≡ lower_then room (nodes_at due table room 0 after)
-      unfolding nodes_at
-      inner room = ap (then_in (suc room) (nodes_at due table room)) is
+      inner room = nodes-step due table (suc room) place ∙ ap (then_in (suc room)) is
 
       -- an inner node is read by its halves if there is room below it
       pub deeper : (room : ℕ) → 0 < room → nodes_at due table room 0 place ≡ lower_then (room - 1) (nodes_at due table (room - 1) 0 after)
@@ -96,22 +87,17 @@ module _ (due : Place → Result (DueLine × Place) CertFault) (table : List Lab
 
     pub chain-deep : (bits : List Bool) (side room : ℕ) → due place ≡ Ok (ChainLine cost bits side numbers, after) → room < length bits → 0 < length bits
         → nodes_at due table room 0 place ≡ Err (fault_at place TooDeep)
-    unfolding nodes_at
     chain-deep [] side room is h some = absurd (omega arith)
-    chain-deep (bit ∷ bits) side zero is h some =
-        ap (then_in zero too_deep) is
-        ∙ cond-false (nat_le (suc (length bits)) zero) (end_then (bit ∷ bits) side (Err (fault_at place TooDeep))) (Err (fault_at place TooDeep)) (lt-leb _ _ (omega arith))
-    chain-deep (bit ∷ bits) side (suc room) is h some =
-        ap (then_in (suc room) (nodes_at due table room)) is
-        ∙ cond-false (nat_le (suc (length bits)) (suc room)) (end_then (bit ∷ bits) side (nodes_at due table room (length bits) after)) (Err (fault_at place TooDeep)) (lt-leb _ _ (omega arith))
+    chain-deep (bit ∷ bits) side room is h some =
+        nodes-step due table room place ∙ ap (then_in room) is
+        ∙ cond-false (nat_le (suc (length bits)) room) (end_then (bit ∷ bits) side (inside_of due table room place (length bits) after)) (Err (fault_at place TooDeep)) (lt-leb _ _ (omega arith))
 
     pub chain-in : (bits : List Bool) (side room : ℕ) → due place ≡ Ok (ChainLine cost bits side numbers, after) → length bits ≤ room → 0 < length bits
         → nodes_at due table room 0 place ≡ end_then bits side (nodes_at due table (room - length bits) 0 after)
-    unfolding nodes_at
     chain-in [] side room is h some = absurd (omega arith)
     chain-in (bit ∷ bits) side zero is h some = absurd (omega arith)
     chain-in (bit ∷ bits) side (suc room) is h some =
-        ap (then_in (suc room) (nodes_at due table room)) is
+        nodes-step due table (suc room) place ∙ ap (then_in (suc room)) is
         ∙ cond-true (nat_le (suc (length bits)) (suc room)) (end_then (bit ∷ bits) side (nodes_at due table room (length bits) after)) (Err (fault_at place TooDeep)) (le-leb _ _ (omega arith))
         ∙ ap (end_then (bit ∷ bits) side)
         (nodes_at-down due table room (length bits) (suc room - suc (length bits)) after (omega arith))
@@ -152,10 +138,16 @@ module _ (format : Format) (most : ℕ) (table : List Label) where
         chain-in due_in table place after cost numbers bits side room due (omega (arith, fits, is)) (chain-bits place after cost bits side numbers due)
         ∙ ap (end_then due_in table place after cost numbers bits side) (ap (λ (n : ℕ). nodes_at due_in table (room - n) 0 after) (sym is) ∙ e)
 
+  -- lines that are kept, if any are, after others
+  kept-joined : (keeps : Bool) (old next last a b : List DueLine) → next ≡ cond keeps (old ++ a) old → last ≡ cond keeps (next ++ b) next
+      → last ≡ cond keeps (old ++ (a ++ b)) old
+  kept-joined true old next last a b e f = f ∙ ap (λ (ls : List DueLine). ls ++ b) e ∙ append_assoc old a b
+  kept-joined false old next last a b e f = f ∙ e
+
   -- a leaf that was read, and its line after the old ones
-  pub read-leaf : (room : ℕ) (place after : Place) (number : ℕ) (old new : List DueLine) → due_in place ≡ Ok (LeafLine number, after)
-      → new ≡ old ++ LeafLine number ∷ [] → IsReadNode format most table room place old new after
-  read-leaf room place after number old new due is =
+  pub read-leaf : (room : ℕ) (place after : Place) (number : ℕ) (keeps : Bool) (old new : List DueLine) → due_in place ≡ Ok (LeafLine number, after)
+      → new ≡ cond keeps (old ++ LeafLine number ∷ []) old → IsReadNode format most table room place keeps old new after
+  read-leaf room place after number keeps old new due is =
       let said = line_due-found (format_number format) most (length table) place (LeafLine number, after) due in record {
         node = Leaf number;
         read = node-leaf due_in table place after room number due;
@@ -164,11 +156,11 @@ module _ (format : Format) (most : ℕ) (table : List Label) where
         lines = is;
       }
 
-  pub read-inner : (room : ℕ) (place after middle end : Place) (cost : ℕ) (numbers : List ℕ) (old first second third : List DueLine)
-      → due_in place ≡ Ok (InnerLine cost numbers, after) → 0 < room → first ≡ old ++ InnerLine cost numbers ∷ []
-      → IsReadNode format most table (room - 1) after first second middle → IsReadNode format most table (room - 1) middle second third end
-      → IsReadNode format most table room place old third end
-  read-inner room place after middle end cost numbers old first second third due some is low up =
+  pub read-inner : (room : ℕ) (place after middle end : Place) (cost : ℕ) (numbers : List ℕ) (keeps : Bool) (old first second third : List DueLine)
+      → due_in place ≡ Ok (InnerLine cost numbers, after) → 0 < room → first ≡ cond keeps (old ++ InnerLine cost numbers ∷ []) old
+      → IsReadNode format most table (room - 1) after keeps first second middle → IsReadNode format most table (room - 1) middle keeps second third end
+      → IsReadNode format most table room place keeps old third end
+  read-inner room place after middle end cost numbers keeps old first second third due some is low up =
       let said = line_due-found (format_number format) most (length table) place (InnerLine cost numbers, after) due in
       let more : suc (room - 1) ≡ room = omega arith in
       let node : Node = Inner cost numbers low.node up.node in record {
@@ -177,15 +169,14 @@ module _ (format : Format) (most : ℕ) (table : List Label) where
         form = subst (HasChainForm (length table) node) more (said.1.0, said.1.1, low.form, up.form);
         kind = inner-kind format cost numbers low.node up.node low.kind up.kind;
         lines =
-            up.lines ∙ ap (λ (ls : List DueLine). ls ++ lines_of up.node) (low.lines ∙ ap (λ (ls : List DueLine). ls ++ lines_of low.node) is)
-            ∙ append_assoc (old ++ InnerLine cost numbers ∷ []) (lines_of low.node) (lines_of up.node)
-            ∙ append_assoc old (InnerLine cost numbers ∷ []) (lines_of low.node ++ lines_of up.node);
+            kept-joined keeps old first third (InnerLine cost numbers ∷ []) (lines_of low.node ++ lines_of up.node) is
+            (kept-joined keeps first second third (lines_of low.node) (lines_of up.node) low.lines up.lines);
       }
 
-  pub read-chain : (room : ℕ) (place after end : Place) (cost : ℕ) (bits : List Bool) (side : ℕ) (numbers : List ℕ) (old first second : List DueLine)
-      → due_in place ≡ Ok (ChainLine cost bits side numbers, after) → length bits ≤ room → first ≡ old ++ ChainLine cost bits side numbers ∷ []
-      → IsReadNode format most table (room - length bits) after first second end → IsReadNode format most table room place old second end
-  read-chain room place after end cost bits side numbers old first second due fits is last =
+  pub read-chain : (room : ℕ) (place after end : Place) (cost : ℕ) (bits : List Bool) (side : ℕ) (numbers : List ℕ) (keeps : Bool) (old first second : List DueLine)
+      → due_in place ≡ Ok (ChainLine cost bits side numbers, after) → length bits ≤ room → first ≡ cond keeps (old ++ ChainLine cost bits side numbers ∷ []) old
+      → IsReadNode format most table (room - length bits) after keeps first second end → IsReadNode format most table room place keeps old second end
+  read-chain room place after end cost bits side numbers keeps old first second due fits is last =
       let said = line_due-found (format_number format) most (length table) place (ChainLine cost bits side numbers, after) due in
       let some = said.1.2 in record {
         node = Chain cost numbers bits side last.node;
@@ -200,7 +191,5 @@ module _ (format : Format) (most : ℕ) (table : List Label) where
           room-left (HasChainForm (length table) last.node) bits room (room - length bits) (omega arith) last.form,
         );
         kind = chain-kind format cost numbers bits side last.node said.1.0;
-        lines =
-            last.lines ∙ ap (λ (ls : List DueLine). ls ++ lines_of last.node) is
-            ∙ append_assoc old (ChainLine cost bits side numbers ∷ []) (lines_of last.node);
+        lines = kept-joined keeps old first second (ChainLine cost bits side numbers ∷ []) (lines_of last.node) is last.lines;
       }

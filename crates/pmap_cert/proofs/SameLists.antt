@@ -11,9 +11,8 @@ use Rattle.pmap_text.proofs.Settled.{map_label-settled, unsettled-halves}
 use Rattle.pmap_cert.specs.CertificateModel.{ChainNode, InnerNode, LeafNode, Claim, IsSameClaim, Tree, claim_of, exact_claim, exact_claim_by, has}
 use Rattle.pmap_cert.specs.Acceptance.{HasItsLabels, StandsFor, entries_of, handed_on, has_inherited, least_label, own_entry}
 use Rattle.pmap_cert.proofs.Alike.{table-node}
-use Rattle.pmap_cert.proofs.ExactClaims.{same-exact_claim}
 use Rattle.pmap_cert.proofs.Handed.{handed_on-leaf, inhabited}
-use Rattle.pmap_cert.proofs.Sets.{has-own, same-listed}
+use Rattle.pmap_cert.proofs.Sets.{has-own, same-exact_claim, same-listed}
 
 -- a test that a label of the table passes is passed by the one that is found
 found-some : (test : Label → Bool) (table : List Label) (x : Label) → has table x ≡ true → test x ≡ true → find test table ≡ None → ⊥

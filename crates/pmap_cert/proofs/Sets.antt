@@ -1,8 +1,9 @@
-use Rattle.std.proofs.Common.{◌≡◌, ℕ, ◌+◌, ◌≤◌, Bool, true, false, cond, ◌&&◌, ◌||◌, List, [], ◌∷◌, ◌++◌, Option, Some, None, arith, filter, sym, refl, ap, ◌∙◌, bytes_eq, ap₂, not}
+use Rattle.std.proofs.Common.{◌≡◌, ◌⊎◌, ℕ, ◌+◌, ◌≤◌, Bool, true, false, cond, ◌&&◌, ◌||◌, List, [], ◌∷◌, ◌++◌, Option, Some, None, arith, filter, sym, refl, ap, ◌∙◌, bytes_eq, ap₂, not, inl}
+use Rattle.std.proofs.lemmas.Bool.{and_from, and_parts, false≢true, or_cases, or_left}
 use Rattle.std.proofs.lemmas.Slice.Eq.{bytes_eq-Decides}
 use Rattle.std.proofs.Math.Bool.{or-false, or_assoc}
 use Rattle.pmap_text.specs.MapModel.{Label}
-use Rattle.pmap_cert.specs.CertificateModel.{Claim, has, IsSameClaim, common_labels, exact_claim, exact_claim_by}
+use Rattle.pmap_cert.specs.CertificateModel.{Claim, has, IsClaimWith, IsSameClaim, common_labels, exact_claim, exact_claim_by}
 use Rattle.pmap_cert.specs.Acceptance.{has_inherited, in_table_order}
 
 -- Sets of labels, and the cost of the exact claim of two claims.
@@ -14,6 +15,10 @@ bytes_eq-same x = (bytes_eq-Decides x x).1 refl
 -- a set of one label has this label
 pub has-own : (x : Label) → has (x ∷ []) x ≡ true
 has-own x = rw (bytes_eq-same x)
+
+-- a set has the first label of its list
+pub has-head : (x : Label) (xs : List Label) → has (x ∷ xs) x ≡ true
+has-head x xs = or_left (bytes_eq x x) (has xs x) (bytes_eq-same x)
 
 -- a set of one label has no other label
 pub has-single : (x y : Label) → has (x ∷ []) y ≡ true → x ≡ y
@@ -64,6 +69,62 @@ miss h s = cond (has_inherited s h) 0 1
 pub miss-le : (h : Option Label) (s : List Label) → miss h s ≤ 1
 miss-le h s = grind arith
 
+-- The exact claim of two claims is that of their common labels, or, without any, of the labels of both.
+pub data IsExact (p r e : Claim) : Type 0 where
+  common : (x : Label) (low : has p.labels x ≡ true) (up : has r.labels x ≡ true)
+      (is : IsClaimWith e (p.cost + r.cost) (λ y. has p.labels y && has r.labels y)) → IsExact p r e
+  apart : (none : (x : Label) → (has p.labels x && has r.labels x) ≡ false)
+      (is : IsClaimWith e (p.cost + r.cost + 1) (λ y. has p.labels y || has r.labels y)) → IsExact p r e
+
+pub exact : (p r : Claim) → IsExact p r (exact_claim p r)
+exact p r = by (common_labels p r) (has-filter (has r.labels) p.labels)
+  where
+    by : (xs : List Label) → ((x : Label) → has xs x ≡ (has p.labels x && has r.labels x)) → IsExact p r (exact_claim_by p r xs)
+    by [] both = apart (λ x. sym (both x)) (record { cost = refl; labels = has-append p.labels r.labels })
+    by (x ∷ xs) both =
+        let known = and_parts (has p.labels x) (has r.labels x) (sym (both x) ∙ has-head x xs) in
+        common x known.0 known.1 (record { cost = refl; labels = both })
+
+pub exact_claim-common : (p r : Claim) (x : Label) → has p.labels x ≡ true → has r.labels x ≡ true →
+    IsClaimWith (exact_claim p r) (p.cost + r.cost) (λ y. has p.labels y && has r.labels y)
+exact_claim-common p r x low up = by (exact p r)
+  where
+    by : IsExact p r (exact_claim p r) → IsClaimWith (exact_claim p r) (p.cost + r.cost) (λ y. has p.labels y && has r.labels y)
+    by (common y l u is) = is
+    by (apart none is) = absurd (false≢true (sym (none x) ∙ and_from (has p.labels x) (has r.labels x) low up))
+
+pub exact_claim-apart : (p r : Claim) → ((x : Label) → (has p.labels x && has r.labels x) ≡ false) →
+    IsClaimWith (exact_claim p r) (p.cost + r.cost + 1) (λ y. has p.labels y || has r.labels y)
+exact_claim-apart p r none = by (exact p r)
+  where
+    by : IsExact p r (exact_claim p r) → IsClaimWith (exact_claim p r) (p.cost + r.cost + 1) (λ y. has p.labels y || has r.labels y)
+    by (common x low up is) = absurd (false≢true (sym (none x) ∙ and_from (has p.labels x) (has r.labels x) low up))
+    by (apart nothing is) = is
+
+-- the exact claims of claims with the same costs and sets have the same cost and set
+pub same-exact_claim : (p r p' r' : Claim) → IsSameClaim p p' → IsSameClaim r r' → IsSameClaim (exact_claim p r) (exact_claim p' r')
+same-exact_claim p r p' r' same same' = by (exact p r)
+  where
+    by : IsExact p r (exact_claim p r) → IsSameClaim (exact_claim p r) (exact_claim p' r')
+    by (common x low up is) =
+        let is' = exact_claim-common p' r' x (sym (same.labels x) ∙ low) (sym (same'.labels x) ∙ up) in record {
+          cost = omega (arith, is.cost, is'.cost, same.cost, same'.cost);
+          labels = λ y. is.labels y ∙ ap₂ ◌&&◌ (same.labels y) (same'.labels y) ∙ sym (is'.labels y);
+        }
+    by (apart none is) =
+        let is' = exact_claim-apart p' r' (λ x. ap₂ ◌&&◌ (sym (same.labels x)) (sym (same'.labels x)) ∙ none x) in record {
+          cost = omega (arith, is.cost, is'.cost, same.cost, same'.cost);
+          labels = λ y. is.labels y ∙ ap₂ ◌||◌ (same.labels y) (same'.labels y) ∙ sym (is'.labels y);
+        }
+
+-- each label of the exact claim is a label of one of the two claims
+pub exact_claim-labels : (p r : Claim) (x : Label) → has (exact_claim p r).labels x ≡ true → (has p.labels x ≡ true) ⊎ (has r.labels x ≡ true)
+exact_claim-labels p r x h = by (exact p r)
+  where
+    by : IsExact p r (exact_claim p r) → (has p.labels x ≡ true) ⊎ (has r.labels x ≡ true)
+    by (common y low up is) = inl ((and_parts (has p.labels x) (has r.labels x) (sym (is.labels x) ∙ h)).0)
+    by (apart none is) = or_cases (has p.labels x) (has r.labels x) (sym (is.labels x) ∙ h)
+
 -- an inherited label costs with the exact claim no more than with both halves
 misses-union : (a b c : Bool) → false ≡ (a && b) → c ≡ (a || b) → 1 + cond c 0 1 ≤ cond a 0 1 + cond b 0 1
 misses-union a b c none is = grind arith
@@ -71,17 +132,15 @@ misses-union a b c none is = grind arith
 misses-common : (a b c : Bool) → c ≡ (a && b) → cond c 0 1 ≤ cond a 0 1 + cond b 0 1
 misses-common a b c is = grind arith
 
-exact_claim_by-cost : (p r : Claim) (h : Option Label) (common : List Label) →
-    ((x : Label) → has common x ≡ (has p.labels x && has r.labels x)) →
-    (exact_claim_by p r common).cost + miss h (exact_claim_by p r common).labels
-    ≤ p.cost + miss h p.labels + (r.cost + miss h r.labels)
-exact_claim_by-cost p r None [] both = omega arith
-exact_claim_by-cost p r None (y ∷ ys) both = omega arith
-exact_claim_by-cost p r (Some x) [] both =
-    omega (arith, misses-union (has p.labels x) (has r.labels x) (has (p.labels ++ r.labels) x) (both x) (has-append p.labels r.labels x))
-exact_claim_by-cost p r (Some x) (y ∷ ys) both =
-    omega (arith, misses-common (has p.labels x) (has r.labels x) (has (y ∷ ys) x) (both x))
-
 pub exact_claim-cost : (p r : Claim) (h : Option Label) →
     (exact_claim p r).cost + miss h (exact_claim p r).labels ≤ p.cost + miss h p.labels + (r.cost + miss h r.labels)
-exact_claim-cost p r h = exact_claim_by-cost p r h (common_labels p r) (λ x. has-filter (has r.labels) p.labels x)
+exact_claim-cost p r h = by h (exact p r)
+  where
+    by : (h : Option Label) → IsExact p r (exact_claim p r) →
+        (exact_claim p r).cost + miss h (exact_claim p r).labels ≤ p.cost + miss h p.labels + (r.cost + miss h r.labels)
+    by None (common y low up is) = omega (arith, is.cost)
+    by None (apart none is) = omega (arith, is.cost)
+    by (Some x) (common y low up is) =
+        omega (arith, is.cost, misses-common (has p.labels x) (has r.labels x) (has (exact_claim p r).labels x) (is.labels x))
+    by (Some x) (apart none is) =
+        omega (arith, is.cost, misses-union (has p.labels x) (has r.labels x) (has (exact_claim p r).labels x) (sym (none x)) (is.labels x))

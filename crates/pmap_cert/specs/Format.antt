@@ -1,5 +1,6 @@
 use Rattle.std.specs.Prelude.{ℕ}
 use Rattle.std.specs.Coded.{Unit-prop}
+use Rattle.prefix_keys.specs.declared.version.Version.{Version}
 use Rattle.pmap_cert.specs.Node.{Chain, Inner, IsPlainNode, Leaf, Node}
 pub use Rattle.pmap_cert.specs.declared.format.Format.{Format}
 pub use Rattle.pmap_cert.specs.declared.format.Format.TheVariants.{One, Two}
@@ -7,6 +8,10 @@ pub use Rattle.pmap_cert.specs.declared.format.Format.TheVariants.{One, Two}
 abbrev pub format_number : Format → ℕ
 format_number One = 1
 format_number Two = 2
+
+-- the format number, the version and the number of labels of a header
+abbrev pub header_of : Format × Version × ℕ → ℕ × (Version × ℕ)
+header_of h = (format_number h.0, (h.1, h.2))
 
 -- the format allows the node: in format 1 it has no chain
 abbrev pub IsNodeOf : Format → Node → Type 0

@@ -9,5 +9,4 @@ pub mod Packed
 pub mod Paths
 pub mod Format
 pub mod Certificate
-pub mod Words
 pub mod Inner

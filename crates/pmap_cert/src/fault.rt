@@ -1,7 +1,7 @@
 ghost use Rattle.std.specs.Prelude.{◌≡◌};
 ghost use Rattle.pmap_cert.specs.declared.fault.CertFaultKind.TheVariants.{NoMemory};
 
-use std::alloc::{AllocError, AllocFailed};
+use std::alloc::AllocError;
 use thiserror::Error;
 
 /// The kind of a fault of a certificate's text.
@@ -35,17 +35,6 @@ impl From<AllocError> for CertFault {
     ghost from_gives = { λ _ fault. fault ≡ record { kind = NoMemory; line = 0 } };
 
     fn from(_error: AllocError) -> CertFault {
-        CertFault {
-            kind: CertFaultKind::NoMemory,
-            line: 0,
-        }
-    }
-}
-
-impl<T: Drop> From<AllocFailed<T>> for CertFault {
-    ghost from_gives = { λ _ fault. fault ≡ record { kind = NoMemory; line = 0 } };
-
-    fn from(_error: AllocFailed<T>) -> CertFault {
         CertFault {
             kind: CertFaultKind::NoMemory,
             line: 0,

@@ -1,21 +1,12 @@
 //! The header of a certificate.
 ghost use Rattle.std.specs.Prelude.{◌≡◌, ◌≢◌, ◌++◌, List, MatchOption, option_map, ℕ};
 ghost use Rattle.prefix_keys.specs.declared.version.Version.{Version};
-ghost use Rattle.pmap_cert.specs.Format.{Format, format_number};
+ghost use Rattle.pmap_cert.specs.Format.{Format, format_number, header_of};
 ghost use Rattle.pmap_cert.specs.Inner.{BeginsWithHeader, Reads, header_name};
-ghost use Rattle.pmap_cert.specs.Words.{header_model};
 
 use crate::format::Format;
 use crate::node_line::last_number;
 use prefix_keys::Version;
-
-/// The values of a header: the format, the version of addresses and the number of labels.
-#[derive(Clone, Copy)]
-pub struct Header {
-    pub format: Format,
-    pub version: Version,
-    pub count: u32,
-}
 
 // Reads the part of a header before the number of labels, and returns the text after it.
 fn name(text: &[u8]) -> Option<(Format, Version, &[u8])>
@@ -36,18 +27,12 @@ fn name(text: &[u8]) -> Option<(Format, Version, &[u8])>
     }
 }
 
-/// Reads the header at the beginning of a text, and returns it with the text after its line.
-pub fn read_header(text: &[u8]) -> Option<(Header, &[u8])>
-    ensures { Reads (BeginsWithHeader text.now) (option_map (λ x. (header_model x.0, x.1.now)) result) }
+/// Reads the header at the beginning of a text, and returns its format, its version and its number of labels, and the
+/// text after its line.
+pub fn read_header(text: &[u8]) -> Option<((Format, Version, u32), &[u8])>
+    ensures { Reads (BeginsWithHeader text.now) (option_map (λ x. (header_of x.0, x.1.now)) result) }
 {
     let (format, version, rest) = name(text)?;
     let (count, rest) = last_number(rest, 65537)?;
-    Some((
-        Header {
-            format,
-            version,
-            count,
-        },
-        rest,
-    ))
+    Some(((format, version, count), rest))
 }

@@ -1,14 +1,14 @@
 ghost use Rattle.std.specs.Prelude.{◌≡◌, ◌≢◌, Err, IfErr, IfOk, Ok, length, option_map};
-ghost use Rattle.pmap_cert.specs.Format.{format_number};
+ghost use Rattle.pmap_cert.specs.Format.{format_number, header_of};
 ghost use Rattle.pmap_cert.specs.FormatReading.{fault_at, format_header_at, is_ended, line_due_at, next_line, start_of, NoMemory};
 ghost use Rattle.pmap_cert.specs.Packed.{line_of};
-ghost use Rattle.pmap_cert.specs.Words.{header_model};
 
 use crate::fault::{CertFault, CertFaultKind};
-use crate::header::{Header, read_header};
+use crate::format::Format;
+use crate::header::read_header;
 use crate::node::Node;
 use crate::node_line::{Frame, Kept, node_line};
-use prefix_keys::find_byte;
+use prefix_keys::{Version, find_byte};
 use std::marker::Model;
 
 /// The rest of a text, and the number of lines read so far.
@@ -52,9 +52,10 @@ impl<'a> Lines<'a> {
         Some((&self.rest[..end], after))
     }
 
-    /// Reads the header and returns it with the lines that follow, or a `BadHeader` fault.
-    pub fn header(&self) -> Result<(Header, Lines<'a>), CertFault>
-        ensures ok { IfOk result (λ x. format_header_at self.now ≡ Ok (header_model x.0, x.1)) }
+    /// Reads the header, and returns its format, its version and its number of labels with the lines that follow, or a
+    /// `BadHeader` fault.
+    pub fn header(&self) -> Result<((Format, Version, u32), Lines<'a>), CertFault>
+        ensures ok { IfOk result (λ x. format_header_at self.now ≡ Ok (header_of x.0, x.1)) }
         ensures err { IfErr result (λ fault. format_header_at self.now ≡ Err fault) }
     {
         match read_header(self.rest) {

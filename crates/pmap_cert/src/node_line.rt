@@ -19,9 +19,10 @@ pub struct Frame<'a> {
     ghost narrow: { width ≤ 128 },
 }
 
-/// The memory for the set and the bits of the node that was read last.
+/// The memory for the set and the bits of the node that was read last, and its allocator.
 #[derive(Drop)]
 pub struct Kept {
+    pub alloc: Global,
     set: Vec<LabelId>,
     path: Path,
 }
@@ -30,6 +31,7 @@ impl Kept {
     /// Constructs the set and the bits before the first line, which are empty.
     pub fn new(alloc: Global) -> Kept {
         Kept {
+            alloc,
             set: Vec::new(alloc),
             path: Path { value: 0, count: 0 },
         }
@@ -47,20 +49,6 @@ fn after_byte(text: &[u8], byte: u8) -> Option<&[u8]>
     }
 }
 
-// Whether the first `count` digits of a text are a number without leading zeros.
-fn are_plain(text: &[u8], count: usize) -> bool
-    requires { count ≤ length text.now }
-    ensures some { IsTrue result → 0 < count }
-    ensures first { IsTrue result → (count ≡ 1) ⊎ (slice_index text.now 0 ≢ 48) }
-    ensures none { result ≡ false → (count ≡ 0) ⊎ ((1 < count) × (slice_index text.now 0 ≡ 48)) }
-{
-    if count < 2 {
-        count == 1
-    } else {
-        text[0] != b'0'
-    }
-}
-
 // Reads a space and a number below the bound, and returns the number and the text after it.
 #[inline(always)]
 fn number_word(text: &[u8], bound: u64) -> Option<(u32, &[u8])>
@@ -74,10 +62,11 @@ fn number_word(text: &[u8], bound: u64) -> Option<(u32, &[u8])>
             return None;
         }
         if !byte.is_ascii_digit() {
-            return if are_plain(digits, at) {
-                Some((number as u32, &digits[at..]))
-            } else {
+            // A number has a digit, and no zero before others.
+            return if at == 0 || (at > 1 && digits[0] == b'0') {
                 None
+            } else {
+                Some((number as u32, &digits[at..]))
             };
         }
         number = number * 10 + u64::from(*byte - b'0');

@@ -11,7 +11,7 @@ use Rattle.prefix_keys.specs.Block.{block_number, width_of}
 use Rattle.pmap_cert.specs.Acceptance.{IsAccepted, IsNodeAccepted, HasBlock, HasListForm, IsInOrder, begins_before, IsMinimalPair}
 use Rattle.pmap_cert.specs.CertificateModel.{CertificateModel, claim_of, has}
 use Rattle.pmap_cert.proofs.InOrder.{list-form}
-use Rattle.pmap_cert.proofs.MapLabels.{labels-read}
+use Rattle.pmap_cert.proofs.MapLimits.{labels-read}
 use Rattle.pmap_cert.proofs.MapLimits.{IsLimited, limits-read}
 use Rattle.pmap_cert.proofs.Minimal.{accepted-minimal}
 use Rattle.pmap_text.specs.Label.{is_label}

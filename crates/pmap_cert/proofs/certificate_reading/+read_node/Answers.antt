@@ -28,13 +28,13 @@ returns-in_err-read_node-in-Inner-2-clause-err t c =
     (λ some. node-upper_fault _ _ _ _ _ _ (rw c.in-Inner.is at c.in_ok-node.ensures.ok) _ (omega arith) _ _ low.read _
     (c.in_err-read_node-in-Inner-2.ensures.err some))
 
-pub returns-in_ok-push-in-Leaf-clause-ok : goal.returns-in_ok-push-in-Leaf-clause-ok
-returns-in_ok-push-in-Leaf-clause-ok t c =
-    read-leaf _ _ _ _ _ _ _ _ _ (rw c.in-Leaf.is at c.in_ok-node.ensures.ok) c.in_ok-push-in-Leaf.ensures.ok
+pub returns-in-Leaf-clause-ok : goal.returns-in-Leaf-clause-ok
+returns-in-Leaf-clause-ok t c =
+    read-leaf _ _ _ _ _ _ _ _ _ _ (rw c.in-Leaf.is at c.in_ok-node.ensures.ok) (rw c.in-Leaf.is at c.in_ok-keep.ensures)
 
 pub returns-in_ok-read_node-in-Inner-2-clause-ok : goal.returns-in_ok-read_node-in-Inner-2-clause-ok
 returns-in_ok-read_node-in-Inner-2-clause-ok t c =
-    read-inner _ _ _ _ _ _ _ _ _ _ _ _ _ _ (rw c.in-Inner.is at c.in_ok-node.ensures.ok) (omega arith) c.in_ok-push-in-Inner.ensures.ok
+    read-inner _ _ _ _ _ _ _ _ _ _ _ _ _ _ _ (rw c.in-Inner.is at c.in_ok-node.ensures.ok) (omega arith) (rw c.in-Inner.is at c.in_ok-keep.ensures)
     c.in_ok-read_node-in-Inner.ensures.ok c.in_ok-read_node-in-Inner-2.ensures.ok
 
 pub returns-then-deep-room-clause-err : goal.returns-then-deep-room-clause-err
@@ -59,7 +59,7 @@ pub returns-in_ok-read_node-in-Chain-clause-ok : goal.returns-in_ok-read_node-in
 returns-in_ok-read_node-in-Chain-clause-ok t c =
     let frame = c.args.frame.now in
     let deep : c.len-deep.result ≡ length (bits_in c.in-Chain.path.now) = c.len-deep.ensures in
-    read-chain frame.format frame.width frame.labels.now c.args.room c.args.lines.now _ _ _ _ _ _ _ _ _ (rw c.in-Chain.is at c.in_ok-node.ensures.ok)
-    (omega (arith, deep, c.if-deep-room.false)) c.in_ok-push-in-Chain.ensures.ok
-    (subst (λ (n : ℕ). IsReadNode frame.format frame.width frame.labels.now (c.args.room - n) c.next_node.new.self c.push-in-Chain.new.self c.read_node-in-Chain.new.nodes c.read_node-in-Chain.new.lines)
+    read-chain frame.format frame.width frame.labels.now c.args.room c.args.lines.now _ _ _ _ _ _ _ _ _ _ (rw c.in-Chain.is at c.in_ok-node.ensures.ok)
+    (omega (arith, deep, c.if-deep-room.false)) (rw c.in-Chain.is at c.in_ok-keep.ensures)
+    (subst (λ (n : ℕ). IsReadNode frame.format frame.width frame.labels.now (c.args.room - n) c.next_node.new.self c.args.keeps c.keep.new.nodes c.read_node-in-Chain.new.nodes c.read_node-in-Chain.new.lines)
     deep c.in_ok-read_node-in-Chain.ensures.ok)
