@@ -4,7 +4,7 @@ use Rattle.std.proofs.lemmas.List.{append-nil, get_or_at}
 use Rattle.std.proofs.lemmas.Option.{get_or_from_slice_get, same_Some, slice_get-get_or, slice_get_within}
 use Rattle.pmap_text.specs.declared.label.LabelId.{LabelId}
 use Rattle.label_trie.specs.Inner.{leaf_node, encode, IsAt, IsTrie, grown, tree_within, tree_at, tree_of, Node, Unlabelled, Inner}
-use Rattle.label_trie.specs.Tree.{Tree, Tip, Fork, size, leaf_count, nodes_of, HasRoom}
+use Rattle.label_trie.specs.Tree.{Tree, Tip, Fork, size, leaf_count, HasRoom}
 
 -- sizes
 pub size_pos : (tree : Tree) → 0 < size tree
@@ -20,12 +20,6 @@ length_encode at (Tip label) = refl
 length_encode at (Fork low high) =
     let sum = length-append (encode (at + 1) low) (encode (at + 1 + size low) high) in
     omega (arith, sum, length_encode (at + 1) low, length_encode (at + 1 + size low) high)
-
-pub length_nodes : (tree : Tree) (n q : ℕ) → length (nodes_of tree n q) ≡ size tree
-length_nodes (Tip label) n q = refl
-length_nodes (Fork low high) n q =
-    let sum = length-append (nodes_of low (suc n) (2 * q)) (nodes_of high (suc n) (2 * q + 1)) in
-    omega (arith, sum, length_nodes low (suc n) (2 * q), length_nodes high (suc n) (2 * q + 1))
 
 -- an element in the middle of a list
 at_middle : {X : Type 0} (front : List X) (x : X) (back : List X) (n : ℕ) → length front ≡ n → slice_get (front ++ x ∷ back) n ≡ Some x

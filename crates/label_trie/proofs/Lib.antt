@@ -7,4 +7,3 @@ pub mod Grown
 pub mod Built
 pub mod SeenLeaves
 pub mod ListBuilt
-pub mod NodeKinds

@@ -1,11 +1,9 @@
-use Rattle.std.specs.Prelude.{◌≡◌, ℕ, suc, ◌+◌, ◌-◌, ◌*◌, ◌<◌, ◌≤◌, List, [], ◌∷◌, ◌++◌, Option, None, length, option_map, IsSome}
+use Rattle.std.specs.Prelude.{◌≡◌, ℕ, suc, ◌+◌, ◌-◌, ◌*◌, ◌<◌, ◌≤◌, List, [], ◌∷◌, ◌++◌, Option, None, option_map, IsSome}
 use Rattle.prefix_keys.specs.Block.{width_of}
 use Rattle.pmap_text.specs.MapModel.{MapModel, settled_label}
 use Rattle.pmap_text.specs.Settled.{Settles}
 use Rattle.pmap_text.specs.declared.label.LabelId.{LabelId}
-use Rattle.label_trie.specs.TrieModel.{LeafModel, NodeModel, TrieModel}
-pub use Rattle.label_trie.specs.declared.kind.Kind.{Kind}
-pub use Rattle.label_trie.specs.declared.kind.Kind.TheVariants.{Divided, Leaf}
+use Rattle.label_trie.specs.TrieModel.{LeafModel}
 
 -- A trie as a tree: a leaf with its label, or the two halves of a block. If the tree represents the block of n bits
 -- with the number q, its halves represent those with the numbers 2 * q and 2 * q + 1.
@@ -27,15 +25,6 @@ abbrev pub size : Tree → ℕ
 size (Tip label) = 1
 size (Fork low high) = 1 + (size low + size high)
 
-abbrev pub top_of : Tree → ℕ → ℕ → NodeModel
-top_of tree n q = record { bits = n; number = q; leaves = leaves_of tree n q }
-
--- the node at the top, followed by those of the lower half and those of the higher half
-abbrev pub nodes_of : Tree → ℕ → ℕ → List NodeModel
-nodes_of (Tip label) n q = top_of (Tip label) n q ∷ []
-nodes_of (Fork low high) n q =
-    top_of (Fork low high) n q ∷ (nodes_of low (suc n) (2 * q) ++ nodes_of high (suc n) (2 * q + 1))
-
 -- the tree's block has enough host bits for the halves below it
 abbrev pub HasRoom : Tree → ℕ → Type 0
 HasRoom (Tip label) host_bits = Unit {0}
@@ -50,15 +39,3 @@ abbrev pub Fits : MapModel → Tree → ℕ → ℕ → Type 0
 Fits m (Tip label) n q = (n ≤ width_of m.version) × Settles m label n q
 Fits m (Fork low high) n q =
     (n < width_of m.version) × (settled_label m n q ≡ None) × Fits m low (suc n) (2 * q) × Fits m high (suc n) (2 * q + 1)
-
--- the kind of a node: a leaf, whose block is the node's and which is the node's only leaf, or two halves, each with a
--- leaf
-abbrev pub IsKindOf : NodeModel → Kind → Type 0
-IsKindOf node (Leaf label) = node.leaves ≡ record { bits = node.bits; number = node.number; label = option_map (λ id. id.0) label } ∷ []
-IsKindOf node Divided = 2 ≤ length node.leaves
-
-pub record IsOfTree (t : TrieModel) : Type 0 where
-  pub tree : Tree
-  pub leaves : t.leaves ≡ leaves_of tree 0 0
-  pub nodes : t.nodes ≡ nodes_of tree 0 0
-  pub room : HasRoom tree (width_of t.version)

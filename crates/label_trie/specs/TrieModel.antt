@@ -9,7 +9,7 @@ use Rattle.pmap_text.specs.MapText.{text_at}
 pub use Rattle.pmap_text.specs.PrefixList.{number_of_block as number_of}
 use Rattle.label_trie.specs.declared.leaf.Leaf.{Leaf}
 
--- A trie as contracts see it: its leaves, in ascending order of their addresses, and its nodes.
+-- A trie as contracts see it: its leaves, in ascending order of their addresses.
 
 -- the block of `bits` bits with the number `number`, and the number of its label, if it has one
 pub record LeafModel : Type 0 where
@@ -17,18 +17,10 @@ pub record LeafModel : Type 0 where
   pub number : ℕ
   pub label : Option ℕ
 
--- a node of a trie: the block of `bits` bits with the number `number`, and the leaves at and below it in ascending
--- order
-pub record NodeModel : Type 0 where
-  pub bits : ℕ
-  pub number : ℕ
-  pub leaves : List LeafModel
-
--- a trie: the version of its addresses, its leaves, and its nodes in the order of their numbers
+-- a trie: the version of its addresses and its leaves
 pub record TrieModel : Type 0 where
   pub version : Version
   pub leaves : List LeafModel
-  pub nodes : List NodeModel
 
 -- The leaves are consecutive blocks of addresses of W bits. The first begins at `from`, and the last ends right before
 -- `to`, so each address between is in exactly one leaf.

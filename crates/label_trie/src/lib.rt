@@ -16,20 +16,17 @@
 //! and has the label that settles it, and no block that strictly contains a leaf is settled. So the label that the trie
 //! gives an address is the map's. In the trie of a prefix list, no entry lies strictly inside a leaf. Each leaf, and so
 //! each address, has the label of the longest entry that covers it, or none. A walk by cursors from the root reaches
-//! these leaves, and in the trie of a map no block on the path is settled. The nodes are numbered from 0: a block comes
-//! before its lower half, and all nodes of the lower half come before those of the higher half. The number of nodes is
-//! at most one, plus four times the width for each statement of a map, or twice the width for each entry of a list.
-//! Contracts see a trie as the lists of its leaves and nodes. How they are stored is private.
+//! these leaves, and in the trie of a map no block on the path is settled. The number of nodes is at most one, plus four
+//! times the width for each statement of a map, or twice the width for each entry of a list. Contracts see a trie as
+//! the list of its leaves. How its nodes are stored is private.
 #![tactic(auto)]
 
 mod cursor;
 mod growing;
-mod kind;
 mod leaf;
 mod node;
 mod trie;
 
 pub use cursor::{Cursor, Parts};
-pub use kind::Kind;
 pub use leaf::Leaf;
 pub use trie::Trie;

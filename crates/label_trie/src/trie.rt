@@ -1,11 +1,10 @@
 ghost use Rattle.std.specs.Prelude.{◌≡◌, ℕ, ◌+◌, ◌*◌, ◌^◌, ◌<◌, ◌≤◌, ◌++◌, [], List, Option, Some, All, IfOk, OnOk, length, map, option_map, option_and_then, slice_get};
-ghost use Rattle.std.specs.Option.{ForSome};
 ghost use Rattle.prefix_keys.specs.Block.{width_of};
 ghost use Rattle.pmap_text.specs.ListModel.{list_label};
 ghost use Rattle.pmap_text.specs.PrefixList.{list_of};
 ghost use Rattle.pmap_text.specs.MapModel.{map_label};
 ghost use Rattle.pmap_text.specs.MapText.{map_of};
-ghost use Rattle.label_trie.specs.Tree.{IsKindOf, IsOfTree, leaves_of};
+ghost use Rattle.label_trie.specs.Tree.{leaves_of};
 ghost use Rattle.pmap_text.specs.Stretches.{AreStretches};
 ghost use Rattle.pmap_text.specs.declared.label.LabelId.{LabelId as LabelNumber};
 ghost use Rattle.pmap_text.specs.declared.statement.Statement.{Statement};
@@ -14,7 +13,6 @@ ghost use Rattle.label_trie.specs.TrieModel.{model_of, IsCut, IsDecidedLeaf, IsS
 
 use crate::cursor::{Cursor, Parts, cursor_at};
 use crate::growing::push_block;
-use crate::kind::Kind;
 use crate::leaf::Leaf;
 use crate::node::Node;
 use pmap_text::{LabelId, MapText, PrefixList, Stretches, Window};
@@ -40,12 +38,11 @@ impl Model for Trie {
 
     ghost use Rattle.std.specs.Prelude.{◌*◌};
     ghost use Rattle.label_trie.specs.Inner.{IsTrie, tree_of};
-    ghost use Rattle.label_trie.specs.Tree.{leaves_of, nodes_of};
+    ghost use Rattle.label_trie.specs.Tree.{leaves_of};
 
     ghost view = { λ t. record {
       version = t.version;
       leaves = leaves_of (tree_of t.nodes.items) 0 0;
-      nodes = nodes_of (tree_of t.nodes.items) 0 0;
     } };
 
     ghost invariant = { λ t. IsTrie (width_of t.version) t.nodes.items };
@@ -107,24 +104,9 @@ impl Trie {
 
     /// Returns the number of nodes: the leaves, and the divided blocks, one fewer than the leaves.
     pub fn node_count(&self) -> u32
-        ensures leaves { result + 1 ≡ 2 * length self.now.leaves }
-        ensures nodes { result ≡ length self.now.nodes }
-        // The leaves and the nodes are those of one tree.
-        ensures tree { IsOfTree self.now }
+        ensures { result + 1 ≡ 2 * length self.now.leaves }
     {
         self.nodes.len() as u32
-    }
-
-    /// Returns the kind of the node with this number, which must be below `node_count`.
-    pub fn kind(&self, number: u32) -> Kind
-        requires { number < length self.now.nodes }
-        ensures { ForSome (slice_get self.now.nodes number) (λ node. IsKindOf node result) }
-    {
-        match self.nodes[number as usize] {
-            Node::Labelled(label) => Kind::Leaf(Some(label)),
-            Node::Unlabelled => Kind::Leaf(None),
-            Node::Inner(_) => Kind::Divided,
-        }
     }
 
     /// Returns the leaves in ascending order of their blocks.
