@@ -1,5 +1,5 @@
 -- The ends of stretches, by their indices.
-use Rattle.std.proofs.Common.{◌≡◌, ◌∙◌, ℕ, ◌+◌, ◌-◌, ◌^◌, ◌<◌, ◌≤◌, inl, inr, Bool, cond, leb, leb-true, List, [], ◌∷◌, ◌++◌, Option, None, get_or, length, option_and_then, slice_get, ap, arith, sym}
+use Rattle.std.proofs.Common.{◌≡◌, ◌∙◌, ℕ, ◌+◌, ◌-◌, ◌^◌, ◌<◌, ◌≤◌, inl, inr, Bool, cond, leb, leb-true, List, [], ◌∷◌, ◌++◌, Option, None, get_or, length, option_and_then, slice_get, ap, arith, pow_pos, sym}
 use Rattle.std.proofs.lemmas.Bool.{cases_lt, le-ltb, leb-false, lt-ltb}
 use Rattle.std.proofs.lemmas.List.{get_or_append_left, get_or_push, length_push}
 use Rattle.std.proofs.lemmas.List.Sums.{prefix_len-le-length, prefix_len_passes, prefix_len_stops}
@@ -149,6 +149,13 @@ module _ (s : StretchesModel) (every : HasEveryAddress s) where
   ordered_at i below = elim (cases_lt (i + 1) (length s.firsts)) [
     | inl more ↦ omega (arith, next_first i more, every.ascending i (i + 1) (omega arith) more)
     | inr end ↦ omega (arith, last_end s i end, every.within i below)
+  ]
+
+  -- an address of a stretch is among those of the version
+  pub held_fits : (a i : ℕ) → HoldsAddress s a i → a < 2 ^ width_of s.version
+  held_fits a i holds = elim (cases_lt (i + 1) (length s.firsts)) [
+    | inl more ↦ omega (arith, holds.to, next_first i more, every.within (i + 1) more)
+    | inr end ↦ omega (arith, holds.to, last_end s i end, pow_pos (width_of s.version))
   ]
 
   -- of two stretches the earlier one ends before the later one begins

@@ -2,11 +2,11 @@
 use Rattle.std.proofs.Common.{◌≡◌, ℕ, suc, ◌+◌, ◌-◌, ◌*◌, ◌/◌, ◌^◌, ◌<◌, ◌≤◌, ◌∙◌, length, sym, ap, refl, arith, mul-div_cancel, pow_pos}
 use Rattle.std.proofs.Math.Nat.{zero-div}
 use Rattle.prefix_keys.specs.Block.{block_number, first_of, last_of, width_of}
-use Rattle.pmap_text.specs.Stretches.{HasEveryAddress, HoldsAddress, StretchesModel, last_at}
+use Rattle.pmap_text.specs.Stretches.{HasEveryAddress, HoldsAddress, StretchesModel, count_begun, last_at}
 use Rattle.pmap_text.specs.Windows.{AreHalvesOf, IsBlock, IsWindow, number_at}
 use Rattle.pmap_text.specs.declared.window.Window.{Window}
 use Rattle.pmap_text.proofs.BlockHalves.{halves_ends, has_halves}
-use Rattle.pmap_text.proofs.Ranges.{held_apart, held_index, held_order, last_end, ordered_at}
+use Rattle.pmap_text.proofs.Ranges.{held_apart, held_fits, held_index, held_order, holder, last_end, ordered_at}
 
 -- a block is not empty
 pub block_some : (W n q : ℕ) → first_of W n q ≤ last_of W n q
@@ -102,3 +102,12 @@ module _ (s : StretchesModel) (every : HasEveryAddress s) where
           low_number = halves.low_number;
           high_number = halves.high_number;
         }
+
+    -- a window with two stretches has halves
+    pub divided_window : (w.from ≡ w.to → ⊥) → (low : Window) × (high : Window) × AreHalvesOf s w low high
+    divided_window other =
+        let some = window_some other in
+        let fits = held_fits s every w.last w.to is.end in
+        let at = holder s every middle (omega arith) in
+        let next = holder s every (middle + 1) (omega arith) in
+        (_, _, halves_windows _ (count_begun s.firsts (middle + 1) - 1) some at (held_order s every w.first middle w.from _ is.start at (omega arith)) next)
