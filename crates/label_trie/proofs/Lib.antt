@@ -1,9 +1,6 @@
 pub mod NodeLeaves
 pub mod Lookup
-pub mod Divided
-pub mod Encoded
-pub mod Places
-pub mod Grown
-pub mod Built
+pub mod Leaves
 pub mod SeenLeaves
 pub mod ListBuilt
+pub mod Places

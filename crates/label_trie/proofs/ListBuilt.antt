@@ -1,5 +1,5 @@
 -- The trie of a prefix list's statements.
-use Rattle.std.proofs.Common.{◌≡◌, ℕ, zero, suc, ◌+◌, ◌*◌, ◌/◌, ◌^◌, ◌<◌, ◌≤◌, ◌==◌, ◌&&◌, inl, inr, Bool, true, false, List, [], ◌∷◌, Option, None, Some, option_and_then, map, length, nat_lt, refl, sym, ap, subst, ◌∙◌, arith, All, slice_get, eq-eqb}
+use Rattle.std.proofs.Common.{◌≡◌, ℕ, suc, ◌+◌, ◌-◌, ◌*◌, ◌/◌, ◌<◌, ◌≤◌, ◌==◌, ◌&&◌, inl, inr, Bool, true, false, List, [], ◌∷◌, Option, None, Some, map, length, nat_lt, refl, sym, ap, subst, ◌∙◌, arith, All, eq-eqb}
 use Rattle.std.specs.List.{AllZip}
 use Rattle.std.specs.List.Sorted.{IsPermutation}
 use Rattle.std.proofs.Math.Nat.{mul-le-mul_right}
@@ -10,29 +10,26 @@ use Rattle.std.proofs.lemmas.List.Elements.{All-head, All-map, All-tail, All-wea
 use Rattle.std.proofs.lemmas.List.Sorted.{All-permutation, IsPermutation-map, IsPermutation-sym, length_permutation}
 use Rattle.std.proofs.lemmas.Option.{none-some}
 use Rattle.prefix_keys.specs.Block.{block_number, first_of, last_of, width_of}
-use Rattle.prefix_keys.specs.declared.version.Version.{Version}
-use Rattle.pmap_text.specs.ListModel.{Prefix, lies_inside, list_label}
+use Rattle.pmap_text.specs.ListModel.{Prefix, lies_inside}
 use Rattle.pmap_text.specs.MapModel.{Label, Mapping, last_such, meets, settled_by, spans_all}
-use Rattle.pmap_text.specs.PrefixList.{list_of, prefix_of, AreShortestFirst, HasStatement, LongerLater}
+use Rattle.pmap_text.specs.PrefixList.{list_of, prefix_of, AreShortestFirst, HasStatement}
 use Rattle.pmap_text.specs.Settled.{IsMapOf, one_if}
+use Rattle.pmap_text.specs.Stretches.{AreStretches, StretchesModel, label_at}
+use Rattle.pmap_text.specs.Windows.{number_at}
 use Rattle.pmap_text.specs.declared.entry.Entry.{Entry}
 use Rattle.pmap_text.specs.declared.prefix_list.PrefixList.{PrefixList}
 use Rattle.pmap_text.specs.declared.statement.Statement.{Statement}
-use Rattle.label_trie.specs.Inner.{tree_of, Node}
-use Rattle.label_trie.specs.Tree.{Tree, Tip, Fork, Fits, leaf_count, leaves_of}
-use Rattle.label_trie.specs.TrieModel.{IsCut, IsDecidedLeaf, label_among}
-use Rattle.label_trie.proofs.Built.{IsGrown}
+use Rattle.label_trie.specs.Leaves.{leaves_in}
+use Rattle.label_trie.specs.TrieModel.{IsDecidedLeaf}
 use Rattle.pmap_text.proofs.Blocks.{address-between, address-first, address-last, block_number-first_of, block_number-half, block_number-shorter}
-use Rattle.pmap_text.proofs.Ends.{halves-most}
 use Rattle.pmap_text.proofs.LastSuch.{last_such-cases}
 use Rattle.pmap_text.proofs.ListPainted.{list_blocks, zip_all, zip_length, zip_mappings}
-use Rattle.pmap_text.proofs.Longest.{label_seen}
 use Rattle.pmap_text.proofs.Orders.{both_le, le_both}
 use Rattle.pmap_text.proofs.SeenBlocks.{met_address}
-use Rattle.label_trie.proofs.SeenLeaves.{IsSeenLeaf, leaf_decided, leaves_seen}
-use Rattle.label_trie.proofs.Lookup.{leaf_with}
-use Rattle.label_trie.proofs.NodeLeaves.{length_leaves}
-use Rattle.pmap_text.proofs.Painted.{painted, painting, ascending, seen_permuted}
+use Rattle.pmap_text.proofs.Settling.{window_settled, window_unsettled}
+use Rattle.label_trie.proofs.Leaves.{each_leaf, leaves_most}
+use Rattle.label_trie.proofs.SeenLeaves.{IsSeenLeaf, leaf_decided, seen}
+use Rattle.pmap_text.proofs.Painted.{IsAscending, painted, painting, ascending, seen_permuted}
 use Rattle.pmap_text.proofs.Windows.{block_some}
 
 -- the number of prefixes strictly inside a block
@@ -94,18 +91,6 @@ inside-unsettled W n q fallback ps (Some m) within short is none = inside-some W
     by true all = absurd (let h : Some m.label ≡ None = rw all at none in cc)
     by false part = part
 
--- a tree that fits prefixes has at most one leaf, plus one for each prefix inside the block and each host bit
-inside-leaves : (version : Version) (table : List Label) (ps : List Prefix) (fallback : Label) (t : Tree) (h n q : ℕ) → All (λ p. p.bits ≤ width_of version) ps
-    → h + n ≡ width_of version → Fits (painting version table ps fallback) t n q → leaf_count t ≤ 1 + inside (width_of version) ps n q * h
-inside-leaves version table ps fallback (Tip label) h n q short e fits = omega arith
-inside-leaves version table ps fallback (Fork low high) zero n q short e fits = absurd (omega (arith, fits.0, e))
-inside-leaves version table ps fallback (Fork low high) (suc h) n q short e fits =
-    let W = width_of version in
-    let l = inside-leaves version table ps fallback low h (suc n) (2 * q) short (omega (arith, e)) fits.2 in
-    let r = inside-leaves version table ps fallback high h (suc n) (2 * q + 1) short (omega (arith, e)) fits.3 in
-    let some = inside-unsettled W n q fallback ps (last_such (meets W n q) (map (painted W) ps)) (omega (arith, fits.0)) short refl fits.1 in
-    omega (arith, l, r, halves-most (inside W ps (suc n) (2 * q)) (inside W ps (suc n) (2 * q + 1)) (inside W ps n q) h (inside-halves W ps n q fits.0) some)
-
 inside-most : (W : ℕ) (ps : List Prefix) (n q : ℕ) → inside W ps n q ≤ length ps
 unfolding inside
 inside-most W [] n q = omega arith
@@ -142,57 +127,43 @@ list_layers l sorted ss moved each =
       short = short;
     }
 
--- the labels that are seen at each leaf
-pub list_seen : (l : PrefixList) (sorted : List Entry) (root : Tree) → IsPermutation l.entries sorted
-    → LongerLater sorted
-    → ((fallback : Label) → Fits (painting l.version l.labels (map (prefix_of l.labels) sorted) fallback) root 0 0)
-    → All (IsSeenLeaf (width_of l.version) l.labels (map (prefix_of l.labels) l.entries)) (leaves_of root 0 0)
-list_seen l sorted root moved up f =
-    let W = width_of l.version in
-    let ps = map (prefix_of l.labels) l.entries in
-    let rs = map (prefix_of l.labels) sorted in
-    let back = IsPermutation-map (prefix_of l.labels) sorted l.entries (IsPermutation-sym l.entries sorted moved) in
-    let versions = All-permutation (λ (e : Entry). e.block.version ≡ l.version) l.entries sorted moved l.one_version in
-    All-weaker (IsSeenLeaf W l.labels rs) (IsSeenLeaf W l.labels ps)
-    (λ leaf g. seen_permuted W l.labels rs ps back leaf.bits leaf.number leaf.label g)
-    (leaves_of root 0 0) (leaves_seen l.version l.labels rs root 0 0 (ascending l.version l.labels sorted versions up) f)
+module _ (l : PrefixList) (s : StretchesModel) (version : s.version ≡ l.version) (ss : List Statement) (first : AreShortestFirst l.entries ss) (are : AreStretches ss None s) where
+  abbrev W : ℕ
+  W = width_of s.version
 
--- so each leaf is decided by the list, and each address has its label
-pub list_decided : (l : PrefixList) (root : Tree)
-    → All (IsSeenLeaf (width_of l.version) l.labels (map (prefix_of l.labels) l.entries)) (leaves_of root 0 0)
-    → All (IsDecidedLeaf (list_of l)) (leaves_of root 0 0)
-list_decided l root all =
-    All-weaker (IsSeenLeaf (width_of l.version) l.labels (map (prefix_of l.labels) l.entries)) (IsDecidedLeaf (list_of l))
-    (λ leaf f. leaf_decided (list_of l) leaf (list_blocks l) f) (leaves_of root 0 0) all
+  abbrev f : Entry → Prefix
+  f = prefix_of l.labels
 
-pub list_labels : (l : PrefixList) (root : Tree) (a : ℕ) → IsCut (width_of l.version) 0 (2 ^ width_of l.version) (leaves_of root 0 0)
-    → All (IsSeenLeaf (width_of l.version) l.labels (map (prefix_of l.labels) l.entries)) (leaves_of root 0 0)
-    → a < 2 ^ width_of l.version
-    → option_and_then (slice_get l.labels) (label_among (width_of l.version) (leaves_of root 0 0) a) ≡ list_label (list_of l) a
-list_labels l root a cut all below =
-    let W = width_of l.version in
-    let ps = map (prefix_of l.labels) l.entries in
-    let here = leaf_with W (IsSeenLeaf W l.labels ps) (leaves_of root 0 0) a cut below all in
-    let leaf = here.0 in
-    rw here.3 (sym (label_seen W l.labels ps leaf.bits leaf.number a (suc W) leaf.label (list_blocks l) here.2
-    (λ bits _ fits. omega (arith, fits)) here.1))
+  layers : AreListLayers l first.sorted ss
+  layers = list_layers l first.sorted ss first.moved first.each
 
-pub list_bounded : (l : PrefixList) (sorted : List Entry) (ss : List Statement) (nodes : List Node) → IsPermutation l.entries sorted → AreListLayers l sorted ss
-    → IsGrown (width_of l.version) ss None nodes → 2 * length (leaves_of (tree_of nodes) 0 0) ≤ 2 + 2 * width_of l.version * length l.entries
-list_bounded l sorted ss nodes moved layers grown =
-    let W = width_of l.version in
-    let rs = map (prefix_of l.labels) sorted in
-    let few = inside-leaves l.version l.labels rs [] (tree_of nodes) W 0 0 layers.short (omega arith) (grown.fits (painting l.version l.labels rs []) (layers.layers [])) in
-    let count : length rs ≡ length l.entries = length-map sorted (prefix_of l.labels) ∙ length_permutation l.entries sorted moved in
-    let most = subst (λ (k : ℕ). inside W rs 0 0 * W ≤ k * W) count (mul-le-mul_right W (inside-most W rs 0 0)) in
-    omega (arith, length_leaves (tree_of nodes) 0 0, few, most)
+  painted_map : (fallback : Label) → IsMapOf W ss None (painting s.version l.labels (map f first.sorted) fallback)
+  painted_map fallback = rw version (layers.layers fallback)
 
--- the statements in order, from the postcondition of sorting
-pub record IsReady (l : PrefixList) (ss : List Statement) : Type 0 where
-  pub sorted : List Entry
-  pub moved : IsPermutation l.entries sorted
-  pub up : LongerLater sorted
-  pub layers : AreListLayers l sorted ss
+  -- the label that is seen at each leaf is the leaf's
+  leaves_seen : All (IsSeenLeaf W l.labels (map f l.entries)) (leaves_in s W 0 0)
+  leaves_seen =
+      let versions = All-permutation (λ (e : Entry). e.block.version ≡ l.version) l.entries first.sorted first.moved l.one_version in
+      let up : IsAscending W (map f first.sorted) = rw version (ascending l.version l.labels first.sorted versions first.later) in
+      let back = IsPermutation-map f first.sorted l.entries (IsPermutation-sym l.entries first.sorted first.moved) in
+      each_leaf s are.every (IsSeenLeaf W l.labels (map f l.entries)) (λ w is same.
+      seen_permuted W l.labels (map f first.sorted) (map f l.entries) back w.len (number_at s w) _
+      (seen s.version l.labels (map f first.sorted) (label_at s w.from) w.len (number_at s w) up (λ fallback. window_settled s w is ss None are same _ (painted_map fallback))))
 
-pub list_ready : (l : PrefixList) (ss : List Statement) → AreShortestFirst l.entries ss → IsReady l ss
-list_ready l ss first = record { sorted = first.sorted; moved = first.moved; up = first.later; layers = list_layers l first.sorted ss first.moved first.each }
+  -- so each leaf is decided by the list
+  pub list_decided : All (IsDecidedLeaf (list_of l)) (leaves_in s W 0 0)
+  list_decided =
+      All-weaker (IsSeenLeaf W l.labels (map f l.entries)) (IsDecidedLeaf (list_of l))
+      (λ leaf g. leaf_decided (list_of l) leaf (list_blocks l) (rw version at g)) (leaves_in s W 0 0) leaves_seen
+
+  pub list_bounded : 2 * length (leaves_in s W 0 0) ≤ 2 + 2 * W * length l.entries
+  list_bounded =
+      let rs = map f first.sorted in
+      let short : All (λ p. p.bits ≤ W) rs = rw version layers.short in
+      let few = leaves_most s are.every (inside W rs) (inside-halves W rs) (λ w is other.
+      inside-unsettled W w.len (number_at s w) [] rs _ is.within short refl
+      (subst (λ (ms : List Mapping). settled_by W w.len (number_at s w) [] (last_such (meets W w.len (number_at s w)) ms) ≡ None) (sym (painted_map []).mappings) (window_unsettled s w is ss None are other l.labels []))) in
+      let count : length rs ≡ length l.entries = length-map first.sorted f ∙ length_permutation l.entries first.sorted first.moved in
+      let most = subst (λ (k : ℕ). inside W rs 0 0 * W ≤ k * W) count (mul-le-mul_right W (inside-most W rs 0 0)) in
+      let all : W - 0 ≡ W = omega arith in
+      omega (arith, rw all at few, most)

@@ -1,6 +1,5 @@
 -- The labels of prefixes that are seen at the leaves of a trie.
-use Rattle.std.proofs.Common.{ℕ, suc, ◌+◌, ◌*◌, ◌<◌, List, [], Option, Some, None, option_map, length, map, refl, sym, arith, All, mul-div_cancel, pow_pos, ◌-◌}
-use Rattle.std.proofs.lemmas.List.Elements.{All-nil, All-cons, All-append}
+use Rattle.std.proofs.Common.{ℕ, suc, ◌<◌, List, [], Option, Some, None, option_map, length, map, refl, sym, arith, mul-div_cancel, pow_pos, ◌-◌}
 use Rattle.prefix_keys.specs.Block.{first_of, width_of}
 use Rattle.prefix_keys.specs.declared.version.Version.{Version}
 use Rattle.pmap_text.specs.ListModel.{ListModel, Prefix}
@@ -11,10 +10,9 @@ use Rattle.pmap_text.proofs.Longest.{AreBlocks, known_seen, label_seen, none_ins
 use Rattle.pmap_text.proofs.Painted.{IsAscending, IsSeen, painted, painting, seen_by, unmet}
 use Rattle.label_trie.specs.TrieModel.{LeafModel, IsDecidedLeaf}
 use Rattle.pmap_text.specs.Settled.{Settles}
-use Rattle.label_trie.specs.Tree.{Tree, Tip, Fork, leaves_of, Fits}
 
 -- the label that settles a block of each such painting is seen there
-seen : (version : Version) (table : List Label) (ps : List Prefix) (label : Option LabelId) (n q : ℕ) → IsAscending (width_of version) ps
+pub seen : (version : Version) (table : List Label) (ps : List Prefix) (label : Option LabelId) (n q : ℕ) → IsAscending (width_of version) ps
     → ((fallback : Label) → Settles (painting version table ps fallback) label n q)
     → IsSeen (width_of version) table ps n q (option_map (λ id. id.0) label)
 seen version table ps None n q up f = unmet (width_of version) n q ps (f [])
@@ -23,20 +21,9 @@ seen version table ps (Some id) n q up f =
     let known : id.0 < length table = (f []).0 in
     (known, seen_by W n q ps (text_at table id.0) up (last_such (meets W n q) (map (painted W) ps)) refl (λ fallback. (f fallback).1))
 
--- so it is seen at each leaf of a trie that fits such a painting
+-- it is seen at the leaf
 abbrev pub IsSeenLeaf : ℕ → List Label → List Prefix → LeafModel → Type 0
 IsSeenLeaf W table ps leaf = IsSeen W table ps leaf.bits leaf.number leaf.label
-
-pub leaves_seen : (version : Version) (table : List Label) (ps : List Prefix) (node : Tree) (n q : ℕ) → IsAscending (width_of version) ps
-    → ((fallback : Label) → Fits (painting version table ps fallback) node n q)
-    → All (IsSeenLeaf (width_of version) table ps) (leaves_of node n q)
-leaves_seen version table ps (Tip label) n q up f =
-    All-cons (IsSeenLeaf (width_of version) table ps) _ [] (seen version table ps label n q up (λ fallback. (f fallback).1))
-    (All-nil (IsSeenLeaf (width_of version) table ps))
-leaves_seen version table ps (Fork low high) n q up f =
-    All-append (IsSeenLeaf (width_of version) table ps) (leaves_of low (suc n) (2 * q)) (leaves_of high (suc n) (2 * q + 1))
-    (leaves_seen version table ps low (suc n) (2 * q) up (λ fallback. (f fallback).2))
-    (leaves_seen version table ps high (suc n) (2 * q + 1) up (λ fallback. (f fallback).3))
 
 -- a leaf at which the list's label is seen is decided by the list
 pub leaf_decided : (l : ListModel) (leaf : LeafModel) → AreBlocks (width_of l.version) l.prefixes

@@ -1,4 +1,4 @@
 pub mod TrieModel
 pub mod Parts
 pub mod Tree
-pub mod Inner
+pub mod Leaves

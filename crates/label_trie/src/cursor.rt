@@ -1,38 +1,32 @@
 ghost use Rattle.std.specs.Prelude.{◌≡◌, ◌+◌};
 ghost use Rattle.prefix_keys.specs.Block.{first_of, last_of, width_of};
+ghost use Rattle.pmap_text.specs.Windows.{IsWindow};
 ghost use Rattle.label_trie.specs.TrieModel.{number_of, IsCut};
-ghost use Rattle.label_trie.specs.Inner.{IsPlace, tree_at};
-ghost use Rattle.label_trie.specs.Tree.{leaves_of};
+ghost use Rattle.label_trie.specs.Leaves.{leaves_at};
 
-use crate::node::Node;
-use pmap_text::LabelId;
-use prefix_keys::Block;
+use pmap_text::{LabelId, Stretches, Window};
+use prefix_keys::{Addr, Block, block_of};
 use std::marker::Model;
 
 /// A cursor at a node of a trie: a divided block or a leaf. A walk starts at `Trie::root`.
 #[derive(Drop)]
 pub struct Cursor<'a> {
-    nodes: &'a [Node],
-    number: u32,
+    stretches: &'a Stretches,
     block: Block,
+    // The block with the stretches at its ends.
+    window: Window,
 }
 
 impl<'a> Model for Cursor<'a> {
-    ghost use Rattle.std.specs.Prelude.{◌-◌};
-    ghost use Rattle.prefix_keys.specs.Block.{width_of};
-    ghost use Rattle.label_trie.specs.TrieModel.{CursorModel, number_of};
+    ghost use Rattle.label_trie.specs.TrieModel.{CursorModel};
 
     ghost Value = { CursorModel };
 
-    ghost use Rattle.label_trie.specs.Inner.{IsPlace, tree_at};
-    ghost use Rattle.label_trie.specs.Tree.{leaves_of};
+    ghost use Rattle.label_trie.specs.Leaves.{IsPlace, leaves_at};
 
-    ghost view = { λ c. record {
-      block = c.block;
-      leaves = leaves_of (tree_at c.nodes.now c.number) c.block.len (number_of c.block);
-    } };
+    ghost view = { λ c. record { block = c.block; leaves = leaves_at c.stretches.now c.block } };
 
-    ghost invariant = { λ c. IsPlace c.nodes.now c.number c.block };
+    ghost invariant = { λ c. IsPlace c.stretches.now c.block c.window };
 }
 
 /// The parts of a node: a leaf's label, or cursors at the lower and the higher half of the block.
@@ -42,16 +36,24 @@ pub enum Parts<'a> {
     Inner(Cursor<'a>, Cursor<'a>),
 }
 
-/// Returns a cursor at the node with this number, whose block is `block`.
-pub fn cursor_at<'a>(nodes: &'a [Node], number: u32, block: Block) -> Cursor<'a>
-    requires { IsPlace nodes.now number block }
-    ensures block { result.block ≡ block }
-    ensures leaves { result.leaves ≡ leaves_of (tree_at nodes.now number) block.len (number_of block) }
+/// Returns a cursor at the node for a block.
+pub fn cursor_at<'a>(stretches: &'a Stretches, window: Window) -> Cursor<'a>
+    requires { IsWindow stretches.now window }
+    ensures version { result.block.version ≡ stretches.now.version }
+    ensures len { result.block.len ≡ window.len }
+    ensures value { result.block.value ≡ window.first }
+    ensures leaves { result.leaves ≡ leaves_at stretches.now result.block }
 {
+    // Provides the law that the stretches cover every address.
+    let _count = stretches.len();
+    let addr = Addr {
+        version: stretches.version(),
+        value: window.first,
+    };
     Cursor {
-        nodes,
-        number,
-        block,
+        stretches,
+        block: block_of(addr, window.len),
+        window,
     }
 }
 
@@ -63,6 +65,8 @@ impl Cursor<'_> {
             let number = number_of result in
             IsCut W (first_of W result.len number) (last_of W result.len number + 1) self.now.leaves }
     {
+        // Provides the law that the stretches cover every address.
+        let _count = self.stretches.len();
         self.block
     }
 }
@@ -74,19 +78,15 @@ impl<'a> Cursor<'a> {
     pub fn parts(&self) -> Parts<'a>
         ensures { ArePartsOf self.now result }
     {
-        match self.nodes[self.number as usize] {
-            Node::Labelled(label) => Parts::Leaf(Some(label)),
-            Node::Unlabelled => Parts::Leaf(None),
-            Node::Inner(high_number) => {
-                let Some((low, high)) = self.block.halves() else {
-                    unreachable!()
-                };
-                let low_number = self.number + 1;
-                Parts::Inner(
-                    cursor_at(self.nodes, low_number, low),
-                    cursor_at(self.nodes, high_number, high),
-                )
-            }
+        // Provides the law that the stretches cover every address.
+        let _count = self.stretches.len();
+        if self.window.from == self.window.to {
+            return Parts::Leaf(self.stretches.label(self.window.from));
         }
+        let (low, high) = self.window.halves(self.stretches);
+        Parts::Inner(
+            cursor_at(self.stretches, low),
+            cursor_at(self.stretches, high),
+        )
     }
 }

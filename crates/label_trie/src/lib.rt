@@ -18,13 +18,11 @@
 //! each address, has the label of the longest entry that covers it, or none. A walk by cursors from the root reaches
 //! these leaves, and in the trie of a map no block on the path is settled. The number of nodes is at most one, plus four
 //! times the width for each statement of a map, or twice the width for each entry of a list. Contracts see a trie as
-//! the list of its leaves. How its nodes are stored is private.
+//! the list of its leaves. No node is stored: a cursor finds the halves of its block among the stretches.
 #![tactic(auto)]
 
 mod cursor;
-mod growing;
 mod leaf;
-mod node;
 mod trie;
 
 pub use cursor::{Cursor, Parts};

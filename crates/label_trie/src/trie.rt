@@ -1,22 +1,16 @@
-ghost use Rattle.std.specs.Prelude.{◌≡◌, ℕ, ◌+◌, ◌*◌, ◌^◌, ◌<◌, ◌≤◌, ◌++◌, [], List, Option, Some, All, IfOk, OnOk, length, map, option_map, option_and_then, slice_get};
+ghost use Rattle.std.specs.Prelude.{◌≡◌, ℕ, ◌+◌, ◌*◌, ◌^◌, ◌<◌, ◌≤◌, ◌++◌, Some, All, IfOk, OnOk, length, map, option_map, option_and_then, slice_get};
 ghost use Rattle.prefix_keys.specs.Block.{width_of};
 ghost use Rattle.pmap_text.specs.ListModel.{list_label};
 ghost use Rattle.pmap_text.specs.PrefixList.{list_of};
 ghost use Rattle.pmap_text.specs.MapModel.{map_label};
 ghost use Rattle.pmap_text.specs.MapText.{map_of};
-ghost use Rattle.label_trie.specs.Tree.{leaves_of};
-ghost use Rattle.pmap_text.specs.Stretches.{AreStretches};
-ghost use Rattle.pmap_text.specs.declared.label.LabelId.{LabelId as LabelNumber};
-ghost use Rattle.pmap_text.specs.declared.statement.Statement.{Statement};
-ghost use Rattle.label_trie.specs.Inner.{AddsTree, IsTrie, tree_of};
+ghost use Rattle.label_trie.specs.Leaves.{leaves_in};
 ghost use Rattle.label_trie.specs.TrieModel.{model_of, IsCut, IsDecidedLeaf, IsSettledLeaf, IsUndivided, label_in};
 
 use crate::cursor::{Cursor, Parts, cursor_at};
-use crate::growing::push_block;
 use crate::leaf::Leaf;
-use crate::node::Node;
 use pmap_text::{LabelId, MapText, PrefixList, Stretches, Window};
-use prefix_keys::{Addr, Version, whole_space};
+use prefix_keys::Addr;
 use std::alloc::{AllocError, Global};
 use std::marker::Model;
 
@@ -24,10 +18,9 @@ use std::marker::Model;
 /// leaf has the number of a label or none.
 #[derive(Drop)]
 pub struct Trie {
-    version: Version,
-    // The node of the whole address space, followed by the nodes of its lower half and those of its higher half. The
-    // nodes of each half are in the same order.
-    nodes: Vec<Node>,
+    // A block is a leaf if one stretch has all its addresses, and otherwise divided. So no node is stored.
+    stretches: Stretches,
+    node_count: u32,
 }
 
 impl Model for Trie {
@@ -36,16 +29,16 @@ impl Model for Trie {
 
     ghost Value = { TrieModel };
 
-    ghost use Rattle.std.specs.Prelude.{◌*◌};
-    ghost use Rattle.label_trie.specs.Inner.{IsTrie, tree_of};
-    ghost use Rattle.label_trie.specs.Tree.{leaves_of};
+    ghost use Rattle.std.specs.Prelude.{◌≡◌, ◌+◌, ◌*◌, length};
+    ghost use Rattle.label_trie.specs.Leaves.{leaves_in};
 
     ghost view = { λ t. record {
-      version = t.version;
-      leaves = leaves_of (tree_of t.nodes.items) 0 0;
+      version = t.stretches.version;
+      leaves = leaves_in t.stretches (width_of t.stretches.version) 0 0;
     } };
 
-    ghost invariant = { λ t. IsTrie (width_of t.version) t.nodes.items };
+    ghost invariant = { λ t. t.node_count + 1
+        ≡ 2 * length (leaves_in t.stretches (width_of t.stretches.version) 0 0) };
 }
 
 impl Trie {
@@ -61,10 +54,7 @@ impl Trie {
             ≤ 2 + 4 * width_of map.now.version * length map.now.statements) }
     {
         let stretches = Stretches::of_map(alloc, map)?;
-        Ok(Trie {
-            version: map.version,
-            nodes: grow(alloc, &stretches)?,
-        })
+        Ok(trie_of(stretches))
     }
 
     /// Builds the trie of a prefix list under longest match. No entry lies strictly inside a leaf, and a leaf that no
@@ -80,10 +70,7 @@ impl Trie {
             ≤ 2 + 2 * width_of list.now.version * length list.now.entries) }
     {
         let stretches = Stretches::of_list(alloc, list)?;
-        Ok(Trie {
-            version: list.version,
-            nodes: grow(alloc, &stretches)?,
-        })
+        Ok(trie_of(stretches))
     }
 
     /// Returns the number of the label at `addr`, which must be of the trie's version.
@@ -91,22 +78,16 @@ impl Trie {
         requires { addr.version ≡ self.now.version }
         ensures { option_map (λ id. id.0) result ≡ label_in self.now addr.value }
     {
-        let mut place = self.root();
-        loop {
-            match place.parts() {
-                Parts::Leaf(label) => return label,
-                Parts::Inner(low, high) => {
-                    place = if low.block().covers(&addr) { low } else { high };
-                }
-            }
-        }
+        let last = self.stretches.len() - 1;
+        self.stretches
+            .label(self.stretches.find(0, last, addr.value))
     }
 
     /// Returns the number of nodes: the leaves, and the divided blocks, one fewer than the leaves.
     pub fn node_count(&self) -> u32
         ensures { result + 1 ≡ 2 * length self.now.leaves }
     {
-        self.nodes.len() as u32
+        self.node_count
     }
 
     /// Returns the leaves in ascending order of their blocks.
@@ -126,20 +107,41 @@ impl Trie {
         ensures len { result.block.len ≡ 0 }
         ensures leaves { result.leaves ≡ self.now.leaves }
     {
-        cursor_at(self.nodes.as_slice(), 0, whole_space(self.version))
+        root_of(&self.stretches)
     }
 }
 
-// Returns the nodes of the trie of some statements, given their stretches.
-fn grow(alloc: Global, stretches: &Stretches) -> Result<Vec<Node>, AllocError>
-    requires { (ss : List Statement) × (default : Option LabelNumber) ×
-        AreStretches ss default stretches.now × (length ss ≤ 1000000) }
-    ensures { IfOk result (λ nodes. (ss : List Statement) (default : Option LabelNumber) →
-        AreStretches ss default stretches.now → AddsTree (width_of stretches.now.version) ss default 0 0 [] nodes.items) }
+// Returns a cursor at the node of the whole address space of the stretches.
+fn root_of(stretches: &Stretches) -> Cursor
+    ensures version { result.block.version ≡ stretches.now.version }
+    ensures value { result.block.value ≡ 0 }
+    ensures len { result.block.len ≡ 0 }
+    ensures leaves { result.leaves ≡ leaves_in stretches.now (width_of stretches.now.version) 0 0 }
 {
-    let mut nodes = Vec::new(alloc);
-    push_block(&mut nodes, stretches, Window::whole(stretches))?;
-    Ok(nodes)
+    cursor_at(stretches, Window::whole(stretches))
+}
+
+// Returns the trie with these stretches.
+fn trie_of(stretches: Stretches) -> Trie
+    requires { 2 * length (leaves_in stretches (width_of stretches.version) 0 0) < 2 ^ 32 }
+    ensures version { result.version ≡ stretches.version }
+    ensures leaves { result.leaves ≡ leaves_in stretches (width_of stretches.version) 0 0 }
+{
+    Trie {
+        node_count: count_nodes(&root_of(&stretches)),
+        stretches,
+    }
+}
+
+// Returns the number of nodes at and below the node.
+fn count_nodes(place: &Cursor) -> u32
+    requires { 2 * length place.now.leaves < 2 ^ 32 }
+    ensures { result + 1 ≡ 2 * length place.now.leaves }
+{
+    match place.parts() {
+        Parts::Leaf(_) => 1,
+        Parts::Inner(low, high) => 1 + count_nodes(&low) + count_nodes(&high),
+    }
 }
 
 // Appends the leaves at and below the node. If an allocation fails, some of them may have been appended.

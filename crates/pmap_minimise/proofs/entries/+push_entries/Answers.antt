@@ -2,7 +2,7 @@ use Rattle.std.proofs.Common.{◌≡◌, ◌+◌, ◌-◌, ◌*◌, ◌∙◌, L
 use Rattle.std.proofs.lemmas.Result.{on_ok_weaker}
 use Rattle.prefix_keys.specs.Block.{block_number, width_of}
 use Rattle.label_trie.specs.TrieModel.{number_of}
-use Rattle.label_trie.proofs.Divided.{is_half}
+use Rattle.label_trie.proofs.Places.{is_half}
 use Rattle.pmap_cert.specs.Node.{Node, first_node}
 use Rattle.pmap_cert.proofs.Paths.{path-length}
 use Rattle.pmap_minimise.specs.Numbers.{numbers_of}

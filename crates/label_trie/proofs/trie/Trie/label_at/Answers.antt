@@ -1,21 +1,23 @@
-use Rattle.std.proofs.Common.{subst}
-use Rattle.std.proofs.lemmas.Bool.{both_ways}
-use Rattle.prefix_keys.specs.Covers.{BlockCovers}
-use Rattle.prefix_keys.specs.declared.block.Block.{Block}
-use Rattle.label_trie.proofs.Lookup.{HasCut, path_high, path_low}
+use Rattle.std.proofs.Common.{◌∙◌, ◌-◌, ◌^◌, ◌<◌, option_map, ap, arith, sym}
+use Rattle.prefix_keys.specs.Block.{width_of}
+use Rattle.pmap_text.specs.Stretches.{label_at}
+use Rattle.pmap_text.proofs.Ranges.{held_index, last_end}
+use Rattle.label_trie.specs.TrieModel.{TrieModel}
+use Rattle.label_trie.proofs.Lookup.{label_held_in}
 use Rattle.label_trie.proofs.trie.Trie.label_at.Goals as goal
 
-pub loop-label-preserved-then-covers : goal.loop-label-preserved-then-covers
-loop-label-preserved-then-covers c =
-    let low = c.in-Inner.low in
-    path_low c.args.self.now c.args.addr c.loop-label.place low c.in-Inner.high c.loop-label.invariant c.in-Inner.ensures
-    (subst (λ (b : Block). HasCut b low.leaves) c.block.ensures.block c.block.ensures.cut)
-    (subst (λ (b : Block). BlockCovers b c.args.addr) c.block.ensures.block (c.covers.ensures.0 c.if-covers.true))
+pub find-requires-clause-below : goal.find-requires-clause-below
+find-requires-clause-below c =
+    let s = c.self.inside.stretches in
+    let same = c.requires ∙ sym (ap (λ (t : TrieModel). t.version) c.self.view_is) in
+    let fits : c.args.addr.value < 2 ^ width_of s.version = rw (← same) c.args.addr.in_range in
+    omega (arith, fits, last_end s (c.len-last.result - 1) (omega (arith, c.len-last.ensures.value)))
 
-pub loop-label-preserved : goal.loop-label-preserved
-loop-label-preserved c =
-    let low = c.in-Inner.low in
-    path_high c.args.self.now c.args.addr c.loop-label.place low c.in-Inner.high c.loop-label.invariant c.in-Inner.ensures
-    (subst (λ (b : Block). HasCut b low.leaves) c.block.ensures.block c.block.ensures.cut) c.requires
-    (subst (λ (b : Block). BlockCovers b c.args.addr → ⊥) c.block.ensures.block
-    (λ covers. both_ways c.covers.result c.if-covers.false (c.covers.ensures.1 covers)))
+pub returns : goal.returns
+returns c =
+    let s = c.self.inside.stretches in
+    let a = c.args.addr.value in
+    let same = c.requires ∙ sym (ap (λ (t : TrieModel). t.version) c.self.view_is) in
+    let fits : a < 2 ^ width_of s.version = rw (← same) c.args.addr.in_range in
+    let held = c.label.ensures ∙ ap (label_at s) (sym (held_index s c.len-last.ensures.every a c.find.result c.find.ensures.holds)) in
+    rw (← c.self.view_is) (ap (option_map (λ id. id.0)) held ∙ sym (label_held_in s c.len-last.ensures.every a fits))
