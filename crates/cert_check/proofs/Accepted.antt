@@ -1,8 +1,9 @@
 -- A certificate has no fault exactly if it is accepted.
-use Rattle.std.proofs.Common.{◌≡◌, ◌⊎◌, inl, inr, ℕ, zero, suc, ◌+◌, ◌*◌, ◌<◌, ◌≤◌, Bool, true, false, cond, not, ◌&&◌, ◌||◌, ◌==◌, List, [], ◌∷◌, Option, Some, None, length, nat_lt, option_map, refl, sym, ap, ◌∙◌, subst, arith, bytes_eq}
+use Rattle.std.proofs.Common.{◌≡◌, ℕ, zero, suc, ◌+◌, ◌*◌, ◌≤◌, Bool, true, false, cond, not, ◌&&◌, ◌||◌, ◌==◌, List, [], ◌∷◌, Option, Some, None, length, nat_lt, option_map, refl, sym, ap, ◌∙◌, subst, arith, bytes_eq}
 use Rattle.std.specs.List.{list_all, list_any}
 use Rattle.std.specs.Option.{option_or}
-use Rattle.std.proofs.lemmas.Bool.{and_from, and_parts, both_ways, cases_lt, eq-eqb, eqb-true, false_from_ne_true, false≢true, lt-ltb, ltb-true, not-true, not_from_false, or_left, or_right}
+use Rattle.std.proofs.lemmas.Bool.{and_from, and_parts, both_ways, eq-eqb, eqb-true, false_from_ne_true, false≢true, ltb-true, not-true, not_from_false, or_left, or_right}
+use Rattle.std.proofs.lemmas.Bool.Decides.{nat_tests}
 use Rattle.std.proofs.lemmas.Option.{none-some}
 use Rattle.std.proofs.lemmas.Slice.Eq.{bytes_eq-Decides}
 use Rattle.prefix_keys.specs.Block.{first_of, width_of}
@@ -14,7 +15,6 @@ use Rattle.pmap_cert.specs.Compacting.{line_count}
 use Rattle.pmap_cert.specs.Acceptance.{AreBitsAccepted, IsAccepted, IsDecided, IsNodeAccepted, IsWithinExact}
 use Rattle.pmap_cert.specs.CertificateText.{HasNodeForm, HasRoomBelow}
 use Rattle.pmap_cert.specs.CertificateModel.{CertificateModel, ChainNode, InnerNode, LeafNode, Claim, Tree, claim_of, has, chain_claim, chosen_half, side_half, exact_claim}
-use Rattle.pmap_cert.proofs.ChainWords.{other-room}
 use Rattle.pmap_cert.proofs.Sets.{bytes_eq-same}
 use Rattle.cert_check.specs.Checking.{bits_fault, claim_fault, fault_of_number, first_fault, is_decided, is_label_of, leaf_fault, node_fault, is_same_version, CheckFault, BoundNotMet, CostTooHigh, LeafNotUniform, ListDiffers, SetTooSmall, VersionDiffers}
 use Rattle.cert_check.proofs.Lists.{any-filtered, none_kept}
@@ -106,6 +106,9 @@ has-all s (y ∷ ys) h =
     and_from (has s y) (list_all (has s) ys) (h y (or_left (bytes_eq y y) (has ys y) (bytes_eq-same y)))
     (has-all s ys (λ x inside. h x (or_right (bytes_eq x y) (has ys x) inside)))
 
+at_most : (a b : ℕ) → nat_lt a b ≡ false → b ≤ a
+at_most a b h = grind (arith, nat_tests)
+
 -- a claim without a fault is within the exact claim
 claim-within : (p e : Claim) → claim_fault p e ≡ None → IsWithinExact p e
 claim-within p e none =
@@ -117,13 +120,6 @@ claim-within p e none =
       labels = λ same. all-has p.labels e.labels (full (p.cost == e.cost) (list_all (has p.labels) e.labels) second.0 (eq-eqb p.cost e.cost same));
     }
   where
-    at_most : (a b : ℕ) → nat_lt a b ≡ false → b ≤ a
-    at_most a b h = by (cases_lt a b)
-      where
-        by : (a < b) ⊎ (b ≤ a) → b ≤ a
-        by (inl less) = absurd (both_ways (nat_lt a b) h (lt-ltb a b less))
-        by (inr le) = le
-
     full : (b c : Bool) → (b && not c) ≡ false → b ≡ true → c ≡ true
     full true true h e = refl
     full true false h e = absurd (false≢true (sym h))
@@ -138,22 +134,6 @@ claim-none p e h =
     absurd (both_ways (list_all (has p.labels) e.labels) (not-true _ parts.1) (has-all p.labels e.labels (h.labels (eqb-true p.cost e.cost parts.0))))) in
     ap (λ b. cond b (Some CostTooHigh) (cond ((p.cost == e.cost) && not (list_all (has p.labels) e.labels)) (Some SetTooSmall) None)) high
     ∙ ap (λ b. cond b (Some SetTooSmall) None) lacks
-
--- the node has at most `room` levels of inner nodes, each bit of a chain counting as one, and each chain has a bit
-abbrev pub HasRoom : Tree → ℕ → Type 0
-HasRoom (LeafNode x) room = Unit {0}
-HasRoom (InnerNode claim lower upper) zero = ⊥
-HasRoom (InnerNode claim lower upper) (suc room) = HasRoom lower room × HasRoom upper room
-HasRoom (ChainNode claim bits side end) room = (0 < length bits) × HasRoomBelow (HasRoom end) bits room
-
--- a well-formed node has room for the nodes below it
-pub room-from_form : (table : List Label) (t : Tree) (room : ℕ) → HasNodeForm table t room → HasRoom t room
-room-from_form table (LeafNode x) room h = tt
-room-from_form table (InnerNode claim lower upper) zero h = absurd h
-room-from_form table (InnerNode claim lower upper) (suc room) h =
-    (room-from_form table lower room h.2, room-from_form table upper room h.3)
-room-from_form table (ChainNode claim bits side end) room h =
-    (h.3, other-room (HasNodeForm table end) (HasRoom end) (room-from_form table end) bits room h.4)
 
 -- a chain's path without a fault is accepted
 bits-accepted : (m : MapModel) (ps : List Prefix) (side : Label) (k : ℕ) (end : ℕ → ℕ → Option CheckFault) (IsEnd : ℕ → ℕ → Type 0) (Fits : ℕ → Type 0)
@@ -182,28 +162,28 @@ bits-none m ps side k end IsEnd ends (bit ∷ bits) n q h =
     (ap (option_map (fault_of_number k)) (leaf-none m ps (suc n) (side_half bit q) side leaf.0 leaf.1))
 
 -- a node without a fault is accepted
-node-accepted : (m : MapModel) (ps : List Prefix) (t : Tree) (room k n q : ℕ) → HasRoom t room → n + room ≡ width_of m.version
+node-accepted : (m : MapModel) (ps : List Prefix) (table : List Label) (t : Tree) (room k n q : ℕ) → HasNodeForm table t room → n + room ≡ width_of m.version
     → node_fault m ps t k n q ≡ None → IsNodeAccepted m ps t n q
-node-accepted m ps (LeafNode x) room k n q fits deep none = leaf-accepted m ps n q x (map_none-part (fault_of_number k) (leaf_fault m ps n q x) none)
-node-accepted m ps (InnerNode claim lower upper) zero k n q fits deep none = absurd fits
-node-accepted m ps (InnerNode claim lower upper) (suc room) k n q fits deep none =
+node-accepted m ps table (LeafNode x) room k n q fits deep none = leaf-accepted m ps n q x (map_none-part (fault_of_number k) (leaf_fault m ps n q x) none)
+node-accepted m ps table (InnerNode claim lower upper) zero k n q fits deep none = absurd fits
+node-accepted m ps table (InnerNode claim lower upper) (suc room) k n q fits deep none =
     let exact = exact_claim (claim_of lower) (claim_of upper) in
     let own = option_map (fault_of_number k) (claim_fault claim exact) in
     let high = node_fault m ps upper (k + 1 + line_count lower) (suc n) (2 * q + 1) in
     let first = or_none-parts (node_fault m ps lower (k + 1) (suc n) (2 * q)) (option_or high own) none in
     let second = or_none-parts high own first.1 in (
       omega (arith, deep),
-      node-accepted m ps lower room (k + 1) (suc n) (2 * q) fits.0 (omega (arith, deep)) first.0,
-      node-accepted m ps upper room (k + 1 + line_count lower) (suc n) (2 * q + 1) fits.1 (omega (arith, deep)) second.0,
+      node-accepted m ps table lower room (k + 1) (suc n) (2 * q) fits.2 (omega (arith, deep)) first.0,
+      node-accepted m ps table upper room (k + 1 + line_count lower) (suc n) (2 * q + 1) fits.3 (omega (arith, deep)) second.0,
       claim-within claim exact (map_none-part (fault_of_number k) (claim_fault claim exact) second.1),
     )
-node-accepted m ps (ChainNode claim bits side end) room k n q fits deep none =
+node-accepted m ps table (ChainNode claim bits side end) room k n q fits deep none =
     let exact = chain_claim (length bits) side (claim_of end) in
     let own = option_map (fault_of_number k) (claim_fault claim exact) in
     let parts = or_none-parts (bits_fault m ps side k (node_fault m ps end (k + 1)) bits n q) own none in (
-      fits.0,
-      bits-accepted m ps side k (node_fault m ps end (k + 1)) (IsNodeAccepted m ps end) (HasRoom end)
-          (λ room' n' q' fits' deep' none'. node-accepted m ps end room' (k + 1) n' q' fits' deep' none') bits room n q fits.1 deep parts.0,
+      fits.3,
+      bits-accepted m ps side k (node_fault m ps end (k + 1)) (IsNodeAccepted m ps end) (HasNodeForm table end)
+          (λ room' n' q' fits' deep' none'. node-accepted m ps table end room' (k + 1) n' q' fits' deep' none') bits room n q fits.4 deep parts.0,
       claim-within claim exact (map_none-part (fault_of_number k) (claim_fault claim exact) parts.1),
     )
 
@@ -232,21 +212,12 @@ certificate-accepted m l c form none =
     let second = or_none-parts nodes bound first.1 in
     let third = cond_none-then (nat_lt ((claim_of c.root).cost + 1) (length l.prefixes)) None (fault_of_number 0 BoundNotMet) second.1 in
     let version : c.version ≡ m.version = same_version-true c.version m.version versions.1 in
-    let fits : HasRoom c.root (width_of m.version) =
-    subst (λ (v : Version). HasRoom c.root (width_of v)) version (room-from_form c.table c.root (width_of c.version) form) in
     record {
       list_version = same_version-true l.version m.version versions.0;
       certificate_version = version;
-      root = node-accepted m l.prefixes c.root (width_of m.version) 1 0 0 fits (omega arith) second.0;
+      root = node-accepted m l.prefixes c.table c.root (width_of m.version) 1 0 0 (subst (λ (v : Version). HasNodeForm c.table c.root (width_of v)) version form) (omega arith) second.0;
       count = at_most ((claim_of c.root).cost + 1) (length l.prefixes) third.0;
     }
-  where
-    at_most : (a b : ℕ) → nat_lt a b ≡ false → b ≤ a
-    at_most a b h = by (cases_lt a b)
-      where
-        by : (a < b) ⊎ (b ≤ a) → b ≤ a
-        by (inl less) = absurd (both_ways (nat_lt a b) h (lt-ltb a b less))
-        by (inr le) = le
 
 pub certificate-none : (m : MapModel) (l : ListModel) (c : CertificateModel) → IsAccepted m l c → first_fault m l c ≡ None
 certificate-none m l c h =

@@ -16,12 +16,14 @@ use Rattle.cert_check.specs.Checking.{bits_fault, claim_fault, fault_of_number, 
 use Rattle.pmap_cert.specs.declared.fault.CertFault.{CertFault}
 use Rattle.pmap_text.specs.ListModel.{ListModel}
 
--- the first of two faults is the first if it exists
-pub or-first : {X : Type 0} (a b : Option X) (x : X) → a ≡ Some x → option_or a b ≡ Some x
-or-first a b x e = ap (λ o. option_or o b) e
+pub or-none : {X : Type 0} (a : Option X) → option_or a None ≡ a
+or-none None = refl
+or-none (Some x) = refl
 
-pub or-second : {X : Type 0} (a b c : Option X) → a ≡ None → b ≡ c → option_or a b ≡ c
-or-second a b c e f = ap (λ o. option_or o b) e ∙ f
+-- the first of three faults
+pub or-or : {X : Type 0} (a b c : Option X) → option_or (option_or a b) c ≡ option_or a (option_or b c)
+or-or None b c = refl
+or-or (Some x) b c = refl
 
 pub low-half : {s : StretchesModel} {w low high : Window} → AreHalvesOf s w low high → IsHalf s w low (2 * number_at s w)
 low-half are = record { len = are.low_len; number = are.low_number }

@@ -21,6 +21,7 @@ use Rattle.cert_check.specs.Inner.{IsHandedDown, IsListPart, IsSettledBetween, L
 use Rattle.cert_check.specs.Checking.{bits_fault, fault_of_number, is_decided, is_label_of, leaf_fault, CheckFault, CheckFaultKind, LeafNotUniform, ListDiffers}
 use Rattle.pmap_text.proofs.Windows.{block_some}
 use Rattle.cert_check.proofs.HalfBlocks.{IsWithin, block-first, half-within, lower-before}
+use Rattle.cert_check.proofs.Nodes.{or-none}
 use Rattle.cert_check.proofs.Handed.{never-found, none-listed}
 use Rattle.cert_check.proofs.Within.{entry-version, narrow}
 
@@ -34,10 +35,6 @@ path-in W (bit ∷ bits) n q k is le =
     let half = half-within W n q bit (omega (arith, is, le)) in
     let rest = path-in W bits (suc n) (chosen_half bit q) k (omega (arith, is)) le in
     (omega (arith, half.first, rest.0), omega (arith, half.last, rest.1))
-
-or-none : {X : Type 0} (a : Option X) → option_or a None ≡ a
-or-none None = refl
-or-none (Some x) = refl
 
 -- If the blocks of an outer block that lie apart from an inner one have no fault, the first fault along the bits from
 -- the outer to the inner block is that of the inner one.

@@ -1,5 +1,8 @@
 -- The root of a certificate, with the whole map and the whole list.
-use Rattle.std.proofs.Common.{◌≡◌, ◌∙◌, ℕ, ◌-◌, ◌^◌, ◌<◌, Bor, List, None, Err, Ok, Result, refl, sym, ap, subst, arith}
+use Rattle.std.specs.Option.{option_or}
+use Rattle.std.proofs.Common.{◌≡◌, ◌∙◌, ℕ, ◌+◌, ◌-◌, ◌^◌, ◌<◌, Bor, List, Option, None, Some, Result, Err, Ok, cond, true, length, nat_lt, refl, sym, ap, subst, arith}
+use Rattle.std.proofs.lemmas.Bool.{and_from}
+use Rattle.std.proofs.lemmas.List.{length-map}
 use Rattle.std.proofs.Math.Nat.{zero-div}
 use Rattle.std.proofs.lemmas.Option.{none-some}
 use Rattle.prefix_keys.specs.Block.{block_number, width_of}
@@ -10,23 +13,25 @@ use Rattle.pmap_text.specs.declared.entry.Entry.{Entry}
 use Rattle.pmap_text.specs.declared.prefix_list.PrefixList.{PrefixList}
 use Rattle.pmap_text.specs.declared.window.Window.{Window}
 use Rattle.pmap_text.proofs.Blocks.{block_number-zero}
-use Rattle.pmap_cert.specs.CertificateModel.{Claim, Tree}
+use Rattle.pmap_cert.specs.CertificateModel.{Claim, Tree, claim_of}
 use Rattle.pmap_text.specs.MapText.{map_of}
-use Rattle.pmap_text.specs.PrefixList.{list_of}
-use Rattle.cert_check.specs.Inner.{AreInOrder, IsAnswer, IsListPart, IsNodesAnswer, IsPart, Part, Sources, Walk, fault_of_node, reading_at, root_reading}
-use Rattle.pmap_cert.specs.FormatReading.{Place}
-use Rattle.pmap_cert.specs.Inner.{node_due_at}
-use Rattle.cert_check.specs.Checking.{node_fault, Certificate, Check, TextFault}
+use Rattle.pmap_text.specs.PrefixList.{list_of, prefix_of}
+use Rattle.cert_check.specs.Inner.{AreInOrder, IsListPart, IsPart, IsPassed, IsRootChecked, IsUnread, Part, Sources, Walk, certificate_with, fault_of_node, reading_at, root_reading}
+use Rattle.pmap_cert.specs.FormatReading.{Place, ended_by, fault_at, is_ended}
+use Rattle.pmap_cert.specs.Inner.{node_due_at, reading_from}
+use Rattle.pmap_cert.specs.declared.fault.CertFault.{CertFault}
+use Rattle.pmap_cert.specs.declared.fault.CertFaultKind.TheVariants.{NodesLeft}
+use Rattle.pmap_cert.specs.declared.format.Format.{Format}
+use Rattle.pmap_text.specs.MapModel.{Label}
+use Rattle.pmap_cert.specs.declared.node_line.Frame.{Frame}
+use Rattle.pmap_text.specs.Reading.{◌>>=◌}
+use Rattle.pmap_text.specs.declared.label.LabelId.{LabelId}
+use Rattle.cert_check.specs.Checking.{fault_of_number, node_fault, BoundNotMet, CheckFault, VersionDiffers}
+use Rattle.cert_check.proofs.Accepted.{same_version-from}
 use Rattle.cert_check.proofs.Within.{entry-version}
 
 whole-number : (s : StretchesModel) (w : Window) → w.first ≡ 0 → number_at s w ≡ 0
 whole-number s w first = ap (block_number (width_of s.version) w.len) first ∙ zero-div (2 ^ (width_of s.version - w.len))
-
--- the first fault of the root, for the whole address space
-pub whole-fault : (s : Sources) (p : Part) → p.window.first ≡ 0 → p.window.len ≡ 0 → (tree : Tree) (k : ℕ)
-    → node_fault (map_of s.map.now) (list_of s.list.now).prefixes tree k 0 0 ≡ fault_of_node s p tree k
-whole-fault s p first len tree k =
-    sym (λ i. node_fault (map_of s.map.now) (list_of s.list.now).prefixes tree k (len i) (whole-number s.stretches p.window first i))
 
 root-list : (l : PrefixList) (entries : List Entry) → AreInOrder l.entries entries → IsListPart l 0 0 0 entries None
 root-list l entries order = record {
@@ -49,25 +54,40 @@ root-part s w window first len entries order = record {
       (subst (λ (q : ℕ). IsListPart s.list.now 0 q 0 entries.now None) (sym (whole-number s.stretches w first)) (root-list s.list.now entries.now order));
 }
 
-root-from : (s : Sources) (n : ℕ) → n ≡ 0 → (place : Place) → root_reading s.frame place ≡ reading_at s n place
-root-from s n none place =
-    let all : s.frame.width ≡ s.frame.width - n = omega (arith, none) in
-    ap (λ (room : ℕ). node_due_at s.frame.format s.frame.width s.frame.labels.now room place) all
+root-from : (frame : Frame) (n : ℕ) → n ≡ 0 → (place : Place) → root_reading frame place ≡ node_due_at frame.format frame.width frame.labels.now (frame.width - n) place
+root-from frame n none place = ap (λ (room : ℕ). node_due_at frame.format frame.width frame.labels.now room place) (omega (arith, none))
 
--- the result of a walk over the root, for the whole address space
-pub root-answer : (s : Sources) (p : Part) → p.window.first ≡ 0 → p.window.len ≡ 0 → (old new : Walk) (result : Result ℕ TextFault)
-    → IsAnswer s (reading_at s p.window.len old.lines) (fault_of_node s p) old.number 0 old.sets.items new result
-    → IsNodesAnswer s.map.now s.list.now s.frame old new result
-root-answer s p first len old new (Ok cost) answer = (
-  answer.tree,
-  root-from s p.window.len len old.lines ∙ answer.read,
-  ap (λ (c : Claim). c.cost) answer.claim,
-  λ one. whole-fault s p first len answer.tree 1 ∙ (answer.fault 1 (sym one)).0,
-)
-root-answer s p first len old new (Err (Check found)) answer = (
-  answer.tree,
-  root-from s p.window.len len old.lines ∙ answer.read,
-  λ one. whole-fault s p first len answer.tree 1 ∙ answer.fault 1 (sym one),
-)
-root-answer s p first len old new (Err (Certificate found)) answer =
-    (λ some. root-from s p.window.len len old.lines ∙ answer.0 some, answer.1)
+pub root-unread : (frame : Frame) (n : ℕ) → n ≡ 0 → (place : Place) (f : CertFault) → IsUnread (node_due_at frame.format frame.width frame.labels.now (frame.width - n) place) f
+    → IsUnread (root_reading frame place) f
+root-unread frame n none place f unread = (λ some. root-from frame n none place ∙ unread.0 some, unread.1)
+
+-- the first fault of the certificate with a root that was checked for the whole address space
+pub root-checked : (s : Sources) (p : Part) (version : Version) (place : Place) (number cost : ℕ) (old : List LabelId) (before : Option CheckFault) (last new : Walk)
+    → p.window.first ≡ 0 → p.window.len ≡ 0 → number ≡ 1 → before ≡ None → s.list.now.version ≡ s.map.now.version → version ≡ s.map.now.version
+    → IsPassed s (reading_at s p.window.len place) (fault_of_node s p) number 0 old before last cost
+    → new.lines ≡ last.lines → new.fault ≡ option_or last.fault (cond (nat_lt (cost + 1) (length s.list.now.entries)) (Some (fault_of_number 0 BoundNotMet)) None)
+    → IsRootChecked s.map.now s.list.now s.frame version place new
+root-checked s p version place number cost old before last new first len one none list_version cert_version passed lines noted =
+    let m = map_of s.map.now in
+    let l = list_of s.list.now in
+    let nodes = node_fault m l.prefixes passed.tree 1 0 0 in
+    let bound = λ (cost : ℕ) (count : ℕ). cond (nat_lt (cost + 1) count) (Some (fault_of_number 0 BoundNotMet)) None in
+    let versions = and_from _ _ (same_version-from l.version m.version list_version) (same_version-from version m.version cert_version) in
+    record {
+      tree = passed.tree;
+      read = root-from s.frame p.window.len len place ∙ passed.read ∙ ap (λ (l : Place). Ok (passed.tree, l)) (sym lines);
+      fault = noted
+          ∙ (λ i. option_or (((passed.fault 1 (sym one)).0 ∙ ap (λ o. option_or o (fault_of_node s p passed.tree 1)) none) i)
+          (bound (ap (λ (c : Claim). c.cost) (sym passed.claim) i) (sym (length-map s.list.now.entries (prefix_of s.list.now.labels)) i)))
+          ∙ (λ i. option_or (node_fault m l.prefixes passed.tree 1 (len i) (whole-number s.stretches p.window first i)) (bound (claim_of passed.tree).cost (length l.prefixes)))
+          ∙ sym (ap (λ b. cond b (option_or nodes (bound (claim_of passed.tree).cost (length l.prefixes))) (Some (fault_of_number 0 VersionDiffers))) versions);
+    }
+
+-- a text whose root was read is read as the certificate with that root if nothing follows
+pub read-as : (format : Format) (width : ℕ) (table : List Label) (version : Version) (place after : Place) (tree : Tree) → width ≡ width_of version
+    → node_due_at format width table width place ≡ Ok (tree, after) → is_ended after.pieces ≡ true
+    → reading_from format version table place ≡ Ok (certificate_with format version table tree)
+read-as format width table version place after tree is read ended =
+    ap (λ (r : Result (Tree × Place) CertFault). r >>= (λ root. ended_by (certificate_with format version table root.0) root.1))
+    ((λ i. node_due_at format (sym is i) table (sym is i) place) ∙ read)
+    ∙ ap (λ b. cond b (Ok (certificate_with format version table tree)) (Err (fault_at after NodesLeft))) ended

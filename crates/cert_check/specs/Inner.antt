@@ -1,16 +1,13 @@
-use Rattle.std.specs.Prelude.{ℕ, List, filter, ◌≡◌, ◌+◌, ◌&&◌, ◌==◌, Bool, [], ◌∷◌, Option, map, nat_lt, option_map, if◌then◌else◌, Some, length, ◌<◌, ◌≤◌, true, Contains, slice_index_or, ◌≢◌, ◌-◌, ◌++◌, None, Result, Ok, Err, drop}
+use Rattle.std.specs.Prelude.{ℕ, List, ◌≡◌, ◌+◌, ◌==◌, Bool, Option, map, option_map, Some, length, ◌<◌, ◌≤◌, true, Contains, slice_index_or, ◌≢◌, ◌-◌, ◌++◌, Result, Ok, Err, drop}
 use Rattle.std.specs.List.{list_any}
-use Rattle.std.specs.Option.{ForSome}
+use Rattle.std.specs.Option.{ForSome, option_or}
 use Rattle.prefix_keys.specs.Block.{block_number, width_of, first_of, last_of}
-use Rattle.prefix_keys.specs.declared.block.Block.{Block}
-use Rattle.pmap_text.specs.Carried.{carried, carried_entries, entry_covers, statement_meets, statement_spans}
 use Rattle.pmap_text.specs.declared.entry.Entry.{Entry}
-use Rattle.pmap_text.specs.declared.statement.Statement.{Statement}
 use Rattle.pmap_text.specs.Label.{IsLabelTable, number_of as number_of_label}
 use Rattle.pmap_text.specs.ListEntries.{rank_of}
-use Rattle.pmap_text.specs.ListModel.{lies_inside, label_below}
+use Rattle.pmap_text.specs.ListModel.{label_below}
 use Rattle.pmap_text.specs.MapModel.{Label, MapModel, settled_label}
-use Rattle.pmap_text.specs.PrefixList.{prefix_of, list_of, number_of_block as number_of}
+use Rattle.pmap_text.specs.PrefixList.{list_of}
 use Rattle.pmap_text.specs.declared.label.LabelId.{LabelId}
 use Rattle.pmap_text.specs.Stretches.{AreLabelsBelow, AreStretches, StretchesModel}
 use Rattle.pmap_text.specs.Windows.{IsWindow, number_at}
@@ -21,6 +18,7 @@ use Rattle.pmap_cert.specs.Compacting.{line_count}
 use Rattle.pmap_cert.specs.CertificateText.{IsAscending}
 use Rattle.pmap_cert.specs.CertificateModel.{CertificateModel, ChainNode, Claim, InnerNode, Tree, claim_of}
 use Rattle.pmap_cert.specs.Format.{format_number}
+use Rattle.pmap_cert.specs.declared.format.Format.{Format}
 use Rattle.pmap_cert.specs.FormatReading.{Place}
 use Rattle.pmap_cert.specs.declared.fault.CertFault.{CertFault}
 use Rattle.pmap_cert.specs.declared.node.Claim.{Claim as Claimed}
@@ -30,51 +28,16 @@ use Rattle.pmap_cert.specs.declared.node_line.Frame.{Frame}
 use Rattle.pmap_text.specs.Reading.{◌>>=◌}
 use Rattle.pmap_text.specs.declared.map_text.MapText.{MapText}
 use Rattle.prefix_keys.specs.declared.version.Version.{Version}
-use Rattle.cert_check.specs.Checking.{is_same_version, is_label_of, bits_fault, first_fault, node_fault, told, Certificate, Check, CheckFault, CheckFaultKind, TextFault}
+use Rattle.cert_check.specs.Checking.{is_label_of, bits_fault, first_fault, node_fault, told, CheckFault, CheckFaultKind}
 pub use Rattle.cert_check.specs.declared.sources.Sources.{Sources}
 pub use Rattle.cert_check.specs.declared.part.Part.{Part}
 pub use Rattle.cert_check.specs.declared.walk.Held.{Held}
 pub use Rattle.cert_check.specs.declared.walk.Walk.{Walk}
 
--- The statements and entries that affect a block. Those of another version than the block's cover no address of it.
-
--- the statements of the block's version that meet the block, from the last one that covers it whole (all of them if
--- none does), in the given order
-abbrev pub carried_to : Block → List Statement → List Statement
-carried_to block ss =
-    carried (width_of block.version) block.len (number_of block) (filter (λ s. is_same_version s.span.low.version block.version) ss)
-
--- the longest entry of the block's version that covers the block, if there is one, and those strictly inside it, in the
--- given order
-abbrev pub entries_carried_to : Block → List Entry → List Entry
-entries_carried_to block es =
-    carried_entries (width_of block.version) block.len (number_of block) (filter (λ e. is_same_version e.block.version block.version) es)
-
 -- the window is the half of a block with this number
 pub record IsHalf (s : StretchesModel) (w half : Window) (q : ℕ) : Type 0 where
   pub len : half.len ≡ w.len + 1
   pub number : number_at s half ≡ q
-
-abbrev pub meets_block : Block → Statement → Bool
-meets_block b s =
-    is_same_version s.span.low.version b.version && statement_meets (width_of b.version) b.len (number_of b) s
-
-abbrev pub spans_block : Block → Statement → Bool
-spans_block b s =
-    is_same_version s.span.low.version b.version && statement_spans (width_of b.version) b.len (number_of b) s
-
-abbrev pub covers_whole : Block → Entry → Bool
-covers_whole b e =
-    is_same_version e.block.version b.version && entry_covers (width_of b.version) b.len (number_of b) e
-
-abbrev pub is_inside : Block → Entry → Bool
-is_inside b e =
-    is_same_version e.block.version b.version && lies_inside (width_of b.version) b.len (number_of b) (prefix_of [] e)
-
--- the greatest length of an entry that passes the test, 0 if none does
-abbrev pub greatest : (Entry → Bool) → List Entry → ℕ
-greatest test [] = 0
-greatest test (e ∷ es) = if test e && nat_lt (greatest test es) e.block.len then e.block.len else greatest test es
 
 -- the numbers of one table's labels in another table, `None` for a label that the other lacks
 pub record AreNumbers (numbers : List (Option LabelId)) (from to : List Label) : Type 0 where
@@ -194,72 +157,40 @@ pub record FitsPath (s : Sources) (p : Part) (side : ℕ) (bits : List Bool) : T
   pub room : p.window.len + length bits ≤ s.frame.width
   pub known : side < length s.frame.labels.now
 
--- A tree was read, and has no fault if its node has this number. The walk has its claimed set, and has passed it and
--- `more` nodes before it.
-pub record IsPassed (s : Sources) (reading : Read) (fault_at : Tree → ℕ → Option CheckFault) (number more : ℕ) (old : List LabelId) (new : Walk) (cost : ℕ) : Type 0 where
+-- the fault of the node with this number
+abbrev pub fault_with : ℕ → Option CheckFaultKind → Option CheckFault
+fault_with number = option_map (λ kind. record { kind = kind; node = number })
+
+-- A tree was read, whose node has this number. The walk has its claimed set after the old ones, and its first fault
+-- unless one came before, and has passed it and `more` nodes before it.
+pub record IsPassed (s : Sources) (reading : Read) (fault_at : Tree → ℕ → Option CheckFault) (number more : ℕ) (old : List LabelId) (before : Option CheckFault) (new : Walk) (cost : ℕ) : Type 0 where
   pub tree : Tree
   pub set : List LabelId
   pub read : reading ≡ Ok (tree, new.lines)
   pub claim : claim_of tree ≡ claim_with s.frame.labels.now cost (map (λ i. i.0) set)
   pub ascending : IsAscending (length s.frame.labels.now) 0 (map (λ i. i.0) set)
   pub sets : new.sets.items ≡ old ++ set
-  pub fault : (k : ℕ) → told k ≡ number → (fault_at tree k ≡ None) × (new.number ≡ told (k + (more + line_count tree)))
-
--- a tree was read, and this is its first fault
-pub record IsFaulty (reading : Read) (fault_at : Tree → ℕ → Option CheckFault) (number : ℕ) (after : Place) (found : CheckFault) : Type 0 where
-  pub tree : Tree
-  pub read : reading ≡ Ok (tree, after)
-  pub fault : (k : ℕ) → told k ≡ number → fault_at tree k ≡ Some found
+  pub fault : (k : ℕ) → told k ≡ number → (new.fault ≡ option_or before (fault_at tree k)) × (new.number ≡ told (k + (more + line_count tree)))
 
 -- the text has this fault, or an allocation failed
 abbrev pub IsUnread : {A : Type 0} → Result A CertFault → CertFault → Type 0
 IsUnread read found = (found.kind ≢ NoMemoryForText → read ≡ Err found) × (found.kind ≡ NoMemoryForText → found.line ≡ 0)
 
--- The result of a walk over a tree: its claimed cost, the first fault of its text, or otherwise its own first fault.
-abbrev pub IsAnswer : Sources → Read → (Tree → ℕ → Option CheckFault) → ℕ → ℕ → List LabelId → Walk → Result ℕ TextFault → Type 0
-IsAnswer s read fault number more old new (Ok cost) = IsPassed s read fault number more old new cost
-IsAnswer s read fault number more old new (Err (Check found)) = IsFaulty read fault number new.lines found
-IsAnswer s read fault number more old new (Err (Certificate found)) = IsUnread read found
-
--- the result of the check of a node, by its own fault, if those below it have no fault
-abbrev pub answer_of : Option CheckFaultKind → ℕ → ℕ → Result ℕ TextFault
-answer_of None number cost = Ok cost
-answer_of (Some kind) number cost = Err (Check (record { kind = kind; node = number }))
-
--- The first of a fault of the lower half and of the faults of the upper half, which reading up to this place passes if
--- the lower half's text has no fault.
-abbrev pub IsFirstOf : Read → TextFault → Place → TextFault → Type 0
-IsFirstOf upper (Certificate lower) after first = first ≡ Certificate lower
-IsFirstOf upper (Check lower) after (Check first) = (first ≡ lower) × (tree : Tree) × (upper ≡ Ok (tree, after))
-IsFirstOf upper (Check lower) after (Certificate first) = IsUnread upper first
+-- the result of a walk over a tree: its claimed cost, or the first fault of its text
+abbrev pub IsAnswer : Sources → Read → (Tree → ℕ → Option CheckFault) → ℕ → ℕ → List LabelId → Option CheckFault → Walk → Result ℕ CertFault → Type 0
+IsAnswer s read fault number more old before new (Ok cost) = IsPassed s read fault number more old before new cost
+IsAnswer s read fault number more old before new (Err found) = IsUnread read found
 
 -- reads the root at a place and the nodes below it
 abbrev pub root_reading : Frame → Place → Read
 root_reading frame place = node_due_at frame.format frame.width frame.labels.now frame.width place
 
 -- the certificate whose root is this tree
-abbrev pub certificate_with : Frame → Version → Tree → CertificateModel
-certificate_with frame version tree =
-    record { format = format_number frame.format; version = version; table = frame.labels.now; root = tree }
+abbrev pub certificate_with : Format → Version → List Label → Tree → CertificateModel
+certificate_with format version table root = record { format = format_number format; version = version; table = table; root = root }
 
--- The result of a walk over the nodes of a certificate: the root's claimed cost, the first fault of the nodes' text, or
--- otherwise the first fault of the nodes, if the root's number is 1.
-abbrev pub IsNodesAnswer : MapText → PrefixList → Frame → Walk → Walk → Result ℕ TextFault → Type 0
-IsNodesAnswer map list frame old new (Ok cost) =
-    (tree : Tree) × (root_reading frame old.lines ≡ Ok (tree, new.lines)) × ((claim_of tree).cost ≡ cost)
-    × (old.number ≡ 1 → node_fault (map_of map) (list_of list).prefixes tree 1 0 0 ≡ None)
-IsNodesAnswer map list frame old new (Err (Check found)) =
-    (tree : Tree) × (root_reading frame old.lines ≡ Ok (tree, new.lines))
-    × (old.number ≡ 1 → node_fault (map_of map) (list_of list).prefixes tree 1 0 0 ≡ Some found)
-IsNodesAnswer map list frame old new (Err (Certificate found)) = IsUnread (root_reading frame old.lines) found
-
--- The result of a walk over the nodes of a certificate: the number of the list's entries, the first fault of the nodes'
--- text, or otherwise the first fault of the certificate.
-abbrev pub IsRootAnswer : MapText → PrefixList → Frame → Version → Read → Place → Result ℕ TextFault → Type 0
-IsRootAnswer map list frame version read after (Ok count) =
-    (tree : Tree) × (read ≡ Ok (tree, after)) × (count ≡ length (list_of list).prefixes)
-    × (first_fault (map_of map) (list_of list) (certificate_with frame version tree) ≡ None)
-IsRootAnswer map list frame version read after (Err (Check found)) =
-    (tree : Tree) × (read ≡ Ok (tree, after))
-    × (first_fault (map_of map) (list_of list) (certificate_with frame version tree) ≡ Some found)
-IsRootAnswer map list frame version read after (Err (Certificate found)) = IsUnread read found
+-- the root was read, and the walk has the first fault of its certificate
+pub record IsRootChecked (map : MapText) (list : PrefixList) (frame : Frame) (version : Version) (place : Place) (new : Walk) : Type 0 where
+  pub tree : Tree
+  pub read : root_reading frame place ≡ Ok (tree, new.lines)
+  pub fault : new.fault ≡ first_fault (map_of map) (list_of list) (certificate_with frame.format version frame.labels.now tree)

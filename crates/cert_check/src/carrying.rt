@@ -1,6 +1,7 @@
 //! The statements of a map and the entries of a list that affect a block.
-ghost use Rattle.std.specs.Prelude.{◌≡◌, ◌&&◌, ◌||◌, ◌++◌, ◌∷◌, [], nat_le, nat_lt, IfOk, OnOk, if◌then◌else◌};
-ghost use Rattle.cert_check.specs.Inner.{carried_to, entries_carried_to, covers_whole as covers_whole_of, greatest, is_inside as is_inside_of, meets_block as meets_block_of, spans_block as spans_block_of};
+ghost use Rattle.std.specs.Prelude.{◌≡◌, ℕ, ◌&&◌, ◌||◌, ◌++◌, ◌∷◌, [], nat_le, nat_lt, IfOk, OnOk, if◌then◌else◌};
+ghost use Rattle.std.specs.List.{list_any};
+ghost use Rattle.cert_check.specs.Carried.{carried_to, entries_carried_to, covers_whole as covers_whole_of, is_inside as is_inside_of, meets_block as meets_block_of, spans_block as spans_block_of};
 
 use pmap_text::{Entry, Statement};
 use prefix_keys::Block;
@@ -81,9 +82,10 @@ fn longer(longest: u32, entry: &Entry, block: &Block) -> u32
     }
 }
 
-// Returns the greatest length of an entry that covers the block, 0 if none does.
+// Returns the length of the longest entry that covers the block, 0 if none does.
 fn longest_covering(entries: &[Entry], block: &Block) -> u32
-    ensures { result ≡ greatest (covers_whole_of block.now) entries.now }
+    ensures { (k : ℕ) → nat_lt k result
+        ≡ list_any (λ e. covers_whole_of block.now e && nat_lt k e.block.len) entries.now }
 {
     let mut longest = 0;
     for entry in entries {

@@ -1,13 +1,13 @@
 //! The check of a certificate and of its text.
-ghost use Rattle.std.specs.Prelude.{◌≡◌, ◌≢◌, Some, None, Ok, length, IfErr, IfOk};
+ghost use Rattle.std.specs.Prelude.{◌≡◌, ◌≢◌, Some, None, Ok, length, IfErr, IfOk, OnOk};
 ghost use Rattle.pmap_text.specs.ListModel.{IsEquivalent};
 ghost use Rattle.pmap_text.specs.MapText.{map_of};
 ghost use Rattle.pmap_text.specs.PrefixList.{list_of};
 ghost use Rattle.pmap_cert.specs.Acceptance.{IsAccepted, IsLeast};
 ghost use Rattle.pmap_cert.specs.Certificate.{certificate_of};
 ghost use Rattle.pmap_cert.specs.FormatReading.{format_reading};
-ghost use Rattle.cert_check.specs.Checking.{IsTextOutcome, first_fault, fault_of_number, text_fault, Check, NoMemory};
-ghost use Rattle.cert_check.specs.Inner.{AreInOrder, AreSources, IsRootAnswer, IsNodesAnswer, root_reading};
+ghost use Rattle.cert_check.specs.Checking.{IsTextOutcome, first_fault, text_fault, NoMemory};
+ghost use Rattle.cert_check.specs.Inner.{IsRootChecked, IsUnread, root_reading};
 ghost use Rattle.pmap_cert.specs.CertificateModel.{CertificateModel};
 ghost use Rattle.prefix_keys.specs.Block.{width_of};
 
@@ -18,39 +18,32 @@ use crate::part::Part;
 use crate::sources::Sources;
 use crate::walk::{Walk, check_node};
 use pmap_cert::{
-    CertFaultKind, Certificate, Frame, Head, Lines, acceptance_is_enough, read_head,
+    CertFault, CertFaultKind, Certificate, Frame, Head, acceptance_is_enough, read_head, skip_node,
     text_of_format_is_read_or_has_a_fault, write_cert,
 };
-use pmap_text::{Entry, KeyHashing, MapText, PrefixList, Stretches, Window, in_order};
+use pmap_text::{KeyHashing, MapText, PrefixList, Stretches, Window, in_order};
 use prefix_keys::Version;
 use std::alloc::Global;
 
-// Checks the nodes against `entries`, the list's entries in order, and returns the root's cost.
-fn check_nodes_by(sources: &Sources, entries: &[Entry], walk: &mut Walk) -> Result<u32, TextFault>
-    requires sources { AreSources sources.now }
-    requires entries { AreInOrder sources.now.list.now.entries entries.now }
-    ensures { IsNodesAnswer sources.now.map.now sources.now.list.now sources.now.frame walk.old walk.new result }
-{
-    let space = Part {
-        window: Window::whole(&sources.stretches),
-        entries,
-        above: None,
-    };
-    check_node(sources, walk, &space)
-}
-
-// Checks the nodes of a certificate whose version is that of the map and the list, and returns the root's cost.
-fn check_nodes(
+// Checks the nodes of a certificate of this version, and keeps its first fault.
+fn check_root(
     alloc: Global,
     map: &MapText,
     list: &PrefixList,
+    version: Version,
     frame: &Frame,
     walk: &mut Walk,
-) -> Result<u32, TextFault>
-    requires list { list.now.version ≡ map.now.version }
-    requires width { frame.now.width ≡ width_of map.now.version }
-    ensures { IsNodesAnswer map.now list.now frame.now walk.old walk.new result }
+) -> Result<(), CertFault>
+    requires width { frame.now.width ≡ width_of version }
+    requires number { walk.old.number ≡ 1 }
+    requires fault { walk.old.fault ≡ None }
+    ensures ok { OnOk result (IsRootChecked map.now list.now frame.now version walk.old.lines walk.new) }
+    ensures err { IfErr result (IsUnread (root_reading frame.now walk.old.lines)) }
 {
+    if list.version != map.version || version != map.version {
+        walk.note(Some(CheckFaultKind::VersionDiffers), 0);
+        return skip_node(&mut walk.lines, &mut walk.kept, frame, frame.width);
+    }
     let sources = Sources {
         map,
         list,
@@ -60,73 +53,16 @@ fn check_nodes(
         list_numbers: numbers_in(alloc, &list.labels, frame.labels)?,
     };
     let entries = in_order(alloc, list.entries.as_slice())?;
-    check_nodes_by(&sources, entries.as_slice(), walk)
-}
-
-// Returns the fault of a whole certificate.
-fn whole_fault(kind: CheckFaultKind) -> TextFault
-    ensures { result ≡ Check (fault_of_number 0 kind) }
-{
-    TextFault::Check(CheckFault { kind, node: 0 })
-}
-
-// Checks the nodes of a certificate of this version, and returns the number of the list's entries.
-fn check_root(
-    alloc: Global,
-    map: &MapText,
-    list: &PrefixList,
-    version: Version,
-    frame: &Frame,
-    walk: &mut Walk,
-) -> Result<u64, TextFault>
-    requires width { frame.now.width ≡ width_of version }
-    requires first { walk.old.number ≡ 1 }
-    ensures { IsRootAnswer map.now list.now frame.now version (root_reading frame.now walk.old.lines)
-        walk.new.lines result }
-{
-    if list.version != map.version || version != map.version {
-        walk.skip(frame, frame.width)?;
-        return Err(whole_fault(CheckFaultKind::VersionDiffers));
-    }
-    let cost = check_nodes(alloc, map, list, frame, walk)?;
-    let count = list.entries.len() as u64;
-    if count > u64::from(cost) + 1 {
-        return Err(whole_fault(CheckFaultKind::BoundNotMet));
-    }
-    Ok(count)
-}
-
-// Checks the text of a certificate, and returns the number of the list's entries or the first fault.
-fn count_entries(
-    alloc: Global,
-    map: &MapText,
-    list: &PrefixList,
-    text: &[u8],
-    hashing: KeyHashing,
-) -> Result<u64, TextFault>
-    ensures count { IfOk result (λ n. n ≡ length (list_of list.now).prefixes) }
-    ensures fault { IsTextOutcome (text_fault (map_of map.now) (list_of list.now) (format_reading text.now)) result }
-{
-    let Head {
-        format,
-        version,
-        labels,
-        nodes,
-    } = read_head(alloc, text, hashing)?;
-    let frame = Frame {
-        format,
-        width: version.width(),
-        labels: &labels,
+    let space = Part {
+        window: Window::whole(&sources.stretches),
+        entries: entries.as_slice(),
+        above: None,
     };
-    let mut walk = Walk::new(alloc, nodes);
-    let checked = check_root(alloc, map, list, version, &frame, &mut walk);
-    if let Err(TextFault::Certificate(_)) = checked {
-        return checked;
+    let cost = check_node(&sources, walk, &space)?;
+    if list.entries.len() as u64 > u64::from(cost) + 1 {
+        walk.note(Some(CheckFaultKind::BoundNotMet), 0);
     }
-    if !walk.lines.is_ended() {
-        return Err(TextFault::Certificate(walk.lines.fault(CertFaultKind::NodesLeft)));
-    }
-    checked
+    Ok(())
 }
 
 /// Checks the text of a certificate like [`check`], while it is read, and stores none of its nodes. A fault of the text
@@ -146,13 +82,31 @@ pub fn check_text(
     ensures least { IfOk result (λ _. IsLeast (map_of map.now) (list_of list.now)) }
     ensures fault { IsTextOutcome (text_fault (map_of map.now) (list_of list.now) (format_reading text.now)) result }
 {
-    let count = count_entries(alloc, map, list, text, hashing)?;
+    let Head {
+        format,
+        version,
+        labels,
+        nodes,
+    } = read_head(alloc, text, hashing)?;
+    let frame = Frame {
+        format,
+        width: version.width(),
+        labels: &labels,
+    };
+    let mut walk = Walk::new(alloc, nodes);
+    check_root(alloc, map, list, version, &frame, &mut walk)?;
+    if !walk.lines.is_ended() {
+        return Err(TextFault::Certificate(walk.lines.fault(CertFaultKind::NodesLeft)));
+    }
+    if let Some(fault) = walk.fault {
+        return Err(TextFault::Check(fault));
+    }
     // Provides these laws: a text that is read is a certificate's, which is accepted if it has no fault, and acceptance
     // is enough.
     text_of_format_is_read_or_has_a_fault();
     no_fault_is_acceptance();
     acceptance_is_enough();
-    Ok(count)
+    Ok(list.entries.len() as u64)
 }
 
 /// Checks that the certificate shows the list to be equivalent to the map and a shortest one, and returns the number of

@@ -1,10 +1,9 @@
 ghost use Rattle.std.specs.Prelude.{◌≡◌};
 ghost use Rattle.cert_check.specs.declared.fault.CheckFaultKind.TheVariants.{NoMemory};
-ghost use Rattle.pmap_cert.specs.declared.fault.CertFaultKind.TheVariants.{NoMemory as NoMemoryForText};
 ghost use Rattle.cert_check.specs.declared.fault.TextFault.TheVariants.{Certificate};
 
 use pmap_cert::CertFault;
-use std::alloc::{AllocError, AllocFailed};
+use std::alloc::AllocError;
 use thiserror::Error;
 
 /// Why a certificate is not accepted for a map and a prefix list.
@@ -58,21 +57,5 @@ impl From<CertFault> for TextFault {
 
     fn from(fault: CertFault) -> TextFault {
         TextFault::Certificate(fault)
-    }
-}
-
-impl From<AllocError> for TextFault {
-    ghost from_gives = { λ _ text. text ≡ Certificate (record { kind = NoMemoryForText; line = 0 }) };
-
-    fn from(error: AllocError) -> TextFault {
-        TextFault::Certificate(CertFault::from(error))
-    }
-}
-
-impl<T: Drop> From<AllocFailed<T>> for TextFault {
-    ghost from_gives = { λ _ text. text ≡ Certificate (record { kind = NoMemoryForText; line = 0 }) };
-
-    fn from(_error: AllocFailed<T>) -> TextFault {
-        TextFault::Certificate(CertFault::from(AllocError))
     }
 }

@@ -1,26 +1,26 @@
 //! The walk over the nodes of a certificate's text, which reads and checks each of them.
-ghost use Rattle.std.specs.Prelude.{◌≡◌, ◌+◌, ◌++◌, ◌<◌, Ok, IfErr, IfOk, OnOk, length, take};
-ghost use Rattle.pmap_cert.specs.CertificateModel.{Tree};
-ghost use Rattle.pmap_cert.specs.Inner.{node_due_at};
+ghost use Rattle.std.specs.Prelude.{◌≡◌, ◌+◌, ◌++◌, ◌<◌, None, IfOk, OnOk, length, take};
+ghost use Rattle.std.specs.Option.{option_or};
 ghost use Rattle.pmap_cert.specs.Packed.{bits_in};
-ghost use Rattle.cert_check.specs.Inner.{AreSources, FitsPath, IsAfter, IsAnswer, IsFirstOf, IsHeld, IsPart, IsUnread, answer_of, chain_reading, fault_of_node, fault_of_path, halves_reading, held_claim, reading_at};
+ghost use Rattle.cert_check.specs.Inner.{AreSources, FitsPath, IsAfter, IsAnswer, IsHeld, IsPart, chain_reading, fault_of_node, fault_of_path, fault_with, halves_reading, held_claim, reading_at};
 
 use crate::claims::{chain_fault, claim_fault};
-use crate::fault::{CheckFault, CheckFaultKind, TextFault};
+use crate::fault::{CheckFault, CheckFaultKind};
 use crate::part::Part;
 use crate::sources::Sources;
-use pmap_cert::{CertFault, CertFaultKind, Claim, Frame, Kept, Lines, Node, Path, skip_node};
+use pmap_cert::{CertFault, CertFaultKind, Claim, Frame, Kept, Lines, Node, Path};
 use pmap_text::LabelId;
 use std::alloc::{AllocError, Global};
 
-/// The rest of a certificate's text, with its last node line, the number of the next node, from 1, and the sets of the
-/// nodes whose claims are still to be compared, in the order of their lines.
+/// The rest of a certificate's text, with its last node line, the number of the next node, from 1, the sets of the nodes
+/// whose claims are still to be compared, in the order of their lines, and the first fault of the nodes so far.
 #[derive(Drop)]
 pub struct Walk<'a> {
     pub lines: Lines<'a>,
-    kept: Kept,
+    pub kept: Kept,
     number: u64,
     sets: Vec<LabelId>,
+    pub fault: Option<CheckFault>,
 }
 
 impl<'a> Walk<'a> {
@@ -28,24 +28,24 @@ impl<'a> Walk<'a> {
     pub fn new(alloc: Global, lines: Lines<'a>) -> Walk<'a>
         ensures lines { result.lines ≡ lines.entry }
         ensures number { result.number ≡ 1 }
+        ensures fault { result.fault ≡ None }
     {
         Walk {
             lines,
             kept: Kept::new(alloc),
             number: 1,
             sets: Vec::new(alloc),
+            fault: None,
         }
     }
 
-    /// Reads the next node, which may have `room` levels below it, and those below it, without a check.
-    pub fn skip(&mut self, frame: &Frame, room: u32) -> Result<(), CertFault>
-        ensures ok { OnOk result ((tree : Tree)
-            × (node_due_at frame.now.format frame.now.width frame.now.labels.now room self.old.lines
-            ≡ Ok (tree, self.new.lines))) }
-        ensures err { IfErr result (IsUnread
-            (node_due_at frame.now.format frame.now.width frame.now.labels.now room self.old.lines)) }
+    /// Keeps the fault of the node with this number, if there is one and none came before.
+    pub fn note(&mut self, kind: Option<CheckFaultKind>, node: u64)
+        ensures { self.new ≡ record self.old { fault = option_or self.old.fault (fault_with node kind) } }
     {
-        skip_node(&mut self.lines, &mut self.kept, frame, room)
+        if let (None, Some(kind)) = (self.fault, kind) {
+            self.fault = Some(CheckFault { kind, node });
+        }
     }
 }
 
@@ -81,39 +81,14 @@ fn next_number(number: u64) -> u64
     number.saturating_add(1)
 }
 
-// Returns the cost that a node claims, or the fault of the node with this number.
-fn unless_fault(fault: Option<CheckFaultKind>, number: u64, cost: u32) -> Result<u32, TextFault>
-    ensures { result ≡ answer_of fault number cost }
-{
-    match fault {
-        Some(kind) => Err(TextFault::Check(CheckFault { kind, node: number })),
-        None => Ok(cost),
-    }
-}
-
-// Returns the first fault of a node whose lower half has this one. A fault of the text of the upper half comes before
-// one of the check.
-fn first_fault(walk: &mut Walk, frame: &Frame, room: u32, lower: TextFault) -> TextFault
-    ensures { IsFirstOf (node_due_at frame.now.format frame.now.width frame.now.labels.now room walk.old.lines)
-        lower walk.new.lines result }
-{
-    match lower {
-        TextFault::Certificate(_) => lower,
-        TextFault::Check(_) => match walk.skip(frame, room) {
-            Ok(()) => lower,
-            Err(upper) => TextFault::Certificate(upper),
-        },
-    }
-}
-
 /// Reads the next node and those below it, and checks them for the part's block. Adds the set that the node claims to
 /// the walk's, and returns the cost.
 #[cycle(nodes)]
-pub fn check_node(sources: &Sources, walk: &mut Walk, part: &Part) -> Result<u32, TextFault>
+pub fn check_node(sources: &Sources, walk: &mut Walk, part: &Part) -> Result<u32, CertFault>
     requires sources { AreSources sources.now }
     requires part { IsPart sources.now part.now }
     ensures { IsAnswer sources.now (reading_at sources.now part.now.window.len walk.old.lines)
-        (fault_of_node sources.now part.now) walk.old.number 0 walk.old.sets.items walk.new result }
+        (fault_of_node sources.now part.now) walk.old.number 0 walk.old.sets.items walk.old.fault walk.new result }
 {
     let deepest = walk.lines.fault(CertFaultKind::TooDeep);
     let number = walk.number;
@@ -122,18 +97,19 @@ pub fn check_node(sources: &Sources, walk: &mut Walk, part: &Part) -> Result<u32
     match walk.lines.next_node(&mut walk.kept, &sources.frame)? {
         Node::Leaf(id) => {
             walk.sets.push(id)?;
-            unless_fault(part.leaf_fault(sources, id), number, 0)
+            walk.note(part.leaf_fault(sources, id), number);
+            Ok(0)
         }
         Node::Inner(claim) => {
             if room == 0 {
-                return Err(TextFault::Certificate(deepest));
+                return Err(deepest);
             }
             let held = hold(&mut walk.sets, claim)?;
             check_inner(sources, walk, part, number, held)
         }
         Node::Chain { claim, path, side } => {
             if path.len() > room {
-                return Err(TextFault::Certificate(deepest));
+                return Err(deepest);
             }
             let path = *path;
             let held = hold(&mut walk.sets, claim)?;
@@ -150,7 +126,7 @@ fn check_inner(
     part: &Part,
     number: u64,
     held: Held,
-) -> Result<u32, TextFault>
+) -> Result<u32, CertFault>
     requires sources { AreSources sources.now }
     requires part { IsPart sources.now part.now }
     requires room { part.now.window.len < sources.now.frame.width }
@@ -158,17 +134,12 @@ fn check_inner(
     requires held { IsHeld sources.now held walk.old.sets.items }
     ensures { IsAnswer sources.now
         (halves_reading sources.now part.now.window.len (held_claim sources.now held walk.old.sets.items) walk.old.lines)
-        (fault_of_node sources.now part.now) number 0 (take held.from walk.old.sets.items) walk.new result }
+        (fault_of_node sources.now part.now) number 0 (take held.from walk.old.sets.items) walk.old.fault
+        walk.new result }
 {
     let (low, high) = part.halves(sources);
     let lower = walk.sets.len();
-    let lower_cost = match check_node(sources, walk, &low) {
-        Ok(cost) => cost,
-        Err(fault) => {
-            let room = sources.frame.width - high.window.len;
-            return Err(first_fault(walk, &sources.frame, room, fault));
-        }
-    };
+    let lower_cost = check_node(sources, walk, &low)?;
     let upper = walk.sets.len();
     let upper_cost = check_node(sources, walk, &high)?;
     let sets = walk.sets.as_slice();
@@ -188,7 +159,8 @@ fn check_inner(
         },
     );
     walk.sets.truncate(lower);
-    unless_fault(fault, number, held.cost)
+    walk.note(fault, number);
+    Ok(held.cost)
 }
 
 // Checks what is below a chain with these bits and this side label, and then its claim.
@@ -201,7 +173,7 @@ fn check_chain(
     held: Held,
     path: &Path,
     side: LabelId,
-) -> Result<u32, TextFault>
+) -> Result<u32, CertFault>
     requires sources { AreSources sources.now }
     requires part { IsPart sources.now part.now }
     requires fits { FitsPath sources.now part.now side.0 (bits_in path.now) }
@@ -211,10 +183,11 @@ fn check_chain(
     ensures { IsAnswer sources.now
         (chain_reading sources.now part.now.window.len (held_claim sources.now held walk.old.sets.items)
         (bits_in path.now) side.0 walk.old.lines)
-        (fault_of_node sources.now part.now) number 0 (take held.from walk.old.sets.items) walk.new result }
+        (fault_of_node sources.now part.now) number 0 (take held.from walk.old.sets.items) walk.old.fault
+        walk.new result }
 {
     let end = walk.sets.len();
-    let end_cost = check_below(sources, walk, part, number, path, side)?;
+    let end_cost = check_path(sources, walk, part, number, path, side)?;
     let sets = walk.sets.as_slice();
     let fault = chain_fault(
         sources.frame.labels,
@@ -230,36 +203,12 @@ fn check_chain(
         side,
     );
     walk.sets.truncate(end);
-    unless_fault(fault, number, held.cost)
-}
-
-// Checks what is below a chain: the node at its end, and the blocks beside its path unless one look clears them.
-#[cycle(nodes)]
-fn check_below(
-    sources: &Sources,
-    walk: &mut Walk,
-    part: &Part,
-    number: u64,
-    path: &Path,
-    side: LabelId,
-) -> Result<u32, TextFault>
-    requires sources { AreSources sources.now }
-    requires part { IsPart sources.now part.now }
-    requires fits { FitsPath sources.now part.now side.0 (bits_in path.now) }
-    requires some { 0 < length (bits_in path.now) }
-    requires number { IsAfter number walk.old.number }
-    ensures { IsAnswer sources.now
-        (reading_at sources.now (part.now.window.len + length (bits_in path.now)) walk.old.lines)
-        (fault_of_path sources.now part.now side.0 (bits_in path.now)) number 1 walk.old.sets.items walk.new result }
-{
-    match part.clear_end(sources, path, side) {
-        Some(below) => check_node(sources, walk, &below),
-        None => check_path(sources, walk, part, number, path, side),
-    }
+    walk.note(fault, number);
+    Ok(held.cost)
 }
 
 // Checks the rest of a chain's path from the part's block on: the node at its end, and then the blocks beside the path
-// from the deepest up.
+// from the deepest up, unless one look clears them.
 #[cycle(nodes)]
 fn check_path(
     sources: &Sources,
@@ -268,19 +217,23 @@ fn check_path(
     number: u64,
     path: &Path,
     side: LabelId,
-) -> Result<u32, TextFault>
+) -> Result<u32, CertFault>
     requires sources { AreSources sources.now }
     requires part { IsPart sources.now part.now }
     requires fits { FitsPath sources.now part.now side.0 (bits_in path.now) }
     requires number { IsAfter number walk.old.number }
     ensures { IsAnswer sources.now
         (reading_at sources.now (part.now.window.len + length (bits_in path.now)) walk.old.lines)
-        (fault_of_path sources.now part.now side.0 (bits_in path.now)) number 1 walk.old.sets.items walk.new result }
+        (fault_of_path sources.now part.now side.0 (bits_in path.now)) number 1 walk.old.sets.items walk.old.fault walk.new result }
 {
     let Some((bit, rest)) = path.split_first() else {
         return check_node(sources, walk, part);
     };
+    if let Some(end) = part.clear_end(sources, path, side) {
+        return check_node(sources, walk, &end);
+    }
     let (chosen, beside) = part.step(sources, bit);
     let cost = check_path(sources, walk, &chosen, number, &rest, side)?;
-    unless_fault(beside.leaf_fault(sources, side), number, cost)
+    walk.note(beside.leaf_fault(sources, side), number);
+    Ok(cost)
 }

@@ -1,5 +1,5 @@
 use Rattle.std.proofs.Common.{◌≡◌, take}
-use Rattle.cert_check.specs.Inner.{carried_to}
+use Rattle.cert_check.specs.Carried.{carried_to}
 use Rattle.cert_check.proofs.carrying.carried.Given as goal
 
 abbrev pub invariant-loop-statement : goal.invariant-loop-statement

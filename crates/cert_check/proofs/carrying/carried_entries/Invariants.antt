@@ -1,5 +1,5 @@
 use Rattle.std.proofs.Common.{◌≡◌, ◌&&◌, ◌||◌, filter, nat_le, take}
-use Rattle.cert_check.specs.Inner.{covers_whole, is_inside}
+use Rattle.cert_check.specs.Carried.{covers_whole, is_inside}
 use Rattle.cert_check.proofs.carrying.carried_entries.Given as goal
 
 abbrev pub invariant-loop-entry : goal.invariant-loop-entry

@@ -1,7 +1,8 @@
-use Rattle.std.proofs.Common.{◌≡◌, ◌∙◌, ◌+◌, ◌-◌, ◌∷◌, [], ℕ, Bool, List, Ok, ap, arith, drop, length, option_map, refl, subst, sym, take}
+use Rattle.std.proofs.Common.{◌≡◌, ◌∙◌, ◌+◌, ◌-◌, ◌∷◌, [], ℕ, Bool, List, Ok, ap, arith, drop, length, refl, subst, sym, take}
 use Rattle.std.proofs.lemmas.Result.{err_from_is_err_and}
 use Rattle.std.proofs.lemmas.List.{append-nil}
 use Rattle.prefix_keys.specs.Block.{width_of}
+use Rattle.std.specs.Option.{option_or}
 use Rattle.pmap_text.specs.MapText.{map_of, text_at}
 use Rattle.pmap_text.specs.PrefixList.{list_of}
 use Rattle.pmap_text.specs.Reading.{◌>>=◌}
@@ -14,10 +15,10 @@ use Rattle.pmap_cert.specs.CertificateText.{IsAscending}
 use Rattle.pmap_cert.proofs.FormatTrees.{line_due-found}
 use Rattle.pmap_cert.proofs.Paths.{path-length}
 use Rattle.pmap_cert.proofs.ReadingSteps.{chain-below, chain-over, deeper, due_in, node-deep, node-fault, node-leaf}
-use Rattle.cert_check.specs.Checking.{claim_fault, fault_of_number, node_fault}
-use Rattle.cert_check.specs.Inner.{IsAnswer, Read, chain_reading, claim_with, fault_of_node, halves_reading, reading_at}
+use Rattle.cert_check.specs.Checking.{claim_fault, node_fault}
+use Rattle.cert_check.specs.Inner.{IsAnswer, Read, chain_reading, claim_with, fault_of_node, fault_with, halves_reading, reading_at}
 use Rattle.cert_check.proofs.Sets.{numbers}
-use Rattle.cert_check.proofs.Walks.{below-passed, end-answer, halves-passed, held-at, low-piece, lower-failed, own-answer, own-piece, rest-failed, rest-passed, sets-kept, up-piece, upper-failed}
+use Rattle.cert_check.proofs.Walks.{below-passed, end-answer, halves-passed, held-at, low-piece, lower-unread, own-piece, rest-passed, rest-unread, sets-kept, up-piece, upper-unread}
 use Rattle.cert_check.proofs.walk.+nodes.Goals as goal
 
 pub check_node-returns-in_err-id : goal.check_node-returns-in_err-id
@@ -81,9 +82,9 @@ check_node-returns-in_ok-held-in-Inner t c =
     deeper due table c.args.walk.now.lines c.next_node.new.self c.in-Inner.claim.cost numbers' (rw c.in-Inner.is at c.in_ok-id.ensures.ok) (frame.width - n) (omega (arith, some))
     ∙ ap (λ (m : ℕ). nodes_at due table m 0 c.next_node.new.self >>= (λ lower. nodes_at due table m 0 lower.1 >>= (λ upper.
     Ok (InnerNode claim lower.0 upper.0, upper.1)))) less in
-    subst (λ (r : Read). IsAnswer s r (fault_of_node s c.args.part.now) c.args.walk.now.number 0 c.args.walk.now.sets.items c.check_inner.new.walk c.check_inner.result)
+    subst (λ (r : Read). IsAnswer s r (fault_of_node s c.args.part.now) c.args.walk.now.number 0 c.args.walk.now.sets.items c.args.walk.now.fault c.check_inner.new.walk c.check_inner.result)
     (sym is)
-    (subst (λ (x : Claim × List LabelId). IsAnswer s (halves_reading s n x.0 c.next_node.new.self) (fault_of_node s c.args.part.now) c.args.walk.now.number 0 x.1 c.check_inner.new.walk c.check_inner.result)
+    (subst (λ (x : Claim × List LabelId). IsAnswer s (halves_reading s n x.0 c.next_node.new.self) (fault_of_node s c.args.part.now) c.args.walk.now.number 0 x.1 c.args.walk.now.fault c.check_inner.new.walk c.check_inner.result)
     (λ i. (claim_with table (c.in_ok-held-in-Inner.ensures.cost i) (numbers (held.1 i)), held.0 i)) c.check_inner.ensures)
 
 pub check_node-returns-then-len-room : goal.check_node-returns-then-len-room
@@ -137,9 +138,9 @@ check_node-returns-in_ok-held-in-Chain t c =
     chain-below frame.format frame.width table c.args.walk.now.lines c.next_node.new.self c.in-Chain.claim.cost bits c.in-Chain.side.0 numbers' (rw c.in-Chain.is at c.in_ok-id.ensures.ok)
     (frame.width - n) c.len.result c.len.ensures (omega (arith, c.if-len-room.false)) (reading_at s (n + length bits) c.next_node.new.self)
     (ap (λ (m : ℕ). nodes_at (due_in frame.format frame.width table) table m 0 c.next_node.new.self) less) in
-    subst (λ (r : Read). IsAnswer s r (fault_of_node s c.args.part.now) c.args.walk.now.number 0 c.args.walk.now.sets.items c.check_chain.new.walk c.check_chain.result)
+    subst (λ (r : Read). IsAnswer s r (fault_of_node s c.args.part.now) c.args.walk.now.number 0 c.args.walk.now.sets.items c.args.walk.now.fault c.check_chain.new.walk c.check_chain.result)
     (sym is)
-    (subst (λ (x : Claim × List LabelId). IsAnswer s (chain_reading s n x.0 bits c.in-Chain.side.0 c.next_node.new.self) (fault_of_node s c.args.part.now) c.args.walk.now.number 0 x.1 c.check_chain.new.walk c.check_chain.result)
+    (subst (λ (x : Claim × List LabelId). IsAnswer s (chain_reading s n x.0 bits c.in-Chain.side.0 c.next_node.new.self) (fault_of_node s c.args.part.now) c.args.walk.now.number 0 x.1 c.args.walk.now.fault c.check_chain.new.walk c.check_chain.result)
     (λ i. (claim_with table (c.in_ok-held-in-Chain.ensures.cost i) (numbers (held.1 i)), held.0 i)) c.check_chain.ensures)
 
 pub check_node-returns-in_ok-push-in-Leaf : goal.check_node-returns-in_ok-push-in-Leaf
@@ -151,13 +152,16 @@ check_node-returns-in_ok-push-in-Leaf t c =
     let walk = c.args.walk.now in
     let due = rw c.in-Leaf.is at c.in_ok-id.ensures.ok in
     let said = line_due-found (format_number frame.format) frame.width (length frame.labels.now) walk.lines (LeafLine id.0, c.next_node.new.self) due in
-    rw c.unless_fault.ensures
-    (own-answer s (reading_at s p.window.len walk.lines) (fault_of_node s p) walk.number 0 walk.sets.items
-    _ 0
-    (LeafNode (text_at frame.labels.now id.0)) (id ∷ []) c.leaf_fault.result
-    (node-leaf (due_in frame.format frame.width frame.labels.now) frame.labels.now walk.lines c.next_node.new.self (frame.width - p.window.len) id.0 due)
-    refl (omega arith, said.1, tt) c.in_ok-push-in-Leaf.ensures.items
-    (λ k told_is. (ap (option_map (fault_of_number k)) (sym c.leaf_fault.ensures), sym (c.next_number-walk.ensures k told_is))))
+    rw c.note.ensures
+    (record {
+      tree = LeafNode (text_at frame.labels.now id.0);
+      set = id ∷ [];
+      read = node-leaf (due_in frame.format frame.width frame.labels.now) frame.labels.now walk.lines c.next_node.new.self (frame.width - p.window.len) id.0 due;
+      claim = refl;
+      ascending = (omega arith, said.1, tt);
+      sets = c.in_ok-push-in-Leaf.ensures.items;
+      fault = λ k told_is. ((λ i. option_or walk.fault (fault_with (sym told_is i) (c.leaf_fault.ensures i))), sym (c.next_number-walk.ensures k told_is));
+    })
 
 pub check_node-leaf_fault-requires-clause-known : goal.check_node-leaf_fault-requires-clause-known
 check_node-leaf_fault-requires-clause-known t c =
@@ -165,22 +169,21 @@ check_node-leaf_fault-requires-clause-known t c =
     let due = rw c.in-Leaf.is at c.in_ok-id.ensures.ok in
     (line_due-found (format_number frame.format) frame.width (length frame.labels.now) c.args.walk.now.lines (LeafLine c.in-Leaf.id.0, c.next_node.new.self) due).1
 
-pub check_inner-returns-in-Err : goal.check_inner-returns-in-Err
-check_inner-returns-in-Err t c =
-    let s = c.args.sources.now in
-    let walk = c.args.walk.now in
-    lower-failed s c.args.part.now c.halves.result.0 c.halves.result.1 c.halves.ensures.halves c.args.held.cost (numbers (drop c.args.held.from walk.sets.items)) walk.lines c.args.number walk.number c.requires.number
-    walk.sets.items (take c.args.held.from walk.sets.items) c.check_node.new.walk c.first_fault.new.walk c.in-Err.fault c.first_fault.result c.in-Err.ensures c.first_fault.ensures
-
-pub check_inner-returns-in_err-upper_cost : goal.check_inner-returns-in_err-upper_cost
-check_inner-returns-in_err-upper_cost t c =
-    let s = c.args.sources.now in
+pub check_inner-returns-in_err-lower_cost : goal.check_inner-returns-in_err-lower_cost
+check_inner-returns-in_err-lower_cost t c =
     let walk = c.args.walk.now in
     let e = err_from_is_err_and c.from_residual.result c.from_residual.ensures.1 in
     rw (e.1, e.2)
-    (upper-failed s c.args.part.now c.halves.result.0 c.halves.result.1 c.halves.ensures.halves c.args.held.cost (numbers (drop c.args.held.from walk.sets.items)) walk.lines c.args.number walk.number c.requires.number
-    walk.sets.items c.check_node.new.walk c.in-Ok.cost c.in-Ok.ensures c.check_node.new.walk.sets.items (take c.args.held.from walk.sets.items) c.check_node-2.new.walk c.in_err-upper_cost.field-0.0
-    c.in_err-upper_cost.ensures)
+    (lower-unread c.args.sources.now c.args.part.now c.halves.result.0 c.halves.result.1 c.halves.ensures.halves c.args.held.cost (drop c.args.held.from walk.sets.items) walk.lines c.args.number walk.number c.requires.number
+    c.in_err-lower_cost.field-0.0 c.in_err-lower_cost.ensures)
+
+pub check_inner-returns-in_err-upper_cost : goal.check_inner-returns-in_err-upper_cost
+check_inner-returns-in_err-upper_cost t c =
+    let walk = c.args.walk.now in
+    let e = err_from_is_err_and c.from_residual-in_err-upper_cost.result c.from_residual-in_err-upper_cost.ensures.1 in
+    rw (e.1, e.2)
+    (upper-unread c.args.sources.now c.args.part.now c.halves.result.0 c.halves.result.1 c.halves.ensures.halves c.args.held.cost (drop c.args.held.from walk.sets.items) walk.lines c.args.number walk.number c.requires.number
+    walk.sets.items walk.fault c.check_node.new.walk c.in_ok-lower_cost.lower_cost c.in_ok-lower_cost.ensures c.in_err-upper_cost.field-0.0 c.in_err-upper_cost.ensures)
 
 pub check_inner-returns : goal.check_inner-returns
 check_inner-returns t c =
@@ -188,22 +191,21 @@ check_inner-returns t c =
     let table = s.frame.labels.now in
     let walk = c.args.walk.now in
     let own = drop c.args.held.from walk.sets.items in
-    let lower = c.in-Ok.ensures in
+    let lower = c.in_ok-lower_cost.ensures in
     let upper = c.in_ok-upper_cost.ensures in
-    let last = c.check_node-2.new.walk in
     let low_at = c.len-lower.ensures ∙ walk.sets.ok.0 in
     let up_at = c.len-upper.ensures ∙ c.check_node.new.walk.sets.ok.0 in
     let first = own-piece _ _ _ _ _ _ _ _ c.requires.held.within lower.sets upper.sets low_at up_at in
     let second = low-piece _ _ _ _ _ _ _ _ c.requires.held.within lower.sets upper.sets low_at up_at in
     let third = up-piece _ _ _ _ _ _ _ _ c.requires.held.within lower.sets upper.sets low_at up_at in
-    rw c.unless_fault.ensures
-    (halves-passed s c.args.part.now c.halves.result.0 c.halves.result.1 c.halves.ensures.halves c.args.held.cost (numbers own) walk.lines c.args.number walk.number c.requires.number
-    walk.sets.items c.check_node.new.walk c.in-Ok.cost lower c.check_node.new.walk.sets.items (take c.args.held.from walk.sets.items) last
-    (record { lines = last.lines; kept = last.kept; number = last.number; sets = c.truncate.new.self }) c.in_ok-upper_cost.upper_cost own c.claim_fault-fault.result upper refl c.requires.held.ascending
+    rw c.note.ensures
+    (halves-passed s c.args.part.now c.halves.result.0 c.halves.result.1 c.halves.ensures.halves c.args.held.cost own walk.lines c.args.number walk.number c.requires.number
+    walk.sets.items walk.fault c.check_node.new.walk c.in_ok-lower_cost.lower_cost lower (take c.args.held.from walk.sets.items) c.check_node-2.new.walk _ c.in_ok-upper_cost.upper_cost c.claim_fault-fault.result
+    upper c.requires.held.ascending
     (rw c.as_slice-sets.ensures.value at c.claim_fault-fault.ensures
     ∙ (λ i. claim_fault (claim_with table c.args.held.cost (numbers (first i)))
-    (exact_claim (claim_with table c.in-Ok.cost (numbers (second i))) (claim_with table c.in_ok-upper_cost.upper_cost (numbers (third i))))))
-    refl refl (c.truncate.ensures.items ∙ sets-kept _ _ _ _ _ _ _ _ c.requires.held.within lower.sets upper.sets low_at up_at))
+    (exact_claim (claim_with table c.in_ok-lower_cost.lower_cost (numbers (second i))) (claim_with table c.in_ok-upper_cost.upper_cost (numbers (third i))))))
+    refl refl (c.truncate.ensures.items ∙ sets-kept _ _ _ _ _ _ _ _ c.requires.held.within lower.sets upper.sets low_at up_at) refl)
 
 pub check_chain-returns : goal.check_chain-returns
 check_chain-returns t c =
@@ -213,46 +215,42 @@ check_chain-returns t c =
     let own = drop c.args.held.from walk.sets.items in
     let bits = bits_in c.args.path.now in
     let below = c.in_ok-end_cost.ensures in
-    let last = c.check_below.new.walk in
+    let last = c.check_path.new.walk in
     let at = c.len-end.ensures ∙ walk.sets.ok.0 in
     let none = sym (append-nil last.sets.items) in
     let first = own-piece _ _ _ _ _ _ _ (length last.sets.items) c.requires.held.within below.sets none at refl in
     let second = low-piece _ _ _ _ _ _ _ (length last.sets.items) c.requires.held.within below.sets none at refl in
-    rw c.unless_fault.ensures
-    (below-passed s c.args.part.now c.args.held.cost (numbers own) bits c.args.side.0 walk.lines c.args.number
-    walk.sets.items (take c.args.held.from walk.sets.items) last
-    (record { lines = last.lines; kept = last.kept; number = last.number; sets = c.truncate.new.self }) c.in_ok-end_cost.end_cost own c.chain_fault-fault.result below refl c.requires.held.ascending
+    rw c.note.ensures
+    (below-passed s c.args.part.now c.args.held.cost own bits c.args.side.0 walk.lines c.args.number
+    walk.sets.items (take c.args.held.from walk.sets.items) walk.fault last _ c.in_ok-end_cost.end_cost c.chain_fault-fault.result below c.requires.held.ascending
     (rw c.as_slice-sets.ensures.value at c.chain_fault-fault.ensures
     ∙ (λ i. claim_fault (claim_with table c.args.held.cost (numbers (first i)))
     (chain_claim (length bits) (text_at table c.args.side.0) (claim_with table c.in_ok-end_cost.end_cost (numbers (second i))))))
-    refl refl (c.truncate.ensures.items ∙ sets-kept _ _ _ _ _ _ _ (length last.sets.items) c.requires.held.within below.sets none at refl))
+    refl refl (c.truncate.ensures.items ∙ sets-kept _ _ _ _ _ _ _ (length last.sets.items) c.requires.held.within below.sets none at refl) refl)
 
-pub check_below-clear_end-requires-clause-room : goal.check_below-clear_end-requires-clause-room
-check_below-clear_end-requires-clause-room t c =
+pub check_path-clear_end-requires-clause-room : goal.check_path-clear_end-requires-clause-room
+check_path-clear_end-requires-clause-room t c =
     let path = c.args.path.now in
     let same = ap width_of c.requires.sources.version in
     omega (arith, c.requires.fits.room, path-length path.value path.count, same, c.requires.sources.width)
 
-pub check_below-returns-in-Some : goal.check_below-returns-in-Some
-check_below-returns-in-Some t c =
+pub check_path-returns-in-Some-clear_end : goal.check_path-returns-in-Some-clear_end
+check_path-returns-in-Some-clear_end t c =
     let s = c.args.sources.now in
-    end-answer s c.args.part.now c.in-Some.below c.args.side.0 (bits_in c.args.path.now) c.args.walk.now.lines c.args.number c.args.walk.now.number c.requires.number
-    c.args.walk.now.sets.items c.check_node.new.walk c.check_node.result c.in-Some.ensures.len
-    (λ tree k. c.in-Some.ensures.clear k (node_fault (map_of s.map.now) (list_of s.list.now).prefixes tree (k + 1))) c.check_node.ensures
+    end-answer s c.args.part.now c.in-Some-clear_end.end c.args.side.0 (bits_in c.args.path.now) c.args.walk.now.lines c.args.number c.args.walk.now.number c.requires.number
+    c.args.walk.now.sets.items c.args.walk.now.fault c.check_node-in-Some-clear_end.new.walk c.check_node-in-Some-clear_end.result c.in-Some-clear_end.ensures.len
+    (λ tree k. c.in-Some-clear_end.ensures.clear k (node_fault (map_of s.map.now) (list_of s.list.now).prefixes tree (k + 1))) c.check_node-in-Some-clear_end.ensures
 
 pub check_path-returns-in_err-cost : goal.check_path-returns-in_err-cost
 check_path-returns-in_err-cost t c =
-    let s = c.args.sources.now in
     let e = err_from_is_err_and c.from_residual.result c.from_residual.ensures.1 in
     rw (e.1, e.2)
-    (rest-failed s c.args.part.now c.step.result.0 c.step.result.1 c.args.side.0 c.in-Some.bit (bits_in c.args.path.now) (bits_in c.in-Some.rest) c.in-Some.ensures.bits
-    c.args.walk.now.lines c.args.number c.step.ensures.chosen_half c.step.ensures.side_half c.args.walk.now.sets.items c.args.walk.now.sets.items c.check_path.new.walk
-    c.in_err-cost.field-0.0 c.in_err-cost.ensures)
+    (rest-unread c.args.sources.now c.args.part.now c.step.result.0 c.step.result.1 c.args.side.0 c.in-Some.bit (bits_in c.args.path.now) (bits_in c.in-Some.rest) c.in-Some.ensures.bits
+    c.args.walk.now.lines c.args.number c.step.ensures.chosen_half c.step.ensures.side_half c.in_err-cost.field-0.0 c.in_err-cost.ensures)
 
 pub check_path-returns : goal.check_path-returns
 check_path-returns t c =
-    let s = c.args.sources.now in
-    rw c.unless_fault.ensures
-    (rest-passed s c.args.part.now c.step.result.0 c.step.result.1 c.args.side.0 c.in-Some.bit (bits_in c.args.path.now) (bits_in c.in-Some.rest) c.in-Some.ensures.bits
-    c.args.walk.now.lines c.args.number c.step.ensures.chosen_half c.step.ensures.side_half c.args.walk.now.sets.items c.check_path.new.walk
-    c.in_ok-cost.cost c.leaf_fault.result c.in_ok-cost.ensures c.leaf_fault.ensures)
+    rw c.note.ensures
+    (rest-passed c.args.sources.now c.args.part.now c.step.result.0 c.step.result.1 c.args.side.0 c.in-Some.bit (bits_in c.args.path.now) (bits_in c.in-Some.rest) c.in-Some.ensures.bits
+    c.args.walk.now.lines c.args.number c.step.ensures.chosen_half c.step.ensures.side_half c.args.walk.now.sets.items c.args.walk.now.fault c.check_path.new.walk _
+    c.in_ok-cost.cost c.leaf_fault.result c.in_ok-cost.ensures c.leaf_fault.ensures refl refl refl refl)

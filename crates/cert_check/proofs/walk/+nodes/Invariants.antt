@@ -13,8 +13,5 @@ decreases-check_inner l = 8 * (l.sources.now.frame.width - l.part.now.window.len
 abbrev pub decreases-check_chain : goal.decreases-check_chain
 decreases-check_chain l = 8 * (l.sources.now.frame.width - l.part.now.window.len) + 4
 
-abbrev pub decreases-check_below : goal.decreases-check_below
-decreases-check_below l = 8 * (l.sources.now.frame.width - l.part.now.window.len) + 3
-
 abbrev pub decreases-check_path : goal.decreases-check_path
 decreases-check_path l = 8 * (l.sources.now.frame.width - l.part.now.window.len) + (7 - 7 * length (path_to l.path.now.value l.path.now.count))

@@ -1,0 +1,49 @@
+use Rattle.std.proofs.Common.{◌≡◌, ◌∙◌, ◌+◌, Bool, List, None, Some, ap, arith, cond, length, nat_lt, rules, subst, sym}
+use Rattle.std.specs.Option.{option_or}
+use Rattle.std.proofs.lemmas.Bool.{false_from_ne_true, lt-ltb, ltb-true}
+use Rattle.std.specs.Cow.{cow_slice_items}
+use Rattle.std.specs.List.Sorted.{IsPermutation}
+use Rattle.std.proofs.lemmas.Result.{err_from_is_err_and}
+use Rattle.pmap_text.specs.declared.entry.Entry.{Entry}
+use Rattle.cert_check.specs.Checking.{fault_of_number, BoundNotMet}
+use Rattle.cert_check.specs.Inner.{AreInOrder, Walk}
+use Rattle.cert_check.proofs.Nodes.{or-none}
+use Rattle.cert_check.proofs.Whole.{root-checked, root-part, root-unread}
+use Rattle.cert_check.proofs.Within.{sorted-order}
+use Rattle.cert_check.proofs.checking.check_root.Goals as goal
+use Rattle.cert_check.proofs.checking.check_root.Goals.{then-len-from, else-len-from}
+
+pub check_node-requires-clause-part : goal.check_node-requires-clause-part
+check_node-requires-clause-part c =
+    let es = c.args.list.now.entries in
+    let sorted = cow_slice_items c.in_ok-entries.entries in
+    root-part _ c.whole.result c.whole.ensures.window c.whole.ensures.first c.whole.ensures.len c.as_slice-2.result
+    (subst (AreInOrder es) (sym c.as_slice-2.ensures.value)
+    (sorted-order es sorted c.args.list.now.blocks_distinct
+    (subst (λ (xs : List Entry). IsPermutation xs sorted) c.as_slice.ensures.value c.in_ok-entries.ensures.same) c.in_ok-entries.ensures.ascending))
+
+pub returns-in_err-cost-clause-err : goal.returns-in_err-cost-clause-err
+returns-in_err-cost-clause-err c =
+    let e = err_from_is_err_and c.from_residual-in_err-cost.result c.from_residual-in_err-cost.ensures.1 in
+    rw (e.1, e.2) (root-unread c.args.frame.now c.whole.result.len c.whole.ensures.len c.args.walk.now.lines _ c.in_err-cost.ensures)
+
+pub returns-clause-ok : goal.returns-clause-ok
+returns-clause-ok c =
+    let last = c.check_node.new.walk in
+    let count = length c.args.list.now.entries in
+    let cost = c.in_ok-cost.cost in
+    let same : c.args.list.now.version ≡ c.args.map.now.version = search rules in
+    let same' : c.args.version ≡ c.args.map.now.version = search rules in
+    let go = root-checked _ (record { window = c.whole.result; entries = c.as_slice-2.result; above = None }) c.args.version c.args.walk.now.lines c.args.walk.now.number cost c.args.walk.now.sets.items c.args.walk.now.fault last c.if-len-from.walk c.whole.ensures.first c.whole.ensures.len
+    c.requires.number c.requires.fault same same' c.in_ok-cost.ensures in
+    let bound = λ (many : Bool). option_or last.fault (cond many (Some (fault_of_number 0 BoundNotMet)) None) in
+    elim c.if-len-from.branch [
+      | then-len-from w ↦
+          let is = w.walk-is ∙ w.note-then-len-from.ensures in
+          go (ap (λ (x : Walk). x.lines) is)
+          (ap (λ (x : Walk). x.fault) is ∙ ap bound (sym (lt-ltb (cost + 1) count (omega (arith, w.if-len-from.true, c.len.ensures.value, c.from.ensures)))))
+      | else-len-from w ↦
+          go (ap (λ (x : Walk). x.lines) w.walk-is)
+          (ap (λ (x : Walk). x.fault) w.walk-is ∙ sym (or-none last.fault)
+          ∙ ap bound (sym (false_from_ne_true (nat_lt (cost + 1) count) (λ t. absurd (omega (arith, ltb-true (cost + 1) count t, w.if-len-from.false, c.len.ensures.value, c.from.ensures))))))
+    ]
