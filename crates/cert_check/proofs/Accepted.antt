@@ -1,8 +1,8 @@
 -- A certificate has no fault exactly if it is accepted.
-use Rattle.std.proofs.Common.{◌≡◌, ℕ, zero, suc, ◌+◌, ◌*◌, ◌≤◌, Bool, true, false, cond, not, ◌&&◌, ◌||◌, ◌==◌, List, [], ◌∷◌, Option, Some, None, length, nat_lt, option_map, refl, sym, ap, ◌∙◌, subst, arith, bytes_eq}
+use Rattle.std.proofs.Common.{◌≡◌, ℕ, zero, suc, ◌+◌, ◌*◌, ◌≤◌, Bool, true, false, cond, not, ◌&&◌, ◌||◌, ◌==◌, List, [], ◌∷◌, Option, Some, None, length, nat_lt, option_map, refl, sym, ap, ap₂, ◌∙◌, subst, arith, bytes_eq}
 use Rattle.std.specs.List.{list_all, list_any}
 use Rattle.std.specs.Option.{option_or}
-use Rattle.std.proofs.lemmas.Bool.{and_from, and_parts, both_ways, eq-eqb, eqb-true, false_from_ne_true, false≢true, ltb-true, not-true, not_from_false, or_left, or_right}
+use Rattle.std.proofs.lemmas.Bool.{and_from, and_parts, both_ways, eq-eqb, eqb-true, false_from_ne_true, false≢true, not-true, or_left, or_right}
 use Rattle.std.proofs.lemmas.Bool.Decides.{nat_tests}
 use Rattle.std.proofs.lemmas.Option.{none-some}
 use Rattle.std.proofs.lemmas.Slice.Eq.{bytes_eq-Decides}
@@ -10,9 +10,9 @@ use Rattle.prefix_keys.specs.Block.{first_of, width_of}
 use Rattle.prefix_keys.specs.declared.version.Version.{Version}
 use Rattle.prefix_keys.specs.declared.version.Version.TheVariants.{V4, V6}
 use Rattle.pmap_text.specs.ListModel.{ListModel, Prefix, label_below, lies_inside}
-use Rattle.pmap_text.specs.MapModel.{IsSettled, Label, MapModel, settled_label}
+use Rattle.pmap_text.specs.MapModel.{Label, MapModel, settled_label}
 use Rattle.pmap_cert.specs.Compacting.{line_count}
-use Rattle.pmap_cert.specs.Acceptance.{AreBitsAccepted, IsAccepted, IsDecided, IsNodeAccepted, IsWithinExact}
+use Rattle.pmap_cert.specs.Acceptance.{AreBitsAccepted, IsAccepted, IsLeafAccepted, IsNodeAccepted, IsWithinExact}
 use Rattle.pmap_cert.specs.CertificateText.{HasNodeForm, HasRoomBelow}
 use Rattle.pmap_cert.specs.CertificateModel.{CertificateModel, ChainNode, InnerNode, LeafNode, Claim, Tree, claim_of, has, chain_claim, chosen_half, side_half, exact_claim}
 use Rattle.pmap_cert.proofs.Sets.{bytes_eq-same}
@@ -45,10 +45,6 @@ or_none-parts : {X : Type 0} (a b : Option X) → option_or a b ≡ None → (a 
 or_none-parts None b e = (refl, e)
 or_none-parts (Some x) b e = absurd (none-some x (sym e))
 
-or_none-from : {X : Type 0} (a b : Option X) → a ≡ None → b ≡ None → option_or a b ≡ None
-or_none-from None b e f = f
-or_none-from (Some x) b e f = absurd (none-some x (sym e))
-
 map_none-part : {X Y : Type 0} (f : X → Y) (o : Option X) → option_map f o ≡ None → o ≡ None
 map_none-part f None e = refl
 map_none-part f (Some x) e = absurd (none-some (f x) (sym e))
@@ -63,11 +59,10 @@ cond_none-then true o x e = absurd (none-some x (sym e))
 cond_none-then false o x e = (refl, e)
 
 -- a leaf without a fault is accepted
-leaf-accepted : (m : MapModel) (ps : List Prefix) (n q : ℕ) (x : Label) → leaf_fault m ps n q x ≡ None
-    → IsSettled m n q x × IsDecided (width_of m.version) ps n q x
+leaf-accepted : (m : MapModel) (ps : List Prefix) (n q : ℕ) (x : Label) → leaf_fault m ps n q x ≡ None → IsLeafAccepted m ps x n q
 leaf-accepted m ps n q x none =
     let W = width_of m.version in
-    let first = cond_none-else (is_label_of (settled_label m n q) x) (cond (is_decided W ps n q x) None (Some ListDiffers)) LeafNotUniform none in
+    let first = cond_none-else (is_label_of (settled_label m n q) x) _ LeafNotUniform none in
     let second = cond_none-else (is_decided W ps n q x) None ListDiffers first.1 in
     let parts = and_parts (not (list_any (lies_inside W n q) ps)) (is_label_of (label_below W ps (suc n) (first_of W n q)) x) second.0 in (
       is_label_of-true (settled_label m n q) x first.0,
@@ -77,17 +72,12 @@ leaf-accepted m ps n q x none =
       },
     )
 
-leaf-none : (m : MapModel) (ps : List Prefix) (n q : ℕ) (x : Label) → IsSettled m n q x → IsDecided (width_of m.version) ps n q x
-    → leaf_fault m ps n q x ≡ None
-leaf-none m ps n q x settled decided =
+leaf-none : (m : MapModel) (ps : List Prefix) (n q : ℕ) (x : Label) → IsLeafAccepted m ps x n q → leaf_fault m ps n q x ≡ None
+leaf-none m ps n q x h =
     let W = width_of m.version in
-    let none : list_any (lies_inside W n q) ps ≡ false =
-    sym (any-filtered (lies_inside W n q) ps) ∙ ap (list_any (lies_inside W n q)) decided.inside in
-    let alike : is_decided W ps n q x ≡ true =
-    and_from (not (list_any (lies_inside W n q) ps)) (is_label_of (label_below W ps (suc n) (first_of W n q)) x)
-    (not_from_false (list_any (lies_inside W n q) ps) none) (is_label_of-from (label_below W ps (suc n) (first_of W n q)) x decided.longest) in
-    ap (λ b. cond b (cond (is_decided W ps n q x) None (Some ListDiffers)) (Some LeafNotUniform)) (is_label_of-from (settled_label m n q) x settled)
-    ∙ ap (λ b. cond b None (Some ListDiffers)) alike
+    let none : list_any (lies_inside W n q) ps ≡ false = sym (any-filtered (lies_inside W n q) ps) ∙ ap (list_any (lies_inside W n q)) h.1.inside in
+    (λ i. cond (is_label_of-from (settled_label m n q) x h.0 i)
+    (cond (not (none i) && is_label_of-from (label_below W ps (suc n) (first_of W n q)) x h.1.longest i) None (Some ListDiffers)) (Some LeafNotUniform))
 
 -- a set that passes the test of all labels of a list has each of them
 all-has : (s xs : List Label) → list_all (has s) xs ≡ true → (x : Label) → has xs x ≡ true → has s x ≡ true
@@ -109,12 +99,14 @@ has-all s (y ∷ ys) h =
 at_most : (a b : ℕ) → nat_lt a b ≡ false → b ≤ a
 at_most a b h = grind (arith, nat_tests)
 
+not-more : (a b : ℕ) → b ≤ a → nat_lt a b ≡ false
+not-more a b h = grind (arith, nat_tests)
+
 -- a claim without a fault is within the exact claim
 claim-within : (p e : Claim) → claim_fault p e ≡ None → IsWithinExact p e
 claim-within p e none =
-    let lacks : Bool = (p.cost == e.cost) && not (list_all (has p.labels) e.labels) in
-    let first = cond_none-then (nat_lt e.cost p.cost) (cond lacks (Some SetTooSmall) None) CostTooHigh none in
-    let second = cond_none-then lacks None SetTooSmall first.1 in
+    let first = cond_none-then (nat_lt e.cost p.cost) _ CostTooHigh none in
+    let second = cond_none-then ((p.cost == e.cost) && not (list_all (has p.labels) e.labels)) None SetTooSmall first.1 in
     record {
       cost = at_most e.cost p.cost first.0;
       labels = λ same. all-has p.labels e.labels (full (p.cost == e.cost) (list_all (has p.labels) e.labels) second.0 (eq-eqb p.cost e.cost same));
@@ -127,13 +119,10 @@ claim-within p e none =
 
 claim-none : (p e : Claim) → IsWithinExact p e → claim_fault p e ≡ None
 claim-none p e h =
-    let high : nat_lt e.cost p.cost ≡ false = false_from_ne_true (nat_lt e.cost p.cost) (λ t. absurd (omega (arith, ltb-true e.cost p.cost t, h.cost))) in
-    let lacks : ((p.cost == e.cost) && not (list_all (has p.labels) e.labels)) ≡ false =
-    false_from_ne_true ((p.cost == e.cost) && not (list_all (has p.labels) e.labels))
+    let lacks = false_from_ne_true ((p.cost == e.cost) && not (list_all (has p.labels) e.labels))
     (λ t. let parts = and_parts (p.cost == e.cost) (not (list_all (has p.labels) e.labels)) t in
     absurd (both_ways (list_all (has p.labels) e.labels) (not-true _ parts.1) (has-all p.labels e.labels (h.labels (eqb-true p.cost e.cost parts.0))))) in
-    ap (λ b. cond b (Some CostTooHigh) (cond ((p.cost == e.cost) && not (list_all (has p.labels) e.labels)) (Some SetTooSmall) None)) high
-    ∙ ap (λ b. cond b (Some SetTooSmall) None) lacks
+    (λ i. cond (not-more _ _ h.cost i) (Some CostTooHigh) (cond (lacks i) (Some SetTooSmall) None))
 
 -- a chain's path without a fault is accepted
 bits-accepted : (m : MapModel) (ps : List Prefix) (side : Label) (k : ℕ) (end : ℕ → ℕ → Option CheckFault) (IsEnd : ℕ → ℕ → Type 0) (Fits : ℕ → Type 0)
@@ -143,10 +132,9 @@ bits-accepted : (m : MapModel) (ps : List Prefix) (side : Label) (k : ℕ) (end 
 bits-accepted m ps side k end IsEnd Fits ends [] room n q fits deep none = ends room n q fits deep none
 bits-accepted m ps side k end IsEnd Fits ends (bit ∷ bits) zero n q fits deep none = absurd fits
 bits-accepted m ps side k end IsEnd Fits ends (bit ∷ bits) (suc room) n q fits deep none =
-    let beside = leaf_fault m ps (suc n) (side_half bit q) side in
-    let parts = or_none-parts (bits_fault m ps side k end bits (suc n) (chosen_half bit q)) (option_map (fault_of_number k) beside) none in (
+    let parts = or_none-parts (bits_fault m ps side k end bits (suc n) (chosen_half bit q)) _ none in (
       omega (arith, deep),
-      leaf-accepted m ps (suc n) (side_half bit q) side (map_none-part (fault_of_number k) beside parts.1),
+      leaf-accepted m ps (suc n) (side_half bit q) side (map_none-part (fault_of_number k) _ parts.1),
       bits-accepted m ps side k end IsEnd Fits ends bits room (suc n) (chosen_half bit q) fits (omega (arith, deep)) parts.0,
     )
 
@@ -155,61 +143,45 @@ bits-none : (m : MapModel) (ps : List Prefix) (side : Label) (k : ℕ) (end : �
     → (bits : List Bool) (n q : ℕ) → AreBitsAccepted m ps side IsEnd bits n q → bits_fault m ps side k end bits n q ≡ None
 bits-none m ps side k end IsEnd ends [] n q h = ends n q h
 bits-none m ps side k end IsEnd ends (bit ∷ bits) n q h =
-    let leaf = h.1 in
-    or_none-from (bits_fault m ps side k end bits (suc n) (chosen_half bit q))
-    (option_map (fault_of_number k) (leaf_fault m ps (suc n) (side_half bit q) side))
-    (bits-none m ps side k end IsEnd ends bits (suc n) (chosen_half bit q) h.2)
-    (ap (option_map (fault_of_number k)) (leaf-none m ps (suc n) (side_half bit q) side leaf.0 leaf.1))
+    ap₂ option_or (bits-none m ps side k end IsEnd ends bits (suc n) (chosen_half bit q) h.2) (ap (option_map (fault_of_number k)) (leaf-none m ps (suc n) (side_half bit q) side h.1))
 
 -- a node without a fault is accepted
 node-accepted : (m : MapModel) (ps : List Prefix) (table : List Label) (t : Tree) (room k n q : ℕ) → HasNodeForm table t room → n + room ≡ width_of m.version
     → node_fault m ps t k n q ≡ None → IsNodeAccepted m ps t n q
-node-accepted m ps table (LeafNode x) room k n q fits deep none = leaf-accepted m ps n q x (map_none-part (fault_of_number k) (leaf_fault m ps n q x) none)
+node-accepted m ps table (LeafNode x) room k n q fits deep none = leaf-accepted m ps n q x (map_none-part (fault_of_number k) _ none)
 node-accepted m ps table (InnerNode claim lower upper) zero k n q fits deep none = absurd fits
 node-accepted m ps table (InnerNode claim lower upper) (suc room) k n q fits deep none =
-    let exact = exact_claim (claim_of lower) (claim_of upper) in
-    let own = option_map (fault_of_number k) (claim_fault claim exact) in
-    let high = node_fault m ps upper (k + 1 + line_count lower) (suc n) (2 * q + 1) in
-    let first = or_none-parts (node_fault m ps lower (k + 1) (suc n) (2 * q)) (option_or high own) none in
-    let second = or_none-parts high own first.1 in (
+    let first = or_none-parts (node_fault m ps lower (k + 1) (suc n) (2 * q)) _ none in
+    let second = or_none-parts (node_fault m ps upper (k + 1 + line_count lower) (suc n) (2 * q + 1)) _ first.1 in (
       omega (arith, deep),
       node-accepted m ps table lower room (k + 1) (suc n) (2 * q) fits.2 (omega (arith, deep)) first.0,
       node-accepted m ps table upper room (k + 1 + line_count lower) (suc n) (2 * q + 1) fits.3 (omega (arith, deep)) second.0,
-      claim-within claim exact (map_none-part (fault_of_number k) (claim_fault claim exact) second.1),
+      claim-within claim (exact_claim (claim_of lower) (claim_of upper)) (map_none-part (fault_of_number k) _ second.1),
     )
 node-accepted m ps table (ChainNode claim bits side end) room k n q fits deep none =
-    let exact = chain_claim (length bits) side (claim_of end) in
-    let own = option_map (fault_of_number k) (claim_fault claim exact) in
-    let parts = or_none-parts (bits_fault m ps side k (node_fault m ps end (k + 1)) bits n q) own none in (
+    let parts = or_none-parts (bits_fault m ps side k (node_fault m ps end (k + 1)) bits n q) _ none in (
       fits.3,
       bits-accepted m ps side k (node_fault m ps end (k + 1)) (IsNodeAccepted m ps end) (HasNodeForm table end)
           (λ room' n' q' fits' deep' none'. node-accepted m ps table end room' (k + 1) n' q' fits' deep' none') bits room n q fits.4 deep parts.0,
-      claim-within claim exact (map_none-part (fault_of_number k) (claim_fault claim exact) parts.1),
+      claim-within claim (chain_claim (length bits) side (claim_of end)) (map_none-part (fault_of_number k) _ parts.1),
     )
 
 node-none : (m : MapModel) (ps : List Prefix) (t : Tree) (k n q : ℕ) → IsNodeAccepted m ps t n q → node_fault m ps t k n q ≡ None
-node-none m ps (LeafNode x) k n q h = ap (option_map (fault_of_number k)) (leaf-none m ps n q x h.0 h.1)
+node-none m ps (LeafNode x) k n q h = ap (option_map (fault_of_number k)) (leaf-none m ps n q x h)
 node-none m ps (InnerNode claim lower upper) k n q h =
-    let exact = exact_claim (claim_of lower) (claim_of upper) in
-    let own = option_map (fault_of_number k) (claim_fault claim exact) in
-    let high = node_fault m ps upper (k + 1 + line_count lower) (suc n) (2 * q + 1) in
-    or_none-from (node_fault m ps lower (k + 1) (suc n) (2 * q)) (option_or high own) (node-none m ps lower (k + 1) (suc n) (2 * q) h.1)
-    (or_none-from high own (node-none m ps upper (k + 1 + line_count lower) (suc n) (2 * q + 1) h.2)
-    (ap (option_map (fault_of_number k)) (claim-none claim exact h.3)))
+    ap₂ option_or (node-none m ps lower (k + 1) (suc n) (2 * q) h.1)
+    (ap₂ option_or (node-none m ps upper (k + 1 + line_count lower) (suc n) (2 * q + 1) h.2)
+    (ap (option_map (fault_of_number k)) (claim-none claim (exact_claim (claim_of lower) (claim_of upper)) h.3)))
 node-none m ps (ChainNode claim bits side end) k n q h =
-    let exact = chain_claim (length bits) side (claim_of end) in
-    or_none-from (bits_fault m ps side k (node_fault m ps end (k + 1)) bits n q) (option_map (fault_of_number k) (claim_fault claim exact))
-    (bits-none m ps side k (node_fault m ps end (k + 1)) (IsNodeAccepted m ps end) (λ n' q' h'. node-none m ps end (k + 1) n' q' h') bits n q h.1)
-    (ap (option_map (fault_of_number k)) (claim-none claim exact h.2))
+    ap₂ option_or (bits-none m ps side k (node_fault m ps end (k + 1)) (IsNodeAccepted m ps end) (λ n' q' h'. node-none m ps end (k + 1) n' q' h') bits n q h.1)
+    (ap (option_map (fault_of_number k)) (claim-none claim (chain_claim (length bits) side (claim_of end)) h.2))
 
 -- a certificate without a fault is accepted
 pub certificate-accepted : (m : MapModel) (l : ListModel) (c : CertificateModel) → HasNodeForm c.table c.root (width_of c.version) → first_fault m l c ≡ None → IsAccepted m l c
 certificate-accepted m l c form none =
-    let bound = cond (nat_lt ((claim_of c.root).cost + 1) (length l.prefixes)) (Some (fault_of_number 0 BoundNotMet)) None in
-    let nodes = node_fault m l.prefixes c.root 1 0 0 in
-    let first = cond_none-else (is_same_version l.version m.version && is_same_version c.version m.version) (option_or nodes bound) (fault_of_number 0 VersionDiffers) none in
+    let first = cond_none-else (is_same_version l.version m.version && is_same_version c.version m.version) _ (fault_of_number 0 VersionDiffers) none in
     let versions = and_parts (is_same_version l.version m.version) (is_same_version c.version m.version) first.0 in
-    let second = or_none-parts nodes bound first.1 in
+    let second = or_none-parts (node_fault m l.prefixes c.root 1 0 0) _ first.1 in
     let third = cond_none-then (nat_lt ((claim_of c.root).cost + 1) (length l.prefixes)) None (fault_of_number 0 BoundNotMet) second.1 in
     let version : c.version ≡ m.version = same_version-true c.version m.version versions.1 in
     record {
@@ -221,12 +193,6 @@ certificate-accepted m l c form none =
 
 pub certificate-none : (m : MapModel) (l : ListModel) (c : CertificateModel) → IsAccepted m l c → first_fault m l c ≡ None
 certificate-none m l c h =
-    let bound = cond (nat_lt ((claim_of c.root).cost + 1) (length l.prefixes)) (Some (fault_of_number 0 BoundNotMet)) None in
-    let nodes = node_fault m l.prefixes c.root 1 0 0 in
-    let few : nat_lt ((claim_of c.root).cost + 1) (length l.prefixes) ≡ false =
-    false_from_ne_true (nat_lt ((claim_of c.root).cost + 1) (length l.prefixes))
-    (λ t. absurd (omega (arith, ltb-true ((claim_of c.root).cost + 1) (length l.prefixes) t, h.count))) in
-    let versions = and_from (is_same_version l.version m.version) (is_same_version c.version m.version)
-    (same_version-from l.version m.version h.list_version) (same_version-from c.version m.version h.certificate_version) in
-    ap (λ b. cond b (option_or nodes bound) (Some (fault_of_number 0 VersionDiffers))) versions
-    ∙ or_none-from nodes bound (node-none m l.prefixes c.root 1 0 0 h.root) (ap (λ b. cond b (Some (fault_of_number 0 BoundNotMet)) None) few)
+    let few : nat_lt ((claim_of c.root).cost + 1) (length l.prefixes) ≡ false = not-more _ _ h.count in
+    let versions = and_from _ _ (same_version-from l.version m.version h.list_version) (same_version-from c.version m.version h.certificate_version) in
+    (λ i. cond (versions i) (option_or (node-none m l.prefixes c.root 1 0 0 h.root i) (cond (few i) (Some (fault_of_number 0 BoundNotMet)) None)) (Some (fault_of_number 0 VersionDiffers)))

@@ -1,18 +1,16 @@
 -- The first faults of nodes, by those of the nodes below them.
-use Rattle.std.proofs.Common.{◌≡◌, ◌∙◌, ℕ, suc, ◌+◌, ◌*◌, ◌==◌, ◌&&◌, Bool, true, false, cond, not, nat_lt, List, [], ◌∷◌, length, Option, Some, None, Result, Ok, Err, option_map, refl, sym, ap, arith}
-use Rattle.std.specs.List.{list_all}
+use Rattle.std.proofs.Common.{◌≡◌, ◌∙◌, ℕ, suc, ◌+◌, ◌*◌, ◌&&◌, Bool, true, false, cond, nat_lt, List, [], ◌∷◌, length, Option, Some, None, option_map, refl, sym, ap, arith}
 use Rattle.std.specs.Option.{option_or}
 use Rattle.std.proofs.lemmas.Option.{none-some, same_Some}
 use Rattle.pmap_text.specs.ListModel.{Prefix}
-use Rattle.pmap_text.specs.MapModel.{Label, MapModel, settled_label}
-use Rattle.prefix_keys.specs.Block.{width_of}
+use Rattle.pmap_text.specs.MapModel.{Label, MapModel}
 use Rattle.pmap_text.specs.Stretches.{StretchesModel}
 use Rattle.pmap_text.specs.Windows.{AreHalvesOf, number_at}
 use Rattle.pmap_text.specs.declared.window.Window.{Window}
 use Rattle.pmap_cert.specs.Compacting.{line_count}
-use Rattle.pmap_cert.specs.CertificateModel.{CertificateModel, ChainNode, InnerNode, LeafNode, Claim, Tree, claim_of, has, chain_claim, chosen_half, side_half, exact_claim}
+use Rattle.pmap_cert.specs.CertificateModel.{CertificateModel, ChainNode, InnerNode, LeafNode, Tree, claim_of, chosen_half, side_half}
 use Rattle.cert_check.specs.Inner.{IsHalf}
-use Rattle.cert_check.specs.Checking.{bits_fault, claim_fault, fault_of_number, first_fault, is_decided, is_label_of, is_same_version, leaf_fault, node_fault, text_fault, BoundNotMet, Certificate, Check, CheckFault, CheckFaultKind, CostTooHigh, LeafNotUniform, ListDiffers, NoMemory, SetTooSmall, TextFault, VersionDiffers}
+use Rattle.cert_check.specs.Checking.{bits_fault, fault_of_number, first_fault, is_same_version, leaf_fault, node_fault, BoundNotMet, Certificate, Check, CheckFault, CostTooHigh, LeafNotUniform, ListDiffers, NoMemory, SetTooSmall, VersionDiffers}
 use Rattle.pmap_cert.specs.declared.fault.CertFault.{CertFault}
 use Rattle.pmap_text.specs.ListModel.{ListModel}
 
@@ -47,95 +45,60 @@ path-step m ps x k end s w chosen beside bit bits rest is on off =
     ∙ (λ i. option_or (sym (half-is s w chosen (chosen_half bit (number_at s w)) on (bits_fault m ps x k end rest)) i)
     (option_map (fault_of_number k) (sym (half-is s w beside (side_half bit (number_at s w)) off (λ n q. leaf_fault m ps n q x)) i)))
 
--- the fault of a node isn't that an allocation failed
-abbrev IsNodeFault : Option CheckFault → Type 0
-IsNodeFault o = (f : CheckFault) → o ≡ Some f → f.kind ≡ NoMemory → ⊥
+-- the fault, if there is one, isn't that an allocation failed
+abbrev pub IsNodeFault : Option CheckFault → Type 0
+IsNodeFault None = Unit {0}
+IsNodeFault (Some fault) = fault.kind ≡ NoMemory → ⊥
 
 or-node : (a b : Option CheckFault) → IsNodeFault a → IsNodeFault b → IsNodeFault (option_or a b)
 or-node None b first second = second
 or-node (Some f) b first second = first
 
-at-node : (k : ℕ) (o : Option CheckFaultKind) → (o ≡ Some NoMemory → ⊥) → IsNodeFault (option_map (fault_of_number k) o)
-at-node k None not f is kind = none-some f is
-at-node k (Some kind) not f is none = not (ap Some (ap (λ (g : CheckFault). g.kind) (same_Some (fault_of_number k kind) f is) ∙ none))
+leaf-node : (k : ℕ) (a b : Bool) → IsNodeFault (option_map (fault_of_number k) (cond a (cond b None (Some ListDiffers)) (Some LeafNotUniform)))
+leaf-node k true true = tt
+leaf-node k true false = λ e. cc
+leaf-node k false b = λ e. cc
 
-leaf-kinds : (a b : Bool) → ◌≡◌ {A = Option CheckFaultKind} (cond a (cond b None (Some ListDiffers)) (Some LeafNotUniform)) (Some NoMemory) → ⊥
-leaf-kinds true true e = absurd (none-some NoMemory e)
-leaf-kinds true false e = let bad : ListDiffers ≡ NoMemory = same_Some ListDiffers NoMemory e in cc
-leaf-kinds false b e = let bad : LeafNotUniform ≡ NoMemory = same_Some LeafNotUniform NoMemory e in cc
-
-claim-kinds : (a b : Bool) → ◌≡◌ {A = Option CheckFaultKind} (cond a (Some CostTooHigh) (cond b (Some SetTooSmall) None)) (Some NoMemory) → ⊥
-claim-kinds true b e = let bad : CostTooHigh ≡ NoMemory = same_Some CostTooHigh NoMemory e in cc
-claim-kinds false true e = let bad : SetTooSmall ≡ NoMemory = same_Some SetTooSmall NoMemory e in cc
-claim-kinds false false e = absurd (none-some NoMemory e)
+claim-node : (k : ℕ) (a b : Bool) → IsNodeFault (option_map (fault_of_number k) (cond a (Some CostTooHigh) (cond b (Some SetTooSmall) None)))
+claim-node k true b = λ e. cc
+claim-node k false true = λ e. cc
+claim-node k false false = tt
 
 module _ (m : MapModel) (ps : List Prefix) where
-  leaf-node : (k n q : ℕ) (x : Label) → IsNodeFault (option_map (fault_of_number k) (leaf_fault m ps n q x))
-  leaf-node k n q x = at-node k (leaf_fault m ps n q x) (leaf-kinds (is_label_of (settled_label m n q) x) (is_decided (width_of m.version) ps n q x))
-
-  claim-node : (k : ℕ) (claim exact : Claim) → IsNodeFault (option_map (fault_of_number k) (claim_fault claim exact))
-  claim-node k claim exact =
-      at-node k (claim_fault claim exact)
-      (claim-kinds (nat_lt exact.cost claim.cost) ((claim.cost == exact.cost) && not (list_all (has claim.labels) exact.labels)))
-
   bits-node : (x : Label) (k : ℕ) (end : ℕ → ℕ → Option CheckFault) → ((n q : ℕ) → IsNodeFault (end n q)) → (bits : List Bool) (n q : ℕ)
       → IsNodeFault (bits_fault m ps x k end bits n q)
   bits-node x k end ends [] n q = ends n q
   bits-node x k end ends (bit ∷ bits) n q =
-      or-node (bits_fault m ps x k end bits (suc n) (chosen_half bit q)) (option_map (fault_of_number k) (leaf_fault m ps (suc n) (side_half bit q) x))
-      (bits-node x k end ends bits (suc n) (chosen_half bit q)) (leaf-node k (suc n) (side_half bit q) x)
+      or-node (bits_fault m ps x k end bits (suc n) (chosen_half bit q)) _ (bits-node x k end ends bits (suc n) (chosen_half bit q)) (leaf-node k _ _)
 
-  pub tree-node : (t : Tree) (k n q : ℕ) → IsNodeFault (node_fault m ps t k n q)
-  tree-node (LeafNode x) k n q = leaf-node k n q x
+  tree-node : (t : Tree) (k n q : ℕ) → IsNodeFault (node_fault m ps t k n q)
+  tree-node (LeafNode x) k n q = leaf-node k _ _
   tree-node (InnerNode claim lower upper) k n q =
-      let own = option_map (fault_of_number k) (claim_fault claim (exact_claim (claim_of lower) (claim_of upper))) in
-      let high = node_fault m ps upper (k + 1 + line_count lower) (suc n) (2 * q + 1) in
-      or-node (node_fault m ps lower (k + 1) (suc n) (2 * q)) (option_or high own) (tree-node lower (k + 1) (suc n) (2 * q))
-      (or-node high own (tree-node upper (k + 1 + line_count lower) (suc n) (2 * q + 1)) (claim-node k claim (exact_claim (claim_of lower) (claim_of upper))))
+      or-node (node_fault m ps lower (k + 1) (suc n) (2 * q)) _ (tree-node lower (k + 1) (suc n) (2 * q))
+      (or-node (node_fault m ps upper (k + 1 + line_count lower) (suc n) (2 * q + 1)) _ (tree-node upper (k + 1 + line_count lower) (suc n) (2 * q + 1)) (claim-node k _ _))
   tree-node (ChainNode claim bits side end) k n q =
-      or-node (bits_fault m ps side k (node_fault m ps end (k + 1)) bits n q)
-      (option_map (fault_of_number k) (claim_fault claim (chain_claim (length bits) side (claim_of end))))
-      (bits-node side k (node_fault m ps end (k + 1)) (λ n' q'. tree-node end (k + 1) n' q') bits n q)
-      (claim-node k claim (chain_claim (length bits) side (claim_of end)))
-
-whole-node : (kind : CheckFaultKind) → (kind ≡ NoMemory → ⊥) → IsNodeFault (Some (fault_of_number 0 kind))
-whole-node kind not f is none = not (ap (λ (g : CheckFault). g.kind) (same_Some (fault_of_number 0 kind) f is) ∙ none)
+      or-node (bits_fault m ps side k (node_fault m ps end (k + 1)) bits n q) _
+      (bits-node side k (node_fault m ps end (k + 1)) (λ n' q'. tree-node end (k + 1) n' q') bits n q) (claim-node k _ _)
 
 -- the first fault of a certificate isn't that an allocation failed
 pub first-node : (m : MapModel) (l : ListModel) (c : CertificateModel) → IsNodeFault (first_fault m l c)
 first-node m l c =
     by (is_same_version l.version m.version && is_same_version c.version m.version) (nat_lt ((claim_of c.root).cost + 1) (length l.prefixes))
   where
-    nodes : IsNodeFault (node_fault m l.prefixes c.root 1 0 0)
-    nodes = tree-node m l.prefixes c.root 1 0 0
-
     by : (same many : Bool) → IsNodeFault (cond same (option_or (node_fault m l.prefixes c.root 1 0 0) (cond many (Some (fault_of_number 0 BoundNotMet)) None)) (Some (fault_of_number 0 VersionDiffers)))
-    by true true = or-node (node_fault m l.prefixes c.root 1 0 0) (Some (fault_of_number 0 BoundNotMet)) nodes (whole-node BoundNotMet (λ e. cc))
-    by true false = or-node (node_fault m l.prefixes c.root 1 0 0) None nodes (λ f is none. absurd (none-some f is))
-    by false many = whole-node VersionDiffers (λ e. cc)
+    by true true = or-node (node_fault m l.prefixes c.root 1 0 0) _ (tree-node m l.prefixes c.root 1 0 0) (λ e. cc)
+    by true false = or-node (node_fault m l.prefixes c.root 1 0 0) None (tree-node m l.prefixes c.root 1 0 0) tt
+    by false many = λ e. cc
 
 -- a text that is read has no fault only if its certificate has none
 pub text-none : (o : Option CheckFault) → option_map Check o ≡ None → o ≡ None
 text-none None e = refl
 text-none (Some f) e = absurd (none-some (Check f) (sym e))
 
--- a text without a fault is read as a certificate without a fault
-pub text-accepted : (m : MapModel) (l : ListModel) (r : Result CertificateModel CertFault) → text_fault m l r ≡ None
-    → (c : CertificateModel) × (r ≡ Ok c) × (first_fault m l c ≡ None)
-text-accepted m l (Err fault) e = absurd (none-some (Certificate fault) (sym e))
-text-accepted m l (Ok c) e = (c, refl, text-none (first_fault m l c) e)
-
 -- the fault of a text that is read is that of its certificate
 pub text-checked : (o : Option CheckFault) (f : CheckFault) → option_map Check o ≡ Some (Check f) → o ≡ Some f
 text-checked None f e = absurd (none-some (Check f) e)
-text-checked (Some g) f e = ap Some (same (Check g) (Check f) (same_Some (Check g) (Check f) e))
-  where
-    inside : TextFault → CheckFault
-    inside (Check h) = h
-    inside (Certificate h) = f
-
-    same : (a b : TextFault) → a ≡ b → inside a ≡ inside b
-    same a b is = ap inside is
+text-checked (Some g) f e = let same : Check g ≡ Check f = same_Some (Check g) (Check f) e in cc
 
 pub text-read : (o : Option CheckFault) (f : CertFault) → option_map Check o ≡ Some (Certificate f) → ⊥
 text-read None f e = none-some (Certificate f) e

@@ -1,9 +1,9 @@
-use Rattle.std.proofs.Common.{◌∙◌, ap, sym}
+use Rattle.std.proofs.Common.{◌∙◌, ap, subst, sym}
 use Rattle.pmap_text.specs.MapText.{map_of}
 use Rattle.pmap_text.specs.PrefixList.{list_of}
 use Rattle.pmap_cert.specs.Certificate.{certificate_of}
 use Rattle.cert_check.specs.Checking.{first_fault, text_fault}
-use Rattle.cert_check.proofs.Nodes.{first-node, text-checked, text-none, text-read}
+use Rattle.cert_check.proofs.Nodes.{IsNodeFault, first-node, text-checked, text-none, text-read}
 use Rattle.cert_check.proofs.checking.check.Goals as goal
 
 pub returns-in-Ok-clause-ok : goal.returns-in-Ok-clause-ok
@@ -36,7 +36,7 @@ returns-in-Err-Check-clause-memory c = λ none.
     let l = list_of c.args.list.now in
     let k = certificate_of c.args.certificate.now in
     let read = (c.text_of_format_is_read_or_has_a_fault.ensures.read c.as_slice.result.now k).1 (c.root-root.ensures.form, c.as_slice.ensures.value ∙ c.in_ok-text.ensures) in
-    absurd (first-node m l k c.in-Err-Check.fault (text-checked (first_fault m l k) c.in-Err-Check.fault (ap (text_fault m l) (sym read) ∙ (rw c.in-Err-Check.field-0-is at c.in-Err-Check.ensures.fault))) none)
+    absurd (subst IsNodeFault (text-checked (first_fault m l k) c.in-Err-Check.fault (ap (text_fault m l) (sym read) ∙ (rw c.in-Err-Check.field-0-is at c.in-Err-Check.ensures.fault))) (first-node m l k) none)
 
 pub unreachable-requires : goal.unreachable-requires
 unreachable-requires c =
