@@ -1,7 +1,7 @@
 use Rattle.std.specs.Prelude.{◌≡◌, ◌==◌, ◌&&◌, ◌||◌, ℕ, Bool, true, List, Result, Ok, Err, length, false, ◌⊎◌, ◌++◌, Option, nat_lt}
 use Rattle.std.specs.Io.KnownBytes.{Appends}
-pub use Rattle.flow_io.specs.declared.last_call.LastCall.{LastCall}
-pub use Rattle.flow_io.specs.declared.last_call.LastCall.TheVariants.{FailedFlush, Flush, Nothing, Write}
+pub use Rattle.flow_io.specs.declared.devices.LastCall.{LastCall}
+pub use Rattle.flow_io.specs.declared.devices.LastCall.TheVariants.{FailedFlush, Flush, Nothing, Write}
 use Rattle.flow_io.specs.declared.whole_input.ReadStop.{ReadStop}
 use Rattle.flow_io.specs.declared.whole_input.ReadStop.TheVariants.{ReadFault, NoMemory}
 
@@ -26,25 +26,6 @@ flush_call (Err _) = FailedFlush
 pub record BufferedState (T : Type 0) : Type 0 where
   pub inner : T
   pub ahead : List ℕ
-
--- a `MemoryInput` as contracts see it: the bytes left, the maximum that a read returns, the number of the next call that
--- fails (1 is the next call, 0 is no call), and whether a call has failed
-pub record InputState : Type 0 where
-  pub left : List ℕ
-  pub step : ℕ
-  pub failing_call : ℕ
-  pub failed : Bool
-
--- a `MemoryOutput` as contracts see it: the bytes taken, the maximum that a write takes, the number of the next call that
--- fails (1 is the next call, 0 is no call), whether a failing write returns 0, whether a call has failed, and the last
--- call
-pub record OutputState : Type 0 where
-  pub taken : List ℕ
-  pub step : ℕ
-  pub failing_call : ℕ
-  pub zero : Bool
-  pub failed : Bool
-  pub last_call : LastCall
 
 -- whether the reader failed, from the result of reading it whole
 abbrev pub is_read_fault : {A : Type 0} → Result A ReadStop → Bool

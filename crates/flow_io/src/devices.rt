@@ -9,6 +9,19 @@ use thiserror::Error;
 #[error("the device failed")]
 pub struct DeviceFault;
 
+/// The last call of a writer.
+#[derive(Clone, Copy)]
+pub enum LastCall {
+    /// There was no call yet.
+    Nothing,
+    /// A write, whether it succeeded or not.
+    Write,
+    /// A flush that returned `Ok`.
+    Flush,
+    /// A flush that returned `Err`.
+    FailedFlush,
+}
+
 /// A reader that remembers whether it failed.
 pub trait Input {
     // Whether a read has failed.

@@ -24,16 +24,14 @@
 
 mod buffered;
 mod devices;
-mod last_call;
 mod memory;
 mod watch;
 mod whole_input;
 mod whole_output;
 
 pub use buffered::Buffered;
-pub use devices::{DeviceFault, Input, Output};
-pub use last_call::LastCall;
+pub use devices::{DeviceFault, Input, LastCall, Output};
 pub use memory::{MemoryInput, MemoryOutput};
 pub use watch::Watched;
 pub use whole_input::{ReadStop, read_whole};
-pub use whole_output::{WriteFault, write_whole};
+pub use whole_output::write_whole;

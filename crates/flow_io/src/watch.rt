@@ -1,8 +1,7 @@
 ghost use Rattle.std.specs.Prelude.{◌≡◌, false};
 ghost use Rattle.flow_io.specs.Devices.{Nothing};
 
-use crate::devices::{DeviceFault, Input, Output};
-use crate::last_call::LastCall;
+use crate::devices::{DeviceFault, Input, LastCall, Output};
 use std::io::{Read, Write};
 
 /// A reader or writer of std that remembers whether it failed, and in case of a writer which call was the last one.

@@ -1,8 +1,8 @@
 use Rattle.std.specs.Prelude.{◌≡◌, ◌⊎◌, ℕ, Bool, true, List, MatchResult, Option, Result, Ok, Err}
 use Rattle.std.specs.declared.io.ErrorKind.{ErrorKind as IoErrorKind}
 use Rattle.std.specs.Io.KnownBytes.{Appends}
-use Rattle.flow_io.specs.declared.last_call.LastCall.{LastCall}
-use Rattle.flow_io.specs.declared.last_call.LastCall.TheVariants.{Flush}
+use Rattle.flow_io.specs.declared.devices.LastCall.{LastCall}
+use Rattle.flow_io.specs.declared.devices.LastCall.TheVariants.{Flush}
 use Rattle.flow_io.specs.Devices.{StopsWriting}
 use Rattle.flowlabel.specs.Answer.{Answers, IsFaultAt, words_fault_of}
 use Rattle.flowlabel.specs.ByFile.{ByFile}

@@ -1,8 +1,8 @@
 use Rattle.std.specs.Prelude.{◌≡◌, ◌≤◌, ◌<◌, ◌||◌, ℕ, List, [], Option, Some, Result, Ok, Err, Bool, true, false, IfSome}
 use Rattle.std.specs.Option.{option_map_or}
 use Rattle.std.specs.Io.KnownBytes.{Appends, Consumes}
-use Rattle.flow_io.specs.declared.last_call.LastCall.{LastCall}
-use Rattle.flow_io.specs.declared.last_call.LastCall.TheVariants.{Flush}
+use Rattle.flow_io.specs.declared.devices.LastCall.{LastCall}
+use Rattle.flow_io.specs.declared.devices.LastCall.TheVariants.{Flush}
 use Rattle.flow_io.specs.Devices.{StopsWriting}
 use Rattle.ipfix_read.specs.Messages.{StopsReading}
 use Rattle.ipfix_read.specs.declared.fault.ReadFault.{ReadFault}

@@ -9,7 +9,7 @@ use crate::command::Command;
 use crate::fault::RunFault;
 use crate::inputs::{Inputs, Source};
 use crate::output_fault::OutputFault;
-use flow_io::{Input, Output, WriteFault, write_whole};
+use flow_io::{DeviceFault, Input, Output, write_whole};
 use pmap_text::KeyHashing;
 use std::alloc::Global;
 
@@ -103,6 +103,6 @@ pub fn run<'a, R: Input, W: Output>(
     };
     match write_whole(writer, out.as_slice()) {
         Ok(()) => Ok(()),
-        Err(WriteFault) => Err(RunFault::CannotWrite),
+        Err(DeviceFault) => Err(RunFault::CannotWrite),
     }
 }
