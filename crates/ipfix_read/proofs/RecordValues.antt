@@ -42,6 +42,13 @@ whole_is (field ∷ fields) bytes x e =
 abbrev pub left : Option (List FieldValueView × List ℕ) → Option (List ℕ)
 left read = option_map (λ x. x.1) read
 
+-- the reading from the bytes that it leaves
+pub whole_left : (fields : List Field) (bytes : List ℕ) → option_map (λ rest. (whole_values fields bytes, rest)) (left (values_at fields bytes)) ≡ values_at fields bytes
+whole_left fields bytes = elim (values_at fields bytes) as (λ o. values_at fields bytes ≡ o → option_map (λ rest. (whole_values fields bytes, rest)) (left o) ≡ o) [
+  | None ↦ λ e. refl
+  | Some x ↦ λ e. ap (λ (vs : List FieldValueView). Some (vs, x.1)) (whole_is fields bytes x e)
+] refl
+
 -- the remaining bytes after runs of bytes, each followed by a variable value, and a last run
 abbrev pub behind_runs : List ℕ → ℕ → List ℕ → Option (List ℕ)
 behind_runs [] last bytes = option_map (λ f. f.1) (bytes_at last bytes)
@@ -352,9 +359,3 @@ few_left n least some =
           let one_more : (n / least + 1) * least ≤ n = omega (arith, room, add-mul (n / least) 1 least) in
           absurd (omega (arith, (le-div_iff_mul-le {k = least} {x = n / least + 1} {y = n} some).1 one_more))
     ]
-
--- ---- the bytes after a record's values
-
-pub none_from_left : (o : Option (List FieldValueView × List ℕ)) → None ≡ option_map (λ x. x.1) o → o ≡ None
-none_from_left None e = refl
-none_from_left (Some x) e = absurd (cc)

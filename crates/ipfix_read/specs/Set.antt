@@ -1,5 +1,5 @@
 -- The sets of a message (RFC 7011 section 3.3).
-use Rattle.std.specs.Prelude.{◌≡◌, false, ℕ, ◌+◌, List, [], length, take, drop, map, Option, Some, None, Result, Ok, Err, nat_lt, ◌==◌, ◌||◌, if◌then◌else◌}
+use Rattle.std.specs.Prelude.{◌≡◌, ℕ, ◌+◌, List, [], length, take, drop, map, Option, Some, None, Result, Ok, Err, nat_lt, ◌==◌, ◌||◌, if◌then◌else◌}
 use Rattle.std.specs.List.{flat_map}
 use Rattle.std.specs.Option.{option_map_or}
 use Rattle.std.specs.Result.{result_map_both}
@@ -9,12 +9,12 @@ use Rattle.ipfix_templates.specs.declared.fault.TemplateFault.{TemplateFault}
 use Rattle.ipfix_templates.specs.declared.kind.Kind.{Kind}
 use Rattle.ipfix_templates.specs.declared.kind.Kind.TheVariants.{Flow, Options}
 use Rattle.ipfix_templates.specs.Template.{set_id}
-use Rattle.ipfix_templates.specs.Reading.{IsFault, items_from, template_set_reading}
+use Rattle.ipfix_templates.specs.Reading.{items_from, template_set_reading}
 use Rattle.ipfix_templates.specs.InForce.{InForce, Table, in_force, template_at}
 pub use Rattle.ipfix_read.specs.declared.set.Set.{Set}
 pub use Rattle.ipfix_read.specs.declared.set.Set.TheVariants.{Skipped, Templates, Values}
 use Rattle.ipfix_read.specs.declared.fault.ReadFault.{ReadFault}
-use Rattle.ipfix_read.specs.Fault.{BadSetLength, BadTemplate, is_of_calls, out_of_memory}
+use Rattle.ipfix_read.specs.Fault.{BadSetLength, BadTemplate, Reads}
 use Rattle.ipfix_read.specs.Record.{data_set_reading}
 
 -- template events, each with its domain
@@ -64,8 +64,7 @@ abbrev pub sets_reading : InForce → ℕ → ℕ → List ℕ → Result (List 
 sets_reading templates domain offset bytes =
     items_from (λ rest. length rest == 0) (λ sets. set_next (in_force templates (events_of_sets domain sets)) domain) [] offset bytes
 
--- The result of reading under a table, and the table after it. An item is the reading, and its events change the table. A
--- fault is that of the reading, or that an allocation failed. It is not one of calls.
+-- the result of reading under a table, and the table after it, which the events of an item change
 abbrev pub ReadsUnder : {A : Type 0} → Table → Table → (A → List (ℕ × TemplateEvent)) → Result A ReadFault → Result A ReadFault → Type 0
-ReadsUnder old new events reading (Ok item) = (reading ≡ Ok item) × (template_at new ≡ in_force (template_at old) (events item))
-ReadsUnder old new events reading (Err fault) = (is_of_calls fault.kind ≡ false) × IsFault out_of_memory reading fault
+ReadsUnder old new events reading (Ok item) = Reads reading (Ok item) × (template_at new ≡ in_force (template_at old) (events item))
+ReadsUnder old new events reading (Err fault) = Reads reading (Err fault)

@@ -1,11 +1,12 @@
-ghost use Rattle.std.specs.Prelude.{◌≡◌, ◌<◌, false, IfOk, IfSome, MatchResult, OnSome, length, option_map, vec_len};
+ghost use Rattle.std.specs.Prelude.{◌≡◌, ◌<◌, ◌≤◌, false, true, IfErr, IfOk, IfSome, MatchResult, OnErr, OnOk, OnSome, length, option_map, take, vec_len};
+ghost use Rattle.std.specs.Io.KnownBytes.{Consumes, IsAtEnd};
 ghost use Rattle.std.specs.Result.{result_map_both};
 ghost use Rattle.ipfix_read.specs.Fault.{is_of_reader};
 ghost use Rattle.ipfix_read.specs.Message.{HasHeader};
 ghost use Rattle.ipfix_read.specs.Messages.{Gathers, ReadsInput};
+ghost use Rattle.ipfix_read.specs.declared.fault.ReadFaultKind.TheVariants.{ReadFault as Unread};
 
 use crate::fault::ReadFaultKind;
-use crate::fill::fill;
 use crate::message::{HEADER_LENGTH, header_length};
 use flow_io::Input;
 use std::alloc::{AllocError, Global};
@@ -26,6 +27,31 @@ impl Buffer {
         let bytes = vec![in alloc; 0u8; LONGEST_MESSAGE]?;
         Ok(Buffer { bytes })
     }
+}
+
+// Fills the slice, and returns the number of bytes read. It is less than the length of the slice only at the end of
+// the input. Each read requests the bytes that are still missing, and no more. If a read fails, the slice isn't full.
+fn fill<R: Input>(reader: &mut R, bytes: &mut [u8]) -> Result<usize, ReadFaultKind>
+    ensures within { IfOk result (λ count. count ≤ length bytes.new) }
+    ensures given { IfOk result (λ count.
+        Consumes (R.bytes_left reader.old) (R.bytes_left reader.new) (take count bytes.new)) }
+    ensures short { OnErr result (ReadsInput (R.bytes_left reader.old) (R.bytes_left reader.new)
+        (λ taken left. length taken < length bytes.new)) }
+    ensures end { IfOk result (λ count. count < length bytes.new → IsAtEnd (R.bytes_left reader.new)) }
+    ensures ok { OnOk result (R.failed reader.new ≡ R.failed reader.old) }
+    ensures err { IfErr result (λ kind. (kind ≡ Unread) × (R.failed reader.new ≡ true)) }
+{
+    let mut filled = 0;
+    while filled < bytes.len() {
+        let Ok(count) = reader.read(&mut bytes[filled..]) else {
+            return Err(ReadFaultKind::ReadFault);
+        };
+        if count == 0 {
+            return Ok(filled);
+        }
+        filled += count;
+    }
+    Ok(filled)
 }
 
 /// Reads the next message, which follows `count` messages, to the start of a buffer, and returns its bytes: first its

@@ -1,6 +1,6 @@
-ghost use Rattle.std.specs.Prelude.{◌≡◌, ◌≤◌, length, false, IfErr, IfOk, Ok};
-ghost use Rattle.ipfix_templates.specs.Reading.{IsFault};
-ghost use Rattle.ipfix_read.specs.Fault.{out_of_memory, is_of_calls};
+ghost use Rattle.std.specs.Prelude.{◌≤◌, length};
+ghost use Rattle.std.specs.Result.{result_map_both};
+ghost use Rattle.ipfix_read.specs.Fault.{Reads};
 ghost use Rattle.ipfix_read.specs.Messages.{file_reading};
 
 use crate::fault::ReadFault;
@@ -23,11 +23,7 @@ pub struct FileEvents<'a> {
 ///
 /// Returns the first fault, in byte order, or `NoMemory` if an allocation fails.
 pub fn read_file(alloc: Global, bytes: &[u8]) -> Result<FileEvents<'_>, ReadFault>
-    ensures ok { IfOk result (λ file. file_reading bytes.now ≡ Ok file.messages) }
-    ensures fault { IfErr result (IsFault out_of_memory (file_reading bytes.now)) }
-
-    // The fault is not that of a failed reader or of an earlier failed call, as there are none.
-    ensures of_bytes { IfErr result (λ fault. is_of_calls fault.kind ≡ false) }
+    ensures { Reads (file_reading bytes.now) (result_map_both (λ file. file.messages) (λ fault. fault) result) }
 {
     let mut table = TemplateTable::new(alloc);
     let mut messages = MessageList::new(alloc);

@@ -21,13 +21,10 @@
 #![tactic(auto)]
 
 mod buffer;
-mod data_set;
 mod fault;
 mod file;
-mod fill;
 mod laws;
 mod message;
-mod messages;
 mod progress;
 mod record;
 mod set;
@@ -38,8 +35,7 @@ pub use fault::{ReadFault, ReadFaultKind};
 pub use file::{FileEvents, read_file};
 pub use laws::{calls_join_file, first_message_and_rest};
 pub use message::{Message, MessageList};
-pub use messages::Messages;
-pub use progress::{Progress, State};
+pub use progress::{Messages, Progress, State};
 pub use record::{Record, RecordList, Records};
 pub use set::{Set, SetList};
-pub use value::{FieldValue, FieldValues, Values, read_bytes, read_value, read_variable};
+pub use value::{FieldValue, FieldValues, Values, read_bytes, read_variable};

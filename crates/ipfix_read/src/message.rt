@@ -96,17 +96,14 @@ pub fn whole_message<'a>(
     ensures { ReadsUnder table.old table.new events_of_message
         (whole_reading (template_at table.old) base bytes.now) result }
 {
-    let export_time = BigEndian::read_u32(&bytes[4..]);
-    let sequence = BigEndian::read_u32(&bytes[8..]);
     let domain = BigEndian::read_u32(&bytes[12..]);
     let sets = read_sets(alloc, table, domain, &bytes[HEADER_LENGTH..], base + 16)?;
-    let message = Message {
-        export_time,
-        sequence,
+    Ok(Message {
+        export_time: BigEndian::read_u32(&bytes[4..]),
+        sequence: BigEndian::read_u32(&bytes[8..]),
         domain,
         sets,
-    };
-    Ok(message)
+    })
 }
 
 /// Reads the message at the start of the bytes, which follows `count` messages, and returns it with the bytes after it.

@@ -1,10 +1,13 @@
-ghost use Rattle.std.specs.Prelude.{◌≡◌, ◌≤◌, All, IfOk, length, map};
+//! Data sets and their records.
+ghost use Rattle.std.specs.Prelude.{◌≡◌, ◌^◌, ◌+◌, ◌<◌, ◌≤◌, All, Err, IfErr, IfOk, false, length, map};
 ghost use Rattle.std.specs.Iterator.{YieldsFirst, item_count};
-ghost use Rattle.ipfix_read.specs.WholeRecords.{whole_records};
+ghost use Rattle.ipfix_read.specs.Fault.{Reads, is_of_calls};
+ghost use Rattle.ipfix_read.specs.Record.{data_set_reading};
+ghost use Rattle.ipfix_read.specs.WholeRecords.{ArePacked};
 
-use crate::value::{FieldValues, read_values};
-use ipfix_templates::{Fields, Kind};
-use std::alloc::AllocError;
+use crate::fault::{ReadFault, ReadFaultKind};
+use crate::value::{FieldValues, skip_values};
+use ipfix_templates::{Fields, Kind, Template};
 use std::marker::Model;
 
 /// A data record (RFC 7011 section 3.4.3): its kind, and a value for each field of its template.
@@ -39,24 +42,6 @@ impl<'a> Model for RecordList<'a> {
 }
 
 impl<'a> RecordList<'a> {
-    // Returns the list of the `count` consecutive records with these fields at the start of the bytes.
-    pub(crate) fn new(
-        kind: Kind,
-        fields: &Fields,
-        count: usize,
-        bytes: &'a [u8],
-    ) -> Result<Self, AllocError>
-        requires { length (whole_records kind fields.now count bytes.now) ≡ count }
-        ensures { IfOk result (λ records. records ≡ whole_records kind fields.now count bytes.now) }
-    {
-        Ok(RecordList {
-            kind,
-            specifiers: fields.copy()?,
-            bytes,
-            count,
-        })
-    }
-
     /// Returns the number of data records.
     pub fn len(&self) -> usize
         ensures { result ≡ length self.now }
@@ -122,7 +107,11 @@ impl<'f, 'a> Iterator for Records<'f, 'a> {
         if self.count == 0 {
             return None;
         }
-        let (fields, rest) = read_values(self.specifiers, self.bytes)?;
+        let rest = skip_values(self.specifiers, self.bytes)?;
+        let fields = FieldValues {
+            specifiers: self.specifiers,
+            bytes: self.bytes,
+        };
         self.bytes = rest;
         self.count -= 1;
         Some(Record {
@@ -130,4 +119,58 @@ impl<'f, 'a> Iterator for Records<'f, 'a> {
             fields,
         })
     }
+}
+
+// Returns the number of consecutive records. `base` is the offset of the bytes in the File.
+fn count_records(template: &Template, bytes: &[u8], base: u64) -> Result<usize, ReadFault>
+    requires { base + length bytes.now < 2 ^ 64 }
+    ensures ok { IfOk result (ArePacked template.now base bytes.now) }
+    ensures few { IfOk result (λ count. count ≤ length bytes.now) }
+    ensures bytes { IfErr result (λ fault. is_of_calls fault.kind ≡ false) }
+    ensures fault { IfErr result (λ fault. data_set_reading template.now base bytes.now ≡ Err fault) }
+{
+    let least = template.least_length() as usize;
+    if least == 0 {
+        return Ok(0);
+    }
+    let fields = &template.fields;
+    if fields.runs().is_empty() {
+        return Ok(bytes.len() / least);
+    }
+    let mut count = 0;
+    let mut rest = bytes;
+    while rest.len() >= least {
+        let Some(after) = skip_values(fields, rest) else {
+            let offset = base + (bytes.len() - rest.len()) as u64;
+            return Err(ReadFaultKind::BadRecord.at(offset));
+        };
+        count += 1;
+        rest = after;
+    }
+    Ok(count)
+}
+
+/// Returns the records of a data set under its template, given the bytes after the set's header. `base` is the offset
+/// of these bytes in the File. Trailing bytes that are too few for a record are padding.
+///
+/// # Errors
+///
+/// Returns `BadRecord` with the offset of the first record that extends beyond the end of the bytes, or `NoMemory` if
+/// an allocation fails.
+pub fn read_data_set<'a>(
+    template: &Template,
+    bytes: &'a [u8],
+    base: u64,
+) -> Result<RecordList<'a>, ReadFault>
+    requires { base + length bytes.now < 2 ^ 64 }
+    ensures read { Reads (data_set_reading template.now base bytes.now) result }
+    ensures few { IfOk result (λ records. length records ≤ length bytes.now) }
+{
+    let count = count_records(template, bytes, base)?;
+    Ok(RecordList {
+        kind: template.kind,
+        specifiers: template.fields.copy()?,
+        bytes,
+        count,
+    })
 }

@@ -4,9 +4,8 @@ ghost use Rattle.ipfix_templates.specs.InForce.{in_force, template_at};
 ghost use Rattle.ipfix_read.specs.Set.{in_domain, events_of_set, events_of_sets, content_reading, set_next, sets_reading, template_kind, ReadsUnder};
 ghost use Rattle.ipfix_read.specs.Message.{set_size, message_size};
 
-use crate::data_set::read_data_set;
 use crate::fault::{ReadFault, ReadFaultKind};
-use crate::record::RecordList;
+use crate::record::{RecordList, read_data_set};
 use byteorder::{BigEndian, ByteOrder};
 use ipfix_templates::{
     Items, Kind, TemplateEvent, TemplateEvents, TemplateFaultKind, TemplateTable, read_template_set,
@@ -14,6 +13,7 @@ use ipfix_templates::{
 use std::alloc::{AllocError, Global};
 
 /// A set of a message (RFC 7011 section 3.3).
+#[derive(Drop)]
 pub enum Set<'a> {
     /// A template set, or an options template set, with the events of its records.
     Templates(Kind, TemplateEvents),
@@ -21,15 +21,6 @@ pub enum Set<'a> {
     Values(Kind, RecordList<'a>),
     /// A set whose ID has no meaning, or a data set without a template in force. The value is the set ID.
     Skipped(u16),
-}
-
-// A drop is one call, so the proofs of functions that drop this type have one step instead of one for each part.
-impl Drop for Set<'_> {
-    fn drop(self) {
-        match self {
-            Set::Templates(_, _) | Set::Values(_, _) | Set::Skipped(_) => {}
-        }
-    }
 }
 
 /// A list of sets.

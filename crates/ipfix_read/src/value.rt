@@ -1,6 +1,6 @@
-ghost use Rattle.std.specs.Prelude.{◌≡◌, ℕ, List, Some, IfSome, map, option_map};
+ghost use Rattle.std.specs.Prelude.{◌≡◌, ℕ, List, Some, map, option_map};
 ghost use Rattle.std.specs.Iterator.{YieldsFirst, item_count};
-ghost use Rattle.ipfix_read.specs.Value.{bytes_at, variable_at, value_at, values_at};
+ghost use Rattle.ipfix_read.specs.Value.{bytes_at, values_at, variable_at, whole_values};
 
 use byteorder::{BigEndian, ByteOrder};
 use ipfix_templates::{Field, Fields};
@@ -28,8 +28,8 @@ impl<'a> Model for FieldValue<'a> {
 /// borrows the template's fields. Each value is cut out of the bytes when it is requested.
 #[derive(Drop)]
 pub struct FieldValues<'f, 'a> {
-    specifiers: &'f Fields,
-    bytes: &'a [u8],
+    pub(crate) specifiers: &'f Fields,
+    pub(crate) bytes: &'a [u8],
 }
 
 impl<'f, 'a> Model for FieldValues<'f, 'a> {
@@ -93,13 +93,18 @@ impl<'f, 'a> Iterator for Values<'f, 'a> {
 
     ghost remaining = { item_count (λ values. values) };
 
-    #[tactic(auto, unfolding(crate::specs::Value::whole_values))]
+    #[tactic(auto, unfolding(crate::specs::Value::whole_values, crate::specs::Value::value_at))]
     fn next(&mut self) -> Option<FieldValue<'a>> {
         let (field, specifiers) = self.specifiers.split_first()?;
-        let (value, bytes) = read_value(*field, self.bytes)?;
+        let (value, bytes) = if field.is_variable() {
+            read_variable(self.bytes)?
+        } else {
+            read_bytes(usize::from(field.length), self.bytes)?
+        };
         self.specifiers = specifiers;
         self.bytes = bytes;
-        Some(value)
+        let field = *field;
+        Some(FieldValue { field, value })
     }
 }
 
@@ -125,26 +130,11 @@ pub fn read_variable(bytes: &[u8]) -> Option<(&[u8], &[u8])>
     read_bytes(usize::from(BigEndian::read_u16(rest)), &rest[2..])
 }
 
-/// Reads the value of a field at the start of the bytes, and returns it with the bytes after it. Returns `None` if the
-/// input is too short.
-#[tactic(auto, unfolding(crate::specs::Value::value_at))]
-pub fn read_value<'a>(field: Field, bytes: &'a [u8]) -> Option<(FieldValue<'a>, &'a [u8])>
-    ensures field { IfSome result (λ x. x.0.field ≡ field) }
-    ensures value { option_map (λ x. (x.0.value, x.1.now)) result ≡ value_at field bytes.now }
-{
-    if field.is_variable() {
-        let (value, rest) = read_variable(bytes)?;
-        return Some((FieldValue { field, value }, rest));
-    }
-    let (value, rest) = read_bytes(usize::from(field.length), bytes)?;
-    Some((FieldValue { field, value }, rest))
-}
-
 /// Skips the values of these fields at the start of the bytes, and returns the bytes after them. Returns `None` if the
-/// input is too short. The fixed lengths between variable fields are skipped together, so each step but the last takes
+/// values are not complete. The fixed lengths between variable fields are skipped together, so each step but the last takes
 /// at least one byte.
 pub fn skip_values<'a>(fields: &Fields, bytes: &'a [u8]) -> Option<&'a [u8]>
-    ensures { option_map (λ x. x.now) result ≡ option_map (λ x. x.1) (values_at fields.now bytes.now) }
+    ensures { option_map (λ rest. (whole_values fields.now bytes.now, rest.now)) result ≡ values_at fields.now bytes.now }
 {
     let mut rest = bytes;
     for run in fields.runs() {
@@ -154,20 +144,4 @@ pub fn skip_values<'a>(fields: &Fields, bytes: &'a [u8]) -> Option<&'a [u8]>
     }
     let (_fixed, after) = read_bytes(fields.last_run() as usize, rest)?;
     Some(after)
-}
-
-/// Reads the values of these fields at the start of the bytes, and returns them with the bytes after them. Returns
-/// `None` if the input is too short.
-pub fn read_values<'f, 'a>(
-    fields: &'f Fields,
-    bytes: &'a [u8],
-) -> Option<(FieldValues<'f, 'a>, &'a [u8])>
-    ensures { option_map (λ x. (x.0, x.1.now)) result ≡ values_at fields.now bytes.now }
-{
-    let rest = skip_values(fields, bytes)?;
-    let values = FieldValues {
-        specifiers: fields,
-        bytes,
-    };
-    Some((values, rest))
 }

@@ -17,19 +17,14 @@ loop-rest-init c = rw c.new-messages.ensures (record {
   table = rw c.new-table.ensures (sym (none_in_force no_templates));
 })
 
-pub returns-in_err-message-clause-fault : goal.returns-in_err-message-clause-fault
-returns-in_err-message-clause-fault c =
+pub returns-in_err-message : goal.returns-in_err-message
+returns-in_err-message c =
     let p = err_from_is_err_and c.from_residual.result c.from_residual.ensures.1 in
     let now = c.loop-rest.invariant in
     let base = length c.args.bytes.now - length c.loop-rest.rest.now in
     rw (p.1, p.2) (fault_kept _ _ c.in_err-message.field-0.0 (λ found.
     now.read ∙ messages_fault c.loop-rest.messages _ now.table _ now.counted base c.loop-rest.rest.now c.in_err-message.field-0.0 (not_empty c.loop-rest.rest.now (sym c.loop-rest-test.ensures)) found)
-    c.in_err-message.ensures.read).1
-
-pub returns-in_err-message-clause-of_bytes : goal.returns-in_err-message-clause-of_bytes
-returns-in_err-message-clause-of_bytes c =
-    let p = err_from_is_err_and c.from_residual.result c.from_residual.ensures.1 in
-    rw (p.1, p.2) c.in_err-message.ensures.read.0
+    c.in_err-message.ensures.read)
 
 pub loop-rest-preserved : goal.loop-rest-preserved
 loop-rest-preserved c =
@@ -44,6 +39,6 @@ loop-rest-preserved c =
       table = is.1 ∙ ap (λ templates. in_force templates (events_of_message c.in_ok-message.message)) now.table ∙ in_force_more events_of_message no_templates c.loop-rest.messages c.in_ok-message.message;
     })
 
-pub returns-clause-ok : goal.returns-clause-ok
-returns-clause-ok c =
+pub returns : goal.returns
+returns c =
     c.loop-rest.invariant.read ∙ messages_end c.loop-rest.messages _ c.loop-rest.rest.now (nil_from_length c.loop-rest.rest.now (eqb-true _ _ (sym c.loop-rest-test.ensures)))

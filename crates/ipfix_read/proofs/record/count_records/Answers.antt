@@ -1,12 +1,10 @@
-use Rattle.std.proofs.Common.{◌≡◌, ◌+◌, ◌*◌, ◌/◌, [], drop, length, ℕ, List, subst, sym, ap, ◌∙◌, length-drop, arith}
+use Rattle.std.proofs.Common.{◌≡◌, ◌+◌, ◌*◌, ◌/◌, [], drop, length, sym, ◌∙◌, length-drop, arith}
 use Rattle.std.proofs.Math.Nat.{div-mul-le_self}
 use Rattle.std.proofs.lemmas.Bool.{eqb-true}
 use Rattle.std.proofs.lemmas.List.{nil_from_length}
 use Rattle.ipfix_templates.specs.Field.{least_length}
-use Rattle.ipfix_templates.proofs.Choice.{mapped}
-use Rattle.ipfix_read.specs.Value.{values_at}
-use Rattle.ipfix_read.proofs.RecordValues.{HasRead, HasRoom, cut_off, few_end, few_left, fixed_read, none_end, none_from_left, none_read, one_read, packed, values_shorter}
-use Rattle.ipfix_read.proofs.data_set.count_records.Goals as goal
+use Rattle.ipfix_read.proofs.RecordValues.{HasRead, cut_off, few_end, few_left, fixed_read, none_end, none_read, one_read, packed, values_shorter}
+use Rattle.ipfix_read.proofs.record.count_records.Goals as goal
 
 -- records would be empty
 pub returns-then-least-eq0-clause-ok : goal.returns-then-least-eq0-clause-ok
@@ -42,7 +40,7 @@ overflow_sub-offset c = omega (arith, c.loop-rest.invariant.within)
 pub returns-in_default-clause-fault : goal.returns-in_default-clause-fault
 returns-in_default-clause-fault c =
     rw c.at.ensures (cut_off c.args.template.now c.args.base c.args.bytes.now c.loop-rest.count c.loop-rest.rest.now c.loop-rest.invariant
-    (omega (arith, c.least_length-least.ensures), omega (arith, c.least_length-least.ensures)) (none_from_left _ c.in_default.ensures))
+    (omega (arith, c.least_length-least.ensures), omega (arith, c.least_length-least.ensures)) (sym c.in_default.ensures))
 
 pub overflow_add-count : goal.overflow_add-count
 overflow_add-count c = omega (arith, c.loop-rest.invariant.within)
@@ -51,19 +49,12 @@ pub loop-rest-init : goal.loop-rest-init
 loop-rest-init c = none_read c.args.template.now c.args.base c.args.bytes.now
 
 pub loop-rest-smaller : goal.loop-rest-smaller
-loop-rest-smaller c =
-    let t = c.args.template.now in
-    let m = mapped (values_at t.fields c.loop-rest.rest.now) (λ x. x.1) c.in-Some.after.now (sym c.in-Some.ensures) in
-    omega (arith, values_shorter t.fields c.loop-rest.rest.now m.0 m.1, ap length m.2, c.least_length-least.ensures)
+loop-rest-smaller c = omega (arith, values_shorter c.args.template.now.fields c.loop-rest.rest.now _ (sym c.in-Some.ensures), c.least_length-least.ensures)
 
 pub loop-rest-preserved : goal.loop-rest-preserved
 loop-rest-preserved c =
-    let t = c.args.template.now in
-    let rest = c.loop-rest.rest.now in
-    let m = mapped (values_at t.fields rest) (λ x. x.1) c.in-Some.after.now (sym c.in-Some.ensures) in
-    let room : HasRoom t rest = (omega (arith, c.least_length-least.ensures), omega (arith, c.least_length-least.ensures)) in
-    subst (λ (after : List ℕ). HasRead t c.args.base c.args.bytes.now (c.loop-rest.count + 1) after) m.2
-    (one_read t c.args.base c.args.bytes.now c.loop-rest.count (c.loop-rest.count + 1) rest m.0 c.loop-rest.invariant room m.1 (omega arith))
+    one_read c.args.template.now c.args.base c.args.bytes.now c.loop-rest.count (c.loop-rest.count + 1) c.loop-rest.rest.now _ c.loop-rest.invariant
+    (omega (arith, c.least_length-least.ensures), omega (arith, c.least_length-least.ensures)) (sym c.in-Some.ensures) (omega arith)
 
 pub returns-clause-ok : goal.returns-clause-ok
 returns-clause-ok c =

@@ -1,6 +1,6 @@
 use Rattle.std.proofs.Common.{length}
 use Rattle.ipfix_read.proofs.RecordValues.{HasRead}
-use Rattle.ipfix_read.proofs.data_set.count_records.Given as goal
+use Rattle.ipfix_read.proofs.record.count_records.Given as goal
 
 abbrev pub invariant-loop-rest : goal.invariant-loop-rest
 invariant-loop-rest l = HasRead l.template l.base l.bytes l.count l.rest
