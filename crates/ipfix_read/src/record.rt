@@ -169,7 +169,7 @@ pub fn read_data_set<'a>(
     let count = count_records(template, bytes, base)?;
     Ok(RecordList {
         kind: template.kind,
-        specifiers: template.fields.copy()?,
+        specifiers: template.fields.clone()?,
         bytes,
         count,
     })

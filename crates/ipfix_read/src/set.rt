@@ -44,7 +44,7 @@ fn apply_events(
 {
     for event in events.as_slice() {
         match event {
-            TemplateEvent::Define(template) => table.set(domain, template.copy()?)?,
+            TemplateEvent::Define(template) => table.set(domain, template.clone()?)?,
             TemplateEvent::Withdraw(id) => table.withdraw(domain, *id),
             TemplateEvent::WithdrawAll(kind) => table.withdraw_all(domain, *kind),
         }

@@ -9,19 +9,10 @@ use std::alloc::{AllocError, Global};
 use std::marker::Model;
 
 /// The templates of each observation domain, by their IDs. `template_at` is the template at a domain and an ID.
+#[derive(Drop)]
 pub struct TemplateTable {
     flow: KindTable,
     options: KindTable,
-}
-
-// A drop is one call, so the proofs of functions that drop this type have one step instead of one for each part.
-impl Drop for TemplateTable {
-    fn drop(self) {
-        let TemplateTable {
-            flow: _,
-            options: _,
-        } = self;
-    }
 }
 
 impl Model for TemplateTable {

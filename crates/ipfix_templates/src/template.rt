@@ -1,12 +1,11 @@
-ghost use Rattle.std.specs.Prelude.{◌≡◌, IfOk};
+ghost use Rattle.std.specs.Prelude.{◌≡◌};
 ghost use Rattle.ipfix_templates.specs.Field.{least_length};
 
 use crate::fields::Fields;
 use crate::kind::Kind;
-use std::alloc::AllocError;
 
 /// A template (RFC 7011 section 3.4).
-#[derive(Drop)]
+#[derive(Clone, Drop)]
 pub struct Template {
     /// The template ID.
     pub id: u16,
@@ -25,17 +24,5 @@ impl Template {
         ensures { result ≡ least_length self.now.fields }
     {
         self.fields.least_length()
-    }
-
-    /// Returns a copy of the template. The fields are shared, so the copy allocates no memory for them.
-    pub fn copy(&self) -> Result<Template, AllocError>
-        ensures { IfOk result (λ template. template ≡ self.now) }
-    {
-        Ok(Template {
-            id: self.id,
-            kind: self.kind,
-            scope_count: self.scope_count,
-            fields: self.fields.copy()?,
-        })
     }
 }

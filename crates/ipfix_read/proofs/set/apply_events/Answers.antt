@@ -1,11 +1,12 @@
-use Rattle.std.proofs.Common.{List, sym, ap, ◌∙◌}
+use Rattle.std.proofs.Common.{List, Some, rules, sym, ap, ◌∙◌}
 use Rattle.std.proofs.lemmas.List.{take_all}
 use Rattle.ipfix_templates.specs.declared.event.TemplateEvent.{TemplateEvent}
-use Rattle.ipfix_templates.specs.InForce.{in_force, template_at}
+use Rattle.ipfix_templates.specs.InForce.{changed_at, in_force, template_at}
+use Rattle.ipfix_templates.specs.declared.template.Template.{Template}
 use Rattle.ipfix_read.specs.Set.{in_domain}
 use Rattle.ipfix_read.proofs.Sets.{none_in_force, one_in_force}
 use Rattle.ipfix_read.proofs.set.apply_events.Goals as goal
-use Rattle.ipfix_read.proofs.set.apply_events.Goals.{in-Define+in_ok-copy-in-Define+in_ok-set-in-Define, in-Withdraw, in-WithdrawAll}
+use Rattle.ipfix_read.proofs.set.apply_events.Goals.{in-Define+in_ok-clone-in-Define+in_ok-set-in-Define, in-Withdraw, in-WithdrawAll}
 
 pub loop-event-init : goal.loop-event-init
 loop-event-init c = sym (none_in_force (template_at c.args.table.now))
@@ -15,7 +16,7 @@ loop-event-preserved c =
     let more = one_in_force (template_at c.args.table.now) c.args.domain c.as_slice-event-items.result.now c.loop-event.event-index c.event-item.result c.loop-event-test.true in
     let before = c.loop-event.invariant in
     rw (← more, ← before) (elim c.match-event.branch [
-      | in-Define+in_ok-copy-in-Define+in_ok-set-in-Define w ↦ rw (w.table-is, ← c.event-item.is, w.in-Define.is) (rw w.in_ok-copy-in-Define.ensures at w.in_ok-set-in-Define.ensures.ok)
+      | in-Define+in_ok-clone-in-Define+in_ok-set-in-Define w ↦ rw (w.table-is, ← c.event-item.is, w.in-Define.is) (w.in_ok-set-in-Define.ensures.ok ∙ ap (λ (t : Template). changed_at (template_at c.loop-event.table) c.args.domain t.id (Some t)) (search rules))
       | in-Withdraw w ↦ rw (w.table-is, ← c.event-item.is, w.in-Withdraw.is) w.withdraw.ensures
       | in-WithdrawAll w ↦ rw (w.table-is, ← c.event-item.is, w.in-WithdrawAll.is) w.withdraw_all.ensures
     ])
