@@ -1,5 +1,5 @@
 -- The trie of a prefix list's statements.
-use Rattle.std.proofs.Common.{◌≡◌, ℕ, suc, ◌+◌, ◌-◌, ◌*◌, ◌/◌, ◌<◌, ◌≤◌, ◌==◌, ◌&&◌, inl, inr, Bool, true, false, List, [], ◌∷◌, Option, None, Some, map, length, nat_lt, refl, sym, ap, subst, ◌∙◌, arith, All, eq-eqb}
+use Rattle.std.proofs.Common.{◌≡◌, ℕ, suc, ◌+◌, ◌-◌, ◌*◌, ◌/◌, ◌<◌, ◌≤◌, ◌==◌, ◌&&◌, inl, inr, Bool, true, false, List, [], ◌∷◌, Option, None, Some, map, length, nat_lt, refl, sym, ap, subst, ◌∙◌, arith, All, eq-eqb, mul-div_cancel, option_map, pow_pos, ◌-◌}
 use Rattle.std.specs.List.{AllZip}
 use Rattle.std.specs.List.Sorted.{IsPermutation}
 use Rattle.std.proofs.Math.Nat.{mul-le-mul_right}
@@ -10,17 +10,20 @@ use Rattle.std.proofs.lemmas.List.Elements.{All-head, All-map, All-tail, All-wea
 use Rattle.std.proofs.lemmas.List.Sorted.{All-permutation, IsPermutation-map, IsPermutation-sym, length_permutation}
 use Rattle.std.proofs.lemmas.Option.{none-some}
 use Rattle.prefix_keys.specs.Block.{block_number, first_of, last_of, width_of}
-use Rattle.pmap_text.specs.ListModel.{Prefix, lies_inside}
+use Rattle.prefix_keys.specs.declared.version.Version.{Version}
+use Rattle.pmap_text.specs.ListModel.{ListModel, Prefix, lies_inside}
 use Rattle.pmap_text.specs.MapModel.{Label, Mapping, last_such, meets, settled_by, spans_all}
 use Rattle.pmap_text.specs.PrefixList.{list_of, prefix_of, AreShortestFirst, HasStatement}
-use Rattle.pmap_text.specs.Settled.{IsMapOf, one_if}
+use Rattle.pmap_text.specs.Settled.{IsMapOf, Settles, one_if}
 use Rattle.pmap_text.specs.Stretches.{AreStretches, StretchesModel, label_at}
 use Rattle.pmap_text.specs.Windows.{number_at}
+use Rattle.pmap_text.specs.MapText.{text_at}
+use Rattle.pmap_text.specs.declared.label.LabelId.{LabelId}
 use Rattle.pmap_text.specs.declared.entry.Entry.{Entry}
 use Rattle.pmap_text.specs.declared.prefix_list.PrefixList.{PrefixList}
 use Rattle.pmap_text.specs.declared.statement.Statement.{Statement}
 use Rattle.label_trie.specs.Leaves.{leaves_in}
-use Rattle.label_trie.specs.TrieModel.{IsDecidedLeaf}
+use Rattle.label_trie.specs.TrieModel.{IsDecidedLeaf, LeafModel}
 use Rattle.pmap_text.proofs.Blocks.{address-between, address-first, address-last, block_number-first_of, block_number-half, block_number-shorter}
 use Rattle.pmap_text.proofs.LastSuch.{last_such-cases}
 use Rattle.pmap_text.proofs.ListPainted.{list_blocks, zip_all, zip_length, zip_mappings}
@@ -28,9 +31,35 @@ use Rattle.pmap_text.proofs.Orders.{both_le, le_both}
 use Rattle.pmap_text.proofs.SeenBlocks.{met_address}
 use Rattle.pmap_text.proofs.Settling.{window_settled, window_unsettled}
 use Rattle.label_trie.proofs.Leaves.{each_leaf, leaves_most}
-use Rattle.label_trie.proofs.SeenLeaves.{IsSeenLeaf, leaf_decided, seen}
-use Rattle.pmap_text.proofs.Painted.{IsAscending, painted, painting, ascending, seen_permuted}
+use Rattle.pmap_text.proofs.Longest.{AreBlocks, known_seen, label_seen, none_inside}
+use Rattle.pmap_text.proofs.Painted.{IsAscending, IsSeen, painted, painting, ascending, seen_by, seen_permuted, unmet}
 use Rattle.pmap_text.proofs.Windows.{block_some}
+
+-- the label that settles a block of each painting of prefixes is seen there
+seen : (version : Version) (table : List Label) (ps : List Prefix) (label : Option LabelId) (n q : ℕ) → IsAscending (width_of version) ps
+    → ((fallback : Label) → Settles (painting version table ps fallback) label n q)
+    → IsSeen (width_of version) table ps n q (option_map (λ id. id.0) label)
+seen version table ps None n q up f = unmet (width_of version) n q ps (f [])
+seen version table ps (Some id) n q up f =
+    let W = width_of version in
+    let known : id.0 < length table = (f []).0 in
+    (known, seen_by W n q ps (text_at table id.0) up (last_such (meets W n q) (map (painted W) ps)) refl (λ fallback. (f fallback).1))
+
+-- it is seen at the leaf
+abbrev IsSeenLeaf : ℕ → List Label → List Prefix → LeafModel → Type 0
+IsSeenLeaf W table ps leaf = IsSeen W table ps leaf.bits leaf.number leaf.label
+
+-- a leaf at which the list's label is seen is decided by the list
+leaf_decided : (l : ListModel) (leaf : LeafModel) → AreBlocks (width_of l.version) l.prefixes
+    → IsSeen (width_of l.version) l.table l.prefixes leaf.bits leaf.number leaf.label → IsDecidedLeaf l leaf
+leaf_decided l leaf blocks f =
+    let W = width_of l.version in
+    record {
+      inside = none_inside W l.table l.prefixes leaf.bits leaf.number leaf.label blocks f;
+      longest = label_seen W l.table l.prefixes leaf.bits leaf.number (first_of W leaf.bits leaf.number) (suc leaf.bits) leaf.label blocks
+          (sym (mul-div_cancel leaf.number (pow_pos (W - leaf.bits)))) (λ bits most fits. omega (arith, most)) f;
+      known = known_seen W l.table l.prefixes leaf.bits leaf.number leaf.label f;
+    }
 
 -- the number of prefixes strictly inside a block
 inside : ℕ → List Prefix → ℕ → ℕ → ℕ

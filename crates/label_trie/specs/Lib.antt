@@ -1,4 +1,3 @@
 pub mod TrieModel
 pub mod Parts
-pub mod Tree
 pub mod Leaves

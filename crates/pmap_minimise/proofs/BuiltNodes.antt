@@ -1,37 +1,33 @@
 -- What a block adds to the lines of the compact certificate that is built.
-use Rattle.std.proofs.Common.{◌≡◌, ℕ, zero, suc, ◌+◌, ◌-◌, ◌^◌, ◌<◌, ◌≤◌, ◌∙◌, inl, inr, cond, List, [], ◌∷◌, ◌++◌, Option, Some, None, IsSome, length, reverse, slice_index_or, get_or, refl, sym, ap, subst, arith, length-append}
+use Rattle.std.proofs.Common.{◌≡◌, ℕ, zero, suc, ◌+◌, ◌-◌, ◌^◌, ◌<◌, ◌≤◌, ◌∙◌, inl, inr, cond, List, [], ◌∷◌, ◌++◌, Option, Some, None, length, reverse, slice_index_or, get_or, refl, sym, ap, subst, arith, length-append}
 use Rattle.std.specs.Option.{option_or}
 use Rattle.std.proofs.Math.Seq.{get_or-append_seam}
 use Rattle.std.proofs.Math.Nat.{mul-le-mul_right, zero-div}
 use Rattle.std.proofs.lemmas.List.{append_assoc, append-nil, reverse-append, reverse-reverse}
 use Rattle.std.proofs.lemmas.Option.{none-some, same_Some}
 use Rattle.prefix_keys.specs.Block.{block_number, width_of}
-use Rattle.prefix_keys.specs.declared.version.Version.{Version}
 use Rattle.pmap_text.specs.MapText.{map_of}
-use Rattle.pmap_text.specs.Stretches.{AreStretches, StretchesModel, label_at, label_seen}
-use Rattle.pmap_text.specs.declared.statement.Statement.{Statement}
-use Rattle.pmap_text.specs.declared.label.LabelId.{LabelId}
+use Rattle.pmap_text.specs.Stretches.{AreStretches, StretchesModel}
 use Rattle.pmap_text.specs.declared.map_text.MapText.{MapText}
 use Rattle.pmap_cert.specs.FormatReading.{ChainLine, DueLine, InnerLine, LeafLine}
 use Rattle.pmap_cert.specs.Node.{Chain, Inner, Leaf, Node, cost_of, label_of, lines_of, node_of, set_of}
 use Rattle.pmap_cert.specs.CertificateText.{IsAscending}
 use Rattle.pmap_cert.specs.Inner.{IsCompactNode, bits_down, end_down, side_below}
 use Rattle.pmap_cert.proofs.CompactNodes.{compact-chain, compact-leaf, compact-none, compact-short}
-use Rattle.label_trie.specs.Tree.{Fork, Tip, Tree, leaves_of}
-use Rattle.pmap_text.specs.Settled.{IsMapOf, divisions}
+use Rattle.pmap_text.specs.MapModel.{MapModel}
+use Rattle.pmap_text.specs.Label.{IsLabelTable}
 use Rattle.pmap_text.proofs.Ends.{ends_most}
 use Rattle.pmap_text.proofs.Settling.{map_is}
-use Rattle.label_trie.proofs.NodeLeaves.{fits_HasRoom, leaves_settled, leaves_undivided, length_leaves}
-use Rattle.pmap_minimise.specs.Runs.{AreCountable, AreCountedHalves, IsCounted, IsChoice, IsMade, IsRun, IsRunTo, IsStop, IsTreeOf, own_label}
+use Rattle.pmap_minimise.specs.Runs.{AreCountable, AreCountedHalves, IsCounted, IsChoice, IsMade, IsMapOn, IsRun, IsRunTo, IsStop, own_label}
 use Rattle.pmap_text.specs.Windows.{IsWindow, number_at}
 use Rattle.pmap_text.specs.declared.window.Window.{Window}
-use Rattle.pmap_minimise.specs.Built.{AddsInner, AreHalves, IsBuilt, IsBuiltFor, IsBuiltOf, IsBuiltOn, last_node, node_at}
+use Rattle.pmap_minimise.specs.Built.{AddsInner, AreHalves, IsBuilt, IsBuiltIn, last_node, node_at}
 use Rattle.pmap_minimise.specs.Opened.{Opens, cost_above, path_node}
 use Rattle.pmap_cert.specs.Paths.{path_to}
 use Rattle.pmap_cert.proofs.Paths.{path-length}
-use Rattle.pmap_minimise.specs.Numbers.{IsExact, IsExactBy, common_numbers, has_number}
-use Rattle.pmap_minimise.proofs.MadeNodes.{AreSameHalves, counted-sum, halves-made, leaf-made, made-side, made-stop, run-below, run-down, run-made, same-halves, path_tree}
-use Rattle.pmap_minimise.proofs.TreeNodes.{node-cost, tree-certified}
+use Rattle.pmap_minimise.specs.Numbers.{IsExact, IsExactBy, IsSound, common_numbers, has_number}
+use Rattle.pmap_minimise.proofs.MadeNodes.{AreSameHalves, halves-made, leaf-made, made-side, made-stop, run-below, run-down, run-made, same-halves}
+use Rattle.pmap_minimise.proofs.Joined.{moved}
 use Rattle.pmap_minimise.proofs.Texts.{exact-ascending}
 use Rattle.prefix_keys.proofs.Groups.{width-le}
 use Rattle.pmap_minimise.proofs.Paths.{down-high, down-low, path-cost, path-set}
@@ -148,7 +144,6 @@ before-claim s low high old middle new above below =
 pub leaf-built : (s : StretchesModel) (a : Window) (n : ℕ) (old new : List DueLine) → IsCounted s a → own_label s a ≡ Some n → n < 2 ^ 32 → new ≡ old ++ LeafLine n ∷ []
     → IsBuilt s a old new
 leaf-built s a n old new is own fits lines = record {
-  tree = Tip (Some (record { 0 = n }));
   node = Leaf n;
   compact = Leaf n;
   made = leaf-made s a n is own fits;
@@ -157,13 +152,6 @@ leaf-built s a n old new is own fits lines = record {
   lines_are = lines;
 }
 
--- the sum that bounds the leaves of a block also bounds the cost of its node
-pub made-cost : (s : StretchesModel) (a : Window) (tree : Tree) (node : Node) (is : IsCounted s a) → IsMade s a tree node
-    → cost_of node ≤ divisions s a is.few.statements
-made-cost s a tree node is made =
-    let few = (made.tree_of is.few.statements is.few.default is.few.stretches).few in
-    omega (arith, few, node-cost tree node made.node_is)
-
 -- a node with a label is a leaf
 leaf-of : (node : Node) (n : ℕ) → label_of node ≡ Some n → node ≡ Leaf n
 leaf-of (Leaf m) n is = ap Leaf (same_Some m n is)
@@ -171,19 +159,18 @@ leaf-of (Inner cost set lower upper) n is = absurd (none-some n is)
 leaf-of (Chain cost set bits side end) n is = absurd (none-some n is)
 
 -- The node of two halves.
-module _ (s : StretchesModel) (a low high : Window) (low_tree high_tree : Tree) (lower upper : Node) (are : AreCountedHalves s a low high)
-    (low_made : IsMade s low low_tree lower) (high_made : IsMade s high high_tree upper) where
+module _ (s : StretchesModel) (a low high : Window) (lower upper : Node) (are : AreCountedHalves s a low high) (low_made : IsMade s low lower) (high_made : IsMade s high upper) where
   -- the run of the node has at most one bit if that of the block has
-  short-run : (tree : Tree) (cost : ℕ) (set : List ℕ) (side : ℕ) (end : Window) → IsMade s a tree (Inner cost set lower upper) → (run : IsRunTo s side a end) → run.count < 2
+  short-run : (cost : ℕ) (set : List ℕ) (side : ℕ) (end : Window) → IsMade s a (Inner cost set lower upper) → (run : IsRunTo s side a end) → run.count < 2
       → length (bits_down side (Inner cost set lower upper)) < 2
-  short-run tree cost set side end made run few = by run.count few run.run
+  short-run cost set side end made run few = by run.count few run.run
     where
       whole : Node
       whole = Inner cost set lower upper
 
       by : (count : ℕ) → count < 2 → IsRun s side count a end → length (bits_down side whole) < 2
       by zero few is =
-          let none = made-stop s side a tree whole made (subst (IsStop s side) is run.stop) in
+          let none = made-stop s side a whole made (subst (IsStop s side) is run.stop) in
           let count = ap length none.0 in
           omega arith
       by (suc zero) few is = go is.1.choice
@@ -196,14 +183,14 @@ module _ (s : StretchesModel) (a low high : Window) (low_tree high_tree : Tree) 
 
           go : IsChoice s side is.1.low is.1.high is.0 → length (bits_down side whole) < 2
           go (inl up) =
-              let none = made-stop s side high high_tree upper high_made (own high (up.0 ∙ same.high_is)) in
+              let none = made-stop s side high upper high_made (own high (up.0 ∙ same.high_is)) in
               let leaf : lower ≡ Leaf side = leaf-of lower side (low_made.own ∙ ap (own_label s) (sym same.low_is) ∙ up.1) in
               let bits = ap (λ (n : Node). bits_down side (Inner cost set n upper)) leaf ∙ (down-high side cost set upper).0 in
               let count = ap length bits in
               let count' = ap length none.0 in
               omega arith
           go (inr down) =
-              let none = made-stop s side low low_tree lower low_made (own low (down.0 ∙ same.low_is)) in
+              let none = made-stop s side low lower low_made (own low (down.0 ∙ same.low_is)) in
               let leaf : upper ≡ Leaf side = leaf-of upper side (high_made.own ∙ ap (own_label s) (sym same.high_is) ∙ down.2) in
               let bits = ap (λ (n : Node). bits_down side (Inner cost set lower n)) leaf
               ∙ (down-low side cost set lower (λ e. down.1 (ap (own_label s) same.low_is ∙ sym low_made.own ∙ e))).0 in
@@ -223,12 +210,11 @@ pub halves-built : (s : StretchesModel) (a low high : Window) (old middle after 
     → IsBuilt s a old new
 halves-built s a low high old middle after new is are short upper lower adds =
     let exact = halves-exact after (length middle - 1) lower.node upper.node adds.cost adds.set (built-claim s low middle after lower) (before-claim s low high old middle after upper lower) adds.exact in
-    let made = halves-made s a low high lower.tree upper.tree lower.node upper.node adds.cost adds.set is are lower.made upper.made exact
+    let made = halves-made s a low high lower.node upper.node is are lower.made upper.made adds.cost adds.set exact
     (exact-ascending (2 ^ 32) (cost_of lower.node) (cost_of upper.node) (set_of lower.node) (set_of upper.node) adds.cost adds.set lower.made.ascending upper.made.ascending exact) in
     let labels : option_or (label_of lower.node) (label_of upper.node) ≡ option_or (own_label s low) (own_label s high) =
     (λ i. option_or (lower.made.own i) (upper.made.own i)) in
     record {
-      tree = Fork lower.tree upper.tree;
       node = Inner adds.cost adds.set lower.node upper.node;
       compact = Inner adds.cost adds.set lower.compact upper.compact;
       made = made;
@@ -237,13 +223,13 @@ halves-built s a low high old middle after new is are short upper lower adds =
       lines_are = inner-lines old middle after new adds.cost adds.set lower.compact upper.compact upper.lines_are lower.lines_are adds.lines_are;
     }
   where
-    go : {tree : Tree} → IsMade s a tree (Inner adds.cost adds.set lower.node upper.node) → (o : Option ℕ)
+    go : IsMade s a (Inner adds.cost adds.set lower.node upper.node) → (o : Option ℕ)
         → option_or (label_of lower.node) (label_of upper.node) ≡ o → IsShortRun s a o
         → IsCompactNode (Inner adds.cost adds.set lower.node upper.node) (Inner adds.cost adds.set lower.compact upper.compact)
     go made None e short = compact-none adds.cost adds.set lower.node upper.node lower.compact upper.compact lower.compact_is upper.compact_is e
-    go {tree} made (Some side) e short =
+    go made (Some side) e short =
         compact-short adds.cost adds.set lower.node upper.node lower.compact upper.compact lower.compact_is upper.compact_is side e
-        (short-run s a low high lower.tree upper.tree lower.node upper.node are lower.made upper.made tree adds.cost adds.set side short.0 made short.1 short.2)
+        (short-run s a low high lower.node upper.node are lower.made upper.made adds.cost adds.set side short.0 made short.1 short.2)
 
 -- a chain's line completes a block from which a run of two bits or more leads to its end
 pub chain-built : (s : StretchesModel) (a low high end : Window) (old middle new : List DueLine) (side number bits : ℕ) → IsCounted s a → AreCountedHalves s a low high
@@ -255,8 +241,8 @@ chain-built s a low high end old middle new side number bits is are label fits r
     let value : ℕ = number_at s end in
     let count : ℕ = run.count in
     let node : Node = path_node side value count built.node in
-    let made = run-made s side fits end built.tree built.node built.made count a is run.run in
-    let down = run-down s side fits end built.tree built.node built.made run.stop count a is run.run in
+    let made = run-made s side fits end built.node built.made count a is run.run in
+    let down = run-down s side fits end built.node built.made run.stop count a is run.run in
     let parts = made.halves are.divided in
     let claim = built-claim s end old middle built in
     let cost : cost_above side (last_node middle) ≡ cost_above side built.node =
@@ -277,9 +263,8 @@ chain-built s a low high end old middle new side number bits is are label fits r
     let parts_cost : cost_above side built.node ≡ parts.cost = opens-cost compact node opens ∙ ap cost_of parts.node_is in
     let parts_set : side ∷ [] ≡ parts.set = opens-set compact node opens ∙ ap set_of parts.node_is in
     let sides : option_or (label_of parts.lower) (label_of parts.upper) ≡ Some side =
-    sym (ap side_below parts.node_is) ∙ made-side s a low high (path_tree side value count built.tree) node made are ∙ label in
+    sym (ap side_below parts.node_is) ∙ made-side s a low high node made are ∙ label in
     record {
-      tree = path_tree side value count built.tree;
       node = node;
       compact = compact;
       made = made;
@@ -299,73 +284,32 @@ chain-built s a low high end old middle new side number bits is are label fits r
 pub reversed-lines : (old new : List DueLine) (node : Node) → old ≡ [] → new ≡ old ++ reverse (lines_of node) → reverse new ≡ lines_of node
 reversed-lines old new node none is = ap reverse (is ∙ ap (λ (l : List DueLine). l ++ reverse (lines_of node)) none) ∙ reverse-reverse (lines_of node)
 
--- what is built for the whole address space is the node of each map of the stretches
-pub whole-built : (s : StretchesModel) (a : Window) (old new : List DueLine) (root : Node) → AreCountable s → a.first ≡ 0 → a.len ≡ 0 → old ≡ [] → IsBuilt s a old new
-    → ((node : Node) → reverse new ≡ lines_of node → root ≡ node) → IsBuiltOn s root
-whole-built s a old new root can first len none built root_is =
-    subst (IsBuiltOn s) (sym (root_is built.compact (reversed-lines old new built.compact none built.lines_are)))
-    (let few = (tree_is can.statements can.default can.stretches).few in
-    let most = mul-le-mul_right (length can.statements) (width-le s.version) in
-    record {
-      leaves = leaves_of built.tree 0 0;
+whole-window : (s : StretchesModel) (a : Window) → a.first ≡ 0 → number_at s a ≡ 0
+whole-window s a first =
+    let W = width_of s.version in
+    ap (λ (x : ℕ). block_number W a.len x) first ∙ zero-div (2 ^ (W - a.len))
+
+-- what is built for the whole address space is the node of each map on the stretches
+pub whole-built : (s : StretchesModel) (a : Window) (old new : List DueLine) (root : Node) → a.first ≡ 0 → a.len ≡ 0 → old ≡ [] → IsBuilt s a old new
+    → ((node : Node) → reverse new ≡ lines_of node → root ≡ node) → (m : MapModel) → IsMapOn s m → IsBuiltIn m root
+whole-built s a old new root first len none built root_is m on =
+    let room : width_of s.version - a.len ≡ width_of m.version = omega (arith, len, on.is.width) in
+    subst (IsBuiltIn m) (sym (root_is built.compact (reversed-lines old new built.compact none built.lines_are)))
+    (record {
+      table = on.table;
       node = built.node;
-      settled = λ ss default m are some is.
-          let tree = tree_is ss default are in
-          (leaves_settled m built.tree (tree.fits m is) (tree.labelled some), leaves_undivided m built.tree (tree.fits m is) (tree.labelled some));
-      built = record {
-        certified =
-            tree-certified built.tree 0 0 (width_of s.version) built.node (fits_HasRoom can.map built.tree 0 0 (width_of s.version) room ((tree_is can.statements can.default can.stretches).fits can.map can.is)) built.made.node_is
-            (omega (arith, length_leaves built.tree 0 0, few, ends_most (width_of s.version) can.statements, most, can.few));
-        compact_is = built.compact_is;
-        opens = built.opens;
-      };
+      is = moved m _ _ _ _ _ _ built.node len (whole-window s a first) room (built.made.each m on);
+      sound = subst (IsSound built.node) room built.made.sound;
+      compact_is = built.compact_is;
+      opens = built.opens;
     })
-  where
-    room : width_of s.version + 0 ≡ width_of can.map.version
-    room = omega (arith, can.is.width)
 
-    tree_is : (ss : List Statement) (default : Option LabelId) → AreStretches ss default s → IsTreeOf s.version ss default 0 0 built.tree
-    tree_is ss default are =
-        let number : number_at s a ≡ 0 = ap (λ (x : ℕ). block_number (width_of s.version) a.len x) first ∙ zero-div (2 ^ (width_of s.version - a.len)) in
-        subst (λ (n : ℕ). IsTreeOf s.version ss default n 0 built.tree) len (subst (λ (q : ℕ). IsTreeOf s.version ss default a.len q built.tree) number (built.made.tree_of ss default are))
+-- a map's stretches are those of the map, and can be counted
+pub map-countable : (m : MapText) (s : StretchesModel) → AreStretches m.statements (Some m.default) s → AreCountable s
+map-countable m s are = record { statements = m.statements; default = Some m.default; labelled = refl; stretches = are; few = omega (arith, m.within_limit) }
 
-map-is : (m : MapText) (s : StretchesModel) → s.version ≡ m.version → IsMapOf (width_of s.version) m.statements (Some m.default) (map_of m)
-map-is m s version = subst (λ (v : Version). IsMapOf (width_of v) m.statements (Some m.default) (map_of m)) (sym version) (map_is m)
-
--- the stretches of a map can be counted
-pub map-countable : (m : MapText) (s : StretchesModel) → s.version ≡ m.version → AreStretches m.statements (Some m.default) s → AreCountable s
-map-countable m s version are = record {
-  statements = m.statements;
-  default = Some m.default;
-  labelled = refl;
-  stretches = are;
-  map = map_of m;
-  is = map-is m s version;
-  few = omega (arith, m.within_limit);
-}
-
--- what is built on the stretches of a map is the map's
-pub map-built : (m : MapText) (s : StretchesModel) (compact : Node) → s.version ≡ m.version → AreStretches m.statements (Some m.default) s → IsBuiltOn s compact → IsBuiltFor m compact
-map-built m s compact version are built =
-    let settled = built.settled m.statements (Some m.default) (map_of m) are refl (map-is m s version) in
-    record {
-      leaves = built.leaves;
-      node = built.node;
-      settled = settled.0;
-      undivided = settled.1;
-      built = subst (λ (v : Version). IsBuiltOf v built.leaves compact built.node) version built.built;
-    }
-
--- a block's first stretch has a label
-pub window-label : (s : StretchesModel) (a : Window) → IsCounted s a → label_at s a.from ≡ None → ⊥
-window-label s a is none =
-    let stretch = is.few.stretches.each a.from is.window.start.index in
-    seen is.few.default stretch.top is.few.labelled (sym stretch.label_is ∙ none)
-  where
-    seen : (default : Option LabelId) (top : Option Statement) → IsSome default → label_seen default top ≡ None → ⊥
-    seen (Some id) None some e = absurd (none-some id (sym e))
-    seen None None some e = absurd cc
-    seen default (Some x) some e = absurd (none-some x.label (sym e))
+pub map-on : (m : MapText) (s : StretchesModel) → s.version ≡ m.version → AreStretches m.statements (Some m.default) s → IsLabelTable m.labels → IsMapOn s (map_of m)
+map-on m s version are ok = record { statements = m.statements; default = Some m.default; stretches = are; is = rw version (map_is m); table = ok }
 
 -- the end of a run of two bits or more has fewer addresses than the run's first block
 pub end-smaller : (s : StretchesModel) (a end : Window) (side : ℕ) → IsCounted s a → (run : IsRunTo s side a end) → 2 ≤ run.count → end.last - end.first + 2 ≤ a.last - a.first
@@ -374,22 +318,11 @@ end-smaller s a end side is run more =
     let smaller = below.smaller in
     omega arith
 
--- the costs of two halves and one more can be counted
-pub both-cost : (s : StretchesModel) (a low high : Window) (low_tree high_tree : Tree) (lower upper : Node) (is : IsCounted s a) → AreCountedHalves s a low high
-    → IsMade s low low_tree lower → IsMade s high high_tree upper → cost_of lower + cost_of upper + 1 < 2 ^ 32
-both-cost s a low high low_tree high_tree lower upper is are low_made high_made =
-    let ss = is.few.statements in
-    let low_few = (low_made.tree_of ss is.few.default is.few.stretches).few in
-    let high_few = (high_made.tree_of ss is.few.default is.few.stretches).few in
-    let sum = counted-sum s a is are.divided low high are.halves in
-    let few = is.few.few in
-    omega (arith, low_few, high_few, sum, few, node-cost low_tree lower low_made.node_is, node-cost high_tree upper high_made.node_is)
-
 -- the leaves of the window of all addresses can be counted
 pub whole-counted : (s : StretchesModel) (a : Window) → AreCountable s → IsWindow s a → a.first ≡ 0 → a.len ≡ 0 → IsCounted s a
 whole-counted s a can window first len =
     let W = width_of s.version in
-    let number : number_at s a ≡ 0 = ap (λ (x : ℕ). block_number W a.len x) first ∙ zero-div (2 ^ (W - a.len)) in
+    let number = whole-window s a first in
     let most = mul-le-mul_right (length can.statements) (width-le s.version) in
     record {
       window = window;

@@ -23,7 +23,7 @@ use Rattle.pmap_cert.specs.Node.{Chain, HasNumberForm, Inner, Leaf, Node, set_of
 use Rattle.label_trie.specs.TrieModel.{number_of}
 use Rattle.label_trie.specs.Parts.{IsHalf}
 use Rattle.pmap_minimise.specs.Listing.{AddsEntries, IsEntryOf, text_of}
-use Rattle.pmap_minimise.specs.Numbers.{IsOwn, IsOwnBy, IsSound, keeps, numbers_of}
+use Rattle.pmap_minimise.specs.Numbers.{IsOwn, IsOwnBy, keeps, numbers_of}
 use Rattle.pmap_minimise.proofs.Joined.{half-room}
 use Rattle.pmap_minimise.proofs.Texts.{keeps-texts, least-texts}
 
@@ -174,16 +174,3 @@ inner-adds (Inner cost set l r) left right block low high inherited old new0 new
         let b = half-room 1 block high high_half in
         subst (λ (n : Node). HasNumberForm count n (width_of high.version - high.len)) halves.1
         (subst (λ (k : ℕ). HasNumberForm count r k) (omega arith) form)
-
--- the halves of a sound node are sound
-pub sound-halves : (node left right : Node) (block low high : Block) → HasHalves node left right → IsHalf 0 block low → IsHalf 1 block high
-    → IsSound node (width_of block.version - block.len) → IsSound left (width_of low.version - low.len) × IsSound right (width_of high.version - high.len)
-sound-halves (Leaf x) left right block low high halves low_half high_half sound = absurd halves
-sound-halves (Chain cost set bits side end) left right block low high halves low_half high_half sound = absurd halves
-sound-halves (Inner cost set l r) left right block low high halves low_half high_half sound =
-    let a = half-room 0 block low low_half in
-    let b = half-room 1 block high high_half in
-    let inner : IsSound (Inner cost set l r) (suc (width_of low.version - low.len)) = subst (λ (k : ℕ). IsSound (Inner cost set l r) k) a sound in (
-      subst (λ (n : Node). IsSound n (width_of low.version - low.len)) halves.0 inner.1,
-      subst (λ (n : Node). IsSound n (width_of high.version - high.len)) halves.1 (subst (λ (k : ℕ). IsSound r k) (omega arith) inner.2),
-    )

@@ -20,20 +20,17 @@ use Rattle.pmap_text.specs.declared.statement.Statement.{Statement}
 use Rattle.pmap_text.proofs.Layers.{are-layers, layers, layers-known, length-layers_to}
 use Rattle.pmap_text.proofs.Ranges.{ordered_at, text_at_index}
 use Rattle.pmap_text.proofs.Stretched.{held_text, stretches_known}
-use Rattle.pmap_cert.specs.Acceptance.{HasItsLabels, IsMinimalPair, StandsFor}
+use Rattle.pmap_cert.specs.Acceptance.{HasItsLabels, IsMinimalPair}
 use Rattle.pmap_cert.specs.CertificateModel.{CertificateModel, has}
 use Rattle.pmap_cert.specs.CertificateText.{HasTextForm}
 use Rattle.pmap_cert.specs.Node.{Node, tree_of}
 use Rattle.pmap_cert.proofs.InOrder.{list-form}
 use Rattle.pmap_cert.proofs.InTableOrder.{pair-listed}
 use Rattle.pmap_cert.proofs.SameLists.{other, same-entries}
-use Rattle.label_trie.specs.TrieModel.{IsSettledLeaf}
-use Rattle.pmap_minimise.specs.Built.{IsBuiltOn}
+use Rattle.pmap_minimise.specs.Built.{IsBuiltIn}
 use Rattle.pmap_minimise.specs.Listing.{IsListedBy}
-use Rattle.pmap_minimise.specs.Numbers.{IsKnownLeaf}
-use Rattle.pmap_minimise.specs.Runs.{AreCountable}
+use Rattle.pmap_minimise.specs.Runs.{AreCountable, IsMapOn}
 use Rattle.pmap_minimise.proofs.Distinct.{order-distinct}
-use Rattle.pmap_minimise.proofs.Joined.{settled-known}
 use Rattle.pmap_minimise.proofs.Texts.{table-has}
 use Rattle.pmap_minimise.proofs.Whole.{AreEntriesOf, list_with, listed-entries, own-labels}
 
@@ -47,7 +44,7 @@ module _ (m : MapText) (s : StretchesModel) (version : s.version ≡ m.version) 
   fits a = subst (λ (v : Version). a < 2 ^ width_of v) version
 
   -- each run has a label of the map's table
-  run-label : (i : ℕ) → i < length s.firsts → (id : LabelId) × (label_at s i ≡ Some id) × (id.0 < length m.labels)
+  pub run-label : (i : ℕ) → i < length s.firsts → (id : LabelId) × (label_at s i ≡ Some id) × (id.0 < length m.labels)
   run-label i below =
       let a = first_at s i in
       let text = sym (text_at_index s every m.labels a i (record { index = below; from = omega arith; to = ordered_at s every i below })) ∙ labels a (fits a (every.within i below)) in
@@ -100,39 +97,39 @@ module _ (m : MapText) (s : StretchesModel) (version : s.version ≡ m.version) 
     default = Some default;
     labelled = refl;
     stretches = are;
-    map = runs_map;
-    is = runs-is;
     few = omega (arith, length-layers_to s (length s.firsts), few, m.within_limit);
   }
 
-  module _ (ok : IsLabelTable m.labels) (root : Node) (built : IsBuiltOn s root) (items : List Entry) (listed : IsListedBy m.version built.leaves built.node items) where
-    pub runs-entries : AreEntriesOf m built.node items
-    runs-entries =
-        listed-entries m built.leaves built.node items listed ok
-        (All-weaker (IsSettledLeaf runs_map) (IsKnownLeaf (length m.labels)) (settled-known runs_map) built.leaves (built.settled (layers s) (Some default) runs_map are refl runs-is).0)
+  module _ (ok : IsLabelTable m.labels) (root : Node) (built : (map : MapModel) → IsMapOn s map → IsBuiltIn map root) where
+    pub runs-built : IsBuiltIn runs_map root
+    runs-built = built runs_map (record { statements = layers s; default = Some default; stretches = are; is = runs-is; table = ok })
 
-    -- the list with the entries is that of the map's minimal pair
-    pub runs-pair : (l : ListModel) → l ≡ list_with m items → (c : CertificateModel) × IsMinimalPair (map_of m) l c × HasTextForm c
-    runs-pair l is =
-        let settled = built.settled (layers s) (Some default) runs_map are refl runs-is in
-        let stands : StandsFor runs_map (tree_of m.labels built.node) 0 0 = listed.certified.stands runs_map ok settled.0 settled.1 in
-        let pair = pair-listed (map_of m) (own-labels m) ok (omega (arith, length-map m.statements (mapping_of m.labels), m.within_limit)) in
-        let minimal = pair.2 in
-        let same = same-entries (map_of m) (mappings_of m.labels (layers s)) (text_at m.labels default.0) (own-labels m) runs-labels runs-same pair.1.root
-        (tree_of m.labels built.node) 0 0 (omega arith) (omega arith) minimal.root stands in (
-          pair.1,
-          record {
-            certificate_format = minimal.certificate_format;
-            certificate_version = minimal.certificate_version;
-            certificate_table = minimal.certificate_table;
-            root = minimal.root;
-            list_version = ap (λ (k : ListModel). k.version) is;
-            list_name = ap (λ (k : ListModel). k.name) is;
-            list_table = ap (λ (k : ListModel). k.table) is;
-            prefixes = ap (λ (k : ListModel). k.prefixes) is ∙ runs-entries.entries ∙ sym (same.1 None);
-          },
-          pair.3,
-        )
+    module _ (items : List Entry) (listed : IsListedBy m.version runs-built.node items) where
+      pub runs-entries : AreEntriesOf m runs-built.node items
+      runs-entries = listed-entries m runs-built.node items listed ok runs-built.is.form
 
-    pub runs-distinct : HasDistinctBlocks items
-    runs-distinct = let pair = runs-pair (list_with m items) refl in order-distinct m.labels items (list-form (map_of m) (list_with m items) pair.0 pair.1 (own-labels m)).order
+      -- the list with the entries is that of the map's minimal pair
+      pub runs-pair : (l : ListModel) → l ≡ list_with m items → (c : CertificateModel) × IsMinimalPair (map_of m) l c × HasTextForm c
+      runs-pair l is =
+          let pair = pair-listed (map_of m) (own-labels m) ok (omega (arith, length-map m.statements (mapping_of m.labels), m.within_limit)) in
+          let minimal = pair.2 in
+          let same = same-entries (map_of m) (mappings_of m.labels (layers s)) (text_at m.labels default.0) (own-labels m) runs-labels runs-same pair.1.root
+          (tree_of m.labels runs-built.node) 0 0 (omega arith) (omega arith) minimal.root runs-built.is.stands in (
+            pair.1,
+            record {
+              certificate_format = minimal.certificate_format;
+              certificate_version = minimal.certificate_version;
+              certificate_table = minimal.certificate_table;
+              root = minimal.root;
+              list_version = ap (λ (k : ListModel). k.version) is;
+              list_name = ap (λ (k : ListModel). k.name) is;
+              list_table = ap (λ (k : ListModel). k.table) is;
+              prefixes = ap (λ (k : ListModel). k.prefixes) is ∙ runs-entries.entries ∙ sym (same.1 None);
+            },
+            pair.3,
+          )
+
+      pub runs-distinct : HasDistinctBlocks items
+      runs-distinct =
+          let pair = runs-pair (list_with m items) refl in
+          order-distinct m.labels items (list-form (map_of m) (list_with m items) pair.0 pair.1 (own-labels m)).order

@@ -12,5 +12,4 @@ pub mod ChainEntries
 pub mod NodeEntries
 pub mod OpenedTexts
 pub mod RunEnds
-pub mod TreeNodes
 pub mod Claimed

@@ -5,27 +5,26 @@ use Rattle.std.proofs.Math.Nat.{pow-suc}
 use Rattle.std.proofs.lemmas.Nat.{pow_pos}
 use Rattle.std.proofs.lemmas.Option.{none-some, same_Some}
 use Rattle.std.specs.Option.{option_or}
-use Rattle.prefix_keys.specs.Block.{first_of, last_of, width_of}
-use Rattle.prefix_keys.specs.declared.version.Version.{Version}
+use Rattle.prefix_keys.specs.Block.{width_of}
 use Rattle.prefix_keys.proofs.Quotients.{above_first, below_end, quotient_is}
-use Rattle.pmap_text.specs.Stretches.{HasEveryAddress, HasStretch, HoldsAddress, StretchesModel, first_at, label_at, last_at}
+use Rattle.pmap_text.specs.Stretches.{AreStretches, HasEveryAddress, HoldsAddress, StretchesModel, label_at}
 use Rattle.pmap_text.specs.declared.label.LabelId.{LabelId}
 use Rattle.pmap_text.specs.declared.statement.Statement.{Statement}
 use Rattle.pmap_cert.specs.CertificateText.{IsAscending}
-use Rattle.pmap_cert.specs.Node.{Inner, Leaf, Node, label_of, set_of}
+use Rattle.pmap_cert.specs.Node.{Inner, Leaf, Node, cost_of, label_of, set_of}
 use Rattle.pmap_cert.specs.Inner.{bits_down, end_down, side_below}
-use Rattle.label_trie.specs.Tree.{Fork, Tip, Tree}
-use Rattle.pmap_text.specs.Settled.{IsUnsettled, divisions}
-use Rattle.pmap_text.proofs.Ends.{divided-most}
-use Rattle.pmap_text.proofs.Settling.{stretch_labelled, stretch_settles, window_divided, window_most, window_unsettled}
+use Rattle.pmap_text.specs.Settled.{Settles, divisions}
+use Rattle.pmap_text.proofs.Settling.{window_divided, window_most, window_settled, window_unsettled}
 use Rattle.pmap_text.specs.Windows.{AreHalvesOf, IsWindow, number_at}
 use Rattle.pmap_text.specs.declared.window.Window.{Window}
 use Rattle.pmap_text.proofs.Windows.{one_index, ordered_window}
-use Rattle.pmap_minimise.specs.Runs.{AreCountedHalves, IsCounted, IsChoice, IsMade, IsRun, IsStep, IsStop, IsTreeOf, own_label}
+use Rattle.pmap_minimise.specs.Runs.{AreCountedHalves, IsCounted, IsChoice, IsMade, IsRun, IsStep, IsStop, own_label}
 use Rattle.pmap_cert.specs.Paths.{digit, path_to}
 use Rattle.pmap_minimise.specs.Opened.{cost_above, node_over, set_above, path_node}
-use Rattle.pmap_minimise.specs.Numbers.{IsExact}
-use Rattle.pmap_minimise.proofs.Paths.{above-ascending, down-high, down-low, down-none, path-high, path-low, path-set}
+use Rattle.pmap_minimise.specs.Numbers.{IsExact, IsMapNode, IsSound}
+use Rattle.pmap_minimise.proofs.Joined.{joined-in, joined-sound, moved}
+use Rattle.pmap_minimise.proofs.Texts.{exact-cost}
+use Rattle.pmap_minimise.proofs.Paths.{above-ascending, down-high, down-low, down-none, path-high, path-low}
 
 -- windows with equal parts are equal, so a block has only one pair of halves
 pub same-window : (a b : Window) → a.first ≡ b.first → a.last ≡ b.last → a.len ≡ b.len → a.from ≡ b.from → a.to ≡ b.to → a ≡ b
@@ -89,32 +88,7 @@ module _ (s : StretchesModel) (a : Window) (is : IsCounted s a) (divided : a.fro
         few = record { statements = is.few.statements; default = is.few.default; labelled = is.few.labelled; stretches = is.few.stretches; few = few };
       }
 
--- The trees of blocks.
-
--- a block within a stretch has the tree of a leaf with its label
-leaf-tree : (v : Version) (ss : List Statement) (default : Option LabelId) (n q first last : ℕ) (label : Option LabelId) → HasStretch (width_of v) ss default first last label
-    → n ≤ width_of v → first ≤ first_of (width_of v) n q → last_of (width_of v) n q ≤ last → IsTreeOf v ss default n q (Tip label)
-leaf-tree v ss default n q first last label has within from to = record {
-  fits = λ m map. (omega (arith, map.width, within), stretch_settles (width_of v) n q ss default first last label has m map from to);
-  labelled = stretch_labelled (width_of v) ss default first last label has;
-  few = omega arith;
-}
-
--- the tree of a block with addresses of two stretches is built from those of its halves
-fork-tree : (v : Version) (ss : List Statement) (default : Option LabelId) (n q : ℕ) (low high : Tree) → n < width_of v → IsUnsettled (width_of v) ss n q
-    → IsTreeOf v ss default (suc n) (2 * q) low → IsTreeOf v ss default (suc n) (2 * q + 1) high → IsTreeOf v ss default n q (Fork low high)
-fork-tree v ss default n q low high below none lower upper =
-    let sum = divided-most (width_of v) ss n q below none in
-    record {
-      fits = λ m is. (
-        omega (arith, is.width, below),
-        rw (is.width, is.mappings) (none m.table m.fallback),
-        lower.fits m is,
-        upper.fits m is,
-      );
-      labelled = λ some. (lower.labelled some, upper.labelled some);
-      few = omega (arith, lower.few, upper.few, sum);
-    }
+-- The nodes of blocks.
 
 -- a label by its number
 abbrev id_of : ℕ → LabelId
@@ -125,20 +99,16 @@ own-label-is None n is = absurd (none-some n is)
 own-label-is (Some id) n is = ap (λ (k : ℕ). Some (id_of k)) (same_Some id.0 n is)
 
 -- a block in one stretch has the node of a leaf
-pub leaf-made : (s : StretchesModel) (a : Window) (n : ℕ) → IsCounted s a → own_label s a ≡ Some n → n < 2 ^ 32 → IsMade s a (Tip (Some (id_of n))) (Leaf n)
+pub leaf-made : (s : StretchesModel) (a : Window) (n : ℕ) → IsCounted s a → own_label s a ≡ Some n → n < 2 ^ 32 → IsMade s a (Leaf n)
 leaf-made s a n is own fits =
     let single = own-single s a n is.window.ordered own in
     let label : label_at s a.from ≡ Some (id_of n) = own-label-is (label_at s a.from) n (sym (own-is s a single) ∙ own) in
-    let first_is = is.window.block.first_is in
-    let last_is = is.window.block.last_is in
-    let from = is.window.start.from in
-    let to = is.window.end.to in
     record {
-      tree_of = λ ss default are.
-          subst (λ (l : Option LabelId). IsTreeOf s.version ss default a.len (number_at s a) (Tip l)) label
-          (leaf-tree s.version ss default a.len (number_at s a) (first_at s a.from) (last_at s a.from) (label_at s a.from) (are.each a.from is.window.start.index) is.window.within
-          (omega arith) (subst (λ (k : ℕ). last_of (width_of s.version) a.len (number_at s a) ≤ last_at s k) (sym single) (omega arith)));
-      node_is = refl;
+      each = λ m on.
+          let settles = subst (λ (l : Option LabelId). Settles m l a.len (number_at s a)) label (window_settled s a is.window on.statements on.default on.stretches single m on.is) in
+          record { stands = settles.1; form = (settles.0, tt) };
+      few = λ ss default are. omega arith;
+      sound = tt;
       ascending = (omega arith, fits, tt);
       own = sym own;
       single = λ same. (n, refl);
@@ -146,46 +116,62 @@ leaf-made s a n is own fits =
     }
 
 -- the node of a block is built from those of its halves
-pub halves-made : (s : StretchesModel) (a low high : Window) (low_tree high_tree : Tree) (lower upper : Node) (cost : ℕ) (set : List ℕ) → IsCounted s a → AreCountedHalves s a low high
-    → IsMade s low low_tree lower → IsMade s high high_tree upper → IsExact lower upper cost set → IsAscending (2 ^ 32) 0 set
-    → IsMade s a (Fork low_tree high_tree) (Inner cost set lower upper)
-halves-made s a low high low_tree high_tree lower upper cost set is are low_made high_made exact ascending = record {
-  tree_of = λ ss default stretches.
-      let next : a.len + 1 ≡ suc a.len = omega arith in
-      let low_is : IsTreeOf s.version ss default (suc a.len) (2 * number_at s a) low_tree =
-      subst (λ (n : ℕ). IsTreeOf s.version ss default n (2 * number_at s a) low_tree) (are.halves.low_len ∙ next)
-      (subst (λ (n : ℕ). IsTreeOf s.version ss default low.len n low_tree) are.halves.low_number (low_made.tree_of ss default stretches)) in
-      let high_is : IsTreeOf s.version ss default (suc a.len) (2 * number_at s a + 1) high_tree =
-      subst (λ (n : ℕ). IsTreeOf s.version ss default n (2 * number_at s a + 1) high_tree) (are.halves.high_len ∙ next)
-      (subst (λ (n : ℕ). IsTreeOf s.version ss default high.len n high_tree) are.halves.high_number (high_made.tree_of ss default stretches)) in
-      let other : a.from ≡ a.to → ⊥ = λ same. let divided = are.divided in absurd (omega arith) in
-      fork-tree s.version ss default a.len (number_at s a) low_tree high_tree (window_divided s a is.window ss default stretches other)
-      (window_unsettled s a is.window ss default stretches other) low_is high_is;
-  node_is = (lower, upper, low_made.node_is, high_made.node_is, (refl, refl, exact));
-  ascending = ascending;
-  own = sym (own-none s a are.divided);
-  single = λ same. let divided = are.divided in absurd (omega arith);
-  halves = λ less. record {
-    cost = cost;
-    set = set;
-    lower = lower;
-    upper = upper;
-    node_is = refl;
-    low = low;
-    high = high;
-    halves = are;
-    low_label = low_made.own;
-    high_label = high_made.own;
-  };
-}
+module _ (s : StretchesModel) (a low high : Window) (lower upper : Node) (is : IsCounted s a) (are : AreCountedHalves s a low high)
+    (low_made : IsMade s low lower) (high_made : IsMade s high upper) where
+  other : a.from ≡ a.to → ⊥
+  other same = let divided = are.divided in absurd (omega arith)
+
+  -- the costs of the halves and one more are few
+  pub both-cost : (ss : List Statement) (default : Option LabelId) → AreStretches ss default s → cost_of lower + cost_of upper + 1 ≤ divisions s a ss
+  both-cost ss default stretches =
+      omega (arith, window_most s a is.window ss default stretches other low high are.halves, low_made.few ss default stretches, high_made.few ss default stretches)
+
+  pub halves-made : (cost : ℕ) (set : List ℕ) → IsExact lower upper cost set → IsAscending (2 ^ 32) 0 set → IsMade s a (Inner cost set lower upper)
+  halves-made cost set exact ascending =
+      let W : ℕ = width_of s.version in
+      let below = window_divided s a is.window is.few.statements is.few.default is.few.stretches other in
+      let room : ℕ = W - suc a.len in
+      let all : suc room ≡ W - a.len = omega arith in
+      let low_len : low.len ≡ suc a.len = omega (arith, are.halves.low_len) in
+      let high_len : high.len ≡ suc a.len = omega (arith, are.halves.high_len) in
+      let low_room : W - low.len ≡ room = ap (λ (n : ℕ). W - n) low_len in
+      let high_room : W - high.len ≡ room = ap (λ (n : ℕ). W - n) high_len in
+      let most = exact-cost (cost_of lower) (cost_of upper) (set_of lower) (set_of upper) cost set exact in
+      let few = is.few.few in
+      record {
+        each = λ m on.
+            subst (λ (h : ℕ). IsMapNode m a.len (number_at s a) h (Inner cost set lower upper)) all
+            (joined-in m a.len (number_at s a) room lower upper cost set on.table
+            (rw (on.is.width, on.is.mappings) (window_unsettled s a is.window on.statements on.default on.stretches other m.table m.fallback))
+            (moved m _ _ _ _ _ _ lower low_len are.halves.low_number low_room (low_made.each m on)) (moved m _ _ _ _ _ _ upper high_len are.halves.high_number high_room (high_made.each m on))
+            exact (omega (arith, most, both-cost is.few.statements is.few.default is.few.stretches, few)));
+        few = λ ss default stretches. omega (arith, most, both-cost ss default stretches);
+        sound = subst (IsSound (Inner cost set lower upper)) all
+            (joined-sound room lower upper cost set (subst (IsSound lower) low_room low_made.sound) (subst (IsSound upper) high_room high_made.sound) exact);
+        ascending = ascending;
+        own = sym (own-none s a are.divided);
+        single = λ same. absurd (other same);
+        halves = λ less. record {
+          cost = cost;
+          set = set;
+          lower = lower;
+          upper = upper;
+          node_is = refl;
+          low = low;
+          high = high;
+          halves = are;
+          low_label = low_made.own;
+          high_label = high_made.own;
+        };
+      }
 
 -- if no step leads on from a block, its node has no run
-pub made-stop : (s : StretchesModel) (side : ℕ) (a : Window) (tree : Tree) (node : Node) → IsMade s a tree node → IsStop s side a
+pub made-stop : (s : StretchesModel) (side : ℕ) (a : Window) (node : Node) → IsMade s a node → IsStop s side a
     → (bits_down side node ≡ []) × (end_down side node ≡ node)
-made-stop s side a tree node made (inl single) =
+made-stop s side a node made (inl single) =
     let leaf = made.single single in
     (ap (bits_down side) leaf.1, ap (end_down side) leaf.1 ∙ sym leaf.1)
-made-stop s side a tree node made (inr none) =
+made-stop s side a node made (inr none) =
     let own = made.halves none.halves.divided in
     let same = same-halves s a own.low own.high none.low none.high own.halves none.halves in
     let low : label_of own.lower ≡ own_label s none.low = own.low_label ∙ ap (own_label s) same.low_is in
@@ -194,15 +180,6 @@ made-stop s side a tree node made (inr none) =
     (ap (bits_down side) own.node_is ∙ down.0, ap (end_down side) own.node_is ∙ down.1 ∙ sym own.node_is)
 
 -- Runs.
-
--- the tree over the half that a run chooses, the lower one if the digit is 0, and the tree of the side block
-abbrev tree_over : ℕ → Tree → Tree → Tree
-tree_over zero path side = Fork path side
-tree_over (suc digit) path side = Fork side path
-
-abbrev pub path_tree : ℕ → ℕ → ℕ → Tree → Tree
-path_tree side value zero end = end
-path_tree side value (suc bits) end = tree_over (digit value bits) (path_tree side value bits end) (Tip (Some (id_of side)))
 
 -- the end lies in the block, `count` bits deeper
 pub record IsBelow (s : StretchesModel) (count : ℕ) (a end : Window) : Type 0 where
@@ -301,29 +278,20 @@ run-below s side (suc count) a end is run =
     }
 
 -- the node from which a run leads to the node of its end
-module _ (s : StretchesModel) (side : ℕ) (fits : side < 2 ^ 32) (end : Window) (tree : Tree) (node : Node) (made : IsMade s end tree node) where
+module _ (s : StretchesModel) (side : ℕ) (fits : side < 2 ^ 32) (end : Window) (node : Node) (made : IsMade s end node) where
   abbrev value : ℕ
   value = number_at s end
 
   abbrev node_of : ℕ → Node
   node_of count = path_node side value count node
 
-  abbrev tree_of : ℕ → Tree
-  tree_of count = path_tree side value count tree
-
-  path-ascending : (count : ℕ) → IsAscending (2 ^ 32) 0 (set_of (node_of count))
-  path-ascending zero = made.ascending
-  path-ascending (suc count) = subst (IsAscending (2 ^ 32) 0) (sym (path-set side node value (suc count))) (above-ascending side fits node made.ascending count)
-
-  over-made : (a : Window) (count d : ℕ) → IsMade s a (tree_over d (tree_of count) (Tip (Some (id_of side))))
-      (node_over d (cost_above side node) (set_above side (set_of node) count) (node_of count) (Leaf side)) → digit value count ≡ d
-      → IsMade s a (tree_of (suc count)) (node_of (suc count))
+  over-made : (a : Window) (count d : ℕ) → IsMade s a (node_over d (cost_above side node) (set_above side (set_of node) count) (node_of count) (Leaf side)) → digit value count ≡ d
+      → IsMade s a (node_of (suc count))
   over-made a count d is same =
-      subst (λ (k : ℕ). IsMade s a (tree_over k (tree_of count) (Tip (Some (id_of side))))
-      (node_over k (cost_above side node) (set_above side (set_of node) count) (node_of count) (Leaf side))) (sym same) is
+      subst (λ (k : ℕ). IsMade s a (node_over k (cost_above side node) (set_above side (set_of node) count) (node_of count) (Leaf side))) (sym same) is
 
-  pub run-made : (count : ℕ) (a : Window) → IsCounted s a → IsRun s side count a end → IsMade s a (tree_of count) (node_of count)
-  run-made zero a is run = subst (λ (b : Window). IsMade s b tree node) run made
+  pub run-made : (count : ℕ) (a : Window) → IsCounted s a → IsRun s side count a end → IsMade s a (node_of count)
+  run-made zero a is run = subst (λ (b : Window). IsMade s b node) run made
   run-made (suc count) a is run =
       let step = step-by s side a run.0 run.1 in
       by (run-below s side count run.0 end step.counted run.2) (run-made count run.0 step.counted run.2) run.1.choice
@@ -331,22 +299,19 @@ module _ (s : StretchesModel) (side : ℕ) (fits : side < 2 ^ 32) (end : Window)
       halves : AreCountedHalves s a run.1.low run.1.high
       halves = run.1.halves
 
-      by : IsBelow s count run.0 end → IsMade s run.0 (tree_of count) (node_of count)
-          → IsChoice s side run.1.low run.1.high run.0 → IsMade s a (tree_of (suc count)) (node_of (suc count))
+      by : IsBelow s count run.0 end → IsMade s run.0 (node_of count) → IsChoice s side run.1.low run.1.high run.0 → IsMade s a (node_of (suc count))
       by below rest (inl high) =
           let number = below.number ∙ ap (number_at s) high.0 ∙ halves.halves.high_number in
           over-made a count 1
-          (halves-made s a run.1.low run.1.high (Tip (Some (id_of side))) (tree_of count) (Leaf side) (node_of count) (cost_above side node) (set_above side (set_of node) count) is halves
-          (leaf-made s run.1.low side halves.low_counted high.1 fits)
-          (subst (λ (b : Window). IsMade s b (tree_of count) (node_of count)) high.0 rest)
+          (halves-made s a run.1.low run.1.high (Leaf side) (node_of count) is halves (leaf-made s run.1.low side halves.low_counted high.1 fits)
+          (subst (λ (b : Window). IsMade s b (node_of count)) high.0 rest) (cost_above side node) (set_above side (set_of node) count)
           (path-high side fits node made.ascending value count) (above-ascending side fits node made.ascending count))
           (omega arith)
       by below rest (inr low) =
           let number = below.number ∙ ap (number_at s) low.0 ∙ halves.halves.low_number in
           over-made a count 0
-          (halves-made s a run.1.low run.1.high (tree_of count) (Tip (Some (id_of side))) (node_of count) (Leaf side) (cost_above side node) (set_above side (set_of node) count) is halves
-          (subst (λ (b : Window). IsMade s b (tree_of count) (node_of count)) low.0 rest)
-          (leaf-made s run.1.high side halves.high_counted low.2 fits)
+          (halves-made s a run.1.low run.1.high (node_of count) (Leaf side) is halves (subst (λ (b : Window). IsMade s b (node_of count)) low.0 rest)
+          (leaf-made s run.1.high side halves.high_counted low.2 fits) (cost_above side node) (set_above side (set_of node) count)
           (path-low side fits node made.ascending value count) (above-ascending side fits node made.ascending count))
           (omega arith)
 
@@ -380,7 +345,7 @@ module _ (s : StretchesModel) (side : ℕ) (fits : side < 2 ^ 32) (end : Window)
   -- if the run stops at the end
   module _ (stop : IsStop s side end) where
     stop-down : GoesDown zero
-    stop-down = let none = made-stop s side end tree node made stop in record { bits = none.0; last = none.1 }
+    stop-down = let none = made-stop s side end node made stop in record { bits = none.0; last = none.1 }
 
     pub run-down : (count : ℕ) (a : Window) → IsCounted s a → IsRun s side count a end → GoesDown count
     run-down zero a is run = stop-down
@@ -388,7 +353,7 @@ module _ (s : StretchesModel) (side : ℕ) (fits : side < 2 ^ 32) (end : Window)
         let step = step-by s side a run.0 run.1 in
         by (run-below s side count run.0 end step.counted run.2) (run-made count run.0 step.counted run.2) (run-down count run.0 step.counted run.2) run.1.choice
       where
-        by : IsBelow s count run.0 end → IsMade s run.0 (tree_of count) (node_of count) → GoesDown count
+        by : IsBelow s count run.0 end → IsMade s run.0 (node_of count) → GoesDown count
             → IsChoice s side run.1.low run.1.high run.0 → GoesDown (suc count)
         by below chosen rest (inl high) =
             let number = below.number ∙ ap (number_at s) high.0 ∙ run.1.halves.halves.high_number in
@@ -398,9 +363,9 @@ module _ (s : StretchesModel) (side : ℕ) (fits : side < 2 ^ 32) (end : Window)
             over-down count 0 (omega arith) (omega arith) (λ none e. low.1 (ap (own_label s) (sym low.0) ∙ sym chosen.own ∙ e)) rest
 
 -- the side label of a run is that of a leaf right below the run's first node
-pub made-side : (s : StretchesModel) (a low high : Window) (tree : Tree) (node : Node) → IsMade s a tree node → AreCountedHalves s a low high
+pub made-side : (s : StretchesModel) (a low high : Window) (node : Node) → IsMade s a node → AreCountedHalves s a low high
     → side_below node ≡ option_or (own_label s low) (own_label s high)
-made-side s a low high tree node made are =
+made-side s a low high node made are =
     let own = made.halves are.divided in
     let same = same-halves s a own.low own.high low high own.halves are in
     ap side_below own.node_is

@@ -25,10 +25,6 @@ leaf-text n = append-nil (ended (leaf_line n))
 inner-text : (cost : ℕ) (set : List ℕ) (lower upper : Node) → node_text (Inner cost set lower upper) ≡ ended (inner_line cost set) ++ (node_text lower ++ node_text upper)
 inner-text cost set lower upper = ap (λ (t : List ℕ). ended (inner_line cost set) ++ t) (lines-text (lines_of lower) (lines_of upper))
 
--- a leaf's text is appended
-pub leaf-added : (n : ℕ) (old new : List ℕ) → new ≡ old ++ ended (leaf_line n) → new ≡ old ++ node_text (Leaf n)
-leaf-added n old new is = is ∙ ap (λ (t : List ℕ). old ++ t) (sym (leaf-text n))
-
 -- the text of an inner node is appended: its own line, and those of its halves
 pub inner-added : (cost : ℕ) (set : List ℕ) (lower upper : Node) (old own middle new : List ℕ) → own ≡ old ++ ended (inner_line cost set) → middle ≡ own ++ node_text lower → new ≡ middle ++ node_text upper
     → new ≡ old ++ node_text (Inner cost set lower upper)

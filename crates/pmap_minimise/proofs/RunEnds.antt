@@ -12,11 +12,11 @@ use Rattle.prefix_keys.specs.Block.{block_number, first_of, last_of, width_of}
 use Rattle.prefix_keys.specs.declared.block.Block.{Block}
 use Rattle.prefix_keys.specs.declared.version.Version.{Version}
 use Rattle.prefix_keys.proofs.Quotients.{above_first, below_end, half_split, quotient_is}
-use Rattle.pmap_text.specs.Stretches.{HasEveryAddress, HoldsAddress, StretchesModel, count_begun, first_at, last_at}
-use Rattle.pmap_text.proofs.Ranges.{ends_before, held_order, holder, next_first, ordered_at}
+use Rattle.pmap_text.specs.Stretches.{HasEveryAddress, HoldsAddress, StretchesModel, first_at, last_at}
+use Rattle.pmap_text.proofs.Ranges.{ends_before, held_order, next_first, ordered_at}
 use Rattle.pmap_text.specs.Windows.{IsBlock, number_at}
 use Rattle.pmap_text.specs.declared.window.Window.{Window}
-use Rattle.pmap_text.proofs.Windows.{are_halves, first_number, halves_windows, one_index, window_some}
+use Rattle.pmap_text.proofs.Windows.{are_halves, divided_window, first_number, one_index}
 use Rattle.pmap_minimise.specs.Runs.{AreCountedHalves, HasLabel, IsCounted, IsRun, IsRunTo, IsStop, own_label}
 use Rattle.prefix_keys.proofs.Groups.{width-le}
 use Rattle.pmap_minimise.proofs.MadeNodes.{block-order, counted-halves, own-is, own-single, run-below, same-window}
@@ -81,20 +81,8 @@ pub record HasHalves (s : StretchesModel) (a : Window) : Type 0 where
 
 has-halves : (s : StretchesModel) (a : Window) → IsCounted s a → a.from < a.to → HasHalves s a
 has-halves s a is divided =
-    let every = is.few.stretches.every in
-    let some = window_some s every a is.window (λ same. absurd (omega arith)) in
-    let fits = (is.few.stretches.each a.to is.window.end.index).within in
-    let to = is.window.end.to in
-    let middle : ℕ = a.first + (a.last - a.first) / 2 in
-    let at = holder s every middle (omega arith) in
-    let next = holder s every (middle + 1) (omega arith) in
-    let order = held_order s every a.first middle a.from (count_begun s.firsts middle - 1) is.window.start at (omega arith) in
-    record {
-      low = _;
-      high = _;
-      counted = counted-halves s a is divided _ _
-          (halves_windows s every a is.window (count_begun s.firsts middle - 1) (count_begun s.firsts (middle + 1) - 1) some at order next);
-    }
+    let halves = divided_window s is.few.stretches.every a is.window (λ same. absurd (omega arith)) in
+    record { low = halves.0; high = halves.1; counted = counted-halves s a is divided halves.0 halves.1 halves.2 }
 
 -- The addresses of a block before x are all in its first stretch, and those after y in its last one. If there are any,
 -- that stretch has the side label. The stretches i and j, which have x and y, don't have it.

@@ -3,7 +3,6 @@ use Rattle.std.proofs.Common.{◌≡◌, ℕ, ◌-◌, ◌<◌, ◌∙◌, inl, 
 use Rattle.std.proofs.lemmas.List.Elements.{All-from_recursion, All-map, All-weaker}
 use Rattle.std.proofs.lemmas.Option.{none-some}
 use Rattle.prefix_keys.specs.Block.{width_of}
-use Rattle.prefix_keys.specs.declared.block.Block.{Block}
 use Rattle.prefix_keys.specs.declared.version.Version.{Version}
 use Rattle.pmap_text.specs.Label.{IsLabelTable}
 use Rattle.pmap_text.specs.ListModel.{ListModel}
@@ -16,8 +15,7 @@ use Rattle.pmap_cert.specs.CertificateModel.{CertificateModel, Tree, has}
 use Rattle.pmap_cert.specs.Acceptance.{HasListForm, IsInOrder, HasItsLabels, IsMinimalPair, StandsFor, entries_of}
 use Rattle.pmap_cert.specs.CertificateText.{certificate_text, format_header, text_of_lines, HasTextForm}
 use Rattle.pmap_cert.specs.Compacting.{compact}
-use Rattle.pmap_cert.specs.Node.{HasChainForm, HasNumberForm, Node, line_text, lines_of, tree_of}
-use Rattle.pmap_cert.specs.Inner.{IsCompactNode}
+use Rattle.pmap_cert.specs.Node.{HasNumberForm, Node, lines_of, tree_of}
 use Rattle.pmap_cert.specs.declared.format.Format.TheVariants.{One}
 use Rattle.label_trie.specs.TrieModel.{number_of, IsSettledLeaf, IsUndivided, LeafModel}
 use Rattle.pmap_cert.proofs.CompactNodes.{compact-one}
@@ -25,14 +23,15 @@ use Rattle.pmap_cert.proofs.Plain.{plain-tree_of}
 use Rattle.pmap_cert.proofs.Written.{node_form, whole_text}
 use Rattle.pmap_text.specs.ListEntries.{HasDistinctBlocks}
 use Rattle.pmap_cert.proofs.InOrder.{list-form}
-use Rattle.pmap_minimise.specs.Listing.{AddsEntries, IsEntryOf, IsWhole, IsListedBy}
+use Rattle.pmap_minimise.specs.Listing.{IsEntryOf, IsListedBy}
 use Rattle.pmap_minimise.proofs.Distinct.{order-distinct}
 use Rattle.pmap_minimise.proofs.Entered.{half-entries}
-use Rattle.pmap_minimise.specs.Numbers.{IsCertified, IsKnownLeaf}
-use Rattle.pmap_minimise.specs.Opened.{Opens}
-use Rattle.pmap_minimise.proofs.Joined.{settled-known, whole-number}
+use Rattle.pmap_minimise.specs.Built.{IsBuiltIn}
+use Rattle.pmap_minimise.specs.Numbers.{IsCertified, IsMapNode}
+use Rattle.pmap_minimise.specs.Opened.{Opens, node_text}
+use Rattle.label_trie.proofs.Places.{whole_number}
+use Rattle.pmap_minimise.proofs.Joined.{sound-opens}
 use Rattle.pmap_minimise.proofs.Texts.{table-has}
-use Rattle.pmap_minimise.proofs.TreeNodes.{sound-opens}
 
 -- the prefix list with these entries, and with the map's name and label table
 abbrev pub list_with : MapText → List Entry → ListModel
@@ -79,20 +78,6 @@ pub shortest-form : (m : MapModel) (root : Tree) → StandsFor m root 0 0 → Ha
 shortest-form m root stands inside =
     list-form m (shortest_list m root) (record { format = 1; version = m.version; table = m.table; root = root }) (minimal m _ _ root stands refl refl) inside
 
--- the entries that the root adds for the whole address space are those of its list
-pub whole-entries : (m : MapText) (root : Node) (whole : Block) (old new : List Entry) → IsWhole m.version whole → IsLabelTable m.labels
-    → HasNumberForm (length m.labels) root (width_of m.version) → old ≡ [] → AddsEntries root whole None old new
-    → map (prefix_of m.labels) new ≡ entries_of (width_of m.version) m.labels (tree_of m.labels root) None 0 0
-whole-entries m root whole old new is ok form none adds =
-    let version = is.version_is in
-    let bits = is.bits in
-    let width : width_of whole.version ≡ width_of m.version = ap width_of version in
-    let room : width_of m.version ≡ width_of whole.version - whole.len = omega arith in
-    adds.texts m.labels ok (λ x e. absurd (none-some x e)) (subst (λ (r : ℕ). HasNumberForm (length m.labels) root r) room form)
-    ∙ ap (λ (es : List Entry). map (prefix_of m.labels) es ++ entries_of (width_of whole.version) m.labels (tree_of m.labels root) None whole.len (number_of whole)) none
-    ∙ half-entries m.labels (tree_of m.labels root) None None (width_of m.version) (width_of whole.version) 0 whole.len 0 (number_of whole) width refl bits
-    (whole-number whole is.start)
-
 -- the certificate with this root and the map's label table
 abbrev root_certificate : MapText → Node → CertificateModel
 root_certificate m root = record { format = 1; version = m.version; table = m.labels; root = tree_of m.labels root }
@@ -107,93 +92,69 @@ root-form m root form ok = record {
   };
 }
 
--- the numbers of a root fit the map's label table
-pub certified-form : (m : MapText) (version : Version) (leaves : List LeafModel) (root : Node) → IsCertified 0 0 (width_of version) leaves root → version ≡ m.version
-    → All (IsSettledLeaf (map_of m)) leaves → HasNumberForm (length m.labels) root (width_of m.version)
-certified-form m version leaves root certified same settled =
-    let known = All-weaker (IsSettledLeaf (map_of m)) (IsKnownLeaf (length m.labels)) (settled-known (map_of m)) leaves settled in
-    subst (λ (v : Version). HasNumberForm (length m.labels) root (width_of v)) same (certified.form (length m.labels) known)
+module _ (m : MapText) (compacted : Node) (built : IsBuiltIn (map_of m) compacted) where
+  -- the text of a root's certificate, which is part of the map's minimal pair
+  pub certified-text : (head text : List ℕ) → head ≡ text_of_lines (format_header 1 m.version (length m.labels) ∷ m.labels) → text ≡ head ++ node_text built.node
+      → (l : ListModel) × (c : CertificateModel) × IsMinimalPair (map_of m) l c × HasTextForm c × (text ≡ certificate_text c)
+  certified-text head text head_is text_is = (
+    shortest_list (map_of m) (tree_of m.labels built.node),
+    root_certificate m built.node,
+    minimal (map_of m) _ _ (tree_of m.labels built.node) built.is.stands refl refl,
+    root-form m built.node built.is.form built.table,
+    whole_text 1 m.version m.labels built.node (width_of m.version) (lines_of built.node) head text built.table built.is.form.0 refl head_is text_is,
+  )
 
--- the text of a root's certificate, which is part of the map's minimal pair
-pub certified-text : (m : MapText) (version : Version) (leaves : List LeafModel) (root : Node) (head text : List ℕ) → IsCertified 0 0 (width_of version) leaves root
-    → version ≡ m.version → IsLabelTable m.labels → All (IsSettledLeaf (map_of m)) leaves → All (IsUndivided (map_of m)) leaves
-    → head ≡ text_of_lines (format_header 1 m.version (length m.labels) ∷ m.labels) → text ≡ head ++ text_of_lines (map line_text (lines_of root))
-    → (l : ListModel) × (c : CertificateModel) × IsMinimalPair (map_of m) l c × HasTextForm c × (text ≡ certificate_text c)
-certified-text m version leaves root head text certified same ok settled undivided head_is text_is =
-    let form = certified-form m version leaves root certified same settled in (
-      shortest_list (map_of m) (tree_of m.labels root),
-      root_certificate m root,
-      minimal (map_of m) _ _ (tree_of m.labels root) (certified.stands (map_of m) ok settled undivided) refl refl,
-      root-form m root form ok,
-      whole_text 1 m.version m.labels root (width_of m.version) (lines_of root) head text ok form.0 refl head_is text_is,
-    )
-
--- the numbers of a compacted root fit the map's label table
-pub compacted-form : (m : MapText) (version : Version) (leaves : List LeafModel) (root compacted : Node) → IsCertified 0 0 (width_of version) leaves root → IsCompactNode root compacted
-    → version ≡ m.version → All (IsSettledLeaf (map_of m)) leaves → HasChainForm (length m.labels) compacted (width_of m.version)
-compacted-form m version leaves root compacted certified is same settled =
-    is.form (length m.labels) (width_of m.version) (certified-form m version leaves root certified same settled).0
-
--- the text of a root's compacted certificate, which is part of the map's minimal pair
-pub compacted-text : (m : MapText) (version : Version) (leaves : List LeafModel) (root compacted : Node) (c : CertificateModel) (text : List ℕ) → IsCertified 0 0 (width_of version) leaves root
-    → IsCompactNode root compacted → version ≡ m.version → IsLabelTable m.labels → All (IsSettledLeaf (map_of m)) leaves → All (IsUndivided (map_of m)) leaves
-    → c ≡ record { format = 2; version = m.version; table = m.labels; root = tree_of m.labels compacted } → text ≡ certificate_text c
-    → (l : ListModel) × (d : CertificateModel) × IsMinimalPair (map_of m) l d × HasTextForm d × (text ≡ certificate_text (compact d))
-compacted-text m version leaves root compacted c text certified is same ok settled undivided c_is text_is =
-    let form = certified-form m version leaves root certified same settled in (
-      shortest_list (map_of m) (tree_of m.labels root),
-      root_certificate m root,
-      minimal (map_of m) _ _ (tree_of m.labels root) (certified.stands (map_of m) ok settled undivided) refl refl,
-      root-form m root form ok,
-      text_is ∙ ap certificate_text (c_is ∙ compact-one One m.version m.labels root compacted ok form.0 refl is),
-    )
+  -- and the text of its compacted certificate
+  pub compacted-text : (c : CertificateModel) (text : List ℕ) → c ≡ record { format = 2; version = m.version; table = m.labels; root = tree_of m.labels compacted } → text ≡ certificate_text c
+      → (l : ListModel) × (d : CertificateModel) × IsMinimalPair (map_of m) l d × HasTextForm d × (text ≡ certificate_text (compact d))
+  compacted-text c text c_is text_is = (
+    shortest_list (map_of m) (tree_of m.labels built.node),
+    root_certificate m built.node,
+    minimal (map_of m) _ _ (tree_of m.labels built.node) built.is.stands refl refl,
+    root-form m built.node built.is.form built.table,
+    text_is ∙ ap certificate_text (c_is ∙ compact-one One m.version m.labels built.node compacted built.table built.is.form.0 refl built.compact_is),
+  )
 
 -- the entries are those of a certificate's root, with numbers of the map's label table
 pub record AreEntriesOf (m : MapText) (root : Node) (items : List Entry) : Type 0 where
   pub versions : All (λ e. e.block.version ≡ m.version) items
   pub known : All (λ e. e.label.0 < length m.labels) items
-  pub form : HasNumberForm (length m.labels) root (width_of m.version)
   pub entries : map (prefix_of m.labels) items ≡ entries_of (width_of m.version) m.labels (tree_of m.labels root) None 0 0
 
-pub listed-entries : (m : MapText) (leaves : List LeafModel) (root : Node) (items : List Entry) → IsListedBy m.version leaves root items → IsLabelTable m.labels
-    → All (IsKnownLeaf (length m.labels)) leaves → AreEntriesOf m root items
-listed-entries m leaves root items listed ok known =
+pub listed-entries : (m : MapText) (root : Node) (items : List Entry) → IsListedBy m.version root items → IsLabelTable m.labels → HasNumberForm (length m.labels) root (width_of m.version)
+    → AreEntriesOf m root items
+listed-entries m root items listed ok form =
     let block = listed.block in
     let bits = listed.whole.bits in
     let width : width_of block.version ≡ width_of m.version = ap width_of listed.whole.version_is in
     let room : width_of m.version ≡ width_of block.version - block.len = omega arith in
-    let form : HasNumberForm (length m.labels) root (width_of m.version) = listed.certified.form (length m.labels) known in
+    let form' = subst (λ (r : ℕ). HasNumberForm (length m.labels) root r) room form in
     let fit : All (IsEntryOf block.version (length m.labels)) items =
-    listed.adds.fit (length m.labels) (λ x e. absurd (none-some x e)) (subst (λ (r : ℕ). HasNumberForm (length m.labels) root r) room form) (All-from_recursion (IsEntryOf block.version (length m.labels)) [] tt) in
+    listed.adds.fit (length m.labels) (λ x e. absurd (none-some x e)) form' (All-from_recursion (IsEntryOf block.version (length m.labels)) [] tt) in
     record {
       versions = All-weaker (IsEntryOf block.version (length m.labels)) (λ e. e.block.version ≡ m.version) (λ e fits. fits.version_is ∙ listed.whole.version_is) items fit;
       known = All-weaker (IsEntryOf block.version (length m.labels)) (λ e. e.label.0 < length m.labels) (λ e fits. fits.known) items fit;
-      form = form;
-      entries = whole-entries m root block [] items listed.whole ok form refl listed.adds;
+      entries = listed.adds.texts m.labels ok (λ x e. absurd (none-some x e)) form'
+          ∙ half-entries m.labels (tree_of m.labels root) None None (width_of m.version) (width_of block.version) 0 block.len 0 (number_of block) width refl bits (whole_number block listed.whole.start);
     }
 
 -- the root also represents the address space
 pub record IsShortestBy (m : MapText) (root : Node) (items : List Entry) : Type 0 where
   pub of : AreEntriesOf m root items
-  pub stands : StandsFor (map_of m) (tree_of m.labels root) 0 0
+  pub is : IsMapNode (map_of m) 0 0 (width_of m.version) root
 
 -- the entries of a certificate's root without chains, which represents the address space
 pub claimed-shortest : (m : MapText) (version : Version) (leaves : List LeafModel) (root : Node) (items : List Entry) → IsCertified 0 0 (width_of version) leaves root → version ≡ m.version
-    → IsLabelTable m.labels → All (IsSettledLeaf (map_of m)) leaves → All (IsUndivided (map_of m)) leaves
-    → ((leaves : List LeafModel) (node : Node) → IsCertified 0 0 (width_of m.version) leaves node → Opens root node → IsListedBy m.version leaves node items) → IsShortestBy m root items
+    → IsLabelTable m.labels → All (IsSettledLeaf (map_of m)) leaves → All (IsUndivided (map_of m)) leaves → ((node : Node) → Opens root node → IsListedBy m.version node items) → IsShortestBy m root items
 claimed-shortest m version leaves root items certified same ok settled undivided listed =
-    let known = All-weaker (IsSettledLeaf (map_of m)) (IsKnownLeaf (length m.labels)) (settled-known (map_of m)) leaves settled in
-    let is = subst (λ (v : Version). IsCertified 0 0 (width_of v) leaves root) same certified in
-    record {
-      of = listed-entries m leaves root items (listed leaves root is (sound-opens root (width_of m.version) is.sound)) ok known;
-      stands = is.stands (map_of m) ok settled undivided;
-    }
+    let is = subst (λ (v : Version). IsMapNode (map_of m) 0 0 (width_of v) root) same (certified.each (map_of m) ok settled undivided) in
+    record { of = listed-entries m root items (listed root (sound-opens root (width_of version) certified.sound)) ok is.form; is = is }
 
 module _ (m : MapText) (root : Node) (items : List Entry) (shortest : IsShortestBy m root items) where
   -- the blocks of the entries are distinct
   pub shortest-distinct : HasDistinctBlocks items
   shortest-distinct =
-      let form = shortest-form (map_of m) (tree_of m.labels root) shortest.stands (own-labels m) in
+      let form = shortest-form (map_of m) (tree_of m.labels root) shortest.is.stands (own-labels m) in
       order-distinct m.labels items (subst IsInOrder (sym shortest.of.entries) form.order)
 
   -- a list of these entries is the root's
@@ -202,7 +163,7 @@ module _ (m : MapText) (root : Node) (items : List Entry) (shortest : IsShortest
     listed-is = is ∙ (λ i. record { version = m.version; name = m.name; prefixes = shortest.of.entries i; table = m.labels })
 
     pub listed-form : HasListForm l
-    listed-form = subst HasListForm (sym listed-is) (shortest-form (map_of m) (tree_of m.labels root) shortest.stands (own-labels m))
+    listed-form = subst HasListForm (sym listed-is) (shortest-form (map_of m) (tree_of m.labels root) shortest.is.stands (own-labels m))
 
     pub listed-minimal : (c : CertificateModel) → c ≡ record { format = 1; version = m.version; table = m.labels; root = tree_of m.labels root } → IsMinimalPair (map_of m) l c
-    listed-minimal c certificate = minimal (map_of m) l c (tree_of m.labels root) shortest.stands listed-is certificate
+    listed-minimal c certificate = minimal (map_of m) l c (tree_of m.labels root) shortest.is.stands listed-is certificate

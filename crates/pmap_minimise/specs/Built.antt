@@ -1,21 +1,15 @@
-use Rattle.std.specs.Prelude.{◌≡◌, ℕ, ◌+◌, ◌-◌, ◌^◌, ◌<◌, List, [], ◌∷◌, ◌++◌, Option, IsSome, All, length, reverse, slice_index_or}
+use Rattle.std.specs.Prelude.{◌≡◌, ℕ, ◌+◌, ◌-◌, ◌^◌, ◌<◌, List, [], ◌∷◌, ◌++◌, length, reverse, slice_index_or}
 use Rattle.prefix_keys.specs.Block.{width_of}
-use Rattle.prefix_keys.specs.declared.version.Version.{Version}
-use Rattle.pmap_text.specs.MapText.{map_of}
-use Rattle.pmap_text.specs.declared.map_text.MapText.{MapText}
+use Rattle.pmap_text.specs.Label.{IsLabelTable}
 use Rattle.pmap_text.specs.MapModel.{MapModel}
-use Rattle.pmap_text.specs.Settled.{IsMapOf}
-use Rattle.pmap_text.specs.Stretches.{AreStretches, StretchesModel}
-use Rattle.pmap_text.specs.declared.label.LabelId.{LabelId}
-use Rattle.pmap_text.specs.declared.statement.Statement.{Statement}
+use Rattle.pmap_text.specs.Stretches.{StretchesModel}
 use Rattle.pmap_text.specs.declared.window.Window.{Window}
-use Rattle.label_trie.specs.Tree.{Tree}
-use Rattle.label_trie.specs.TrieModel.{CursorModel, IsSettledLeaf, IsUndivided, LeafModel, number_of}
+use Rattle.label_trie.specs.TrieModel.{CursorModel, number_of}
 use Rattle.pmap_cert.specs.CertificateText.{IsAscending}
 use Rattle.pmap_cert.specs.FormatReading.{DueLine, InnerLine, LeafLine}
 use Rattle.pmap_cert.specs.Inner.{IsCompactNode}
 use Rattle.pmap_cert.specs.Node.{Node, cost_of, lines_of, node_of, set_of}
-use Rattle.pmap_minimise.specs.Numbers.{IsCertified, IsExact}
+use Rattle.pmap_minimise.specs.Numbers.{IsCertified, IsExact, IsMapNode, IsSound}
 use Rattle.pmap_minimise.specs.Opened.{Opens}
 use Rattle.pmap_minimise.specs.Runs.{IsMade}
 
@@ -52,31 +46,18 @@ pub record IsClaimed (c : CursorModel) (old new : List DueLine) : Type 0 where
 
 -- the lines of the block's node, compacted, were added
 pub record IsBuilt (s : StretchesModel) (a : Window) (old new : List DueLine) : Type 0 where
-  pub tree : Tree
   pub node : Node
   pub compact : Node
-  pub made : IsMade s a tree node
+  pub made : IsMade s a node
   pub compact_is : IsCompactNode node compact
   pub opens : Opens compact node
   pub lines_are : new ≡ old ++ reverse (lines_of compact)
 
--- `compact` is `node` compacted, and `node` is the certificate's for the address space with these leaves
-pub record IsBuiltOf (version : Version) (leaves : List LeafModel) (compact node : Node) : Type 0 where
-  pub certified : IsCertified 0 0 (width_of version) leaves node
+-- `compact` is the map's node for the address space, compacted
+pub record IsBuiltIn (m : MapModel) (compact : Node) : Type 0 where
+  pub table : IsLabelTable m.table
+  pub node : Node
+  pub is : IsMapNode m 0 0 (width_of m.version) node
+  pub sound : IsSound node (width_of m.version)
   pub compact_is : IsCompactNode node compact
   pub opens : Opens compact node
-
--- `compact` is such a node compacted, with leaves that each map of the stretches settles
-pub record IsBuiltOn (s : StretchesModel) (compact : Node) : Type 0 where
-  pub leaves : List LeafModel
-  pub node : Node
-  pub settled : (ss : List Statement) (default : Option LabelId) (m : MapModel) → AreStretches ss default s → IsSome default
-      → IsMapOf (width_of s.version) ss default m → All (IsSettledLeaf m) leaves × All (IsUndivided m) leaves
-  pub built : IsBuiltOf s.version leaves compact node
-
-pub record IsBuiltFor (m : MapText) (compact : Node) : Type 0 where
-  pub leaves : List LeafModel
-  pub node : Node
-  pub settled : All (IsSettledLeaf (map_of m)) leaves
-  pub undivided : All (IsUndivided (map_of m)) leaves
-  pub built : IsBuiltOf m.version leaves compact node

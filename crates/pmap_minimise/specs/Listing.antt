@@ -9,10 +9,9 @@ use Rattle.pmap_text.specs.Label.{IsLabelTable}
 use Rattle.pmap_text.specs.MapModel.{Label}
 use Rattle.pmap_text.specs.MapText.{text_at}
 use Rattle.pmap_text.specs.declared.label.LabelId.{LabelId}
-use Rattle.label_trie.specs.TrieModel.{number_of, LeafModel}
+use Rattle.label_trie.specs.TrieModel.{number_of}
 use Rattle.pmap_cert.specs.Acceptance.{entries_of}
 use Rattle.pmap_cert.specs.Node.{HasNumberForm, Node, tree_of}
-use Rattle.pmap_minimise.specs.Numbers.{IsCertified}
 
 pub record IsWhole (version : Version) (block : Block) : Type 0 where
   pub version_is : block.version ≡ version
@@ -37,9 +36,8 @@ pub record AddsEntries (node : Node) (block : Block) (inherited : Option LabelId
       → HasNumberForm count node (width_of block.version - block.len)
       → All (IsEntryOf block.version count) old → All (IsEntryOf block.version count) new
 
--- the entries are those of the node, which is the certificate's for the address space with these leaves
-pub record IsListedBy (version : Version) (leaves : List LeafModel) (node : Node) (entries : List Entry) : Type 0 where
+-- the entries are those of the node for the address space
+pub record IsListedBy (version : Version) (node : Node) (entries : List Entry) : Type 0 where
   pub block : Block
   pub whole : IsWhole version block
-  pub certified : IsCertified 0 0 (width_of version) leaves node
   pub adds : AddsEntries node block None [] entries

@@ -1,12 +1,10 @@
 use Rattle.std.specs.Prelude.{◌≡◌, ℕ, zero, suc, ◌+◌, ◌^◌, ◌<◌, ◌==◌, ◌||◌, Bool, true, false, List, [], ◌∷◌, ◌++◌, Option, None, Some, filter, length, map, slice_get, All}
 use Rattle.std.specs.List.{list_any}
-use Rattle.std.specs.Option.{ForSome}
 use Rattle.prefix_keys.specs.declared.block.Block.{Block}
 use Rattle.pmap_text.specs.declared.entry.Entry.{Entry}
 use Rattle.pmap_text.specs.declared.label.LabelId.{LabelId}
 use Rattle.pmap_text.specs.Label.{IsLabelTable}
 use Rattle.pmap_text.specs.MapModel.{MapModel}
-use Rattle.label_trie.specs.Tree.{Fork, Tip, Tree}
 use Rattle.label_trie.specs.TrieModel.{IsSettledLeaf, IsUndivided, LeafModel}
 use Rattle.pmap_cert.specs.CertificateText.{IsAscending}
 use Rattle.pmap_cert.specs.Node.{Chain, Inner, Leaf, Node, cost_of, set_of, HasNumberForm, tree_of}
@@ -36,11 +34,6 @@ abbrev pub IsExact : Node → Node → ℕ → List ℕ → Type 0
 IsExact low high cost set =
     IsExactBy (cost_of low) (cost_of high) (set_of low) (set_of high) (common_numbers (set_of low) (set_of high)) cost set
 
--- the node is the inner one of these halves, with their exact cost and set
-abbrev pub IsJoined : Node → Node → Node → Type 0
-IsJoined low high (Inner cost set left right) = (left ≡ low) × (right ≡ high) × IsExact low high cost set
-IsJoined low high _ = ⊥
-
 -- the node has no chain, each of its sets has a number, and at most `room` inner nodes are nested
 abbrev pub IsSound : Node → ℕ → Type 0
 IsSound (Leaf id) room = Unit {0}
@@ -62,23 +55,15 @@ IsOwnBy false ids block inherited old new id =
 abbrev pub IsOwn : List LabelId → Block → Option LabelId → List Entry → List Entry → LabelId → Type 0
 IsOwn ids block inherited old new id = IsOwnBy (keeps ids inherited) ids block inherited old new id
 
--- the node is the certificate's for the tree
-abbrev pub IsNodeFor : Tree → Node → Type 0
-IsNodeFor (Tip None) node = ⊥
-IsNodeFor (Tip (Some id)) node = node ≡ Leaf id.0
-IsNodeFor (Fork low high) node =
-    (lower : Node) × (upper : Node) × IsNodeFor low lower × IsNodeFor high upper × IsJoined lower upper node
+-- The node represents the block of n bits with the number q, which has h host bits, in the map, and its numbers are of
+-- the map's label table.
+pub record IsMapNode (m : MapModel) (n q h : ℕ) (node : Node) : Type 0 where
+  pub stands : StandsFor m (tree_of m.table node) n q
+  pub form : HasNumberForm (length m.table) node h
 
--- the leaf has a label, if any, whose number is below `count`
-abbrev pub IsKnownLeaf : ℕ → LeafModel → Type 0
-IsKnownLeaf count leaf = ForSome leaf.label (λ id. id < count)
-
--- The node is the certificate's for the block of n bits with the number q, which has h host bits and these leaves: it
--- represents the block in each map that settles the leaves with their labels and settles no block above a leaf, and its
--- numbers are those of the leaves' labels.
+-- the node is the certificate's for the block with these leaves, in each map that settles the leaves with their labels
+-- and settles no block above a leaf
 pub record IsCertified (n q h : ℕ) (leaves : List LeafModel) (node : Node) : Type 0 where
-  pub stands : (m : MapModel) → IsLabelTable m.table → All (IsSettledLeaf m) leaves → All (IsUndivided m) leaves
-      → StandsFor m (tree_of m.table node) n q
-  pub form : (count : ℕ) → All (IsKnownLeaf count) leaves → HasNumberForm count node h
+  pub each : (m : MapModel) → IsLabelTable m.table → All (IsSettledLeaf m) leaves → All (IsUndivided m) leaves → IsMapNode m n q h node
   pub sound : IsSound node h
   pub cost : cost_of node < length leaves

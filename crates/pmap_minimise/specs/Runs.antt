@@ -1,27 +1,32 @@
-use Rattle.std.specs.Prelude.{◌≡◌, ◌≢◌, ℕ, zero, suc, ◌+◌, ◌-◌, ◌*◌, ◌^◌, ◌<◌, ◌≤◌, ◌==◌, ◌⊎◌, List, Option, None, Some, IsSome, length, if◌then◌else◌, option_map}
+use Rattle.std.specs.Prelude.{◌≡◌, ◌≢◌, ℕ, zero, suc, ◌+◌, ◌-◌, ◌^◌, ◌<◌, ◌≤◌, ◌==◌, ◌⊎◌, List, Option, None, Some, IsSome, length, if◌then◌else◌, option_map}
 use Rattle.prefix_keys.specs.Block.{width_of}
-use Rattle.prefix_keys.specs.declared.version.Version.{Version}
+use Rattle.pmap_text.specs.Label.{IsLabelTable}
 use Rattle.pmap_text.specs.MapModel.{MapModel}
-use Rattle.pmap_text.specs.Settled.{IsMapOf, divisions, ends_inside}
+use Rattle.pmap_text.specs.Settled.{IsMapOf, divisions}
 use Rattle.pmap_text.specs.Stretches.{AreStretches, StretchesModel, label_at}
 use Rattle.pmap_text.specs.Windows.{AreHalvesOf, IsWindow, number_at}
 use Rattle.pmap_text.specs.declared.window.Window.{Window}
 use Rattle.pmap_text.specs.declared.label.LabelId.{LabelId}
 use Rattle.pmap_text.specs.declared.statement.Statement.{Statement}
 use Rattle.pmap_cert.specs.CertificateText.{IsAscending}
-use Rattle.pmap_cert.specs.Node.{Inner, Leaf, Node, label_of, set_of}
-use Rattle.label_trie.specs.Tree.{Fits, IsLabelled, Tree, leaf_count}
-use Rattle.pmap_minimise.specs.Numbers.{IsNodeFor}
+use Rattle.pmap_cert.specs.Node.{Inner, Leaf, Node, cost_of, label_of, set_of}
+use Rattle.pmap_minimise.specs.Numbers.{IsMapNode, IsSound}
 
--- The stretches are those of a map of statements with a default, few enough that its leaves can be counted.
+-- The stretches are those of statements with a default, few enough that their leaves can be counted.
 pub record AreCountable (s : StretchesModel) : Type 0 where
   pub statements : List Statement
   pub default : Option LabelId
   pub labelled : IsSome default
   pub stretches : AreStretches statements default s
-  pub map : MapModel
-  pub is : IsMapOf (width_of s.version) statements default map
   pub few : length statements ≤ 2000001
+
+-- the map has statements with these stretches
+pub record IsMapOn (s : StretchesModel) (m : MapModel) : Type 0 where
+  pub statements : List Statement
+  pub default : Option LabelId
+  pub stretches : AreStretches statements default s
+  pub is : IsMapOf (width_of s.version) statements default m
+  pub table : IsLabelTable m.table
 
 -- The stretches are those of statements with a default, few enough in the window's block that its leaves can be counted.
 pub record AreFew (s : StretchesModel) (a : Window) : Type 0 where
@@ -86,11 +91,6 @@ pub record IsRunTo (s : StretchesModel) (side : ℕ) (a end : Window) : Type 0 w
   pub counted : IsCounted s end
   pub len : end.len ≡ a.len + count
 
-pub record IsTreeOf (v : Version) (ss : List Statement) (default : Option LabelId) (n q : ℕ) (tree : Tree) : Type 0 where
-  pub fits : (m : MapModel) → IsMapOf (width_of v) ss default m → Fits m tree n q
-  pub labelled : IsSome default → IsLabelled tree
-  pub few : leaf_count tree ≤ 1 + ends_inside (width_of v) ss n q * (width_of v - n)
-
 -- the node is an inner one, and a half that is a leaf has the label of the block's half
 pub record HasLabelledHalves (s : StretchesModel) (a : Window) (node : Node) : Type 0 where
   pub cost : ℕ
@@ -104,11 +104,11 @@ pub record HasLabelledHalves (s : StretchesModel) (a : Window) (node : Node) : T
   pub low_label : label_of lower ≡ own_label s low
   pub high_label : label_of upper ≡ own_label s high
 
--- the node is the certificate's for the block, and the tree is that of the stretches' statements there
-pub record IsMade (s : StretchesModel) (a : Window) (tree : Tree) (node : Node) : Type 0 where
-  pub tree_of : (ss : List Statement) (default : Option LabelId) → AreStretches ss default s
-      → IsTreeOf s.version ss default a.len (number_at s a) tree
-  pub node_is : IsNodeFor tree node
+-- The node represents the block in each map on the stretches. It costs at most as often as the block is divided.
+pub record IsMade (s : StretchesModel) (a : Window) (node : Node) : Type 0 where
+  pub each : (m : MapModel) → IsMapOn s m → IsMapNode m a.len (number_at s a) (width_of s.version - a.len) node
+  pub few : (ss : List Statement) (default : Option LabelId) → AreStretches ss default s → cost_of node ≤ divisions s a ss
+  pub sound : IsSound node (width_of s.version - a.len)
   pub ascending : IsAscending (2 ^ 32) 0 (set_of node)
   pub own : label_of node ≡ own_label s a
   pub single : a.from ≡ a.to → (n : ℕ) × (node ≡ Leaf n)

@@ -4,11 +4,12 @@ ghost use Rattle.std.specs.Option.{option_or};
 ghost use Rattle.pmap_cert.specs.FormatReading.{ChainLine};
 ghost use Rattle.pmap_cert.specs.Node.{cost_of};
 ghost use Rattle.pmap_cert.specs.Paths.{path_to};
+ghost use Rattle.pmap_text.specs.MapModel.{MapModel};
 ghost use Rattle.pmap_text.specs.Windows.{IsWindow, number_at};
-ghost use Rattle.pmap_minimise.specs.Built.{AddsInner, AreHalves, IsBuilt, IsBuiltOn, last_node};
+ghost use Rattle.pmap_minimise.specs.Built.{AddsInner, AreHalves, IsBuilt, IsBuiltIn, last_node};
 ghost use Rattle.pmap_minimise.specs.Numbers.{has_number, numbers_of};
 ghost use Rattle.pmap_minimise.specs.Opened.{cost_above};
-ghost use Rattle.pmap_minimise.specs.Runs.{AreCountable, IsCounted, own_label};
+ghost use Rattle.pmap_minimise.specs.Runs.{AreCountable, IsCounted, IsMapOn, own_label};
 
 use crate::entering::has_label;
 use crate::runs::{own_label, run_end};
@@ -138,7 +139,7 @@ fn side_of(stretches: &Stretches, low: &Window, high: &Window) -> Option<LabelId
 /// Builds a compact certificate from stretches.
 pub fn built_of(alloc: Global, stretches: Stretches) -> Result<Root, AllocError>
     requires { AreCountable stretches }
-    ensures { IfOk result (IsBuiltOn stretches) }
+    ensures { IfOk result (λ root. (m : MapModel) → IsMapOn stretches m → IsBuiltIn m root) }
 {
     let count = stretches.len();
     // Usual maps have fewer nodes, so that none is copied. Memory that isn't written to isn't used.

@@ -1,10 +1,9 @@
 //! Reads the entries of a map's shortest list off its certificate, compact or not, from the root down.
-ghost use Rattle.std.specs.Prelude.{◌≡◌, ◌-◌, List, IfOk, OnOk, drop};
+ghost use Rattle.std.specs.Prelude.{◌≡◌, ◌-◌, IfOk, OnOk, drop};
 ghost use Rattle.prefix_keys.specs.Block.{width_of};
 ghost use Rattle.pmap_cert.specs.Node.{Node as AnyNode, first_node};
-ghost use Rattle.label_trie.specs.TrieModel.{LeafModel};
 ghost use Rattle.pmap_minimise.specs.Listing.{AddsEntries, IsListedBy};
-ghost use Rattle.pmap_minimise.specs.Numbers.{IsCertified};
+ghost use Rattle.pmap_minimise.specs.Numbers.{IsSound};
 ghost use Rattle.pmap_minimise.specs.Opened.{IsSoundAt, Opens};
 
 use crate::entering::push_own;
@@ -50,11 +49,9 @@ fn push_entries(
 
 /// Returns the entries of the shortest list by ascending first address, by the root of a map's certificate.
 pub fn entries_of(alloc: Global, root: &Root, version: Version) -> Result<Vec<Entry>, AllocError>
-    requires { (leaves : List LeafModel) × (node : AnyNode)
-        × IsCertified 0 0 (width_of version) leaves node × Opens root.now node }
-    ensures { IfOk result (λ entries. (leaves : List LeafModel) (node : AnyNode)
-        → IsCertified 0 0 (width_of version) leaves node → Opens root.now node
-        → IsListedBy version leaves node entries.items) }
+    requires { (node : AnyNode) × IsSound node (width_of version) × Opens root.now node }
+    ensures { IfOk result (λ entries. (node : AnyNode) → Opens root.now node
+        → IsListedBy version node entries.items) }
 {
     let mut at = cursor_of(root);
     // The list has one entry more than the root's cost.

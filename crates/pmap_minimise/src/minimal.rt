@@ -9,7 +9,7 @@ ghost use Rattle.pmap_cert.specs.CertificateText.{HasTextForm, certificate_text}
 ghost use Rattle.pmap_cert.specs.CertificateModel.{CertificateModel, claim_of};
 ghost use Rattle.pmap_cert.specs.Compacting.{compact};
 ghost use Rattle.label_trie.specs.TrieModel.{IsSettledLeaf, IsUndivided};
-ghost use Rattle.pmap_minimise.specs.Built.{IsBuiltFor};
+ghost use Rattle.pmap_minimise.specs.Built.{IsBuiltIn};
 
 use crate::building::built_of;
 use crate::claiming::claimed;
@@ -96,8 +96,6 @@ pub fn certificate_text(alloc: Global, map: MapText) -> Result<Vec<u8>, AllocErr
     ensures { IfOk result (λ text. (l : ListModel) × (c : CertificateModel) × IsMinimalPair (map_of map) l c
         × HasTextForm c × (text.items ≡ certificate_text c)) }
 {
-    // Provides the law that the table's labels are distinct.
-    let _labels = map.labels.len();
     let version = map.version;
     let (root, labels) = compact_root(alloc, map)?;
     let mut out = Vec::new(alloc);
@@ -113,8 +111,6 @@ pub fn compact_text(alloc: Global, map: MapText) -> Result<Vec<u8>, AllocError>
     ensures { IfOk result (λ text. (l : ListModel) × (c : CertificateModel) × IsMinimalPair (map_of map) l c
         × HasTextForm c × (text.items ≡ certificate_text (compact c))) }
 {
-    // Provides the law that the table's labels are distinct.
-    let _labels = map.labels.len();
     let version = map.version;
     let (root, labels) = compact_root(alloc, map)?;
     write_cert(
@@ -126,9 +122,11 @@ pub fn compact_text(alloc: Global, map: MapText) -> Result<Vec<u8>, AllocError>
 // Returns the root of the compact certificate of the map's minimal pair, and the map's label table. The memory of the
 // map's statements is freed first.
 fn compact_root(alloc: Global, map: MapText) -> Result<(Root, Labels), AllocError>
-    ensures built { IfOk result (λ built. IsBuiltFor map built.0) }
+    ensures built { IfOk result (λ built. IsBuiltIn (map_of map) built.0) }
     ensures labels { IfOk result (λ built. built.1 ≡ map.labels) }
 {
+    // Provides the law that the table's labels are distinct.
+    let _labels = map.labels.len();
     let stretches = Stretches::of_map(alloc, &map)?;
     let (_, labels) = named_labels_of(map);
     let root = built_of(alloc, stretches)?;

@@ -6,8 +6,8 @@ use Rattle.pmap_text.proofs.Windows.{window_some}
 use Rattle.prefix_keys.proofs.Groups.{width-le}
 use Rattle.pmap_minimise.specs.Runs.{own_label}
 use Rattle.pmap_minimise.specs.Built.{AddsInner, AreHalves}
-use Rattle.pmap_minimise.proofs.MadeNodes.{counted-halves, own-is}
-use Rattle.pmap_minimise.proofs.BuiltNodes.{IsShortRun, are-halves, before-claim, both-cost, built-claim, chain-built, end-smaller, halves-built, leaf-built, made-cost}
+use Rattle.pmap_minimise.proofs.MadeNodes.{both-cost, counted-halves, own-is}
+use Rattle.pmap_minimise.proofs.BuiltNodes.{IsShortRun, are-halves, before-claim, built-claim, chain-built, end-smaller, halves-built, leaf-built}
 use Rattle.pmap_minimise.proofs.building.+window.Goals as goal
 use Rattle.pmap_minimise.proofs.building.+window.Goals.{push_divided-in-Some+else-count-ge2, push_divided-in_default}
 
@@ -70,7 +70,7 @@ pub push_divided-push_chain-requires-clause-few : goal.push_divided-push_chain-r
 push_divided-push_chain-requires-clause-few t c =
     let built = c.in_ok-push_window.ensures in
     let is = c.run_end-end.ensures.counted in
-    let cost = made-cost c.args.stretches.now c.run_end-end.result built.tree built.node is built.made in
+    let cost = built.made.few is.few.statements is.few.default is.few.stretches in
     let few = is.few.few in
     omega (arith, (built-claim c.args.stretches.now c.run_end-end.result c.args.nodes.now c.push_window.new.nodes built).cost)
 
@@ -97,12 +97,17 @@ push_divided-push_inner-requires t c =
     let high = c.halves.result.1 in
     let above = c.in_ok-push_window-2.ensures in
     let below = c.in_ok-push_window-3.ensures in
+    let few = c.requires.counted.few.few in
     subst (λ (n : ℕ). AreHalves c.push_window-3.new.nodes (n - 1)) (sym c.len-upper.ensures)
     (are-halves c.push_window-3.new.nodes (length c.push_window-2.new.nodes - 1) below.node above.node
     (built-claim s low c.push_window-2.new.nodes c.push_window-3.new.nodes below)
     (before-claim s low high c.args.nodes.now c.push_window-2.new.nodes c.push_window-3.new.nodes above below) below.made.ascending above.made.ascending
-    (both-cost s c.args.window.now low high below.tree above.tree below.node above.node c.requires.counted
-    (counted-halves s c.args.window.now c.requires.counted c.requires.divided _ _ c.halves.ensures) below.made above.made))
+    (omega (
+      arith,
+      few,
+      both-cost s c.args.window.now low high below.node above.node c.requires.counted
+          (counted-halves s c.args.window.now c.requires.counted c.requires.divided _ _ c.halves.ensures) below.made above.made c.requires.counted.few.statements c.requires.counted.few.default c.requires.counted.few.stretches,
+    )))
 
 pub push_divided-returns : goal.push_divided-returns
 push_divided-returns t c =

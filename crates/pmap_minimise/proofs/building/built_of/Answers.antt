@@ -6,5 +6,5 @@ push_window-requires c = whole-counted c.args.stretches _ c.requires c.whole.ens
 
 pub returns : goal.returns
 returns c =
-    whole-built c.args.stretches c.whole.result c.in_ok-nodes.nodes c.push_window.new.nodes c.of_reversed.result c.requires c.whole.ensures.first c.whole.ensures.len c.in_ok-nodes.ensures
+    whole-built c.args.stretches c.whole.result c.in_ok-nodes.nodes c.push_window.new.nodes c.of_reversed.result c.whole.ensures.first c.whole.ensures.len c.in_ok-nodes.ensures
     c.in_ok-push_window.ensures c.of_reversed.ensures

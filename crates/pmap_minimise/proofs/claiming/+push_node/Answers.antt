@@ -5,7 +5,7 @@ use Rattle.pmap_text.specs.declared.label.LabelId.{LabelId}
 use Rattle.label_trie.specs.TrieModel.{LeafModel, model_of}
 use Rattle.pmap_minimise.specs.Built.{AddsInner, AreHalves}
 use Rattle.pmap_minimise.proofs.Claimed.{halves-claimed, halves-claims, leaf-claimed}
-use Rattle.pmap_minimise.proofs.Joined.{all-left, all-right}
+use Rattle.pmap_text.proofs.Finds.{All-left, All-right}
 use Rattle.pmap_minimise.proofs.claiming.+push_node.Goals as goal
 
 pub push_node-requires : goal.push_node-requires
@@ -15,7 +15,7 @@ push_node-requires t c =
     let width = ap width_of is.high_half.version in (
       omega (arith, is.high_half.len, width, c.decreases),
       (
-        all-right (λ (leaf : LeafModel). IsSome leaf.label) c.args.place.now.leaves c.in-Inner.low.leaves c.in-Inner.high.leaves is.leaves c.requires.labelled,
+        All-right (λ (leaf : LeafModel). IsSome leaf.label) c.in-Inner.low.leaves c.in-Inner.high.leaves (rw is.leaves at c.requires.labelled),
         omega (arith, ap length is.leaves, length-append c.in-Inner.low.leaves c.in-Inner.high.leaves, c.requires.few),
       ),
     )
@@ -27,7 +27,7 @@ push_node-requires-in-Inner t c =
     let width = ap width_of is.low_half.version in (
       omega (arith, is.low_half.len, width, c.decreases),
       (
-        all-left (λ (leaf : LeafModel). IsSome leaf.label) c.args.place.now.leaves c.in-Inner.low.leaves c.in-Inner.high.leaves is.leaves c.requires.labelled,
+        All-left (λ (leaf : LeafModel). IsSome leaf.label) c.in-Inner.low.leaves c.in-Inner.high.leaves (rw is.leaves at c.requires.labelled),
         omega (arith, ap length is.leaves, length-append c.in-Inner.low.leaves c.in-Inner.high.leaves, c.requires.few),
       ),
     )

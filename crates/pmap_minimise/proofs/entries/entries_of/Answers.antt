@@ -12,15 +12,14 @@ push_entries-requires c =
     let room : width_of c.args.version ≡ width_of c.whole_space.result.version - c.whole_space.result.len = let len = whole.len in sym (ap width_of whole.version) ∙ omega arith in
     subst (IsSoundAt c.cursor_of-at.result) room
     (subst (λ (ns : List Node). IsSoundAt ns (width_of c.args.version)) (sym c.cursor_of-at.ensures)
-    (record { some = omega arith; node = c.requires.1; opens = c.requires.3; sound = c.requires.2.sound }))
+    (record { some = omega arith; node = c.requires.0; opens = c.requires.2; sound = c.requires.1 }))
 
 pub returns : goal.returns
-returns c leaves node certified opens =
+returns c node opens =
     let whole = c.whole_space.ensures in
     record {
       block = c.whole_space.result;
       whole = record { version_is = whole.version; start = whole.value; bits = whole.len };
-      certified = certified;
       adds = subst (λ (l : List Entry). AddsEntries node c.whole_space.result None l c.push_entries.new.entries.items) c.in_ok-entries.ensures.items
           (c.in_ok-push_entries.ensures.adds node (subst (λ (ns : List Node). Opens (first_node ns) node) (sym c.cursor_of-at.ensures) opens));
     }

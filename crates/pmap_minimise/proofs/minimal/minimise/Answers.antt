@@ -8,16 +8,15 @@ use Rattle.pmap_cert.specs.Certificate.{certificate_of}
 use Rattle.pmap_cert.specs.Format.{format_number}
 use Rattle.pmap_cert.specs.Node.{HasNumberForm, Node, cost_of, first_node, tree_of}
 use Rattle.prefix_keys.specs.declared.version.Version.{Version}
-use Rattle.pmap_minimise.specs.Numbers.{IsCertified}
-use Rattle.pmap_minimise.proofs.Joined.{claim-cost}
-use Rattle.pmap_minimise.proofs.TreeNodes.{sound-opens}
+use Rattle.pmap_minimise.specs.Numbers.{IsSound}
+use Rattle.pmap_minimise.proofs.Joined.{claim-cost, sound-opens}
 use Rattle.pmap_minimise.proofs.Whole.{claimed-shortest, list_with, listed-form, listed-minimal, shortest-distinct}
 use Rattle.pmap_minimise.proofs.minimal.minimise.Goals as goal
 
 pub entries_of-requires : goal.entries_of-requires
 entries_of-requires c =
-    let certified = subst (λ (v : Version). IsCertified 0 0 (width_of v) c.args.trie.now.leaves c.in_ok-root.root) c.requires.version c.in_ok-root.ensures in
-    (c.args.trie.now.leaves, c.in_ok-root.root, certified, sound-opens c.in_ok-root.root (width_of c.args.map.now.version) certified.sound)
+    let sound = subst (λ (v : Version). IsSound c.in_ok-root.root (width_of v)) c.requires.version c.in_ok-root.ensures.sound in
+    (c.in_ok-root.root, sound, sound-opens c.in_ok-root.root (width_of c.args.map.now.version) sound)
 
 pub list_with-list-requires : goal.list_with-list-requires
 list_with-list-requires c =
@@ -34,7 +33,7 @@ new-certificate-requires c =
     let m = c.args.map.now in
     let made = claimed-shortest m c.args.trie.now.version c.args.trie.now.leaves c.in_ok-root.root c.in_ok-entries.entries.items c.in_ok-root.ensures
     c.requires.version c.len-labels.ensures.table c.requires.settled c.requires.undivided c.in_ok-entries.ensures in
-    subst (λ (t : List Label). HasNumberForm (length t) c.in_ok-root.root (width_of m.version)) (sym c.in_ok-labels.ensures) made.of.form
+    subst (λ (t : List Label). HasNumberForm (length t) c.in_ok-root.root (width_of m.version)) (sym c.in_ok-labels.ensures) made.is.form
 
 pub returns : goal.returns
 returns c =

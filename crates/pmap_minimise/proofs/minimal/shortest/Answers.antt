@@ -1,12 +1,9 @@
 use Rattle.std.proofs.Common.{◌<◌, ◌∙◌, All, List, length, map, subst, sym}
-use Rattle.prefix_keys.specs.Block.{width_of}
-use Rattle.prefix_keys.specs.declared.version.Version.{Version}
 use Rattle.pmap_text.specs.MapModel.{Label}
 use Rattle.pmap_text.specs.MapText.{map_of}
 use Rattle.pmap_text.specs.PrefixList.{list_of, prefix_of}
 use Rattle.pmap_cert.proofs.InOrder.{list-form}
-use Rattle.pmap_minimise.specs.Numbers.{IsCertified}
-use Rattle.pmap_minimise.proofs.LabelRuns.{runs-countable, runs-distinct, runs-entries, runs-pair}
+use Rattle.pmap_minimise.proofs.LabelRuns.{runs-built, runs-countable, runs-distinct, runs-entries, runs-pair}
 use Rattle.pmap_minimise.proofs.Whole.{own-labels}
 use Rattle.pmap_minimise.proofs.minimal.shortest.Goals as goal
 
@@ -17,21 +14,21 @@ built_of-requires c =
 
 pub entries_of-requires : goal.entries_of-requires
 entries_of-requires c =
-    let built = c.in_ok-root.ensures in
-    (built.leaves, built.node, subst (λ (v : Version). IsCertified 0 0 (width_of v) built.leaves built.node) c.in_ok-runs.ensures.version built.built.certified, built.built.opens)
+    let is = c.in_ok-runs.ensures in
+    let built = runs-built c.args.map c.in_ok-runs.runs is.version is.every is.few is.labels c.len-labels.ensures.table c.in_ok-root.root c.in_ok-root.ensures in
+    (built.node, built.sound, built.opens)
 
 pub list_with-requires : goal.list_with-requires
 list_with-requires c =
     let m = c.args.map in
     let is = c.in_ok-runs.ensures in
-    let built = c.in_ok-root.ensures in
-    let listed = c.in_ok-items.ensures built.leaves built.node
-    (subst (λ (v : Version). IsCertified 0 0 (width_of v) built.leaves built.node) is.version built.built.certified) built.built.opens in
-    let made = runs-entries m c.in_ok-runs.runs is.version is.every is.few is.labels c.len-labels.ensures.table c.in_ok-root.root built c.in_ok-items.items.items listed in
+    let built = runs-built m c.in_ok-runs.runs is.version is.every is.few is.labels c.len-labels.ensures.table c.in_ok-root.root c.in_ok-root.ensures in
+    let listed = c.in_ok-items.ensures built.node built.opens in
+    let made = runs-entries m c.in_ok-runs.runs is.version is.every is.few is.labels c.len-labels.ensures.table c.in_ok-root.root c.in_ok-root.ensures c.in_ok-items.items.items listed in
     record {
       versions = made.versions;
       known = subst (λ (t : List Label). All (λ e. e.label.0 < length t) c.in_ok-items.items.items) (sym c.named_labels_of-name.ensures.labels) made.known;
-      distinct = runs-distinct m c.in_ok-runs.runs is.version is.every is.few is.labels c.len-labels.ensures.table c.in_ok-root.root built c.in_ok-items.items.items listed;
+      distinct = runs-distinct m c.in_ok-runs.runs is.version is.every is.few is.labels c.len-labels.ensures.table c.in_ok-root.root c.in_ok-root.ensures c.in_ok-items.items.items listed;
     }
 
 pub returns : goal.returns
@@ -39,14 +36,13 @@ returns c =
     let m = c.args.map in
     let l = list_of c.list_with.result in
     let runs = c.in_ok-runs.ensures in
-    let built = c.in_ok-root.ensures in
     let items = c.in_ok-items.items.items in
-    let listed = c.in_ok-items.ensures built.leaves built.node
-    (subst (λ (v : Version). IsCertified 0 0 (width_of v) built.leaves built.node) runs.version built.built.certified) built.built.opens in
+    let built = runs-built m c.in_ok-runs.runs runs.version runs.every runs.few runs.labels c.len-labels.ensures.table c.in_ok-root.root c.in_ok-root.ensures in
+    let listed = c.in_ok-items.ensures built.node built.opens in
     let name = c.named_labels_of-name.ensures.name in
     let labels = c.named_labels_of-name.ensures.labels in
     let is = c.list_with.ensures ∙ (λ i. record { version = m.version; name = name i; prefixes = map (prefix_of (labels i)) items; table = labels i }) in
-    let pair = runs-pair m c.in_ok-runs.runs runs.version runs.every runs.few runs.labels c.len-labels.ensures.table c.in_ok-root.root built items listed l is in
+    let pair = runs-pair m c.in_ok-runs.runs runs.version runs.every runs.few runs.labels c.len-labels.ensures.table c.in_ok-root.root c.in_ok-root.ensures items listed l is in
     record {
       minimal = pair;
       equivalent = c.minimal_pair_is_accepted.ensures.equivalent (map_of m) l pair.0 pair.1;
