@@ -2,7 +2,7 @@
 use Rattle.std.proofs.Common.{◌≡◌, ℕ, ◌+◌, ◌*◌, ◌<◌, ◌≤◌, ◌&&◌, ◌||◌, ◌==◌, Bool, true, false, List, [], ◌∷◌, ◌++◌, Some, None, Ok, All, length, map, take, drop, ap, sym, refl, ◌∙◌, arith, codes, inl, inr, nat_le, le-leb, ok_or, option_map}
 use Rattle.std.specs.List.{list_all, list_any, position_or_len, before_first, after_first}
 use Rattle.std.specs.Str.{bytes_eq}
-use Rattle.std.proofs.lemmas.Bool.{cases_Bool, eqb-true, false≢true, true≢false, cond-false, cond-true, and_from, false_from_ne_true, or_cases, or_from, or_right}
+use Rattle.std.proofs.lemmas.Bool.{eqb-true, false≢true, true≢false, cond-false, cond-true, and_from, false_from_ne_true, or_cases, or_from, or_right}
 use Rattle.std.proofs.lemmas.List.{append_assoc, length-take-le, take_at, drop_at, drop-drop}
 use Rattle.std.proofs.lemmas.List.Elements.{All-head, All-tail, All-append, All-cons}
 use Rattle.std.proofs.lemmas.List.Folds.{list_any-append, list_all-append}
@@ -10,9 +10,9 @@ use Rattle.std.proofs.lemmas.List.Splits.{slice_split_at, slice_split_none}
 use Rattle.std.proofs.lemmas.Slice.Eq.{bytes_eq-Decides}
 use Rattle.prefix_keys.proofs.Bytes.{all-weaker, apart, lacks, none-passes}
 use Rattle.prefix_keys.proofs.LeadingGroups.{colon-in}
-use Rattle.prefix_keys.proofs.Pieces.{is_point, of_all, short_number-undigit}
+use Rattle.prefix_keys.proofs.Pieces.{is_point, of_all}
 use Rattle.prefix_keys.specs.Block.{block_number, first_of, width_of}
-use Rattle.prefix_keys.specs.Inner.{is_colon_byte}
+use Rattle.prefix_keys.specs.Inner.{BeginsWith, is_colon_byte}
 use Rattle.std.specs.Char.{is_ascii_hexdigit}
 use Rattle.prefix_keys.specs.Text.{AddressOf, BlockOf, address_of, block_from, block_of_text, colon_address, decimal_value, dotted_address, four_bytes, is_digit, decimal_number}
 use Rattle.prefix_keys.specs.declared.addr.Addr.{Addr}
@@ -20,20 +20,9 @@ use Rattle.prefix_keys.specs.declared.block.Block.{Block}
 use Rattle.prefix_keys.specs.declared.text.BlockFault.TheVariants.{BadLength}
 use Rattle.prefix_keys.specs.declared.version.Version.TheVariants.{V4, V6}
 use Rattle.pmap_text.specs.Label.{is_blank}
-use Rattle.pmap_text.specs.Inner.{BeginsWithAddress, BeginsWithBlank, BeginsWithDotted, BeginsWithNumber, IsWord, is_address_byte, Address}
+use Rattle.pmap_text.specs.Inner.{BeginsWithBlank, IsWord, is_address_byte, is_dotted_byte, Address}
 use Rattle.pmap_text.specs.Reading.{behind_word, first_word, trim_start, Earlier, block_line, content_line, one_or_two, statement_line, Form}
 use Rattle.pmap_text.specs.declared.leading.Word.TheVariants.{Block as block_word}
-
--- a number consists of digits
-pub number-digits : (limit : ℕ) (text : List ℕ) (n : ℕ) → decimal_number 3 limit text ≡ Some n → list_all is_digit text ≡ true
-number-digits limit text n reads = elim (cases_Bool (list_all is_digit text)) [
-  | inl all ↦ all
-  | inr some ↦ let none : None ≡ Some n = sym (short_number-undigit limit text some) ∙ reads in absurd cc
-]
-
-number-no_point : (limit : ℕ) (text : List ℕ) (n : ℕ) → decimal_number 3 limit text ≡ Some n → All (λ b. is_point b ≡ false) text
-number-no_point limit text n reads =
-    none-passes is_digit is_point (apart is_digit 46 refl) text (number-digits limit text n reads)
 
 -- one to three digits at the start are a number
 pub number-some : (limit : ℕ) (text : List ℕ) (at n : ℕ) → n ≡ decimal_value (take at text) → list_all is_digit (take at text) ≡ true
@@ -47,44 +36,22 @@ number-some limit text at n value digits some few within small =
     cond-true _ (Some (decimal_value front)) None (and_from _ _ one (and_from _ _ three (and_from _ _ digits limited)))
     ∙ ap (λ m. Some m) (sym value)
 
--- four numbers separated by points are an address
-abbrev pub pointed : List ℕ → List ℕ → List ℕ → List ℕ → List ℕ
+-- four numbers separated by points
+abbrev pointed : List ℕ → List ℕ → List ℕ → List ℕ → List ℕ
 pointed f0 f1 f2 f3 = f0 ++ 46 ∷ (f1 ++ 46 ∷ (f2 ++ 46 ∷ f3))
 
-pub dotted-numbers : (f0 f1 f2 f3 : List ℕ) (a b c d : ℕ)
-    → decimal_number 3 255 f0 ≡ Some a → decimal_number 3 255 f1 ≡ Some b → decimal_number 3 255 f2 ≡ Some c → decimal_number 3 255 f3 ≡ Some d
-    → dotted_address (pointed f0 f1 f2 f3) ≡ Some (((a * 256 + b) * 256 + c) * 256 + d)
-dotted-numbers f0 f1 f2 f3 a b c d ea eb ec ed =
-    ap (λ pieces. of_all four_bytes (map (decimal_number 3 255) pieces))
-    (slice_split_at is_point f0 46 (f1 ++ 46 ∷ (f2 ++ 46 ∷ f3)) (number-no_point 255 f0 a ea) refl
-    ∙ ap (λ ps. f0 ∷ ps) (slice_split_at is_point f1 46 (f2 ++ 46 ∷ f3) (number-no_point 255 f1 b eb) refl
-    ∙ ap (λ ps. f1 ∷ ps) (slice_split_at is_point f2 46 f3 (number-no_point 255 f2 c ec) refl
-    ∙ ap (λ ps. f2 ∷ ps) (slice_split_none is_point f3 (number-no_point 255 f3 d ed)))))
-    ∙ ap (of_all four_bytes) (λ i. ea i ∷ eb i ∷ ec i ∷ ed i ∷ [])
+no_point : (f : List ℕ) → list_all is_digit f ≡ true → All (λ b. is_point b ≡ false) f
+no_point f digits = none-passes is_digit is_point (apart is_digit 46 refl) f digits
 
--- its bytes are digits and points
-abbrev pub is_dotted_byte : ℕ → Bool
-is_dotted_byte b = is_digit b || b == 46
+digit-dotted : (f : List ℕ) → list_all is_digit f ≡ true → list_all is_dotted_byte f ≡ true
+digit-dotted f digits = all-weaker is_digit is_dotted_byte (λ b digit. rw digit refl) f digits
 
-digit-dotted : (b : ℕ) → is_digit b ≡ true → is_dotted_byte b ≡ true
-digit-dotted b digit = rw digit refl
-
-number-dotted : (f : List ℕ) (a : ℕ) → decimal_number 3 255 f ≡ Some a → list_all is_dotted_byte f ≡ true
-number-dotted f a reads = all-weaker is_digit is_dotted_byte digit-dotted f (number-digits 255 f a reads)
-
-number-pointed : (f t : List ℕ) (a : ℕ) → decimal_number 3 255 f ≡ Some a → list_all is_dotted_byte t ≡ true → list_all is_dotted_byte (f ++ 46 ∷ t) ≡ true
-number-pointed f t a reads all =
-    list_all-append is_dotted_byte f (46 ∷ t) ∙ ap (λ x. x && list_all is_dotted_byte t) (number-dotted f a reads) ∙ all
-
-pub dotted-bytes : (f0 f1 f2 f3 : List ℕ) (a b c d : ℕ)
-    → decimal_number 3 255 f0 ≡ Some a → decimal_number 3 255 f1 ≡ Some b → decimal_number 3 255 f2 ≡ Some c → decimal_number 3 255 f3 ≡ Some d
-    → list_all is_dotted_byte (pointed f0 f1 f2 f3) ≡ true
-dotted-bytes f0 f1 f2 f3 a b c d ea eb ec ed =
-    number-pointed f0 (f1 ++ 46 ∷ (f2 ++ 46 ∷ f3)) a ea
-    (number-pointed f1 (f2 ++ 46 ∷ f3) b eb (number-pointed f2 f3 c ec (number-dotted f3 d ed)))
+number-pointed : (f t : List ℕ) → list_all is_digit f ≡ true → list_all is_dotted_byte t ≡ true → list_all is_dotted_byte (f ++ 46 ∷ t) ≡ true
+number-pointed f t digits all =
+    list_all-append is_dotted_byte f (46 ∷ t) ∙ ap (λ x. x && list_all is_dotted_byte t) (digit-dotted f digits) ∙ all
 
 -- the text after the parts is the text after the whole
-pub dotted-whole : (text t1 t2 t3 rest f0 f1 f2 f3 : List ℕ)
+dotted-whole : (text t1 t2 t3 rest f0 f1 f2 f3 : List ℕ)
     → text ≡ f0 ++ 46 ∷ t1 → t1 ≡ f1 ++ 46 ∷ t2 → t2 ≡ f2 ++ 46 ∷ t3 → t3 ≡ f3 ++ rest
     → text ≡ pointed f0 f1 f2 f3 ++ rest
 dotted-whole text t1 t2 t3 rest f0 f1 f2 f3 e0 e1 e2 e3 =
@@ -92,20 +59,33 @@ dotted-whole text t1 t2 t3 rest f0 f1 f2 f3 e0 e1 e2 e3 =
     ∙ sym (append_assoc f2 (46 ∷ f3) rest)) ∙ sym (append_assoc f1 (46 ∷ (f2 ++ 46 ∷ f3)) rest))
     ∙ sym (append_assoc f0 (46 ∷ (f1 ++ 46 ∷ (f2 ++ 46 ∷ f3))) rest)
 
--- so a text that begins with them begins with an address
+-- a text that begins with them begins with an address
+abbrev BeginsWithOctet : List ℕ → List ℕ → ℕ → Type 0
+BeginsWithOctet text rest n = BeginsWith is_digit (decimal_number 3 255) text rest n
+
 pub begins-dotted : (text r0 t1 r1 t2 r2 t3 rest : List ℕ) (a b c d : ℕ)
-    → BeginsWithNumber text r0 255 a → r0 ≡ 46 ∷ t1 → BeginsWithNumber t1 r1 255 b → r1 ≡ 46 ∷ t2
-    → BeginsWithNumber t2 r2 255 c → r2 ≡ 46 ∷ t3 → BeginsWithNumber t3 rest 255 d
-    → BeginsWithDotted text rest (((a * 256 + b) * 256 + c) * 256 + d)
-begins-dotted text r0 t1 r1 t2 r2 t3 rest a b c d one p0 two p1 three p2 four = record {
-  front = pointed one.front two.front three.front four.front;
-  whole =
-      dotted-whole text t1 t2 t3 rest one.front two.front three.front four.front
-      (one.whole ∙ ap (λ r. one.front ++ r) p0) (two.whole ∙ ap (λ r. two.front ++ r) p1)
-      (three.whole ∙ ap (λ r. three.front ++ r) p2) four.whole;
-  bytes = dotted-bytes one.front two.front three.front four.front a b c d one.reads two.reads three.reads four.reads;
-  reads = dotted-numbers one.front two.front three.front four.front a b c d one.reads two.reads three.reads four.reads;
-}
+    → BeginsWithOctet text r0 a → r0 ≡ 46 ∷ t1 → BeginsWithOctet t1 r1 b → r1 ≡ 46 ∷ t2
+    → BeginsWithOctet t2 r2 c → r2 ≡ 46 ∷ t3 → BeginsWithOctet t3 rest d
+    → BeginsWith is_dotted_byte dotted_address text rest (((a * 256 + b) * 256 + c) * 256 + d)
+begins-dotted text r0 t1 r1 t2 r2 t3 rest a b c d one p0 two p1 three p2 four =
+    let f0 = one.front in
+    let f1 = two.front in
+    let f2 = three.front in
+    let f3 = four.front in
+    record {
+      front = pointed f0 f1 f2 f3;
+      whole =
+          dotted-whole text t1 t2 t3 rest f0 f1 f2 f3 (one.whole ∙ ap (λ r. f0 ++ r) p0) (two.whole ∙ ap (λ r. f1 ++ r) p1)
+          (three.whole ∙ ap (λ r. f2 ++ r) p2) four.whole;
+      bytes = number-pointed f0 _ one.bytes (number-pointed f1 _ two.bytes (number-pointed f2 _ three.bytes (digit-dotted f3 four.bytes)));
+      reads =
+          ap (λ pieces. of_all four_bytes (map (decimal_number 3 255) pieces))
+          (slice_split_at is_point f0 46 (f1 ++ 46 ∷ (f2 ++ 46 ∷ f3)) (no_point f0 one.bytes) refl
+          ∙ ap (λ ps. f0 ∷ ps) (slice_split_at is_point f1 46 (f2 ++ 46 ∷ f3) (no_point f1 two.bytes) refl
+          ∙ ap (λ ps. f1 ∷ ps) (slice_split_at is_point f2 46 f3 (no_point f2 three.bytes) refl
+          ∙ ap (λ ps. f2 ∷ ps) (slice_split_none is_point f3 (no_point f3 four.bytes)))))
+          ∙ ap (of_all four_bytes) (λ i. one.reads i ∷ two.reads i ∷ three.reads i ∷ four.reads i ∷ []);
+    }
 
 -- a dotted address is an address, of bytes of addresses
 pub dotted-address : (front : List ℕ) (value : ℕ) → list_all is_dotted_byte front ≡ true → dotted_address front ≡ Some value
@@ -181,7 +161,7 @@ word-behind text front rest whole none blank =
     ∙ ap trim_start (drop_at front (blank.blank ∷ blank.rest) (length front) refl ∙ sym blank.whole)
 
 -- an address followed by a blank is the first word
-pub address-word : (text rest : List ℕ) (addr : Addr) → BeginsWithAddress text rest addr → BeginsWithBlank rest
+pub address-word : (text rest : List ℕ) (addr : Addr) → BeginsWith is_address_byte address_of text rest (addr.version, addr.value) → BeginsWithBlank rest
     → IsWord (first_word text) (Address addr) × (behind_word text ≡ trim_start rest)
 address-word text rest addr begins blank =
     let none = address-no_blank begins.front begins.bytes in
@@ -227,8 +207,8 @@ slash-in : (front digits : List ℕ) → list_any (λ b. b == 47) (front ++ 47 �
 slash-in front digits =
     list_any-append (λ b. b == 47) front (47 ∷ digits) ∙ or_right (list_any (λ b. b == 47) front) (list_any (λ b. b == 47) (47 ∷ digits)) refl
 
-pub block-word : (text rest length left : List ℕ) (addr : Addr) (len : ℕ) (block : Block) → BeginsWithAddress text rest addr
-    → rest ≡ 47 ∷ length → BeginsWithNumber length left (width_of addr.version) len → BeginsWithBlank left
+pub block-word : (text rest length left : List ℕ) (addr : Addr) (len : ℕ) (block : Block) → BeginsWith is_address_byte address_of text rest (addr.version, addr.value)
+    → rest ≡ 47 ∷ length → BeginsWith is_digit (decimal_number 3 (width_of addr.version)) length left len → BeginsWithBlank left
     → block.version ≡ addr.version → block.len ≡ len
     → block.value ≡ first_of (width_of addr.version) len (block_number (width_of addr.version) len addr.value)
     → IsWord (first_word text) (block_word block) × (behind_word text ≡ trim_start left)
@@ -238,7 +218,7 @@ block-word text rest length left addr len block begins slash number blank versio
     let none : All (λ b. is_blank b ≡ false) front =
     All-append (λ b. is_blank b ≡ false) begins.front (47 ∷ number.front) (address-no_blank begins.front begins.bytes)
     (All-cons (λ b. is_blank b ≡ false) 47 number.front refl
-    (digits-no_blank number.front (number-digits (width_of addr.version) number.front len number.reads))) in
+    (digits-no_blank number.front number.bytes)) in
     let word = word-front text front left whole none blank in (
       (
         ap block_of_text word ∙ block-reads begins.front number.front addr len begins.bytes begins.reads number.reads

@@ -6,7 +6,7 @@ use Rattle.std.specs.Option.{ForSome}
 use Rattle.std.specs.Ordering.{is_eq, nat_cmp, ordering_then}
 use Rattle.std.specs.declared.cmp.Ordering.{Ordering}
 use Rattle.std.specs.Char.{is_ascii_hexdigit}
-use Rattle.prefix_keys.specs.Text.{address_of, block_of_text, dotted_address, is_digit, decimal_number}
+use Rattle.prefix_keys.specs.Text.{address_of, block_of_text, is_digit}
 use Rattle.prefix_keys.specs.declared.addr.Addr.{Addr}
 use Rattle.pmap_text.specs.declared.hashing.KeyHasher.{KeyHasher}
 use Rattle.pmap_text.specs.Label.{is_blank, meant_text}
@@ -43,22 +43,8 @@ finished hasher = folded hasher.state hasher.hashing.seed
 abbrev pub is_address_byte : ℕ → Bool
 is_address_byte b = is_ascii_hexdigit b || (b == 46 || b == 58)
 
-pub record BeginsWithNumber (text rest : List ℕ) (limit number : ℕ) : Type 0 where
-  pub front : List ℕ
-  pub whole : text ≡ front ++ rest
-  pub reads : decimal_number 3 limit front ≡ Some number
-
-pub record BeginsWithDotted (text rest : List ℕ) (number : ℕ) : Type 0 where
-  pub front : List ℕ
-  pub whole : text ≡ front ++ rest
-  pub bytes : list_all (λ b. is_digit b || b == 46) front ≡ true
-  pub reads : dotted_address front ≡ Some number
-
-pub record BeginsWithAddress (text rest : List ℕ) (addr : Addr) : Type 0 where
-  pub front : List ℕ
-  pub whole : text ≡ front ++ rest
-  pub bytes : list_all is_address_byte front ≡ true
-  pub reads : address_of front ≡ Some (addr.version, addr.value)
+abbrev pub is_dotted_byte : ℕ → Bool
+is_dotted_byte b = is_digit b || b == 46
 
 pub record BeginsWithBlank (text : List ℕ) : Type 0 where
   pub blank : ℕ

@@ -88,6 +88,7 @@ impl Declarations {
 
     /// Returns the text that a label represents: the declared text if the label is a declared number, otherwise the
     /// label itself.
+    #[inline(always)]
     pub fn meant<'a>(&'a self, label: &'a [u8]) -> &'a [u8]
         ensures value { result.now ≡ meant_text self.now label.now }
         ensures label { IsTrue (is_label label.now) ↔ IsTrue (is_label result.now) }

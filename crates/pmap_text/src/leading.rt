@@ -1,7 +1,9 @@
 //! Addresses and blocks at the start of a text, read in one pass over its bytes. If a function here returns `None`,
 //! only the functions that read whole words can decide what the text is.
 ghost use Rattle.std.specs.Prelude.{◌≡◌, ◌≤◌, ◌∷◌, IfSome};
-ghost use Rattle.pmap_text.specs.Inner.{BeginsWithAddress, BeginsWithBlank, BeginsWithDotted, BeginsWithNumber, IsWord};
+ghost use Rattle.prefix_keys.specs.Inner.{BeginsWith};
+ghost use Rattle.prefix_keys.specs.Text.{address_of, decimal_number, dotted_address, is_digit};
+ghost use Rattle.pmap_text.specs.Inner.{BeginsWithBlank, IsWord, is_address_byte, is_dotted_byte};
 ghost use Rattle.pmap_text.specs.Reading.{behind_word, first_word, trim_start};
 
 use crate::label::is_blank;
@@ -19,7 +21,7 @@ pub enum Word {
 // Returns `None` if the text ends after the number or goes on with another digit.
 #[inline(always)]
 fn leading_number(text: &[u8], limit: u32) -> Option<(u32, &[u8])>
-    ensures number { IfSome result (λ r. BeginsWithNumber text.now r.1.now limit r.0) }
+    ensures number { IfSome result (λ r. BeginsWith is_digit (decimal_number 3 limit) text.now r.1.now r.0) }
     ensures limited { IfSome result (λ r. r.0 ≤ limit) }
 {
     let mut number = 0;
@@ -53,7 +55,7 @@ fn behind_byte(text: &[u8], byte: u8) -> Option<&[u8]>
 // Returns the number of the IPv4 address at the start of a text, and the rest of the text.
 #[inline(always)]
 fn leading_dotted(text: &[u8]) -> Option<(u32, &[u8])>
-    ensures { IfSome result (λ r. BeginsWithDotted text.now r.1.now r.0) }
+    ensures { IfSome result (λ r. BeginsWith is_dotted_byte dotted_address text.now r.1.now r.0) }
 {
     // Most IPv6 addresses have their first colon here.
     if let [_, _, _, _, b':', ..] = text {
@@ -69,7 +71,7 @@ fn leading_dotted(text: &[u8]) -> Option<(u32, &[u8])>
 // Returns the address of either version at the start of a text, and the rest of the text.
 #[inline(always)]
 fn leading_address(text: &[u8]) -> Option<(Addr, &[u8])>
-    ensures { IfSome result (λ r. BeginsWithAddress text.now r.1.now r.0) }
+    ensures { IfSome result (λ r. BeginsWith is_address_byte address_of text.now r.1.now (r.0.version, r.0.value)) }
 {
     match leading_dotted(text) {
         Some((value, rest)) => {

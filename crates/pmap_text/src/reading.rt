@@ -61,6 +61,7 @@ impl Model for Reading {
 }
 
 // Returns the number of a text in the table. The search starts where the text was last found.
+#[inline(always)]
 fn known_number(labels: &Labels, recent: &mut Recent, text: &[u8]) -> Option<LabelId>
     ensures label { IfSome result (λ id. IsTrue (is_label_text text.now)) }
     ensures known { IfSome result (λ id. has_label labels.now text.now ≡ true) }

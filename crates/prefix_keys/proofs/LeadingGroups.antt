@@ -5,7 +5,7 @@ use Rattle.std.proofs.lemmas.Bool.{and_from, and_right, cond-true, cond-false, c
 use Rattle.std.proofs.lemmas.List.{append_assoc, append-nil, length-append}
 use Rattle.std.proofs.lemmas.List.Folds.{list_all-append}
 use Rattle.std.proofs.lemmas.List.Splits.{slice_split_at, slice_split_none, length-slice_split}
-use Rattle.prefix_keys.specs.Inner.{BeginsWithColon, BeginsWithGroup, BeginsWithSide, behind, is_colon_byte, more_groups}
+use Rattle.prefix_keys.specs.Inner.{BeginsWith, BeginsWithSide, behind, is_colon_byte, more_groups}
 use Rattle.std.specs.Char.{is_ascii_hexdigit}
 use Rattle.prefix_keys.specs.Text.{around_gap, around_address, colon_address, groups_of_pieces, hex_group, hex_value, last_groups, side_groups, text_groups, dotted_address}
 use Rattle.prefix_keys.proofs.ColonPieces.{is_colon, groups_of-more, more-next, onto_groups}
@@ -88,7 +88,7 @@ eight-groups [] c n eight h = let zero : c ≡ 0 = counted-count [] c n h in abs
 eight-groups (b ∷ text) c n eight h = h
 
 -- one more group and the colon after it
-pub read-more : (text rest behind-group next : List ℕ) (c n g c' n' : ℕ) → HasRead text rest c n → BeginsWithGroup rest behind-group g
+pub read-more : (text rest behind-group next : List ℕ) (c n g c' n' : ℕ) → HasRead text rest c n → BeginsWith is_ascii_hexdigit hex_group rest behind-group g
     → behind-group ≡ 58 ∷ next → Some (c', n') ≡ more_groups c n (Some (g ∷ [])) → HasRead text next c' n'
 read-more text rest behind-group next c n g c' n' has group colon more =
     let f : List ℕ = group.front in
@@ -120,7 +120,7 @@ read-more text rest behind-group next c n g c' n' has group colon more =
     }
 
 -- the last group, with no single colon after it
-pub read-last : (text rest left : List ℕ) (c n g c' n' : ℕ) → HasRead text rest c n → BeginsWithGroup rest left g
+pub read-last : (text rest left : List ℕ) (c n g c' n' : ℕ) → HasRead text rest c n → BeginsWith is_ascii_hexdigit hex_group rest left g
     → Some (c', n') ≡ more_groups c n (Some (g ∷ [])) → BeginsWithSide text left c' n'
 read-last text rest left c n g c' n' has group more =
     let f : List ℕ = group.front in
@@ -147,7 +147,7 @@ read-last text rest left c n g c' n' has group more =
 -- two sides of a `::`, and eight groups without one
 pub colon-gap : (text rest back left : List ℕ) (c n d m : ℕ) (value : ℕ) → BeginsWithSide text rest c n → rest ≡ 58 ∷ 58 ∷ back
     → BeginsWithSide back left d m → Some value ≡ (if nat_le (c + d) 7 then Some (n * 2 ^ (16 * (8 - c)) + m) else None)
-    → BeginsWithColon text left value
+    → BeginsWith is_colon_byte colon_address text left value
 colon-gap text rest back left c n d m value one gap two joined =
     let front : List ℕ = one.front ++ 58 ∷ 58 ∷ two.front in
     let around : around_gap front ≡ Some (one.front, two.front) =
@@ -164,7 +164,7 @@ colon-gap text rest back left c n d m value one gap two joined =
           ∙ sym joined;
     }
 
-pub colon-whole : (text rest : List ℕ) (c n : ℕ) → BeginsWithSide text rest c n → c ≡ 8 → BeginsWithColon text rest n
+pub colon-whole : (text rest : List ℕ) (c n : ℕ) → BeginsWithSide text rest c n → c ≡ 8 → BeginsWith is_colon_byte colon_address text rest n
 colon-whole text rest c n side eight =
     let front : List ℕ = side.front in
     let none : around_gap front ≡ None = ap around_gap (sym (append-nil front)) ∙ side.gap [] in

@@ -1,7 +1,7 @@
 use Rattle.std.specs.Prelude.{ℕ, ◌+◌, ◌*◌, List, Option, Some, None, fold, length, nat_le, if◌then◌else◌, ◌≡◌, ◌||◌, ◌==◌, Bool, true, ◌++◌, option_map}
 use Rattle.std.specs.List.{list_all}
 use Rattle.std.specs.Char.{is_ascii_hexdigit}
-use Rattle.prefix_keys.specs.Text.{around_gap, colon_address, hex_group, side_groups}
+use Rattle.prefix_keys.specs.Text.{around_gap, side_groups}
 
 -- Steps of the code, for the contracts of private functions. Callers of the crate need not read them.
 
@@ -14,11 +14,12 @@ more_groups count number (Some groups) =
     else None
 more_groups count number None = None
 
--- the text is a group followed by the rest
-pub record BeginsWithGroup (text rest : List ℕ) (group : ℕ) : Type 0 where
+-- the text begins with bytes of this kind, which are read as the value, followed by the rest
+pub record BeginsWith {A : Type 0} (byte : ℕ → Bool) (read : List ℕ → Option A) (text rest : List ℕ) (value : A) : Type 0 where
   pub front : List ℕ
   pub whole : text ≡ front ++ rest
-  pub reads : hex_group front ≡ Some group
+  pub bytes : list_all byte front ≡ true
+  pub reads : read front ≡ Some value
 
 -- a byte that occurs in groups separated by colons
 abbrev pub is_colon_byte : ℕ → Bool
@@ -35,10 +36,3 @@ pub record BeginsWithSide (text rest : List ℕ) (count number : ℕ) : Type 0 w
   pub bytes : list_all is_colon_byte front ≡ true
   pub groups : (dotted : Bool) → Some (count, number) ≡ more_groups 0 0 (side_groups dotted front)
   pub gap : (back : List ℕ) → around_gap (front ++ back) ≡ behind front (around_gap back)
-
--- the text is an IPv6 address followed by the rest
-pub record BeginsWithColon (text rest : List ℕ) (number : ℕ) : Type 0 where
-  pub front : List ℕ
-  pub whole : text ≡ front ++ rest
-  pub bytes : list_all is_colon_byte front ≡ true
-  pub reads : colon_address front ≡ Some number

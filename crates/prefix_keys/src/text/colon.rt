@@ -1,7 +1,7 @@
 ghost use Rattle.std.specs.Prelude.{◌≡◌, ◌≤◌, ◌<◌, ◌+◌, ◌*◌, ◌-◌, ◌^◌, IfSome, Some, None, List, [], ◌∷◌, option_map, nat_le, if◌then◌else◌};
 ghost use Rattle.std.specs.Char.{is_ascii_hexdigit};
 ghost use Rattle.prefix_keys.specs.Text.{hex_digit_value, hex_group, last_groups, text_groups, side_groups, around_gap, colon_address};
-ghost use Rattle.prefix_keys.specs.Inner.{BeginsWithColon, BeginsWithGroup, BeginsWithSide, more_groups};
+ghost use Rattle.prefix_keys.specs.Inner.{BeginsWith, BeginsWithSide, is_colon_byte, more_groups};
 
 use crate::cutting::cut;
 use crate::text::dotted::read_dotted;
@@ -172,7 +172,7 @@ pub fn read_colon(text: &[u8]) -> Option<u128>
 // if there is no such group, or if the text ends after it or goes on with another digit.
 #[inline(always)]
 fn leading_group(text: &[u8]) -> Option<(u32, &[u8])>
-    ensures group { IfSome result (λ r. BeginsWithGroup text.now r.1.now r.0) }
+    ensures group { IfSome result (λ r. BeginsWith is_ascii_hexdigit hex_group text.now r.1.now r.0) }
     ensures limited { IfSome result (λ r. r.0 < 65536) }
 {
     let mut group = 0;
@@ -249,7 +249,7 @@ fn behind_gap(text: &[u8]) -> Option<&[u8]>
 /// address.
 #[inline(always)]
 pub fn leading_colon(text: &[u8]) -> Option<(u128, &[u8])>
-    ensures { IfSome result (λ r. BeginsWithColon text.now r.1.now r.0) }
+    ensures { IfSome result (λ r. BeginsWith is_colon_byte colon_address text.now r.1.now r.0) }
 {
     let (front, rest) = leading_side(text)?;
     match behind_gap(rest) {

@@ -1,7 +1,7 @@
 use Rattle.std.proofs.Common.{ℕ, ◌≡◌, Some, List, take, sym, subst, arith}
 use Rattle.std.proofs.lemmas.List.{take_rest, take-append-drop}
-use Rattle.prefix_keys.specs.Text.{decimal_number}
-use Rattle.pmap_text.specs.Inner.{BeginsWithNumber}
+use Rattle.prefix_keys.specs.Inner.{BeginsWith}
+use Rattle.prefix_keys.specs.Text.{decimal_number, is_digit}
 use Rattle.pmap_text.proofs.LeadingWords.{number-some}
 use Rattle.pmap_text.proofs.leading.leading_number.Goals as goal
 
@@ -13,5 +13,5 @@ returns-then-number-limit-clause-number c =
     let digits = c.loop-at.invariant in
     let reads : decimal_number 3 c.args.limit (take at text) ≡ Some number =
     number-some c.args.limit text at number digits.value digits.digits c.if-at-gt0.true digits.short (omega arith) c.if-number-limit.true in
-    subst (λ (rest : List ℕ). BeginsWithNumber text rest c.args.limit number) (sym (take_rest text at))
-    (record { front = take at text; whole = sym (take-append-drop at text); reads = reads })
+    subst (λ (rest : List ℕ). BeginsWith is_digit (decimal_number 3 c.args.limit) text rest number) (sym (take_rest text at))
+    (record { front = take at text; whole = sym (take-append-drop at text); bytes = digits.digits; reads = reads })
