@@ -5,7 +5,7 @@ use Rattle.pmap_text.specs.ListModel.{ListModel}
 use Rattle.pmap_text.specs.MapModel.{MapModel}
 use Rattle.pmap_text.specs.Reading.{◌>>=◌, list_reading, map_reading}
 use Rattle.pmap_text.specs.declared.fault.MapFault.{MapFault}
-use Rattle.pmap_cert.specs.CertificateModel.{CertificateModel, InnerNode, LeafNode, Tree}
+use Rattle.pmap_cert.specs.CertificateModel.{CertificateModel, InnerNode, LeafNode, Tree, opened_certificate}
 use Rattle.pmap_cert.specs.CertificateText.{certificate_text}
 use Rattle.pmap_cert.specs.Compacting.{compact, compacted_in}
 use Rattle.pmap_cert.specs.FormatReading.{format_reading, nodes_at}
@@ -25,6 +25,10 @@ opened text = format_reading text
 -- the text of the certificate that a text represents, compacted
 abbrev pub compacted_text : List ℕ → Result (List ℕ) CertFault
 compacted_text text = format_reading text >>= (λ c. Ok (certificate_text (compact c)))
+
+-- the text of the certificate that a text represents, with its chains opened
+abbrev pub opened_text : List ℕ → Result (List ℕ) CertFault
+opened_text text = format_reading text >>= (λ c. Ok (certificate_text (opened_certificate c)))
 
 -- the number of entries of an accepted list, or the fault of the certificate
 abbrev pub verdict_by : ListModel → Option CheckFault → Result ℕ CheckFault
@@ -88,3 +92,8 @@ nested header count = header ++ codes "A\n" ++ lines count (codes "n 0\n") ++ li
 abbrev pub nested_tree : ℕ → Tree
 nested_tree zero = LeafNode (codes "A")
 nested_tree (suc count) = InnerNode (record { cost = 0; labels = [] }) (nested_tree count) (LeafNode (codes "A"))
+
+-- the second certificate of the page, in this format, with its chain opened
+abbrev pub last_opened : List ℕ → List ℕ
+last_opened format =
+    codes "flowlabel-cert " ++ format ++ codes " ipv4 2\nD\nX\n" ++ lines 31 (codes "n 1 0\nl 0\n") ++ codes "n 1 0 1\nl 0\nl 1\n"

@@ -1,7 +1,7 @@
 //! Certificates: their texts, both ways, and compacting. The trees are written down by hand.
 #![tactic(auto, unfolding(crate::specs::Certificates::opened))]
 
-ghost use Rattle.definition_examples.specs.Certificates.{compacted_text, last, nested, nested_tree, quarters};
+ghost use Rattle.definition_examples.specs.Certificates.{compacted_text, last, last_opened, nested, nested_tree, opened_text, quarters};
 ghost use Rattle.pmap_cert.specs.CertificateModel.{ChainNode, InnerNode, LeafNode};
 ghost use Rattle.pmap_cert.specs.CertificateText.{certificate_text};
 ghost use Rattle.pmap_cert.specs.FormatReading.{format_reading};
@@ -56,7 +56,13 @@ pub fn paths_are_compacted()
     ensures compacting_goes_on_at_the_end { compacted_text (codes "flowlabel-cert 1 ipv4 3\nA\nB\nC\nn 2 0\nl 0\nn 2 0\nl 0\nn 1 1\nl 1\nn 1 1 2\nl 1\nl 2\n") ≡ Ok (codes "flowlabel-cert 2 ipv4 3\nA\nB\nC\nc 2 11 0 0\nc 1 11 1 1\nl 2\n") }
     ensures and_in_both_halves { compacted_text (codes "flowlabel-cert 1 ipv4 2\nA\nB\nn 2 0\nn 1 0\nl 0\nn 1 0 1\nl 0\nl 1\nn 1 0\nl 0\nn 1 0 1\nl 0\nl 1\n") ≡ Ok (codes "flowlabel-cert 2 ipv4 2\nA\nB\nn 2 0\nc 1 11 0 0\nl 1\nc 1 11 0 0\nl 1\n") }
     ensures the_first_of_the_page { compacted_text quarters ≡ Ok (codes "flowlabel-cert 2 ipv4 4\nA\nB\nC\nUNKNOWN\nn 2 0\nn 1 0 1\nl 0\nl 1\nn 1 0 2\nl 0\nl 2\n") }
+    ensures the_second_of_the_page_opened { compacted_text (last_opened (codes "1")) ≡ Ok last }
     ensures format_2_is_unchanged { compacted_text last ≡ Ok last }
     ensures paths_of_format_2_too { compacted_text (codes "flowlabel-cert 2 ipv4 2\nA\nB\nn 1 0\nl 0\nn 1 0 1\nl 0\nl 1\n") ≡ Ok (codes "flowlabel-cert 2 ipv4 2\nA\nB\nn 1 0\nl 0\nn 1 0 1\nl 0\nl 1\n") }
     ensures a_single_leaf { compacted_text (codes "flowlabel-cert 1 ipv4 1\nA\nl 0\n") ≡ Ok (codes "flowlabel-cert 2 ipv4 1\nA\nl 0\n") }
+{}
+
+/// FORMATS.md, "Chains": a chain opened into its inner nodes and leaves.
+pub fn chains_are_opened()
+    ensures the_second_of_the_page { opened_text last ≡ Ok (last_opened (codes "2")) }
 {}

@@ -1,4 +1,5 @@
-use Rattle.std.proofs.Common.{◌≡◌, ℕ, suc, ◌+◌, ◌*◌, ◌/◌, ◌<◌, ◌≤◌, Bool, true, false, cond, ◌&&◌, ◌==◌, List, [], ◌∷◌, ◌++◌, Option, arith, filter, length, nat_le, sym, refl, ◌∙◌, length-append, eq-eqb, le-leb, le_refl}
+use Rattle.std.proofs.Common.{◌≡◌, ℕ, suc, ◌+◌, ◌*◌, ◌/◌, ◌<◌, ◌≤◌, Bool, true, false, cond, ◌&&◌, ◌==◌, List, [], ◌∷◌, ◌++◌, Option, arith, filter, length, nat_le, sym, refl, ap, ◌∙◌, length-append, eq-eqb, le-leb, le_refl}
+use Rattle.std.specs.List.{AllByRecursion}
 use Rattle.std.proofs.lemmas.Bool.{and_from}
 use Rattle.std.proofs.lemmas.Bool.Decides.{nat_tests}
 use Rattle.prefix_keys.specs.Block.{block_number, first_of, width_of}
@@ -8,7 +9,7 @@ use Rattle.pmap_cert.specs.CertificateModel.{ChainNode, InnerNode, LeafNode, Cla
 use Rattle.pmap_cert.specs.Acceptance.{StandsFor, entries_of, handed_on, has_inherited, least_label, own_entry}
 use Rattle.pmap_text.proofs.Blocks.{block_number-first_of, block_number-half}
 use Rattle.pmap_cert.proofs.Counts.{is_within}
-use Rattle.pmap_cert.proofs.Filters.{filter-three}
+use Rattle.pmap_cert.proofs.Filters.{all-append, all-weaker}
 use Rattle.pmap_cert.proofs.Handed.{IsInhabited, exact_claim-cost_of, handed_on-has, inhabited}
 use Rattle.pmap_cert.proofs.Sets.{miss, same-listed}
 use Rattle.pmap_text.proofs.Settled.{unsettled-halves}
@@ -68,41 +69,53 @@ is_within-half W n q i below e p h =
     let half : block_number W n p.start ≡ block_number W (suc n) p.start / 2 = block_number-half W n p.start below in
     rw half (within-half n p.bits (block_number W (suc n) p.start) q i e h)
 
--- a test with one result for all entries within the block keeps all of a node's entries, or none
-filter-own : (test : Prefix → Bool) (b k : Bool) (p : Prefix) → test p ≡ b →
-    filter test (cond k [] (p ∷ [])) ≡ cond b (cond k [] (p ∷ [])) []
-filter-own test true true p e = refl
-filter-own test false true p e = refl
-filter-own test true false p e = rw e
-filter-own test false false p e = rw e
+-- what holds of a node's own entry holds of each entry in its list, which has at most this one
+pub own-all : (W : ℕ) (table : List Label) (P : Prefix → Type 0) (s : List Label) (h : Option Label) (n q : ℕ) →
+    P (record { start = first_of W n q; bits = n; label = least_label table s }) → AllByRecursion P (own_entry W table s h n q)
+own-all W table P s h n q is = by (has_inherited s h) (record { start = first_of W n q; bits = n; label = least_label table s }) is
+  where
+    by : (b : Bool) (p : Prefix) → P p → AllByRecursion P (cond b [] (p ∷ []))
+    by true p is = tt
+    by false p is = (is, tt)
 
-filter-joined : (test : Prefix → Bool) (b : Bool) (xs ys zs : List Prefix) → filter test xs ≡ cond b xs [] →
-    filter test ys ≡ cond b ys [] → filter test zs ≡ cond b zs [] → filter test (xs ++ (ys ++ zs)) ≡ cond b (xs ++ (ys ++ zs)) []
-filter-joined test true xs ys zs e f g = filter-three test xs ys zs xs ys zs e f g
-filter-joined test false xs ys zs e f g = filter-three test xs ys zs [] [] [] e f g
+-- the entries of a node lie within its block
+pub within-entries : (m : MapModel) (table : List Label) (t : Tree) (h : Option Label) (n q : ℕ) → n ≤ width_of m.version → StandsFor m t n q →
+    AllByRecursion (λ p. is_within (width_of m.version) n q p ≡ true) (entries_of (width_of m.version) table t h n q)
+within-entries m table (LeafNode x) h n q le stands =
+    own-all (width_of m.version) table (λ p. is_within (width_of m.version) n q p ≡ true) (x ∷ []) h n q
+    (own-within (width_of m.version) n q (least_label table (x ∷ [])))
+within-entries m table (ChainNode p bits side end) h n q le stands = absurd stands
+within-entries m table (InnerNode claim lower upper) h n q le stands =
+    let W : ℕ = width_of m.version in
+    let below : n < W = unsettled-halves m n q le stands.0 in
+    let on : Option Label = handed_on table claim.labels h in
+    let Within : ℕ → ℕ → Prefix → Type 0 = λ n q p. is_within W n q p ≡ true in
+    all-append (Within n q) (own_entry W table claim.labels h n q)
+    (entries_of W table lower on (suc n) (2 * q) ++ entries_of W table upper on (suc n) (2 * q + 1))
+    (own-all W table (Within n q) claim.labels h n q (own-within W n q (least_label table claim.labels)))
+    (all-append (Within n q) (entries_of W table lower on (suc n) (2 * q)) (entries_of W table upper on (suc n) (2 * q + 1))
+    (all-weaker (Within (suc n) (2 * q)) (Within n q) (is_within-half W n q (2 * q) below (omega arith))
+    (entries_of W table lower on (suc n) (2 * q)) (within-entries m table lower on (suc n) (2 * q) below stands.2))
+    (all-weaker (Within (suc n) (2 * q + 1)) (Within n q) (is_within-half W n q (2 * q + 1) below (omega arith))
+    (entries_of W table upper on (suc n) (2 * q + 1)) (within-entries m table upper on (suc n) (2 * q + 1) below stands.3)))
+
+-- a test with one result for all entries keeps all of them, or none
+filter-alike : (test : Prefix → Bool) (b : Bool) (ps : List Prefix) → AllByRecursion (λ p. test p ≡ b) ps → filter test ps ≡ cond b ps []
+filter-alike test true [] all = refl
+filter-alike test false [] all = refl
+filter-alike test true (p ∷ ps) all = rw all.0 (ap (λ (qs : List Prefix). p ∷ qs) (filter-alike test true ps all.1))
+filter-alike test false (p ∷ ps) all = rw all.0 (filter-alike test false ps all.1)
 
 pub filter-own_entry : (W : ℕ) (table : List Label) (test : Prefix → Bool) (b : Bool) (s : List Label) (h : Option Label) (n q : ℕ) →
     ((x : Label) → test (record { start = first_of W n q; bits = n; label = x }) ≡ b) →
     filter test (own_entry W table s h n q) ≡ cond b (own_entry W table s h n q) []
 filter-own_entry W table test b s h n q own =
-    filter-own test b (has_inherited s h) (record { start = first_of W n q; bits = n; label = least_label table s })
-    (own (least_label table s))
+    filter-alike test b (own_entry W table s h n q) (own-all W table (λ p. test p ≡ b) s h n q (own (least_label table s)))
 
 pub filter-entries_of : (m : MapModel) (table : List Label) (test : Prefix → Bool) (b : Bool) (t : Tree) (h : Option Label) (n q : ℕ) →
     n ≤ width_of m.version → StandsFor m t n q → ((p : Prefix) → is_within (width_of m.version) n q p ≡ true → test p ≡ b) →
     filter test (entries_of (width_of m.version) table t h n q) ≡ cond b (entries_of (width_of m.version) table t h n q) []
-filter-entries_of m table test b (LeafNode x) h n q le stands alike =
-    filter-own_entry (width_of m.version) table test b (x ∷ []) h n q
-    (λ y. alike (record { start = first_of (width_of m.version) n q; bits = n; label = y }) (own-within (width_of m.version) n q y))
-filter-entries_of m table test b (ChainNode p bits side end) h n q le stands alike = absurd stands
-filter-entries_of m table test b (InnerNode claim lower upper) h n q le stands alike =
-    let below : n < width_of m.version = unsettled-halves m n q le stands.0 in
-    filter-joined test b (own_entry (width_of m.version) table claim.labels h n q)
-    (entries_of (width_of m.version) table lower (handed_on table claim.labels h) (suc n) (2 * q))
-    (entries_of (width_of m.version) table upper (handed_on table claim.labels h) (suc n) (2 * q + 1))
-    (filter-own_entry (width_of m.version) table test b claim.labels h n q
-    (λ y. alike (record { start = first_of (width_of m.version) n q; bits = n; label = y }) (own-within (width_of m.version) n q y)))
-    (filter-entries_of m table test b lower (handed_on table claim.labels h) (suc n) (2 * q) below stands.2
-    (λ p w. alike p (is_within-half (width_of m.version) n q (2 * q) below (omega arith) p w)))
-    (filter-entries_of m table test b upper (handed_on table claim.labels h) (suc n) (2 * q + 1) below stands.3
-    (λ p w. alike p (is_within-half (width_of m.version) n q (2 * q + 1) below (omega arith) p w)))
+filter-entries_of m table test b t h n q le stands alike =
+    filter-alike test b (entries_of (width_of m.version) table t h n q)
+    (all-weaker (λ p. is_within (width_of m.version) n q p ≡ true) (λ p. test p ≡ b) alike
+    (entries_of (width_of m.version) table t h n q) (within-entries m table t h n q le stands))

@@ -1,5 +1,5 @@
 -- The nodes of a certificate of either format, read and written.
-use Rattle.std.proofs.Common.{◌≡◌, ℕ, zero, suc, ◌+◌, ◌-◌, ◌^◌, ◌<◌, ◌≤◌, ◌∙◌, ◌⊎◌, inl, inr, Bool, true, false, List, [], ◌∷◌, ◌++◌, Result, Ok, Err, cond, length, map, nat_le, refl, sym, ap, subst, arith}
+use Rattle.std.proofs.Common.{◌≡◌, ℕ, zero, suc, ◌+◌, ◌-◌, ◌^◌, ◌<◌, ◌≤◌, ◌∙◌, Bool, true, false, List, [], ◌∷◌, ◌++◌, Result, Ok, Err, cond, length, map, nat_le, refl, sym, ap, subst, arith, ⊎_elim}
 use Rattle.std.proofs.lemmas.Bool.{cond-false, cond-true, le-leb, leb-true}
 use Rattle.std.proofs.lemmas.List.{append_assoc, length-append}
 use Rattle.pmap_text.specs.Label.{IsLabelTable}
@@ -10,7 +10,7 @@ use Rattle.pmap_cert.specs.CertificateText.{HasNodeForm, IsAscending, chain_line
 use Rattle.pmap_cert.specs.CertificateModel.{ChainNode, InnerNode, LeafNode, Claim, Tree, IsPlain}
 use Rattle.pmap_cert.specs.FormatReading.{ChainLine, DueLine, InnerLine, LeafLine, Place, due_node, fault_at, fits_line, is_ended, likely_line, line_due_at, line_text, nodes_at, CertFault, BadNode, NodesMissing, TooDeep}
 use Rattle.pmap_cert.proofs.ChainWords.{left-room, room-left}
-use Rattle.pmap_cert.proofs.PrintedLines.{FitsLine, due-again, line-fits, printed-found}
+use Rattle.pmap_cert.proofs.PrintedLines.{FitsLine, IsNumbered, due-again, line-fits, printed-found}
 use Rattle.pmap_cert.proofs.Tables.{bind_ok, ok_is, place_of-text_at, places-texts, text_at-place_of, texts-places}
 
 -- a line that is read is the text of its value, which fits
@@ -172,22 +172,6 @@ module _ (table : List Label) (ok : IsLabelTable table) (format most : ℕ) wher
   claim-is : (claim : Claim) → IsAscending (length table) 0 (map (place_of table) claim.labels) → claim_at claim.cost (map (place_of table) claim.labels) ≡ claim
   claim-is claim ascending = λ i. record { cost = claim.cost; labels = texts-places table 0 claim.labels ascending i }
 
-  -- the tree has no chain, or the format is 2
-  abbrev pub IsKind : Tree → Type 0
-  IsKind tree = IsPlain tree ⊎ (format ≡ 2)
-
-  lower-kind : (claim : Claim) (lower upper : Tree) → IsKind (InnerNode claim lower upper) → IsKind lower
-  lower-kind claim lower upper (inl plain) = inl plain.0
-  lower-kind claim lower upper (inr two) = inr two
-
-  upper-kind : (claim : Claim) (lower upper : Tree) → IsKind (InnerNode claim lower upper) → IsKind upper
-  upper-kind claim lower upper (inl plain) = inl plain.1
-  upper-kind claim lower upper (inr two) = inr two
-
-  chain-kind : (claim : Claim) (bits : List Bool) (side : Label) (end : Tree) → IsKind (ChainNode claim bits side end) → format ≡ 2
-  chain-kind claim bits side end (inl plain) = absurd plain
-  chain-kind claim bits side end (inr two) = two
-
   abbrev IsAgain : Tree → ℕ → List (List ℕ) → ℕ → Type 0
   IsAgain tree room rest number =
       (n : ℕ) × (nodes_at due table room zero (at number (node_lines table tree ++ rest)) ≡ Ok (tree, at n rest))
@@ -195,25 +179,25 @@ module _ (table : List Label) (ok : IsLabelTable table) (format most : ℕ) wher
   leaf-is : (x : Label) → place_of table x < length table → LeafNode (text_at table (place_of table x)) ≡ LeafNode x
   leaf-is x h = ap LeafNode (text_at-place_of table x h)
 
-  pub nodes_at-again : (tree : Tree) (room : ℕ) (rest : List (List ℕ)) (number : ℕ) → room ≤ most → HasNodeForm table tree room → IsKind tree →
-      0 < length rest → IsAgain tree room rest number
+  pub nodes_at-again : (tree : Tree) (room : ℕ) (rest : List (List ℕ)) (number : ℕ) → room ≤ most → HasNodeForm table tree room → IsNumbered format →
+      (format ≡ 1 → IsPlain tree) → 0 < length rest → IsAgain tree room rest number
   unfolding nodes_at
-  nodes_at-again (LeafNode x) room rest number most_room form kind some =
+  nodes_at-again (LeafNode x) room rest number most_room form numbered plain some =
       let here : Place = at number (leaf_line (place_of table x) ∷ rest) in (
         number + 1,
         nodes-step due table room here
             ∙ ap (λ (r : Result (DueLine × Place) CertFault). r >>= (λ line. due_node table room here (inside_of due table room here) line.0 line.1)) (due-again format most (length table) few (LeafLine (place_of table x)) number rest form some)
             ∙ ap (λ (t : Tree). Ok (t, at (number + 1) rest)) (leaf-is x form),
       )
-  nodes_at-again (InnerNode claim lower upper) zero rest number most_room form kind some = absurd form
-  nodes_at-again (InnerNode claim lower upper) (suc room) rest number most_room form kind some =
+  nodes_at-again (InnerNode claim lower upper) zero rest number most_room form numbered plain some = absurd form
+  nodes_at-again (InnerNode claim lower upper) (suc room) rest number most_room form numbered plain some =
       let numbers : List ℕ = map (place_of table) claim.labels in
       let low : List (List ℕ) = node_lines table lower in
       let up : List (List ℕ) = node_lines table upper in
       let behind : 0 < length (up ++ rest) = omega (arith, length-append up rest) in
       let line = due-again format most (length table) few (InnerLine claim.cost numbers) number (low ++ (up ++ rest)) (form.0, form.1) (omega (arith, length-append low (up ++ rest))) in
-      let first = nodes_at-again lower room (up ++ rest) (number + 1) (omega arith) form.2 (lower-kind claim lower upper kind) behind in
-      let second = nodes_at-again upper room rest first.0 (omega arith) form.3 (upper-kind claim lower upper kind) some in
+      let first = nodes_at-again lower room (up ++ rest) (number + 1) (omega arith) form.2 numbered (λ one. (plain one).0) behind in
+      let second = nodes_at-again upper room rest first.0 (omega arith) form.3 numbered (λ one. (plain one).1) some in
       let here : Place = at number (inner_line claim.cost numbers ∷ (low ++ (up ++ rest))) in (
         second.0,
         ap (λ (lines : List (List ℕ)). nodes_at due table (suc room) zero (at number (inner_line claim.cost numbers ∷ lines))) (append_assoc low up rest)
@@ -222,17 +206,17 @@ module _ (table : List Label) (ok : IsLabelTable table) (format most : ℕ) wher
             ∙ ap (λ (r : Result (Tree × Place) CertFault). r >>= (λ u. Ok (InnerNode (claim_at claim.cost numbers) lower u.0, u.1))) second.1
             ∙ ap (λ (c : Claim). Ok (InnerNode c lower upper, at second.0 rest)) (claim-is claim form.1),
       )
-  nodes_at-again (ChainNode claim [] side end) room rest number most_room form kind some =
+  nodes_at-again (ChainNode claim [] side end) room rest number most_room form numbered plain some =
       absurd (omega (arith, form.3))
-  nodes_at-again (ChainNode claim (bit ∷ bits) side end) zero rest number most_room form kind some = absurd form.4
-  nodes_at-again (ChainNode claim (bit ∷ bits) side end) (suc room) rest number most_room form kind some =
-      let two : format ≡ 2 = chain-kind claim (bit ∷ bits) side end kind in
+  nodes_at-again (ChainNode claim (bit ∷ bits) side end) zero rest number most_room form numbered plain some = absurd form.4
+  nodes_at-again (ChainNode claim (bit ∷ bits) side end) (suc room) rest number most_room form numbered plain some =
+      let two : format ≡ 2 = ⊎_elim (λ one. absurd (plain one)) (λ two. two) numbered in
       let numbers : List ℕ = map (place_of table) claim.labels in
       let below = left-room (HasNodeForm table end) bits room form.4 in
       let lines : List (List ℕ) = node_lines table end in
       let line = due-again format most (length table) few (ChainLine claim.cost (bit ∷ bits) (place_of table side) numbers) number (lines ++ rest)
       (two, form.0, omega arith, omega (arith, below.1), form.2, form.1) (omega (arith, length-append lines rest)) in
-      let last = nodes_at-again end below.0 rest (number + 1) (omega (arith, below.1)) below.2 (inr two) some in
+      let last = nodes_at-again end below.0 rest (number + 1) (omega (arith, below.1)) below.2 numbered (λ one. absurd (not-both one two)) some in
       let here : Place = at number (chain_line claim.cost (bit ∷ bits) (place_of table side) numbers ∷ (lines ++ rest)) in
       let chain : Tree × Place → Result (Tree × Place) CertFault =
       λ e. Ok (ChainNode (claim_at claim.cost numbers) (bit ∷ bits) (text_at table (place_of table side)) e.0, e.1) in (

@@ -14,7 +14,7 @@ use Rattle.pmap_cert.specs.CertificateModel.{CertificateModel, Tree, ChainNode, 
 use Rattle.pmap_cert.specs.FormatReading.{ChainLine, DueLine, InnerLine, LeafLine, Place, ended_by, fault_at, fits_header, format_header_at, format_reading, header_text, is_ended, labels_at, likely_header, line_due_at, line_text, nodes_at, pieces_of, start_of, CertFault, CertFaultKind, BadHeader, BadLabelTable, BadNode, NoMemory, NodesLeft, NodesMissing, TooDeep}
 use Rattle.pmap_cert.proofs.Filters.{all-append}
 use Rattle.pmap_cert.proofs.PrintedLines.{FitsLine, IsNumbered, Said, fits-header, fits-line, header-fits, header-read, line-lacks, printed-again, printed-found}
-use Rattle.pmap_cert.proofs.FormatTrees.{IsKind, nodes_at-again, nodes_at-found}
+use Rattle.pmap_cert.proofs.FormatTrees.{nodes_at-again, nodes_at-found}
 use Rattle.pmap_cert.proofs.Headers.{table-lacks}
 use Rattle.pmap_cert.proofs.Pieces.{pieces-lines, text_from_pieces}
 use Rattle.pmap_cert.proofs.Tables.{bind_ok, labels_at-again, labels_at-found, ok_is}
@@ -132,9 +132,9 @@ numbered : (c : CertificateModel) → IsOfFormat c → IsNumbered c.format
 numbered c (inl first) = inl first.0
 numbered c (inr second) = inr second
 
-kind : (c : CertificateModel) (ok : IsLabelTable c.table) → IsOfFormat c → IsKind c.table ok c.format (width_of c.version) c.root
-kind c ok (inl first) = inl first.1
-kind c ok (inr second) = inr second
+plain : (c : CertificateModel) → IsOfFormat c → c.format ≡ 1 → IsPlain c.root
+plain c (inl first) one = first.1
+plain c (inr second) one = absurd (omega (arith, one, second))
 
 -- the text of a certificate is read as that certificate
 pub format-again : (c : CertificateModel) → HasFormatText c → format_reading (certificate_text c) ≡ Ok c
@@ -157,7 +157,7 @@ format-again c form =
     (table ++ (nodes ++ [] ∷ [])) fits (omega (arith, length-append table (nodes ++ [] ∷ []))) in
     let labels = labels_at-again table [] 1 (nodes ++ [] ∷ []) form.table behind in
     let root = nodes_at-again table form.table format (width_of version) c.root (width_of version) ([] ∷ []) labels.0 (omega arith) form.root
-    (kind c form.table form.format) (omega arith) in
+    (numbered c form.format) (plain c form.format) (omega arith) in
     reading-steps (certificate_text c)
     ∙ ap (λ (place : Place). header_then (format_header_at place)) (λ i. record { number = 0; pieces = pieces i })
     ∙ ap header_then head

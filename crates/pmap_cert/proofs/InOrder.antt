@@ -1,8 +1,8 @@
 -- The entries of a minimal pair are blocks in order, with labels of the table.
-use Rattle.std.proofs.Common.{◌≡◌, ℕ, suc, ◌+◌, ◌-◌, ◌*◌, ◌^◌, ◌<◌, ◌≤◌, ◌==◌, ◌&&◌, ◌⊎◌, inl, inr, Bool, true, false, cond, List, [], ◌∷◌, ◌++◌, Option, None, All, IsTrue, filter, nat_le, nat_lt, refl, sym, subst, arith, pow-suc, pow_pos}
+use Rattle.std.proofs.Common.{◌≡◌, ℕ, suc, ◌+◌, ◌-◌, ◌*◌, ◌^◌, ◌<◌, ◌≤◌, ◌==◌, ◌&&◌, ◌⊎◌, inl, inr, Bool, true, false, cond, List, [], ◌∷◌, ◌++◌, Option, None, All, IsTrue, nat_le, nat_lt, refl, sym, subst, arith, pow-suc, pow_pos}
 use Rattle.std.specs.List.{AllByRecursion}
 use Rattle.std.proofs.lemmas.Bool.{and_parts, and_from, cases_lt, eq-eqb, eqb-true, leb-true, lt-ltb, or_left, or_right}
-use Rattle.std.proofs.lemmas.List.Elements.{All-from_recursion, All-same, filter_passes, recursion_from_All}
+use Rattle.std.proofs.lemmas.List.Elements.{All-from_recursion}
 use Rattle.std.proofs.Math.Nat.{mul-mod_left}
 use Rattle.prefix_keys.specs.Block.{block_number, first_of, last_of, width_of}
 use Rattle.pmap_text.specs.ListModel.{ListModel, Prefix}
@@ -12,7 +12,7 @@ use Rattle.pmap_cert.specs.Acceptance.{HasBlock, HasListForm, IsInOrder, begins_
 use Rattle.pmap_cert.proofs.Alike.{table-node}
 use Rattle.pmap_text.proofs.Blocks.{address-first, address-last, first_of-below, first_of-lower}
 use Rattle.pmap_cert.proofs.Counts.{is_within}
-use Rattle.pmap_cert.proofs.Entries.{filter-entries_of}
+use Rattle.pmap_cert.proofs.Entries.{own-all, within-entries}
 use Rattle.pmap_cert.proofs.Filters.{all-append, all-weaker}
 use Rattle.pmap_cert.proofs.Handed.{has-least_label, inhabited}
 use Rattle.pmap_text.proofs.Settled.{unsettled-halves}
@@ -43,14 +43,6 @@ module _ (m : MapModel) (table : List Label) where
   abbrev W : ℕ
   W = width_of m.version
 
-  -- the entries of a node lie within its block
-  within : (t : Tree) (h : Option Label) (n q : ℕ) → n ≤ W → StandsFor m t n q → AllByRecursion (λ p. is_within W n q p ≡ true) (entries_of W table t h n q)
-  within t h n q le stands =
-      let test : Prefix → Bool = is_within W n q in
-      let all : filter test (entries_of W table t h n q) ≡ entries_of W table t h n q = filter-entries_of m table test true t h n q le stands (λ p w. w) in
-      recursion_from_All (λ p. is_within W n q p ≡ true) (entries_of W table t h n q)
-      (All-same (λ p. is_within W n q p ≡ true) (entries_of W table t h n q) (filter test (entries_of W table t h n q)) (sym all) (filter_passes test (entries_of W table t h n q)))
-
   -- the entry starts in the block and has at least as many bits
   abbrev Inside : ℕ → ℕ → Prefix → Type 0
   Inside n q p = (first_of W n q ≤ p.start) × (p.start ≤ last_of W n q) × (n ≤ p.bits)
@@ -62,7 +54,7 @@ module _ (m : MapModel) (table : List Label) where
       (address-first W n q p.start number, address-last W n q p.start number, leb-true _ _ parts.0)
 
   inside : (t : Tree) (h : Option Label) (n q : ℕ) → n ≤ W → StandsFor m t n q → AllByRecursion (Inside n q) (entries_of W table t h n q)
-  inside t h n q le stands = all-weaker (λ p. is_within W n q p ≡ true) (Inside n q) (inside-within n q) (entries_of W table t h n q) (within t h n q le stands)
+  inside t h n q le stands = all-weaker (λ p. is_within W n q p ≡ true) (Inside n q) (inside-within n q) (entries_of W table t h n q) (within-entries m table t h n q le stands)
 
   own-order : (s : List Label) (h : Option Label) (n q : ℕ) → IsInOrder (own_entry W table s h n q)
   own-order s h n q = by (has_inherited s h) (record { start = first_of W n q; bits = n; label = least_label table s })
@@ -70,15 +62,6 @@ module _ (m : MapModel) (table : List Label) where
       by : (b : Bool) (p : Prefix) → IsInOrder (cond b [] (p ∷ []))
       by true p = tt
       by false p = (tt, tt)
-
-  -- what holds of a node's own entry holds of each entry in its list, which has at most this one
-  own-all : (P : Prefix → Type 0) (s : List Label) (h : Option Label) (n q : ℕ) → P (record { start = first_of W n q; bits = n; label = least_label table s })
-      → AllByRecursion P (own_entry W table s h n q)
-  own-all P s h n q is = by (has_inherited s h) (record { start = first_of W n q; bits = n; label = least_label table s }) is
-    where
-      by : (b : Bool) (p : Prefix) → P p → AllByRecursion P (cond b [] (p ∷ []))
-      by true p is = tt
-      by false p is = (is, tt)
 
   -- the entry has this very block
   abbrev AtStart : ℕ → ℕ → Prefix → Type 0
@@ -117,7 +100,7 @@ module _ (m : MapModel) (table : List Label) where
       in_order-append (AtStart n q) (Below n q)
       (λ p r at below. before-shorter p r (let a = at.0 in let b = below.0 in omega arith) (let a = at.1 in let b = below.1 in omega arith))
       (own_entry W table claim.labels h n q) (low ++ up) (own-order claim.labels h n q) halves
-      (own-all (AtStart n q) claim.labels h n q (refl, refl)) all_below
+      (own-all W table (AtStart n q) claim.labels h n q (refl, refl)) all_below
 
 -- the first address of a block has no host bits
 own-block : (W n q : ℕ) (x : Label) → n ≤ W → q < 2 ^ n → HasBlock W (record { start = first_of W n q; bits = n; label = x })
@@ -137,14 +120,14 @@ module _ (m : MapModel) (inside_table : HasItsLabels m) where
 
   entries-fit : (t : Tree) (h : Option Label) (n q : ℕ) → n ≤ width_of m.version → q < 2 ^ n → StandsFor m t n q → AllByRecursion FitsMap (entries_of (width_of m.version) m.table t h n q)
   entries-fit (LeafNode x) h n q le small stands =
-      own-all m m.table FitsMap (x ∷ []) h n q (own-block (width_of m.version) n q (least_label m.table (x ∷ [])) le small, own-label m inside_table (LeafNode x) n q stands)
+      own-all (width_of m.version) m.table FitsMap (x ∷ []) h n q (own-block (width_of m.version) n q (least_label m.table (x ∷ [])) le small, own-label m inside_table (LeafNode x) n q stands)
   entries-fit (ChainNode p bits side end) h n q le small stands = absurd stands
   entries-fit (InnerNode claim lower upper) h n q le small stands =
       let below : n < width_of m.version = unsettled-halves m n q le stands.0 in
       let on : Option Label = handed_on m.table claim.labels h in
       let double : 2 ^ suc n ≡ 2 ^ n * 2 = pow-suc 2 n in
       all-append FitsMap (own_entry (width_of m.version) m.table claim.labels h n q) _
-      (own-all m m.table FitsMap claim.labels h n q (own-block (width_of m.version) n q (least_label m.table claim.labels) le small, own-label m inside_table (InnerNode claim lower upper) n q stands))
+      (own-all (width_of m.version) m.table FitsMap claim.labels h n q (own-block (width_of m.version) n q (least_label m.table claim.labels) le small, own-label m inside_table (InnerNode claim lower upper) n q stands))
       (all-append FitsMap (entries_of (width_of m.version) m.table lower on (suc n) (2 * q)) (entries_of (width_of m.version) m.table upper on (suc n) (2 * q + 1))
       (entries-fit lower on (suc n) (2 * q) below (omega arith) stands.2)
       (entries-fit upper on (suc n) (2 * q + 1) below (omega arith) stands.3))

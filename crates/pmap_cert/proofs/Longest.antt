@@ -37,37 +37,26 @@ covers-shorter W n j q a p le le' e c =
       block_number-shorter W n j p.start a le le' (eqb-true (block_number W j p.start) (block_number W j a) h.1) ∙ e,
     )
 
--- an entry at least as long as a block that covers an address of it lies within the block
-within-passes : (W n j q a : ℕ) → n ≤ j → j ≤ W → block_number W n a ≡ q → (p : Prefix) → covers W j a p ≡ true →
-    is_within W n q p ≡ true
-within-passes W n j q a le le' e p c =
-    let h = covers-shorter W n j q a p le le' e c in
-    and_from (nat_le n p.bits) (block_number W n p.start == q) (le-leb n p.bits (omega arith)) (eq-eqb _ q h.1)
+-- entries of n to n + k - 1 bits give no label if each of them that covers the address passes a test that no entry passes
+label_below-none : (W : ℕ) (ps : List Prefix) (n k a : ℕ) (test : Prefix → Bool) →
+    ((j : ℕ) → n ≤ j → j < n + k → (p : Prefix) → covers W j a p ≡ true → test p ≡ true) → count_of test ps ≡ 0 →
+    label_below W ps (n + k) a ≡ label_below W ps n a
+label_below-none W ps n zero a test passes none = rw add-zero
+label_below-none W ps n (suc k) a test passes none =
+    let here : label_at W ps (n + k) a ≡ None = label_at-none W ps (n + k) a test (passes (n + k) (omega arith) (omega arith)) none in
+    rw (add-suc, here) (label_below-none W ps n k a test (λ j le less. passes j le (omega (arith, less))) none)
 
+-- no entry within a block gives an address of it a label
 pub label_below-within : (W : ℕ) (ps : List Prefix) (n k q a : ℕ) → n + k ≤ suc W → block_number W n a ≡ q →
     count_of (is_within W n q) ps ≡ 0 → label_below W ps (n + k) a ≡ label_below W ps n a
-label_below-within W ps n zero q a le e none = rw add-zero
-label_below-within W ps n (suc k) q a le e none =
-    let le' : n + k ≤ W = omega arith in
-    let here : label_at W ps (n + k) a ≡ None =
-    label_at-none W ps (n + k) a (is_within W n q) (within-passes W n (n + k) q a (omega arith) le' e) none in
-    rw (add-suc, here) (label_below-within W ps n k q a (omega arith) e none)
-
--- an entry longer than a block that covers an address of it lies inside the block
-inside-passes : (W n j q a : ℕ) → n < j → j ≤ W → block_number W n a ≡ q → (p : Prefix) → covers W j a p ≡ true →
-    lies_inside W n q p ≡ true
-inside-passes W n j q a lt le' e p c =
-    let h = covers-shorter W n j q a p (omega arith) le' e c in
-    and_from (nat_lt n p.bits) (block_number W n p.start == q) (lt-ltb n p.bits (omega arith)) (eq-eqb _ q h.1)
+label_below-within W ps n k q a le e =
+    label_below-none W ps n k a (is_within W n q) (λ j least less p c.
+    let h = covers-shorter W n j q a p least (omega (arith, less)) e c in
+    and_from (nat_le n p.bits) (block_number W n p.start == q) (le-leb n p.bits (omega arith)) (eq-eqb _ q h.1))
 
 pub label_below-inside : (W : ℕ) (ps : List Prefix) (n k q a : ℕ) → n + k ≤ W → block_number W n a ≡ q →
     count_of (lies_inside W n q) ps ≡ 0 → label_below W ps (suc n + k) a ≡ label_below W ps (suc n) a
-label_below-inside W ps n zero q a le e none = ap (λ (j : ℕ). label_below W ps j a) (add-zero (suc n))
-label_below-inside W ps n (suc k) q a le e none =
-    let s : suc n + suc k ≡ suc (suc n + k) = omega arith in
-    let here : label_at W ps (suc n + k) a ≡ None =
-    label_at-none W ps (suc n + k) a (lies_inside W n q)
-    (inside-passes W n (suc n + k) q a (omega arith) (omega arith) e) none in
-    ap (λ (j : ℕ). label_below W ps j a) s
-    ∙ ap (λ o. option_or o (label_below W ps (suc n + k) a)) here
-    ∙ label_below-inside W ps n k q a (omega arith) e none
+label_below-inside W ps n k q a le e =
+    label_below-none W ps (suc n) k a (lies_inside W n q) (λ j least less p c.
+    let h = covers-shorter W n j q a p (omega arith) (omega (arith, less)) e c in
+    and_from (nat_lt n p.bits) (block_number W n p.start == q) (lt-ltb n p.bits (omega arith)) (eq-eqb _ q h.1))

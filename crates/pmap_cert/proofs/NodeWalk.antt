@@ -1,8 +1,17 @@
 -- The nodes of a list of lines.
-use Rattle.std.proofs.Common.{◌≡◌, Bool, ℕ, zero, suc, ◌<◌, ◌≤◌, ◌∙◌, List, [], ◌∷◌, ◌++◌, length, drop, get_or, refl, sym, ap, subst, arith}
+use Rattle.std.proofs.Common.{◌≡◌, Bool, ℕ, zero, suc, ◌<◌, ◌≤◌, ◌∙◌, List, [], ◌∷◌, ◌++◌, Option, Some, None, length, drop, get_or, refl, sym, ap, subst, arith}
 use Rattle.std.proofs.lemmas.List.{append-nil, append_assoc}
 use Rattle.pmap_cert.specs.FormatReading.{ChainLine, DueLine, InnerLine, LeafLine}
 use Rattle.pmap_cert.specs.Node.{AreWhole, Chain, Inner, IsTree, Leaf, Node, chained, first_line, first_node, from_next_line, joined, lines_of, nodes-lines, nodes_of}
+
+-- the bits and the side label of a chain's line
+abbrev pub bits_of : DueLine → List Bool
+bits_of (ChainLine cost bits side numbers) = bits
+bits_of _ = []
+
+abbrev pub side_of : DueLine → Option ℕ
+side_of (ChainLine cost bits side numbers) = Some side
+side_of _ = None
 
 pub whole-lines : (node : Node) (rest : List DueLine) → AreWhole rest → AreWhole (lines_of node ++ rest)
 whole-lines (Leaf number) rest whole = whole

@@ -1,14 +1,11 @@
 -- A compacted tree opens to the original and has no run left.
 use Rattle.std.proofs.Common.{◌≡◌, ℕ, zero, suc, ◌+◌, ◌*◌, ◌<◌, ◌≤◌, ◌∙◌, Bool, true, false, cond, ◌||◌, List, [], ◌∷◌, Option, Some, None, arith, length, nat_le, refl, sym, ap, ap₂, subst}
-use Rattle.std.specs.Fmt.{digits}
 use Rattle.std.proofs.lemmas.Bool.{cond-false, cond-true, false≢true, le-leb, leb-true}
 use Rattle.std.proofs.lemmas.Option.{none-some, same_Some}
 use Rattle.std.proofs.lemmas.Slice.Eq.{bytes_eq-Decides}
 use Rattle.pmap_text.specs.MapModel.{Label}
 use Rattle.pmap_cert.specs.CertificateModel.{ChainNode, InnerNode, LeafNode, Claim, Tree, IsPlain, chain_opened, links, opened}
-use Rattle.pmap_cert.specs.CertificateText.{certificate_lines}
-use Rattle.pmap_cert.specs.Compacting.{HasNoRun, IsSameShape, IsPath, OpensTo, compact, compacted, compacted_in, has_side, is_side, line_count, run_bits, run_compacted, run_end, side_of}
-use Rattle.pmap_cert.specs.Examples.{last_address_certificate, last_address_lines, last_address_opened}
+use Rattle.pmap_cert.specs.Compacting.{HasNoRun, IsSameShape, IsPath, OpensTo, compacted, compacted_in, has_side, is_side, line_count, run_bits, run_compacted, run_end, side_of}
 use Rattle.pmap_cert.proofs.Sets.{bytes_eq-same}
 
 -- what holds of a run that ends at once, and of a longer run if it holds of the run from the chosen half, holds of each
@@ -320,12 +317,3 @@ compacted-inner claim lower upper =
 pub compacted-leaf : (x : Label) → compacted (LeafNode x) ≡ LeafNode x
 unfolding compacted_in
 compacted-leaf x = refl
-
--- the opened certificate of the worked example, compacted, is that with the chain
-pub last-compacted : compact last_address_opened ≡ last_address_certificate
-unfolding compacted_in
-last-compacted = refl
-
-pub last-lines : certificate_lines last_address_certificate ≡ last_address_lines
-unfolding digits
-last-lines = refl

@@ -1,5 +1,5 @@
 -- Label tables: the numbers of their labels, and their lines.
-use Rattle.std.proofs.Common.{◌≡◌, ℕ, zero, suc, ◌+◌, ◌<◌, ◌≤◌, ◌∙◌, ◌&&◌, ◌==◌, Bool, true, false, not, List, [], ◌∷◌, ◌++◌, Option, None, Some, Result, Ok, Err, cond, filter, length, map, get_or, ok_or, option_and_then, option_map, refl, sym, ap, subst, arith}
+use Rattle.std.proofs.Common.{◌≡◌, ℕ, zero, suc, ◌+◌, ◌<◌, ◌≤◌, ◌∙◌, ◌&&◌, ◌==◌, Bool, true, false, not, List, [], ◌∷◌, ◌++◌, Option, None, Some, Result, Ok, Err, cond, filter, length, map, get_or, ok_or, option_and_then, option_map, slice_get, refl, sym, ap, subst, arith}
 use Rattle.std.specs.List.{position_or_len}
 use Rattle.std.specs.Str.{bytes_eq}
 use Rattle.std.proofs.lemmas.Bool.{and_from, and_parts, both_ways, cond-true, eq-eqb, eqb-true, false_from_ne_true, not-true, not_from_false, ltb-true}
@@ -135,15 +135,16 @@ place-before p (x ∷ xs) ys h = by (p x) refl (λ less. place-before p xs ys le
         behind : 1 + position_or_len p xs < length (x ∷ xs) → position_or_len p xs < length xs
         behind h = omega arith
 
+label-there : (table : List Label) (x : Label) (new : List Label) → slice_get (table ++ x ∷ new) (length table) ≡ Some x
+label-there table x new =
+    slice_get-get_or (table ++ x ∷ new) (length table) [] (omega (arith, length-append table (x ∷ new)))
+    ∙ ap Some (get_or_at table x new [] (length table) refl)
+
 lacks-label : (table : List Label) (x : Label) (new : List Label) → IsLabelTable (table ++ x ∷ new) → has_label table x ≡ false
 lacks-label table x new ok = by (has_label table x) refl
   where
     place : place_of (table ++ x ∷ new) x ≡ length table
-    place =
-        (found_at (bytes_eq x) (table ++ x ∷ new) (length table)
-        (ok.places (length table) x
-        (slice_get-get_or (table ++ x ∷ new) (length table) [] (omega (arith, length-append table (x ∷ new)))
-        ∙ ap (λ (y : Label). Some y) (get_or_at table x new [] (length table) refl)))).1
+    place = (found_at (bytes_eq x) (table ++ x ∷ new) (length table) (ok.places (length table) x (label-there table x new))).1
 
     by : (b : Bool) → has_label table x ≡ b → has_label table x ≡ false
     by false h = h
@@ -151,18 +152,12 @@ lacks-label table x new ok = by (has_label table x) refl
         let within : place_of table x < length table = ltb-true _ _ (any_place (bytes_eq x) table ∙ h) in
         absurd (omega (arith, place, place-before (bytes_eq x) table (x ∷ new) within))
 
-is_label-in : (table : List Label) (x : Label) (new : List Label) → IsLabelTable (table ++ x ∷ new) → is_label x ≡ true
-is_label-in table x new ok =
-    ok.labels (length table) x
-    (slice_get-get_or (table ++ x ∷ new) (length table) [] (omega (arith, length-append table (x ∷ new)))
-    ∙ ap (λ (y : Label). Some y) (get_or_at table x new [] (length table) refl))
-
 -- the labels of a table are read from their lines
 pub labels_at-again : (new table : List Label) (number : ℕ) (rest : List (List ℕ)) → IsLabelTable (table ++ new) → 0 < length rest
     → (n : ℕ) × (labels_at (length new) table (record { number = number; pieces = new ++ rest }) ≡ Ok (table ++ new, record { number = n; pieces = rest }))
 labels_at-again [] table number rest ok some = (number, ap (λ (t : List Label). Ok (t, record { number = number; pieces = rest })) (sym (append-nil table)))
 labels_at-again (x ∷ new) table number rest ok some =
-    let test : (is_label x && not (has_label table x)) ≡ true = and_from _ _ (is_label-in table x new ok) (not_from_false _ (lacks-label table x new ok)) in
+    let test : (is_label x && not (has_label table x)) ≡ true = and_from _ _ (ok.labels (length table) x (label-there table x new)) (not_from_false _ (lacks-label table x new ok)) in
     let step = value_at-again BadLabelTable (new_label table) number x (new ++ rest) x (cond-true (is_label x && not (has_label table x)) (Some x) None test) (omega (arith, length-append new rest)) in
     let more = labels_at-again new (table ++ x ∷ []) (number + 1) rest (subst IsLabelTable (sym (append_assoc table (x ∷ []) new)) ok) some in (
       more.0,

@@ -1,8 +1,8 @@
-use Rattle.std.specs.Prelude.{List, [], ◌∷◌, None, codes, ℕ, replicate, true}
+use Rattle.std.specs.Prelude.{List, [], ◌∷◌, None, codes}
 use Rattle.prefix_keys.specs.declared.version.Version.TheVariants.{V4}
 use Rattle.pmap_text.specs.ListModel.{ListModel}
 use Rattle.pmap_text.specs.MapModel.{Label, MapModel}
-use Rattle.pmap_cert.specs.CertificateModel.{CertificateModel, InnerNode, LeafNode, Tree, ChainNode, opened}
+use Rattle.pmap_cert.specs.CertificateModel.{CertificateModel, InnerNode, LeafNode, Tree}
 
 -- A worked example: the map
 --   0.0.0.0/2 A   64.0.0.0/2 B   128.0.0.0/2 A   192.0.0.0/2 C
@@ -53,27 +53,3 @@ four_quarters_certificate = record {
       InnerNode (record { cost = 2; labels = codes "A" ∷ [] })
       (two_leaves (codes "A") (codes "B")) (two_leaves (codes "A") (codes "C"));
 }
-
--- A worked example with a chain: the map
---   default D   255.255.255.255 X
--- whose certificate is one chain of 32 bits.
-
-abbrev pub last_address_table : List Label
-last_address_table = codes "D" ∷ codes "X" ∷ []
-
--- the chain  c 1 {D}  of 32 bits, with the side label D, over the leaf X
-abbrev pub last_address_chain : Tree
-last_address_chain =
-    ChainNode (record { cost = 1; labels = codes "D" ∷ [] }) (replicate 32 true) (codes "D") (LeafNode (codes "X"))
-
-abbrev pub last_address_certificate : CertificateModel
-last_address_certificate = record { format = 2; version = V4; table = last_address_table; root = last_address_chain }
-
--- the certificate with its chain opened, in format 1
-abbrev pub last_address_opened : CertificateModel
-last_address_opened = record { format = 1; version = V4; table = last_address_table; root = opened last_address_chain }
-
--- the lines of the chain's certificate
-abbrev pub last_address_lines : List (List ℕ)
-last_address_lines =
-    codes "flowlabel-cert 2 ipv4 2" ∷ codes "D" ∷ codes "X" ∷ codes "c 1 11111111111111111111111111111111 0 0" ∷ codes "l 1" ∷ []

@@ -1,5 +1,5 @@
 use Rattle.std.specs.Prelude.{ℕ}
-use Rattle.std.specs.Coded.{Unit-prop}
+use Rattle.std.specs.Coded.{×_prop, Unit-prop}
 use Rattle.prefix_keys.specs.declared.version.Version.{Version}
 use Rattle.pmap_cert.specs.Node.{Chain, Inner, IsPlainNode, Leaf, Node}
 pub use Rattle.pmap_cert.specs.declared.format.Format.{Format}
@@ -18,10 +18,9 @@ abbrev pub IsNodeOf : Format → Node → Type 0
 IsNodeOf One node = IsPlainNode node
 IsNodeOf Two node = Unit {0}
 
-pub IsPlainNode-prop : (node : Node) → IsProp (IsPlainNode node)
+IsPlainNode-prop : (node : Node) → IsProp (IsPlainNode node)
 IsPlainNode-prop (Leaf number) = Unit-prop
-IsPlainNode-prop (Inner cost set lower upper) =
-    λ x y i. (IsPlainNode-prop lower x.0 y.0 i, IsPlainNode-prop upper x.1 y.1 i)
+IsPlainNode-prop (Inner cost set lower upper) = ×_prop (IsPlainNode-prop lower) (IsPlainNode-prop upper)
 IsPlainNode-prop (Chain cost set bits side end) = λ x y. absurd x
 
 pub IsNodeOf-prop : (format : Format) (node : Node) → IsProp (IsNodeOf format node)

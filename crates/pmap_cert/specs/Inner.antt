@@ -161,10 +161,6 @@ pub record IsStep (lines : List DueLine) (all : List ℕ) (side number : ℕ) (b
   pub after : number < chosen
   pub place : HasPlace lines all chosen
 
-pub record IsRunEnd (lines : List DueLine) (side number : ℕ) : Type 0 where
-  pub bits : bits_down side (node_from lines number) ≡ []
-  pub end : end_down side (node_from lines number) ≡ node_from lines number
-
 -- the run of the side label from line `number` has these bits and ends at line `end`
 pub record IsRun (lines : List DueLine) (all : List ℕ) (side number : ℕ) (bits : List Bool) (end : ℕ) : Type 0 where
   pub bits_are : bits ≡ bits_down side (node_from lines number)

@@ -34,14 +34,6 @@ set_of (Leaf number) = number ∷ []
 set_of (Inner cost set lower upper) = set
 set_of (Chain cost set bits side end) = set
 
-abbrev pub bits_of : Node → List Bool
-bits_of (Chain cost set bits side end) = bits
-bits_of _ = []
-
-abbrev pub side_of : Node → Option ℕ
-side_of (Chain cost set bits side end) = Some side
-side_of _ = None
-
 abbrev pub tree_of : List Label → Node → Tree
 tree_of table (Leaf number) = LeafNode (text_at table number)
 tree_of table (Inner cost set lower upper) =

@@ -26,10 +26,6 @@ set_at sets place = map (λ id. id.0) (slice_range sets (place + 2) (place + 2 +
 abbrev pub HasSetAt : List LabelId → ℕ → Type 0
 HasSetAt sets place = place + 2 + count_at sets place ≤ length sets
 
-pub record IsHeldAt (sets : List LabelId) (place : ℕ) (numbers : List ℕ) : Type 0 where
-  pub whole : HasSetAt sets place
-  pub set : set_at sets place ≡ numbers
-
 -- the new list is the old one with more appended
 abbrev pub IsGrown : {A : Type 0} → List A → List A → Type 0
 IsGrown {A} old new = (more : List A) × (new ≡ old ++ more)

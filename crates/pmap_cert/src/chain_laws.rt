@@ -4,11 +4,10 @@ ghost use Rattle.std.specs.Prelude.{◌≡◌, ◌≤◌, ◌⊎◌, ◌↔◌, 
 ghost use Rattle.pmap_text.specs.ListModel.{ListModel};
 ghost use Rattle.pmap_text.specs.MapModel.{Label, MapModel};
 ghost use Rattle.pmap_cert.specs.Acceptance.{IsAccepted};
-ghost use Rattle.pmap_cert.specs.CertificateText.{HasFormatText, HasTextForm, certificate_lines, certificate_text};
+ghost use Rattle.pmap_cert.specs.CertificateText.{HasFormatText, HasTextForm, certificate_text};
 ghost use Rattle.pmap_cert.specs.CertificateModel.{CertificateModel, InnerNode, LeafNode, Claim, Tree, claim_of, IsOfFormat, IsPlain, chain_claim, opened, opened_certificate, claim_by_bits, IsSameClaim};
 ghost use Rattle.pmap_cert.specs.Compacting.{HasNoRun, IsSameShape, IsPath, OpensTo, compact, compacted, line_count, run_bits, run_compacted, run_end, side_of};
 ghost use Rattle.pmap_cert.specs.FormatReading.{format_reading, CertFault};
-ghost use Rattle.pmap_cert.specs.Examples.{last_address_certificate, last_address_lines, last_address_opened};
 
 /// A chain's exact claim, which `chain_claim` gives in one step, equals the exact claim taken bit by bit from the end
 /// up, whether or not the end's set has the side label.
@@ -84,10 +83,4 @@ pub fn text_of_format_is_read_or_has_a_fault()
         ⊎ ((c : CertificateModel) × HasFormatText c × (text ≡ certificate_text c)) }
     ensures apart { (text : List ℕ) (fault : CertFault) (c : CertificateModel) →
         format_reading text ≡ Err fault → HasFormatText c → ¬ (text ≡ certificate_text c) }
-{}
-
-/// The worked example of a chain of 32 bits: opening and compacting it gives it back, and its lines are these.
-pub fn last_address_is_one_chain()
-    ensures compacted { compact last_address_opened ≡ last_address_certificate }
-    ensures lines { certificate_lines last_address_certificate ≡ last_address_lines }
 {}

@@ -1,11 +1,11 @@
 //! Compacting: a chain replaces each run of inner nodes that each have a leaf of the same label in one half.
-ghost use Rattle.std.specs.Prelude.{◌≡◌, ◌<◌, IfOk, IsSome, MatchOption, OnOk, length, option_map};
+ghost use Rattle.std.specs.Prelude.{◌≡◌, ◌<◌, [], IfOk, IsSome, MatchOption, OnOk, length, option_map};
 ghost use Rattle.std.specs.Option.{option_or};
 ghost use Rattle.pmap_cert.specs.Certificate.{certificate_of};
 ghost use Rattle.pmap_cert.specs.Compacting.{compact};
 ghost use Rattle.pmap_cert.specs.Node.{IsPlainNode, label_of};
 ghost use Rattle.pmap_cert.specs.Packed.{bits_in};
-ghost use Rattle.pmap_cert.specs.Inner.{AreEndsFrom, ArePlain, EndsAt, HasHalves, HasPlace, IsCompactNode, IsCompacted, IsLong, IsRun, IsRunEnd, IsShallow, IsShort, IsStep, is_leaf, node_from};
+ghost use Rattle.pmap_cert.specs.Inner.{AreEndsFrom, ArePlain, EndsAt, HasHalves, HasPlace, IsCompactNode, IsCompacted, IsLong, IsRun, IsShallow, IsShort, IsStep, is_leaf, node_from};
 
 use crate::certificate::Certificate;
 use crate::format::Format;
@@ -78,7 +78,7 @@ fn is_leaf(nodes: &Nodes, number: usize, label: LabelId) -> bool
 // half, or `None` if the run ends there.
 fn step(nodes: &Nodes, ends: &[usize], number: usize, side: LabelId) -> Option<(bool, usize)>
     requires { HasPlace nodes.now ends.now number }
-    ensures { MatchOption result (IsRunEnd nodes.now side.0 number)
+    ensures { MatchOption result (IsRun nodes.now ends.now side.0 number [] number)
         (λ x. IsStep nodes.now ends.now side.0 number x.0 x.1) }
 {
     let (lower, upper) = halves_of(nodes, ends, number)?;

@@ -45,8 +45,7 @@ pub use certificate_reading::{Head, read_cert, read_cert_with_hashing, read_head
 pub use chain_laws::{
     chain_claim_is_bit_by_bit, compact_gives_back_equal, compact_has_a_text,
     compact_has_no_more_lines, compact_keeps_acceptance, compact_opens_to_the_same,
-    compacting_is_by_longest_runs, last_address_is_one_chain, opened_is_accepted,
-    text_of_format_is_read_or_has_a_fault,
+    compacting_is_by_longest_runs, opened_is_accepted, text_of_format_is_read_or_has_a_fault,
 };
 pub use compacting::compact;
 pub use cursor::{Cursor, cursor_of};

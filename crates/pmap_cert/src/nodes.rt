@@ -1,7 +1,7 @@
 ghost use Rattle.std.specs.Prelude.{◌≡◌, ◌<◌, ◌++◌, ◌∷◌, [], IfOk, OnErr, OnOk, length, map, reverse, slice_index_or};
 ghost use Rattle.pmap_cert.specs.FormatReading.{ChainLine, LeafLine};
 ghost use Rattle.pmap_cert.specs.Node.{cost_of, node_of, set_of};
-ghost use Rattle.pmap_cert.specs.Packed.{HasSetAt, IsGrown, IsHeldAt, IsLine, IsMore, bits_in, line_of, set_at, store_of};
+ghost use Rattle.pmap_cert.specs.Packed.{HasSetAt, IsGrown, IsLine, IsMore, bits_in, line_of, set_at, store_of};
 
 use crate::node::{Claim, Node};
 use crate::path::Path;
@@ -68,7 +68,8 @@ impl Model for Nodes {
 // Appends a set to the sets, and returns its index.
 fn hold(sets: &mut Vec<LabelId>, set: &[LabelId]) -> Result<usize, AllocError>
     ensures grown { IsGrown sets.old.items sets.new.items }
-    ensures ok { IfOk result (λ place. IsHeldAt sets.new.items place (map (λ id. id.0) set.now)) }
+    ensures whole { IfOk result (HasSetAt sets.new.items) }
+    ensures set { IfOk result (λ place. set_at sets.new.items place ≡ map (λ id. id.0) set.now) }
 {
     let place = sets.len();
     sets.push(LabelId((set.len() % HALF) as u32))?;

@@ -5,7 +5,8 @@ use Rattle.pmap_text.specs.declared.entry.Entry.{Entry}
 use Rattle.pmap_text.specs.declared.label.LabelId.{LabelId}
 use Rattle.label_trie.specs.Parts.{IsHalf}
 use Rattle.pmap_cert.specs.FormatReading.{ChainLine, DueLine, InnerLine, LeafLine}
-use Rattle.pmap_cert.specs.Node.{Chain, Inner, Leaf, Node, bits_of, first_line, first_node, from_next_line, node_of, set_of}
+use Rattle.pmap_cert.proofs.NodeWalk.{bits_of}
+use Rattle.pmap_cert.specs.Node.{Chain, Inner, Leaf, Node, first_line, first_node, from_next_line, node_of, set_of}
 use Rattle.pmap_cert.specs.Paths.{LeadsTo, path_to}
 use Rattle.pmap_cert.proofs.Paths.{path-length}
 use Rattle.pmap_minimise.specs.Listing.{AddsEntries}
@@ -19,7 +20,7 @@ abbrev set_in : DueLine → List ℕ
 set_in line = set_of (node_of line)
 
 abbrev bits_in : DueLine → List Bool
-bits_in line = bits_of (node_of line)
+bits_in line = bits_of line
 
 -- the end of a chain
 pub record IsEndAt (nodes : List Node) (count room : ℕ) : Type 0 where

@@ -7,7 +7,8 @@ use Rattle.pmap_cert.proofs.Paths.{path-length}
 use Rattle.pmap_cert.proofs.Written.{text_of_lines-append}
 use Rattle.pmap_cert.specs.CertificateText.{inner_line, leaf_line, text_of_lines}
 use Rattle.pmap_cert.specs.FormatReading.{ChainLine, DueLine}
-use Rattle.pmap_cert.specs.Node.{Chain, Inner, Leaf, Node, bits_of, cost_of, first_line, first_node, from_next_line, line_text, lines_of, node_of, set_of, side_of}
+use Rattle.pmap_cert.proofs.NodeWalk.{bits_of, side_of}
+use Rattle.pmap_cert.specs.Node.{Chain, Inner, Leaf, Node, cost_of, first_line, first_node, from_next_line, line_text, lines_of, node_of, set_of}
 use Rattle.pmap_cert.specs.Paths.{digit, path_to}
 use Rattle.pmap_minimise.specs.Numbers.{has_number}
 use Rattle.pmap_minimise.specs.Opened.{Opens, cost_above, node_over, node_text, path_node, set_above, with_number}
@@ -75,10 +76,10 @@ chain-added cost value count side set [] old new some line added node opens = ab
 chain-added cost value count side set (Leaf n ∷ rest) old new some line added node opens = absurd cc
 chain-added cost value count side set (Inner price claimed lower upper ∷ rest) old new some line added node opens = absurd cc
 chain-added cost value count side set (Chain price claimed path beside end ∷ rest) old new some line added node opens =
-    let same : beside ≡ side = sym (same_Some side beside (ap (λ l. side_of (node_of l)) line)) in
+    let same : beside ≡ side = sym (same_Some side beside (ap side_of line)) in
     added opens.end opens.below (ap (λ l. cost_of (node_of l)) line ∙ opens.cost_is ∙ ap (λ (n : ℕ). cost_above n opens.end) same)
     ∙ ap (λ (k : Node). old ++ node_text k)
-    (same-path side value opens.value opens.end count opens.count (ap (λ l. bits_of (node_of l)) line ∙ opens.bits_are)
+    (same-path side value opens.value opens.end count opens.count (ap bits_of line ∙ opens.bits_are)
     ∙ ap (λ (n : ℕ). path_node n opens.value opens.count opens.end) (sym same) ∙ sym opens.node_is)
 
 over-set : (d cost : ℕ) (own : List ℕ) (x y : Node) → set_of (node_over d cost own x y) ≡ own
