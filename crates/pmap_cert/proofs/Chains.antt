@@ -4,7 +4,7 @@ use Rattle.pmap_text.specs.MapModel.{Label, MapModel}
 use Rattle.prefix_keys.specs.Block.{width_of}
 use Rattle.pmap_cert.specs.Acceptance.{AreBitsAccepted, IsAccepted, IsLeafAccepted, IsNodeAccepted, IsWithinExact}
 use Rattle.pmap_cert.specs.CertificateModel.{CertificateModel, ChainNode, InnerNode, LeafNode, Claim, Tree, claim_of, has, IsPlain, chain_labels, chain_opened, chain_claim, chosen_half, link, link_claim, links, opened, opened_certificate, claim_by_bits, side_half, IsSameClaim, exact_claim}
-use Rattle.pmap_cert.proofs.Sets.{exact_claim-apart, exact_claim-common, has-head, has-own, has-single, same-exact_claim}
+use Rattle.pmap_cert.proofs.Sets.{exact_claim-apart, exact_claim-common, has-head, has-own, has-single, same-exact_claim, same-then}
 
 -- A chain's exact claim is the exact claim taken bit by bit, and an accepted certificate with chains is accepted with
 -- each chain opened.
@@ -12,10 +12,6 @@ use Rattle.pmap_cert.proofs.Sets.{exact_claim-apart, exact_claim-common, has-hea
 -- the claim of the leaf beside the path
 abbrev side_claim : Label → Claim
 side_claim side = claim_of (LeafNode side)
-
--- equality of claims is transitive
-same-then : (a b c : Claim) → IsSameClaim a b → IsSameClaim b c → IsSameClaim a c
-same-then a b c e f = record { cost = e.cost ∙ f.cost; labels = λ x. e.labels x ∙ f.labels x }
 
 same-itself : (a : Claim) → IsSameClaim a a
 same-itself a = record { cost = refl; labels = λ x. refl }

@@ -1,15 +1,15 @@
 -- A compacted certificate has a text if the original has one.
-use Rattle.std.proofs.Common.{◌≡◌, ℕ, zero, suc, ◌<◌, List, Some, inr, arith, length, refl, subst}
+use Rattle.std.proofs.Common.{◌≡◌, ℕ, zero, suc, ◌<◌, List, Some, inr, arith, length, refl, subst, ⊎_elim}
 use Rattle.std.proofs.lemmas.Bool.{leb-true}
 use Rattle.std.proofs.lemmas.Option.{none-some, same_Some}
 use Rattle.prefix_keys.specs.Block.{width_of}
 use Rattle.pmap_text.specs.MapModel.{Label}
 use Rattle.pmap_cert.specs.CertificateText.{HasFormatText, HasNodeForm, HasRoomBelow, place_of}
 use Rattle.pmap_cert.specs.CertificateModel.{CertificateModel, ChainNode, InnerNode, LeafNode, Claim, Tree, IsPlain}
-use Rattle.pmap_cert.specs.Compacting.{compact, compacted_in, line_count, run_bits, run_end, side_of}
+use Rattle.pmap_cert.specs.Compacting.{compact, compacted_in, leaf_label, line_count, run_bits, run_end, side_of}
 use Rattle.pmap_cert.proofs.ChainWords.{other-room}
 use Rattle.pmap_cert.proofs.Compacts.{by_format}
-use Rattle.pmap_cert.proofs.Runs.{by_run, by_steps, plain-run}
+use Rattle.pmap_cert.proofs.Runs.{by_run, by_steps, either-some, plain-run}
 
 module _ (table : List Label) where
   halves-form : (claim : Claim) (lower upper : Tree) (room : ℕ) → HasNodeForm table (InnerNode claim lower upper) room →
@@ -25,19 +25,11 @@ module _ (table : List Label) where
       (λ claim lower upper bits end e below room h. let half = halves-form claim lower upper room h in rw half.1 (below half.0 half.3))
       (λ claim lower upper bits end e below room h. let half = halves-form claim lower upper room h in rw half.1 (below half.0 half.2)) t
 
-  -- the side label of a run is in the table, as it is that of a leaf
-  side-known : (lower upper : Tree) (room : ℕ) (side : Label) → HasNodeForm table lower room → HasNodeForm table upper room →
-      side_of lower upper ≡ Some side → place_of table side < length table
-  side-known (LeafNode x) upper room side low up e =
-      subst (λ (y : Label). place_of table y < length table) (same_Some x side e) low
-  side-known (InnerNode p l r) (LeafNode x) room side low up e =
-      subst (λ (y : Label). place_of table y < length table) (same_Some x side e) up
-  side-known (ChainNode p bs s end) (LeafNode x) room side low up e =
-      subst (λ (y : Label). place_of table y < length table) (same_Some x side e) up
-  side-known (InnerNode p l r) (InnerNode p' l' r') room side low up e = absurd (none-some side e)
-  side-known (InnerNode p l r) (ChainNode p' bs' s' end') room side low up e = absurd (none-some side e)
-  side-known (ChainNode p bs s end) (InnerNode p' l' r') room side low up e = absurd (none-some side e)
-  side-known (ChainNode p bs s end) (ChainNode p' bs' s' end') room side low up e = absurd (none-some side e)
+  -- the label of a leaf is in the table
+  leaf-known : (t : Tree) (room : ℕ) (x : Label) → HasNodeForm table t room → leaf_label t ≡ Some x → place_of table x < length table
+  leaf-known (LeafNode y) room x h e = subst (λ (z : Label). place_of table z < length table) (same_Some y x e) h
+  leaf-known (InnerNode p l r) room x h e = absurd (none-some x e)
+  leaf-known (ChainNode p bs s end) room x h e = absurd (none-some x e)
 
   pub form-compacted : (steps : ℕ) (t : Tree) (room : ℕ) → IsPlain t → HasNodeForm table t room →
       HasNodeForm table (compacted_in steps t) room
@@ -52,7 +44,7 @@ module _ (table : List Label) where
       let end : Tree = run_end side (InnerNode claim lower upper) in (
         h.0,
         h.1,
-        side-known lower upper room side h.2 h.3 e,
+        ⊎_elim (leaf-known lower room side h.2) (leaf-known upper room side h.3) (either-some (leaf_label lower) (leaf_label upper) side e),
         omega (arith, leb-true 2 (length (run_bits side (InnerNode claim lower upper))) long),
         other-room (HasNodeForm table end) (HasNodeForm table (compacted_in steps end))
             (λ left fits. form-compacted steps end left (plain-run side (InnerNode claim lower upper) plain) fits)

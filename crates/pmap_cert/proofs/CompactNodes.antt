@@ -1,5 +1,5 @@
 -- Compacting nodes with label numbers.
-use Rattle.std.proofs.Common.{◌≡◌, ◌++◌, ℕ, zero, suc, ◌<◌, ◌≤◌, ◌∙◌, Bool, true, false, List, [], ◌∷◌, Option, Some, None, IsSome, cond, length, map, nat_le, option_map, refl, sym, ap, subst, arith}
+use Rattle.std.proofs.Common.{◌≡◌, ◌++◌, ℕ, zero, suc, ◌<◌, ◌≤◌, ◌∙◌, Bool, true, false, List, [], ◌∷◌, Option, Some, None, IsSome, cond, length, map, nat_le, option_map, refl, sym, ap, subst, arith, ⊎_elim}
 use Rattle.std.specs.Option.{option_or}
 use Rattle.std.proofs.lemmas.Bool.{cond-false, cond-true, le-leb, lt-leb}
 use Rattle.std.proofs.lemmas.List.{append_assoc}
@@ -18,7 +18,7 @@ use Rattle.pmap_cert.specs.Node.{Chain, HasChainForm, Inner, Leaf, Node, cost_of
 use Rattle.pmap_cert.specs.Inner.{IsCompactNode, IsCompacted, IsShort, bits_down, end_down, is_leaf, side_below}
 use Rattle.pmap_cert.proofs.ChainWords.{end-room, other-room}
 use Rattle.pmap_cert.proofs.Compacts.{compact-again, compact-first}
-use Rattle.pmap_cert.proofs.Runs.{compacted-inner, compacted-leaf}
+use Rattle.pmap_cert.proofs.Runs.{compacted-inner, compacted-leaf, either-some}
 use Rattle.pmap_cert.proofs.Tables.{label-same}
 
 -- the run of a node's tree is the run of the node
@@ -81,15 +81,15 @@ form-down count side (Inner cost set lower upper) (suc room) h =
     by false false low up = h
 
 -- the side label of a run is a label of the table, as it is that of a leaf
+leaf-known : (count : ℕ) (node : Node) (room number : ℕ) → HasChainForm count node room → label_of node ≡ Some number → number < count
+leaf-known count (Leaf n) room number h e = subst (λ (k : ℕ). k < count) (same_Some n number e) h
+leaf-known count (Inner c s l u) room number h e = absurd (none-some number e)
+leaf-known count (Chain c s b x n) room number h e = absurd (none-some number e)
+
 side-known : (count : ℕ) (lower upper : Node) (room side : ℕ) → HasChainForm count lower room → HasChainForm count upper room
     → option_or (label_of lower) (label_of upper) ≡ Some side → side < count
-side-known count (Leaf n) upper room side low up e = subst (λ (k : ℕ). k < count) (same_Some n side e) low
-side-known count (Inner c s l u) (Leaf n) room side low up e = subst (λ (k : ℕ). k < count) (same_Some n side e) up
-side-known count (Chain c s b x n') (Leaf n) room side low up e = subst (λ (k : ℕ). k < count) (same_Some n side e) up
-side-known count (Inner c s l u) (Inner c' s' l' u') room side low up e = absurd (none-some side e)
-side-known count (Inner c s l u) (Chain c' s' b' x' n') room side low up e = absurd (none-some side e)
-side-known count (Chain c s b x n) (Inner c' s' l' u') room side low up e = absurd (none-some side e)
-side-known count (Chain c s b x n) (Chain c' s' b' x' n') room side low up e = absurd (none-some side e)
+side-known count lower upper room side low up e =
+    ⊎_elim (leaf-known count lower room side low) (leaf-known count upper room side up) (either-some (label_of lower) (label_of upper) side e)
 
 pub compact-leaf : (number : ℕ) → IsCompactNode (Leaf number) (Leaf number)
 compact-leaf number = record {

@@ -173,6 +173,4 @@ pub root-at : (node : Node) (lines : List DueLine) → lines ≡ lines_of node �
 root-at node lines is = ap first_node (root-of lines node is)
 
 pub some-lines : (node : Node) (lines : List DueLine) → lines ≡ lines_of node → 0 < length lines
-some-lines (Leaf number) lines is = let e = ap length is in omega arith
-some-lines (Inner cost set lower upper) lines is = let e = ap length is in omega arith
-some-lines (Chain cost set bits side end) lines is = let e = ap length is in omega arith
+some-lines node lines is = let e = ap length (root-of lines node is) in within lines 0 (omega arith)

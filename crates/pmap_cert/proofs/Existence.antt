@@ -20,22 +20,17 @@ node_over m n q unsettled lower upper = (
   (unsettled, refl, lower.1, upper.1),
 )
 
+-- a block has a node that represents it if it has one unless the map settles it
+node_by : (m : MapModel) (n q : ℕ) (o : Option Label) → settled_label m n q ≡ o → (settled_label m n q ≡ None → NodeFor m n q) → NodeFor m n q
+node_by m n q (Some x) settled node = (LeafNode x, settled)
+node_by m n q None unsettled node = node unsettled
+
 -- each block has a node that represents it, by recursion on the bits below the block
 node_for : (m : MapModel) (left n q : ℕ) → n + left ≡ width_of m.version → NodeFor m n q
-node_for m zero n q e = by_label (settled_label m n q) refl
-  where
-    by_label : (o : Option Label) → settled_label m n q ≡ o → NodeFor m n q
-    by_label (Some x) settled = (LeafNode x, settled)
-    by_label None unsettled =
-        let below : n < width_of m.version = unsettled-halves m n q (omega arith) unsettled in
-        absurd (omega arith)
-node_for m (suc left) n q e =
-    by_label (settled_label m n q) refl
-    (node_for m left (suc n) (2 * q) (omega arith)) (node_for m left (suc n) (2 * q + 1) (omega arith))
-  where
-    by_label : (o : Option Label) → settled_label m n q ≡ o → NodeFor m (suc n) (2 * q) → NodeFor m (suc n) (2 * q + 1) → NodeFor m n q
-    by_label (Some x) settled lower upper = (LeafNode x, settled)
-    by_label None unsettled lower upper = node_over m n q unsettled lower upper
+node_for m zero n q e = node_by m n q (settled_label m n q) refl (λ unsettled.
+    let below : n < width_of m.version = unsettled-halves m n q (omega arith) unsettled in absurd (omega arith))
+node_for m (suc left) n q e = node_by m n q (settled_label m n q) refl (λ unsettled.
+    node_over m n q unsettled (node_for m left (suc n) (2 * q) (omega arith)) (node_for m left (suc n) (2 * q + 1) (omega arith)))
 
 -- the minimal pair of a node that represents the address space
 abbrev pub pair_of : (m : MapModel) → NodeFor m 0 0 → (l : ListModel) × (c : CertificateModel) × IsMinimalPair m l c

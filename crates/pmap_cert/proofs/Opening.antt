@@ -2,10 +2,10 @@ use Rattle.std.proofs.Common.{◌≡◌, ℕ, suc, ◌+◌, ◌*◌, ◌<◌, �
 use Rattle.pmap_text.specs.ListModel.{Prefix}
 use Rattle.pmap_text.specs.MapModel.{Label, MapModel}
 use Rattle.pmap_cert.specs.Acceptance.{AreBitsAccepted, IsNodeAccepted, IsWithinExact}
-use Rattle.pmap_cert.specs.CertificateModel.{ChainNode, InnerNode, LeafNode, Claim, Tree, claim_of, chain_claim, link_claim, claim_by_bits, IsSameClaim, exact_claim}
+use Rattle.pmap_cert.specs.CertificateModel.{ChainNode, InnerNode, LeafNode, Claim, Tree, claim_of, chain_claim, link_claim, claim_by_bits, exact_claim}
 use Rattle.pmap_cert.specs.Compacting.{IsPath, OpensTo, line_count}
 use Rattle.pmap_cert.proofs.Chains.{bits-end, claim-by_bits, within-itself, within-same_claim}
-use Rattle.pmap_cert.proofs.Sets.{IsExact, apart, common, exact}
+use Rattle.pmap_cert.proofs.Sets.{IsExact, apart, common, exact, same-back}
 
 -- A claim that is within the exact claims along a chain's path is within the chain's exact claim, so a node with chains
 -- is accepted if the node that it opens to is.
@@ -112,9 +112,6 @@ module _ (m : MapModel) (ps : List Prefix) (side : Label) (IsEnd : Tree → Type
         )
 
 -- a claim that is within the exact claim taken bit by bit is within the chain's exact claim
-same-back : (p r : Claim) → IsSameClaim p r → IsSameClaim r p
-same-back p r same = record { cost = sym same.cost; labels = λ x. sym (same.labels x) }
-
 within-chain : (claim : Claim) (bits : List Bool) (side : Label) (e : Claim) → 0 < length bits →
     IsWithinExact claim (claim_by_bits bits side e) → IsWithinExact claim (chain_claim (length bits) side e)
 within-chain claim [] side e some within = absurd (omega arith)

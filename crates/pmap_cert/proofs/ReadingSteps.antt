@@ -16,19 +16,18 @@ use Rattle.pmap_cert.proofs.FormatTrees.{inside_of, line_due-found, nodes-step, 
 -- Reading one more label of a table.
 
 module _ (count : ℕ) (table : List Label) (place : Place) (total : Result (List Label × Place) CertFault) (so_far : total ≡ labels_at (count - length table) table place) where
-  one_left : length table < count → count - length table ≡ suc (count - (length table + 1))
-  one_left h = omega arith
+  abbrev label_then : Result (Label × Place) CertFault → Result (List Label × Place) CertFault
+  label_then r = r >>= (λ label. labels_at (count - (length table + 1)) (table ++ label.0 ∷ []) label.1)
+
+  step : length table < count → total ≡ label_then (line_value BadLabelTable (new_label table) place)
+  step h = so_far ∙ ap (λ (n : ℕ). labels_at n table place) {y = suc (count - (length table + 1))} (omega arith)
 
   pub labels_at-fault : (fault : CertFault) → length table < count → line_value BadLabelTable (new_label table) place ≡ Err fault → total ≡ Err fault
-  labels_at-fault fault h e =
-      so_far ∙ ap (λ (n : ℕ). labels_at n table place) (one_left h)
-      ∙ ap (λ (r : Result (Label × Place) CertFault). r >>= (λ label. labels_at (count - (length table + 1)) (table ++ label.0 ∷ []) label.1)) e
+  labels_at-fault fault h e = step h ∙ ap label_then e
 
   pub labels_at-next : (label : Label) (after : Place) → length table < count → line_value BadLabelTable (new_label table) place ≡ Ok (label, after) → total ≡ labels_at (count - length (table ++ label ∷ [])) (table ++ label ∷ []) after
   labels_at-next label after h e =
-      so_far ∙ ap (λ (n : ℕ). labels_at n table place) (one_left h)
-      ∙ ap (λ (r : Result (Label × Place) CertFault). r >>= (λ label. labels_at (count - (length table + 1)) (table ++ label.0 ∷ []) label.1)) e
-      ∙ ap (λ (n : ℕ). labels_at (count - n) (table ++ label ∷ []) after) (sym (length_push table label))
+      step h ∙ ap label_then e ∙ ap (λ (n : ℕ). labels_at (count - n) (table ++ label ∷ []) after) (sym (length_push table label))
 
 -- Reading a node from its line.
 

@@ -1,5 +1,6 @@
 -- A compacted tree opens to the original and has no run left.
-use Rattle.std.proofs.Common.{◌≡◌, ℕ, zero, suc, ◌+◌, ◌*◌, ◌<◌, ◌≤◌, ◌∙◌, Bool, true, false, cond, ◌||◌, List, [], ◌∷◌, Option, Some, None, arith, length, nat_le, refl, sym, ap, ap₂, subst}
+use Rattle.std.proofs.Common.{◌≡◌, ℕ, zero, suc, ◌+◌, ◌*◌, ◌<◌, ◌≤◌, ◌∙◌, ◌⊎◌, inl, inr, Bool, true, false, cond, ◌||◌, List, [], ◌∷◌, Option, Some, None, arith, length, nat_le, refl, sym, ap, ap₂, subst}
+use Rattle.std.specs.Option.{option_or}
 use Rattle.std.proofs.lemmas.Bool.{cond-false, cond-true, false≢true, le-leb, leb-true}
 use Rattle.std.proofs.lemmas.Option.{none-some, same_Some}
 use Rattle.std.proofs.lemmas.Slice.Eq.{bytes_eq-Decides}
@@ -27,6 +28,11 @@ module _ (side : Label) (Is : Tree → List Bool → Tree → Type 0) (ended : (
       by true c e f low up = up-on claim lower upper (run_bits side upper) (run_end side upper) e up
       by false true e f low up = low-on claim lower upper (run_bits side lower) (run_end side lower) f low
       by false false e f low up = ended (InnerNode claim lower upper)
+
+-- one of two options that give a value together has it
+pub either-some : {A : Type 0} (a b : Option A) (x : A) → option_or a b ≡ Some x → (a ≡ Some x) ⊎ (b ≡ Some x)
+either-some None b x e = inr e
+either-some (Some y) b x e = inl e
 
 some-line : (t : Tree) → 1 ≤ line_count t
 some-line (LeafNode x) = omega arith

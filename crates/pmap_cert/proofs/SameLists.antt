@@ -12,7 +12,7 @@ use Rattle.pmap_cert.specs.CertificateModel.{ChainNode, InnerNode, LeafNode, Cla
 use Rattle.pmap_cert.specs.Acceptance.{HasItsLabels, StandsFor, entries_of, handed_on, has_inherited, least_label, own_entry}
 use Rattle.pmap_cert.proofs.Alike.{table-node}
 use Rattle.pmap_cert.proofs.Handed.{handed_on-leaf, inhabited}
-use Rattle.pmap_cert.proofs.Sets.{has-own, same-exact_claim, same-listed}
+use Rattle.pmap_cert.proofs.Sets.{has-own, same-back, same-exact_claim, same-listed, same-then}
 
 -- a test that a label of the table passes is passed by the one that is found
 found-some : (test : Label → Bool) (table : List Label) (x : Label) → has table x ≡ true → test x ≡ true → find test table ≡ None → ⊥
@@ -55,10 +55,6 @@ single x = record { cost = 0; labels = x ∷ [] }
 single-exact : (x : Label) → exact_claim (single x) (single x) ≡ single x
 single-exact x = ap (λ (b : Bool). exact_claim_by (single x) (single x) (cond b (x ∷ []) [])) (has-own x)
 
-same-through : (p e e' p' : Claim) → IsSameClaim p e → IsSameClaim e e' → IsSameClaim p' e' → IsSameClaim p p'
-same-through p e e' p' first second third =
-    record { cost = first.cost ∙ second.cost ∙ sym third.cost; labels = λ x. first.labels x ∙ second.labels x ∙ sym (third.labels x) }
-
 -- the addresses of the block have the label
 abbrev AllHave : MapModel → Label → ℕ → ℕ → Type 0
 AllHave m x n q = (a : ℕ) → a < 2 ^ width_of m.version → block_number (width_of m.version) n a ≡ q → map_label m a ≡ x
@@ -95,9 +91,8 @@ module _ (m : MapModel) (inside : HasItsLabels m) where
       let lower = of-one-label x l (suc n) (2 * q) below (half-low n q small) stands.2 (half-have x n q (2 * q) below (omega arith) all) in
       let upper = of-one-label x r (suc n) (2 * q + 1) below (half-high n q small) stands.3 (half-have x n q (2 * q + 1) below (omega arith) all) in
       let claim : IsSameClaim p (single x) =
-      same-through p (exact_claim (claim_of l) (claim_of r)) (exact_claim (single x) (single x)) (single x) (same-listed m.table p _ stands.1)
-      (same-exact_claim (claim_of l) (claim_of r) (single x) (single x) lower.0 upper.0)
-      (subst (λ (e : Claim). IsSameClaim (single x) e) (sym (single-exact x)) (record { cost = refl; labels = λ y. refl })) in
+      same-then p (exact_claim (claim_of l) (claim_of r)) (single x) (same-listed m.table p _ stands.1)
+      (subst (IsSameClaim (exact_claim (claim_of l) (claim_of r))) (single-exact x) (same-exact_claim (claim_of l) (claim_of r) (single x) (single x) lower.0 upper.0)) in
       let some = inhabited m (InnerNode p l r) n q stands in
       let known = table-node m inside (InnerNode p l r) n q stands some.0 some.1 in (
         claim,
@@ -133,8 +128,9 @@ module _ (m : MapModel) (ms : List Mapping) (fallback : Label) (inside : HasItsL
       let lower = same-entries l l' (suc n) (2 * q) below (half-low n q small) stands.2 stands'.2 in
       let upper = same-entries r r' (suc n) (2 * q + 1) below (half-high n q small) stands.3 stands'.3 in
       let claim : IsSameClaim p p' =
-      same-through p (exact_claim (claim_of l) (claim_of r)) (exact_claim (claim_of l') (claim_of r')) p' (same-listed m.table p _ stands.1)
-      (same-exact_claim (claim_of l) (claim_of r) (claim_of l') (claim_of r') lower.0 upper.0) (same-listed m.table p' _ stands'.1) in
+      same-then p (exact_claim (claim_of l) (claim_of r)) p' (same-listed m.table p _ stands.1)
+      (same-then (exact_claim (claim_of l) (claim_of r)) (exact_claim (claim_of l') (claim_of r')) p'
+      (same-exact_claim (claim_of l) (claim_of r) (claim_of l') (claim_of r') lower.0 upper.0) (same-back p' _ (same-listed m.table p' _ stands'.1))) in
       let some = inhabited m (InnerNode p l r) n q stands in
       let known = table-node m inside (InnerNode p l r) n q stands some.0 some.1 in (
         claim,

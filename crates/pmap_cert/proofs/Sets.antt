@@ -69,6 +69,13 @@ miss h s = cond (has_inherited s h) 0 1
 pub miss-le : (h : Option Label) (s : List Label) → miss h s ≤ 1
 miss-le h s = grind arith
 
+-- equality of claims
+pub same-then : (a b c : Claim) → IsSameClaim a b → IsSameClaim b c → IsSameClaim a c
+same-then a b c e f = record { cost = e.cost ∙ f.cost; labels = λ x. e.labels x ∙ f.labels x }
+
+pub same-back : (p r : Claim) → IsSameClaim p r → IsSameClaim r p
+same-back p r same = record { cost = sym same.cost; labels = λ x. sym (same.labels x) }
+
 -- The exact claim of two claims is that of their common labels, or, without any, of the labels of both.
 pub data IsExact (p r e : Claim) : Type 0 where
   common : (x : Label) (low : has p.labels x ≡ true) (up : has r.labels x ≡ true)

@@ -58,24 +58,6 @@ module _ (table : List Label) (ok : IsLabelTable table) where
     other-room (HasChainForm (length table) end) (HasNodeForm table (tree_of table end)) (λ left fits. node_form end left fits) bits room form.4,
   )
 
--- four texts appended one after the other
-pub pushed : (out a b c d o1 o2 o3 o4 : List ℕ) → o1 ≡ out ++ a → o2 ≡ o1 ++ b → o3 ≡ o2 ++ c → o4 ≡ o3 ++ d → o4 ≡ out ++ (a ++ ((b ++ c) ++ d))
-pushed out a b c d o1 o2 o3 o4 e1 e2 e3 e4 =
-    e4 ∙ ap (λ t. t ++ d) (e3 ∙ ap (λ t. t ++ c) (e2 ∙ ap (λ t. t ++ b) e1)) ∙ simp append_assoc
-
--- the pieces of a header appended one after the other
-pub pushed-header : (out name format version count o1 o2 o3 o4 o5 o6 : List ℕ) → o1 ≡ out ++ name → o2 ≡ o1 ++ format → o3 ≡ o2 ++ 32 ∷ [] → o4 ≡ o3 ++ version → o5 ≡ o4 ++ count
-    → o6 ≡ o5 ++ 10 ∷ [] → o6 ≡ out ++ (name ++ ((format ++ 32 ∷ (version ++ count)) ++ 10 ∷ []))
-pushed-header out name format version count o1 o2 o3 o4 o5 o6 e1 e2 e3 e4 e5 e6 =
-    e6 ∙ ap (λ t. t ++ 10 ∷ []) (e5 ∙ ap (λ t. t ++ count) (e4 ∙ ap (λ t. t ++ version) (e3 ∙ ap (λ t. t ++ 32 ∷ []) (e2 ∙ ap (λ t. t ++ format) e1))))
-    ∙ simp append_assoc
-
--- the pieces of a chain's line appended one after the other
-pub pushed-chain : (out a b c d e f o1 o2 o3 o4 o5 o6 : List ℕ) → o1 ≡ out ++ a → o2 ≡ o1 ++ b → o3 ≡ o2 ++ c → o4 ≡ o3 ++ d → o5 ≡ o4 ++ e → o6 ≡ o5 ++ f
-    → o6 ≡ out ++ (a ++ ((b ++ (c ++ (d ++ e))) ++ f))
-pushed-chain out a b c d e f o1 o2 o3 o4 o5 o6 e1 e2 e3 e4 e5 e6 =
-    e6 ∙ ap (λ t. t ++ f) (e5 ∙ ap (λ t. t ++ e) (e4 ∙ ap (λ t. t ++ d) (e3 ∙ ap (λ t. t ++ c) (e2 ∙ ap (λ t. t ++ b) e1)))) ∙ simp append_assoc
-
 -- one more label of a table appended with its line feed
 pub pushed-label : (out o o1 o2 : List ℕ) (table : List Label) (i : ℕ) (x : Label) → o ≡ out ++ text_of_lines (take i table) → o1 ≡ o ++ x → o2 ≡ o1 ++ 10 ∷ [] → slice_get table i ≡ Some x
     → o2 ≡ out ++ text_of_lines (take (i + 1) table)

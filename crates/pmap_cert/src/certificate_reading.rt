@@ -92,16 +92,14 @@ fn read_node(
                 return Err(deepest);
             }
             read_node(nodes, keeps, kept, frame, room - 1, lines)?;
-            read_node(nodes, keeps, kept, frame, room - 1, lines)?;
-            Ok(())
+            read_node(nodes, keeps, kept, frame, room - 1, lines)
         }
         Node::Chain { path, .. } => {
             let deep = path.len();
             if deep > room {
                 return Err(deepest);
             }
-            read_node(nodes, keeps, kept, frame, room - deep, lines)?;
-            Ok(())
+            read_node(nodes, keeps, kept, frame, room - deep, lines)
         }
     }
 }
@@ -120,8 +118,7 @@ pub fn skip_node(
     ensures memory { IfErr result (λ fault. fault.kind ≡ NoMemory → fault.line ≡ 0) }
 {
     let mut nodes = Nodes::new(kept.alloc);
-    read_node(&mut nodes, false, kept, frame, room, lines)?;
-    Ok(())
+    read_node(&mut nodes, false, kept, frame, room, lines)
 }
 
 // Reads the root with all nodes below it, and moves `lines` past them.

@@ -113,10 +113,7 @@ fn side_of(nodes: &Nodes, lower: usize, upper: usize) -> Option<LabelId>
     ensures { option_map (λ id. id.0) result
         ≡ option_or (label_of (node_from nodes.now lower)) (label_of (node_from nodes.now upper)) }
 {
-    match leaf_label(nodes, lower) {
-        Some(id) => Some(id),
-        None => leaf_label(nodes, upper),
-    }
+    leaf_label(nodes, lower).or_else(|| leaf_label(nodes, upper))
 }
 
 // Returns the bits, the side label and the end's line of the run from an inner node whose halves have these lines, or

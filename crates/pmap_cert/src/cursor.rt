@@ -2,10 +2,9 @@ ghost use Rattle.std.specs.Prelude.{◌≡◌, ◌<◌, ◌∷◌, [], length, m
 ghost use Rattle.pmap_cert.specs.Packed.{line_of};
 ghost use Rattle.pmap_cert.specs.Node.{cost_of, first_line, first_node, from_next_line, set_of};
 
-use crate::node::Node;
+use crate::node::{Claim, Node};
 use crate::nodes::Nodes;
 use crate::root::Root;
-use pmap_text::LabelId;
 use std::marker::Model;
 
 /// A position among a certificate's node lines, or their end. Its value is the nodes from there on, each with those
@@ -49,20 +48,13 @@ impl<'a> Cursor<'a> {
         self.nodes.node(self.number)
     }
 
-    /// Returns the cost that the node claims, 0 for a leaf.
-    pub fn cost(&self) -> u32
+    /// Returns what the node claims.
+    pub fn claim(&self) -> Claim<'a>
         requires { 0 < length self.now }
-        ensures { result ≡ cost_of (first_node self.now) }
+        ensures cost { result.cost ≡ cost_of (first_node self.now) }
+        ensures set { map (λ id. id.0) result.set.now ≡ set_of (first_node self.now) }
     {
-        self.nodes.claim(self.number).cost
-    }
-
-    /// Returns the set of labels that the node claims, by ascending numbers. A leaf claims only its own label.
-    pub fn set(&self) -> &'a [LabelId]
-        requires { 0 < length self.now }
-        ensures { map (λ id. id.0) result.now ≡ set_of (first_node self.now) }
-    {
-        self.nodes.claim(self.number).set
+        self.nodes.claim(self.number)
     }
 
     /// Returns a cursor at the next line. An inner node is followed by all lines of its lower half and then those of

@@ -55,7 +55,7 @@ pub fn entries_of(alloc: Global, root: &Root, version: Version) -> Result<Vec<En
 {
     let mut at = cursor_of(root);
     // The list has one entry more than the root's cost.
-    let count = (at.cost() as usize).saturating_add(1);
+    let count = (at.claim().cost as usize).saturating_add(1);
     let mut entries = Vec::with_capacity(alloc, count)?;
     push_entries(&mut entries, &mut at, &whole_space(version), None)?;
     Ok(entries)

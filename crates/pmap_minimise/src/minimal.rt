@@ -58,7 +58,7 @@ pub fn minimise(alloc: Global, map: &MapText, trie: &Trie) -> Result<Minimal, Al
     let labels = map.labels.copy()?;
     let certificate = Certificate::new(map.version, labels, root);
     let top = certificate.root();
-    let root_cost = u64::from(top.cost());
+    let root_cost = u64::from(top.claim().cost);
     Ok(Minimal {
         list,
         root_cost,

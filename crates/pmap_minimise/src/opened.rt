@@ -141,7 +141,7 @@ fn push_chain(
         leaf,
         both,
     };
-    push_down(out, all, &chain, at.set(), path.count)?;
+    push_down(out, all, &chain, at.claim().set, path.count)?;
     push_node(out, all, texts, at)?;
     texts.clear();
     push_leaf_line(texts, side)?;

@@ -1,12 +1,15 @@
-use Rattle.std.proofs.Common.{◌++◌, ◌∷◌, [], ◌∙◌, ap, map, sym}
+use Rattle.std.proofs.Common.{map}
 use Rattle.std.specs.Fmt.{decimal}
-use Rattle.std.specs.List.{flat_map}
-use Rattle.pmap_cert.proofs.Written.{joined-numbers, pushed}
+use Rattle.std.proofs.lemmas.List.{append_assoc}
+use Rattle.pmap_cert.proofs.Written.{joined-numbers}
 use Rattle.pmap_cert.proofs.writing.push_inner_line.Goals as goal
 
 pub returns : goal.returns
 returns c =
-    pushed c.args.out.now.items (110 ∷ []) (32 ∷ decimal c.args.cost) (flat_map (λ n. 32 ∷ decimal n) (map (λ id. id.0) c.args.set.now)) (10 ∷ [])
-    c.push.new.self.items c.push_number.new.out.items c.push_set.new.out.items c.push-2.new.self.items
-    c.in_ok-push.ensures.items c.in_ok-push_number.ensures c.in_ok-push_set.ensures c.in_ok-push-2.ensures.items
-    ∙ ap (λ text. c.args.out.now.items ++ 110 ∷ 32 ∷ (text ++ 10 ∷ [])) (sym (joined-numbers (decimal c.args.cost) (map (λ id. id.0) c.args.set.now)))
+    rw (
+      c.in_ok-push-2.ensures.items,
+      c.in_ok-push_set.ensures,
+      c.in_ok-push_number.ensures,
+      c.in_ok-push.ensures.items,
+      joined-numbers (decimal c.args.cost) (map (λ id. id.0) c.args.set.now),
+    ) (simp append_assoc)

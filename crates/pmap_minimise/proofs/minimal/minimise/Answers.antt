@@ -53,7 +53,7 @@ returns c =
     let count = c.minimal_pair_is_accepted.ensures.count (map_of m) l certificate pair in
     let entries : length l.prefixes ≡ length made_list.entries = length-map made_list.entries (prefix_of made_list.labels) in
     let cost = claim-cost c.new-certificate.result.labels c.new-certificate.result.root in
-    let own : c.cost.result ≡ cost_of c.new-certificate.result.root = c.cost.ensures ∙ ap (λ (l : List Node). cost_of (first_node l)) c.root-top.ensures.value in
+    let own : c.claim.result.cost ≡ cost_of c.new-certificate.result.root = c.claim.ensures.cost ∙ ap (λ (l : List Node). cost_of (first_node l)) c.root-top.ensures.value in
     record {
       minimal = pair;
       cost = omega (arith, cost, own, c.from-root_cost.ensures);
