@@ -18,7 +18,7 @@ use Rattle.pmap_text.proofs.Settling.{window_divided, window_most, window_settle
 use Rattle.pmap_text.specs.Windows.{AreHalvesOf, IsWindow, number_at}
 use Rattle.pmap_text.specs.declared.window.Window.{Window}
 use Rattle.pmap_text.proofs.Windows.{one_index, ordered_window}
-use Rattle.pmap_minimise.specs.Runs.{AreCountedHalves, IsCounted, IsChoice, IsMade, IsRun, IsStep, IsStop, own_label}
+use Rattle.pmap_minimise.specs.Runs.{AreCountedHalves, IsCounted, IsChoice, IsMade, IsRun, IsRunTo, IsStep, IsStop, own_label}
 use Rattle.pmap_cert.specs.Paths.{digit, path_to}
 use Rattle.pmap_minimise.specs.Opened.{cost_above, node_over, set_above, path_node}
 use Rattle.pmap_minimise.specs.Numbers.{IsExact, IsMapNode, IsSound}
@@ -257,6 +257,16 @@ step-by s side a chosen step = by step.choice
           divided = counted.divided;
           smaller = smaller.1;
         })
+
+-- a step before a run to its end
+pub step-to : (s : StretchesModel) (side : ℕ) (a chosen end : Window) → IsStep s side a chosen → IsRunTo s side chosen end → IsRunTo s side a end
+step-to s side a chosen end step run = record {
+  count = suc run.count;
+  run = (chosen, step, run.run);
+  stop = run.stop;
+  counted = run.counted;
+  len = omega (arith, (step-by s side a chosen step).len, run.len);
+}
 
 pub run-below : (s : StretchesModel) (side count : ℕ) (a end : Window) → IsCounted s a → IsRun s side count a end → IsBelow s count a end
 run-below s side zero a end is run =

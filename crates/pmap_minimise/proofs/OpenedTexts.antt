@@ -82,22 +82,6 @@ chain-added cost value count side set (Chain price claimed path beside end ∷ r
     (same-path side value opens.value opens.end count opens.count (ap bits_of line ∙ opens.bits_are)
     ∙ ap (λ (n : ℕ). path_node n opens.value opens.count opens.end) (sym same) ∙ sym opens.node_is)
 
-over-set : (d cost : ℕ) (own : List ℕ) (x y : Node) → set_of (node_over d cost own x y) ≡ own
-over-set zero cost own x y = refl
-over-set (suc d) cost own x y = refl
-
--- a node claims the set of the node that it opens to
-pub opened-set : (compact node : Node) → Opens compact node → set_of compact ≡ set_of node
-opened-set (Leaf n) node opens = sym (ap set_of opens)
-opened-set (Inner cost set lower upper) node opens = sym (ap set_of opens.node_is)
-opened-set (Chain cost set bits side end) node opens = opens.set_is ∙ sym (by opens.count opens.long) ∙ sym (ap set_of opens.node_is)
-  where
-    by : (count : ℕ) → 2 ≤ count → set_of (path_node side opens.value count opens.end) ≡ side ∷ []
-    by zero long = absurd (omega arith)
-    by (suc zero) long = absurd (omega arith)
-    by (suc (suc count)) long =
-        over-set (digit opens.value (suc count)) (cost_above side opens.end) (side ∷ []) (path_node side opens.value (suc count) opens.end) (Leaf side)
-
 -- the set of a node of a run that isn't right above the end
 pub above-more : (side : ℕ) (set : List ℕ) (more : ℕ) → 0 < more → set_above side set more ≡ side ∷ []
 above-more side set zero some = absurd (omega arith)

@@ -201,7 +201,7 @@ module _ (table : List Label) (ok : IsLabelTable table) where
   pub keeps-texts : (ids : List LabelId) (inherited : Option LabelId) → IsAscending (length table) 0 (numbers_of ids) → ForSome inherited (λ id. id.0 < length table)
       → has_inherited (map (text_at table) (numbers_of ids)) (text_of table inherited) ≡ keeps ids inherited
   keeps-texts ids None ascending known = refl
-  keeps-texts ids (Some id) ascending known = texts-has 0 (numbers_of ids) id.0 ascending (known id refl) ∙ any-numbers ids id.0
+  keeps-texts ids (Some id) ascending known = texts-has 0 (numbers_of ids) id.0 ascending (known id refl)
 
   -- the first of ascending numbers is the least label's
   pub least-texts : (low n : ℕ) (ns : List ℕ) → IsAscending (length table) low (n ∷ ns) → least_label table (map (text_at table) (n ∷ ns)) ≡ text_at table n

@@ -43,7 +43,7 @@ IsSound (Chain cost set bits side end) room = ⊥
 
 abbrev pub keeps : List LabelId → Option LabelId → Bool
 keeps ids None = false
-keeps ids (Some id) = list_any (λ label. id.0 == label.0) ids
+keeps ids (Some id) = has_number (numbers_of ids) id.0
 
 -- A node that keeps the inherited label passes it on and adds no entry. Otherwise the node passes on the first of its
 -- own labels, and adds its block's entry with that label.

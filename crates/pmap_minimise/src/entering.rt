@@ -1,7 +1,6 @@
 //! The own entry of a certificate's node, and the label that the node passes on.
-ghost use Rattle.std.specs.Prelude.{◌≡◌, ◌<◌, ◌==◌, IfOk, length};
-ghost use Rattle.std.specs.List.{list_any};
-ghost use Rattle.pmap_minimise.specs.Numbers.{IsOwn};
+ghost use Rattle.std.specs.Prelude.{◌≡◌, ◌<◌, IfOk, length};
+ghost use Rattle.pmap_minimise.specs.Numbers.{IsOwn, has_number, numbers_of};
 
 use pmap_text::{Entry, LabelId};
 use prefix_keys::Block;
@@ -9,7 +8,7 @@ use std::alloc::AllocError;
 
 /// Returns whether the label is one of `labels`.
 pub fn has_label(labels: &[LabelId], id: LabelId) -> bool
-    ensures { result ≡ list_any (λ label. id.0 == label.0) labels.now }
+    ensures { result ≡ has_number (numbers_of labels.now) id.0 }
 {
     labels.iter().any(|label| id.0 == label.0)
 }

@@ -1,8 +1,8 @@
 //! Runs: steps down to the half whose sibling has the side label alone.
-ghost use Rattle.std.specs.Prelude.{◌≡◌, ◌+◌, ◌^◌, ◌<◌, ◌≤◌, ◌↔◌, IsTrue, MatchOption, Some, length, option_map};
+ghost use Rattle.std.specs.Prelude.{◌≡◌, ◌+◌, ◌^◌, ◌<◌, ◌≤◌, ◌↔◌, IsTrue, Some, length, option_map};
 ghost use Rattle.prefix_keys.specs.Block.{width_of};
 ghost use Rattle.pmap_text.specs.Windows.{IsWindow};
-ghost use Rattle.pmap_minimise.specs.Runs.{HasLabel, IsCounted, IsRunTo, IsStep, IsStop, own_label};
+ghost use Rattle.pmap_minimise.specs.Runs.{HasLabel, IsCounted, IsRunTo, own_label};
 
 use pmap_text::{LabelId, Stretches, Window};
 use prefix_keys::{Addr, block_of};
@@ -37,34 +37,22 @@ fn has_side(stretches: &Stretches, window: &Window, side: LabelId) -> bool
     window.from == window.to && is_side(stretches, window.from, side)
 }
 
-// Takes a step of the run of the side label. Returns the chosen half, or `None` if the run ends at this block.
-fn step(stretches: &Stretches, window: &Window, side: LabelId) -> Option<Window>
-    requires { IsCounted stretches.now window.now }
-    ensures { MatchOption result (IsStop stretches.now side.0 window.now)
-        (λ chosen. IsStep stretches.now side.0 window.now chosen) }
-{
-    if window.from == window.to {
-        return None;
-    }
-    let (low, high) = window.halves(stretches);
-    if has_side(stretches, &low, side) {
-        Some(high)
-    } else if has_side(stretches, &high, side) {
-        Some(low)
-    } else {
-        None
-    }
-}
-
 // Returns the block at the end of the run of the side label, found bit by bit.
 #[inline(never)]
 fn stepwise_end(stretches: &Stretches, window: &Window, side: LabelId) -> Window
     requires { IsCounted stretches.now window.now }
     ensures { IsRunTo stretches.now side.0 window.now result }
 {
-    match step(stretches, window, side) {
-        Some(chosen) => stepwise_end(stretches, &chosen, side),
-        None => *window,
+    if window.from == window.to {
+        return *window;
+    }
+    let (low, high) = window.halves(stretches);
+    if has_side(stretches, &low, side) {
+        stepwise_end(stretches, &high, side)
+    } else if has_side(stretches, &high, side) {
+        stepwise_end(stretches, &low, side)
+    } else {
+        *window
     }
 }
 

@@ -4,7 +4,6 @@ use Rattle.pmap_cert.specs.CertificateText.{inner_line, leaf_line}
 use Rattle.pmap_minimise.specs.Opened.{set_above, with_number}
 use Rattle.pmap_minimise.specs.Numbers.{numbers_of}
 use Rattle.pmap_minimise.proofs.OpenedTexts.{above-last, above-more}
-use Rattle.pmap_minimise.proofs.Texts.{any-numbers}
 use Rattle.pmap_minimise.proofs.opened.push_step.Goals as goal
 use Rattle.pmap_minimise.proofs.opened.push_step.Goals.{else-before, then-before, then-more-gt0-via-then-more-gt0, then-more-gt0-via-else-more-gt0+then-has_label}
 
@@ -17,7 +16,7 @@ returns-then-more-gt0 c =
     elim c.then-more-gt0.branch [
       | then-more-gt0-via-then-more-gt0 w ↦ above-more chain.side.0 set c.args.more w.if-more-gt0.true
       | then-more-gt0-via-else-more-gt0+then-has_label w ↦ above-last chain.side.0 set c.args.more true (omega (arith, w.if-more-gt0.false))
-          (any-numbers c.args.set.now chain.side.0 ∙ sym w.has_label.ensures ∙ w.if-has_label.true)
+          (sym w.has_label.ensures ∙ w.if-has_label.true)
     ] in
     let line : chain.node.now ≡ inner_line chain.cost (set_above chain.side.0 set c.args.more) ++ 10 ∷ [] = chain.node_is ∙ (λ i. inner_line chain.cost (sym alone i) ++ 10 ∷ []) in
     c.in_ok-extend_from_slice.ensures.items ∙ ap (λ (t : List ℕ). c.args.out.now.items ++ t)
@@ -35,7 +34,7 @@ returns-in_ok-extend_from_slice-2 c =
     let line : List ℕ = inner_line chain.cost (set_above chain.side.0 set c.args.more) ++ 10 ∷ [] in
     let claimed : numbers_of c.as_slice.result.now ≡ set_above chain.side.0 set c.args.more =
     ap numbers_of c.as_slice.ensures.value ∙ c.in_ok-push_with.ensures ∙ ap (λ (ns : List ℕ). ns ++ with_number chain.side.0 set) (ap numbers_of c.clear.ensures.items)
-    ∙ sym (above-last chain.side.0 set c.args.more false (omega (arith, c.if-more-gt0.false)) (any-numbers c.args.set.now chain.side.0 ∙ sym c.has_label.ensures ∙ c.if-has_label.false)) in
+    ∙ sym (above-last chain.side.0 set c.args.more false (omega (arith, c.if-more-gt0.false)) (sym c.has_label.ensures ∙ c.if-has_label.false)) in
     c.in_ok-extend_from_slice-2.ensures.items ∙ (λ i. c.in_ok-push_inner_line.ensures i ++ chain.leaf_is i) ∙ (λ i. (old ++ (inner_line chain.cost (claimed i) ++ 10 ∷ [])) ++ leaf)
     ∙ append_assoc old line leaf ∙ (λ i. old ++ (line ++ cond (sym c.if-before-2.true i) leaf []))
 
@@ -48,6 +47,6 @@ returns-else-before-2 c =
     let line : List ℕ = inner_line chain.cost (set_above chain.side.0 set c.args.more) ++ 10 ∷ [] in
     let claimed : numbers_of c.as_slice.result.now ≡ set_above chain.side.0 set c.args.more =
     ap numbers_of c.as_slice.ensures.value ∙ c.in_ok-push_with.ensures ∙ ap (λ (ns : List ℕ). ns ++ with_number chain.side.0 set) (ap numbers_of c.clear.ensures.items)
-    ∙ sym (above-last chain.side.0 set c.args.more false (omega (arith, c.if-more-gt0.false)) (any-numbers c.args.set.now chain.side.0 ∙ sym c.has_label.ensures ∙ c.if-has_label.false)) in
+    ∙ sym (above-last chain.side.0 set c.args.more false (omega (arith, c.if-more-gt0.false)) (sym c.has_label.ensures ∙ c.if-has_label.false)) in
     c.in_ok-push_inner_line.ensures ∙ (λ i. old ++ (inner_line chain.cost (claimed i) ++ 10 ∷ [])) ∙ ap (λ (t : List ℕ). old ++ t) (sym (append-nil line))
     ∙ (λ i. old ++ (line ++ cond (sym c.if-before-2.false i) leaf []))
