@@ -11,6 +11,7 @@ use crate::sources::Sources;
 use pmap_cert::{CertFault, CertFaultKind, Claim, Frame, Kept, Lines, Node, Path};
 use pmap_text::LabelId;
 use std::alloc::{AllocError, Global};
+use std::slice;
 
 /// The rest of a certificate's text, with its last node line, the number of the next node, from 1, the sets of the nodes
 /// whose claims are still to be compared, in the order of their lines, and the first fault of the nodes so far.
@@ -96,7 +97,7 @@ pub fn check_node(sources: &Sources, walk: &mut Walk, part: &Part) -> Result<u32
     walk.number = next_number(number);
     match walk.lines.next_node(&mut walk.kept, &sources.frame)? {
         Node::Leaf(id) => {
-            walk.sets.push(id)?;
+            walk.sets.extend_from_slice(slice::from_ref(&id))?;
             walk.note(part.leaf_fault(sources, id), number);
             Ok(0)
         }

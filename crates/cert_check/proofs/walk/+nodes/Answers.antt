@@ -1,4 +1,4 @@
-use Rattle.std.proofs.Common.{◌≡◌, ◌∙◌, ◌+◌, ◌-◌, ◌∷◌, [], ℕ, Bool, List, Ok, ap, arith, drop, length, refl, subst, sym, take}
+use Rattle.std.proofs.Common.{◌++◌, ◌≡◌, ◌∙◌, ◌+◌, ◌-◌, ◌∷◌, [], ℕ, Bool, List, Ok, ap, arith, drop, length, refl, subst, sym, take}
 use Rattle.std.proofs.lemmas.Result.{err_from_is_err_and}
 use Rattle.std.proofs.lemmas.List.{append-nil}
 use Rattle.prefix_keys.specs.Block.{width_of}
@@ -143,8 +143,8 @@ check_node-returns-in_ok-held-in-Chain t c =
     (subst (λ (x : Claim × List LabelId). IsAnswer s (chain_reading s n x.0 bits c.in-Chain.side.0 c.next_node.new.self) (fault_of_node s c.args.part.now) c.args.walk.now.number 0 x.1 c.args.walk.now.fault c.check_chain.new.walk c.check_chain.result)
     (λ i. (claim_with table (c.in_ok-held-in-Chain.ensures.cost i) (numbers (held.1 i)), held.0 i)) c.check_chain.ensures)
 
-pub check_node-returns-in_ok-push-in-Leaf : goal.check_node-returns-in_ok-push-in-Leaf
-check_node-returns-in_ok-push-in-Leaf t c =
+pub check_node-returns-in_ok-extend_from_slice-in-Leaf : goal.check_node-returns-in_ok-extend_from_slice-in-Leaf
+check_node-returns-in_ok-extend_from_slice-in-Leaf t c =
     let s = c.args.sources.now in
     let frame = s.frame in
     let p = c.args.part.now in
@@ -159,7 +159,7 @@ check_node-returns-in_ok-push-in-Leaf t c =
       read = node-leaf (due_in frame.format frame.width frame.labels.now) frame.labels.now walk.lines c.next_node.new.self (frame.width - p.window.len) id.0 due;
       claim = refl;
       ascending = (omega arith, said.1, tt);
-      sets = c.in_ok-push-in-Leaf.ensures.items;
+      sets = c.in_ok-extend_from_slice-in-Leaf.ensures.items ∙ ap (λ (ids : List LabelId). walk.sets.items ++ ids) c.from_ref.ensures.value;
       fault = λ k told_is. ((λ i. option_or walk.fault (fault_with (sym told_is i) (c.leaf_fault.ensures i))), sym (c.next_number-walk.ensures k told_is));
     })
 
