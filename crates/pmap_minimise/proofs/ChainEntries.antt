@@ -23,7 +23,7 @@ use Rattle.pmap_cert.proofs.Sets.{bytes_eq-same, has-own}
 use Rattle.pmap_minimise.specs.Listing.{AddsEntries, IsEntryOf, text_of}
 use Rattle.pmap_minimise.specs.Numbers.{IsOwn, IsSound, has_number, numbers_of}
 use Rattle.pmap_minimise.specs.Opened.{cost_above, node_over, path_node, set_above}
-use Rattle.pmap_minimise.proofs.Entered.{half-entries, handed, one-known, own-fit}
+use Rattle.pmap_minimise.proofs.Entered.{half-entries, handed, one-known}
 use Rattle.pmap_minimise.proofs.Paths.{above-has}
 
 -- A property of nodes at a depth that an inner node passes on to its halves, one level deeper.
@@ -138,35 +138,29 @@ module _ (side value bits : ℕ) (end : Node) (long : 2 ≤ bits) (block last : 
   -- a chain adds the own entry of its block and the entries of its end
   pub chain-adds : numbers_of ids ≡ side ∷ [] → IsOwn ids block inherited old middle id → LeadsTo block last (path_to value bits) → AddsEntries end last (Some id) middle new
       → AddsEntries (path_node side value bits end) block inherited old new
-  chain-adds claimed own down adds = record {
-    texts = λ table ok known form.
-        let x = text_at table side in
-        let fits = side-known (length table) (width_of block.version - block.len) form in
-        let hand = handed table ok ids block inherited old middle id (subst (IsAscending (length table) 0) (sym claimed) (omega arith, fits, tt)) known (side ∷ []) claimed own in
-        let passed : Some x ≡ Some (text_at table id.0) = sym (handed_on-leaf table x (text_of table inherited)) ∙ hand.label in
-        adds.texts table ok (one-known (length table) id hand.known) (end_form (length table) form)
-        ∙ ap (λ (ps : List Prefix). ps ++ entries_of (width_of last.version) table (tree_of table end) (Some (text_at table id.0)) last.len (number_of last)) hand.entries
-        ∙ append_assoc (map (prefix_of table) old) _ _
-        ∙ ap (λ (ps : List Prefix). map (prefix_of table) old ++ (own_entry (width_of block.version) table (x ∷ []) (text_of table inherited) block.len (number_of block) ++ ps))
-        (half-entries table (tree_of table end) (Some x) (Some (text_at table id.0)) (width_of block.version) (width_of last.version) (block.len + bits) last.len
-        (path_number (path_to value bits) (number_of block)) (number_of last) (ap width_of down.version) (sym passed) len down.number)
-        ∙ ap (λ (ps : List Prefix). map (prefix_of table) old ++ ps)
-        (sym (chain-entries (width_of block.version) table side value end bits block.len (number_of block) (text_of table inherited) long));
-    fit = λ count known form all.
-        let fits = side-known count (width_of block.version - block.len) form in
-        let own_all = own-fit count ids block inherited old middle id (subst (IsAscending count 0) (sym claimed) (omega arith, fits, tt)) known own all in
-        subst (λ (v : Version). All (IsEntryOf v count) new) down.version
-        (adds.fit count (one-known count id own_all.1) (end_form count form) (subst (λ (v : Version). All (IsEntryOf v count) middle) (sym down.version) own_all.0));
-  }
-    where
-      len : last.len ≡ block.len + bits
-      len = let is = down.len in omega (arith, path-length value bits)
-
-      end_form : (count : ℕ) → HasNumberForm count (path_node side value bits end) (width_of block.version - block.len) → HasNumberForm count end (width_of last.version - last.len)
-      end_form count form =
-          let deep = path-deep (HasNumberForm count) (form-passes count) side value bits end (width_of block.version - block.len) form in
-          let room = deep.room_is in
-          let width : width_of last.version ≡ width_of block.version = ap width_of down.version in
-          let inside = last.len_in_range in
-          let left : deep.left ≡ width_of last.version - last.len = omega (arith, len) in
-          subst (HasNumberForm count end) left deep.is
+  chain-adds claimed own down adds = λ table ok known form.
+      let count : ℕ = length table in
+      let x = text_at table side in
+      let fits = side-known count (width_of block.version - block.len) form in
+      let hand = handed table ok ids block inherited old middle id (subst (IsAscending count 0) (sym claimed) (omega arith, fits, tt)) known (side ∷ []) claimed own in
+      let passed : Some x ≡ Some (text_at table id.0) = sym (handed_on-leaf table x (text_of table inherited)) ∙ hand.label in
+      let len : last.len ≡ block.len + bits = let is = down.len in omega (arith, path-length value bits) in
+      let deep = path-deep (HasNumberForm count) (form-passes count) side value bits end (width_of block.version - block.len) form in
+      let room = deep.room_is in
+      let width : width_of last.version ≡ width_of block.version = ap width_of down.version in
+      let inside = last.len_in_range in
+      let left : deep.left ≡ width_of last.version - last.len = omega (arith, len) in
+      let below = adds table ok (one-known count id hand.known) (subst (HasNumberForm count end) left deep.is) in
+      record {
+        entries = below.entries
+            ∙ ap (λ (ps : List Prefix). ps ++ entries_of (width_of last.version) table (tree_of table end) (Some (text_at table id.0)) last.len (number_of last)) hand.adds.entries
+            ∙ append_assoc (map (prefix_of table) old) _ _
+            ∙ ap (λ (ps : List Prefix). map (prefix_of table) old ++ (own_entry (width_of block.version) table (x ∷ []) (text_of table inherited) block.len (number_of block) ++ ps))
+            (half-entries table (tree_of table end) (Some x) (Some (text_at table id.0)) (width_of block.version) (width_of last.version) (block.len + bits) last.len
+            (path_number (path_to value bits) (number_of block)) (number_of last) width (sym passed) len down.number)
+            ∙ ap (λ (ps : List Prefix). map (prefix_of table) old ++ ps)
+            (sym (chain-entries (width_of block.version) table side value end bits block.len (number_of block) (text_of table inherited) long));
+        fit = λ all.
+            let middle_all = subst (λ (v : Version). All (IsEntryOf v count) middle) (sym down.version) (hand.adds.fit all) in
+            subst (λ (v : Version). All (IsEntryOf v count) new) down.version (below.fit middle_all);
+      }

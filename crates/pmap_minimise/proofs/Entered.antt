@@ -19,19 +19,13 @@ use Rattle.pmap_text.proofs.MovedBlocks.{first_of-whole}
 use Rattle.pmap_cert.specs.CertificateText.{IsAscending}
 use Rattle.pmap_cert.specs.CertificateModel.{Tree}
 use Rattle.pmap_cert.specs.Acceptance.{entries_of, handed_on, has_inherited, least_label, own_entry}
-use Rattle.pmap_cert.specs.Node.{Chain, HasNumberForm, Inner, Leaf, Node, set_of, tree_of}
+use Rattle.pmap_cert.specs.Node.{HasNumberForm, Inner, Leaf, Node, tree_of}
 use Rattle.label_trie.specs.TrieModel.{number_of}
 use Rattle.label_trie.specs.Parts.{IsHalf}
-use Rattle.pmap_minimise.specs.Listing.{AddsEntries, IsEntryOf, text_of}
+use Rattle.pmap_minimise.specs.Listing.{AddsEntries, AddsPrefixes, IsEntryOf, text_of}
 use Rattle.pmap_minimise.specs.Numbers.{IsOwn, IsOwnBy, keeps, numbers_of}
 use Rattle.pmap_minimise.proofs.Joined.{half-room}
 use Rattle.pmap_minimise.proofs.Texts.{keeps-texts, least-texts}
-
--- the node is an inner one with these two nodes
-abbrev pub HasHalves : Node → Node → Node → Type 0
-HasHalves (Leaf id) low high = ⊥
-HasHalves (Inner cost set left right) low high = (left ≡ low) × (right ≡ high)
-HasHalves (Chain cost set bits side end) low high = ⊥
 
 -- a block begins at its first address
 block-first : (block : Block) → block.value ≡ first_of (width_of block.version) block.len (number_of block)
@@ -40,8 +34,7 @@ block-first block =
 
 -- a node with the set s adds its own entry, if it has one, and passes on the label `id`
 pub record IsHanded (table : List Label) (s : List Label) (block : Block) (inherited : Option LabelId) (old new : List Entry) (id : LabelId) : Type 0 where
-  pub entries : map (prefix_of table) new ≡ map (prefix_of table) old
-      ++ own_entry (width_of block.version) table s (text_of table inherited) block.len (number_of block)
+  pub adds : AddsPrefixes table block.version (own_entry (width_of block.version) table s (text_of table inherited) block.len (number_of block)) old new
   pub label : handed_on table s (text_of table inherited) ≡ Some (text_at table id.0)
   pub known : id.0 < length table
 
@@ -57,8 +50,11 @@ module _ (table : List Label) (ok : IsLabelTable table) (ids : List LabelId) (bl
   by_test true e own ids' same =
       let test : has_inherited s (text_of table inherited) ≡ true = keeps-texts table ok ids inherited ascending known ∙ e in
       record {
-        entries = ap (λ (es : List Entry). map (prefix_of table) es) own.0 ∙ sym (append-nil (map (prefix_of table) old))
-            ∙ ap (λ (ps : List Prefix). map (prefix_of table) old ++ ps) (sym (cond-true (has_inherited s (text_of table inherited)) [] (own_prefix ∷ []) test));
+        adds = record {
+          entries = ap (λ (es : List Entry). map (prefix_of table) es) own.0 ∙ sym (append-nil (map (prefix_of table) old))
+              ∙ ap (λ (ps : List Prefix). map (prefix_of table) old ++ ps) (sym (cond-true (has_inherited s (text_of table inherited)) [] (own_prefix ∷ []) test));
+          fit = subst (All (IsEntryOf block.version (length table))) (sym own.0);
+        };
         label = cond-true (has_inherited s (text_of table inherited)) (text_of table inherited) (Some (least_label table s)) test ∙ ap (text_of table) own.1;
         known = known id own.1;
       }
@@ -72,12 +68,17 @@ module _ (table : List Label) (ok : IsLabelTable table) (ids : List LabelId) (bl
       ∙ ap (λ (i : LabelId). text_at table i.0) is in
       let prefix : prefix_of table (record { block = block; label = id }) ≡ own_prefix =
       λ i. record { start = block-first block i; bits = block.len; label = sym least i } in
+      let small : id.0 < length table = subst (λ (i : LabelId). i.0 < length table) is up.1 in
       record {
-        entries = ap (λ (es : List Entry). map (prefix_of table) es) own.0 ∙ map-append (prefix_of table) old (record { block = block; label = id } ∷ [])
-            ∙ ap (λ (p : Prefix). map (prefix_of table) old ++ p ∷ []) prefix
-            ∙ ap (λ (ps : List Prefix). map (prefix_of table) old ++ ps) (sym (cond-false (has_inherited s (text_of table inherited)) [] (own_prefix ∷ []) test));
+        adds = record {
+          entries = ap (λ (es : List Entry). map (prefix_of table) es) own.0 ∙ map-append (prefix_of table) old (record { block = block; label = id } ∷ [])
+              ∙ ap (λ (p : Prefix). map (prefix_of table) old ++ p ∷ []) prefix
+              ∙ ap (λ (ps : List Prefix). map (prefix_of table) old ++ ps) (sym (cond-false (has_inherited s (text_of table inherited)) [] (own_prefix ∷ []) test));
+          fit = λ all. subst (All (IsEntryOf block.version (length table))) (sym own.0)
+              (All-push (IsEntryOf block.version (length table)) old (record { block = block; label = id }) all (record { version_is = refl; known = small }));
+        };
         label = cond-false (has_inherited s (text_of table inherited)) (text_of table inherited) (Some (least_label table s)) test ∙ ap (λ (x : Label). Some x) least;
-        known = subst (λ (i : LabelId). i.0 < length table) is up.1;
+        known = small;
       }
 
   pub handed : (ns : List ℕ) → numbers_of ids ≡ ns → IsOwn ids block inherited old new id → IsHanded table (map (text_at table) ns) block inherited old new id
@@ -88,35 +89,10 @@ module _ (table : List Label) (ok : IsLabelTable table) (ids : List LabelId) (bl
 pub one-known : (count : ℕ) (id : LabelId) → id.0 < count → ForSome (Some id) (λ i. i.0 < count)
 one-known count id known = λ x e. subst (λ (i : LabelId). i.0 < count) (same_Some id x e) known
 
--- the own entry fits the block, and the label that is passed on is known
-pub own-fit : (count : ℕ) (ids : List LabelId) (block : Block) (inherited : Option LabelId) (old new : List Entry) (id : LabelId)
-    → IsAscending count 0 (numbers_of ids) → ForSome inherited (λ i. i.0 < count) → IsOwn ids block inherited old new id
-    → All (IsEntryOf block.version count) old → All (IsEntryOf block.version count) new × (id.0 < count)
-own-fit count ids block inherited old new id ascending known own all = by (keeps ids inherited) own ids refl
-  where
-    by : (b : Bool) → IsOwnBy b ids block inherited old new id → (ids' : List LabelId) → ids ≡ ids' → All (IsEntryOf block.version count) new × (id.0 < count)
-    by true own ids' same = (
-      subst (λ (es : List Entry). All (IsEntryOf block.version count) es) (sym own.0) all,
-      known id own.1,
-    )
-    by false own [] same = absurd (none-some id (subst (λ (l : List LabelId). slice_get l 0 ≡ Some id) same own.1))
-    by false own (first ∷ rest) same =
-        let is : first ≡ id = same_Some first id (subst (λ (l : List LabelId). slice_get l 0 ≡ Some id) same own.1) in
-        let up : IsAscending count 0 (first.0 ∷ numbers_of rest) = subst (λ (l : List LabelId). IsAscending count 0 (numbers_of l)) same ascending in
-        let small : id.0 < count = subst (λ (i : LabelId). i.0 < count) is up.1 in (
-          subst (λ (es : List Entry). All (IsEntryOf block.version count) es) (sym own.0)
-              (All-push (IsEntryOf block.version count) old (record { block = block; label = id }) all (record { version_is = refl; known = small })),
-          small,
-        )
-
 pub leaf-adds : (x : LabelId) (block : Block) (inherited : Option LabelId) (old new : List Entry) (ids : List LabelId) (id : LabelId) → numbers_of ids ≡ x.0 ∷ []
     → IsOwn ids block inherited old new id → AddsEntries (Leaf x.0) block inherited old new
-leaf-adds x block inherited old new ids id is own = record {
-  texts = λ table ok known form.
-      (handed table ok ids block inherited old new id (subst (λ (l : List ℕ). IsAscending (length table) 0 l) (sym is) (omega arith, form.0, tt)) known (x.0 ∷ []) is own).entries;
-  fit = λ count known form all.
-      (own-fit count ids block inherited old new id (subst (λ (l : List ℕ). IsAscending count 0 l) (sym is) (omega arith, form.0, tt)) known own all).0;
-}
+leaf-adds x block inherited old new ids id is own = λ table ok known form.
+    (handed table ok ids block inherited old new id (subst (λ (l : List ℕ). IsAscending (length table) 0 l) (sym is) (omega arith, form.0, tt)) known (x.0 ∷ []) is own).adds
 
 -- the entries of a half depend only on these values
 pub half-entries : (table : List Label) (t : Tree) (h h' : Option Label) (W W' n n' q q' : ℕ) → W' ≡ W → h' ≡ h → n' ≡ n → q' ≡ q
@@ -130,47 +106,31 @@ joined-entries old own lower upper new0 new1 new2 e f g =
     g ∙ ap (λ (l : List Prefix). l ++ upper) f ∙ ap (λ (l : List Prefix). (l ++ lower) ++ upper) e
     ∙ append_assoc (old ++ own) lower upper ∙ append_assoc old own (lower ++ upper)
 
-pub inner-adds : (node left right : Node) (block low high : Block) (inherited : Option LabelId) (old new0 new1 new2 : List Entry) (ids : List LabelId) (id : LabelId)
-    → HasHalves node left right → numbers_of ids ≡ set_of node → IsOwn ids block inherited old new0 id → IsHalf 0 block low → IsHalf 1 block high
-    → AddsEntries left low (Some id) new0 new1 → AddsEntries right high (Some id) new1 new2 → AddsEntries node block inherited old new2
-inner-adds (Leaf x) left right block low high inherited old new0 new1 new2 ids id halves is own low_half high_half lower upper = absurd halves
-inner-adds (Chain cost set bits side end) left right block low high inherited old new0 new1 new2 ids id halves is own low_half high_half lower upper = absurd halves
-inner-adds (Inner cost set l r) left right block low high inherited old new0 new1 new2 ids id halves is own low_half high_half lower upper = record {
-  texts = λ table ok known form.
-      let inner = opened (length table) form in
-      let up = subst (λ (ns : List ℕ). IsAscending (length table) 0 ns) (sym is) inner.0.1 in
-      let hand = handed table ok ids block inherited old new0 id up known set is own in
-      joined-entries _ _ _ _ _ _ _ hand.entries
-      (lower.texts table ok (one-known (length table) id hand.known) (left_form (length table) (inner.0.2, inner.1.0))
-      ∙ ap (λ (ps : List Prefix). map (prefix_of table) new0 ++ ps)
-      (ap (λ (n : Node). entries_of (width_of low.version) table (tree_of table n) (Some (text_at table id.0)) low.len (number_of low)) (sym halves.0)
-      ∙ half-entries table (tree_of table l) (handed_on table (map (text_at table) set) (text_of table inherited)) (Some (text_at table id.0)) (width_of block.version) (width_of low.version) (suc block.len) low.len
-      (2 * number_of block) (number_of low) (ap width_of low_half.version) (sym hand.label) (let e = low_half.len in omega arith) (let e = low_half.number in omega arith)))
-      (upper.texts table ok (one-known (length table) id hand.known) (right_form (length table) (inner.0.3, inner.1.1))
-      ∙ ap (λ (ps : List Prefix). map (prefix_of table) new1 ++ ps)
-      (ap (λ (n : Node). entries_of (width_of high.version) table (tree_of table n) (Some (text_at table id.0)) high.len (number_of high)) (sym halves.1)
-      ∙ half-entries table (tree_of table r) (handed_on table (map (text_at table) set) (text_of table inherited)) (Some (text_at table id.0)) (width_of block.version) (width_of high.version) (suc block.len) high.len
-      (2 * number_of block + 1) (number_of high) (ap width_of high_half.version) (sym hand.label) (let e = high_half.len in omega arith) (let e = high_half.number in omega arith)));
-  fit = λ count known form all.
-      let inner = opened count form in
-      let own_all = own-fit count ids block inherited old new0 id (subst (λ (ns : List ℕ). IsAscending count 0 ns) (sym is) inner.0.1) known own all in
-      let low_all = lower.fit count (one-known count id own_all.1) (left_form count (inner.0.2, inner.1.0))
-      (subst (λ (v : Version). All (IsEntryOf v count) new0) (sym low_half.version) own_all.0) in
-      let high_all = upper.fit count (one-known count id own_all.1) (right_form count (inner.0.3, inner.1.1))
-      (subst (λ (v : Version). All (IsEntryOf v count) new1) (low_half.version ∙ sym high_half.version) low_all) in
-      subst (λ (v : Version). All (IsEntryOf v count) new2) high_half.version high_all;
-}
-  where
-    opened : (count : ℕ) → HasNumberForm count (Inner cost set l r) (width_of block.version - block.len)
-        → HasNumberForm count (Inner cost set l r) (suc (width_of low.version - low.len))
-    opened count form = subst (λ (k : ℕ). HasNumberForm count (Inner cost set l r) k) (half-room 0 block low low_half) form
-
-    left_form : (count : ℕ) → HasNumberForm count l (width_of low.version - low.len) → HasNumberForm count left (width_of low.version - low.len)
-    left_form count form = subst (λ (n : Node). HasNumberForm count n (width_of low.version - low.len)) halves.0 form
-
-    right_form : (count : ℕ) → HasNumberForm count r (width_of low.version - low.len) → HasNumberForm count right (width_of high.version - high.len)
-    right_form count form =
-        let a = half-room 0 block low low_half in
-        let b = half-room 1 block high high_half in
-        subst (λ (n : Node). HasNumberForm count n (width_of high.version - high.len)) halves.1
-        (subst (λ (k : ℕ). HasNumberForm count r k) (omega arith) form)
+pub inner-adds : (cost : ℕ) (set : List ℕ) (left right : Node) (block low high : Block) (inherited : Option LabelId) (old new0 new1 new2 : List Entry) (ids : List LabelId) (id : LabelId)
+    → numbers_of ids ≡ set → IsOwn ids block inherited old new0 id → IsHalf 0 block low → IsHalf 1 block high
+    → AddsEntries left low (Some id) new0 new1 → AddsEntries right high (Some id) new1 new2 → AddsEntries (Inner cost set left right) block inherited old new2
+inner-adds cost set left right block low high inherited old new0 new1 new2 ids id is own low_half high_half lower upper = λ table ok known form.
+    let room = half-room 0 block low low_half in
+    let room' = half-room 1 block high high_half in
+    let level : width_of low.version - low.len ≡ width_of high.version - high.len = omega arith in
+    let inner = subst (HasNumberForm (length table) (Inner cost set left right)) room form in
+    let up = subst (λ (ns : List ℕ). IsAscending (length table) 0 ns) (sym is) inner.0.1 in
+    let hand = handed table ok ids block inherited old new0 id up known set is own in
+    let passed = handed_on table (map (text_at table) set) (text_of table inherited) in
+    let next = one-known (length table) id hand.known in
+    let below = lower table ok next (inner.0.2, inner.1.0) in
+    let above = upper table ok next (subst (HasNumberForm (length table) right) level (inner.0.3, inner.1.1)) in
+    record {
+      entries =
+          joined-entries _ _ _ _ _ _ _ hand.adds.entries
+          (below.entries ∙ ap (λ (ps : List Prefix). map (prefix_of table) new0 ++ ps)
+          (half-entries table (tree_of table left) passed (Some (text_at table id.0)) (width_of block.version) (width_of low.version) (suc block.len) low.len
+          (2 * number_of block) (number_of low) (ap width_of low_half.version) (sym hand.label) (let e = low_half.len in omega arith) (let e = low_half.number in omega arith)))
+          (above.entries ∙ ap (λ (ps : List Prefix). map (prefix_of table) new1 ++ ps)
+          (half-entries table (tree_of table right) passed (Some (text_at table id.0)) (width_of block.version) (width_of high.version) (suc block.len) high.len
+          (2 * number_of block + 1) (number_of high) (ap width_of high_half.version) (sym hand.label) (let e = high_half.len in omega arith) (let e = high_half.number in omega arith)));
+      fit = λ all.
+          let own_all = subst (λ (v : Version). All (IsEntryOf v (length table)) new0) (sym low_half.version) (hand.adds.fit all) in
+          let low_all = subst (λ (v : Version). All (IsEntryOf v (length table)) new1) (low_half.version ∙ sym high_half.version) (below.fit own_all) in
+          subst (λ (v : Version). All (IsEntryOf v (length table)) new2) high_half.version (above.fit low_all);
+    }

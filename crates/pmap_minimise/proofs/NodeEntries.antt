@@ -1,5 +1,5 @@
 -- What follows the line of a chain, and the entries of the node by those of the nodes below it.
-use Rattle.std.proofs.Common.{◌≡◌, ℕ, ◌+◌, ◌<◌, ◌∙◌, Bool, List, [], ◌∷◌, Option, Some, drop, length, refl, sym, ap, subst, arith}
+use Rattle.std.proofs.Common.{◌≡◌, ℕ, ◌+◌, ◌<◌, ◌∙◌, Bool, List, [], ◌∷◌, Option, Some, drop, length, sym, ap, subst, arith}
 use Rattle.prefix_keys.specs.declared.block.Block.{Block}
 use Rattle.pmap_text.specs.declared.entry.Entry.{Entry}
 use Rattle.pmap_text.specs.declared.label.LabelId.{LabelId}
@@ -65,7 +65,7 @@ module _ (block : Block) (inherited : Option LabelId) (old middle : List Entry) 
   inner-entries low high new1 new2 low_half high_half cost (Chain price claimed bits side end ∷ rest) some line lower upper node opens = absurd cc
   inner-entries low high new1 new2 low_half high_half cost (Inner price claimed left right ∷ rest) some line lower upper node opens =
       subst (λ (k : Node). AddsEntries k block inherited old new2) (sym opens.node_is)
-      (inner-adds (Inner price claimed opens.lower opens.upper) opens.lower opens.upper block low high inherited old middle new1 new2 ids id (refl, refl) (ap set_in line) own low_half high_half
+      (inner-adds price claimed opens.lower opens.upper block low high inherited old middle new1 new2 ids id (ap set_in line) own low_half high_half
       (lower opens.lower opens.low) (upper opens.upper opens.high))
 
   pub end-entries : (end : Block) (new : List Entry) (cost value count side : ℕ) → LeadsTo block end (path_to value count) → (nodes : List Node) → 0 < length nodes

@@ -128,13 +128,12 @@ listed-entries m root items listed ok form =
     let bits = listed.whole.bits in
     let width : width_of block.version ≡ width_of m.version = ap width_of listed.whole.version_is in
     let room : width_of m.version ≡ width_of block.version - block.len = omega arith in
-    let form' = subst (λ (r : ℕ). HasNumberForm (length m.labels) root r) room form in
-    let fit : All (IsEntryOf block.version (length m.labels)) items =
-    listed.adds.fit (length m.labels) (λ x e. absurd (none-some x e)) form' (All-from_recursion (IsEntryOf block.version (length m.labels)) [] tt) in
+    let added = listed.adds m.labels ok (λ x e. absurd (none-some x e)) (subst (λ (r : ℕ). HasNumberForm (length m.labels) root r) room form) in
+    let fit = added.fit (All-from_recursion (IsEntryOf block.version (length m.labels)) [] tt) in
     record {
       versions = All-weaker (IsEntryOf block.version (length m.labels)) (λ e. e.block.version ≡ m.version) (λ e fits. fits.version_is ∙ listed.whole.version_is) items fit;
       known = All-weaker (IsEntryOf block.version (length m.labels)) (λ e. e.label.0 < length m.labels) (λ e fits. fits.known) items fit;
-      entries = listed.adds.texts m.labels ok (λ x e. absurd (none-some x e)) form'
+      entries = added.entries
           ∙ half-entries m.labels (tree_of m.labels root) None None (width_of m.version) (width_of block.version) 0 block.len 0 (number_of block) width refl bits (whole_number block listed.whole.start);
     }
 

@@ -3,6 +3,7 @@ use Rattle.std.specs.Option.{ForSome}
 use Rattle.prefix_keys.specs.declared.block.Block.{Block}
 use Rattle.prefix_keys.specs.declared.version.Version.{Version}
 use Rattle.prefix_keys.specs.Block.{width_of}
+use Rattle.pmap_text.specs.ListModel.{Prefix}
 use Rattle.pmap_text.specs.PrefixList.{prefix_of}
 use Rattle.pmap_text.specs.declared.entry.Entry.{Entry}
 use Rattle.pmap_text.specs.Label.{IsLabelTable}
@@ -25,16 +26,17 @@ pub record IsEntryOf (version : Version) (count : ℕ) (e : Entry) : Type 0 wher
   pub version_is : e.block.version ≡ version
   pub known : e.label.0 < count
 
+-- the new entries are the old ones and these, in a table of labels
+pub record AddsPrefixes (table : List Label) (version : Version) (added : List Prefix) (old new : List Entry) : Type 0 where
+  pub entries : map (prefix_of table) new ≡ map (prefix_of table) old ++ added
+  pub fit : All (IsEntryOf version (length table)) old → All (IsEntryOf version (length table)) new
+
 -- The new entries are the old ones and those of the node for this block and its inherited label, in each table that has
 -- the numbers of the node and of the inherited label.
-pub record AddsEntries (node : Node) (block : Block) (inherited : Option LabelId) (old new : List Entry) : Type 0 where
-  pub texts : (table : List Label) → IsLabelTable table → ForSome inherited (λ id. id.0 < length table)
-      → HasNumberForm (length table) node (width_of block.version - block.len)
-      → map (prefix_of table) new ≡ map (prefix_of table) old
-      ++ entries_of (width_of block.version) table (tree_of table node) (text_of table inherited) block.len (number_of block)
-  pub fit : (count : ℕ) → ForSome inherited (λ id. id.0 < count)
-      → HasNumberForm count node (width_of block.version - block.len)
-      → All (IsEntryOf block.version count) old → All (IsEntryOf block.version count) new
+abbrev pub AddsEntries : Node → Block → Option LabelId → List Entry → List Entry → Type 0
+AddsEntries node block inherited old new =
+    (table : List Label) → IsLabelTable table → ForSome inherited (λ id. id.0 < length table) → HasNumberForm (length table) node (width_of block.version - block.len)
+    → AddsPrefixes table block.version (entries_of (width_of block.version) table (tree_of table node) (text_of table inherited) block.len (number_of block)) old new
 
 -- the entries are those of the node for the address space
 pub record IsListedBy (version : Version) (node : Node) (entries : List Entry) : Type 0 where
