@@ -297,8 +297,7 @@ module _ (s : StretchesModel) (side : ℕ) (fits : side < 2 ^ 32) (end : Window)
 
   over-made : (a : Window) (count d : ℕ) → IsMade s a (node_over d (cost_above side node) (set_above side (set_of node) count) (node_of count) (Leaf side)) → digit value count ≡ d
       → IsMade s a (node_of (suc count))
-  over-made a count d is same =
-      subst (λ (k : ℕ). IsMade s a (node_over k (cost_above side node) (set_above side (set_of node) count) (node_of count) (Leaf side))) (sym same) is
+  over-made a count d is same = subst (λ (k : ℕ). IsMade s a (node_over k (cost_above side node) (set_above side (set_of node) count) (node_of count) (Leaf side))) (sym same) is
 
   pub run-made : (count : ℕ) (a : Window) → IsCounted s a → IsRun s side count a end → IsMade s a (node_of count)
   run-made zero a is run = subst (λ (b : Window). IsMade s b node) run made
@@ -330,26 +329,24 @@ module _ (s : StretchesModel) (side : ℕ) (fits : side < 2 ^ 32) (end : Window)
     pub bits : bits_down side (node_of count) ≡ path_to value count
     pub last : end_down side (node_of count) ≡ node
 
+  -- the node over another has one bit more
+  abbrev over : ℕ → ℕ → Node
+  over count d = node_over d (cost_above side node) (set_above side (set_of node) count) (node_of count) (Leaf side)
+
+  goes-over : (count d : ℕ) → digit value count ≡ d → GoesDown count → bits_down side (over count d) ≡ (d == 1) ∷ bits_down side (node_of count)
+      → end_down side (over count d) ≡ end_down side (node_of count) → GoesDown (suc count)
+  goes-over count d same down bits end = record {
+    bits = ap (λ (k : ℕ). bits_down side (over count k)) same ∙ bits ∙ (λ i. (sym same i == 1) ∷ down.bits i);
+    last = ap (λ (k : ℕ). end_down side (over count k)) same ∙ end ∙ down.last;
+  }
+
   over-down : (count d : ℕ) → digit value count ≡ d → d < 2 → (d ≡ 0 → label_of (node_of count) ≡ Some side → ⊥) → GoesDown count → GoesDown (suc count)
   over-down count zero same small other down =
       let low = down-low side (cost_above side node) (set_above side (set_of node) count) (node_of count) (other refl) in
-      by 0 same low.0 low.1
-    where
-      by : (d : ℕ) → digit value count ≡ d
-          → bits_down side (node_over d (cost_above side node) (set_above side (set_of node) count) (node_of count) (Leaf side)) ≡ (d == 1) ∷ bits_down side (node_of count)
-          → end_down side (node_over d (cost_above side node) (set_above side (set_of node) count) (node_of count) (Leaf side)) ≡ end_down side (node_of count) → GoesDown (suc count)
-      by d same bits end = record {
-        bits = ap (λ (k : ℕ). bits_down side (node_over k (cost_above side node) (set_above side (set_of node) count) (node_of count) (Leaf side))) same
-            ∙ bits ∙ (λ i. (sym same i == 1) ∷ down.bits i);
-        last = ap (λ (k : ℕ). end_down side (node_over k (cost_above side node) (set_above side (set_of node) count) (node_of count) (Leaf side))) same ∙ end ∙ down.last;
-      }
+      goes-over count 0 same down low.0 low.1
   over-down count (suc zero) same small other down =
       let high = down-high side (cost_above side node) (set_above side (set_of node) count) (node_of count) in
-      record {
-        bits = ap (λ (k : ℕ). bits_down side (node_over k (cost_above side node) (set_above side (set_of node) count) (node_of count) (Leaf side))) same
-            ∙ high.0 ∙ (λ i. (sym same i == 1) ∷ down.bits i);
-        last = ap (λ (k : ℕ). end_down side (node_over k (cost_above side node) (set_above side (set_of node) count) (node_of count) (Leaf side))) same ∙ high.1 ∙ down.last;
-      }
+      goes-over count 1 same down high.0 high.1
   over-down count (suc (suc d)) same small other down = absurd (omega arith)
 
   -- if the run stops at the end

@@ -125,16 +125,16 @@ pub listed-entries : (m : MapText) (root : Node) (items : List Entry) → IsList
     → AreEntriesOf m root items
 listed-entries m root items listed ok form =
     let block = listed.block in
-    let bits = listed.whole.bits in
-    let width : width_of block.version ≡ width_of m.version = ap width_of listed.whole.version_is in
+    let bits = listed.bits in
+    let width : width_of block.version ≡ width_of m.version = ap width_of listed.version_is in
     let room : width_of m.version ≡ width_of block.version - block.len = omega arith in
     let added = listed.adds m.labels ok (λ x e. absurd (none-some x e)) (subst (λ (r : ℕ). HasNumberForm (length m.labels) root r) room form) in
     let fit = added.fit (All-from_recursion (IsEntryOf block.version (length m.labels)) [] tt) in
     record {
-      versions = All-weaker (IsEntryOf block.version (length m.labels)) (λ e. e.block.version ≡ m.version) (λ e fits. fits.version_is ∙ listed.whole.version_is) items fit;
+      versions = All-weaker (IsEntryOf block.version (length m.labels)) (λ e. e.block.version ≡ m.version) (λ e fits. fits.version_is ∙ listed.version_is) items fit;
       known = All-weaker (IsEntryOf block.version (length m.labels)) (λ e. e.label.0 < length m.labels) (λ e fits. fits.known) items fit;
       entries = added.entries
-          ∙ half-entries m.labels (tree_of m.labels root) None None (width_of m.version) (width_of block.version) 0 block.len 0 (number_of block) width refl bits (whole_number block listed.whole.start);
+          ∙ half-entries m.labels (tree_of m.labels root) None None (width_of m.version) (width_of block.version) 0 block.len 0 (number_of block) width refl bits (whole_number block listed.start);
     }
 
 -- the root also represents the address space

@@ -14,11 +14,6 @@ use Rattle.label_trie.specs.TrieModel.{number_of}
 use Rattle.pmap_cert.specs.Acceptance.{entries_of}
 use Rattle.pmap_cert.specs.Node.{HasNumberForm, Node, tree_of}
 
-pub record IsWhole (version : Version) (block : Block) : Type 0 where
-  pub version_is : block.version ≡ version
-  pub start : block.value ≡ 0
-  pub bits : block.len ≡ 0
-
 abbrev pub text_of : List Label → Option LabelId → Option Label
 text_of table inherited = option_map (λ id. text_at table id.0) inherited
 
@@ -41,5 +36,7 @@ AddsEntries node block inherited old new =
 -- the entries are those of the node for the address space
 pub record IsListedBy (version : Version) (node : Node) (entries : List Entry) : Type 0 where
   pub block : Block
-  pub whole : IsWhole version block
+  pub version_is : block.version ≡ version
+  pub start : block.value ≡ 0
+  pub bits : block.len ≡ 0
   pub adds : AddsEntries node block None [] entries

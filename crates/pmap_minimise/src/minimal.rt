@@ -83,11 +83,11 @@ pub fn shortest(alloc: Global, map: MapText) -> Result<PrefixList, AllocError>
     minimal_pair_is_accepted();
     let _labels = map.labels.len();
     let runs = Stretches::runs_of_map(alloc, &map)?;
-    let version = map.version;
-    let (name, labels) = named_labels_of(map);
+    // Frees their memory before the certificate is built.
+    drop(map.statements);
     let root = built_of(alloc, runs)?;
-    let items = entries_of(alloc, &root, version)?;
-    Ok(list_with(version, name, labels, items))
+    let items = entries_of(alloc, &root, map.version)?;
+    Ok(list_with(map.version, map.name, map.labels, items))
 }
 
 /// Returns the text of the certificate of `minimise`, made without the list and without a node for each of its lines.
@@ -128,17 +128,9 @@ fn compact_root(alloc: Global, map: MapText) -> Result<(Root, Labels), AllocErro
     // Provides the law that the table's labels are distinct.
     let _labels = map.labels.len();
     let stretches = Stretches::of_map(alloc, &map)?;
-    let (_, labels) = named_labels_of(map);
+    drop(map.statements);
     let root = built_of(alloc, stretches)?;
-    Ok((root, labels))
-}
-
-// Returns the map's name and label table. The memory of its statements is given back.
-fn named_labels_of(map: MapText) -> (Option<Name>, Labels)
-    ensures name { result.0 ≡ map.name }
-    ensures labels { result.1 ≡ map.labels }
-{
-    (map.name, map.labels)
+    Ok((root, map.labels))
 }
 
 fn list_with(version: Version, name: Option<Name>, labels: Labels, items: Vec<Entry>) -> PrefixList

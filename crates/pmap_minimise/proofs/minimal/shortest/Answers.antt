@@ -1,7 +1,5 @@
-use Rattle.std.proofs.Common.{◌<◌, ◌∙◌, All, List, length, map, subst, sym}
-use Rattle.pmap_text.specs.MapModel.{Label}
 use Rattle.pmap_text.specs.MapText.{map_of}
-use Rattle.pmap_text.specs.PrefixList.{list_of, prefix_of}
+use Rattle.pmap_text.specs.PrefixList.{list_of}
 use Rattle.pmap_cert.proofs.InOrder.{list-form}
 use Rattle.pmap_minimise.proofs.LabelRuns.{runs-built, runs-countable, runs-distinct, runs-entries, runs-pair}
 use Rattle.pmap_minimise.proofs.Whole.{own-labels}
@@ -27,7 +25,7 @@ list_with-requires c =
     let made = runs-entries m c.in_ok-runs.runs is.version is.every is.few is.labels c.len-labels.ensures.table c.in_ok-root.root c.in_ok-root.ensures c.in_ok-items.items.items listed in
     record {
       versions = made.versions;
-      known = subst (λ (t : List Label). All (λ e. e.label.0 < length t) c.in_ok-items.items.items) (sym c.named_labels_of-name.ensures.labels) made.known;
+      known = made.known;
       distinct = runs-distinct m c.in_ok-runs.runs is.version is.every is.few is.labels c.len-labels.ensures.table c.in_ok-root.root c.in_ok-root.ensures c.in_ok-items.items.items listed;
     }
 
@@ -39,10 +37,7 @@ returns c =
     let items = c.in_ok-items.items.items in
     let built = runs-built m c.in_ok-runs.runs runs.version runs.every runs.few runs.labels c.len-labels.ensures.table c.in_ok-root.root c.in_ok-root.ensures in
     let listed = c.in_ok-items.ensures built.node built.opens in
-    let name = c.named_labels_of-name.ensures.name in
-    let labels = c.named_labels_of-name.ensures.labels in
-    let is = c.list_with.ensures ∙ (λ i. record { version = m.version; name = name i; prefixes = map (prefix_of (labels i)) items; table = labels i }) in
-    let pair = runs-pair m c.in_ok-runs.runs runs.version runs.every runs.few runs.labels c.len-labels.ensures.table c.in_ok-root.root c.in_ok-root.ensures items listed l is in
+    let pair = runs-pair m c.in_ok-runs.runs runs.version runs.every runs.few runs.labels c.len-labels.ensures.table c.in_ok-root.root c.in_ok-root.ensures items listed l c.list_with.ensures in
     record {
       minimal = pair;
       equivalent = c.minimal_pair_is_accepted.ensures.equivalent (map_of m) l pair.0 pair.1;
