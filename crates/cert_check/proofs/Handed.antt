@@ -118,7 +118,7 @@ module _ (l : PrefixList) (n q : ℕ) where
     above = handed-own c (h.within.inside c (Contains-first c rest)).0 own;
   }
 
-  part-other : (within : List Entry) (above : Option LabelId) → ((e : Entry) → Contains within e → IsOwn W n q e → ⊥) → IsListPart l n q n within above
+  pub part-other : (within : List Entry) (above : Option LabelId) → ((e : Entry) → Contains within e → IsOwn W n q e → ⊥) → IsListPart l n q n within above
       → IsListPart l n q (suc n) within above
   part-other within above none h = record {
     within = strict l n q within h.within none;
