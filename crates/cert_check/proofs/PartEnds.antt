@@ -7,10 +7,11 @@ use Rattle.pmap_text.specs.MapModel.{Label, settled_label}
 use Rattle.pmap_text.specs.MapText.{map_of}
 use Rattle.pmap_text.specs.PrefixList.{list_of, number_of_block as number_of}
 use Rattle.pmap_text.specs.Stretches.{HoldsAddress}
-use Rattle.pmap_text.specs.Windows.{number_at}
+use Rattle.pmap_text.specs.Windows.{IsWindow, number_at}
 use Rattle.pmap_text.specs.declared.entry.Entry.{Entry}
 use Rattle.pmap_text.specs.declared.label.LabelId.{LabelId}
 use Rattle.pmap_text.specs.declared.prefix_list.PrefixList.{PrefixList}
+use Rattle.pmap_text.specs.declared.window.Window.{Window}
 use Rattle.pmap_text.proofs.Windows.{block_some}
 use Rattle.pmap_cert.specs.Paths.{LeadsTo, path_number}
 use Rattle.cert_check.specs.Inner.{AreSources, IsListPart, IsPart, IsSettledBetween, LiesIn, Part, Sources, text_of}
@@ -44,7 +45,7 @@ part-end s are p is b end version value len bits path =
     (λ i. last_of (width_of (same i)) end.len (number i)) in
     record {
       same = same;
-      version = same ∙ one-version s are p is;
+      version = same ∙ one-version s are;
       len = long;
       number = number;
       from = omega (arith, is.window.block.first_is, first, inside.0);
@@ -97,16 +98,17 @@ module _ (s : Sources) (are : AreSources s) (p : Part) (is : IsPart s p) (end : 
       end-clear l entries.now above end.len r (subst (λ (v : Version). end.len ≤ width_of v) there.version end.len_in_range) inside.within.ascending
       (λ e has. subst (λ (v : Version). LiesIn (width_of v) end.len r end.len e) there.version (all e has))
       (map_of s.map.now) x (sym are.list_version) label p.window.first p.window.last settled k below rest bit p.window.len q inside len number
-      (omega (arith, part-first s are p is)) (omega (arith, part-last s are p is))
+      (omega (arith, part-first s are p.window is.window)) (omega (arith, part-last s are p.window is.window))
+
+  abbrev window : Window
+  window = record { first = end.value; last = last; len = end.len; from = from; to = to }
 
   -- its first fault is that along the path
-  pub end-answer : IsPart s (record { window = record { first = end.value; last = last; len = end.len; from = from; to = to }; entries = entries; above = above })
-      × (bits_fault (map_of s.map.now) (list_of l).prefixes x k below bits p.window.len q ≡ below end.len (block_number (width_of s.stretches.version) end.len end.value))
+  pub end-answer : IsWindow s.stretches window × IsListPart l end.len (number_at s.stretches window) end.len entries.now above
+      × (bits_fault (map_of s.map.now) (list_of l).prefixes x k below bits p.window.len q ≡ below end.len (number_at s.stretches window))
   end-answer =
       let found = by bits some there.len (sym there.number) in (
-        record {
-          window = block-window s.stretches are.stretches.every end there.same last from to last_is starts stops;
-          list = subst (λ (i : ℕ). IsListPart l end.len i end.len entries.now above) number-is found.0;
-        },
+        block-window s.stretches are.stretches.every end there.same last from to last_is starts stops,
+        subst (λ (i : ℕ). IsListPart l end.len i end.len entries.now above) number-is found.0,
         found.1 ∙ ap (below end.len) number-is,
       )

@@ -1,6 +1,6 @@
 -- The root of a certificate, with the whole map and the whole list.
 use Rattle.std.specs.Option.{option_or}
-use Rattle.std.proofs.Common.{◌≡◌, ◌∙◌, ℕ, ◌+◌, ◌-◌, ◌^◌, ◌<◌, Bor, List, Option, None, Some, Result, Err, Ok, cond, true, length, nat_lt, refl, sym, ap, subst, arith}
+use Rattle.std.proofs.Common.{◌≡◌, ◌∙◌, ℕ, ◌+◌, ◌-◌, ◌^◌, ◌<◌, List, Option, None, Some, Result, Err, Ok, cond, true, length, nat_lt, refl, sym, ap, subst, arith}
 use Rattle.std.proofs.lemmas.Bool.{and_from}
 use Rattle.std.proofs.lemmas.List.{length-map}
 use Rattle.std.proofs.Math.Nat.{zero-div}
@@ -8,7 +8,7 @@ use Rattle.std.proofs.lemmas.Option.{none-some}
 use Rattle.prefix_keys.specs.Block.{block_number, width_of}
 use Rattle.prefix_keys.specs.declared.version.Version.{Version}
 use Rattle.pmap_text.specs.Stretches.{StretchesModel}
-use Rattle.pmap_text.specs.Windows.{IsWindow, number_at}
+use Rattle.pmap_text.specs.Windows.{number_at}
 use Rattle.pmap_text.specs.declared.entry.Entry.{Entry}
 use Rattle.pmap_text.specs.declared.prefix_list.PrefixList.{PrefixList}
 use Rattle.pmap_text.specs.declared.window.Window.{Window}
@@ -16,7 +16,7 @@ use Rattle.pmap_text.proofs.Blocks.{block_number-zero}
 use Rattle.pmap_cert.specs.CertificateModel.{Claim, Tree, claim_of}
 use Rattle.pmap_text.specs.MapText.{map_of}
 use Rattle.pmap_text.specs.PrefixList.{list_of, prefix_of}
-use Rattle.cert_check.specs.Inner.{AreInOrder, IsListPart, IsPart, IsPassed, IsRootChecked, IsUnread, Part, Sources, Walk, certificate_with, fault_of_node, reading_at, root_reading}
+use Rattle.cert_check.specs.Inner.{AreInOrder, IsListPart, IsPassed, IsRootChecked, IsUnread, Part, Sources, Walk, certificate_with, fault_of_node, reading_at, root_reading}
 use Rattle.pmap_cert.specs.FormatReading.{Place, ended_by, fault_at, is_ended}
 use Rattle.pmap_cert.specs.Inner.{node_due_at, reading_from}
 use Rattle.pmap_cert.specs.declared.fault.CertFault.{CertFault}
@@ -46,13 +46,11 @@ root-list l entries order = record {
   above = record { known = λ id is. absurd (none-some id is); text = refl };
 }
 
-pub root-part : (s : Sources) (w : Window) → IsWindow s.stretches w → w.first ≡ 0 → w.len ≡ 0 → (entries : Bor (List Entry)) → AreInOrder s.list.now.entries entries.now
-    → IsPart s (record { window = w; entries = entries; above = None })
-root-part s w window first len entries order = record {
-  window = window;
-  list = subst (λ (n : ℕ). IsListPart s.list.now n (number_at s.stretches w) n entries.now None) (sym len)
-      (subst (λ (q : ℕ). IsListPart s.list.now 0 q 0 entries.now None) (sym (whole-number s.stretches w first)) (root-list s.list.now entries.now order));
-}
+pub root-part : (l : PrefixList) (s : StretchesModel) (w : Window) → w.first ≡ 0 → w.len ≡ 0 → (entries : List Entry) → AreInOrder l.entries entries
+    → IsListPart l w.len (number_at s w) w.len entries None
+root-part l s w first len entries order =
+    subst (λ (n : ℕ). IsListPart l n (number_at s w) n entries None) (sym len)
+    (subst (λ (q : ℕ). IsListPart l 0 q 0 entries None) (sym (whole-number s w first)) (root-list l entries order))
 
 root-from : (frame : Frame) (n : ℕ) → n ≡ 0 → (place : Place) → root_reading frame place ≡ node_due_at frame.format frame.width frame.labels.now (frame.width - n) place
 root-from frame n none place = ap (λ (room : ℕ). node_due_at frame.format frame.width frame.labels.now room place) (omega (arith, none))

@@ -1,4 +1,4 @@
-use Rattle.std.specs.Prelude.{ℕ, List, ◌≡◌, ◌+◌, ◌==◌, Bool, Option, map, option_map, Some, length, ◌<◌, ◌≤◌, true, Contains, slice_index_or, ◌≢◌, ◌-◌, ◌++◌, Result, Ok, Err, drop}
+use Rattle.std.specs.Prelude.{ℕ, suc, List, ◌≡◌, ◌+◌, ◌==◌, Bool, Option, map, option_map, Some, length, ◌<◌, ◌≤◌, true, Contains, slice_index_or, ◌≢◌, ◌-◌, ◌++◌, Result, Ok, Err, drop}
 use Rattle.std.specs.List.{list_any}
 use Rattle.std.specs.Option.{ForSome, option_or}
 use Rattle.prefix_keys.specs.Block.{block_number, width_of, first_of, last_of}
@@ -87,10 +87,10 @@ pub record IsListPart (l : PrefixList) (n q k : ℕ) (es : List Entry) (label : 
   pub within : AreWithin l n q k es
   pub above : IsHandedDown l k (first_of (width_of l.version) n q) label
 
--- the part has what the map and the list have in its block
+-- the part has what the map has in its block, and what the list has strictly inside it
 pub record IsPart (s : Sources) (p : Part) : Type 0 where
   pub window : IsWindow s.stretches p.window
-  pub list : IsListPart s.list.now p.window.len (number_at s.stretches p.window) p.window.len p.entries.now p.above
+  pub list : IsListPart s.list.now p.window.len (number_at s.stretches p.window) (suc p.window.len) p.entries.now p.above
 
 -- the map settles with the label each block whose addresses are all at least `first` and below `stop`
 abbrev pub IsSettledBetween : MapModel → ℕ → ℕ → Label → Type 0

@@ -53,11 +53,7 @@ fn check_root(
         list_numbers: numbers_in(alloc, &list.labels, frame.labels)?,
     };
     let entries = in_order(alloc, list.entries.as_slice())?;
-    let space = Part {
-        window: Window::whole(&sources.stretches),
-        entries: entries.as_slice(),
-        above: None,
-    };
+    let space = Part::new(Window::whole(&sources.stretches), entries.as_slice(), None);
     let cost = check_node(&sources, walk, &space)?;
     if list.entries.len() as u64 > u64::from(cost) + 1 {
         walk.note(Some(CheckFaultKind::BoundNotMet), 0);

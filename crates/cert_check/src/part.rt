@@ -5,12 +5,12 @@ ghost use Rattle.pmap_text.specs.MapModel.{settled_label};
 ghost use Rattle.pmap_text.specs.MapText.{map_of, text_at};
 ghost use Rattle.pmap_text.specs.PrefixList.{list_of, number_of_block};
 ghost use Rattle.pmap_text.specs.Stretches.{HoldsAddress};
-ghost use Rattle.pmap_text.specs.Windows.{AreHalvesOf, number_at};
+ghost use Rattle.pmap_text.specs.Windows.{AreHalvesOf, IsWindow, number_at};
 ghost use Rattle.pmap_text.specs.declared.entry.Entry.{Entry};
 ghost use Rattle.pmap_text.specs.declared.prefix_list.PrefixList.{PrefixList};
 ghost use Rattle.pmap_cert.specs.CertificateModel.{chosen_half, side_half};
 ghost use Rattle.pmap_cert.specs.Packed.{bits_in};
-ghost use Rattle.cert_check.specs.Inner.{IsHalf, AreSources, AreAscending, IsListPart, IsPart, IsSettledBetween, LiesIn};
+ghost use Rattle.cert_check.specs.Inner.{IsHalf, AreSources, AreAscending, IsListPart, IsPart, IsSettledBetween, LiesIn, Sources};
 ghost use Rattle.cert_check.specs.Checking.{bits_fault, is_decided as is_decided_of, is_label_of, leaf_fault as leaf_fault_of, CheckFault};
 
 use crate::fault::CheckFaultKind;
@@ -19,8 +19,8 @@ use pmap_cert::Path;
 use pmap_text::{Entry, LabelId, Window, by_rank};
 use prefix_keys::Block;
 
-/// A block with what affects it: the stretches of the map at its ends, the list's entries for the block itself and for
-/// blocks inside it, in order, and the label of the longest entry with fewer bits that covers it.
+/// A block with what affects it: the stretches of the map at its ends, the list's entries for blocks strictly inside it, in
+/// order, and the label of the longest entry that covers it.
 #[derive(Drop)]
 pub struct Part<'a> {
     pub window: Window,
@@ -30,9 +30,8 @@ pub struct Part<'a> {
 
 // Whether all of the entries, which are in order, are for the block or for blocks inside it.
 fn lie_in(entries: &[Entry], block: &Block) -> bool
-    requires versions { (e : Entry) → Contains entries.now e → e.block.version ≡ block.now.version }
-    requires ascending { AreAscending entries.now }
-    ensures { IsTrue result → (e : Entry) → Contains entries.now e →
+    ensures { IsTrue result → AreAscending entries.now → (e : Entry) → Contains entries.now e →
+        e.block.version ≡ block.now.version →
         LiesIn (width_of block.now.version) block.now.len (number_of_block block.now) block.now.len e }
 {
     let (Some(first), Some(last)) = (entries.first(), entries.last()) else {
@@ -45,21 +44,29 @@ fn lie_in(entries: &[Entry], block: &Block) -> bool
 }
 
 impl<'a> Part<'a> {
-    // Returns the entries for blocks strictly inside the block, and the label of the longest that covers the block.
-    fn inside(&self) -> (&'a [Entry], Option<LabelId>)
-        ensures { (l : PrefixList) (q : ℕ) → self.now.window.len ≤ width_of l.version →
-            self.now.window.first ≡ first_of (width_of l.version) self.now.window.len q →
-            IsListPart l self.now.window.len q self.now.window.len self.now.entries.now self.now.above →
-            IsListPart l self.now.window.len q (suc self.now.window.len) result.0.now result.1 }
+    /// Returns the part of a block, by the list's entries for the block itself and for blocks inside it, in order, and the
+    /// label of the longest entry with fewer bits that covers it.
+    pub fn new(window: Window, entries: &'a [Entry], above: Option<LabelId>) -> Part<'a>
+        ensures window { result.window ≡ window }
+        ensures part { (s : Sources) → s.stretches.version ≡ s.list.now.version → IsWindow s.stretches window →
+            IsListPart s.list.now window.len (number_at s.stretches window) window.len entries.now above → IsPart s result }
     {
-        let entries = self.entries;
-        let Some(first) = entries.first() else {
-            return (entries, self.above);
+        let part = Part {
+            window,
+            entries,
+            above,
         };
-        if first.block.value != self.window.first || first.block.len != self.window.len {
-            return (entries, self.above);
+        let Some(first) = entries.first() else {
+            return part;
+        };
+        if first.block.value != window.first || first.block.len != window.len {
+            return part;
         }
-        (&entries[1..], Some(first.label))
+        Part {
+            entries: &entries[1..],
+            above: Some(first.label),
+            ..part
+        }
     }
 
     // Whether the map settles the block with the certificate's label: one stretch covers the block and has the label.
@@ -81,8 +88,7 @@ impl<'a> Part<'a> {
             (list_of sources.now.list.now).prefixes self.now.window.len
             (number_at sources.now.stretches self.now.window) (text_at sources.now.frame.labels.now id.0) }
     {
-        let (inside, covering) = self.inside();
-        inside.is_empty() && sources.is_of_list(covering, id)
+        self.entries.is_empty() && sources.is_of_list(self.above, id)
     }
 
     /// Returns the fault of a leaf in the block with the certificate's label `id`, if any.
@@ -113,18 +119,11 @@ impl<'a> Part<'a> {
         ensures upper { IsPart sources.now result.1 }
     {
         let (low, high) = self.window.halves(&sources.stretches);
-        let (inside, above) = self.inside();
-        let begun = inside.partition_point(|entry| entry.block.value < high.first);
-        let lower = Part {
-            window: low,
-            entries: &inside[..begun],
-            above,
-        };
-        let upper = Part {
-            window: high,
-            entries: &inside[begun..],
-            above,
-        };
+        let begun = self
+            .entries
+            .partition_point(|entry| entry.block.value < high.first);
+        let lower = Part::new(low, &self.entries[..begun], self.above);
+        let upper = Part::new(high, &self.entries[begun..], self.above);
         (lower, upper)
     }
 
@@ -192,9 +191,8 @@ impl<'a> Part<'a> {
     {
         let end = path.end(&self.block(sources));
         let (first, last) = (end.value, end.high().value);
-        let (entries, above) = self.inside();
-        if !lie_in(entries, &end)
-            || !sources.is_of_list(above, side)
+        if !lie_in(self.entries, &end)
+            || !sources.is_of_list(self.above, side)
             || !self.is_clear_before(sources, first, side)
             || !self.is_clear_after(sources, last, side)
         {
@@ -207,11 +205,7 @@ impl<'a> Part<'a> {
             from: self.window.index_of(&sources.stretches, first),
             to: self.window.index_of(&sources.stretches, last),
         };
-        Some(Part {
-            window,
-            entries,
-            above,
-        })
+        Some(Part::new(window, self.entries, self.above))
     }
 
     // Returns the block.

@@ -5,6 +5,7 @@ use Rattle.std.specs.Cow.{cow_slice_items}
 use Rattle.std.specs.List.Sorted.{IsPermutation}
 use Rattle.std.proofs.lemmas.Result.{err_from_is_err_and}
 use Rattle.pmap_text.specs.declared.entry.Entry.{Entry}
+use Rattle.pmap_text.specs.declared.window.Window.{Window}
 use Rattle.cert_check.specs.Checking.{fault_of_number, BoundNotMet}
 use Rattle.cert_check.specs.Inner.{AreInOrder, Walk}
 use Rattle.cert_check.proofs.Nodes.{or-none}
@@ -17,15 +18,18 @@ pub check_node-requires-clause-part : goal.check_node-requires-clause-part
 check_node-requires-clause-part c =
     let es = c.args.list.now.entries in
     let sorted = cow_slice_items c.in_ok-entries.entries in
-    root-part _ c.whole.result c.whole.ensures.window c.whole.ensures.first c.whole.ensures.len c.as_slice-2.result
+    let same : c.args.list.now.version ≡ c.args.map.now.version = search rules in
+    c.new-space.ensures.part _ (c.in_ok-of_map.ensures.version ∙ sym same) c.whole.ensures.window
+    (root-part c.args.list.now c.in_ok-of_map.field-0 c.whole.result c.whole.ensures.first c.whole.ensures.len c.as_slice-2.result.now
     (subst (AreInOrder es) (sym c.as_slice-2.ensures.value)
     (sorted-order es sorted c.args.list.now.blocks_distinct
-    (subst (λ (xs : List Entry). IsPermutation xs sorted) c.as_slice.ensures.value c.in_ok-entries.ensures.same) c.in_ok-entries.ensures.ascending))
+    (subst (λ (xs : List Entry). IsPermutation xs sorted) c.as_slice.ensures.value c.in_ok-entries.ensures.same) c.in_ok-entries.ensures.ascending)))
 
 pub returns-in_err-cost-clause-err : goal.returns-in_err-cost-clause-err
 returns-in_err-cost-clause-err c =
     let e = err_from_is_err_and c.from_residual-in_err-cost.result c.from_residual-in_err-cost.ensures.1 in
-    rw (e.1, e.2) (root-unread c.args.frame.now c.whole.result.len c.whole.ensures.len c.args.walk.now.lines _ c.in_err-cost.ensures)
+    let len = ap (λ (w : Window). w.len) c.new-space.ensures.window ∙ c.whole.ensures.len in
+    rw (e.1, e.2) (root-unread c.args.frame.now c.new-space.result.window.len len c.args.walk.now.lines _ c.in_err-cost.ensures)
 
 pub returns-clause-ok : goal.returns-clause-ok
 returns-clause-ok c =
@@ -34,7 +38,8 @@ returns-clause-ok c =
     let cost = c.in_ok-cost.cost in
     let same : c.args.list.now.version ≡ c.args.map.now.version = search rules in
     let same' : c.args.version ≡ c.args.map.now.version = search rules in
-    let go = root-checked _ (record { window = c.whole.result; entries = c.as_slice-2.result; above = None }) c.args.version c.args.walk.now.lines c.args.walk.now.number cost c.args.walk.now.sets.items c.args.walk.now.fault last c.if-len-from.walk c.whole.ensures.first c.whole.ensures.len
+    let go = root-checked _ c.new-space.result c.args.version c.args.walk.now.lines c.args.walk.now.number cost c.args.walk.now.sets.items c.args.walk.now.fault last c.if-len-from.walk
+    (ap (λ (w : Window). w.first) c.new-space.ensures.window ∙ c.whole.ensures.first) (ap (λ (w : Window). w.len) c.new-space.ensures.window ∙ c.whole.ensures.len)
     c.requires.number c.requires.fault same same' c.in_ok-cost.ensures in
     let bound = λ (many : Bool). option_or last.fault (cond many (Some (fault_of_number 0 BoundNotMet)) None) in
     elim c.if-len-from.branch [

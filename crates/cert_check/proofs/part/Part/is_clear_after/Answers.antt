@@ -6,7 +6,7 @@ use Rattle.cert_check.proofs.part.Part.is_clear_after.Goals as goal
 pub returns-then-first-last : goal.returns-then-first-last
 returns-then-first-last c = λ label.
     let s = c.args.sources.now in
-    clear-after s c.requires.sources c.args.self.now c.requires.part c.args.last (text_at s.frame.labels.now c.args.side.0)
+    clear-after s c.requires.sources c.args.self.now.window c.requires.part.window c.args.last (text_at s.frame.labels.now c.args.side.0)
     (omega (arith, c.if-first-last.true, c.first.ensures)) (sym c.is_of_map.ensures ∙ label)
 
 pub returns-then-last-self : goal.returns-then-last-self

@@ -10,7 +10,6 @@ use Rattle.cert_check.specs.Inner.{IsListPart}
 use Rattle.cert_check.specs.Checking.{is_decided}
 use Rattle.cert_check.proofs.Handed.{decided-by, decided-some}
 use Rattle.cert_check.proofs.Lists.{length-nil}
-use Rattle.cert_check.proofs.Settled.{part-first, part-short}
 use Rattle.cert_check.proofs.part.Part.is_decided.Goals as goal
 
 pub returns-then-is_empty : goal.returns-then-is_empty
@@ -21,11 +20,9 @@ returns-then-is_empty c =
     let n = p.window.len in
     let q = number_at s.stretches p.window in
     let x = text_at s.frame.labels.now c.args.id.0 in
-    let inside = c.inside-covering.ensures l q (part-short s c.requires.sources p c.requires.part) (part-first s c.requires.sources p c.requires.part) c.requires.part.list in
-    let es = c.inside-covering.result.0.now in
-    let none = length-nil es (eqb-true (length es) 0 (sym c.is_empty.ensures ∙ c.if-is_empty.true)) in
+    let none = length-nil p.entries.now (eqb-true (length p.entries.now) 0 (sym c.is_empty.ensures ∙ c.if-is_empty.true)) in
     c.is_of_list.ensures
-    ∙ decided-by l n q x c.inside-covering.result.1 (subst (λ (xs : List Entry). IsListPart l n q (suc n) xs c.inside-covering.result.1) none inside)
+    ∙ decided-by l n q x p.above (subst (λ (xs : List Entry). IsListPart l n q (suc n) xs p.above) none c.requires.part.list)
     ∙ ap (λ (v : Version). is_decided (width_of v) (list_of l).prefixes n q x) c.requires.sources.list_version
 
 pub returns-else-is_empty : goal.returns-else-is_empty
@@ -33,10 +30,7 @@ returns-else-is_empty c =
     let s = c.args.sources.now in
     let l = s.list.now in
     let p = c.args.self.now in
-    let n = p.window.len in
-    let q = number_at s.stretches p.window in
     let x = text_at s.frame.labels.now c.args.id.0 in
-    let inside = c.inside-covering.ensures l q (part-short s c.requires.sources p c.requires.part) (part-first s c.requires.sources p c.requires.part) c.requires.part.list in
     c.if-is_empty.false
-    ∙ decided-some l n q x c.inside-covering.result.0.now c.inside-covering.result.1 (sym c.is_empty.ensures ∙ c.if-is_empty.false) inside
-    ∙ ap (λ (v : Version). is_decided (width_of v) (list_of l).prefixes n q x) c.requires.sources.list_version
+    ∙ decided-some l p.window.len (number_at s.stretches p.window) x p.entries.now p.above (sym c.is_empty.ensures ∙ c.if-is_empty.false) c.requires.part.list
+    ∙ ap (λ (v : Version). is_decided (width_of v) (list_of l).prefixes p.window.len (number_at s.stretches p.window) x) c.requires.sources.list_version

@@ -9,11 +9,11 @@ pub returns-then-self : goal.returns-then-self
 returns-then-self c =
     let x = text_at c.args.sources.now.frame.labels.now c.args.id.0 in
     c.is_of_map.ensures
-    ∙ sym (ap (λ (o : _). is_label_of o x) (settled-one c.args.sources.now c.requires.sources c.args.self.now c.requires.part c.if-self.true))
+    ∙ sym (ap (λ (o : _). is_label_of o x) (settled-one c.args.sources.now c.requires.sources c.args.self.now.window c.requires.part.window c.if-self.true))
 
 pub returns-else-self : goal.returns-else-self
 returns-else-self c =
     let x = text_at c.args.sources.now.frame.labels.now c.args.id.0 in
     let w = c.args.self.now.window in
     false_from_ne_true _ (λ t. absurd (c.if-self.false (eqb-true w.from w.to t)))
-    ∙ sym (ap (λ (o : _). is_label_of o x) (settled-more c.args.sources.now c.requires.sources c.args.self.now c.requires.part c.if-self.false))
+    ∙ sym (ap (λ (o : _). is_label_of o x) (settled-more c.args.sources.now c.requires.sources c.args.self.now.window c.requires.part.window c.if-self.false))
