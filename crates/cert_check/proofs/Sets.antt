@@ -1,10 +1,9 @@
 -- Sets of labels by their numbers in ascending order.
 use Rattle.std.proofs.Common.{◌≡◌, ◌⊎◌, inl, inr, ℕ, zero, suc, ◌+◌, ◌^◌, ◌<◌, ◌≤◌, Bool, true, false, cond, not, ◌&&◌, ◌||◌, ◌==◌, List, [], ◌∷◌, Option, Some, None, drop, filter, get_or, length, map, nat_lt, slice_get, take, refl, sym, ap, ap₂, ◌∙◌, subst, arith}
 use Rattle.std.specs.List.{list_all}
-use Rattle.std.proofs.Math.Bool.{or-false}
-use Rattle.std.proofs.lemmas.Bool.{and_from, and_parts, eq-eqb, false≢true, ne_eqb, or_left, or_right}
+use Rattle.std.proofs.lemmas.Bool.{and_from, eq-eqb, false≢true, ne_eqb, or_left, or_right}
 use Rattle.std.proofs.lemmas.Cmp.{nat_eq_equiv}
-use Rattle.std.proofs.lemmas.List.Folds.{list_all-append, list_all-map, list_all_more}
+use Rattle.std.proofs.lemmas.List.Folds.{list_all-append, list_all_more}
 use Rattle.std.proofs.lemmas.Option.{none-some, same_Some}
 use Rattle.pmap_text.specs.Label.{IsLabelTable}
 use Rattle.pmap_text.specs.MapModel.{Label}
@@ -14,7 +13,6 @@ use Rattle.pmap_cert.specs.CertificateText.{IsAscending}
 use Rattle.pmap_cert.specs.CertificateModel.{has, chain_labels, chain_claim, exact_claim, exact_claim_by}
 use Rattle.pmap_cert.proofs.Tables.{ascending-filter, ascending-lower, label-same}
 use Rattle.cert_check.specs.Checking.{claim_fault, CheckFaultKind, CostTooHigh, SetTooSmall}
-use Rattle.cert_check.proofs.Lists.{length-nil}
 use Rattle.cert_check.specs.Inner.{claim_with, has_number}
 
 -- the numbers of labels
@@ -114,30 +112,6 @@ module _ (table : List Label) (ok : IsLabelTable table) where
 abbrev pub fault_by : ℕ → ℕ → Bool → Option CheckFaultKind
 fault_by cost exact full = cond (nat_lt exact cost) (Some CostTooHigh) (cond ((cost == exact) && not full) (Some SetTooSmall) None)
 
--- the fault of a claim by label numbers, if the sets of the halves have no common label
-pub claim-apart : (table : List Label) → IsLabelTable table → (cost left right : ℕ) (set lower upper : List ℕ)
-    → IsAscending (length table) 0 set → IsAscending (length table) 0 lower → IsAscending (length table) 0 upper → filter (has_number upper) lower ≡ []
-    → claim_fault (claim_with table cost set) (exact_claim (claim_with table left lower) (claim_with table right upper))
-    ≡ fault_by cost (left + right + 1) (list_all (has_number set) lower && list_all (has_number set) upper)
-claim-apart table ok cost left right set lower upper h h' h'' none =
-    let T = text_at table in
-    let common : filter (has (map T upper)) (map T lower) ≡ [] = common-texts table ok 0 0 lower upper h' h'' ∙ ap (map T) none in
-    ap (λ (xs : List Label). claim_fault (claim_with table cost set) (exact_claim_by (claim_with table left lower) (claim_with table right upper) xs)) common
-    ∙ ap (fault_by cost (left + right + 1))
-    (list_all-append (has (map T set)) (map T lower) (map T upper)
-    ∙ ap₂ ◌&&◌ (all-texts table ok 0 0 lower set h' h) (all-texts table ok 0 0 upper set h'' h))
-
-pub claim-common : (table : List Label) → IsLabelTable table → (cost left right : ℕ) (set lower upper : List ℕ)
-    → IsAscending (length table) 0 set → IsAscending (length table) 0 lower → IsAscending (length table) 0 upper → (n : ℕ) (ns : List ℕ) → filter (has_number upper) lower ≡ n ∷ ns
-    → claim_fault (claim_with table cost set) (exact_claim (claim_with table left lower) (claim_with table right upper))
-    ≡ fault_by cost (left + right) (list_all (has_number set) (n ∷ ns))
-claim-common table ok cost left right set lower upper h h' h'' n ns some =
-    let T = text_at table in
-    let common : filter (has (map T upper)) (map T lower) ≡ map T (n ∷ ns) = common-texts table ok 0 0 lower upper h' h'' ∙ ap (map T) some in
-    let ascending : IsAscending (length table) 0 (n ∷ ns) = subst (IsAscending (length table) 0) some (ascending-filter (length table) 0 (has_number upper) lower h') in
-    ap (λ (xs : List Label). claim_fault (claim_with table cost set) (exact_claim_by (claim_with table left lower) (claim_with table right upper) xs)) common
-    ∙ ap (fault_by cost (left + right)) (all-texts table ok 0 0 (n ∷ ns) set ascending h)
-
 -- a walk goes on to the next index
 pub goes-on : (set rest rest' other : List LabelId) (i : ℕ) (d : LabelId) → i < length set → IsWalk set rest other i → IsAscending (2 ^ 32) (get_or set i d).0 (numbers rest')
     → ((n : ℕ) → (get_or set i d).0 ≤ n → has_number (numbers rest') n ≡ has_number (numbers rest) n) → IsWalk set rest' other (i + 1)
@@ -150,74 +124,9 @@ pub all-more : (p : LabelId → Bool) (set : List LabelId) (i : ℕ) (d : LabelI
     → list_all p (take i set) ≡ true → list_all p (take (i + 1) set) ≡ true
 all-more p set i d less here so_far = list_all_more p set i d less ∙ and_from (list_all p (take i set)) (p (get_or set i d)) so_far here
 
--- filtering labels by their numbers filters the numbers
-pub numbers-filter : (p : ℕ → Bool) (ids : List LabelId) → numbers (filter (λ i. p i.0) ids) ≡ filter p (numbers ids)
-numbers-filter p [] = refl
-numbers-filter p (x ∷ ids) = by (p x.0) (numbers-filter p ids)
-  where
-    by : (b : Bool) → numbers (filter (λ (i : LabelId). p i.0) ids) ≡ filter p (numbers ids)
-        → numbers (cond b (x ∷ filter (λ (i : LabelId). p i.0) ids) (filter (λ (i : LabelId). p i.0) ids)) ≡ cond b (x.0 ∷ filter p (numbers ids)) (filter p (numbers ids))
-    by true rest = ap (λ (ns : List ℕ). x.0 ∷ ns) rest
-    by false rest = rest
-
 -- an ascending set of a table's numbers ascends below 2 ^ 32
 pub set_ascending : (count : ℕ) (ids : List LabelId) → count ≤ 65536 → IsAscending count 0 (numbers ids) → IsAscending (2 ^ 32) 0 (numbers ids)
 set_ascending count ids few h = ascending-bound count (2 ^ 32) 0 (numbers ids) (omega (arith, few)) h
-
--- the common labels of two sets have the common numbers
-pub both-numbers : (lower upper both : List LabelId) → both ≡ filter (λ i. has_number (numbers upper) i.0) lower → numbers both ≡ filter (has_number (numbers upper)) (numbers lower)
-both-numbers lower upper both e = ap numbers e ∙ numbers-filter (has_number (numbers upper)) lower
-
--- a test of all labels of a set is one of their numbers
-pub all-numbers : (set ids : List LabelId) → list_all (λ i. has_number (numbers set) i.0) ids ≡ list_all (has_number (numbers set)) (numbers ids)
-all-numbers set ids = sym (list_all-map (has_number (numbers set)) (λ (j : LabelId). j.0) ids)
-
-module _ (table : List Label) (ok : IsLabelTable table) (set lower upper both : List LabelId) (cost left right : ℕ) (full : Bool)
-    (h : IsAscending (length table) 0 (numbers set)) (h' : IsAscending (length table) 0 (numbers lower)) (h'' : IsAscending (length table) 0 (numbers upper))
-    (are : both ≡ filter (λ i. has_number (numbers upper) i.0) lower) where
-  common-is : filter (has_number (numbers upper)) (numbers lower) ≡ numbers both
-  common-is = sym (both-numbers lower upper both are)
-
-  -- the fault of a claim if the sets of the halves have no common label
-  pub halves-apart : length both ≡ 0 → full ≡ (list_all (λ i. has_number (numbers set) i.0) lower && list_all (λ i. has_number (numbers set) i.0) upper)
-      → fault_by cost (left + right + 1) full
-      ≡ claim_fault (claim_with table cost (numbers set)) (exact_claim (claim_with table left (numbers lower)) (claim_with table right (numbers upper)))
-  halves-apart none fulls =
-      let nothing : filter (has_number (numbers upper)) (numbers lower) ≡ [] = common-is ∙ ap numbers (length-nil both none) in
-      ap (fault_by cost (left + right + 1)) fulls
-      ∙ (λ i. fault_by cost (left + right + 1) (all-numbers set lower i && all-numbers set upper i))
-      ∙ sym (claim-apart table ok cost left right (numbers set) (numbers lower) (numbers upper) h h' h'' nothing)
-
-  -- the fault of a claim if the sets of the halves have a common label
-  common-by : (xs : List LabelId) → both ≡ xs → (length xs == 0) ≡ false → full ≡ list_all (λ i. has_number (numbers set) i.0) xs
-      → fault_by cost (left + right) full
-      ≡ claim_fault (claim_with table cost (numbers set)) (exact_claim (claim_with table left (numbers lower)) (claim_with table right (numbers upper)))
-  common-by [] is some fulls = absurd (false≢true (sym some))
-  common-by (x ∷ xs) is some fulls =
-      ap (fault_by cost (left + right)) (fulls ∙ all-numbers set (x ∷ xs))
-      ∙ sym (claim-common table ok cost left right (numbers set) (numbers lower) (numbers upper) h h' h'' x.0 (numbers xs) (common-is ∙ ap numbers is))
-
-  pub halves-common : (length both == 0) ≡ false → full ≡ list_all (λ i. has_number (numbers set) i.0) both
-      → fault_by cost (left + right) full
-      ≡ claim_fault (claim_with table cost (numbers set)) (exact_claim (claim_with table left (numbers lower)) (claim_with table right (numbers upper)))
-  halves-common some fulls = common-by both refl some fulls
-
--- a filter keeps nothing if no element passes
-pub apart-none : (p : LabelId → Bool) (ids : List LabelId) → list_all (λ i. not (p i)) ids ≡ true → length (filter p ids) ≡ 0
-apart-none p [] h = refl
-apart-none p (x ∷ ids) h = by (p x) (list_all (λ (i : LabelId). not (p i)) ids) (apart-none p ids) h
-  where
-    by : (b others : Bool) → (others ≡ true → length (filter p ids) ≡ 0) → (not b && others) ≡ true → length (cond b (x ∷ filter p ids) (filter p ids)) ≡ 0
-    by true others rest all = absurd (false≢true all)
-    by false others rest all = rest all
-
-pub apart-some : (p : LabelId → Bool) (ids : List LabelId) → list_all (λ i. not (p i)) ids ≡ false → (length (filter p ids) == 0) ≡ false
-apart-some p [] h = absurd (false≢true (sym h))
-apart-some p (x ∷ ids) h = by (p x) (list_all (λ (i : LabelId). not (p i)) ids) (apart-some p ids) h
-  where
-    by : (b others : Bool) → (others ≡ false → (length (filter p ids) == 0) ≡ false) → (not b && others) ≡ false → (length (cond b (x ∷ filter p ids) (filter p ids)) == 0) ≡ false
-    by true others rest all = ne_eqb (suc (length (filter p ids))) 0 (λ e. absurd (omega (arith, e)))
-    by false others rest all = rest all
 
 -- an implication holds if its premise fails or its conclusion holds
 pub or-from : (a b : Bool) → (a ≡ false) ⊎ (b ≡ true) → (not a || b) ≡ true
@@ -225,34 +134,60 @@ or-from false b h = refl
 or-from true b (inl e) = absurd (false≢true (sym e))
 or-from true b (inr e) = e
 
-pub all-common : (p t : LabelId → Bool) (ids : List LabelId) → list_all (λ i. not (p i) || t i) ids ≡ list_all t (filter p ids)
-all-common p t [] = refl
-all-common p t (x ∷ ids) = by (p x) (all-common p t ids)
+-- the labels that a set has of those that two others have in common, by their numbers
+pub common-numbers : (has_it both : ℕ → Bool) (ids : List LabelId) → list_all (λ i. not (both i.0) || has_it i.0) ids ≡ list_all has_it (filter both (numbers ids))
+common-numbers has_it both [] = refl
+common-numbers has_it both (x ∷ ids) = by (both x.0) (common-numbers has_it both ids)
   where
-    by : (b : Bool) → list_all (λ (i : LabelId). not (p i) || t i) ids ≡ list_all t (filter p ids)
-        → ((not b || t x) && list_all (λ (i : LabelId). not (p i) || t i) ids) ≡ list_all t (cond b (x ∷ filter p ids) (filter p ids))
-    by true rest = ap (λ a. t x && a) rest
+    by : (b : Bool) → list_all (λ (i : LabelId). not (both i.0) || has_it i.0) ids ≡ list_all has_it (filter both (numbers ids))
+        → ((not b || has_it x.0) && list_all (λ (i : LabelId). not (both i.0) || has_it i.0) ids)
+        ≡ list_all has_it (cond b (x.0 ∷ filter both (numbers ids)) (filter both (numbers ids)))
+    by true rest = ap (λ a. has_it x.0 && a) rest
     by false rest = rest
 
--- labels are apart from others exactly if they have none in common that an empty set lacks
-pub apart-alone : (p : LabelId → Bool) (ids : List LabelId) → list_all (λ i. not (p i) || false) ids ≡ list_all (λ i. not (p i)) ids
-apart-alone p [] = refl
-apart-alone p (x ∷ ids) = ap₂ ◌&&◌ (or-false (not (p x))) (apart-alone p ids)
+-- those that a set has in common with one that contains it are all of its labels
+pub implied : (has_it : ℕ → Bool) (ids all : List LabelId) → ((n : ℕ) → has_number (numbers ids) n ≡ true → has_number (numbers all) n ≡ true)
+    → list_all (λ i. not (has_number (numbers all) i.0) || has_it i.0) ids ≡ list_all has_it (numbers ids)
+implied has_it [] all within = refl
+implied has_it (x ∷ ids) all within =
+    ap₂ ◌&&◌ (ap (λ b. not b || has_it x.0) (within x.0 (or_left _ _ (eq-eqb x.0 x.0 refl)))) (implied has_it ids all (λ n h. within n (or_right _ _ h)))
 
--- a set has all labels exactly if it has those that they have in common with themselves
-has-themselves : (ids all : List LabelId) → ((n : ℕ) → has_number (numbers ids) n ≡ true → has_number (numbers all) n ≡ true)
-    → list_all (λ i. has_number (numbers all) i.0) ids ≡ true
-has-themselves [] all within = refl
-has-themselves (x ∷ ids) all within =
-    and_from _ _ (within x.0 (or_left _ _ (eq-eqb x.0 x.0 refl))) (has-themselves ids all (λ n h. within n (or_right _ _ h)))
+-- The fault of an inner node's claim, by the numbers of its set and of the sets of its halves. The empty set has all of
+-- their common labels only if there are none.
+module _ (table : List Label) (ok : IsLabelTable table) (cost left right : ℕ) (set lower upper : List ℕ)
+    (h : IsAscending (length table) 0 set) (h' : IsAscending (length table) 0 lower) (h'' : IsAscending (length table) 0 upper) where
+  claim-by : (common : List ℕ) → filter (has_number upper) lower ≡ common
+      → claim_fault (claim_with table cost set) (exact_claim (claim_with table left lower) (claim_with table right upper))
+      ≡ claim_fault (claim_with table cost set) (exact_claim_by (claim_with table left lower) (claim_with table right upper) (map (text_at table) common))
+  claim-by common is =
+      ap (λ (xs : List Label). claim_fault (claim_with table cost set) (exact_claim_by (claim_with table left lower) (claim_with table right upper) xs))
+      (common-texts table ok 0 0 lower upper h' h'' ∙ ap (map (text_at table)) is)
 
-all-implied : (p t : LabelId → Bool) (ids : List LabelId) → list_all p ids ≡ true → list_all (λ i. not (p i) || t i) ids ≡ list_all t ids
-all-implied p t [] h = refl
-all-implied p t (x ∷ ids) h =
-    let parts = and_parts (p x) (list_all p ids) h in ap₂ ◌&&◌ (ap (λ b. not b || t x) parts.0) (all-implied p t ids parts.1)
+  pub claim-apart : list_all (has_number []) (filter (has_number upper) lower) ≡ true
+      → claim_fault (claim_with table cost set) (exact_claim (claim_with table left lower) (claim_with table right upper))
+      ≡ fault_by cost (left + right + 1) (list_all (has_number set) lower && list_all (has_number set) upper)
+  claim-apart none = by (filter (has_number upper) lower) refl none
+    where
+      by : (common : List ℕ) → filter (has_number upper) lower ≡ common → list_all (has_number []) common ≡ true
+          → claim_fault (claim_with table cost set) (exact_claim (claim_with table left lower) (claim_with table right upper))
+          ≡ fault_by cost (left + right + 1) (list_all (has_number set) lower && list_all (has_number set) upper)
+      by [] is none =
+          claim-by [] is
+          ∙ ap (fault_by cost (left + right + 1))
+          (list_all-append (has (map (text_at table) set)) (map (text_at table) lower) (map (text_at table) upper)
+          ∙ ap₂ ◌&&◌ (all-texts table ok 0 0 lower set h' h) (all-texts table ok 0 0 upper set h'' h))
+      by (n ∷ ns) is none = absurd (false≢true none)
 
-pub all-themselves : (t : LabelId → Bool) (ids : List LabelId) → list_all (λ i. not (has_number (numbers ids) i.0) || t i) ids ≡ list_all t ids
-all-themselves t ids = all-implied (λ i. has_number (numbers ids) i.0) t ids (has-themselves ids ids (λ n h. h))
+  pub claim-common : list_all (has_number []) (filter (has_number upper) lower) ≡ false
+      → claim_fault (claim_with table cost set) (exact_claim (claim_with table left lower) (claim_with table right upper))
+      ≡ fault_by cost (left + right) (list_all (has_number set) (filter (has_number upper) lower))
+  claim-common some = by (filter (has_number upper) lower) refl (ascending-filter (length table) 0 (has_number upper) lower h') some
+    where
+      by : (common : List ℕ) → filter (has_number upper) lower ≡ common → IsAscending (length table) 0 common → list_all (has_number []) common ≡ false
+          → claim_fault (claim_with table cost set) (exact_claim (claim_with table left lower) (claim_with table right upper))
+          ≡ fault_by cost (left + right) (list_all (has_number set) common)
+      by [] is ascending some = absurd (false≢true (sym some))
+      by (n ∷ ns) is ascending some = claim-by (n ∷ ns) is ∙ ap (fault_by cost (left + right)) (all-texts table ok 0 0 (n ∷ ns) set ascending h)
 
 -- The fault of a chain's claim, by the numbers of its set, its side label and its end's set.
 module _ (table : List Label) (ok : IsLabelTable table) (n cost below side : ℕ) (set ends : List ℕ)

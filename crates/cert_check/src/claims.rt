@@ -68,31 +68,12 @@ fn has_common(set: &[LabelId], lower: &[LabelId], upper: &[LabelId]) -> bool
     true
 }
 
-fn are_apart(lower: &[LabelId], upper: &[LabelId]) -> bool
-    requires lower { IsAscending (2 ^ 32) 0 (map (λ i. i.0) lower.now) }
-    requires upper { IsAscending (2 ^ 32) 0 (map (λ i. i.0) upper.now) }
-    ensures { result ≡ list_all (λ i. not (has_number (map (λ j. j.0) upper.now) i.0)) lower.now }
-{
-    has_common(&[], lower, upper)
-}
-
 fn has_all(set: &[LabelId], labels: &[LabelId]) -> bool
     requires set { IsAscending (2 ^ 32) 0 (map (λ i. i.0) set.now) }
     requires labels { IsAscending (2 ^ 32) 0 (map (λ i. i.0) labels.now) }
-    ensures { result ≡ list_all (λ i. has_number (map (λ j. j.0) set.now) i.0) labels.now }
+    ensures { result ≡ list_all (has_number (map (λ i. i.0) set.now)) (map (λ i. i.0) labels.now) }
 {
     has_common(set, labels, labels)
-}
-
-// Whether the set has each label of two others.
-fn has_both(set: &[LabelId], lower: &[LabelId], upper: &[LabelId]) -> bool
-    requires set { IsAscending (2 ^ 32) 0 (map (λ i. i.0) set.now) }
-    requires lower { IsAscending (2 ^ 32) 0 (map (λ i. i.0) lower.now) }
-    requires upper { IsAscending (2 ^ 32) 0 (map (λ i. i.0) upper.now) }
-    ensures { result ≡ (list_all (λ i. has_number (map (λ j. j.0) set.now) i.0) lower.now
-        && list_all (λ i. has_number (map (λ j. j.0) set.now) i.0) upper.now) }
-{
-    has_all(set, lower) && has_all(set, upper)
 }
 
 // Returns the fault of a claim by its cost, the exact cost, and whether its set has all labels of the exact set.
@@ -127,8 +108,10 @@ pub fn claim_fault(
     let _count = labels.len();
     let cost = u64::from(claim.cost);
     let below = u64::from(left.cost) + u64::from(right.cost);
-    if are_apart(left.set, right.set) {
-        fault_by(cost, below + 1, has_both(claim.set, left.set, right.set))
+    // The empty set has all common labels only if there are none.
+    if has_common(&[], left.set, right.set) {
+        let is_full = has_all(claim.set, left.set) & has_all(claim.set, right.set);
+        fault_by(cost, below + 1, is_full)
     } else {
         fault_by(cost, below, has_common(claim.set, left.set, right.set))
     }
@@ -158,7 +141,7 @@ pub fn chain_fault(
         return fault_by(cost, below, has_side);
     }
     if path.len() == 1 {
-        fault_by(cost, below + 1, has_side && has_all(claim.set, end.set))
+        fault_by(cost, below + 1, has_side & has_all(claim.set, end.set))
     } else {
         fault_by(cost, below + 1, has_side)
     }
