@@ -20,7 +20,7 @@ returns-in-Ok-clause-accepted c =
     let l = list_of c.args.list.now in
     let k = certificate_of c.args.certificate.now in
     let read = (c.text_of_format_is_read_or_has_a_fault.ensures.read c.as_slice.result.now k).1 (c.root-root.ensures.form, c.as_slice.ensures.value ∙ c.in_ok-text.ensures) in
-    c.no_fault_is_acceptance.ensures.format m l k c.root-root.ensures.form (text-none (first_fault m l k) (ap (text_fault m l) (sym read) ∙ c.in-Ok.ensures.fault))
+    c.no_fault_is_acceptance.ensures.accepted m l k c.root-root.ensures.form (text-none (first_fault m l k) (ap (text_fault m l) (sym read) ∙ c.in-Ok.ensures.fault))
 
 pub returns-in-Err-Check-clause-fault : goal.returns-in-Err-Check-clause-fault
 returns-in-Err-Check-clause-fault c = λ some.

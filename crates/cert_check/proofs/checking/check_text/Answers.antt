@@ -18,7 +18,7 @@ returns c =
     let read = c.in_ok-format.ensures.ok ∙ ap (reading_from head.format head.version head.labels) (sym c.new-walk.ensures.lines)
     ∙ read-as head.format c.width.result head.labels head.version _ _ root.tree c.width.ensures root.read (sym c.is_ended.ensures ∙ c.if-not-is_ended.false) in
     let none = sym root.fault ∙ c.in_default.is in
-    let accepted = c.no_fault_is_acceptance.ensures.format m l k ((c.text_of_format_is_read_or_has_a_fault.ensures.read c.args.text.now k).0 read).0 none in
+    let accepted = c.no_fault_is_acceptance.ensures.accepted m l k ((c.text_of_format_is_read_or_has_a_fault.ensures.read c.args.text.now k).0 read).0 none in
     record {
       accepted = (k, read, accepted);
       count = c.len.ensures.value ∙ sym (length-map c.args.list.now.entries (prefix_of c.args.list.now.labels));

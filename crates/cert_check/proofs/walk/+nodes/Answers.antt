@@ -1,4 +1,4 @@
-use Rattle.std.proofs.Common.{◌++◌, ◌≡◌, ◌∙◌, ◌+◌, ◌-◌, ◌∷◌, [], ℕ, Bool, List, Ok, ap, arith, drop, length, refl, subst, sym, take}
+use Rattle.std.proofs.Common.{◌≡◌, ◌∙◌, ◌+◌, ◌++◌, ◌-◌, ◌∷◌, [], ℕ, Bool, List, Ok, ap, arith, drop, length, refl, rules, subst, sym, take}
 use Rattle.std.proofs.lemmas.Result.{err_from_is_err_and}
 use Rattle.std.proofs.lemmas.List.{append-nil}
 use Rattle.prefix_keys.specs.Block.{width_of}
@@ -16,7 +16,7 @@ use Rattle.pmap_cert.proofs.FormatTrees.{line_due-found}
 use Rattle.pmap_cert.proofs.Paths.{path-length}
 use Rattle.pmap_cert.proofs.ReadingSteps.{chain-below, chain-over, deeper, due_in, node-deep, node-fault, node-leaf}
 use Rattle.cert_check.specs.Checking.{claim_fault, node_fault}
-use Rattle.cert_check.specs.Inner.{IsAnswer, Read, chain_reading, claim_with, fault_of_node, fault_with, halves_reading, reading_at}
+use Rattle.cert_check.specs.Inner.{FitsPath, IsAnswer, IsHeld, Read, chain_reading, claim_with, fault_of_node, fault_with, halves_reading, reading_at}
 use Rattle.cert_check.proofs.Sets.{numbers}
 use Rattle.cert_check.proofs.Walks.{below-passed, end-answer, halves-passed, held-at, low-piece, lower-unread, own-piece, rest-passed, rest-unread, sets-kept, up-piece, upper-unread}
 use Rattle.cert_check.proofs.walk.+nodes.Goals as goal
@@ -48,23 +48,10 @@ check_node-check_inner-requires t c =
     let frame = c.args.sources.now.frame in
     let said = line_due-found (format_number frame.format) frame.width (length frame.labels.now) c.args.walk.now.lines
     (InnerLine c.in-Inner.claim.cost (numbers c.in-Inner.claim.set.now), c.next_node.new.self) (rw c.in-Inner.is at c.in_ok-id.ensures.ok) in
-    let held = held-at c.args.walk.now.sets.items c.in-Inner.claim.set.now c.hold.new.sets.items c.in_ok-held-in-Inner.held.from c.in_ok-held-in-Inner.ensures.sets c.in_ok-held-in-Inner.ensures.from in
-    let some = c.if-room-eq0.false in (
-      omega arith,
-      (
-        c.requires.sources,
-        (
-          c.requires.part,
-          (
-            omega (arith, some),
-            (
-              c.next_number-walk.ensures,
-              record { within = held.2; ascending = subst (λ (ids : List LabelId). IsAscending (length frame.labels.now) 0 (numbers ids)) (sym held.1) said.1.1 },
-            ),
-          ),
-        ),
-      ),
-    )
+    let at = held-at c.args.walk.now.sets.items c.in-Inner.claim.set.now c.hold.new.sets.items c.in_ok-held-in-Inner.held.from c.in_ok-held-in-Inner.ensures.sets c.in_ok-held-in-Inner.ensures.from in
+    let held : IsHeld c.args.sources.now c.in_ok-held-in-Inner.held c.hold.new.sets.items =
+    record { within = at.2; ascending = subst (λ (ids : List LabelId). IsAscending (length frame.labels.now) 0 (numbers ids)) (sym at.1) said.1.1 } in
+    search rules
 
 pub check_node-returns-in_ok-held-in-Inner : goal.check_node-returns-in_ok-held-in-Inner
 check_node-returns-in_ok-held-in-Inner t c =
@@ -100,28 +87,12 @@ check_node-check_chain-requires t c =
     let bits : List Bool = bits_in c.in-Chain.path.now in
     let said = line_due-found (format_number frame.format) frame.width (length frame.labels.now) c.args.walk.now.lines
     (ChainLine c.in-Chain.claim.cost bits c.in-Chain.side.0 (numbers c.in-Chain.claim.set.now), c.next_node.new.self) (rw c.in-Chain.is at c.in_ok-id.ensures.ok) in
-    let held = held-at c.args.walk.now.sets.items c.in-Chain.claim.set.now c.hold-in-Chain.new.sets.items c.in_ok-held-in-Chain.held.from c.in_ok-held-in-Chain.ensures.sets c.in_ok-held-in-Chain.ensures.from in
-    let deep : c.len.result ≡ length bits = omega (arith, c.len.ensures) in
-    let fits = c.if-len-room.false in
-    let some = said.1.2 in (
-      omega arith,
-      (
-        c.requires.sources,
-        (
-          c.requires.part,
-          (
-            record { room = omega (arith, fits, deep, some); known = said.1.4 },
-            (
-              some,
-              (
-                c.next_number-walk.ensures,
-                record { within = held.2; ascending = subst (λ (ids : List LabelId). IsAscending (length frame.labels.now) 0 (numbers ids)) (sym held.1) said.1.5 },
-              ),
-            ),
-          ),
-        ),
-      ),
-    )
+    let at = held-at c.args.walk.now.sets.items c.in-Chain.claim.set.now c.hold-in-Chain.new.sets.items c.in_ok-held-in-Chain.held.from c.in_ok-held-in-Chain.ensures.sets c.in_ok-held-in-Chain.ensures.from in
+    let held : IsHeld c.args.sources.now c.in_ok-held-in-Chain.held c.hold-in-Chain.new.sets.items =
+    record { within = at.2; ascending = subst (λ (ids : List LabelId). IsAscending (length frame.labels.now) 0 (numbers ids)) (sym at.1) said.1.5 } in
+    let room : FitsPath c.args.sources.now c.args.part.now c.in-Chain.side.0 bits = record { room = omega (arith, c.len.ensures, c.if-len-room.false, said.1.2); known = said.1.4 } in
+    let some = said.1.2 in
+    search rules
 
 pub check_node-returns-in_ok-held-in-Chain : goal.check_node-returns-in_ok-held-in-Chain
 check_node-returns-in_ok-held-in-Chain t c =

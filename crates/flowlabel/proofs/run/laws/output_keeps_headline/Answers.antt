@@ -154,7 +154,7 @@ returns c (shrink map printed) out is =
 returns c (check map list certificate) out is =
     let (m, l, k, reads_map, reads_list, reads, none, text) = checked_of map list certificate out is in
     let form = ((c.text_of_format_is_read_or_has_a_fault.ensures.read certificate k).0 reads).0 in
-    let accepted = c.no_fault_is_acceptance.ensures.format m l k form none in
+    let accepted = c.no_fault_is_acceptance.ensures.accepted m l k form none in
     (m, l, reads_map, reads_list, c.acceptance_is_enough.ensures.equivalent m l k accepted, c.acceptance_is_enough.ensures.least m l k accepted, text)
 returns c (recert before) out is =
     let (old, reads, prints) = printed_of InCertificate PrintsCompact (format_reading before) out is in
@@ -171,7 +171,7 @@ returns c (recert before) out is =
       checks = λ map list number told.
           let (m, l, k, reads_map, reads_list, reads', none, text) = checked_of map list before number told in
           let one : k ≡ old = cc in
-          let accepted = c.no_fault_is_acceptance.ensures.format m l old form (subst (λ (x : CertificateModel). first_fault m l x ≡ None) one none) in
+          let accepted = c.no_fault_is_acceptance.ensures.accepted m l old form (subst (λ (x : CertificateModel). first_fault m l x ≡ None) one none) in
           let kept : first_fault m l (compact old) ≡ None =
           c.no_fault_is_acceptance.ensures.no_fault m l (compact old) (c.compact_keeps_acceptance.ensures m l old form.format accepted) in
           rw (reads_map, reads_list, after) (ap (λ (t : List ℕ). Ok t) text ∙ sym (ap (λ (f : Option CheckFault). checked f (length l.prefixes)) kept));
