@@ -22,11 +22,6 @@ abbrev pub flush_call : {A E : Type 0} → Result A E → LastCall
 flush_call (Ok _) = Flush
 flush_call (Err _) = FailedFlush
 
--- a `Buffered` as contracts see it: the inner reader, and the bytes that were read from it and not returned yet
-pub record BufferedState (T : Type 0) : Type 0 where
-  pub inner : T
-  pub ahead : List ℕ
-
 -- whether the reader failed, from the result of reading it whole
 abbrev pub is_read_fault : {A : Type 0} → Result A ReadStop → Bool
 is_read_fault (Ok _) = false

@@ -17,19 +17,16 @@
 //! contract of each read and write then says which bytes moved.
 //!
 //! `Watched` wraps any reader or writer of std. A slice or a `Vec` reports its bytes. A file does not, as no contract says
-//! what the system reads or writes. `Buffered` reads ahead from any `Input`. `MemoryInput` and `MemoryOutput` are for
-//! tests. `read_whole` and `write_whole` move all bytes, and return a fault if and only if their reader or writer failed.
-//! Only `read_whole` allocates.
+//! what the system reads or writes. `MemoryInput` and `MemoryOutput` are for tests. `read_whole` and `write_whole` move all
+//! bytes, and return a fault if and only if their reader or writer failed. Only `read_whole` allocates.
 #![tactic(auto)]
 
-mod buffered;
 mod devices;
 mod memory;
 mod watch;
 mod whole_input;
 mod whole_output;
 
-pub use buffered::Buffered;
 pub use devices::{DeviceFault, Input, LastCall, Output};
 pub use memory::{MemoryInput, MemoryOutput};
 pub use watch::Watched;

@@ -75,7 +75,7 @@ fn execute<'a, S: AsStr, O: Opener, W: Output>(
         Ok(command) => command,
         Err(fault) => return Err(RunFault::Usage(fault)),
     };
-    let files = open_all(opener, command.files())?;
+    let files = open_all(alloc, opener, command.files())?;
     let mut inputs = Inputs { files, hashing };
     run(alloc, &command, &mut inputs, output)
 }

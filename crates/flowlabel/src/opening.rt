@@ -7,8 +7,11 @@ ghost use Rattle.flowlabel.specs.Run.{any_failed, source_failed};
 use crate::by_file::ByFile;
 use crate::fault::RunFault;
 use crate::inputs::Source;
-use flow_io::{Buffered, Input, Watched};
+use crate::usage::UsageFault;
+use flow_io::{Input, Watched};
+use std::alloc::{AllocError, Global};
 use std::fs::File;
+use std::io::BufReader;
 
 /// Opens files by their names.
 pub trait Opener {
@@ -18,24 +21,34 @@ pub trait Opener {
     ghost answers: { Self → List ℕ → Option Self.Reader → Type 0 };
 
     /// Opens the file with this name, and reads nothing of it. Returns `None` if the file can't be opened.
-    fn open(&self, name: &str) -> Option<Self::Reader>
-        ensures answer { answers self.now name.now result }
-        ensures fresh { IfSome result (λ reader. Self.Reader.failed reader ≡ false) };
+    fn open(&self, alloc: Global, name: &str) -> Result<Option<Self::Reader>, AllocError>
+        ensures answer { IfOk result (answers self.now name.now) }
+        ensures fresh { IfOk result (λ opened. IfSome opened (λ reader. Self.Reader.failed reader ≡ false)) };
 }
 
 // Opens the files of the system. No contract says which files these are.
 impl Opener for HostRuntime {
-    type Reader = Buffered<Watched<File>>;
+    type Reader = Watched<BufReader<File>>;
 
     ghost answers = { λ _ _ _. Unit {0} };
 
-    fn open(&self, name: &str) -> Option<Buffered<Watched<File>>> {
-        let file = File::open(self, name).ok()?;
-        Some(Buffered::new(Watched::new(file)))
+    fn open(
+        &self,
+        alloc: Global,
+        name: &str,
+    ) -> Result<Option<Watched<BufReader<File>>>, AllocError> {
+        let Ok(file) = File::open(self, name) else {
+            return Ok(None);
+        };
+        let Ok(reader) = BufReader::new(alloc, file) else {
+            return Err(AllocError);
+        };
+        Ok(Some(Watched::new(reader)))
     }
 }
 
-fn open<'a, O: Opener>(
+fn open_source<'a, O: Opener>(
+    alloc: Global,
     opener: &O,
     name: Option<&'a str>,
 ) -> Result<Option<Source<'a, O::Reader>>, RunFault<'a>>
@@ -46,9 +59,10 @@ fn open<'a, O: Opener>(
     let Some(name) = name else {
         return Ok(None);
     };
-    match opener.open(name) {
-        Some(reader) => Ok(Some(Source { name, reader })),
-        None => Err(RunFault::CannotOpen(name)),
+    match opener.open(alloc, name) {
+        Ok(Some(reader)) => Ok(Some(Source { name, reader })),
+        Ok(None) => Err(RunFault::CannotOpen(name)),
+        Err(_) => Err(RunFault::Usage(UsageFault::NoMemory)),
     }
 }
 
@@ -56,8 +70,9 @@ fn open<'a, O: Opener>(
 ///
 /// # Errors
 ///
-/// `CannotOpen` with the name of the first file that can't be opened.
+/// `CannotOpen` with the name of the first file that can't be opened, or `NoMemory` if an allocation fails.
 pub fn open_all<'a, O: Opener>(
+    alloc: Global,
     opener: &O,
     names: ByFile<Option<&'a str>>,
 ) -> Result<ByFile<Option<Source<'a, O::Reader>>>, RunFault<'a>>
@@ -66,9 +81,9 @@ pub fn open_all<'a, O: Opener>(
     ensures err { IfErr result (CannotOpenFirst (O.answers opener.now) (names_of names.entry)) }
 {
     Ok(ByFile {
-        map: open(opener, names.map)?,
-        list: open(opener, names.list)?,
-        certificate: open(opener, names.certificate)?,
-        flows: open(opener, names.flows)?,
+        map: open_source(alloc, opener, names.map)?,
+        list: open_source(alloc, opener, names.list)?,
+        certificate: open_source(alloc, opener, names.certificate)?,
+        flows: open_source(alloc, opener, names.flows)?,
     })
 }

@@ -7,25 +7,25 @@ use Rattle.flowlabel.proofs.EndLemmas.{before_certificate, before_flows, opens}
 use Rattle.flowlabel.proofs.MadeLemmas.{handed_on}
 use Rattle.flowlabel.proofs.opening.open_all.Goals as goal
 
-pub returns-in_err-open-3-clause-err : goal.returns-in_err-open-3-clause-err
-returns-in_err-open-3-clause-err g c =
+pub returns-in_err-open_source-3-clause-err : goal.returns-in_err-open_source-3-clause-err
+returns-in_err-open_source-3-clause-err g c =
     let answers = g.O.Opener.answers c.args.opener.now in
     let names = names_of c.args.names in
-    handed_on (λ r. IfErr r (CannotOpenFirst answers names)) c.from_residual-in_err-open-3.result c.in_err-open-3.field-0.0 c.from_residual-in_err-open-3.ensures.1 (
+    handed_on (λ r. IfErr r (CannotOpenFirst answers names)) c.from_residual-in_err-open_source-3.result c.in_err-open_source-3.field-0.0 c.from_residual-in_err-open_source-3.ensures.1 (
       role.Certificate,
-      c.in_err-open-3.ensures.err,
+      c.in_err-open_source-3.ensures.err,
       before_certificate (λ r. CanOpen answers (at r names))
-          (opens answers names.map _ c.in_ok-open.ensures.opened) (opens answers names.list _ c.in_ok-open-2.ensures.opened),
+          (opens answers names.map _ c.in_ok-open_source.ensures.opened) (opens answers names.list _ c.in_ok-open_source-2.ensures.opened),
     )
 
-pub returns-in_err-open-4-clause-err : goal.returns-in_err-open-4-clause-err
-returns-in_err-open-4-clause-err g c =
+pub returns-in_err-open_source-4-clause-err : goal.returns-in_err-open_source-4-clause-err
+returns-in_err-open_source-4-clause-err g c =
     let answers = g.O.Opener.answers c.args.opener.now in
     let names = names_of c.args.names in
-    handed_on (λ r. IfErr r (CannotOpenFirst answers names)) c.from_residual-in_err-open-4.result c.in_err-open-4.field-0.0 c.from_residual-in_err-open-4.ensures.1 (
+    handed_on (λ r. IfErr r (CannotOpenFirst answers names)) c.from_residual-in_err-open_source-4.result c.in_err-open_source-4.field-0.0 c.from_residual-in_err-open_source-4.ensures.1 (
       role.Flows,
-      c.in_err-open-4.ensures.err,
+      c.in_err-open_source-4.ensures.err,
       before_flows (λ r. CanOpen answers (at r names))
-          (opens answers names.map _ c.in_ok-open.ensures.opened) (opens answers names.list _ c.in_ok-open-2.ensures.opened)
-          (opens answers names.certificate _ c.in_ok-open-3.ensures.opened),
+          (opens answers names.map _ c.in_ok-open_source.ensures.opened) (opens answers names.list _ c.in_ok-open_source-2.ensures.opened)
+          (opens answers names.certificate _ c.in_ok-open_source-3.ensures.opened),
     )
