@@ -1,7 +1,7 @@
 -- The values at the start of bytes, and the bytes that they take.
 use Rattle.std.proofs.Common.{◌≡◌, ℕ, ◌+◌, ◌-◌, ◌<◌, ◌≤◌, Bool, true, false, cond, ltb, eqb, List, [], ◌∷◌, ◌++◌, length, take, drop, Option, Some, None, Result, Ok, Err, inl, inr, refl, sym, ap, subst, ◌∙◌, append_assoc, length-append, length-drop, drop-drop, arith, zero, suc, ◌*◌, ◌/◌, All, map}
 use Rattle.std.specs.Prelude.{ok_or, option_and_then, option_map, ◌||◌}
-use Rattle.std.proofs.lemmas.Bool.{cases_lt, ltb-true, ltb-false, lt-ltb, le-ltb}
+use Rattle.std.proofs.lemmas.Bool.{cases_lt, le-ltb}
 use Rattle.std.proofs.lemmas.Bool.Decides.{nat_tests}
 use Rattle.std.proofs.lemmas.Grind.{common_steps}
 use Rattle.byteorder.specs.Endian.{big_number}
@@ -65,10 +65,7 @@ then_left (Some x) = refl
 -- the bytes after the value of a field, and those after the fields that follow it
 left_cons : (field : Field) (fields : List Field) (bytes : List ℕ) → left (values_at (field ∷ fields) bytes) ≡ option_and_then (λ v. left (values_at fields v.1)) (value_at field bytes)
 unfolding values_at
-left_cons field fields bytes = elim (value_at field bytes) as (λ o. left (option_and_then (λ v. option_and_then (λ vs. Some (record { field = field; value = v.0 } ∷ vs.0, vs.1)) (values_at fields v.1)) o) ≡ option_and_then (λ v. left (values_at fields v.1)) o) [
-  | None ↦ refl
-  | Some v ↦ elim (values_at fields v.1) as (λ o. left (option_and_then (λ vs. Some (record { field = field; value = v.0 } ∷ vs.0, vs.1)) o) ≡ left o) [ None ↦ refl | Some x ↦ refl ]
-]
+left_cons field fields bytes = grind (arith, common_steps)
 
 variable_is : (field : Field) (bytes : List ℕ) → is_variable field ≡ true → value_at field bytes ≡ variable_at bytes
 unfolding value_at
@@ -82,32 +79,14 @@ fixed_is field bytes is = rw is refl
 no_bytes_first : (next : List ℕ → Option (List ℕ)) (bytes : List ℕ) → option_and_then (λ f. next f.1) (bytes_at 0 bytes) ≡ next bytes
 no_bytes_first next bytes = rw (le-ltb (length bytes) 0 (omega arith)) refl
 
-below_alike : (n a b : ℕ) → a ≤ n → ltb (n - a) b ≡ ltb n (a + b)
-below_alike n a b le = grind (arith, nat_tests, common_steps)
-
 -- the step after the given number of bytes
 abbrev then_next : (List ℕ → Option (List ℕ)) → Option (List ℕ × List ℕ) → Option (List ℕ)
 then_next next read = option_and_then (λ f. next f.1) read
 
-cut_alike : (next : List ℕ → Option (List ℕ)) (short : Bool) (front other after : List ℕ)
-    → then_next next (cond short None (Some (front, after))) ≡ then_next next (cond short None (Some (other, after)))
-cut_alike next true front other after = refl
-cut_alike next false front other after = refl
-
 -- two runs of bytes, followed by the next step
 both_first : (next : List ℕ → Option (List ℕ)) (a b : ℕ) (bytes : List ℕ)
     → option_and_then (λ f. then_next next (bytes_at b f.1)) (bytes_at a bytes) ≡ then_next next (bytes_at (a + b) bytes)
-both_first next a b bytes =
-    elim (ltb (length bytes) a) as (λ c. ltb (length bytes) a ≡ c
-    → option_and_then (λ (f : List ℕ × List ℕ). then_next next (bytes_at b f.1)) (cond {A = Option (List ℕ × List ℕ)} c None (Some (take a bytes, drop a bytes))) ≡ then_next next (bytes_at (a + b) bytes)) [
-      | true ↦ λ h.
-          let short : length bytes < a = ltb-true (length bytes) a h in
-          rw (lt-ltb (length bytes) (a + b) (omega arith)) refl
-      | false ↦ λ h.
-          let long : a ≤ length bytes = ltb-false (length bytes) a h in
-          rw (length-drop a bytes, below_alike (length bytes) a b long, drop-drop b a bytes)
-          (cut_alike next (ltb (length bytes) (a + b)) (take b (drop a bytes)) (take (a + b) bytes) (drop (a + b) bytes))
-    ] refl
+both_first next a b bytes = let shorter = length-drop a bytes in let later = drop-drop b a bytes in grind (arith, nat_tests, common_steps)
 
 -- the runs of fields lead to the bytes after the fields' values
 runs_behind_lem : (sum : ℕ) (fields : List Field) (bytes : List ℕ)
@@ -161,11 +140,6 @@ values_shorter (field ∷ fields) bytes x e =
     let b = gave (values_at fields a.0.1) (λ vs. Some (record { field = field; value = a.0.0 } ∷ vs.0, vs.1)) x a.2 in
     omega (arith, sum_by-cons least_field_length field fields, value_shorter field bytes a.0 a.1, values_shorter fields a.0.1 b.0 b.1, ap (λ (y : List FieldValueView × List ℕ). length y.1) (some_is _ _ b.2))
 
-pub record_shorter : (t : Template) (bytes : List ℕ) (x : Record × List ℕ) → record_at t bytes ≡ Some x → length x.1 + least_length t.fields ≤ length bytes
-record_shorter t bytes x e =
-    let a = mapped (values_at t.fields bytes) (λ v. (record { kind = t.kind; fields = v.0 }, v.1)) x e in
-    omega (arith, values_shorter t.fields bytes a.0 a.1, ap (λ (y : Record × List ℕ). length y.1) a.2)
-
 -- ---- consecutive records
 
 -- there are as many bytes as the shortest record has, and a record isn't empty
@@ -187,14 +161,16 @@ nothing_ends least = grind (arith, nat_tests, common_steps)
 some_bytes : (least many : ℕ) → (eqb least 0 || ltb many least) ≡ false → 0 < least
 some_bytes least many e = grind (arith, nat_tests, common_steps)
 
-record_here : (o : Option (Record × List ℕ)) (fault : ReadFault) (x : Record × List ℕ) → ok_or o fault ≡ Ok x → o ≡ Some x
-record_here None fault x e = absurd (cc)
-record_here (Some y) fault x e = cc
-
 record_smaller : (t : Template) (records : List Record) (offset : ℕ) (bytes : List ℕ) (r : Record) (after : List ℕ) → is_padding t bytes ≡ false → record_next t offset bytes ≡ Ok (r, after)
     → length after < length bytes
 record_smaller t records offset bytes r after more e =
-    omega (arith, some_bytes (least_length t.fields) (length bytes) more, record_shorter t bytes (r, after) (record_here (record_at t bytes) _ (r, after) e))
+    let some = some_bytes (least_length t.fields) (length bytes) more in
+    elim (values_at t.fields bytes) as (λ o. values_at t.fields bytes ≡ o
+    → ok_or {T = Record × List ℕ} {E = ReadFault} (option_map (λ v. (record { kind = t.kind; fields = v.0 }, v.1)) o) (record { kind = BadRecord; offset = offset }) ≡ Ok (r, after)
+    → length after < length bytes) [
+      | None ↦ λ is wrong. absurd (cc)
+      | Some x ↦ λ is read. let shorter = values_shorter t.fields bytes x is in grind arith
+    ] refl e
 
 abbrev pub records_from : Template → List Record → ℕ → List ℕ → Result (List Record) ReadFault
 records_from t = items_from (is_padding t) (λ records. record_next t)
@@ -211,11 +187,6 @@ fields_are (field ∷ fields) bytes x e =
     sym (ap (λ (y : List FieldValueView × List ℕ). map (λ v. v.field) y.0) (some_is _ _ b.2))
     ∙ ap (λ (fs : List Field). field ∷ fs) (fields_are fields a.0.1 b.0 b.1)
 
-none_first : (kind : Kind) (fields : List Field) (count : ℕ) (bytes : List ℕ) → values_at fields bytes ≡ None → whole_records kind fields count bytes ≡ []
-unfolding whole_records
-none_first kind fields zero bytes e = refl
-none_first kind fields (suc count) bytes e = rw e refl
-
 some_first : (kind : Kind) (fields : List Field) (count : ℕ) (bytes : List ℕ) (x : List FieldValueView × List ℕ) → values_at fields bytes ≡ Some x
     → whole_records kind fields (suc count) bytes ≡ record { kind = kind; fields = x.0 } ∷ whole_records kind fields count x.1
 unfolding whole_records
@@ -228,12 +199,12 @@ no_count kind fields bytes = refl
 -- what is true of each complete record is true of all
 all_of : (P : Record → Type 0) (kind : Kind) (fields : List Field) → ((bytes : List ℕ) (x : List FieldValueView × List ℕ) → values_at fields bytes ≡ Some x → P (record { kind = kind; fields = x.0 }))
     → (count : ℕ) (bytes : List ℕ) → All P (whole_records kind fields count bytes)
-all_of P kind fields each zero bytes = rw (no_count kind fields bytes) (All-nil P)
+unfolding whole_records
+all_of P kind fields each zero bytes = All-nil P
 all_of P kind fields each (suc count) bytes =
     elim (values_at fields bytes) as (λ o. values_at fields bytes ≡ o → All P (whole_records kind fields (suc count) bytes)) [
-      | None ↦ λ e. rw (none_first kind fields (suc count) bytes e) (All-nil P)
-      | Some x ↦ λ e. rw (some_first kind fields count bytes x e)
-          (All-cons P (record { kind = kind; fields = x.0 }) (whole_records kind fields count x.1) (each bytes x e) (all_of P kind fields each count x.1))
+      | None ↦ λ e. rw e (All-nil P)
+      | Some x ↦ λ e. rw e (All-cons P (record { kind = kind; fields = x.0 }) (whole_records kind fields count x.1) (each bytes x e) (all_of P kind fields each count x.1))
     ] refl
 
 pub all_of_fields : (kind : Kind) (fields : List Field) (count : ℕ) (bytes : List ℕ) → All (λ r. map (λ v. v.field) r.fields ≡ fields) (whole_records kind fields count bytes)
@@ -312,13 +283,7 @@ module _ (t : Template) (offset : ℕ) (bytes : List ℕ) where
 no_runs_last : (sum : ℕ) (fields : List Field) → runs_behind sum fields ≡ [] → last_run_behind sum fields ≡ sum + least_length fields
 no_runs_last sum [] e = omega arith
 no_runs_last sum (f ∷ fs) e =
-    elim (is_variable f) as (λ c. is_variable f ≡ c → cond c (sum ∷ runs_behind 0 fs) (runs_behind (sum + f.length) fs) ≡ []
-    → cond c (last_run_behind 0 fs) (last_run_behind (sum + f.length) fs) ≡ sum + least_length (f ∷ fs)) [
-      | true ↦ λ is h. absurd (cc)
-      | false ↦ λ is h.
-          let fixed : least_field_length f ≡ f.length = ap (λ (c : Bool). cond c 1 f.length) is in
-          omega (arith, no_runs_last (sum + f.length) fs h, sum_by-cons least_field_length f fs, fixed)
-    ] refl e
+    let rest = no_runs_last (sum + f.length) fs in let all = sum_by-cons least_field_length f fs in grind (arith, common_steps)
 
 -- the length of values of fixed lengths is the sum of these
 fixed_values : (fields : List Field) (bytes : List ℕ) → runs_behind 0 fields ≡ [] → least_length fields ≤ length bytes

@@ -1,6 +1,6 @@
 -- The content of a set, and consecutive sets.
-use Rattle.std.proofs.Common.{◌≡◌, ℕ, ◌+◌, ◌<◌, List, [], ◌∷◌, ◌++◌, length, get_or, take, sym, ap, ◌∙◌, ◌-◌, ◌≤◌, true, false, eqb, ltb, drop, refl, subst, inl, inr, arith, length-drop, Result, Ok, Err}
-use Rattle.std.specs.Prelude.{◌==◌, ◌||◌, flat_map}
+use Rattle.std.proofs.Common.{◌≡◌, ℕ, ◌+◌, ◌<◌, List, [], ◌∷◌, ◌++◌, length, get_or, take, sym, ap, ◌∙◌, ◌-◌, ◌≤◌, true, false, eqb, drop, refl, subst, inl, inr, arith, length-drop, Result, Ok, Err}
+use Rattle.std.specs.Prelude.{◌==◌, flat_map}
 use Rattle.std.specs.Result.{result_map_both}
 use Rattle.std.proofs.lemmas.Bool.{le-ltb}
 use Rattle.std.proofs.lemmas.Bool.Decides.{nat_tests}
@@ -11,9 +11,8 @@ use Rattle.byteorder.specs.Endian.{big_number}
 use Rattle.ipfix_templates.specs.Reading.{IsFault, items_from}
 use Rattle.ipfix_templates.specs.declared.event.TemplateEvent.{TemplateEvent}
 use Rattle.ipfix_templates.specs.InForce.{InForce, after_event, in_force}
-use Rattle.ipfix_templates.proofs.Choice.{chosen}
 use Rattle.ipfix_templates.proofs.Reading.{at_end, at_fault, at_item}
-use Rattle.ipfix_read.specs.Fault.{BadSetLength, is_of_calls, out_of_memory}
+use Rattle.ipfix_read.specs.Fault.{is_of_calls, out_of_memory}
 use Rattle.ipfix_read.specs.Set.{Set, in_domain, events_of_sets, content_reading, written_length, set_next}
 use Rattle.ipfix_read.specs.Message.{ReadFault, set_size, message_size}
 
@@ -68,9 +67,6 @@ result_mapped (Err fault) f y e = absurd (cc)
 
 -- ---- a set
 
-fits : (many size : ℕ) → (ltb many 4 || (ltb size 4 || ltb many size)) ≡ false → (4 ≤ size) × (size ≤ many)
-fits many size e = (grind (arith, nat_tests, common_steps), grind (arith, nat_tests, common_steps))
-
 module _ (templates : InForce) (domain offset : ℕ) (bytes : List ℕ) where
   -- the length in the header cuts off a set
   pub set_read : (size id : ℕ) (front after : List ℕ) (read : Result Set ReadFault) → size ≡ written_length bytes → 4 ≤ length bytes → 4 ≤ size → size ≤ length bytes
@@ -87,14 +83,7 @@ module _ (templates : InForce) (domain offset : ℕ) (bytes : List ℕ) where
       rw (le-ltb (length bytes) 4 long, le-ltb (written_length bytes) 4 (omega (arith, is, least)), le-ltb (length bytes) (written_length bytes) (omega (arith, is, within)), there, behind) refl
 
 set_smaller : (templates : InForce) (domain offset : ℕ) (bytes : List ℕ) (set : Set) (after : List ℕ) → set_next templates domain offset bytes ≡ Ok (set, after) → length after < length bytes
-set_smaller templates domain offset bytes set after e =
-    let size = written_length bytes in
-    elim (chosen (ltb (length bytes) 4 || (ltb size 4 || ltb (length bytes) size)) (Err (record { kind = BadSetLength; offset = offset })) _ (Ok (set, after)) e) [
-      | inl p ↦ absurd (cc)
-      | inr p ↦
-          let read = result_mapped (content_reading templates domain (big_number 2 bytes) (offset + 4) (drop 4 (take size bytes))) (λ (s : Set). (s, drop size bytes)) (set, after) p.1 in
-          omega (arith, fits (length bytes) size p.0, ap (λ (x : Set × List ℕ). length x.1) read.2, length-drop size bytes)
-    ]
+set_smaller templates domain offset bytes set after e = let rest = length-drop (written_length bytes) bytes in grind (arith, nat_tests, common_steps)
 
 -- ---- several sets
 
