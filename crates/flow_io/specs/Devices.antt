@@ -2,8 +2,8 @@ use Rattle.std.specs.Prelude.{◌≡◌, ◌==◌, ◌&&◌, ◌||◌, ℕ, Bool
 use Rattle.std.specs.Io.KnownBytes.{Appends}
 pub use Rattle.flow_io.specs.declared.devices.LastCall.{LastCall}
 pub use Rattle.flow_io.specs.declared.devices.LastCall.TheVariants.{FailedFlush, Flush, Nothing, Write}
-use Rattle.flow_io.specs.declared.whole_input.ReadStop.{ReadStop}
-use Rattle.flow_io.specs.declared.whole_input.ReadStop.TheVariants.{ReadFault, NoMemory}
+use Rattle.flow_io.specs.declared.whole.ReadStop.{ReadStop}
+use Rattle.flow_io.specs.declared.whole.ReadStop.TheVariants.{ReadFault, NoMemory}
 
 -- When a call makes a reader or a writer failed: from `old` to `new`, where `true` means failed.
 

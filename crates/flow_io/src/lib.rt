@@ -24,11 +24,9 @@
 mod devices;
 mod memory;
 mod watch;
-mod whole_input;
-mod whole_output;
+mod whole;
 
 pub use devices::{DeviceFault, Input, LastCall, Output};
 pub use memory::{MemoryInput, MemoryOutput};
 pub use watch::Watched;
-pub use whole_input::{ReadStop, read_whole};
-pub use whole_output::write_whole;
+pub use whole::{ReadStop, read_whole, write_whole};

@@ -52,16 +52,14 @@ fn apply_events(
     Ok(())
 }
 
-// Returns the kind of the templates that a set with this ID holds, if it holds templates.
+// Returns the kind of the templates that a set with this ID holds, if it holds templates (RFC 7011 section 3.3.2).
 fn template_kind(id: u16) -> Option<Kind>
     ensures { result ≡ template_kind id }
 {
-    if id == Kind::Flow.set_id() {
-        Some(Kind::Flow)
-    } else if id == Kind::Options.set_id() {
-        Some(Kind::Options)
-    } else {
-        None
+    match id {
+        2 => Some(Kind::Flow),
+        3 => Some(Kind::Options),
+        _ => None,
     }
 }
 

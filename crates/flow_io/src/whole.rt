@@ -1,8 +1,9 @@
-ghost use Rattle.std.specs.Prelude.{◌≡◌, false, IfOk, IfSome, OnOk};
-ghost use Rattle.std.specs.Io.KnownBytes.{IsAtEnd};
-ghost use Rattle.flow_io.specs.Devices.{is_read_fault};
+//! Reading and writing all bytes.
+ghost use Rattle.std.specs.Prelude.{◌≡◌, false, IfOk, IfSome, OnErr, OnOk, is_err};
+ghost use Rattle.std.specs.Io.KnownBytes.{Appends, IsAtEnd};
+ghost use Rattle.flow_io.specs.Devices.{Flush, StopsWriting, is_read_fault};
 
-use crate::devices::Input;
+use crate::devices::{DeviceFault, Input, Output};
 use std::alloc::Global;
 use thiserror::Error;
 
@@ -41,4 +42,23 @@ pub fn read_whole<R: Input>(alloc: Global, reader: &mut R) -> Result<Vec<u8>, Re
         text.extend_from_slice(&chunk[..count])
             .map_err(|_| ReadStop::NoMemory)?;
     }
+}
+
+/// Writes all the bytes, and flushes the writer last. If a write fails, the writer has taken a prefix of them. If the
+/// flush fails, the writer has taken all of them.
+pub fn write_whole<W: Output>(writer: &mut W, bytes: &[u8]) -> Result<(), DeviceFault>
+    requires { W.failed writer.old ≡ false }
+    ensures whole { OnOk result (Appends (W.bytes_taken writer.old) (W.bytes_taken writer.new) bytes.now) }
+    ensures flushed { OnOk result (W.last_call writer.new ≡ Flush) }
+    ensures stopped { OnErr result (StopsWriting W.bytes_taken W.last_call writer.old writer.new bytes.now) }
+    ensures fault { W.failed writer.new ≡ is_err result }
+{
+    let mut rest = bytes;
+    while !rest.is_empty() {
+        match writer.write(rest) {
+            Ok(0) | Err(_) => return Err(DeviceFault),
+            Ok(count) => rest = &rest[count..],
+        }
+    }
+    writer.flush()
 }
