@@ -5,9 +5,10 @@ use Rattle.std.specs.Result.{result_map_both}
 use Rattle.std.proofs.KnownBytes.{Consumes-nil, Consumes-trans}
 use Rattle.std.proofs.lemmas.List.{length_push}
 use Rattle.ipfix_read.specs.Message.{ReadFault, ReadFaultKind, MessageView, HasHeader, events_of_message, message_next, whole_reading}
-use Rattle.ipfix_read.specs.Messages.{Going, Ended, Failed, ProgressView, AnswersNext, Gathers, IsIncomplete, ReadsInput, file_reading}
+use Rattle.ipfix_read.specs.Messages.{Going, Ended, Failed, ProgressView, AnswersNext, Gathers, IsIncomplete, ReadsInput, file_reading, messages_from}
 use Rattle.ipfix_read.specs.Set.{ReadsUnder}
-use Rattle.ipfix_templates.specs.InForce.{Table, in_force, no_templates, template_at}
+use Rattle.ipfix_templates.specs.declared.table.TemplateTable.{TemplateTable}
+use Rattle.ipfix_templates.specs.InForce.{in_force, no_templates, template_at}
 use Rattle.ipfix_read.specs.Laws.{CallsJoinFile, CallsStart}
 use Rattle.ipfix_read.proofs.Sets.{in_force_more, none_in_force}
 use Rattle.ipfix_read.proofs.Readings.{front_read, message_cut, messages_end, messages_fault, messages_more, stops_after}
@@ -42,7 +43,7 @@ module _ {view old : ProgressView} (same : view ≡ old) (o n : Option (List ℕ
         ∙ front_read (template_at view.table) view.count view.offset front rest counted header
 
     -- a fault of the sets, or a failed allocation
-    pub answers_fault_of_sets : (fault : ReadFault) (table : Table) → ReadsUnder view.table table events_of_message (whole_reading (template_at view.table) view.offset front) (Err fault)
+    pub answers_fault_of_sets : (fault : ReadFault) (table : TemplateTable) → ReadsUnder view.table table events_of_message (whole_reading (template_at view.table) view.offset front) (Err fault)
         → ReadsInput o n (AnswersNext old (Err fault) (record view { state = Failed }))
     answers_fault_of_sets fault table refused =
         by_taken (Ok (Some front)) (Err fault) (record view { state = Failed }) is (λ taken left there. (
@@ -67,7 +68,14 @@ module _ {view old : ProgressView} (same : view ≡ old) (o n : Option (List ℕ
 -- ---- calls for messages join to the whole File
 
 pub calls_start : CallsStart
-calls_start given = record { taken = []; consumed = Consumes-nil given; read = λ rest. refl; table = sym (none_in_force no_templates); counted = refl; placed = refl }
+calls_start given p start = record {
+  taken = [];
+  consumed = Consumes-nil given;
+  read = λ rest. ap (λ n. messages_from [] n rest) (sym start.1);
+  table = start.0 ∙ sym (none_in_force no_templates);
+  counted = start.2;
+  placed = start.1;
+}
 
 -- all bytes that the reader gives, if it reports them
 all_bytes : (given now gives : Option (List ℕ)) (bytes taken : List ℕ) → Consumes given now bytes → Consumes now gives taken → IfSome given (λ all. bytes ++ (taken ++ unwrap_or gives []) ≡ all)

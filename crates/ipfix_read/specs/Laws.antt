@@ -2,7 +2,7 @@
 use Rattle.std.specs.Prelude.{◌≡◌, ℕ, ◌+◌, ◌-◌, List, [], ◌∷◌, ◌++◌, length, Option, Ok, Result}
 use Rattle.ipfix_templates.specs.InForce.{in_force, no_templates}
 use Rattle.ipfix_read.specs.Message.{ReadFault, MessageView, message_next}
-use Rattle.ipfix_read.specs.Messages.{ProgressView, at_start, events_of_messages, messages_from, AnswersNext, IsReadTo, JoinsFile, ReadsInput}
+use Rattle.ipfix_read.specs.Messages.{IsAtStart, ProgressView, events_of_messages, messages_from, AnswersNext, IsReadTo, JoinsFile, ReadsInput}
 
 -- the next message of a File is at the start of the remaining bytes, and the rest is read after it
 abbrev pub FirstMessageAndRest : Type 0
@@ -12,7 +12,7 @@ FirstMessageAndRest = (messages : List MessageView) (offset : ℕ) (bytes after 
 
 -- before any call nothing is read of the bytes
 abbrev pub CallsStart : Type 0
-CallsStart = (given : Option (List ℕ)) → IsReadTo given [] at_start given
+CallsStart = (given : Option (List ℕ)) (start : ProgressView) → IsAtStart start → IsReadTo given [] start given
 
 -- if some messages are read so far, the result of the next call joins them to the whole File
 abbrev pub CallsJoinFile : Type 0

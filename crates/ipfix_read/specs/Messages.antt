@@ -3,7 +3,8 @@ use Rattle.std.specs.List.{flat_map}
 use Rattle.std.specs.Io.KnownBytes.{Consumes}
 use Rattle.ipfix_templates.specs.declared.event.TemplateEvent.{TemplateEvent}
 use Rattle.ipfix_templates.specs.Reading.{items_from}
-use Rattle.ipfix_templates.specs.InForce.{Table, in_force, no_templates, template_at}
+use Rattle.ipfix_templates.specs.declared.table.TemplateTable.{TemplateTable}
+use Rattle.ipfix_templates.specs.InForce.{in_force, no_templates, template_at}
 use Rattle.ipfix_read.specs.Message.{ReadFault, MessageView, header_fault, message_next, events_of_message, ReadFaultKind}
 use Rattle.ipfix_read.specs.declared.fault.ReadFaultKind.TheVariants.{ReadFault as Unread}
 use Rattle.ipfix_read.specs.declared.progress.State.{State}
@@ -50,14 +51,14 @@ ReadsInput given gives P = (taken : List ℕ) × Consumes given gives taken × P
 -- the state between two calls: the table of templates, the offset and the number of messages from which a File is read
 -- on, and whether there may be more messages
 pub record ProgressView : Type 0 where
-  pub table : Table
+  pub table : TemplateTable
   pub offset : ℕ
   pub count : ℕ
   pub state : State
 
 -- at the beginning of a File
-abbrev pub at_start : ProgressView
-at_start = record { table = ([], []); offset = 0; count = 0; state = Going }
+abbrev pub IsAtStart : ProgressView → Type 0
+IsAtStart p = (template_at p.table ≡ no_templates) × (p.offset ≡ 0) × (p.count ≡ 0) × (p.state ≡ Going)
 
 -- The result of a call in the state Going, and the state after the call, by the bytes that the call took and the bytes
 -- left. A message consists of the taken bytes, whatever bytes follow them. If there are no bytes, there is no message. A

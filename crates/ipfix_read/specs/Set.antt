@@ -10,7 +10,8 @@ use Rattle.ipfix_templates.specs.declared.kind.Kind.{Kind}
 use Rattle.ipfix_templates.specs.declared.kind.Kind.TheVariants.{Flow, Options}
 use Rattle.ipfix_templates.specs.Template.{set_id}
 use Rattle.ipfix_templates.specs.Reading.{items_from, template_set_reading}
-use Rattle.ipfix_templates.specs.InForce.{InForce, Table, in_force, template_at}
+use Rattle.ipfix_templates.specs.declared.table.TemplateTable.{TemplateTable}
+use Rattle.ipfix_templates.specs.InForce.{InForce, in_force, template_at}
 pub use Rattle.ipfix_read.specs.declared.set.Set.{Set}
 pub use Rattle.ipfix_read.specs.declared.set.Set.TheVariants.{Skipped, Templates, Values}
 use Rattle.ipfix_read.specs.declared.fault.ReadFault.{ReadFault}
@@ -65,6 +66,6 @@ sets_reading templates domain offset bytes =
     items_from (λ rest. length rest == 0) (λ sets. set_next (in_force templates (events_of_sets domain sets)) domain) [] offset bytes
 
 -- the result of reading under a table, and the table after it, which the events of an item change
-abbrev pub ReadsUnder : {A : Type 0} → Table → Table → (A → List (ℕ × TemplateEvent)) → Result A ReadFault → Result A ReadFault → Type 0
+abbrev pub ReadsUnder : {A : Type 0} → TemplateTable → TemplateTable → (A → List (ℕ × TemplateEvent)) → Result A ReadFault → Result A ReadFault → Type 0
 ReadsUnder old new events reading (Ok item) = Reads reading (Ok item) × (template_at new ≡ in_force (template_at old) (events item))
 ReadsUnder old new events reading (Err fault) = Reads reading (Err fault)

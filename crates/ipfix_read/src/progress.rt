@@ -1,5 +1,5 @@
 ghost use Rattle.std.specs.Prelude.{◌≡◌, ◌≤◌, ◌+◌, ℕ, List, Option, false, IfOk, OnSome, Ok, Err, None};
-ghost use Rattle.ipfix_read.specs.Messages.{Going, Ended, Failed, AnswersNext, ProgressView, ReadsInput, at_start, is_read_fault};
+ghost use Rattle.ipfix_read.specs.Messages.{Going, Ended, Failed, AnswersNext, ProgressView, ReadsInput, IsAtStart, is_read_fault};
 ghost use Rattle.ipfix_read.specs.Fault.{failed_before};
 
 use crate::buffer::{Buffer, gather};
@@ -34,9 +34,13 @@ pub struct Progress {
 
 impl Model for Progress {
     ghost use Rattle.std.specs.Prelude.{◌*◌, ◌≤◌};
+    ghost use Rattle.std.specs.Coded.{codes};
+    ghost use Rattle.ipfix_templates.specs.contracts.table.TemplateTable as templates;
     ghost use Rattle.ipfix_read.specs.Messages.{ProgressView};
 
     ghost Value = { ProgressView };
+
+    ghost coded = { Prim.hlevel (codes, templates.the_row.coded) };
 
     ghost view = { λ p. record { table = p.table; offset = p.offset; count = p.count; state = p.state } };
 
@@ -46,7 +50,7 @@ impl Model for Progress {
 impl Progress {
     /// Returns the state at the beginning of a File.
     pub fn new(alloc: Global) -> Self
-        ensures { result ≡ at_start }
+        ensures { IsAtStart result }
     {
         Progress {
             alloc,
@@ -135,7 +139,7 @@ impl<'r, R: Input> Messages<'r, R, Progress, Buffer> {
     pub fn new(alloc: Global, reader: &'r mut R) -> Result<Self, AllocError>
         ensures same_reference { IfOk result (λ m. m.reader.ghost_name ≡ reader.entry.ghost_name) }
         ensures reader { IfOk result (λ m. m.reader.now ≡ reader.old) }
-        ensures begins { IfOk result (λ m. m.progress ≡ at_start) }
+        ensures begins { IfOk result (λ m. IsAtStart m.progress) }
     {
         Ok(Messages {
             reader,

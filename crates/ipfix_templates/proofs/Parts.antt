@@ -1,15 +1,15 @@
--- Maps of maps, and a table for each kind.
-use Rattle.std.proofs.Common.{◌≡◌, ◌==◌, ◌&&◌, ◌∙◌, ℕ, ◌<◌, Bool, true, false, cond, ltb, eqb, List, [], ◌∷◌, map, Option, Some, None, Result, Ok, Err, refl, sym, ap, arith}
-use Rattle.std.specs.Prelude.{OnErr, nat_eq, option_and_then, option_map}
+-- Maps of maps, and a map of maps for each kind.
+use Rattle.std.proofs.Common.{◌≡◌, ◌==◌, ◌&&◌, ◌∙◌, ℕ, ◌<◌, Bool, true, false, cond, ltb, eqb, [], Option, Some, None, Result, Ok, Err, refl, sym, ap, arith}
+use Rattle.std.specs.Prelude.{OnErr, option_and_then, unwrap_or}
 use Rattle.std.specs.declared.cmp.Ordering.TheVariants.{Less, Equal, Greater}
 use Rattle.std.specs.Ordering.{nat_cmp, is_eq}
 use Rattle.std.specs.BTreeMap.{BTreeMap, get, is_at}
-use Rattle.std.specs.Map.{lookup, set_value}
+use Rattle.std.specs.Map.{lookup}
 use Rattle.std.specs.Option.{option_or}
-use Rattle.std.proofs.lemmas.Map.Made.{lookup-map_values}
 use Rattle.std.proofs.lemmas.Bool.{ltb-true, ne_eqb, eqb-true}
 use Rattle.ipfix_templates.specs.Template.{Flow, Kind, Options, Template, same_kind}
-use Rattle.ipfix_templates.specs.InForce.{AreParted, ByDomain, InForce, IsInItsPart, WithdrawAll, after_event, changed_at, stored, template_at}
+use Rattle.ipfix_templates.specs.InForce.{InForce, WithdrawAll, after_event, changed_at}
+use Rattle.ipfix_templates.specs.Table.{is_parted}
 
 same_test : (x y : ℕ) → is_eq (nat_cmp x y) ≡ eqb x y
 same_test x y =
@@ -18,87 +18,79 @@ same_test x y =
       | false ↦ λ _. elim (eqb x y) as (λ b. is_eq (cond b Equal Greater) ≡ b) [ true ↦ refl | false ↦ refl ]
     ] refl
 
-abbrev Templates : Type 0
-Templates = BTreeMap ℕ Template
-
--- a map of maps as contracts see it
-abbrev pub plain_of : List (ℕ × Templates) → ByDomain
-plain_of domains = map (λ d. (d.0, d.1.entries)) domains
-
-abbrev plain : BTreeMap ℕ Templates → ByDomain
-plain domains = plain_of domains.entries
+alike : {before after : InForce} → ((d i : ℕ) → before d i ≡ after d i) → before ≡ after
+alike same = λ k d i. same d i k
 
 -- the template at an ID of a domain's map, if there is a map
-abbrev pub found : ℕ → Option Templates → Option Template
-found id o = option_and_then (λ m. get nat_cmp m id) o
-
-at_number : {X : Type 0} (k : ℕ) (es : List (ℕ × X)) → lookup (nat_eq k) es ≡ lookup (is_at (nat_cmp k)) es
-at_number k es = ap (λ (test : ℕ → Bool). lookup test es) (λ i q. sym (same_test k q) i)
-
-pub stored_at : (domains : BTreeMap ℕ Templates) (d i : ℕ) → stored (plain domains) d i ≡ found i (get nat_cmp domains d)
-stored_at domains d i =
-    rw (at_number d (plain domains), lookup-map_values (λ (m : Templates). m.entries) (is_at (nat_cmp d)) domains.entries) (inner (get nat_cmp domains d))
-  where
-    inner : (o : Option Templates) → option_and_then (lookup (nat_eq i)) (option_map (λ m. m.entries) o) ≡ found i o
-    inner None = refl
-    inner (Some m) = at_number i m.entries
+abbrev pub found : Option (BTreeMap ℕ Template) → ℕ → Option Template
+found o id = option_and_then (λ templates. get nat_cmp templates id) o
 
 -- these templates without those of a domain
 abbrev pub emptied : InForce → ℕ → InForce
-emptied before domain = λ d i. cond (domain == d) None (before d i)
+emptied before domain d i = cond (domain == d) None (before d i)
+
+abbrev all : (ℕ → Option (BTreeMap ℕ Template)) → InForce
+all domains d i = found (domains d) i
 
 -- a map for one domain, or none, in place of the old one
-module _ (old new : BTreeMap ℕ Templates) (domain : ℕ) (m : Option Templates)
-    (outer : (q : ℕ) → get nat_cmp new q ≡ cond (is_at (nat_cmp domain) q) m (get nat_cmp old q)) where
-  there : (d i : ℕ) → stored (plain new) d i ≡ cond (domain == d) (found i m) (stored (plain old) d i)
-  there d i =
-      stored_at new d i ∙ ap (found i) (outer d)
-      ∙ rw (same_test domain d, stored_at old d i) (elim (eqb domain d) as (λ b. found i (cond b m (get nat_cmp old d)) ≡ cond b (found i m) (found i (get nat_cmp old d))) [ true ↦ refl | false ↦ refl ])
-
-  at_domain : (d i : ℕ) → eqb domain d ≡ true → found i (get nat_cmp old domain) ≡ stored (plain old) d i
-  at_domain d i here = ap (λ (k : ℕ). found i (get nat_cmp old k)) (eqb-true domain d here) ∙ sym (stored_at old d i)
-
-  -- with one change
-  pub changed : (id : ℕ) (value : Option Template) → ((q : ℕ) → found q m ≡ cond (is_at (nat_cmp id) q) value (found q (get nat_cmp old domain)))
-      → stored (plain new) ≡ changed_at (stored (plain old)) domain id value
-  changed id value inner = λ k d i. (
-      there d i
-      ∙ elim (eqb domain d) as (λ b. eqb domain d ≡ b → cond b (found i m) (stored (plain old) d i) ≡ cond (b && id == i) value (stored (plain old) d i)) [
-        | true ↦ λ here. inner i ∙ rw (same_test id i) (ap (λ (o : Option Template). cond (id == i) value o) (at_domain d i here))
+module _ (old new : ℕ → Option (BTreeMap ℕ Template)) (domain : ℕ) (m : Option (BTreeMap ℕ Template))
+    (outer : (d : ℕ) → new d ≡ cond (is_at (nat_cmp domain) d) m (old d)) where
+  -- each template there is changed in the same way
+  pub replaced : (change : ℕ → Option Template → Option Template) → ((i : ℕ) → found m i ≡ change i (found (old domain) i))
+      → (d i : ℕ) → found (new d) i ≡ cond (eqb domain d) (change i (found (old d) i)) (found (old d) i)
+  replaced change is d i =
+      ap (λ o. found o i) (outer d)
+      ∙ rw (same_test domain d) (elim (eqb domain d) as (λ b. eqb domain d ≡ b → found (cond b m (old d)) i ≡ cond b (change i (found (old d) i)) (found (old d) i)) [
+        | true ↦ λ here. is i ∙ ap (λ q. change i (found (old q) i)) (eqb-true domain d here)
         | false ↦ λ _. refl
-      ] refl) k
+      ] refl)
 
-  pub dropped : m ≡ None → stored (plain new) ≡ emptied (stored (plain old)) domain
-  dropped none = λ k d i. (there d i ∙ ap (λ (o : Option Templates). cond (domain == d) (found i o) (stored (plain old) d i)) none) k
+  pub changed : (id : ℕ) (value : Option Template) → ((i : ℕ) → found m i ≡ cond (is_at (nat_cmp id) i) value (found (old domain) i))
+      → all new ≡ changed_at (all old) domain id value
+  changed id value is = alike (λ d i. rw (replaced (λ i. cond (is_at (nat_cmp id) i) value) is d i, same_test id i) (one (eqb domain d) (eqb id i) value (found (old d) i)))
+    where
+      one : (here there : Bool) (v o : Option Template) → cond here (cond there v o) o ≡ cond (here && there) v o
+      one true there v o = refl
+      one false there v o = refl
 
--- a map replaced by another with the same entries
-pub same_entries : (test : ℕ → Bool) (es : List (ℕ × Templates)) (m w : Templates) → Some m ≡ lookup test es → w.entries ≡ m.entries
-    → plain_of (set_value test es w) ≡ plain_of es
-same_entries test [] m w e same = absurd (cc)
-same_entries test (x ∷ xs) m w e same =
-    elim (test x.0) as (λ b. Some m ≡ cond b (Some x.1) (lookup test xs) → plain_of (cond b ((x.0, w) ∷ xs) (x ∷ set_value test xs w)) ≡ plain_of (x ∷ xs)) [
-      | true ↦ λ p. let is : m ≡ x.1 = cc in let there : w.entries ≡ x.1.entries = same ∙ ap (λ (n : Templates). n.entries) is in rw there refl
-      | false ↦ λ p. ap (λ (ys : ByDomain). (x.0, x.1.entries) ∷ ys) (same_entries test xs m w p same)
-    ] e
+  pub kept : ((i : ℕ) → found m i ≡ found (old domain) i) → all new ≡ all old
+  kept is = alike (λ d i. rw (replaced (λ i o. o) is d i) (elim (eqb domain d) as (λ b. cond b (found (old d) i) (found (old d) i) ≡ found (old d) i) [ true ↦ refl | false ↦ refl ]))
 
--- no map in the domain
-pub nothing_there : (old : BTreeMap ℕ Templates) (domain id : ℕ) → get nat_cmp old domain ≡ None → stored (plain old) ≡ changed_at (stored (plain old)) domain id None
-nothing_there old domain id none =
-    changed old old domain None (λ q. kept q (is_at (nat_cmp domain) q) refl) id None (λ q. elim (is_at (nat_cmp id) q) as (λ c. ◌≡◌ {A = Option Template} None (cond c None (found q (get nat_cmp old domain)))) [ true ↦ refl | false ↦ ap (found q) (sym none) ])
+  pub dropped : m ≡ None → all new ≡ emptied (all old) domain
+  dropped none = alike (λ d i. replaced (λ i o. None) (λ i. ap (λ o. found o i) none) d i)
+
+-- a domain's map, or an empty one
+pub or_empty : (m empty : BTreeMap ℕ Template) (e o : Option (BTreeMap ℕ Template)) → m ≡ unwrap_or e empty → e ≡ o → empty.entries ≡ []
+    → (i : ℕ) → get nat_cmp m i ≡ found o i
+or_empty m empty e o is there none i = rw (is, there) (by o)
   where
-    kept : (q : ℕ) (b : Bool) → is_at (nat_cmp domain) q ≡ b → get nat_cmp old q ≡ cond b None (get nat_cmp old q)
-    kept q true here = ap (get nat_cmp old) (sym (eqb-true domain q (sym (same_test domain q) ∙ here))) ∙ none
-    kept q false _ = refl
+    by : (o : Option (BTreeMap ℕ Template)) → get nat_cmp (unwrap_or o empty) i ≡ found o i
+    by None = ap (lookup (is_at (nat_cmp i))) none
+    by (Some m) = refl
 
 -- ---- the parts of the two kinds
 
-put_both : (s : Bool) (v w f o : Option Template) → option_or (cond s v f) (cond s w o) ≡ cond s (option_or v w) (option_or f o)
-put_both true v w f o = refl
-put_both false v w f o = refl
+abbrev pub both : InForce → InForce → InForce
+both f o d i = option_or (f d i) (o d i)
 
-part_both : (s : Bool) (v w f o : Option Template) → IsInItsPart v w → IsInItsPart f o → IsInItsPart (cond s v f) (cond s w o)
-part_both true v w f o new old = new
-part_both false v w f o new old = old
+abbrev pub Parted : InForce → InForce → Type 0
+Parted f o = (d i : ℕ) → is_parted (f d i) (o d i) ≡ true
+
+put_one : (s : Bool) (v w f o : Option Template) → is_parted v w ≡ true → is_parted f o ≡ true
+    → (option_or (cond s v f) (cond s w o) ≡ cond s (option_or v w) (option_or f o)) × (is_parted (cond s v f) (cond s w o) ≡ true)
+put_one true v w f o new old = (refl, new)
+put_one false v w f o new old = (refl, old)
+
+here : {before after : InForce} → before ≡ after → (d i : ℕ) → before d i ≡ after d i
+here same d i = ap (λ (table : InForce). table d i) same
+
+-- one template is put into the part of its kind, or none
+pub put : (f f' o o' : InForce) (domain id : ℕ) (v w : Option Template) → f' ≡ changed_at f domain id v → o' ≡ changed_at o domain id w
+    → (is_parted v w ≡ true) → Parted f o → (both f' o' ≡ changed_at (both f o) domain id (option_or v w)) × Parted f' o'
+put f f' o o' domain id v w first second new old = (alike (λ d i. (one d i).0), λ d i. (one d i).1)
+  where
+    one : (d i : ℕ) → (both f' o' d i ≡ changed_at (both f o) domain id (option_or v w) d i) × (is_parted (f' d i) (o' d i) ≡ true)
+    one d i = rw (here first d i, here second d i) (put_one (domain == d && id == i) v w (f d i) (o d i) new (old d i))
 
 abbrev without : Kind → Bool → Option Template → Option Template
 without kind here there = option_and_then (λ t. cond (here && same_kind kind t.kind) None (Some t)) there
@@ -107,40 +99,29 @@ all_left : (there : Option Template) → there ≡ option_and_then (λ t. Some t
 all_left None = refl
 all_left (Some t) = refl
 
--- a part that is emptied: what is left of both, and that they are parted still
-drops_first : (b : Bool) (f o : Option Template) → IsInItsPart f o → (option_or (cond b None f) o ≡ without Flow b (option_or f o)) × IsInItsPart (cond b None f) o
-drops_first false f o p = (all_left (option_or f o), p)
-drops_first true None None p = (refl, p)
-drops_first true None (Some u) p = (rw p refl, p)
-drops_first true (Some t) None p = (rw p refl, tt)
-drops_first true (Some t) (Some u) p = absurd p
+flow_is : (kind : Kind) → same_kind kind Flow ≡ true → kind ≡ Flow
+flow_is Flow p = refl
+flow_is Options p = absurd (cc)
 
-drops_second : (b : Bool) (f o : Option Template) → IsInItsPart f o → (option_or f (cond b None o) ≡ without Options b (option_or f o)) × IsInItsPart f (cond b None o)
-drops_second false f o p = (all_left (option_or f o), p)
-drops_second true None None p = (refl, p)
-drops_second true None (Some u) p = (rw p refl, tt)
-drops_second true (Some t) None p = (rw p refl, p)
-drops_second true (Some t) (Some u) p = absurd p
+options_is : (kind : Kind) → same_kind kind Options ≡ true → kind ≡ Options
+options_is Flow p = absurd (cc)
+options_is Options p = refl
 
-alike : {before after : InForce} → ((d i : ℕ) → before d i ≡ after d i) → before ≡ after
-alike same = λ k d i. same d i k
+-- either part is emptied
+drops : (b : Bool) (f o : Option Template) → is_parted f o ≡ true
+    → (option_or (cond b None f) o ≡ without Flow b (option_or f o)) × (option_or f (cond b None o) ≡ without Options b (option_or f o))
+drops false f o p = (all_left (option_or f o), all_left (option_or f o))
+drops true None None p = (refl, refl)
+drops true None (Some u) p = rw (options_is u.kind p) (refl, refl)
+drops true (Some t) None p = rw (flow_is t.kind p) (refl, refl)
+drops true (Some t) (Some u) p = absurd (cc)
 
-here : {before after : InForce} → before ≡ after → (d i : ℕ) → before d i ≡ after d i
-here same d i = ap (λ (table : InForce). table d i) same
+module _ (f o new : InForce) (domain : ℕ) (p : Parted f o) where
+  pub flow_dropped : new ≡ emptied f domain → both new o ≡ after_event (both f o) (domain, WithdrawAll Flow)
+  flow_dropped first = alike (λ d i. rw (here first d i) (drops (domain == d) (f d i) (o d i) (p d i)).0)
 
-module _ (f f' o o' : ByDomain) (domain id : ℕ) (v w : Option Template) (first : stored f' ≡ changed_at (stored f) domain id v) (second : stored o' ≡ changed_at (stored o) domain id w) where
-  pub put : template_at (f', o') ≡ changed_at (template_at (f, o)) domain id (option_or v w)
-  put = alike (λ d i. rw (here first d i, here second d i) (put_both (domain == d && id == i) v w (stored f d i) (stored o d i)))
-
-  pub parted : IsInItsPart v w → AreParted f o → AreParted f' o'
-  parted new p d i = rw (here first d i, here second d i) (part_both (domain == d && id == i) v w (stored f d i) (stored o d i) new (p d i))
-
-module _ (f o : ByDomain) (domain : ℕ) (p : AreParted f o) where
-  pub flow_dropped : (f' : ByDomain) → stored f' ≡ emptied (stored f) domain → (template_at (f', o) ≡ after_event (template_at (f, o)) (domain, WithdrawAll Flow)) × AreParted f' o
-  flow_dropped f' first = (alike (λ d i. rw (here first d i) (drops_first (domain == d) (stored f d i) (stored o d i) (p d i)).0), λ d i. rw (here first d i) (drops_first (domain == d) (stored f d i) (stored o d i) (p d i)).1)
-
-  pub options_dropped : (o' : ByDomain) → stored o' ≡ emptied (stored o) domain → (template_at (f, o') ≡ after_event (template_at (f, o)) (domain, WithdrawAll Options)) × AreParted f o'
-  options_dropped o' second = (alike (λ d i. rw (here second d i) (drops_second (domain == d) (stored f d i) (stored o d i) (p d i)).0), λ d i. rw (here second d i) (drops_second (domain == d) (stored f d i) (stored o d i) (p d i)).1)
+  pub options_dropped : new ≡ emptied o domain → both f new ≡ after_event (both f o) (domain, WithdrawAll Options)
+  options_dropped second = alike (λ d i. rw (here second d i) (drops (domain == d) (f d i) (o d i) (p d i)).1)
 
 pub on_err : {A E : Type 0} (P : Type 0) (r : Result A E) → P → OnErr r P
 on_err P (Ok x) p = tt

@@ -1,7 +1,8 @@
-use Rattle.std.specs.Prelude.{ℕ, List, Option, Some, None, fold, option_and_then, ◌==◌, ◌&&◌, if◌then◌else◌, ◌≡◌, nat_eq, ⊤}
+use Rattle.std.specs.Prelude.{ℕ, List, Option, Some, None, fold, option_and_then, ◌==◌, ◌&&◌, if◌then◌else◌}
 use Rattle.std.specs.Option.{option_or}
-use Rattle.std.specs.Map.{lookup}
-use Rattle.ipfix_templates.specs.Template.{same_kind, Template, Flow, Options}
+use Rattle.ipfix_templates.specs.Template.{same_kind, Template}
+use Rattle.ipfix_templates.specs.Table.{stored}
+pub use Rattle.ipfix_templates.specs.declared.table.TemplateTable.{TemplateTable}
 pub use Rattle.ipfix_templates.specs.declared.event.TemplateEvent.{TemplateEvent}
 pub use Rattle.ipfix_templates.specs.declared.event.TemplateEvent.TheVariants.{Define, Withdraw, WithdrawAll}
 
@@ -28,26 +29,6 @@ after_event before (at, WithdrawAll kind) = λ domain id.
 unfoldable pub in_force : InForce → List (ℕ × TemplateEvent) → InForce
 in_force before events = fold after_event before events
 
--- A table of templates as contracts see it: for each kind the domains, each with its templates by their IDs.
-abbrev pub ByDomain : Type 0
-ByDomain = List (ℕ × List (ℕ × Template))
-
-abbrev pub Table : Type 0
-Table = ByDomain × ByDomain
-
-abbrev pub stored : ByDomain → InForce
-stored domains domain id = option_and_then (lookup (nat_eq id)) (lookup (nat_eq domain) domains)
-
 -- the template that the table has at a domain and an ID
-abbrev pub template_at : Table → InForce
-template_at table domain id = option_or (stored table.0 domain id) (stored table.1 domain id)
-
--- a template is in the part of its kind, and never in both parts; callers need not read this
-abbrev pub IsInItsPart : Option Template → Option Template → Type 0
-IsInItsPart None None = ⊤
-IsInItsPart (Some t) None = t.kind ≡ Flow
-IsInItsPart None (Some t) = t.kind ≡ Options
-IsInItsPart (Some t) (Some u) = ⊥
-
-abbrev pub AreParted : ByDomain → ByDomain → Type 0
-AreParted flow options = (d i : ℕ) → IsInItsPart (stored flow d i) (stored options d i)
+abbrev pub template_at : TemplateTable → InForce
+template_at table domain id = option_or (stored table.flow domain id) (stored table.options domain id)

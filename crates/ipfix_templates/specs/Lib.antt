@@ -4,5 +4,6 @@ pub mod Runs
 pub mod Elements
 pub mod Layout
 pub mod Reading
+pub mod Table
 pub mod InForce
 pub mod Laws

@@ -25,7 +25,6 @@ mod field;
 mod fields;
 mod items;
 mod kind;
-mod kind_table;
 mod laws;
 mod layout;
 mod record;

@@ -1,27 +1,32 @@
-use Rattle.std.proofs.Common.{Some, None, ap, ◌∙◌}
-use Rattle.ipfix_templates.specs.InForce.{Define, Table, after_event, template_at}
-use Rattle.ipfix_templates.proofs.Parts.{put, parted}
+use Rattle.std.proofs.Common.{Some, None, ap, subst, sym}
+use Rattle.ipfix_templates.specs.InForce.{InForce}
+use Rattle.ipfix_templates.specs.Table.{stored}
+use Rattle.ipfix_templates.specs.Template.{Flow, Kind, Options, same_kind}
+use Rattle.ipfix_templates.proofs.Parts.{Parted, both, on_err, put}
 use Rattle.ipfix_templates.proofs.table.TemplateTable.set.Goals as goal
 
 pub invariant_of-self-in-Flow : goal.invariant_of-self-in-Flow
-invariant_of-self-in-Flow c = parted _ _ _ _ c.args.domain c.args.template.id (Some c.args.template) None c.in_ok-insert-in-Flow.ensures.ok c.remove.ensures c.in-Flow.is c.self.invariant
+invariant_of-self-in-Flow c = record { parted = (put _ _ _ _ c.args.domain c.args.template.id (Some c.args.template) None c.in_ok-insert-in-Flow.ensures.ok c.remove.ensures (ap (λ (k : Kind). same_kind k Flow) c.in-Flow.is) c.args.self.now.parted).1 }
 
 pub invariant_of-self-in-Options : goal.invariant_of-self-in-Options
-invariant_of-self-in-Options c =
-    parted _ _ _ _ c.args.domain c.args.template.id None (Some c.args.template) c.remove-in-Options.ensures c.in_ok-insert-in-Options.ensures.ok c.in-Options.is c.self.invariant
+invariant_of-self-in-Options c = record { parted = (put _ _ _ _ c.args.domain c.args.template.id None (Some c.args.template) c.remove-in-Options.ensures c.in_ok-insert-in-Options.ensures.ok (ap (λ (k : Kind). same_kind k Options) c.in-Options.is) c.args.self.now.parted).1 }
 
 pub returns-in_ok-insert-in-Flow-clause-ok : goal.returns-in_ok-insert-in-Flow-clause-ok
-returns-in_ok-insert-in-Flow-clause-ok c =
-    put _ _ _ _ c.args.domain c.args.template.id (Some c.args.template) None c.in_ok-insert-in-Flow.ensures.ok c.remove.ensures
-    ∙ ap (λ (table : Table). after_event (template_at table) (c.args.domain, Define c.args.template)) c.self.view_is
+returns-in_ok-insert-in-Flow-clause-ok c = (put _ _ _ _ c.args.domain c.args.template.id (Some c.args.template) None c.in_ok-insert-in-Flow.ensures.ok c.remove.ensures (ap (λ (k : Kind). same_kind k Flow) c.in-Flow.is) c.args.self.now.parted).0
 
 pub returns-in_ok-insert-in-Options-clause-ok : goal.returns-in_ok-insert-in-Options-clause-ok
-returns-in_ok-insert-in-Options-clause-ok c =
-    put _ _ _ _ c.args.domain c.args.template.id None (Some c.args.template) c.remove-in-Options.ensures c.in_ok-insert-in-Options.ensures.ok
-    ∙ ap (λ (table : Table). after_event (template_at table) (c.args.domain, Define c.args.template)) c.self.view_is
+returns-in_ok-insert-in-Options-clause-ok c = (put _ _ _ _ c.args.domain c.args.template.id None (Some c.args.template) c.remove-in-Options.ensures c.in_ok-insert-in-Options.ensures.ok (ap (λ (k : Kind). same_kind k Options) c.in-Options.is) c.args.self.now.parted).0
 
 pub invariant_of-self : goal.invariant_of-self
-invariant_of-self c = rw c.in_err-insert-in-Flow.ensures.err c.self.invariant
+invariant_of-self c = record { parted = subst (λ (f : InForce). Parted f (stored c.args.self.now.options)) (sym c.in_err-insert-in-Flow.ensures.err) c.args.self.now.parted }
 
-pub invariant_of-self-in_err-insert-in-Options : goal.invariant_of-self-in_err-insert-in-Options
-invariant_of-self-in_err-insert-in-Options c = rw c.in_err-insert-in-Options.ensures.err c.self.invariant
+pub invariant_of-self-in-Break-branch-2 : goal.invariant_of-self-in-Break-branch-2
+invariant_of-self-in-Break-branch-2 c = record { parted = subst (Parted (stored c.args.self.now.flow)) (sym c.in_err-insert-in-Options.ensures.err) c.args.self.now.parted }
+
+pub returns-in_err-insert-in-Flow-clause-err : goal.returns-in_err-insert-in-Flow-clause-err
+returns-in_err-insert-in-Flow-clause-err c =
+    on_err _ c.from_residual.result (ap (λ (f : InForce). both f (stored c.args.self.now.options)) c.in_err-insert-in-Flow.ensures.err)
+
+pub returns-in_err-insert-in-Options-clause-err : goal.returns-in_err-insert-in-Options-clause-err
+returns-in_err-insert-in-Options-clause-err c =
+    on_err _ c.from_residual-in_err-insert-in-Options.result (ap (both (stored c.args.self.now.flow)) c.in_err-insert-in-Options.ensures.err)
