@@ -5,6 +5,7 @@ use Rattle.pmap_text.specs.ListModel.{ListModel}
 use Rattle.pmap_text.specs.MapModel.{MapModel}
 use Rattle.pmap_text.specs.Reading.{◌>>=◌, list_reading, map_reading}
 use Rattle.pmap_text.specs.declared.fault.MapFault.{MapFault}
+use Rattle.pmap_cert.specs.Acceptance.{IsMinimalPair}
 use Rattle.pmap_cert.specs.CertificateModel.{CertificateModel, InnerNode, LeafNode, Tree, opened_certificate}
 use Rattle.pmap_cert.specs.CertificateText.{certificate_text}
 use Rattle.pmap_cert.specs.Compacting.{compact, compacted_in}
@@ -29,6 +30,11 @@ compacted_text text = format_reading text >>= (λ c. Ok (certificate_text (compa
 -- the text of the certificate that a text represents, with its chains opened
 abbrev pub opened_text : List ℕ → Result (List ℕ) CertFault
 opened_text text = format_reading text >>= (λ c. Ok (certificate_text (opened_certificate c)))
+
+-- the list of a text, with the map's label table, and the certificate of a text are the minimal pair of the map of a text
+abbrev pub AreMinimalPair : Result MapModel MapFault → Result ListModel MapFault → Result CertificateModel CertFault → Type 0
+AreMinimalPair (Ok m) (Ok l) (Ok c) = IsMinimalPair m (record l { table = m.table }) c
+AreMinimalPair _ _ _ = ⊥
 
 -- the number of entries of an accepted list, or the fault of the certificate
 abbrev pub verdict_by : ListModel → Option CheckFault → Result ℕ CheckFault

@@ -2,8 +2,15 @@
 #![tactic(auto, unfolding(crate::specs::Certificates::opened))]
 
 ghost use Rattle.cert_check.specs.declared.fault.CheckFaultKind.TheVariants.{BoundNotMet, CostTooHigh, LeafNotUniform, ListDiffers, SetTooSmall, VersionDiffers};
-ghost use Rattle.definition_examples.specs.Certificates.{head, last, last_list, last_map, minimal, quarters, quarters_list, quarters_map, refused, verdict};
+ghost use Rattle.definition_examples.specs.Certificates.{AreMinimalPair, head, last, last_list, last_map, minimal, quarters, quarters_list, quarters_map, refused, verdict};
+ghost use Rattle.pmap_cert.specs.FormatReading.{format_reading};
+ghost use Rattle.pmap_text.specs.Reading.{list_reading, map_reading};
 ghost use Rattle.std.specs.Prelude.{◌≡◌, ◌++◌, codes, None};
+
+/// The first map of the page has the first list and the first certificate as its minimal pair.
+pub fn a_map_has_a_minimal_pair()
+    ensures the_first_of_the_page { AreMinimalPair (map_reading quarters_map) (list_reading quarters_list) (format_reading quarters) }
+{}
 
 /// The certificates of the page are accepted, and others that claim no more than the exact claims.
 pub fn a_shortest_list_is_minimal()

@@ -26,7 +26,7 @@ node_by m n q (Some x) settled node = (LeafNode x, settled)
 node_by m n q None unsettled node = node unsettled
 
 -- each block has a node that represents it, by recursion on the bits below the block
-node_for : (m : MapModel) (left n q : ℕ) → n + left ≡ width_of m.version → NodeFor m n q
+pub node_for : (m : MapModel) (left n q : ℕ) → n + left ≡ width_of m.version → NodeFor m n q
 node_for m zero n q e = node_by m n q (settled_label m n q) refl (λ unsettled.
     let below : n < width_of m.version = unsettled-halves m n q (omega arith) unsettled in absurd (omega arith))
 node_for m (suc left) n q e = node_by m n q (settled_label m n q) refl (λ unsettled.
@@ -54,5 +54,5 @@ pair_of m node = (
   },
 )
 
-pub minimal_pair : (m : MapModel) → (l : ListModel) × (c : CertificateModel) × IsMinimalPair m l c
+abbrev pub minimal_pair : (m : MapModel) → (l : ListModel) × (c : CertificateModel) × IsMinimalPair m l c
 minimal_pair m = pair_of m (node_for m (width_of m.version) 0 0 (omega arith))

@@ -11,7 +11,7 @@ use Rattle.pmap_text.specs.Reading.{mapping_limit, map_reading}
 use Rattle.pmap_cert.proofs.Plain.{plain-stands}
 use Rattle.pmap_cert.proofs.Alike.{table-node}
 use Rattle.pmap_cert.proofs.Ends.{cost-fits}
-use Rattle.pmap_cert.proofs.Existence.{minimal_pair, pair_of}
+use Rattle.pmap_cert.proofs.Existence.{minimal_pair}
 use Rattle.pmap_cert.proofs.MapLimits.{labels-read, limits-read}
 use Rattle.pmap_cert.proofs.Pieces.{found_at}
 use Rattle.pmap_cert.proofs.Sets.{has-head, has-own, same-listed}
@@ -74,18 +74,16 @@ module _ (m : MapModel) (inside : HasItsLabels m) (ok : IsLabelTable m.table) (f
 
   pub pair-listed : (l : ListModel) × (c : CertificateModel) × IsMinimalPair m l c × HasTextForm c
   pair-listed =
-      let root = (minimal_pair m).1.root in
-      let stands : StandsFor m root 0 0 = (minimal_pair m).2.root in
-      let pair = pair_of m (root, stands) in (
-        pair.0,
-        pair.1,
-        pair.2,
+      let made = minimal_pair m in (
+        made.0,
+        made.1,
+        made.2,
         record {
           first = refl;
           text = record {
-            format = inl (refl, plain-stands m root 0 0 stands);
+            format = inl (refl, plain-stands m made.1.root 0 0 made.2.root);
             table = ok;
-            root = form-listed root (width_of m.version) 0 0 (omega arith) stands;
+            root = form-listed made.1.root (width_of m.version) 0 0 (omega arith) made.2.root;
           };
         },
       )

@@ -89,6 +89,9 @@ halves-bound W ps n q claim p r below within lower upper =
       upper',
     )
 
+at-most : (count missed : ℕ) → missed ≤ 1 → (count ≡ 0 → missed ≡ 0) → missed ≤ count
+at-most count missed le none = grind arith
+
 -- A map, the list that the node is accepted for, and any list that labels every address as the map does.
 module _ (m : MapModel) (es ps : List Prefix)
     (right : (a : ℕ) → a < 2 ^ width_of m.version →
@@ -108,14 +111,10 @@ module _ (m : MapModel) (es ps : List Prefix)
       miss (label_below (width_of m.version) ps n (first_of (width_of m.version) n q)) (x ∷ [])
       ≤ count_of (is_within (width_of m.version) n q) ps
   leaf-bound x n q le below settled =
-      by_count (count_of (is_within (width_of m.version) n q) ps)
+      at-most (count_of (is_within (width_of m.version) n q) ps)
       (miss (label_below (width_of m.version) ps n (first_of (width_of m.version) n q)) (x ∷ []))
       (miss-le (label_below (width_of m.version) ps n (first_of (width_of m.version) n q)) (x ∷ []))
       (leaf-miss x n q le below settled)
-    where
-      by_count : (count missed : ℕ) → missed ≤ 1 → (count ≡ 0 → missed ≡ 0) → missed ≤ count
-      by_count zero missed le h = omega (arith, h refl)
-      by_count (suc k) missed le h = omega arith
 
   -- the bound at a node of a tree without chains
   pub kernel : (t : Tree) (n q : ℕ) → IsPlain t → n ≤ width_of m.version → q < 2 ^ n → IsNodeAccepted m es t n q →

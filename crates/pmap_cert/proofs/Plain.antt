@@ -24,5 +24,5 @@ plain-tree_of table (Chain cost set bits side end) plain = absurd plain
 -- a certificate whose root is allowed in its format is of that format
 pub of-kind : (table : List Label) (format : Format) (node : Node) (version : Version) → IsNodeOf format node
     → IsOfFormat (record { format = format_number format; version = version; table = table; root = tree_of table node })
-of-kind table One node version plain = inl (refl, plain-tree_of table node plain)
+of-kind table One node version kind = inl (refl, plain-tree_of table node (kind refl))
 of-kind table Two node version kind = inr refl

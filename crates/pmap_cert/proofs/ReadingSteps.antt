@@ -6,7 +6,7 @@ use Rattle.pmap_text.specs.MapModel.{Label}
 use Rattle.pmap_text.specs.Reading.{◌>>=◌}
 use Rattle.pmap_text.specs.MapText.{text_at}
 use Rattle.pmap_cert.specs.CertificateModel.{ChainNode, InnerNode, LeafNode, Claim, Tree}
-use Rattle.pmap_cert.specs.Format.{IsNodeOf, format_number, Format, One, Two}
+use Rattle.pmap_cert.specs.Format.{format_number, Format}
 use Rattle.pmap_cert.specs.FormatReading.{ChainLine, DueLine, InnerLine, LeafLine, Place, due_node, fault_at, labels_at, line_due_at, new_label, nodes_at, line_value, CertFault, BadLabelTable, TooDeep}
 use Rattle.pmap_cert.specs.Node.{Chain, HasChainForm, Inner, Leaf, Node, lines_of, tree_of}
 use Rattle.pmap_cert.specs.Inner.{IsReadNode}
@@ -106,19 +106,6 @@ module _ (format : Format) (most : ℕ) (table : List Label) where
   abbrev pub due_in : Place → Result (DueLine × Place) CertFault
   due_in = line_due_at (format_number format) most (length table)
 
-  -- each kind of node is allowed in the format if those below it are
-  leaf-kind : (f : Format) (number : ℕ) → IsNodeOf f (Leaf number)
-  leaf-kind One number = tt
-  leaf-kind Two number = tt
-
-  inner-kind : (f : Format) (cost : ℕ) (set : List ℕ) (lower upper : Node) → IsNodeOf f lower → IsNodeOf f upper → IsNodeOf f (Inner cost set lower upper)
-  inner-kind One cost set lower upper low up = (low, up)
-  inner-kind Two cost set lower upper low up = tt
-
-  chain-kind : (f : Format) (cost : ℕ) (set : List ℕ) (bits : List Bool) (side : ℕ) (end : Node) → format_number f ≡ 2 → IsNodeOf f (Chain cost set bits side end)
-  chain-kind One cost set bits side end two = absurd (omega arith)
-  chain-kind Two cost set bits side end two = tt
-
   -- the line of a chain that was read has a bit
   pub chain-bits : (place after : Place) (cost : ℕ) (bits : List Bool) (side : ℕ) (numbers : List ℕ) → due_in place ≡ Ok (ChainLine cost bits side numbers, after)
       → 0 < length bits
@@ -151,7 +138,7 @@ module _ (format : Format) (most : ℕ) (table : List Label) where
         node = Leaf number;
         read = node-leaf due_in table place after room number due;
         form = said.1;
-        kind = leaf-kind format number;
+        kind = λ one. tt;
         lines = is;
       }
 
@@ -166,7 +153,7 @@ module _ (format : Format) (most : ℕ) (table : List Label) where
         node = node;
         read = node-inner due_in table place after cost numbers due room some (tree_of table low.node) middle low.read (tree_of table up.node) end up.read;
         form = subst (HasChainForm (length table) node) more (said.1.0, said.1.1, low.form, up.form);
-        kind = inner-kind format cost numbers low.node up.node low.kind up.kind;
+        kind = λ one. (low.kind one, up.kind one);
         lines =
             kept-joined keeps old first third (InnerLine cost numbers ∷ []) (lines_of low.node ++ lines_of up.node) is
             (kept-joined keeps first second third (lines_of low.node) (lines_of up.node) low.lines up.lines);
@@ -189,6 +176,6 @@ module _ (format : Format) (most : ℕ) (table : List Label) where
           some,
           room-left (HasChainForm (length table) last.node) bits room (room - length bits) (omega arith) last.form,
         );
-        kind = chain-kind format cost numbers bits side last.node said.1.0;
+        kind = λ one. absurd (omega (arith, said.1.0, ap format_number one));
         lines = kept-joined keeps old first second (ChainLine cost bits side numbers ∷ []) (lines_of last.node) is last.lines;
       }

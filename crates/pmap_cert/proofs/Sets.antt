@@ -46,10 +46,7 @@ has-filter test (y ∷ xs) x =
     (has-cond (test y) (y ∷ filter test xs) (filter test xs) x)
 
 either-way : (t s : Bool) → ((t && s) || (s && not t)) ≡ s
-either-way true true = refl
-either-way true false = refl
-either-way false true = refl
-either-way false false = refl
+either-way t s = grind arith
 
 -- the order of a claim's set doesn't change the set
 pub same-listed : (table : List Label) (claim e : Claim) → claim ≡ in_table_order table e → IsSameClaim claim e

@@ -1,11 +1,10 @@
 -- The text that is written by label numbers is that of the certificate with label texts.
-use Rattle.std.proofs.Common.{◌≡◌, ℕ, zero, suc, ◌+◌, ◌<◌, ◌∙◌, List, [], ◌∷◌, ◌++◌, Some, length, map, take, sym, ap, subst}
+use Rattle.std.proofs.Common.{◌≡◌, ℕ, zero, suc, ◌+◌, ◌<◌, ◌∙◌, List, [], ◌∷◌, ◌++◌, length, map, sym, ap, subst}
 use Rattle.std.specs.Fmt.{decimal}
-use Rattle.std.specs.List.{flat_map, join_with_byte, slice_get}
+use Rattle.std.specs.List.{flat_map, join_with_byte}
 use Rattle.std.proofs.lemmas.Fmt.{decimal_digit}
-use Rattle.std.proofs.lemmas.List.{append-nil, append_assoc, map-append, take_more}
+use Rattle.std.proofs.lemmas.List.{append-nil, append_assoc, map-append}
 use Rattle.std.proofs.lemmas.List.Concat.{flat_map-append}
-use Rattle.std.proofs.lemmas.Option.{get_or_from_slice_get, slice_get_within}
 use Rattle.prefix_keys.specs.declared.version.Version.{Version}
 use Rattle.pmap_text.specs.Label.{IsLabelTable}
 use Rattle.pmap_text.specs.MapModel.{Label}
@@ -57,18 +56,6 @@ module _ (table : List Label) (ok : IsLabelTable table) where
     form.3,
     other-room (HasChainForm (length table) end) (HasNodeForm table (tree_of table end)) (λ left fits. node_form end left fits) bits room form.4,
   )
-
--- one more label of a table appended with its line feed
-pub pushed-label : (out o o1 o2 : List ℕ) (table : List Label) (i : ℕ) (x : Label) → o ≡ out ++ text_of_lines (take i table) → o1 ≡ o ++ x → o2 ≡ o1 ++ 10 ∷ [] → slice_get table i ≡ Some x
-    → o2 ≡ out ++ text_of_lines (take (i + 1) table)
-pushed-label out o o1 o2 table i x e e1 e2 there =
-    let lines : List Label = take i table in
-    let more : take (i + 1) table ≡ lines ++ x ∷ [] =
-    take_more table i [] (slice_get_within table i x there) ∙ ap (λ (y : Label). lines ++ y ∷ []) (get_or_from_slice_get table i x [] there) in
-    let last : text_of_lines (take (i + 1) table) ≡ text_of_lines lines ++ (x ++ 10 ∷ []) =
-    ap text_of_lines more ∙ text_of_lines-append lines (x ∷ []) ∙ ap (λ t. text_of_lines lines ++ t) (append-nil (x ++ 10 ∷ [])) in
-    e2 ∙ ap (λ t. t ++ 10 ∷ []) (e1 ∙ ap (λ t. t ++ x) e) ∙ append_assoc (out ++ text_of_lines lines) x (10 ∷ [])
-    ∙ append_assoc out (text_of_lines lines) (x ++ 10 ∷ []) ∙ ap (λ t. out ++ t) (sym last)
 
 -- the header, the labels and the lines of the nodes are the certificate's text
 pub whole_text : (format : ℕ) (version : Version) (table : List Label) (root : Node) (room : ℕ) (nodes : List DueLine) (o1 o2 : List ℕ) → IsLabelTable table → HasChainForm (length table) root room

@@ -1,5 +1,5 @@
-use Rattle.std.specs.Prelude.{ℕ}
-use Rattle.std.specs.Coded.{×_prop, Unit-prop}
+use Rattle.std.specs.Prelude.{◌≡◌, ℕ}
+use Rattle.std.specs.Coded.{×_prop, →_prop, Unit-prop}
 use Rattle.prefix_keys.specs.declared.version.Version.{Version}
 use Rattle.pmap_cert.specs.Node.{Chain, Inner, IsPlainNode, Leaf, Node}
 pub use Rattle.pmap_cert.specs.declared.format.Format.{Format}
@@ -15,8 +15,7 @@ header_of h = (format_number h.0, (h.1, h.2))
 
 -- the format allows the node: in format 1 it has no chain
 abbrev pub IsNodeOf : Format → Node → Type 0
-IsNodeOf One node = IsPlainNode node
-IsNodeOf Two node = Unit {0}
+IsNodeOf format node = format ≡ One → IsPlainNode node
 
 IsPlainNode-prop : (node : Node) → IsProp (IsPlainNode node)
 IsPlainNode-prop (Leaf number) = Unit-prop
@@ -24,5 +23,4 @@ IsPlainNode-prop (Inner cost set lower upper) = ×_prop (IsPlainNode-prop lower)
 IsPlainNode-prop (Chain cost set bits side end) = λ x y. absurd x
 
 pub IsNodeOf-prop : (format : Format) (node : Node) → IsProp (IsNodeOf format node)
-IsNodeOf-prop One node = IsPlainNode-prop node
-IsNodeOf-prop Two node = Unit-prop
+IsNodeOf-prop format node = →_prop (IsPlainNode-prop node)

@@ -1,6 +1,5 @@
 pub mod CertificateModel
 pub mod Acceptance
-pub mod Examples
 pub mod Compacting
 pub mod CertificateText
 pub mod FormatReading

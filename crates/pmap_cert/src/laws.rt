@@ -7,7 +7,6 @@ ghost use Rattle.pmap_text.specs.Reading.{map_reading};
 ghost use Rattle.pmap_cert.specs.Acceptance.{IsAccepted, IsLeast, HasListForm, HasItsLabels, IsMinimalPair};
 ghost use Rattle.pmap_cert.specs.CertificateText.{HasTextForm};
 ghost use Rattle.pmap_cert.specs.CertificateModel.{CertificateModel, Claim, claim_of, has, IsClaimWith, IsSameClaim, exact_claim};
-ghost use Rattle.pmap_cert.specs.Examples.{four_quarters_certificate, four_quarters_list, four_quarters_map};
 
 /// An accepted certificate is enough, whoever made it: its list labels every address as the map does, and no list that
 /// does so has fewer entries. Each such list has at least as many entries as the root's cost plus one.
@@ -76,9 +75,4 @@ pub fn exact_claim_is_of_sets()
         IsClaimWith (exact_claim p r) (p.cost + r.cost + 1) (λ y. has p.labels y || has r.labels y) }
     ensures same { (p r p' r' : Claim) → IsSameClaim p p' → IsSameClaim r r' →
         IsSameClaim (exact_claim p r) (exact_claim p' r') }
-{}
-
-/// The worked example's list and certificate are the minimal pair of its map.
-pub fn four_quarters_pair_is_minimal()
-    ensures { IsMinimalPair four_quarters_map four_quarters_list four_quarters_certificate }
 {}

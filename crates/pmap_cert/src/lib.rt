@@ -52,9 +52,9 @@ pub use cursor::{Cursor, cursor_of};
 pub use fault::{CertFault, CertFaultKind};
 pub use format::Format;
 pub use laws::{
-    acceptance_is_enough, exact_claim_is_of_sets, four_quarters_pair_is_minimal,
-    map_text_has_a_minimal_pair, map_text_has_its_labels, minimal_list_is_in_order,
-    minimal_pair_exists, minimal_pair_is_accepted, minimal_pair_is_unique,
+    acceptance_is_enough, exact_claim_is_of_sets, map_text_has_a_minimal_pair,
+    map_text_has_its_labels, minimal_list_is_in_order, minimal_pair_exists,
+    minimal_pair_is_accepted, minimal_pair_is_unique,
 };
 pub use lines::Lines;
 pub use node::{Claim, Node};
