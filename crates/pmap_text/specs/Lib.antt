@@ -1,7 +1,6 @@
 pub mod MapModel
 pub mod ListModel
 pub mod Label
-pub mod Carried
 pub mod MapText
 pub mod ListEntries
 pub mod PrefixList
