@@ -1,11 +1,12 @@
 -- Rows that are given in several steps, and their number.
-use Rattle.std.proofs.Common.{◌≡◌, ◌≤◌, ◌+◌, ◌*◌, ℕ, List, [], ◌∷◌, ◌++◌, length, Option, Some, None, append_assoc, length-append, subst, sym, arith}
+use Rattle.std.proofs.Common.{◌≡◌, ◌≤◌, ◌+◌, ◌*◌, ℕ, List, [], ◌∷◌, ◌++◌, length, Option, Some, None, append_assoc, length-append, refl, subst, sym, arith}
 use Rattle.std.specs.List.{flat_map}
 use Rattle.std.specs.Option.{option_to_list}
 use Rattle.std.proofs.lemmas.Grind.{flat_map-append}
 use Rattle.std.proofs.lemmas.List.{append-nil}
 use Rattle.std.proofs.lemmas.List.Concat.{length-flat_map}
 use Rattle.std.proofs.lemmas.List.Sums.{sum_by-le-sum_by}
+use Rattle.ipfix_templates.specs.declared.kind.Kind.{Kind}
 use Rattle.ipfix_read.specs.Message.{message_size, set_size}
 use Rattle.ipfix_read.specs.declared.record.Record.{Record}
 use Rattle.ipfix_read.specs.declared.set.Set.{Set}
@@ -53,10 +54,15 @@ records_within [] = omega arith
 records_within (r ∷ records) =
     omega (arith, length-append (rows_of_record r) (flat_map rows_of_record records), two_at_most r, records_within records)
 
-set_within : (set : Set) → length (records_in set) ≤ set_size set
+pub set_within : (set : Set) → length (records_in set) ≤ set_size set
 set_within (Templates kind events) = omega arith
 set_within (Values kind records) = omega arith
 set_within (Skipped id) = omega arith
+
+pub none_in : (set : Set) → ((kind : Kind) (records : List Record) → set ≡ Values kind records → ⊥) → records_in set ≡ []
+none_in (Templates kind events) other = refl
+none_in (Values kind records) other = absurd (other kind records refl)
+none_in (Skipped id) other = refl
 
 pub set_rows_within : (set : Set) → length (flat_map rows_of_record (records_in set)) ≤ 2 * set_size set
 set_rows_within set = omega (arith, records_within (records_in set), set_within set)

@@ -23,13 +23,13 @@ pub fn definitions(events: &[TemplateEvent], kind: Kind) -> u64
 pub fn withdrawals(events: &[TemplateEvent]) -> u64
     ensures { result ≡ count_by is_withdrawal events.now }
 {
-    let mut count = 0u64;
-    for event in events {
-        if !matches!(event, TemplateEvent::Define(_)) {
-            count += 1;
-        }
-    }
-    count
+    events
+        .iter()
+        .filter(|event| matches!(
+            event,
+            TemplateEvent::Withdraw(_) | TemplateEvent::WithdrawAll(_)
+        ))
+        .count() as u64
 }
 
 /// Returns the number of records that are described by a template of the kind: all of them, or none.

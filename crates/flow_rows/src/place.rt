@@ -82,16 +82,3 @@ pub fn u16_there(place: &Place, runs: &[u32], bytes: &[u8]) -> u16
         _ => 0,
     }
 }
-
-/// Returns the number of up to 1 byte at a place in a record, or 0 if there is none.
-#[inline(always)]
-pub fn u8_there(place: &Place, runs: &[u32], bytes: &[u8]) -> u8
-    requires { IsWithin 1 (length bytes.now) place.now }
-    ensures { result ≡ number_there place.now runs.now bytes.now }
-{
-    let value = bytes_there(place, runs, bytes);
-    match value.len() {
-        0 => 0,
-        _ => value[0],
-    }
-}

@@ -1,7 +1,7 @@
 ghost use Rattle.std.specs.Prelude.{◌≡◌, if◌then◌else◌, length};
 ghost use Rattle.flow_rows.specs.Inner.{AreUsable, IsWithin, number_there, row_at, version_of};
 
-use crate::place::{bytes_there, u8_there, u16_there, u64_there};
+use crate::place::{bytes_there, u16_there, u64_there};
 use byteorder::{BigEndian, ByteOrder};
 use ipfix_templates::{Place, Places};
 use prefix_keys::{Addr, Version};
@@ -125,7 +125,10 @@ impl<'a> Row<'a> {
     pub fn protocol(&self) -> u8
         ensures { result ≡ self.now.protocol }
     {
-        u8_there(&self.places.protocol, self.runs, self.bytes)
+        bytes_there(&self.places.protocol, self.runs, self.bytes)
+            .first()
+            .copied()
+            .unwrap_or(0)
     }
 
     /// The union of the TCP flags of all packets.

@@ -2,13 +2,13 @@
 ghost use Rattle.std.specs.Prelude.{◌≤◌, ◌*◌, ◌∷◌, [], List, OnOk, length};
 ghost use Rattle.std.specs.List.{flat_map};
 ghost use Rattle.std.specs.Option.{option_to_list};
-ghost use Rattle.flow_rows.specs.Counts.{records_in, rows_of};
+ghost use Rattle.flow_rows.specs.Counts.{rows_of};
 ghost use Rattle.flow_rows.specs.Elements.{RowView, rows_of_record};
 ghost use Rattle.flow_rows.specs.Walk.{CanTake, Takes};
 
 use crate::record::{reverse_row_of, row_of};
 use crate::row::Row;
-use ipfix_read::{Message, Record, RecordList, Set};
+use ipfix_read::{Message, RecordList, Set};
 use std::alloc::AllocError;
 
 /// What takes rows, one after the other.
@@ -41,20 +41,6 @@ fn give_row<T: TakesRows>(
     }
 }
 
-// Gives the rows of a record.
-#[inline(always)]
-fn give_rows_of_record<T: TakesRows>(
-    source: &Record<'_, '_>,
-    taker: &T,
-    taken: &mut T::Taken,
-) -> Result<(), AllocError>
-    requires { CanTake (T.has_taken taker.now) 2 taken.old }
-    ensures { OnOk result (Takes (T.has_taken taker.now) (rows_of_record source.now) taken.old taken.new) }
-{
-    give_row(row_of(source), taker, taken)?;
-    give_row(reverse_row_of(source), taker, taken)
-}
-
 // Gives the rows of records.
 #[inline(always)]
 fn give_rows_of_records<T: TakesRows>(
@@ -66,25 +52,10 @@ fn give_rows_of_records<T: TakesRows>(
     ensures { OnOk result (Takes (T.has_taken taker.now) (flat_map rows_of_record records.now) taken.old taken.new) }
 {
     for source in records.iter() {
-        give_rows_of_record(&source, taker, taken)?;
+        give_row(row_of(&source), taker, taken)?;
+        give_row(reverse_row_of(&source), taker, taken)?;
     }
     Ok(())
-}
-
-// Gives the rows of a set.
-#[inline(always)]
-fn give_rows_of_set<T: TakesRows>(
-    set: &Set<'_>,
-    taker: &T,
-    taken: &mut T::Taken,
-) -> Result<(), AllocError>
-    requires { CanTake (T.has_taken taker.now) (2 * length (records_in set.now)) taken.old }
-    ensures { OnOk result (Takes (T.has_taken taker.now) (flat_map rows_of_record (records_in set.now)) taken.old taken.new) }
-{
-    match set {
-        Set::Values(_, records) => give_rows_of_records(records, taker, taken),
-        _ => Ok(()),
-    }
 }
 
 /// Gives the rows of a message, in order, at most 131,070. The second row of a record, if there is one, comes right
@@ -104,7 +75,9 @@ pub fn give_rows<T: TakesRows>(
     ensures few { length (rows_of message.now.sets) ≤ 131070 }
 {
     for set in message.sets().as_slice() {
-        give_rows_of_set(set, taker, taken)?;
+        if let Set::Values(_, records) = set {
+            give_rows_of_records(records, taker, taken)?;
+        }
     }
     Ok(())
 }

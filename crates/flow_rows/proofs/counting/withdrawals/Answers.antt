@@ -1,0 +1,5 @@
+use Rattle.std.proofs.iter.Serving.{serving}
+use Rattle.flow_rows.proofs.counting.withdrawals.Goals as goal
+
+pub returns : goal.returns
+returns c = grind serving
