@@ -107,5 +107,5 @@ impl Declarations {
 pub fn label_number(text: &[u8]) -> Option<u32>
     ensures { result ≡ number_of_text text.now }
 {
-    read_decimal(text, 10, 2147483647)
+    Some(read_decimal(text, 10, 2147483647)? as u32)
 }

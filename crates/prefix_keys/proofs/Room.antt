@@ -6,8 +6,8 @@ use Rattle.std.proofs.Math.Nat.{pow-le-pow_right}
 longer : (b i j : ℕ) → 0 < b → i ≤ j → b ^ i ≤ b ^ j
 longer b i j some few = pow-le-pow_right some few
 
-pub digits_room : (i : ℕ) → i < 19 → 10 ^ i ≤ 1000000000000000000
-digits_room i few = longer 10 i 18 (lit< tt) (omega (arith, few))
+pub digits_room : (i : ℕ) → i < 20 → 10 ^ i ≤ 10000000000000000000
+digits_room i few = longer 10 i 19 (lit< tt) (omega (arith, few))
 
 -- up to four hexadecimal digits form a group
 pub group_room : (n k : ℕ) → n < 16 ^ k → k ≤ 4 → n < 65536

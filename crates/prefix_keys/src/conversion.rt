@@ -5,8 +5,8 @@ ghost use Rattle.prefix_keys.specs.Conversion.{converted};
 use crate::addr::Addr;
 use crate::version::Version;
 
-// The number of `::ffff:0:0`.
-const MAPPED_PREFIX: u128 = 0xffff_0000_0000;
+/// The number of `::ffff:0:0`.
+pub const MAPPED_PREFIX: u128 = 0xffff_0000_0000;
 
 /// Returns the address in the given version. The IPv6 form of an IPv4 address is its IPv4-mapped address in
 /// `::ffff:0:0/96` (RFC 4291, section 2.5.5.2). Returns `None` for an IPv6 address outside that block if the version is

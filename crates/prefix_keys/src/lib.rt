@@ -30,7 +30,7 @@ mod version;
 
 pub use addr::Addr;
 pub use block::{Block, block_of, whole_space};
-pub use conversion::convert;
+pub use conversion::{MAPPED_PREFIX, convert};
 pub use cutting::{cut, find_byte};
 pub use decimal::{are_digits, read_decimal};
 pub use laws::{address_is_read_back, block_is_read_back, longest_run_is_longest};

@@ -65,8 +65,8 @@ pub fn read_block(text: &[u8]) -> Result<Block, BlockFault>
     let Some(addr) = read_addr(front) else {
         return Err(BlockFault::BadAddress);
     };
-    let Some(len) = read_decimal(back, 3, addr.version.width()) else {
+    let Some(len) = read_decimal(back, 3, u64::from(addr.version.width())) else {
         return Err(BlockFault::BadLength);
     };
-    Ok(block_of(addr, len))
+    Ok(block_of(addr, len as u32))
 }

@@ -16,5 +16,5 @@ pub fn read_dotted(text: &[u8]) -> Option<u32>
     let b = read_decimal(second, 3, 255)?;
     let c = read_decimal(third, 3, 255)?;
     let d = read_decimal(fourth, 3, 255)?;
-    Some(((a * 256 + b) * 256 + c) * 256 + d)
+    Some((((a * 256 + b) * 256 + c) * 256 + d) as u32)
 }
