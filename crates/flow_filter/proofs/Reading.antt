@@ -1,5 +1,5 @@
 -- The items of a text that is read item by item, and the options that are read one by one.
-use Rattle.std.proofs.Common.{◌≡◌, ◌∙◌, inl, inr, ℕ, zero, suc, ◌+◌, ◌<◌, ◌==◌, ◌&&◌, ◌||◌, false, List, [], ◌∷◌, ◌++◌, Option, Some, None, Ok, add-one, append_assoc, arith, drop, get_or, length, map, option_map, refl, sym, ap}
+use Rattle.std.proofs.Common.{◌≡◌, ◌∙◌, inl, inr, ℕ, zero, suc, ◌+◌, ◌<◌, ◌==◌, ◌&&◌, ◌||◌, true, false, List, [], ◌∷◌, ◌++◌, Option, Some, None, Ok, add-one, append_assoc, arith, drop, get_or, length, map, option_map, refl, sym, ap}
 use Rattle.std.specs.Prelude.{find, is_none}
 use Rattle.std.specs.List.{list_any}
 use Rattle.std.specs.Option.{option_map_or, option_to_list}
@@ -9,9 +9,9 @@ use Rattle.std.proofs.lemmas.List.Splits.{slice_split_none}
 use Rattle.std.proofs.lemmas.Option.{same_Some}
 use Rattle.prefix_keys.specs.Text.{AddressOf, all_some}
 use Rattle.flow_rows.specs.Elements.{RowView}
-use Rattle.flow_filter.specs.Condition.{Condition, Part, Range, RowTest, filter_of, given, is_malformed, item_test, items_of, meets, unless_malformed}
-use Rattle.flow_filter.specs.Filters.{HasRanges, IsFault, IsRefused}
-use Rattle.flow_filter.specs.Options.{FilterFaultKind, FilterOption, is_list, AnyLabel, DestinationLabel, SourceLabel}
+use Rattle.flow_filter.specs.Condition.{Condition, Part, Range, RowTest, filter_of, given, in_range, is_malformed, item_test, items_of, meets, tests_of, unless_malformed}
+use Rattle.flow_filter.specs.Filters.{IsFault, IsRefused, by_range, in_ranges, number_of}
+use Rattle.flow_filter.specs.Options.{FilterFaultKind, FilterOption, is_list, is_on_labels, AnyLabel, DestinationLabel, SourceLabel}
 use Rattle.flow_filter.specs.declared.option.TheConstants.{ALL_OPTIONS}
 
 -- one more item that exists
@@ -38,22 +38,30 @@ only_item : (o : FilterOption) (text : List ℕ) → is_list o ≡ false → ite
 only_item o text single = slice_split_none (λ b. is_list o && b == 44) text (λ k d within. rw single refl)
 
 pub meets_one : (o : FilterOption) (text : List ℕ) (label : AddressOf → Option (List ℕ)) (row : RowView) → is_list o ≡ false
-    → meets label row (o, text) ≡ option_map_or (λ test. test label row || false) (item_test o text) false
+    → meets label row (o, text) ≡ option_map_or (λ test. test label row) (item_test o text) false
 meets_one o text label row single =
     ap (λ items. option_map_or (list_any (λ test. test label row)) (all_some (map (item_test o) items)) false) (only_item o text single)
     ∙ one (item_test o text)
   where
     one : (test : Option RowTest)
-        → option_map_or (list_any (λ test. test label row)) (all_some (test ∷ [])) false ≡ option_map_or (λ test. test label row || false) test false
+        → option_map_or (list_any (λ test. test label row)) (all_some (test ∷ [])) false ≡ option_map_or (λ test. test label row) test false
     one None = refl
-    one (Some test) = refl
+    one (Some test) = grind arith
 
--- a text with ranges is well formed, and so is any label
-pub is_sound : (o : FilterOption) (text : List ℕ) (ranges : List Range) → HasRanges (o, text) ranges → is_malformed (o, text) ≡ false
-is_sound SourceLabel text ranges has = ap (λ items. is_none (all_some (map (item_test SourceLabel) items))) (only_item SourceLabel text refl)
-is_sound DestinationLabel text ranges has = ap (λ items. is_none (all_some (map (item_test DestinationLabel) items))) (only_item DestinationLabel text refl)
-is_sound AnyLabel text ranges has = ap (λ items. is_none (all_some (map (item_test AnyLabel) items))) (only_item AnyLabel text refl)
-is_sound o text ranges has = ap is_none (has refl)
+pub label_sound : (o : FilterOption) (text : List ℕ) → is_on_labels o ≡ true → is_malformed (o, text) ≡ false
+label_sound SourceLabel text is = ap (λ items. is_none (all_some (map (item_test SourceLabel) items))) (only_item SourceLabel text refl)
+label_sound DestinationLabel text is = ap (λ items. is_none (all_some (map (item_test DestinationLabel) items))) (only_item DestinationLabel text refl)
+label_sound AnyLabel text is = ap (λ items. is_none (all_some (map (item_test AnyLabel) items))) (only_item AnyLabel text refl)
+label_sound o text is = absurd (cc)
+
+-- a row meets an option whose items are ranges if one of them has the row's number
+pub ranges_meet : (o : FilterOption) (text : List ℕ) (label : AddressOf → Option (List ℕ)) (row : RowView) (ranges : List Range)
+    → tests_of (o, text) ≡ Some (map (by_range o) ranges) → meets label row (o, text) ≡ in_ranges ranges (number_of o row)
+ranges_meet o text label row ranges is = ap (λ tests. option_map_or (list_any (λ test. test label row)) tests false) is ∙ one ranges
+  where
+    one : (rs : List Range) → list_any (λ test. test label row) (map (by_range o) rs) ≡ in_ranges rs (number_of o row)
+    one [] = refl
+    one (r ∷ rs) = ap (λ b. in_range (number_of o row) r || b) (one rs)
 
 -- the parts are the options before an index that are given, and none is malformed
 pub record AreRead (texts : List (Option (List ℕ))) (at : ℕ) (parts : Condition) : Type 0 where

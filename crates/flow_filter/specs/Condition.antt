@@ -11,7 +11,7 @@ use Rattle.flow_filter.specs.Options.{FilterOption, is_list, is_on_labels, kind_
 use Rattle.flow_filter.specs.Texts.{address_item, number_range}
 pub use Rattle.flow_filter.specs.declared.fault.FilterFault.{FilterFault}
 use Rattle.flow_filter.specs.declared.option.TheConstants.{ALL_OPTIONS}
-pub use Rattle.flow_filter.specs.declared.range.Range.{Range}
+pub use Rattle.flow_filter.specs.declared.ranges.Range.{Range}
 
 -- The rows that meet the options of a filter.
 

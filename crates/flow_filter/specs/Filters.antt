@@ -1,14 +1,15 @@
-use Rattle.std.specs.Prelude.{◌≡◌, ◌⊎◌, ℕ, ◌+◌, ◌<◌, ◌++◌, ◌∷◌, Bool, true, false, List, Option, Some, None, Err, find, slice_index, length, map, nat_le, option_map, take}
+use Rattle.std.specs.Prelude.{◌≡◌, ◌⊎◌, ℕ, ◌+◌, ◌++◌, ◌∷◌, Bool, true, false, List, Option, None, Err, find, map, option_map}
 use Rattle.std.specs.List.{list_any}
+use Rattle.std.specs.List.Sorted.{IsNonDecreasingBy}
 use Rattle.prefix_keys.specs.Conversion.{mapped_prefix}
 use Rattle.prefix_keys.specs.Text.{AddressOf, BlockOf}
 use Rattle.prefix_keys.specs.declared.block.Block.{Block}
 use Rattle.prefix_keys.specs.declared.version.Version.TheVariants.{V4, V6}
 use Rattle.flow_rows.specs.Elements.{RowView}
-use Rattle.flow_filter.specs.Condition.{Condition, FilterFault, Part, Range, RowTest, filter_of, given, in_range, is_malformed, tests_of}
+use Rattle.flow_filter.specs.Condition.{Condition, FilterFault, Part, Range, RowTest, filter_of, given, in_range, is_malformed, meets}
 use Rattle.flow_filter.specs.Options.{FilterFaultKind, FilterOption, is_on_labels, kind_of, Bytes, DestinationAddress, DestinationPort, NoMemory, Packets, Protocol, SourceAddress, SourcePort}
 use Rattle.flow_filter.specs.declared.option.TheConstants.{ALL_OPTIONS}
-use Rattle.flow_filter.specs.declared.words.FilterWords.{FilterWords}
+use Rattle.flow_filter.specs.declared.filter.FilterWords.{FilterWords}
 
 -- How filters are read and stored. Callers of the crate need only `texts_of` and `IsFault`.
 
@@ -44,14 +45,9 @@ mapped_number (V6, value) = value
 abbrev pub in_ranges : List Range → ℕ → Bool
 in_ranges ranges n = list_any (in_range n) ranges
 
--- one of the first ranges ends at the number or above it
-abbrev pub reaches : List Range → ℕ → ℕ → Bool
-reaches ranges k n = list_any (λ range. nat_le n range.high) (take k ranges)
-
--- for each range, the highest end of the ranges up to it
-pub record HasTops (ranges : List Range) (tops : List ℕ) : Type 0 where
-  pub long : length tops ≡ length ranges
-  pub each : (k : ℕ) → k < length tops → (n : ℕ) → nat_le n (slice_index tops k) ≡ reaches ranges (k + 1) n
+-- neither the lower ends of the ranges nor their higher ends descend
+abbrev pub AreAscending : List Range → Type 0
+AreAscending ranges = IsNonDecreasingBy (λ range. range.low) ranges × IsNonDecreasingBy (λ range. range.high) ranges
 
 -- the number of a row that the ranges of an option have
 abbrev pub number_of : FilterOption → RowView → ℕ
@@ -67,12 +63,9 @@ number_of o row = 0
 abbrev pub by_range : FilterOption → Range → RowTest
 by_range o range label row = in_range (number_of o row) range
 
--- the ranges are those of the items of the text, unless it is a label
-abbrev pub HasRanges : Part → List Range → Type 0
-HasRanges part ranges = is_on_labels part.0 ≡ false → tests_of part ≡ Some (map (by_range part.0) ranges)
-
--- the set has the numbers of such ranges
-pub record HasSet (part : Part) (set : List Range) : Type 0 where
-  pub items : List Range
-  pub has : HasRanges part items
-  pub same : in_ranges set ≡ in_ranges items
+-- the text is well formed, and unless it is a label, a row meets the option if and only if its number is in the ranges
+pub record HasRanges (part : Part) (ranges : List Range) : Type 0 where
+  pub sound : is_malformed part ≡ false
+  pub ascending : is_on_labels part.0 ≡ false → AreAscending ranges
+  pub numbers : is_on_labels part.0 ≡ false → (label : AddressOf → Option (List ℕ)) (row : RowView)
+      → meets label row part ≡ in_ranges ranges (number_of part.0 row)

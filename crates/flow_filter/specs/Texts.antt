@@ -3,7 +3,7 @@ use Rattle.std.specs.List.{after_first, before_first, list_any}
 use Rattle.std.specs.Result.{result_ok}
 use Rattle.prefix_keys.specs.Text.{AddressOf, BlockOf, address_of, block_of_text, decimal_number}
 use Rattle.prefix_keys.specs.Block.{width_of}
-use Rattle.flow_filter.specs.declared.range.Range.{Range}
+use Rattle.flow_filter.specs.declared.ranges.Range.{Range}
 
 -- The written forms of filters.
 

@@ -1,7 +1,4 @@
-ghost use Rattle.std.specs.Prelude.{◌≡◌};
-
 use crate::option::FilterOption;
-use std::alloc::AllocError;
 use thiserror::Error;
 
 /// The reason why the text of an option can't be read.
@@ -15,16 +12,6 @@ pub enum FilterFaultKind {
     BadBlock,
     /// An allocation failed.
     NoMemory,
-}
-
-impl From<AllocError> for FilterFaultKind {
-    ghost use Rattle.flow_filter.specs.declared.fault.FilterFaultKind.TheVariants.{NoMemory};
-
-    ghost from_gives = { λ _ kind. kind ≡ NoMemory };
-
-    fn from(_error: AllocError) -> FilterFaultKind {
-        FilterFaultKind::NoMemory
-    }
 }
 
 /// The option whose text can't be read, and the reason.

@@ -1,21 +1,31 @@
-ghost use Rattle.std.specs.Prelude.{◌≡◌, IfErr, IfOk, Ok};
-ghost use Rattle.flow_filter.specs.Condition.{filter_of, needs_map, row_passes};
+ghost use Rattle.std.specs.Prelude.{◌≡◌, ◌++◌, ◌∷◌, [], IfErr, IfOk, Ok, OnOk, Some, false};
+ghost use Rattle.std.specs.Option.{option_eq};
+ghost use Rattle.std.specs.Str.{bytes_eq};
 ghost use Rattle.label_lookup.specs.Labelling.{label_where, labelling_lent};
-ghost use Rattle.flow_filter.specs.Filters.{IsFault, texts_of};
+ghost use Rattle.flow_filter.specs.Condition.{filter_of, is_malformed, meets, needs_map, row_passes};
+ghost use Rattle.flow_filter.specs.Filters.{IsFault, IsRefused, number_of, texts_of};
 
-use crate::fault::FilterFault;
-use crate::option::ALL_OPTIONS;
-use crate::part::{ReadPart, add_part};
-use crate::words::FilterWords;
+use crate::fault::{FilterFault, FilterFaultKind};
+use crate::items::{mapped_number, read_ranges};
+use crate::option::{ALL_OPTIONS, FilterOption};
+use crate::ranges::{Range, covers};
 use flow_rows::Row;
-use label_lookup::Labeller;
+use label_lookup::{Labeller, label_row_under};
+use prefix_keys::Addr;
 use std::alloc::Global;
 use std::marker::Model;
+
+/// The text of each option given.
+#[derive(Clone, Copy)]
+pub struct FilterWords<'a> {
+    /// The texts of `ALL_OPTIONS`, in this order.
+    pub texts: [Option<&'a str>; 10],
+}
 
 /// Conditions on flow rows, one for each option given. A row passes if it meets all of them.
 #[derive(Drop)]
 pub struct Filter<'a> {
-    parts: Vec<ReadPart<'a>>,
+    parts: Vec<Part<'a>>,
 }
 
 impl<'a> Model for Filter<'a> {
@@ -24,6 +34,88 @@ impl<'a> Model for Filter<'a> {
     ghost Value = { Condition };
 
     ghost view = { λ f. f.parts.items };
+}
+
+// A part of a filter: an option with its text, which is well formed.
+#[derive(Drop)]
+struct Part<'a> {
+    option: FilterOption,
+    text: &'a str,
+    // The numbers of the items of the text, unless it is a label.
+    ranges: Vec<Range>,
+}
+
+impl<'a> Model for Part<'a> {
+    ghost use Rattle.flow_filter.specs.Condition.{Part as Given};
+    ghost use Rattle.flow_filter.specs.Filters.{HasRanges};
+
+    ghost Value = { Given };
+
+    ghost view = { λ p. (p.option, p.text.now) };
+
+    ghost invariant = { λ p. HasRanges (p.option, p.text.now) p.ranges.items };
+}
+
+// Returns the number that an option compares. That of an address is its number as an IPv6 address.
+fn number_of(option: FilterOption, row: &Row<'_>) -> u128
+    ensures { result ≡ number_of option row.now }
+{
+    match option {
+        FilterOption::Protocol => u128::from(row.protocol()),
+        FilterOption::SourcePort => u128::from(row.sport()),
+        FilterOption::DestinationPort => u128::from(row.dport()),
+        FilterOption::SourceAddress => mapped_number(row.src()),
+        FilterOption::DestinationAddress => mapped_number(row.dst()),
+        FilterOption::Packets => u128::from(row.packets()),
+        FilterOption::Bytes => u128::from(row.octets()),
+        _ => 0,
+    }
+}
+
+// Returns `true` if the address has this label. Out of line, so that `meets` needs little of the stack.
+#[inline(never)]
+fn has_label<L: Labeller>(label: &str, labeller: Option<&L>, addr: Addr) -> bool
+    ensures { result ≡ option_eq bytes_eq
+        (label_where (labelling_lent L.version_of L.label labeller.entry) (addr.version, addr.value)) (Some label.now) }
+{
+    label_row_under(labeller, addr) == Some(label.as_bytes())
+}
+
+// Reads the text of an option, and appends the part.
+fn add_part<'a>(
+    alloc: Global,
+    option: FilterOption,
+    text: &'a str,
+    parts: &mut Vec<Part<'a>>,
+) -> Result<(), FilterFaultKind>
+    ensures ok { OnOk result ((parts.new.items ≡ parts.old.items ++ (option, text.entry.now) ∷ []) × (is_malformed (option, text.entry.now) ≡ false)) }
+    ensures err { IfErr result (IsRefused (option, text.entry.now)) }
+{
+    let ranges = read_ranges(alloc, option, text.as_bytes())?;
+    let part = Part {
+        option,
+        text,
+        ranges,
+    };
+    parts.push(part).map_err(|_| FilterFaultKind::NoMemory)
+}
+
+impl<'a> Part<'a> {
+    // Whether the row meets the condition that the option states. Without a labeller no address has a label.
+    #[inline(never)]
+    fn meets<L: Labeller>(&self, row: &Row<'_>, labeller: Option<&L>) -> bool
+        ensures { result ≡ meets (label_where (labelling_lent L.version_of L.label labeller.entry)) row.now self.now }
+    {
+        match self.option {
+            FilterOption::SourceLabel => has_label(self.text, labeller, row.src()),
+            FilterOption::DestinationLabel => has_label(self.text, labeller, row.dst()),
+            FilterOption::AnyLabel => {
+                has_label(self.text, labeller, row.src())
+                    || has_label(self.text, labeller, row.dst())
+            }
+            option => covers(self.ranges.as_slice(), number_of(option, row)),
+        }
+    }
 }
 
 impl<'a> Filter<'a> {
@@ -64,6 +156,6 @@ impl<'a> Filter<'a> {
     pub fn needs_map(&self) -> bool
         ensures { result ≡ needs_map self.now }
     {
-        self.parts.iter().any(|part| part.is_on_labels())
+        self.parts.iter().any(|part| part.option.is_on_labels())
     }
 }

@@ -1,36 +1,86 @@
 //! Reading the items of the text of an option as ranges of numbers. Addresses have IPv6 numbers.
-ghost use Rattle.std.specs.Prelude.{◌≡◌, ◌++◌, ◌∷◌, [], IfErr, IfOk, OnOk, false, option_map};
-ghost use Rattle.flow_filter.specs.Condition.{item_test};
-ghost use Rattle.flow_filter.specs.Filters.{HasRanges, IsRefused, by_range};
-ghost use Rattle.flow_filter.specs.Options.{NoMemory, is_on_labels};
+ghost use Rattle.std.specs.Prelude.{◌≡◌, ℕ, IfErr, IfOk, false, ok_or, option_map};
+ghost use Rattle.std.specs.Result.{result_map_both};
+ghost use Rattle.flow_rows.specs.Elements.{RowView};
+ghost use Rattle.flow_filter.specs.Condition.{by_address, in_range, item_test};
+ghost use Rattle.flow_filter.specs.Filters.{HasRanges, IsRefused, by_range, mapped_number};
+ghost use Rattle.flow_filter.specs.Options.{is_on_labels, kind_of};
+ghost use Rattle.flow_filter.specs.Texts.{address_item, number_range};
 
-use crate::blocks::read_places;
 use crate::fault::FilterFaultKind;
-use crate::number::read_range;
 use crate::option::FilterOption;
-use crate::range::Range;
+use crate::ranges::{Range, sort_ranges};
+use prefix_keys::{
+    Addr, MAPPED_PREFIX, Version, block_of, cut, read_addr, read_block, read_decimal,
+};
 use std::alloc::Global;
 
-// Reads an item of an option that isn't on labels.
-fn read_item(option: FilterOption, item: &[u8]) -> Option<Range>
-    requires { is_on_labels option ≡ false }
-    ensures { option_map (by_range option) result ≡ item_test option item.now }
+// Reads a text `N` or `N-M`, or `N-` if the range may be open: all numbers from N to the limit. The numbers are at most
+// the limit, and M isn't less than N.
+fn read_numbers(text: &[u8], limit: u64, may_be_open: bool) -> Option<Range>
+    ensures { result ≡ number_range may_be_open limit text.now }
 {
-    match option {
-        FilterOption::Protocol => read_range(item, 255, false),
-        FilterOption::SourcePort | FilterOption::DestinationPort => read_range(item, 65535, false),
-        FilterOption::SourceAddress | FilterOption::DestinationAddress => read_places(item),
-        FilterOption::Packets | FilterOption::Bytes => read_range(item, u64::MAX, true),
-        _ => None,
+    let (front, back) = cut(text, b'-');
+    let low = read_decimal(front, 20, limit)?;
+    let high = if !text.contains(&b'-') {
+        low
+    } else if may_be_open && back.is_empty() {
+        limit
+    } else {
+        read_decimal(back, 20, limit)?
+    };
+    let range = Range {
+        low: u128::from(low),
+        high: u128::from(high),
+    };
+    (low <= high).then_some(range)
+}
+
+/// Returns the number of the address as an IPv6 address (RFC 4291, section 2.5.5.2).
+pub fn mapped_number(addr: Addr) -> u128
+    ensures { result ≡ mapped_number (addr.version, addr.value) }
+{
+    match addr.version {
+        Version::V4 => addr.value + MAPPED_PREFIX,
+        Version::V6 => addr.value,
     }
 }
 
-/// Appends an item to the items.
-pub fn push<T: Drop>(items: &mut Vec<T>, item: T) -> Result<(), FilterFaultKind>
-    ensures ok { OnOk result (items.new.items ≡ items.old.items ++ item ∷ []) }
-    ensures err { IfErr result (λ kind. kind ≡ NoMemory) }
+// Reads an item of an address list, and returns the numbers of its addresses. The item is a block if there is a `/`,
+// otherwise an address, which is a block of full length.
+fn read_addresses(text: &[u8]) -> Option<Range>
+    ensures { (address : RowView → ℕ) → option_map (λ range label row. in_range (mapped_number (row.version, address row)) range) result
+        ≡ by_address address (address_item text.now) }
 {
-    items.push(item).map_err(|_| FilterFaultKind::NoMemory)
+    let block = if text.contains(&b'/') {
+        read_block(text).ok()?
+    } else {
+        let addr = read_addr(text)?;
+        block_of(addr, addr.version.width())
+    };
+    Some(Range {
+        low: mapped_number(block.low()),
+        high: mapped_number(block.high()),
+    })
+}
+
+// Reads an item of an option that isn't on labels.
+fn read_item(option: FilterOption, item: &[u8]) -> Result<Range, FilterFaultKind>
+    requires { is_on_labels option ≡ false }
+    ensures { result_map_both (by_range option) (λ kind. kind) result ≡ ok_or (item_test option item.now) (kind_of option) }
+{
+    match option {
+        FilterOption::Protocol => {
+            read_numbers(item, 255, false).ok_or(FilterFaultKind::BadNumberList)
+        }
+        FilterOption::SourceAddress | FilterOption::DestinationAddress => {
+            read_addresses(item).ok_or(FilterFaultKind::BadBlock)
+        }
+        FilterOption::Packets | FilterOption::Bytes => {
+            read_numbers(item, u64::MAX, true).ok_or(FilterFaultKind::BadRange)
+        }
+        _ => read_numbers(item, 65535, false).ok_or(FilterFaultKind::BadNumberList),
+    }
 }
 
 /// Reads the ranges of the items of a text. A label has none.
@@ -48,8 +98,9 @@ pub fn read_ranges(
     }
     let is_list = option.is_list();
     for item in text.split(|byte| is_list && *byte == b',') {
-        let range = read_item(option, item).ok_or(option.fault_kind())?;
-        push(&mut ranges, range)?;
+        let range = read_item(option, item)?;
+        ranges.push(range).map_err(|_| FilterFaultKind::NoMemory)?;
     }
+    sort_ranges(&mut ranges);
     Ok(ranges)
 }

@@ -18,10 +18,3 @@ pub fn options_hold_together()
     ensures left { (condition : Condition) (labels : Option Labelling) (rows : List RowView) →
         passing condition labels rows ≡ rows_left condition labels rows }
 {}
-
-/// The rows that pass of two lists of rows, one after the other, are those of the first list followed by those of the
-/// second.
-pub fn rows_pass_in_order()
-    ensures { (condition : Condition) (labels : Option Labelling) (rows more : List RowView) →
-        passing condition labels (rows ++ more) ≡ passing condition labels rows ++ passing condition labels more }
-{}

@@ -20,20 +20,14 @@
 //! allows are stored is private. `passes` allocates nothing.
 #![tactic(auto)]
 
-mod blocks;
 mod fault;
 mod filter;
 mod items;
 mod laws;
-mod number;
 mod option;
-mod part;
-mod range;
 mod ranges;
-mod words;
 
 pub use fault::{FilterFault, FilterFaultKind};
-pub use filter::Filter;
-pub use laws::{options_hold_together, rows_pass_in_order};
+pub use filter::{Filter, FilterWords};
+pub use laws::options_hold_together;
 pub use option::{ALL_OPTIONS, FilterOption};
-pub use words::FilterWords;

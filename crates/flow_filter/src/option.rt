@@ -1,7 +1,5 @@
 ghost use Rattle.std.specs.Prelude.{◌≡◌};
 
-use crate::fault::FilterFaultKind;
-
 /// An option that states a condition on rows.
 #[derive(Clone, Copy, Debug, PartialEq, Eq)]
 pub enum FilterOption {
@@ -42,7 +40,7 @@ pub const ALL_OPTIONS: [FilterOption; 10] = [
 ];
 
 impl FilterOption {
-    ghost use Rattle.flow_filter.specs.Options.{is_list, is_on_labels, kind_of, name_of};
+    ghost use Rattle.flow_filter.specs.Options.{is_list, is_on_labels, name_of};
 
     /// Returns the name of the option.
     pub fn name(self) -> &'static str
@@ -77,18 +75,5 @@ impl FilterOption {
         ensures { result ≡ is_list self }
     {
         !self.is_on_labels() && !matches!(self, FilterOption::Packets | FilterOption::Bytes)
-    }
-
-    /// Returns the fault of a text that is malformed.
-    pub(crate) fn fault_kind(self) -> FilterFaultKind
-        ensures { result ≡ kind_of self }
-    {
-        match self {
-            FilterOption::SourceAddress | FilterOption::DestinationAddress => {
-                FilterFaultKind::BadBlock
-            }
-            FilterOption::Packets | FilterOption::Bytes => FilterFaultKind::BadRange,
-            _ => FilterFaultKind::BadNumberList,
-        }
     }
 }
