@@ -1,12 +1,12 @@
-use Rattle.std.specs.Prelude.{◌≡◌, ℕ, zero, suc, ◌^◌, ◌<◌, ◌==◌, ◌++◌, Bool, List, [], ◌∷◌, Option, Some, None, length, take, drop, nat_lt, option_copied, replicate, if◌then◌else◌, ◌+◌, ◌-◌, ◌*◌, ◌/◌, ◌%◌, ◌≤◌, map, unwrap_or}
+use Rattle.std.specs.Prelude.{◌≡◌, ℕ, zero, suc, ◌^◌, ◌<◌, ◌==◌, ◌++◌, Bool, List, [], ◌∷◌, Option, Some, None, length, take, drop, nat_lt, option_and_then, option_copied, option_map, if◌then◌else◌, ◌+◌, ◌-◌, ◌*◌, ◌/◌, ◌%◌, ◌≤◌, map, unwrap_or}
 use Rattle.std.specs.Int.{w16, w32, w64, from_be_bytes, to_be_bytes}
 use Rattle.std.specs.List.{AllByRecursion, IsDistinct, flat_map}
 use Rattle.std.specs.Map.{keys_of, lookup}
+use Rattle.std.specs.Option.{option_map_or}
 use Rattle.std.specs.Str.{bytes_eq}
 use Rattle.indexmap.specs.IndexMap.{insert_entry}
 use Rattle.prefix_keys.specs.Block.{width_of}
 use Rattle.prefix_keys.specs.declared.version.Version.TheVariants.{V4, V6}
-use Rattle.pmap_text.specs.MapModel.{Label}
 use Rattle.flow_rows.specs.Elements.{RowView}
 use Rattle.flow_uniq.specs.declared.codec.KeyPart.{KeyPart}
 use Rattle.flow_uniq.specs.Key.{Key, KeyPartModel, AddressPart, NumberPart, LabelPart}
@@ -48,30 +48,24 @@ IsSmall (AddressPart address) = address.1 < 2 ^ width_of address.0
 abbrev pub AreSmall : Key → Type 0
 AreSmall key = AllByRecursion IsSmall key
 
--- the given number of bytes at the start and those after them, or zeros if there are too few
-abbrev pub front_bytes : ℕ → List ℕ → List ℕ × List ℕ
-front_bytes count code = if nat_lt (length code) count then (replicate count 0, code) else (take count code, drop count code)
+-- the given number of bytes at the start and those after them, if there are as many
+abbrev pub front_bytes : ℕ → List ℕ → Option (List ℕ × List ℕ)
+front_bytes count code = if nat_lt (length code) count then None else Some (take count code, drop count code)
 
--- the text of the given number of bytes at the start and the bytes after it, or none if there are too few
-abbrev pub text_front : ℕ → List ℕ → Option Label × List ℕ
-text_front len code = if nat_lt (length code) len then (None, code) else (Some (take len code), drop len code)
-
--- the part of this kind, and the bytes after it
-abbrev pub part_after : ℕ → List ℕ → KeyPartModel × List ℕ
-part_after kind code =
-    let label = text_front (from_be_bytes w64 (front_bytes 8 code).0) (front_bytes 8 code).1 in
-    let low = front_bytes 8 (front_bytes 8 code).1 in
-    if kind == 0 then (NumberPart (from_be_bytes w16 (front_bytes 2 code).0), (front_bytes 2 code).1)
-    else if kind == 1 then (LabelPart None, code)
-    else if kind == 2 then (LabelPart label.0, label.1)
-    else if kind == 4 then (AddressPart (V4, from_be_bytes w32 (front_bytes 4 code).0), (front_bytes 4 code).1)
-    else (AddressPart (V6, from_be_bytes w64 (front_bytes 8 code).0 * 2 ^ 64 + from_be_bytes w64 low.0), low.1)
+-- the part at the start of bytes, and the bytes after it
+abbrev pub first_part : List ℕ → Option (KeyPartModel × List ℕ)
+first_part [] = None
+first_part (kind ∷ code) =
+    if kind == 0 then option_map (λ c. (NumberPart (from_be_bytes w16 c.0), c.1)) (front_bytes 2 code)
+    else if kind == 1 then Some (LabelPart None, code)
+    else if kind == 2 then option_and_then (λ len. option_map (λ c. (LabelPart (Some c.0), c.1)) (front_bytes (from_be_bytes w64 len.0) len.1)) (front_bytes 8 code)
+    else if kind == 4 then option_map (λ c. (AddressPart (V4, from_be_bytes w32 c.0), c.1)) (front_bytes 4 code)
+    else option_and_then (λ high. option_map (λ low. (AddressPart (V6, from_be_bytes w64 high.0 * 2 ^ 64 + from_be_bytes w64 low.0), low.1)) (front_bytes 8 high.1)) (front_bytes 8 code)
 
 -- the parts that the bytes encode, up to a maximum number
 abbrev pub parts_in : ℕ → List ℕ → Key
 parts_in zero code = []
-parts_in (suc most) [] = []
-parts_in (suc most) (kind ∷ code) = (part_after kind code).0 ∷ parts_in most (part_after kind code).1
+parts_in (suc most) code = option_map_or (λ p. p.0 ∷ parts_in most p.1) (first_part code) []
 
 -- the key in bytes
 abbrev pub key_in : List ℕ → Key

@@ -1,8 +1,8 @@
 //! Keys as bytes: the bytes that are written for the key of a row are read back as this key, part by part.
-ghost use Rattle.std.specs.Prelude.{◌≡◌, ◌++◌, ◌∷◌, ◌<◌, ◌^◌, ◌↔◌, [], IfNone, IfOk, IfSome, IsTrue, OnOk, Some, length, option_copied};
+ghost use Rattle.std.specs.Prelude.{◌≡◌, ◌++◌, ◌∷◌, ◌<◌, ◌^◌, ◌↔◌, [], IfNone, IfOk, IfSome, IsTrue, OnOk, length, option_map};
 ghost use Rattle.label_lookup.specs.Labelling.{label_where, labelling_lent};
 ghost use Rattle.flow_uniq.specs.Key.{AddressPart, Key as Parts, LabelPart, key_of, key_part};
-ghost use Rattle.flow_uniq.specs.Inner.{AreSmall, IsCode, IsSmall, front_bytes, key_code, key_in, part_after, part_code, part_model, text_front};
+ghost use Rattle.flow_uniq.specs.Inner.{AreSmall, IsCode, IsSmall, first_part, key_code, key_in, part_code, part_model};
 
 use crate::field::KeyField;
 use flow_rows::Row;
@@ -32,15 +32,9 @@ pub struct Key<'a> {
 }
 
 /// A key as bytes, which are hashed and compared in one piece. Most keys have few bytes, which are stored inline.
+#[derive(Drop)]
 pub struct Code {
     bytes: SmallVec<u8, 24>,
-}
-
-// A drop is one call, so the proofs of functions that drop this type have one step instead of one for each part.
-impl Drop for Code {
-    fn drop(self) {
-        let Code { bytes: _ } = self;
-    }
 }
 
 impl Model for Code {
@@ -190,54 +184,33 @@ impl Code {
     }
 }
 
-// Returns the first `N` bytes and those after them, or zeros if there are too few.
-fn front_bytes<const N: usize>(code: &[u8]) -> ([u8; N], &[u8])
-    ensures { (result.0, result.1.now) ≡ front_bytes N code.now }
+// Returns the part at the start of the bytes, and the bytes after it, or `None` if there are too few.
+fn first_part(code: &[u8]) -> Option<(KeyPart<'_>, &[u8])>
+    ensures { option_map (λ r. (part_model r.0, r.1.now)) result ≡ first_part code.now }
 {
-    match code.split_first_chunk::<N>() {
-        Some((front, rest)) => (*front, rest),
-        None => ([0; N], code),
-    }
-}
-
-// Returns the text of the first `len` bytes and the bytes after it, or `None` if there are too few.
-fn text_front(len: u64, code: &[u8]) -> (Option<&[u8]>, &[u8])
-    ensures { (option_copied result.0, result.1.now) ≡ text_front len code.now }
-{
-    match code.split_at_checked(len as usize) {
-        Some((text, rest)) => (Some(text), rest),
-        None => (None, code),
-    }
-}
-
-// Returns the part of this kind, and the bytes after it.
-fn part_after(kind: u8, code: &[u8]) -> (KeyPart<'_>, &[u8])
-    ensures { (part_model result.0, result.1.now) ≡ part_after kind code.now }
-{
-    match kind {
+    let (kind, code) = code.split_first()?;
+    match *kind {
         0 => {
-            let (number, rest) = front_bytes(code);
-            (KeyPart::Number(u16::from_be_bytes(number)), rest)
+            let (number, rest) = code.split_first_chunk()?;
+            Some((KeyPart::Number(u16::from_be_bytes(*number)), rest))
         }
-        1 => (KeyPart::Label(None), code),
+        1 => Some((KeyPart::Label(None), code)),
         2 => {
-            let (len, text_and_rest) = front_bytes(code);
-            let (label, rest) = text_front(u64::from_be_bytes(len), text_and_rest);
-            (KeyPart::Label(label), rest)
+            let (len, code) = code.split_first_chunk()?;
+            let (text, rest) = code.split_at_checked(u64::from_be_bytes(*len) as usize)?;
+            Some((KeyPart::Label(Some(text)), rest))
         }
         4 => {
-            let (bytes, rest) = front_bytes(code);
-            let version = Version::V4;
-            let value = u128::from(u32::from_be_bytes(bytes));
-            (KeyPart::Address(Addr { version, value }), rest)
+            let (value, rest) = code.split_first_chunk()?;
+            let (version, value) = (Version::V4, u128::from(u32::from_be_bytes(*value)));
+            Some((KeyPart::Address(Addr { version, value }), rest))
         }
         _ => {
-            let (high, low_and_rest) = front_bytes(code);
-            let (low, rest) = front_bytes(low_and_rest);
-            let version = Version::V6;
-            let (high, low) = (u64::from_be_bytes(high), u64::from_be_bytes(low));
-            let value = (u128::from(high) << 64) + u128::from(low);
-            (KeyPart::Address(Addr { version, value }), rest)
+            let (high, code) = code.split_first_chunk()?;
+            let (low, rest) = code.split_first_chunk()?;
+            let (high, low) = (u64::from_be_bytes(*high), u64::from_be_bytes(*low));
+            let (version, value) = (Version::V6, (u128::from(high) << 64) + u128::from(low));
+            Some((KeyPart::Address(Addr { version, value }), rest))
         }
     }
 }
@@ -259,8 +232,7 @@ impl<'a> Key<'a> {
         ensures some { IfSome result (λ r. key_model self.entry ≡ part_model r.0 ∷ key_model r.1) }
         ensures none { IfNone result (key_model self.entry ≡ []) }
     {
-        let (kind, rest) = self.code.split_first()?;
-        let (part, code) = part_after(*kind, rest);
+        let (part, code) = first_part(self.code)?;
         Some((part, Key { code }))
     }
 }

@@ -112,14 +112,9 @@ fn add_row(
         return Ok(());
     }
     let code = Code::new(alloc, key)?;
-    let none = Totals {
-        records: 0,
-        packets: 0,
-        octets: 0,
-    };
     let entry = totals.entry(code)?;
     recent[slot] = entry.index();
-    entry.or_insert(none).add(row);
+    entry.or_insert(Totals::default()).add(row);
     Ok(())
 }
 

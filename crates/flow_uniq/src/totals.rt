@@ -3,7 +3,7 @@ ghost use Rattle.std.specs.Prelude.{◌≡◌, ◌<◌, ◌≤◌, ◌-◌, ◌^
 use flow_rows::Row;
 
 /// The totals of the rows of a group.
-#[derive(Clone, Copy)]
+#[derive(Clone, Copy, Default)]
 pub struct Totals {
     /// The number of rows.
     pub records: u64,
