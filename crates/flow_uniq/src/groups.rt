@@ -24,6 +24,7 @@ type Entries = IndexMap<Code, Totals, KeyHashing>;
 const RECENT: usize = 4096;
 
 /// The groups of rows by their keys, in the order of the first rows, with their totals.
+#[derive(Drop)]
 pub struct Groups {
     alloc: Global,
     fields: Vec<KeyField>,
@@ -32,19 +33,6 @@ pub struct Groups {
     key: Vec<u8>,
     // The indices of the groups of recent rows, by the last bytes of their keys: guesses, which are checked before use.
     recent: [usize; RECENT],
-}
-
-// A drop is one call, so the proofs of functions that drop this type have one step instead of one for each part.
-impl Drop for Groups {
-    fn drop(self) {
-        let Groups {
-            alloc: _,
-            fields: _,
-            totals: _,
-            key: _,
-            recent: _,
-        } = self;
-    }
 }
 
 impl Model for Groups {
