@@ -1,11 +1,11 @@
 -- The printed text of a list is read as the list, and as a map with the same labels.
-use Rattle.std.proofs.Common.{◌≡◌, ℕ, suc, ◌-◌, ◌%◌, ◌^◌, ◌<◌, ◌≤◌, ◌==◌, ◌⊎◌, ◌∙◌, inl, inr, true, false, not, List, [], ◌∷◌, ◌++◌, All, MatchOption, Option, Some, None, Result, Ok, codes, get_or, length, map, refl, sym, ap, slice_get, subst, arith, IsTrue, unwrap_or}
+use Rattle.std.proofs.Common.{◌≡◌, ℕ, suc, ◌==◌, ◌⊎◌, ◌∙◌, inl, inr, true, false, not, List, [], ◌∷◌, ◌++◌, All, MatchOption, Option, Some, None, Result, Ok, codes, get_or, map, refl, sym, ap, arith, IsTrue, unwrap_or}
 use Rattle.std.specs.List.{IsDistinct}
 use Rattle.std.specs.List.Sorted.{IsPermutation}
 use Rattle.std.specs.Option.{ForSome, option_map_or}
 use Rattle.std.proofs.lemmas.Bool.Decides.{nat_tests}
 use Rattle.std.proofs.lemmas.Bool.{and_from, both_ways, eq-eqb, false_from_ne_true, not-true}
-use Rattle.std.proofs.lemmas.List.{length-append, length-map}
+use Rattle.std.proofs.lemmas.List.{length-append}
 use Rattle.std.proofs.lemmas.List.Elements.{All-append, All-cons, All-contains, All-map, All-nil, All-weaker}
 use Rattle.std.proofs.lemmas.List.Sorted.{All-permutation, length_permutation}
 use Rattle.std.proofs.lemmas.List.Sums.{AllPass-from_list_all}
@@ -17,21 +17,15 @@ use Rattle.prefix_keys.specs.declared.version.Version.{Version}
 use Rattle.prefix_keys.specs.declared.version.Version.TheVariants.{V4, V6}
 use Rattle.prefix_keys.proofs.Printed.{Lacks}
 use Rattle.pmap_cert.specs.Acceptance.{HasBlock}
-use Rattle.pmap_text.specs.Label.{IsLabelTable, is_label}
-use Rattle.pmap_text.specs.Reading.{◌>>=◌, Earlier, label_limit, lines_read, list_from, map_from, mapping_limit, no_lines, text_read, unknown, map_reading, list_reading}
-use Rattle.pmap_text.specs.ListModel.{IsEquivalent, ListModel, Prefix, label_below, list_label, CoversAddress, IsLongestMatch, is_same_prefix}
-use Rattle.pmap_text.specs.MapModel.{Label, MapModel, Mapping, last_such, map_label, spans}
-use Rattle.pmap_text.specs.MapText.{text_at}
-use Rattle.pmap_text.specs.PrefixList.{list_of, prefix_of}
-use Rattle.pmap_text.specs.declared.entry.Entry.{Entry as ListEntry}
-use Rattle.pmap_text.specs.declared.prefix_list.PrefixList.{PrefixList}
+use Rattle.pmap_text.specs.Label.{is_label}
+use Rattle.pmap_text.specs.Reading.{◌>>=◌, Earlier, lines_read, list_from, map_from, no_lines, text_read, unknown, map_reading, list_reading}
+use Rattle.pmap_text.specs.ListModel.{ListModel, Prefix, label_below, list_label, CoversAddress, IsLongestMatch, is_same_prefix}
+use Rattle.pmap_text.specs.MapModel.{Label, MapModel, Mapping, last_such, spans}
 use Rattle.pmap_text.specs.declared.fault.MapFault.{MapFault}
 use Rattle.pmap_text.specs.declared.form.Form.{Form}
 use Rattle.pmap_text.specs.declared.form.Form.TheVariants as form
-use Rattle.pmap_text.proofs.ListBlocks.{distinct-list_of}
-use Rattle.pmap_text.proofs.Orders.{known_text}
 use Rattle.pmap_text.proofs.ListLabels.{label-longest, label-same_prefixes, longest-match, once-distinct, same_prefixes-permuted}
-use Rattle.pmap_print.specs.List.{entry_line, list_text, mode_text, name_lines, entries_in_order, starts_alike, CanBeReadAgain, IsListAgain, IsMapAgain, IsPrintedEntry, labels_of}
+use Rattle.pmap_print.specs.List.{entry_line, list_text, mode_text, name_lines, entries_in_order, starts_alike, CanBeReadAgain, IsListAgain, IsMapAgain, IsPrintedEntry}
 use Rattle.pmap_print.proofs.LastMatch.{last-found, match-in, mapping_of_prefix}
 use Rattle.prefix_keys.proofs.Groups.{width-le}
 use Rattle.pmap_print.proofs.Order.{alike-flips, in_order-moves, in_order-order}
@@ -165,62 +159,3 @@ module _ (l : ListModel) (can : CanBeReadAgain l) where
               ∙ same-label a;
         },
       )
-
--- if the list labels each address as a map does, so do both readings of its text
-pub map-equivalent : (l : ListModel) (m : MapModel) → CanBeReadAgain l → IsEquivalent l m
-    → (again : MapModel) × (map_reading (list_text l) ≡ Ok again) × (again.version ≡ m.version)
-    × ((a : ℕ) → a < 2 ^ width_of m.version → map_label again a ≡ map_label m a)
-map-equivalent l m can alike =
-    let found = map-again l can in (
-      found.0,
-      found.1,
-      (found.2).version ∙ alike.version,
-      λ a below. (found.2).labels a (subst (λ (v : Version). a < 2 ^ width_of v) (sym alike.version) below)
-          ∙ ap (λ (o : Option Label). unwrap_or o unknown) (alike.labels a below),
-    )
-
-again-label : (l r : ListModel) → CanBeReadAgain l → IsListAgain l r → (a : ℕ) → list_label r a ≡ list_label l a
-again-label l r can is a =
-    ap (λ (v : Version). label_below (width_of v) r.prefixes (suc (width_of v)) a) is.version
-    ∙ ap (λ (ps : List Prefix). label_below (width_of l.version) ps (suc (width_of l.version)) a) is.prefixes
-    ∙ sym (order-label l can a)
-
-pub list-equivalent : (l : ListModel) (m : MapModel) → CanBeReadAgain l → IsEquivalent l m
-    → (again : ListModel) × (list_reading (list_text l) ≡ Ok again) × IsEquivalent again m
-list-equivalent l m can alike =
-    let found = list-again l can in (
-      found.0,
-      found.1,
-      record {
-        version = (found.2).version ∙ alike.version;
-        labels = λ a below. again-label l found.0 can found.2 a ∙ alike.labels a below;
-      },
-    )
-
--- the printed text of a prefix list can be read again
-entry-printed : (l : PrefixList) → IsLabelTable l.labels → (k : ℕ) (d : ListEntry) → k < length l.entries
-    → IsPrintedEntry l.version (prefix_of l.labels (get_or l.entries k d))
-entry-printed l is k d below =
-    let e : ListEntry = get_or l.entries k d in
-    let same : e.block.version ≡ l.version = l.one_version k d below in
-    let known : slice_get l.labels e.label.0 ≡ Some (text_at l.labels e.label.0) = known_text l.labels e.label.0 (l.numbers_known k d below) in
-    record {
-      block = record {
-        bits = subst (λ (v : Version). e.block.len ≤ width_of v) same e.block.len_in_range;
-        start = subst (λ (v : Version). e.block.value < 2 ^ width_of v) same e.block.in_range;
-        no_host_bit = subst (λ (v : Version). e.block.value % 2 ^ (width_of v - e.block.len) ≡ 0) same e.block.no_host_bit;
-      };
-      label = is.labels e.label.0 (text_at l.labels e.label.0) known;
-    }
-
-pub list-printable : (l : PrefixList) → IsLabelTable l.labels → ForSome l.name (λ n. IsTrue (is_label n)) → length l.entries ≤ mapping_limit
-    → length (labels_of (entries_in_order (list_of l).prefixes)) ≤ label_limit → CanBeReadAgain (list_of l)
-list-printable l is name few few_labels = record {
-  form = record {
-    entries = All-map (IsPrintedEntry l.version) (prefix_of l.labels) l.entries (entry-printed l is);
-    distinct = distinct-list_of l;
-    name = name;
-  };
-  few_entries = omega (arith, few, length-map l.entries (prefix_of l.labels));
-  few_labels = few_labels;
-}

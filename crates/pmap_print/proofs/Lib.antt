@@ -6,7 +6,6 @@ pub mod ReadLines
 pub mod ReadList
 pub mod Again
 pub mod Appended
-pub mod FewLabels
 pub mod MinimalLists
 pub mod GroupLines
 pub mod GroupText

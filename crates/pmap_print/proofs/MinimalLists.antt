@@ -17,9 +17,8 @@ use Rattle.pmap_cert.proofs.Minimal.{accepted-minimal}
 use Rattle.pmap_text.specs.Label.{is_label}
 use Rattle.pmap_text.specs.ListModel.{ListModel, Prefix, is_same_prefix}
 use Rattle.pmap_text.specs.MapModel.{Label, MapModel}
-use Rattle.pmap_text.specs.Reading.{label_limit, mapping_limit, map_reading, list_reading}
-use Rattle.pmap_print.specs.List.{list_text, CanBeReadAgain, IsPrintedEntry, IsWellFormed, labels_of}
-use Rattle.pmap_print.proofs.Again.{list-again}
+use Rattle.pmap_text.specs.Reading.{label_limit, mapping_limit, map_reading}
+use Rattle.pmap_print.specs.List.{CanBeReadAgain, IsListAgain, IsPrintedEntry, IsWellFormed, labels_of}
 use Rattle.pmap_print.proofs.LastMatch.{block-start}
 use Rattle.pmap_print.proofs.Order.{in_order-kept}
 
@@ -88,25 +87,22 @@ module _ (text : List ℕ) (m : MapModel) (l : ListModel) (c : CertificateModel)
   }
 
   module _ (few : length l.prefixes ≤ mapping_limit) (few_labels : length (labels_of l.prefixes) ≤ label_limit) where
-    pub can-read_again : CanBeReadAgain l
-    can-read_again = record {
-      form = well-formed;
-      few_entries = few;
-      few_labels = subst (λ (ps : List Prefix). length (labels_of ps) ≤ label_limit) (sym (in_order-kept l.prefixes list-has_form.order)) few_labels;
-    }
-
-    pub accepted-again : (again : ListModel) × (list_reading (list_text l) ≡ Ok again) × IsAccepted m again c × (length again.prefixes ≡ length l.prefixes)
-    accepted-again =
-        let found = list-again l can-read_again in
-        let same : found.0.prefixes ≡ l.prefixes = (found.2).prefixes ∙ in_order-kept l.prefixes list-has_form.order in
-        let accepted = accepted-minimal m l c pair in (
-          found.0,
-          found.1,
-          record {
-            list_version = (found.2).version ∙ accepted.list_version;
-            certificate_version = accepted.certificate_version;
-            root = subst (λ (ps : List Prefix). IsNodeAccepted m ps c.root 0 0) (sym same) accepted.root;
-            count = subst (λ (ps : List Prefix). length ps ≤ (claim_of c.root).cost + 1) (sym same) accepted.count;
-          },
-          ap length same,
-        )
+    pub can-read_again : CanBeReadAgain l × ((again : ListModel) → IsListAgain l again → (again.prefixes ≡ l.prefixes) × IsAccepted m again c)
+    can-read_again = (
+      record {
+        form = well-formed;
+        few_entries = few;
+        few_labels = subst (λ (ps : List Prefix). length (labels_of ps) ≤ label_limit) (sym (in_order-kept l.prefixes list-has_form.order)) few_labels;
+      },
+      λ again is.
+          let same : again.prefixes ≡ l.prefixes = is.prefixes ∙ in_order-kept l.prefixes list-has_form.order in
+          let accepted = accepted-minimal m l c pair in (
+            same,
+            record {
+              list_version = is.version ∙ accepted.list_version;
+              certificate_version = accepted.certificate_version;
+              root = subst (λ (ps : List Prefix). IsNodeAccepted m ps c.root 0 0) (sym same) accepted.root;
+              count = subst (λ (ps : List Prefix). length ps ≤ (claim_of c.root).cost + 1) (sym same) accepted.count;
+            },
+          ),
+    )

@@ -1,19 +1,15 @@
 //! The laws on printed texts.
 
-ghost use Rattle.std.specs.Prelude.{◌≡◌, ◌<◌, ◌≤◌, ◌^◌, ℕ, IsTrue, List, Option, Some, length, Ok};
+ghost use Rattle.std.specs.Prelude.{◌≡◌, ◌<◌, ◌≤◌, ◌^◌, ℕ, List, Option, Some, length, Ok};
 ghost use Rattle.std.specs.List.{IsDistinct};
 ghost use Rattle.std.specs.List.Sorted.{IsPermutation};
-ghost use Rattle.std.specs.Option.{ForSome};
 ghost use Rattle.prefix_keys.specs.Block.{width_of};
 ghost use Rattle.prefix_keys.specs.declared.version.Version.{Version};
-ghost use Rattle.pmap_cert.specs.Acceptance.{IsAccepted, IsInOrder, HasItsLabels, IsMinimalPair};
+ghost use Rattle.pmap_cert.specs.Acceptance.{IsAccepted, IsInOrder, IsMinimalPair};
 ghost use Rattle.pmap_cert.specs.CertificateModel.{CertificateModel};
-ghost use Rattle.pmap_text.specs.Label.{IsLabelTable, is_label};
 ghost use Rattle.pmap_text.specs.ListModel.{IsEquivalent, ListModel, Prefix, list_label};
 ghost use Rattle.pmap_text.specs.MapModel.{Label, MapModel, map_label};
-ghost use Rattle.pmap_text.specs.PrefixList.{list_of};
 ghost use Rattle.pmap_text.specs.Reading.{label_limit, mapping_limit, map_reading, list_reading};
-ghost use Rattle.pmap_text.specs.declared.prefix_list.PrefixList.{PrefixList};
 ghost use Rattle.pmap_print.specs.List.{list_text, entries_in_order, starts_alike, CanBeReadAgain, IsListAgain, IsMapAgain, IsWellFormed, labels_of};
 ghost use Rattle.pmap_print.specs.Runs.{IsRunsText};
 ghost use Rattle.pmap_print.specs.Table.{Text};
@@ -49,49 +45,15 @@ pub fn printed_list_is_read_back()
         (m : MapModel) × (map_reading (list_text l) ≡ Ok m) × IsMapAgain l m }
 {}
 
-/// If a list labels each address as a map does, so do both readings of its printed text.
-pub fn printed_list_is_equivalent()
-    ensures list { (l : ListModel) (m : MapModel) → CanBeReadAgain l → IsEquivalent l m →
-        (again : ListModel) × (list_reading (list_text l) ≡ Ok again) × IsEquivalent again m }
-    ensures map { (l : ListModel) (m : MapModel) → CanBeReadAgain l → IsEquivalent l m →
-        (again : MapModel) × (map_reading (list_text l) ≡ Ok again) × (again.version ≡ m.version)
-        × ((a : ℕ) → a < 2 ^ width_of m.version → map_label again a ≡ map_label m a) }
-{}
-
-/// The printed text of a prefix list is within the limits of a text if the list has at most 1,000,000 entries with at
-/// most 65,535 label texts. `Labels::len` and `Name::as_bytes` prove that its table and its name are labels.
-pub fn prefix_list_can_be_read_again()
-    ensures { (l : PrefixList) → IsLabelTable l.labels → ForSome l.name (λ name. IsTrue (is_label name)) →
-        length l.entries ≤ mapping_limit → length (labels_of (entries_in_order (list_of l).prefixes)) ≤ label_limit →
-        CanBeReadAgain (list_of l) }
-{}
-
 /// The list of a minimal pair of a map text is well formed: its blocks are distinct, and its labels and its name are
-/// well formed. So it can be printed and read again if it has at most 1,000,000 entries with at most 65,535 label
-/// texts. The map text doesn't imply these limits: a range may need several blocks, and a text with 65,535 labels may
-/// also use `UNKNOWN` without stating it.
+/// well formed. If it has at most 1,000,000 entries with at most 65,535 label texts, it can be printed and read again,
+/// and the pair's certificate is accepted for the list that is read. The map text doesn't imply these limits: a range may
+/// need several blocks, and a text with 65,535 labels may also use `UNKNOWN` without stating it.
 pub fn minimal_list_can_be_read_again()
     ensures form { (text : List ℕ) (m : MapModel) (l : ListModel) (c : CertificateModel) →
         map_reading text ≡ Ok m → IsMinimalPair m l c → IsWellFormed l }
     ensures again { (text : List ℕ) (m : MapModel) (l : ListModel) (c : CertificateModel) →
         map_reading text ≡ Ok m → IsMinimalPair m l c → length l.prefixes ≤ mapping_limit →
-        length (labels_of l.prefixes) ≤ label_limit → CanBeReadAgain l }
-{}
-
-/// The entries of a minimal pair's list have no more label texts than the map's table, if the table has the map's
-/// labels, as that of a map text does. So the list keeps the limit if the map text has at most 65,535 labels, counting
-/// `UNKNOWN` if it has no default.
-pub fn minimal_list_has_few_labels()
-    ensures { (m : MapModel) (l : ListModel) (c : CertificateModel) → IsMinimalPair m l c → HasItsLabels m →
-        length (labels_of l.prefixes) ≤ length m.table }
-{}
-
-/// If the list of a minimal pair of a map text is within these limits, its printed text is read as a list with as many
-/// entries, and the pair's certificate is accepted for that list.
-pub fn minimal_list_is_accepted_again()
-    ensures { (text : List ℕ) (m : MapModel) (l : ListModel) (c : CertificateModel) →
-        map_reading text ≡ Ok m → IsMinimalPair m l c → length l.prefixes ≤ mapping_limit →
-        length (labels_of l.prefixes) ≤ label_limit →
-        (again : ListModel) × (list_reading (list_text l) ≡ Ok again) × IsAccepted m again c
-        × (length again.prefixes ≡ length l.prefixes) }
+        length (labels_of l.prefixes) ≤ label_limit → CanBeReadAgain l
+        × ((again : ListModel) → IsListAgain l again → (again.prefixes ≡ l.prefixes) × IsAccepted m again c) }
 {}

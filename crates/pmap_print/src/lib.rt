@@ -34,9 +34,8 @@ pub use groups::print_groups;
 pub use info::print_info;
 pub use labels::RowLabels;
 pub use laws::{
-    labelling_has_one_runs_text, minimal_list_can_be_read_again, minimal_list_has_few_labels,
-    minimal_list_is_accepted_again, prefix_list_can_be_read_again, printed_list_is_equivalent,
-    printed_list_is_read_back, printed_order_is_one,
+    labelling_has_one_runs_text, minimal_list_can_be_read_again, printed_list_is_read_back,
+    printed_order_is_one,
 };
 pub use list::print_list;
 pub use rows::print_rows;

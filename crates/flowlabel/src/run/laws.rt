@@ -19,8 +19,7 @@ use pmap_cert::{
     text_of_format_is_read_or_has_a_fault,
 };
 use pmap_print::{
-    labelling_has_one_runs_text, minimal_list_can_be_read_again, minimal_list_is_accepted_again,
-    printed_list_is_read_back, printed_order_is_one,
+    labelling_has_one_runs_text, minimal_list_can_be_read_again, printed_list_is_read_back,
 };
 use pmap_text::{labelling_has_its_runs, runs_cover_each_address_once};
 
@@ -48,14 +47,12 @@ pub fn shrunk_list_is_least()
     minimal_pair_is_accepted();
     minimal_list_is_in_order();
     minimal_list_can_be_read_again();
-    minimal_list_is_accepted_again();
     acceptance_is_enough();
     compact_has_a_text();
     compact_keeps_acceptance();
     text_of_format_is_read_or_has_a_fault();
     no_fault_is_acceptance();
     printed_list_is_read_back();
-    printed_order_is_one();
 }
 
 /// The headline holds for each output that is a text.

@@ -1,13 +1,10 @@
-use Rattle.std.proofs.Common.{◌≡◌, ◌∙◌, ℕ, Ok, None, Option, ap, inl, inr, length, refl, subst, sym}
-use Rattle.pmap_text.specs.ListModel.{ListModel}
+use Rattle.std.proofs.Common.{◌≡◌, ◌∙◌, ℕ, Ok, None, Option, ap, inl, inr, length, refl, sym}
 use Rattle.pmap_cert.specs.Acceptance.{IsAccepted, IsInOrder}
 use Rattle.pmap_cert.specs.CertificateText.{HasFormatText, certificate_text}
 use Rattle.pmap_cert.specs.CertificateModel.{CertificateModel}
 use Rattle.pmap_cert.specs.Compacting.{compact}
 use Rattle.cert_check.specs.Checking.{first_fault}
 use Rattle.cert_check.specs.declared.fault.CheckFault.{CheckFault}
-use Rattle.pmap_text.specs.Reading.{list_reading}
-use Rattle.pmap_print.specs.List.{IsListAgain, list_text}
 use Rattle.pmap_cert.specs.FormatReading.{format_reading}
 use Rattle.flowlabel.specs.Output.{minimal_text}
 use Rattle.flowlabel.proofs.Outcomes.{checked}
@@ -38,20 +35,12 @@ returns c map m reads =
         compact_accepted = faultless m l (compact k) (c.compact_keeps_acceptance.ensures m l k formed.format accepted);
       },
       λ few few_labels.
-          let (again, reads_list, accepted', count) = c.minimal_list_is_accepted_again.ensures map m l k reads pair few few_labels in
-          let (other, reads_other, is_again) =
-          c.printed_list_is_read_back.ensures.list l (c.minimal_list_can_be_read_again.ensures.again map m l k reads pair few few_labels) in
-          let one : other ≡ again = cc in
-          let is : IsListAgain l again = subst (λ (x : ListModel). IsListAgain l x) one is_again in
+          let (can, kept) = c.minimal_list_can_be_read_again.ensures.again map m l k reads pair few few_labels in
+          let (again, reads_list, is) = c.printed_list_is_read_back.ensures.list l can in
+          let (same, accepted') = kept again is in
           record {
             table = again.table;
-            reads = subst (λ (x : ListModel). list_reading (list_text l) ≡ Ok x)
-                (λ i. record {
-                  version = is.version i;
-                  name = is.name i;
-                  prefixes = (is.prefixes ∙ c.printed_order_is_one.ensures.kept l.prefixes order) i;
-                  table = again.table;
-                }) reads_list;
+            reads = reads_list ∙ (λ i. Ok (record { version = is.version i; name = is.name i; prefixes = same i; table = again.table }));
             checks = λ printed either.
                 let (x, reads', accepts) : (x : CertificateModel) × (format_reading printed ≡ Ok x) × IsAccepted m again x = elim either [
                   | inl plain ↦ (k, (read printed k).1 (formed, plain), accepted')
@@ -59,6 +48,6 @@ returns c map m reads =
                       (compact k, (read printed (compact k)).1 (c.compact_has_a_text.ensures.text k formed, short), c.compact_keeps_acceptance.ensures m again k formed.format accepted')
                 ] in
                 let none : first_fault m again x ≡ None = faultless m again x accepts in
-                rw (reads, reads_list, reads') (ap (λ (n : ℕ). Ok (minimal_text n)) (sym count) ∙ sym (ap (λ (f : Option CheckFault). checked f (length again.prefixes)) none));
+                rw (reads, reads_list, reads') (ap (λ (n : ℕ). Ok (minimal_text n)) (sym (ap length same)) ∙ sym (ap (λ (f : Option CheckFault). checked f (length again.prefixes)) none));
           },
     )
