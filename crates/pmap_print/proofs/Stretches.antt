@@ -1,17 +1,14 @@
 -- The runs of the labels are the stretches, with neighbours of the same label joined.
-use Rattle.std.proofs.Common.{◌≡◌, ◌≢◌, ℕ, ◌+◌, ◌^◌, ◌<◌, ◌≤◌, ◌==◌, ◌⊎◌, inl, inr, true, false, List, [], ◌∷◌, ◌++◌, Option, Some, None, refl, sym, ◌∙◌, ap, subst, arith, length, option_and_then, option_map, slice_get, append_assoc}
+use Rattle.std.proofs.Common.{◌≡◌, ◌≢◌, ℕ, ◌+◌, ◌-◌, ◌^◌, ◌<◌, ◌≤◌, ◌⊎◌, inl, inr, List, [], ◌∷◌, ◌++◌, Option, Some, None, refl, sym, ◌∙◌, ap, subst, arith, cond, length, option_and_then, slice_get, append_assoc}
+use Rattle.std.specs.Prelude.{nat_lt}
 use Rattle.std.proofs.lemmas.List.{append-nil}
 use Rattle.std.specs.List.{flat_map}
-use Rattle.std.specs.Option.{ForSome, option_eq}
-use Rattle.std.specs.Prelude.{nat_eq}
-use Rattle.std.proofs.lemmas.Bool.{both_ways, cases_lt, eq-eqb}
+use Rattle.std.specs.Option.{ForSome}
+use Rattle.std.proofs.lemmas.Bool.{cases_lt, le-ltb, lt-ltb}
 use Rattle.std.proofs.lemmas.Grind.{common_steps}
 use Rattle.std.proofs.lemmas.List.Folds.{flat_map-map}
-use Rattle.std.proofs.lemmas.Bool.{eqb-true}
 use Rattle.std.proofs.lemmas.Nat.{pow_pos}
-use Rattle.std.proofs.lemmas.Option.{none-some, same_Some}
 use Rattle.prefix_keys.specs.Block.{width_of}
-use Rattle.prefix_keys.specs.declared.version.Version.{Version}
 use Rattle.pmap_text.specs.Label.{IsLabelTable}
 use Rattle.pmap_text.specs.MapModel.{Label}
 use Rattle.pmap_text.specs.MapText.{text_at}
@@ -19,202 +16,164 @@ use Rattle.pmap_text.specs.Stretches.{AreLabelsBelow, HasEveryAddress, Stretches
 use Rattle.pmap_text.specs.declared.label.LabelId.{LabelId}
 use Rattle.pmap_text.proofs.Orders.{known_text}
 use Rattle.pmap_text.proofs.Ranges.{last_end, next_first, ordered_at, text_at_index}
-use Rattle.pmap_text.proofs.Runs.{first-label}
 use Rattle.pmap_text.specs.Runs.{AreRuns, HasOneLabel, Run}
-use Rattle.pmap_print.specs.Runs.{IsRunsText, run_fields, run_text, run_titles, Numbered, run_of, stretch_view, view_at, Stretch}
+use Rattle.pmap_print.specs.Runs.{IsRunsText, run_between, run_fields, run_text, run_titles}
 use Rattle.pmap_print.specs.Table.{Text, line_text}
 
--- The runs before the stretch `s` are printed. If `s`, extended to any end, and the runs after it are the labelling's
--- runs from `s` up to `end`, then they and the printed ones are its runs from 0 up to `end`.
-pub record IsPrinted (label_of : ℕ → Option Label) (table : List Label) (version : Version) (end : ℕ) (before out : Text) (s : Numbered) : Type 0 where
-  pub runs : List Run
-  pub text : out ≡ before ++ flat_map (run_text version) runs
-  pub goes_on : (high : ℕ) (rest : List Run) → AreRuns label_of s.low end (run_of table (record s { high = high }) ∷ rest)
-      → AreRuns label_of 0 end (runs ++ run_of table (record s { high = high }) ∷ rest)
-
--- The runs of the first `count` stretches are printed, except the last one, which ends before the next stretch.
-pub record IsPrintedTo (table : List Label) (s : StretchesModel) (count : ℕ) (before out : Text) (run : Stretch) : Type 0 where
-  pub low_version : run.low.version ≡ s.version
-  pub high_version : run.high.version ≡ s.version
-  pub next : count < length s.firsts → first_at s count ≡ run.high.value + 1
-  pub end : length s.firsts ≤ count → run.high.value + 1 ≡ 2 ^ width_of s.version
-  pub known : ForSome (stretch_view run).label (λ i. i < length table)
-  pub one : HasOneLabel (text_held table s) (run_of table (stretch_view run))
-  pub printed : IsPrinted (text_held table s) table s.version (2 ^ width_of s.version) before out (stretch_view run)
-
--- labels with the same number are the same
-pub same-number : (x y : Option ℕ) → option_eq nat_eq x y ≡ true → x ≡ y
-same-number None None e = refl
-same-number None (Some j) e = absurd (both_ways false refl e)
-same-number (Some i) None e = absurd (both_ways false refl e)
-same-number (Some i) (Some j) e = ap Some (eqb-true i j e)
+-- the text of a label
+abbrev pub label_text : List Label → Option LabelId → Option Label
+label_text table label = option_and_then (λ id. slice_get table id.0) label
 
 -- in a table of distinct texts, labels with different numbers have different texts
 none-text : (table : List Label) (j : ℕ) → j < length table → None ≢ slice_get table j
 none-text table j known same = let h : None ≡ Some (text_at table j) = same ∙ known_text table j known in cc
 
-other-text : (table : List Label) → IsLabelTable table → (i j : ℕ) → i < length table → j < length table → (i == j) ≡ false
-    → slice_get table i ≢ slice_get table j
-other-text table is i j ki kj ne same =
-    let here = is.places i (text_at table i) (known_text table i ki) in
-    let there = is.places j (text_at table i) (sym same ∙ known_text table i ki) in
-    let both : Some i ≡ Some j = sym here ∙ there in
-    let e : i ≡ j = cc in
-    both_ways (i == j) ne (eq-eqb i j e)
+other-label : (table : List Label) → IsLabelTable table → (x y : Option LabelId) → ForSome x (λ id. id.0 < length table) → ForSome y (λ id. id.0 < length table)
+    → x ≢ y → label_text table x ≢ label_text table y
+other-label table is None None kx ky other = absurd (other refl)
+other-label table is None (Some j) kx ky other = none-text table j.0 (ky j refl)
+other-label table is (Some i) None kx ky other = λ same. none-text table i.0 (kx i refl) (sym same)
+other-label table is (Some i) (Some j) kx ky other = λ same.
+    let here = is.places i.0 (text_at table i.0) (known_text table i.0 (kx i refl)) in
+    let there = is.places j.0 (text_at table i.0) (sym same ∙ known_text table i.0 (kx i refl)) in
+    let both : Some i.0 ≡ Some j.0 = sym here ∙ there in
+    let number : i.0 ≡ j.0 = cc in
+    other (ap (λ (n : ℕ). Some (record { 0 = n })) number)
 
-pub other-label : (table : List Label) → IsLabelTable table → (x y : Option ℕ) → ForSome x (λ id. id < length table) → ForSome y (λ id. id < length table)
-    → option_eq nat_eq x y ≡ false → option_and_then (slice_get table) x ≢ option_and_then (slice_get table) y
-other-label table is None None kx ky e = absurd (both_ways true e refl)
-other-label table is None (Some j) kx ky e = none-text table j (ky j refl)
-other-label table is (Some i) None kx ky e = λ same. none-text table i (kx i refl) (sym same)
-other-label table is (Some i) (Some j) kx ky e = other-text table is i j (kx i refl) (ky j refl) e
-
--- a stretch joined to one with the same label has that label
-pub one-joined : (f : ℕ → Option Label) (table : List Label) (s t : Numbered) → HasOneLabel f (run_of table s) → HasOneLabel f (run_of table t)
-    → t.low ≡ s.high + 1 → s.label ≡ t.label → HasOneLabel f (run_of table (record s { high = t.high }))
-one-joined f table s t one more follows same =
-    record { some = omega (arith, one.some, more.some, follows); each = λ a ge le. by a ge le (cases_lt s.high a) }
+-- two neighbouring ranges with the same label are one with that label
+one-joined : (f : ℕ → Option Label) (low middle next high : ℕ) (x : Option Label) → HasOneLabel f (record { low = low; high = middle; label = x })
+    → HasOneLabel f (record { low = next; high = high; label = x }) → next ≡ middle + 1 → HasOneLabel f (record { low = low; high = high; label = x })
+one-joined f low middle next high x one more follows =
+    record { some = omega (arith, one.some, more.some, follows); each = λ a ge le. by a ge le (cases_lt middle a) }
   where
-    by : (a : ℕ) → s.low ≤ a → a ≤ t.high → (s.high < a) ⊎ (a ≤ s.high) → f a ≡ option_and_then (slice_get table) s.label
-    by a ge le (inl behind) = more.each a (omega (arith, follows, behind)) le ∙ ap (option_and_then (slice_get table)) (sym same)
+    by : (a : ℕ) → low ≤ a → a ≤ high → (middle < a) ⊎ (a ≤ middle) → f a ≡ x
+    by a ge le (inl behind) = more.each a (omega (arith, follows, behind)) le
     by a ge le (inr within) = one.each a ge within
 
--- the number of a known label is known
-number_of_known : (n : ℕ) (label : Option LabelId) → ForSome label (λ id. id.0 < n) → ForSome (option_map (λ id. id.0) label) (λ i. i < n)
-number_of_known n None known = λ i e. absurd (none-some i e)
-number_of_known n (Some id) known = λ i e. subst (λ (j : ℕ). j < n) (same_Some id.0 i e) (known id refl)
+-- where the stretch with an index begins; after the last one the addresses end
+abbrev pub begin_at : StretchesModel → ℕ → ℕ
+begin_at s i = cond (nat_lt i (length s.firsts)) (first_at s i) (2 ^ width_of s.version)
 
--- the first stretch begins the first run
-pub printed_first : (f : ℕ → Option Label) (table : List Label) (v : Version) (end : ℕ) (out : Text) (s : Numbered) → s.low ≡ 0
-    → IsPrinted f table v end out out s
-printed_first f table v end out s first = record {
-  runs = [];
-  text = sym (append-nil out);
-  goes_on = λ high rest are. subst (λ (from : ℕ). AreRuns f from end (run_of table (record s { high = high }) ∷ rest)) first are;
-}
+-- The runs before the stretch `begin` are printed, followed by any runs from there on they are the labelling's runs. The
+-- stretches from `begin` to the one before `index` have the label of the stretch `index`, if there is one.
+pub record IsPrintedTo (table : List Label) (s : StretchesModel) (begin index : ℕ) (before out : Text) : Type 0 where
+  pub order : begin ≤ index
+  pub end : length s.firsts ≤ index → begin ≡ index
+  pub one : (i : ℕ) → i + 1 ≡ index → begin ≤ i
+      → HasOneLabel (text_held table s) (record { low = first_at s begin; high = last_at s i; label = label_text table (label_at s index) })
+  pub runs : List Run
+  pub text : out ≡ before ++ flat_map (run_text s.version) runs
+  pub goes_on : (rest : List Run) → AreRuns (text_held table s) (begin_at s begin) (2 ^ width_of s.version) rest
+      → AreRuns (text_held table s) 0 (2 ^ width_of s.version) (runs ++ rest)
 
--- joining a stretch to the run prints nothing
-pub printed_joined : (f : ℕ → Option Label) (table : List Label) (v : Version) (end high : ℕ) (before out : Text) (s : Numbered)
-    → IsPrinted f table v end before out s → IsPrinted f table v end before out (record s { high = high })
-printed_joined f table v end high before out s is = record { runs = is.runs; text = is.text; goes_on = is.goes_on }
+text_more : (s : StretchesModel) (before out new : Text) (runs : List Run) (run : Run) → out ≡ before ++ flat_map (run_text s.version) runs
+    → new ≡ out ++ run_text s.version run → new ≡ before ++ flat_map (run_text s.version) (runs ++ run ∷ [])
+text_more s before out new runs run so_far text = grind (arith, common_steps)
 
-text_more : (v : Version) (before out new : Text) (runs : List Run) (run : Run) → out ≡ before ++ flat_map (run_text v) runs → new ≡ out ++ run_text v run
-    → new ≡ before ++ flat_map (run_text v) (runs ++ run ∷ [])
-text_more v before out new runs run so_far text = grind (arith, common_steps)
+module _ (table : List Label) (s : StretchesModel) (every : HasEveryAddress s) where
+  begins : (i : ℕ) → i < length s.firsts → begin_at s i ≡ first_at s i
+  begins i within = ap (λ b. cond b (first_at s i) (2 ^ width_of s.version)) (lt-ltb i (length s.firsts) within)
 
--- if the next stretch has another label, the run is printed
-pub printed_more : (f : ℕ → Option Label) (table : List Label) (v : Version) (end : ℕ) (before out new : Text) (s t : Numbered)
-    → IsPrinted f table v end before out s → new ≡ out ++ run_text v (run_of table s) → HasOneLabel f (run_of table s) → t.low ≡ s.high + 1
-    → (run_of table s).label ≢ (run_of table t).label → IsPrinted f table v end before new t
-printed_more f table v end before out new s t is text one next other = record {
-  runs = is.runs ++ run_of table s ∷ [];
-  text = text_more v before out new is.runs (run_of table s) is.text text;
-  goes_on = λ high rest are. subst (AreRuns f 0 end) (sym (append_assoc is.runs (run_of table s ∷ []) (run_of table (record t { high = high }) ∷ rest)))
-      (is.goes_on s.high (run_of table (record t { high = high }) ∷ rest) (
-        refl,
-        one,
-        λ _ equal. other (sym equal ∙ ap f (sym next) ∙ first-label f (run_of table (record t { high = high })) are.1),
-        subst (λ (from : ℕ). AreRuns f from end (run_of table (record t { high = high }) ∷ rest)) next are,
-      ));
-}
+  ends : (i : ℕ) → length s.firsts ≤ i → begin_at s i ≡ 2 ^ width_of s.version
+  ends i past = ap (λ b. cond b (first_at s i) (2 ^ width_of s.version)) (le-ltb i (length s.firsts) past)
 
--- once the last run is printed, all runs are
-pub printed_last : (f : ℕ → Option Label) (table : List Label) (v : Version) (before out new : Text) (s : Numbered)
-    → IsPrinted f table v (2 ^ width_of v) before out s → new ≡ out ++ run_text v (run_of table s) → HasOneLabel f (run_of table s)
-    → s.high + 1 ≡ 2 ^ width_of v → before ≡ line_text run_titles → IsRunsText v f new
-printed_last f table v before out new s is text one end title =
-    let runs = is.runs ++ run_of table s ∷ [] in
-    record {
-      runs = runs;
-      are = is.goes_on s.high [] (refl, one, λ less. absurd (omega (arith, less, end)), end);
-      is = text_more v before out new is.runs (run_of table s) is.text text
-          ∙ ap (λ (x : Text). x ++ flat_map (run_text v) runs) title
-          ∙ ap (λ (x : Text). line_text run_titles ++ x) (sym (flat_map-map line_text (run_fields v) runs));
+  pub none_printed : (out : Text) → IsPrintedTo table s 0 0 out out
+  none_printed out = record {
+    order = omega arith;
+    end = λ none. refl;
+    one = λ i before. absurd (omega (arith, before));
+    runs = [];
+    text = sym (append-nil out);
+    goes_on = λ rest are. subst (λ (from : ℕ). AreRuns (text_held table s) from (2 ^ width_of s.version) rest) (begins 0 every.some ∙ every.zero) are;
+  }
+
+  pub all_printed : (begin index : ℕ) (before out : Text) → IsPrintedTo table s begin index before out → length s.firsts ≤ index
+      → before ≡ line_text run_titles → IsRunsText s.version (text_held table s) out
+  all_printed begin index before out is past title = record {
+    runs = is.runs;
+    are = subst (AreRuns (text_held table s) 0 (2 ^ width_of s.version)) (append-nil is.runs) (is.goes_on [] (ends begin (omega (arith, past, is.end past))));
+    is = is.text ∙ ap (λ (x : Text). x ++ flat_map (run_text s.version) is.runs) title
+        ∙ ap (λ (x : Text). line_text run_titles ++ x) (sym (flat_map-map line_text (run_fields s.version) is.runs));
+  }
+
+  -- the stretch with the index is the next one
+  module _ (begin index : ℕ) (within : index < length s.firsts) (before out : Text) (is : IsPrintedTo table s begin index before out) where
+    run : Run
+    run = run_between table s begin index
+
+    stretch_one : HasOneLabel (text_held table s) (run_between table s index index)
+    stretch_one = record {
+      some = ordered_at s every index within;
+      each = λ a ge le. text_at_index s every table a index (record { index = within; from = ge; to = le });
     }
 
--- the text of a label, by its number
-text_by_number : (table : List Label) (label : Option LabelId)
-    → option_and_then (λ id. slice_get table id.0) label ≡ option_and_then (slice_get table) (option_map (λ id. id.0) label)
-text_by_number table None = refl
-text_by_number table (Some id) = refl
+    run_one : HasOneLabel (text_held table s) (run_between table s begin index)
+    run_one = by (cases_lt begin index)
+      where
+        by : (begin < index) ⊎ (index ≤ begin) → HasOneLabel (text_held table s) (run_between table s begin index)
+        by (inl less) =
+            let (i, next) : (i : ℕ) × (i + 1 ≡ index) = (index - 1, omega (arith, less)) in
+            let first : first_at s index ≡ last_at s i + 1 =
+            ap (first_at s) (sym next) ∙ next_first s every i (omega (arith, next, within)) in
+            one-joined (text_held table s) (first_at s begin) (last_at s i) (first_at s index) (last_at s index) (label_text table (label_at s index))
+            (is.one i next (omega (arith, less, next))) stretch_one first
+        by (inr same) =
+            let here : index ≡ begin = omega (arith, same, is.order) in
+            subst (λ k. HasOneLabel (text_held table s) (record { low = first_at s k; high = last_at s index; label = label_text table (label_at s index) })) here stretch_one
 
-module _ (table : List Label) (s : StretchesModel) (every : HasEveryAddress s) (known : AreLabelsBelow (length table) s) where
-  view_known : (i : ℕ) → i < length s.firsts → ForSome (view_at s i).label (λ j. j < length table)
-  view_known i within = number_of_known (length table) (label_at s i) (known i None (omega (arith, within, every.paired)))
-
-  view_one : (i : ℕ) → i < length s.firsts → HasOneLabel (text_held table s) (run_of table (view_at s i))
-  view_one i within = record {
-    some = ordered_at s every i within;
-    each = λ a ge le. text_at_index s every table a i (record { index = within; from = ge; to = le }) ∙ text_by_number table (label_at s i);
-  }
-
-  -- what is known of a run that is the stretch with the index i
-  module _ (i : ℕ) (within : i < length s.firsts) (run : Stretch) (view : stretch_view run ≡ view_at s i) where
-    run_known : ForSome (stretch_view run).label (λ j. j < length table)
-    run_known = subst (λ (n : Numbered). ForSome n.label (λ j. j < length table)) (sym view) (view_known i within)
-
-    run_one : HasOneLabel (text_held table s) (run_of table (stretch_view run))
-    run_one = subst (λ (n : Numbered). HasOneLabel (text_held table s) (run_of table n)) (sym view) (view_one i within)
-
-    high : run.high.value ≡ last_at s i
-    high = ap (λ (n : Numbered). n.high) view
-
-    run_next : i + 1 < length s.firsts → first_at s (i + 1) ≡ run.high.value + 1
-    run_next more = omega (arith, next_first s every i more, high)
-
-    run_end : length s.firsts ≤ i + 1 → run.high.value + 1 ≡ 2 ^ width_of s.version
-    run_end end = omega (arith, last_end s i end, high, pow_pos (width_of s.version))
-
-  pub run_begins : (out : Text) (run : Stretch) → stretch_view run ≡ view_at s 0 → run.low.version ≡ s.version → run.high.version ≡ s.version
-      → IsPrintedTo table s 1 out out run
-  run_begins out run view low high_version = record {
-    low_version = low;
-    high_version = high_version;
-    next = run_next 0 every.some run view;
-    end = run_end 0 every.some run view;
-    known = run_known 0 every.some run view;
-    one = run_one 0 every.some run view;
-    printed = printed_first (text_held table s) table s.version (2 ^ width_of s.version) out (stretch_view run)
-        (ap (λ (n : Numbered). n.low) view ∙ every.zero);
-  }
-
-  module _ (i : ℕ) (within : i < length s.firsts) (before out : Text) (run next : Stretch) (is : IsPrintedTo table s i before out run)
-      (view : stretch_view next ≡ view_at s i) (high_version : next.high.version ≡ s.version) where
-    low : next.low.value ≡ run.high.value + 1
-    low = ap (λ (n : Numbered). n.low) view ∙ is.next within
+    after : last_at s index + 1 ≡ begin_at s (index + 1)
+    after = by (cases_lt (index + 1) (length s.firsts))
+      where
+        by : (index + 1 < length s.firsts) ⊎ (length s.firsts ≤ index + 1) → last_at s index + 1 ≡ begin_at s (index + 1)
+        by (inl more) = sym (begins (index + 1) more ∙ next_first s every index more)
+        by (inr end) = omega (arith, last_end s index end, ends (index + 1) end, pow_pos (width_of s.version))
 
     -- if the next stretch has the same label, the run goes on
-    pub run_goes_on : option_eq nat_eq (stretch_view run).label (stretch_view next).label ≡ true → IsPrintedTo table s (i + 1) before out (record run { high = next.high })
-    run_goes_on e = record {
-      low_version = is.low_version;
-      high_version = high_version;
-      next = run_next i within next view;
-      end = run_end i within next view;
-      known = is.known;
-      one = one-joined (text_held table s) table (stretch_view run) (stretch_view next) is.one (run_one i within next view) low
-          (same-number (stretch_view run).label (stretch_view next).label e);
-      printed = printed_joined (text_held table s) table s.version (2 ^ width_of s.version) next.high.value before out (stretch_view run) is.printed;
+    pub run_goes_on : index + 1 ≢ length s.firsts → label_at s (index + 1) ≡ label_at s index → IsPrintedTo table s begin (index + 1) before out
+    run_goes_on more e = record {
+      order = omega (arith, is.order);
+      end = λ past. absurd (omega (arith, past, more, within));
+      one = λ i next ge.
+          let here : index ≡ i = omega (arith, next) in
+          let same : label_at s index ≡ label_at s (index + 1) = sym e in
+          subst (λ (x : Option LabelId). HasOneLabel (text_held table s) (record { low = first_at s begin; high = last_at s i; label = label_text table x })) same
+          (subst (λ k. HasOneLabel (text_held table s) (record { low = first_at s begin; high = last_at s k; label = label_text table (label_at s index) })) here run_one);
+      runs = is.runs;
+      text = is.text;
+      goes_on = is.goes_on;
     }
 
-    -- if the next stretch has another label, the run is printed
-    pub run_ends : (new : Text) → IsLabelTable table → next.low.version ≡ s.version → option_eq nat_eq (stretch_view run).label (stretch_view next).label ≡ false
-        → new ≡ out ++ run_text run.low.version (run_of table (stretch_view run)) → IsPrintedTo table s (i + 1) before new next
-    run_ends new distinct low_version e text = record {
-      low_version = low_version;
-      high_version = high_version;
-      next = run_next i within next view;
-      end = run_end i within next view;
-      known = run_known i within next view;
-      one = run_one i within next view;
-      printed = printed_more (text_held table s) table s.version (2 ^ width_of s.version) before out new (stretch_view run) (stretch_view next) is.printed
-          (text ∙ ap (λ (v : Version). out ++ run_text v (run_of table (stretch_view run))) is.low_version) is.one low
-          (other-label table distinct (stretch_view run).label (stretch_view next).label is.known (run_known i within next view) e);
+    -- if the next stretch has another label, or there is none, the run is printed
+    pub run_ends : (new : Text) → IsLabelTable table → AreLabelsBelow (length table) s
+        → (index + 1 < length s.firsts → label_at s (index + 1) ≢ label_at s index)
+        → new ≡ out ++ run_text s.version (run_between table s begin index) → IsPrintedTo table s (index + 1) (index + 1) before new
+    run_ends new distinct known other text = record {
+      order = omega arith;
+      end = λ _. refl;
+      one = λ i next ge. absurd (omega (arith, next, ge));
+      runs = is.runs ++ run_between table s begin index ∷ [];
+      text = text_more s before out new is.runs (run_between table s begin index) is.text text;
+      goes_on = λ rest are. subst (AreRuns (text_held table s) 0 (2 ^ width_of s.version)) (sym (append_assoc is.runs (run_between table s begin index ∷ []) rest))
+          (is.goes_on (run_between table s begin index ∷ rest) (
+            sym (begins begin (omega (arith, is.order, within))),
+            run_one,
+            differs,
+            subst (λ (from : ℕ). AreRuns (text_held table s) from (2 ^ width_of s.version) rest) (sym after) are,
+          ));
     }
+      where
+        label_known : (i : ℕ) → i < length s.firsts → ForSome (label_at s i) (λ id. id.0 < length table)
+        label_known i inside = known i None (omega (arith, inside, every.paired))
 
-  -- once the last run is printed, all runs are
-  pub runs_end : (count : ℕ) (before out new : Text) (run : Stretch) → IsPrintedTo table s count before out run → length s.firsts ≤ count
-      → before ≡ line_text run_titles → new ≡ out ++ run_text run.low.version (run_of table (stretch_view run))
-      → IsRunsText s.version (text_held table s) new
-  runs_end count before out new run is end title text =
-      printed_last (text_held table s) table s.version before out new (stretch_view run) is.printed
-      (text ∙ ap (λ (v : Version). out ++ run_text v (run_of table (stretch_view run))) is.low_version) is.one (is.end end) title
+        differs : last_at s index + 1 < 2 ^ width_of s.version → text_held table s (last_at s index + 1) ≢ label_text table (label_at s index)
+        differs inside = by (cases_lt (index + 1) (length s.firsts))
+          where
+            by : (index + 1 < length s.firsts) ⊎ (length s.firsts ≤ index + 1) → text_held table s (last_at s index + 1) ≢ label_text table (label_at s index)
+            by (inr end) = absurd (omega (arith, last_end s index end, inside))
+            by (inl more) = λ same.
+                other-label table distinct (label_at s (index + 1)) (label_at s index) (label_known (index + 1) more) (label_known index within) (other more)
+                (sym (text_at_index s every table (last_at s index + 1) (index + 1) (record {
+                  index = more;
+                  from = omega (arith, next_first s every index more);
+                  to = omega (arith, next_first s every index more, ordered_at s every (index + 1) more);
+                })) ∙ same)

@@ -1,4 +1,4 @@
-use Rattle.std.specs.Prelude.{◌≡◌, ℕ, List, [], ◌∷◌, Option, codes, map, unwrap_or, option_and_then, option_map, slice_get}
+use Rattle.std.specs.Prelude.{◌≡◌, ℕ, List, [], ◌∷◌, Option, codes, map, unwrap_or, option_and_then, slice_get}
 use Rattle.std.specs.List.{flat_map}
 use Rattle.prefix_keys.specs.Print.{address_text}
 use Rattle.prefix_keys.specs.declared.version.Version.{Version}
@@ -6,7 +6,6 @@ use Rattle.pmap_text.specs.MapModel.{Label}
 use Rattle.pmap_text.specs.Stretches.{StretchesModel, first_at, label_at, last_at}
 use Rattle.pmap_text.specs.Runs.{AreRunsOf, Run}
 use Rattle.pmap_print.specs.Table.{Line, Text, line_text}
-pub use Rattle.pmap_print.specs.declared.runs.Stretch.{Stretch}
 
 -- The printed text of runs.
 
@@ -35,19 +34,10 @@ pub record IsRunsText (version : Version) (label_of : ℕ → Option Label) (tex
 
 -- How the runs of stretches are found, one stretch after the other.
 
--- addresses from low to high, with the number of their label, if they have one
-pub record Numbered : Type 0 where
-  pub low : ℕ
-  pub high : ℕ
-  pub label : Option ℕ
-
--- a stretch, and the stretch with an index, as `Numbered`
-abbrev pub stretch_view : Stretch → Numbered
-stretch_view s = record { low = s.low.value; high = s.high.value; label = option_map (λ id. id.0) s.label }
-
-abbrev pub view_at : StretchesModel → ℕ → Numbered
-view_at s i = record { low = first_at s i; high = last_at s i; label = option_map (λ id. id.0) (label_at s i) }
-
--- a stretch as a run, with the text of its label
-abbrev pub run_of : List Label → Numbered → Run
-run_of table s = record { low = s.low; high = s.high; label = option_and_then (slice_get table) s.label }
+-- the run from one stretch to another one, which has the label of the last
+abbrev pub run_between : List Label → StretchesModel → ℕ → ℕ → Run
+run_between table s begin end = record {
+  low = first_at s begin;
+  high = last_at s end;
+  label = option_and_then (λ id. slice_get table id.0) (label_at s end);
+}

@@ -1,54 +1,45 @@
-ghost use Rattle.std.specs.Prelude.{◌≡◌, ◌<◌, ◌++◌, IfOk, OnOk, length};
-ghost use Rattle.pmap_text.specs.Stretches.{AreLabelsBelow, HasEveryAddress, text_held};
-ghost use Rattle.pmap_print.specs.Runs.{IsRunsText, run_text, run_titles, run_of, stretch_view, view_at};
+ghost use Rattle.std.specs.Prelude.{◌≡◌, ◌<◌, ◌≤◌, ◌++◌, IfOk, OnOk, length};
+ghost use Rattle.pmap_text.specs.Stretches.{AreLabelsBelow, text_held};
+ghost use Rattle.pmap_print.specs.Runs.{IsRunsText, run_between, run_text, run_titles};
 ghost use Rattle.pmap_print.specs.Table.{line_text};
 
 use crate::text::Text;
-use pmap_text::{LabelId, Labels, Stretches};
+use pmap_text::{Labels, Stretches};
 use prefix_keys::Addr;
 use std::alloc::{AllocError, Global};
 
-// The addresses from `low` to `high`, with the number of their label, if they have one.
-#[derive(Clone, Copy)]
-struct Stretch {
-    low: Addr,
-    high: Addr,
-    label: Option<LabelId>,
-}
-
-// Returns the stretch with an index.
-fn stretch_at(stretches: &Stretches, index: usize) -> Stretch
-    requires { index < length stretches.now.firsts }
-    ensures low { result.low.version ≡ stretches.now.version }
-    ensures high { result.high.version ≡ stretches.now.version }
-    ensures view { stretch_view result ≡ view_at stretches.now index }
-    ensures every { HasEveryAddress stretches.now }
+// Appends the line of a run from the stretch `begin` to the stretch `end`: its first and last address, and the label.
+fn print_run(
+    out: &mut Text,
+    stretches: &Stretches,
+    begin: usize,
+    end: usize,
+    labels: &Labels,
+) -> Result<(), AllocError>
+    requires order { begin ≤ end }
+    requires within { end < length stretches.now.firsts }
+    ensures { OnOk result (out.new
+        ≡ out.old ++ run_text stretches.now.version (run_between labels.now stretches.now begin end)) }
 {
     // Provides the law that the stretches cover every address of the version.
     let _count = stretches.len();
     let version = stretches.version();
-    Stretch {
-        low: Addr {
+    let (low, high) = (stretches.first(begin), stretches.last(end));
+    out.push_address(
+        Addr {
             version,
-            value: stretches.first(index),
+            value: low,
         },
-        high: Addr {
+        b'|',
+    )?;
+    out.push_address(
+        Addr {
             version,
-            value: stretches.last(index),
+            value: high,
         },
-        label: stretches.label(index),
-    }
-}
-
-// Appends the line of a stretch: its first and last address, and its label.
-fn print_stretch(out: &mut Text, stretch: &Stretch, labels: &Labels) -> Result<(), AllocError>
-    requires { stretch.now.high.version ≡ stretch.now.low.version }
-    ensures { OnOk result (out.new
-        ≡ out.old ++ run_text stretch.now.low.version (run_of labels.now (stretch_view stretch.now))) }
-{
-    out.push_address(stretch.low, b'|')?;
-    out.push_address(stretch.high, b'|')?;
-    let text = match stretch.label {
+        b'|',
+    )?;
+    let text = match stretches.label(end) {
         Some(label) => labels.text(label).unwrap_or(b""),
         None => b"",
     };
@@ -64,17 +55,14 @@ fn push_runs(out: &mut Text, stretches: &Stretches, labels: &Labels) -> Result<(
     // Provides the law that no two texts of the table are equal.
     let _count = labels.len();
     let count = stretches.len();
-    let mut stretch = stretch_at(stretches, 0);
-    for index in 1..count {
-        let next = stretch_at(stretches, index);
-        if stretch.label == next.label {
-            stretch.high = next.high;
-        } else {
-            print_stretch(out, &stretch, labels)?;
-            stretch = next;
+    let mut begin = 0;
+    for index in 0..count {
+        if index + 1 == count || stretches.label(index + 1) != stretches.label(index) {
+            print_run(out, stretches, begin, index, labels)?;
+            begin = index + 1;
         }
     }
-    print_stretch(out, &stretch, labels)
+    Ok(())
 }
 
 /// Returns the text of the runs of stretches: a header, and a line for each maximal range of consecutive addresses with

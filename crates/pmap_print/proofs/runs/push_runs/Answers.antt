@@ -1,47 +1,53 @@
-use Rattle.std.proofs.Common.{◌≡◌, ◌∙◌, ◌==◌, None, Option, Some, arith, nat_eq, option_map, refl, sym}
+use Rattle.std.proofs.Common.{◌≡◌, ◌≢◌, ◌==◌, ℕ, ◌+◌, ◌<◌, ◌∙◌, Bool, true, not, None, Option, Some, ap, arith, length, refl, subst, sym}
 use Rattle.std.specs.Option.{option_eq}
-use Rattle.std.proofs.lemmas.Result.{on_ok_weaker}
+use Rattle.std.proofs.lemmas.Bool.{both_ways, eq-eqb}
 use Rattle.pmap_text.specs.declared.label.LabelId.{LabelId}
-use Rattle.pmap_print.proofs.Stretches.{run_begins, run_ends, run_goes_on, runs_end}
+use Rattle.pmap_text.specs.Stretches.{StretchesModel, label_at}
+use Rattle.pmap_text.proofs.Joined.{same-label}
+use Rattle.pmap_print.proofs.Stretches.{all_printed, none_printed, run_ends, run_goes_on}
 use Rattle.pmap_print.proofs.runs.push_runs.Goals as goal
-use Rattle.pmap_print.proofs.runs.push_runs.Goals.{then-eq, else-eq+in_ok-print_stretch}
+use Rattle.pmap_print.proofs.runs.push_runs.Goals.{then-index-count+in_ok-print_run, then-index-count-via-then-index-count, then-index-count-via-else-index-count+then-ne, else-index-count+else-ne}
 
--- labels are equal if their numbers are
-same_labels : (a b : Option LabelId) → option_eq nat_eq (option_map (λ id. id.0) a) (option_map (λ id. id.0) b) ≡ option_eq (λ x y. x.0 == y.0) a b
-same_labels None None = refl
-same_labels None (Some b) = refl
-same_labels (Some a) None = refl
-same_labels (Some a) (Some b) = refl
+-- labels are not equal if a test says so
+is-same : (x : Option LabelId) → option_eq (λ a b. a.0 == b.0) x x ≡ true
+is-same None = refl
+is-same (Some id) = eq-eqb id.0 id.0 refl
+
+other-label : (x y : Option LabelId) (r : Bool) → r ≡ not (option_eq (λ a b. a.0 == b.0) x y) → r ≡ true → x ≢ y
+other-label x y r is e same =
+    let equal : option_eq (λ a b. a.0 == b.0) x y ≡ true = subst (λ (z : Option LabelId). option_eq (λ a b. a.0 == b.0) x z ≡ true) same (is-same x) in
+    both_ways r (is ∙ ap not equal) e
 
 pub loop-index-init : goal.loop-index-init
-loop-index-init c =
-    run_begins c.args.labels.now c.args.stretches.now c.stretch_at-stretch.ensures.every c.requires.known c.args.out.now c.stretch_at-stretch.result
-    c.stretch_at-stretch.ensures.view c.stretch_at-stretch.ensures.low c.stretch_at-stretch.ensures.high
+loop-index-init c = none_printed c.args.labels.now c.args.stretches.now c.len-count-2.ensures.every c.args.out.now
 
 pub loop-index-preserved : goal.loop-index-preserved
 loop-index-preserved c =
-    elim c.if-eq.branch [
-      | then-eq w ↦
+    let s : StretchesModel = c.args.stretches.now in
+    let i : ℕ = c.loop-index.index in
+    let within : i < length s.firsts = omega (arith, c.loop-index-test.true, c.len-count-2.ensures.value) in
+    elim c.if-index-count.branch [
+      | then-index-count+in_ok-print_run w ↦
           let out = w.out-is in
-          let stretch = w.stretch-is in
-          rw (out, stretch)
-          (run_goes_on c.args.labels.now c.args.stretches.now c.stretch_at-next.ensures.every c.requires.known c.loop-index.index (omega arith)
-          c.args.out.now c.loop-index.out c.loop-index.stretch c.stretch_at-next.result c.loop-index.invariant c.stretch_at-next.ensures.view
-          c.stretch_at-next.ensures.high (same_labels c.loop-index.stretch.label c.stretch_at-next.result.label ∙ sym c.eq.ensures ∙ w.if-eq.true))
-      | else-eq+in_ok-print_stretch w ↦
+          let begin = w.begin-is in
+          let other : i + 1 < length s.firsts → label_at s (i + 1) ≢ label_at s i = elim w.then-index-count.branch [
+            | then-index-count-via-then-index-count v ↦ λ more. absurd (omega (arith, more, v.if-index-count.true, c.len-count-2.ensures.value))
+            | then-index-count-via-else-index-count+then-ne v ↦ λ more same.
+                other-label _ _ v.ne.result v.ne.ensures v.if-ne.true (v.label.ensures ∙ same ∙ sym v.label-else-index-count.ensures)
+          ] in
+          rw (out, begin)
+          (run_ends c.args.labels.now s c.len-count-2.ensures.every c.loop-index.begin i within c.args.out.now c.loop-index.out c.loop-index.invariant
+          w.print_run.new.out c.len-count.ensures.table c.requires.known other w.in_ok-print_run.ensures)
+      | else-index-count+else-ne w ↦
           let out = w.out-is in
-          let stretch = w.stretch-is in
-          rw (out, stretch)
-          (run_ends c.args.labels.now c.args.stretches.now c.stretch_at-next.ensures.every c.requires.known c.loop-index.index (omega arith)
-          c.args.out.now c.loop-index.out c.loop-index.stretch c.stretch_at-next.result c.loop-index.invariant c.stretch_at-next.ensures.view
-          c.stretch_at-next.ensures.high w.print_stretch.new.out c.len-count.ensures.table c.stretch_at-next.ensures.low
-          (same_labels c.loop-index.stretch.label c.stretch_at-next.result.label ∙ sym c.eq.ensures ∙ w.if-eq.false) w.in_ok-print_stretch.ensures)
+          let begin = w.begin-is in
+          rw (out, begin)
+          (run_goes_on c.args.labels.now s c.len-count-2.ensures.every c.loop-index.begin i within c.args.out.now c.loop-index.out c.loop-index.invariant
+          (omega (arith, w.if-index-count.false, c.len-count-2.ensures.value))
+          (sym w.label.ensures ∙ same-label _ _ w.ne.result w.ne.ensures w.if-ne.false ∙ w.label-else-index-count.ensures))
     ]
 
 pub returns : goal.returns
 returns c =
-    on_ok_weaker c.print_stretch-2.result
-    (λ text. runs_end c.args.labels.now c.args.stretches.now c.stretch_at-stretch.ensures.every c.requires.known c.loop-index.index c.args.out.now
-    c.loop-index.out c.print_stretch-2.new.out c.loop-index.stretch c.loop-index.invariant (omega arith)
-    c.requires.title text)
-    c.print_stretch-2.ensures
+    all_printed c.args.labels.now c.args.stretches.now c.len-count-2.ensures.every c.loop-index.begin c.loop-index.index c.args.out.now c.loop-index.out
+    c.loop-index.invariant (omega (arith, c.loop-index-test.false, c.len-count-2.ensures.value)) c.requires.title
