@@ -13,7 +13,7 @@ use Rattle.flow_rows.specs.Counts.{records_in, records_of, rows_of, rows_of_mess
 use Rattle.flow_rows.specs.Elements.{rows_of_record, RowView}
 use Rattle.flow_rows.specs.Walk.{CanTake, Takes}
 use Rattle.flow_filter.specs.Condition.{Condition, passing, row_passes}
-use Rattle.pmap_print.specs.declared.labels.RowLabels.{RowLabels}
+use Rattle.pmap_print.specs.declared.rows.RowLabels.{RowLabels}
 use Rattle.flow_uniq.specs.Groups.{GroupsModel, groups_of}
 use Rattle.flow_uniq.specs.declared.field.KeyField.{KeyField}
 use Rattle.pmap_print.specs.declared.table.Table.{Table}

@@ -15,4 +15,3 @@ pub mod PaddedLines
 pub mod Placed
 pub mod TableLines
 pub mod RowLines
-pub mod Times

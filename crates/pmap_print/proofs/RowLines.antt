@@ -1,8 +1,8 @@
 -- The lines of rows, one by one.
-use Rattle.std.proofs.Common.{ℕ, suc, ◌≡◌, ◌+◌, ◌-◌, ◌<◌, ◌≤◌, ◌∙◌, List, [], ◌∷◌, ◌++◌, length, map, take, drop, get_or, is_some, Option, Some, None, Bor, add-one, ap, sym, refl, arith}
+use Rattle.std.proofs.Common.{ℕ, suc, ◌≡◌, ◌+◌, ◌<◌, ◌≤◌, ◌∙◌, List, [], ◌∷◌, ◌++◌, length, map, take, get_or, is_some, Option, Some, None, Bor, add-one, ap, sym, refl, arith}
 use Rattle.std.specs.List.{zip}
 use Rattle.std.specs.Option.{ForSome}
-use Rattle.std.proofs.lemmas.List.{get_or-map, length-append, length-drop, length-map, take_all, take_at, take_more}
+use Rattle.std.proofs.lemmas.List.{get_or-map, length-map, take_all, take_more}
 use Rattle.std.proofs.lemmas.Slice.Zip.{get_or-zip, length-zip}
 use Rattle.flow_rows.specs.Elements.{RowView}
 use Rattle.pmap_print.specs.Reports.{RowLabels, labels_at, LabelTexts, given_labels, label_fields, label_texts, row_fields, row_line, row_lines, title_line}
@@ -50,9 +50,3 @@ line_added rows labels i row own has is within same =
 pub all_lines : (rows : List RowView) (labels : Option (Bor (List RowLabels))) (i : ℕ) → ForSome labels (λ given. length given.now ≡ length rows)
     → length rows ≤ i → take (i + 1) (lines_of rows labels) ≡ lines_of rows labels
 all_lines rows labels i has past = take_all (i + 1) (lines_of rows labels) (omega (arith, past, length-lines rows labels has))
-
--- the text between an offset and the last byte of a buffer
-pub all_but_last : (buf text : List ℕ) (start end last : ℕ) → length buf ≡ end + 1 → drop start buf ≡ text ++ last ∷ []
-    → take (end - start) (drop start buf) ≡ text
-all_but_last buf text start end last size is =
-    ap (take (end - start)) is ∙ take_at text (last ∷ []) (end - start) (omega (arith, size, ap length is, length-drop start buf, length-append text (last ∷ [])))

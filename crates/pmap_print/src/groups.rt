@@ -1,5 +1,6 @@
 //! The printed text of groups.
-ghost use Rattle.std.specs.Prelude.{◌≡◌, ℕ, ◌+◌, ◌≤◌, List, [], ◌∷◌, ◌++◌, All, IfOk, OnOk, length, map, true};
+ghost use Rattle.std.specs.Prelude.{◌≡◌, ℕ, ◌+◌, ◌≤◌, List, [], ◌∷◌, ◌++◌, IfOk, OnOk, length, map, option_map, slice_get, true};
+ghost use Rattle.std.specs.Option.{option_map_or};
 ghost use Rattle.flow_uniq.specs.Inner.{group_model, part_model};
 ghost use Rattle.flow_uniq.specs.Groups.{shown_groups};
 ghost use Rattle.pmap_print.specs.Table.{has_columns, IsTable, sizes, Line, line_text};
@@ -123,6 +124,21 @@ fn table_of_none(
     Ok(table)
 }
 
+// Returns the group at an index: of the sorted groups, if they are given, otherwise in the order of the first rows.
+fn group_at<'a>(
+    groups: &'a Groups,
+    sorted: &Option<Vec<Group<'a>>>,
+    index: usize,
+) -> Option<Group<'a>>
+    ensures { option_map group_model result
+        ≡ slice_get (option_map_or (λ s. map group_model s.items) sorted.now groups.now.groups) index }
+{
+    match sorted {
+        Some(sorted) => sorted.get(index).copied(),
+        None => groups.group(index),
+    }
+}
+
 /// Returns the text of groups: a header, and a line for each group with the parts of its key and its totals.
 ///
 /// The lines are in the order of the groups' first rows or, if `sorted`, of their keys. With `columns` each field is
@@ -141,15 +157,9 @@ pub fn print_groups(
 {
     let mut lengths = Vec::new(alloc);
     let mut table = table_of_none(alloc, &mut lengths, groups.fields(), columns)?;
-    if sorted {
-        let shown = groups.sorted()?;
-        for group in shown.as_slice() {
-            add_group(&mut table, &mut lengths, group)?;
-        }
-        return table.into_text();
-    }
+    let listed = if sorted { Some(groups.sorted()?) } else { None };
     for index in 0..groups.group_count() {
-        if let Some(group) = groups.group(index) {
+        if let Some(group) = group_at(groups, &listed, index) {
             add_group(&mut table, &mut lengths, &group)?;
         }
     }

@@ -21,10 +21,8 @@
 mod columns;
 mod groups;
 mod info;
-mod labels;
 mod laws;
 mod list;
-mod number;
 mod rows;
 mod runs;
 mod table;
@@ -32,12 +30,11 @@ mod text;
 
 pub use groups::print_groups;
 pub use info::print_info;
-pub use labels::RowLabels;
 pub use laws::{
     labelling_has_one_runs_text, minimal_list_can_be_read_again, printed_list_is_read_back,
     printed_order_is_one,
 };
 pub use list::print_list;
-pub use rows::print_rows;
+pub use rows::{RowLabels, print_rows};
 pub use runs::print_runs;
 pub use table::Table;

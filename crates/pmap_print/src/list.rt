@@ -36,22 +36,6 @@ fn print_entry(out: &mut Vec<u8>, entry: &Entry, labels: &Labels) -> Result<(), 
     Ok(())
 }
 
-fn print_entries(
-    out: &mut Vec<u8>,
-    entries: &[Entry],
-    version: Version,
-    labels: &Labels,
-) -> Result<(), AllocError>
-    requires { All (λ e. e.block.version ≡ version) entries.now }
-    ensures { OnOk result (out.new.items
-        ≡ out.old.items ++ text_of_lines (map (entry_line version) (map (prefix_of labels.now) entries.now))) }
-{
-    for entry in entries {
-        print_entry(out, entry, labels)?;
-    }
-    Ok(())
-}
-
 /// Returns the text of a prefix list: a line with its name, if it has one, a line with its version, and the entries in
 /// order of their first addresses. Of two entries with the same one, the shorter prefix is first.
 pub fn print_list(alloc: Global, list: &PrefixList) -> Result<Vec<u8>, AllocError>
@@ -60,6 +44,8 @@ pub fn print_list(alloc: Global, list: &PrefixList) -> Result<Vec<u8>, AllocErro
     let mut out = Vec::new(alloc);
     print_head(&mut out, list)?;
     let sorted = in_order(alloc, list.entries.as_slice())?;
-    print_entries(&mut out, sorted.as_slice(), list.version, &list.labels)?;
+    for entry in sorted.as_slice() {
+        print_entry(&mut out, entry, &list.labels)?;
+    }
     Ok(out)
 }

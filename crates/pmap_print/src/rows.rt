@@ -1,13 +1,11 @@
 //! The printed text of flow rows.
-ghost use Rattle.std.specs.Prelude.{◌≡◌, ℕ, ◌+◌, ◌<◌, ◌≤◌, List, [], ◌∷◌, ◌++◌, IfOk, OnOk, drop, is_some, length, map, option_map, take, unwrap_or};
+ghost use Rattle.std.specs.Prelude.{◌≡◌, ℕ, ◌+◌, ◌<◌, ◌≤◌, List, [], ◌∷◌, ◌++◌, IfOk, OnOk, drop, is_some, length, map, option_map, take};
 ghost use Rattle.std.specs.Fmt.{decimal};
 ghost use Rattle.std.specs.List.{join_with_byte};
 ghost use Rattle.std.specs.Option.{ForSome};
 ghost use Rattle.pmap_print.specs.Table.{has_columns, IsTable, sizes, Line, line_text};
-ghost use Rattle.pmap_print.specs.Reports.{column_count, labels_at, given_labels, label_fields, label_texts, row_fields, row_line, rows_text, title_line};
+ghost use Rattle.pmap_print.specs.Reports.{column_count, labels_at, given_labels, label_texts, row_fields, row_line, rows_text, title_line};
 
-use crate::labels::RowLabels;
-use crate::number::write_four;
 use crate::table::Table;
 use crate::text::Text;
 use flow_rows::Row;
@@ -15,35 +13,26 @@ use itoa::write_digits;
 use prefix_keys::write_addr;
 use std::alloc::{AllocError, Global};
 
+/// The labels of a row's source and destination address. An address without a label has `None`.
+#[derive(Clone, Copy)]
+pub struct RowLabels<'a> {
+    /// The label of the source.
+    pub src: Option<&'a [u8]>,
+    /// The label of the destination.
+    pub dst: Option<&'a [u8]>,
+}
+
 // The number of columns of rows, without labels and with them.
 const COLUMNS: usize = 10;
 
-const COLUMNS_WITH_LABELS: usize = 12;
+const WITH_LABELS: usize = 12;
 
 // The addresses of a row, the `|` between them, its eight numbers, each after a `|`, and the byte after them take at
 // most this many bytes.
 const LINE: usize = 250;
 
 // The lengths of the fields of the header, each with the byte that ends it.
-const TITLE_LENGTHS: [usize; COLUMNS_WITH_LABELS] = [4, 4, 6, 6, 6, 6, 8, 6, 6, 6, 10, 10];
-
-// Appends the header of rows, with the names of the label columns if `labelled`. If an allocation fails, a part of the
-// header may have been appended.
-fn print_title(out: &mut Text, labelled: bool) -> Result<(), AllocError>
-    ensures { OnOk result (out.new ≡ out.old ++ line_text (title_line labelled)) }
-{
-    if labelled {
-        out.push_bytes(
-            b"sip|dip|sport|dport|proto|flags|packets|bytes|stime|etime|src-label|dst-label",
-            b'\n',
-        )
-    } else {
-        out.push_bytes(
-            b"sip|dip|sport|dport|proto|flags|packets|bytes|stime|etime",
-            b'\n',
-        )
-    }
-}
+const TITLE_LENGTHS: [usize; WITH_LABELS] = [4, 4, 6, 6, 6, 6, 8, 6, 6, 6, 10, 10];
 
 // Writes a `|` and a number so that the number ends at `end`, and returns the index of the `|`.
 #[inline(always)]
@@ -59,45 +48,18 @@ fn write_number(number: u64, buf: &mut [u8], end: usize) -> usize
     at
 }
 
-// Writes a `|` and a number, like [`write_number`], but is faster for a number of 13 digits. Times in milliseconds have 13
-// digits from the year 2001 to the year 2286.
-#[inline(always)]
-fn write_time(time: u64, buf: &mut [u8], end: usize) -> usize
-    requires room { 21 ≤ end }
-    requires within { end ≤ length buf.old }
-    ensures size { result + (length (decimal time) + 1) ≡ end }
-    ensures room { end ≤ result + 21 }
-    ensures written { drop result buf.new ≡ 124 ∷ decimal time ++ drop end buf.old }
-{
-    let high = time / 100_000_000;
-    if high < 10_000 || high >= 100_000 {
-        return write_number(time, buf, end);
-    }
-    let low = time % 100_000_000;
-    write_four(low % 10_000, buf, end);
-    write_four(low / 10_000, buf, end - 4);
-    write_four(high % 10_000, buf, end - 8);
-    buf[end - 13] = b'0' + (high / 10_000) as u8;
-    buf[end - 14] = b'|';
-    end - 14
-}
-
 // Appends the fields of a row with `|` between, and then a byte. Returns the lengths of the fields, each with the byte
 // after it, and 0 for each label.
 #[inline(always)]
-fn print_fields(
-    out: &mut Text,
-    row: &Row<'_>,
-    last: u8,
-) -> Result<[usize; COLUMNS_WITH_LABELS], AllocError>
+fn print_fields(out: &mut Text, row: &Row<'_>, last: u8) -> Result<[usize; WITH_LABELS], AllocError>
     ensures text { OnOk result (out.new
         ≡ out.old ++ (join_with_byte 124 (row_fields row.now) ++ last ∷ [])) }
     ensures lengths { IfOk result (λ lengths. lengths ≡ sizes (row_fields row.now) ++ 0 ∷ 0 ∷ []) }
 {
-    let mut line = [0; LINE];
+    let mut line = [last; LINE];
     let last_at = LINE - 1;
-    let end = write_time(row.end_ms(), &mut line, last_at);
-    let start = write_time(row.start_ms(), &mut line, end);
+    let end = write_number(row.end_ms(), &mut line, last_at);
+    let start = write_number(row.start_ms(), &mut line, end);
     let octets = write_number(row.octets(), &mut line, start);
     let packets = write_number(row.packets(), &mut line, octets);
     let flags = write_number(u64::from(row.flags()), &mut line, packets);
@@ -107,7 +69,7 @@ fn print_fields(
     let dst = write_addr(row.dst(), &mut line, sport) - 1;
     line[dst] = b'|';
     let src = write_addr(row.src(), &mut line, dst);
-    out.push_bytes(&line[src..last_at], last)?;
+    out.push_front(&line[src..], LINE - src)?;
     Ok([
         dst - src + 1,
         sport - dst,
@@ -124,53 +86,29 @@ fn print_fields(
     ])
 }
 
-// Appends the labels of a row, and the end of its line. A field without a label is empty.
-fn print_labels(out: &mut Text, labels: RowLabels<'_>) -> Result<(), AllocError>
-    ensures { OnOk result (out.new ≡ out.old ++ line_text (label_fields (label_texts labels.entry))) }
-{
-    out.push_bytes(labels.src.unwrap_or(b""), b'|')?;
-    out.push_bytes(labels.dst.unwrap_or(b""), b'\n')
-}
-
-// Returns the length of a label with the byte that ends its field.
-fn label_length(label: Option<&[u8]>) -> usize
-    ensures { result ≡ length (unwrap_or (option_map (λ text. text.now) label.entry) []) + 1 }
-{
-    label.unwrap_or(b"").len() + 1
-}
-
-// Appends the line of a row, with its labels if they are given. Returns the lengths of its fields, each with the byte
-// that ends it. If an allocation fails, a part of the line may have been appended.
+// Appends the line of a row, with its labels if they are given. The field of a missing label is empty. Returns the
+// lengths of the fields, each with the byte that ends it.
 #[inline(always)]
 fn print_row(
     out: &mut Text,
     row: &Row<'_>,
     labels: Option<RowLabels<'_>>,
-) -> Result<[usize; COLUMNS_WITH_LABELS], AllocError>
+) -> Result<[usize; WITH_LABELS], AllocError>
     ensures text { OnOk result (out.new
         ≡ out.old ++ line_text (row_line row.now (option_map label_texts labels.entry))) }
     ensures lengths { IfOk result (λ lengths. take (column_count (is_some labels.entry)) lengths
         ≡ sizes (row_line row.now (option_map label_texts labels.entry))) }
 {
-    let last = if labels.is_some() { b'|' } else { b'\n' };
-    let mut lengths = print_fields(out, row, last)?;
-    if let Some(labels) = labels {
-        print_labels(out, labels)?;
-        lengths[COLUMNS] = label_length(labels.src);
-        lengths[COLUMNS + 1] = label_length(labels.dst);
-    }
+    let Some(labels) = labels else {
+        return print_fields(out, row, b'\n');
+    };
+    let mut lengths = print_fields(out, row, b'|')?;
+    let (src, dst) = (labels.src.unwrap_or(b""), labels.dst.unwrap_or(b""));
+    out.push_bytes(src, b'|')?;
+    out.push_bytes(dst, b'\n')?;
+    lengths[COLUMNS] = src.len() + 1;
+    lengths[COLUMNS + 1] = dst.len() + 1;
     Ok(lengths)
-}
-
-// Returns the number of columns, with labels or without.
-fn column_count(labelled: bool) -> usize
-    ensures { result ≡ column_count labelled }
-{
-    if labelled {
-        COLUMNS_WITH_LABELS
-    } else {
-        COLUMNS
-    }
 }
 
 impl Table {
@@ -184,14 +122,19 @@ impl Table {
         ensures header { IfOk result (IsTable (column_count labelled) (title_line labelled ∷ [])) }
         ensures columns { IfOk result (λ t. has_columns t ≡ columns) }
     {
-        let count = column_count(labelled);
+        let count = if labelled { WITH_LABELS } else { COLUMNS };
+        let last = if labelled { b'|' } else { b'\n' };
         let mut table = Table::new(alloc, count, columns)?;
-        print_title(&mut table.text, labelled)?;
+        let title = b"sip|dip|sport|dport|proto|flags|packets|bytes|stime|etime";
+        table.text.push_bytes(title, last)?;
+        if labelled {
+            table.text.push_bytes(b"src-label|dst-label", b'\n')?;
+        }
         table.note(&TITLE_LENGTHS[..count])?;
         Ok(table)
     }
 
-    /// Adds the line of a row, with its labels if the table has columns for them.
+    /// Adds the line of a row, with its labels if the table has columns for them. The field of a missing label is empty.
     ///
     /// # Errors
     /// If an allocation fails. The table may then end with a part of the line, and must not be used any more.
@@ -211,10 +154,12 @@ impl Table {
             print_row(&mut self.text, row, labels)?;
             return Ok(());
         }
-        let count = column_count(labels.is_some());
         let lengths = print_row(&mut self.text, row, labels)?;
-        self.note(&lengths[..count])?;
-        Ok(())
+        if labels.is_some() {
+            self.note(&lengths[..WITH_LABELS])
+        } else {
+            self.note(&lengths[..COLUMNS])
+        }
     }
 }
 
@@ -224,10 +169,7 @@ fn labels_at<'a>(labels: Option<&[RowLabels<'a>]>, index: usize) -> Option<RowLa
     ensures given { is_some result ≡ is_some labels.entry }
     ensures texts { option_map label_texts result ≡ labels_at (given_labels labels.entry) index }
 {
-    match labels {
-        Some(labels) => Some(labels[index]),
-        None => None,
-    }
+    Some(labels?[index])
 }
 
 /// Returns the text of rows: a header, and a line for each row.
