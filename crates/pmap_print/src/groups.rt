@@ -1,9 +1,9 @@
 //! The printed text of groups.
-ghost use Rattle.std.specs.Prelude.{◌≡◌, ℕ, ◌+◌, ◌≤◌, List, [], ◌∷◌, ◌++◌, IfOk, OnOk, length, map, option_map, slice_get, true};
+ghost use Rattle.std.specs.Prelude.{◌≡◌, [], ◌∷◌, ◌++◌, IfOk, OnOk, map, option_map, slice_get, true};
 ghost use Rattle.std.specs.Option.{option_map_or};
 ghost use Rattle.flow_uniq.specs.Inner.{group_model, part_model};
 ghost use Rattle.flow_uniq.specs.Groups.{shown_groups};
-ghost use Rattle.pmap_print.specs.Table.{has_columns, IsTable, sizes, Line, line_text};
+ghost use Rattle.pmap_print.specs.Table.{sizes, line_text};
 ghost use Rattle.pmap_print.specs.Reports.{group_fields, group_titles, groups_text, part_text, total_fields};
 
 use crate::table::Table;
@@ -25,17 +25,17 @@ fn print_part(out: &mut Text, part: KeyPart<'_>) -> Result<(), AllocError>
 // The number of columns of a group's totals.
 const TOTALS: usize = 3;
 
-// Appends the header of groups by these fields, and the length of each of its fields with the byte that ends it. If an
-// allocation fails, a part of the header may have been appended.
+// Appends the header of groups by these fields. Replaces `lengths` by the length of each field with the byte that ends
+// it. If an allocation fails, a part of the header may have been appended.
 fn print_title(
     out: &mut Text,
     lengths: &mut Vec<usize>,
     fields: &[KeyField],
 ) -> Result<(), AllocError>
-    requires { lengths.old.items ≡ [] }
     ensures text { OnOk result (out.new ≡ out.old ++ line_text (group_titles fields.now)) }
     ensures lengths { OnOk result (lengths.new.items ≡ sizes (group_titles fields.now)) }
 {
+    lengths.clear();
     for field in fields {
         let name = field.name();
         out.push_bytes(name.as_bytes(), b'|')?;
@@ -60,17 +60,17 @@ fn print_totals(out: &mut Text, totals: &Totals) -> Result<[usize; TOTALS], Allo
     Ok([packets - begin, octets - packets, out.len() - octets])
 }
 
-// Appends the line of a group and, if `noted`, the lengths of its fields, each with the byte that ends it.
+// Appends the line of a group. If `noted`, replaces `lengths` by the length of each field with the byte that ends it.
 fn print_group(
     out: &mut Text,
     lengths: &mut Vec<usize>,
     group: &Group<'_>,
     noted: bool,
 ) -> Result<(), AllocError>
-    requires { lengths.old.items ≡ [] }
     ensures text { OnOk result (out.new ≡ out.old ++ line_text (group_fields (group_model group.now))) }
     ensures lengths { OnOk result (noted ≡ true → lengths.new.items ≡ sizes (group_fields (group_model group.now))) }
 {
+    lengths.clear();
     let mut rest = group.key;
     while let Some((part, behind)) = rest.split_first() {
         let begin = out.len();
@@ -85,43 +85,6 @@ fn print_group(
         lengths.extend_from_slice(&totals)?;
     }
     Ok(())
-}
-
-// Adds the line of a group to a table. Replaces the lengths in `lengths`.
-fn add_group(
-    table: &mut Table,
-    lengths: &mut Vec<usize>,
-    group: &Group<'_>,
-) -> Result<(), AllocError>
-    requires { (count : ℕ) × (lines : List Line) × IsTable count lines table.old
-        × (length (group_fields (group_model group.now)) ≡ count) }
-    ensures columns { has_columns table.new ≡ has_columns table.old }
-    ensures line { OnOk result ((count : ℕ) → (lines : List Line) → IsTable count lines table.old
-        → length (group_fields (group_model group.now)) ≡ count
-        → IsTable count (lines ++ group_fields (group_model group.now) ∷ []) table.new) }
-{
-    lengths.clear();
-    let noted = table.columns.is_some();
-    print_group(&mut table.text, lengths, group, noted)?;
-    table.note(lengths.as_slice())?;
-    Ok(())
-}
-
-// Returns a table of groups by these fields that has only its header.
-fn table_of_none(
-    alloc: Global,
-    lengths: &mut Vec<usize>,
-    fields: &[KeyField],
-    columns: bool,
-) -> Result<Table, AllocError>
-    requires { lengths.old.items ≡ [] }
-    ensures header { IfOk result (IsTable (length fields.now + 3) (group_titles fields.now ∷ [])) }
-    ensures columns { IfOk result (λ t. has_columns t ≡ columns) }
-{
-    let mut table = Table::new(alloc, fields.len() + TOTALS, columns)?;
-    print_title(&mut table.text, lengths, fields)?;
-    table.note(lengths.as_slice())?;
-    Ok(table)
 }
 
 // Returns the group at an index: of the sorted groups, if they are given, otherwise in the order of the first rows.
@@ -156,11 +119,19 @@ pub fn print_groups(
         ≡ groups_text groups.now.fields (shown_groups sorted groups.now.groups) columns) }
 {
     let mut lengths = Vec::new(alloc);
-    let mut table = table_of_none(alloc, &mut lengths, groups.fields(), columns)?;
-    let listed = if sorted { Some(groups.sorted()?) } else { None };
+    let fields = groups.fields();
+    let mut table = Table::new(alloc, fields.len() + TOTALS, columns)?;
+    print_title(&mut table.text, &mut lengths, fields)?;
+    table.note(lengths.as_slice())?;
+    let listed = if sorted {
+        Some(groups.sorted()?)
+    } else {
+        None
+    };
     for index in 0..groups.group_count() {
         if let Some(group) = group_at(groups, &listed, index) {
-            add_group(&mut table, &mut lengths, &group)?;
+            print_group(&mut table.text, &mut lengths, &group, columns)?;
+            table.note(lengths.as_slice())?;
         }
     }
     table.into_text()
