@@ -1,6 +1,7 @@
 -- How the fields at the end of a text are moved to their columns, from the first to the last.
-use Rattle.std.proofs.Common.{ℕ, ◌≡◌, ◌+◌, ◌-◌, ◌<◌, ◌≤◌, ◌∙◌, List, [], ◌∷◌, ◌++◌, length, map, take, drop, get_or, replicate, ap, sym, arith, append_assoc}
+use Rattle.std.proofs.Common.{ℕ, suc, ◌≡◌, ◌+◌, ◌-◌, ◌<◌, ◌≤◌, ◌∙◌, List, [], ◌∷◌, ◌++◌, length, map, take, drop, get_or, replicate, ap, sym, arith, append_assoc}
 use Rattle.std.specs.Prelude.{◌%◌, filter, slice_index}
+use Rattle.std.proofs.Math.Nat.{suc-mod}
 use Rattle.std.proofs.lemmas.List.{drop-drop, drop_at, drop_more, get_or-map, length-append, length-drop, length-map, length-replicate, length-take-le, take_at}
 use Rattle.pmap_print.specs.Table.{is_long, joined, noted, spread, Text, filled}
 
@@ -110,3 +111,8 @@ module _ (texts : List Text) (widths : List ℕ) (i : ℕ) (inside : i < length 
     where
       sums : to + (spaces + n) ≡ to + spaces + n
       sums = omega arith
+
+-- the column after that of a text
+pub next_column : (i count column : ℕ) → column ≡ i % count → (i + 1) % count ≡ (column + 1) % count
+next_column i count column at = let (here, there) : (i + 1 ≡ suc i) × (column + 1 ≡ suc column) = (omega arith, omega arith) in
+    ap (λ k. k % count) here ∙ suc-mod i count ∙ ap (λ k. suc k % count) (sym at) ∙ ap (λ k. k % count) (sym there)

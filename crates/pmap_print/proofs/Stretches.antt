@@ -54,21 +54,21 @@ one-joined f low middle next high x one more follows =
 abbrev pub begin_at : StretchesModel → ℕ → ℕ
 begin_at s i = cond (nat_lt i (length s.firsts)) (first_at s i) (2 ^ width_of s.version)
 
--- The runs before the stretch `begin` are printed, followed by any runs from there on they are the labelling's runs. The
+-- The header and the runs before the stretch `begin` are printed, followed by any runs from there on they are the labelling's runs. The
 -- stretches from `begin` to the one before `index` have the label of the stretch `index`, if there is one.
-pub record IsPrintedTo (table : List Label) (s : StretchesModel) (begin index : ℕ) (before out : Text) : Type 0 where
+pub record IsPrintedTo (table : List Label) (s : StretchesModel) (begin index : ℕ) (out : Text) : Type 0 where
   pub order : begin ≤ index
   pub end : length s.firsts ≤ index → begin ≡ index
   pub one : (i : ℕ) → i + 1 ≡ index → begin ≤ i
       → HasOneLabel (text_held table s) (record { low = first_at s begin; high = last_at s i; label = label_text table (label_at s index) })
   pub runs : List Run
-  pub text : out ≡ before ++ flat_map (run_text s.version) runs
+  pub text : out ≡ line_text run_titles ++ flat_map (run_text s.version) runs
   pub goes_on : (rest : List Run) → AreRuns (text_held table s) (begin_at s begin) (2 ^ width_of s.version) rest
       → AreRuns (text_held table s) 0 (2 ^ width_of s.version) (runs ++ rest)
 
-text_more : (s : StretchesModel) (before out new : Text) (runs : List Run) (run : Run) → out ≡ before ++ flat_map (run_text s.version) runs
-    → new ≡ out ++ run_text s.version run → new ≡ before ++ flat_map (run_text s.version) (runs ++ run ∷ [])
-text_more s before out new runs run so_far text = grind (arith, common_steps)
+text_more : (s : StretchesModel) (out new : Text) (runs : List Run) (run : Run) → out ≡ line_text run_titles ++ flat_map (run_text s.version) runs
+    → new ≡ out ++ run_text s.version run → new ≡ line_text run_titles ++ flat_map (run_text s.version) (runs ++ run ∷ [])
+text_more s out new runs run so_far text = grind (arith, common_steps)
 
 module _ (table : List Label) (s : StretchesModel) (every : HasEveryAddress s) where
   begins : (i : ℕ) → i < length s.firsts → begin_at s i ≡ first_at s i
@@ -77,27 +77,26 @@ module _ (table : List Label) (s : StretchesModel) (every : HasEveryAddress s) w
   ends : (i : ℕ) → length s.firsts ≤ i → begin_at s i ≡ 2 ^ width_of s.version
   ends i past = ap (λ b. cond b (first_at s i) (2 ^ width_of s.version)) (le-ltb i (length s.firsts) past)
 
-  pub none_printed : (out : Text) → IsPrintedTo table s 0 0 out out
-  none_printed out = record {
+  pub none_printed : (out : Text) → out ≡ line_text run_titles → IsPrintedTo table s 0 0 out
+  none_printed out title = record {
     order = omega arith;
     end = λ none. refl;
     one = λ i before. absurd (omega (arith, before));
     runs = [];
-    text = sym (append-nil out);
+    text = title ∙ sym (append-nil (line_text run_titles));
     goes_on = λ rest are. subst (λ (from : ℕ). AreRuns (text_held table s) from (2 ^ width_of s.version) rest) (begins 0 every.some ∙ every.zero) are;
   }
 
-  pub all_printed : (begin index : ℕ) (before out : Text) → IsPrintedTo table s begin index before out → length s.firsts ≤ index
-      → before ≡ line_text run_titles → IsRunsText s.version (text_held table s) out
-  all_printed begin index before out is past title = record {
+  pub all_printed : (begin index : ℕ) (out : Text) → IsPrintedTo table s begin index out → length s.firsts ≤ index
+      → IsRunsText s.version (text_held table s) out
+  all_printed begin index out is past = record {
     runs = is.runs;
     are = subst (AreRuns (text_held table s) 0 (2 ^ width_of s.version)) (append-nil is.runs) (is.goes_on [] (ends begin (omega (arith, past, is.end past))));
-    is = is.text ∙ ap (λ (x : Text). x ++ flat_map (run_text s.version) is.runs) title
-        ∙ ap (λ (x : Text). line_text run_titles ++ x) (sym (flat_map-map line_text (run_fields s.version) is.runs));
+    is = is.text ∙ ap (λ (x : Text). line_text run_titles ++ x) (sym (flat_map-map line_text (run_fields s.version) is.runs));
   }
 
   -- the stretch with the index is the next one
-  module _ (begin index : ℕ) (within : index < length s.firsts) (before out : Text) (is : IsPrintedTo table s begin index before out) where
+  module _ (begin index : ℕ) (within : index < length s.firsts) (out : Text) (is : IsPrintedTo table s begin index out) where
     run : Run
     run = run_between table s begin index
 
@@ -129,7 +128,7 @@ module _ (table : List Label) (s : StretchesModel) (every : HasEveryAddress s) w
         by (inr end) = omega (arith, last_end s index end, ends (index + 1) end, pow_pos (width_of s.version))
 
     -- if the next stretch has the same label, the run goes on
-    pub run_goes_on : index + 1 ≢ length s.firsts → label_at s (index + 1) ≡ label_at s index → IsPrintedTo table s begin (index + 1) before out
+    pub run_goes_on : index + 1 ≢ length s.firsts → label_at s (index + 1) ≡ label_at s index → IsPrintedTo table s begin (index + 1) out
     run_goes_on more e = record {
       order = omega (arith, is.order);
       end = λ past. absurd (omega (arith, past, more, within));
@@ -146,13 +145,13 @@ module _ (table : List Label) (s : StretchesModel) (every : HasEveryAddress s) w
     -- if the next stretch has another label, or there is none, the run is printed
     pub run_ends : (new : Text) → IsLabelTable table → AreLabelsBelow (length table) s
         → (index + 1 < length s.firsts → label_at s (index + 1) ≢ label_at s index)
-        → new ≡ out ++ run_text s.version (run_between table s begin index) → IsPrintedTo table s (index + 1) (index + 1) before new
+        → new ≡ out ++ run_text s.version (run_between table s begin index) → IsPrintedTo table s (index + 1) (index + 1) new
     run_ends new distinct known other text = record {
       order = omega arith;
       end = λ _. refl;
       one = λ i next ge. absurd (omega (arith, next, ge));
       runs = is.runs ++ run_between table s begin index ∷ [];
-      text = text_more s before out new is.runs (run_between table s begin index) is.text text;
+      text = text_more s out new is.runs (run_between table s begin index) is.text text;
       goes_on = λ rest are. subst (AreRuns (text_held table s) 0 (2 ^ width_of s.version)) (sym (append_assoc is.runs (run_between table s begin index ∷ []) rest))
           (is.goes_on (run_between table s begin index ∷ rest) (
             sym (begins begin (omega (arith, is.order, within))),

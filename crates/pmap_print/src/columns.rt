@@ -9,6 +9,7 @@ use std::alloc::{AllocError, Global};
 const LONG: usize = 255;
 
 /// The lengths in bytes of the fields of a table's lines. Each includes the byte that ends the field.
+#[derive(Drop)]
 pub struct Columns {
     // The length of each field, or `LONG` if the length is at least that.
     short: Vec<u8>,
@@ -18,40 +19,16 @@ pub struct Columns {
     widths: Vec<usize>,
 }
 
-// A drop is one call, so the proofs of functions that drop this type have one step instead of one for each part.
-impl Drop for Columns {
-    fn drop(self) {
-        let Columns {
-            short: _,
-            long: _,
-            widths: _,
-        } = self;
-    }
-}
-
 // Returns the length that `byte` notes, and the long lengths of the fields after it.
 #[inline(always)]
 fn first_length(byte: u8, long: &[usize]) -> (usize, &[usize])
     ensures { (n : ℕ) → (ns : List ℕ) → byte ≡ noted n → long.now ≡ filter is_long (n ∷ ns)
         → (result.0 ≡ n) × (result.1.now ≡ filter is_long ns) }
 {
-    let length = usize::from(byte);
-    if length < LONG {
-        return (length, long);
-    }
     match long.split_first() {
-        Some((first, others)) => (*first, others),
-        None => (length, long),
+        Some((first, others)) if usize::from(byte) == LONG => (*first, others),
+        _ => (usize::from(byte), long),
     }
-}
-
-// Returns the column after one of `count` columns. After the last is the first one of the line below.
-#[inline]
-fn column_after(column: usize, count: usize) -> usize
-    requires { column < count }
-    ensures { (i : ℕ) → column ≡ i % count → result ≡ (i + 1) % count }
-{
-    if column + 1 == count { 0 } else { column + 1 }
 }
 
 // Writes `spaces` spaces at `to`, followed by the `N` bytes of the text at `from`. The number of bytes that are written
@@ -162,10 +139,12 @@ impl Columns {
         for byte in self.short.as_slice() {
             let (length, others) = first_length(*byte, long);
             let spaces = self.widths[column].saturating_sub(length);
+            // After the last column is the first one of the line below.
+            let next = column + 1;
+            column = if next == self.widths.len() { 0 } else { next };
             move_left(text, from, length, to, spaces);
             from += length;
             to += spaces + length;
-            column = column_after(column, self.widths.len());
             long = others;
         }
     }

@@ -123,11 +123,7 @@ pub fn print_groups(
     let mut table = Table::new(alloc, fields.len() + TOTALS, columns)?;
     print_title(&mut table.text, &mut lengths, fields)?;
     table.note(lengths.as_slice())?;
-    let listed = if sorted {
-        Some(groups.sorted()?)
-    } else {
-        None
-    };
+    let listed = if sorted { Some(groups.sorted()?) } else { None };
     for index in 0..groups.group_count() {
         if let Some(group) = group_at(groups, &listed, index) {
             print_group(&mut table.text, &mut lengths, &group, columns)?;

@@ -8,22 +8,6 @@ use pmap_text::{Entry, Labels, PrefixList, in_order};
 use prefix_keys::{Version, print_block};
 use std::alloc::{AllocError, Global};
 
-// Appends the line of the list's name, if it has one, and the line of its version.
-fn print_head(out: &mut Vec<u8>, list: &PrefixList) -> Result<(), AllocError>
-    ensures { OnOk result (out.new.items
-        ≡ out.old.items ++ text_of_lines (name_lines list.now.name ++ mode_text list.now.version ∷ [])) }
-{
-    if let Some(name) = &list.name {
-        out.extend_from_slice(b"map-name ")?;
-        out.extend_from_slice(name.as_bytes())?;
-        out.push(b'\n')?;
-    }
-    out.extend_from_slice(match list.version {
-        Version::V4 => b"mode ipv4\n",
-        Version::V6 => b"mode ipv6\n",
-    })
-}
-
 // Appends the line of an entry: its block and its label.
 fn print_entry(out: &mut Vec<u8>, entry: &Entry, labels: &Labels) -> Result<(), AllocError>
     ensures { OnOk result (out.new.items
@@ -42,7 +26,15 @@ pub fn print_list(alloc: Global, list: &PrefixList) -> Result<Vec<u8>, AllocErro
     ensures { IfOk result (λ out. out.items ≡ list_text (list_of list.now)) }
 {
     let mut out = Vec::new(alloc);
-    print_head(&mut out, list)?;
+    if let Some(name) = &list.name {
+        out.extend_from_slice(b"map-name ")?;
+        out.extend_from_slice(name.as_bytes())?;
+        out.push(b'\n')?;
+    }
+    out.extend_from_slice(match list.version {
+        Version::V4 => b"mode ipv4\n",
+        Version::V6 => b"mode ipv6\n",
+    })?;
     let sorted = in_order(alloc, list.entries.as_slice())?;
     for entry in sorted.as_slice() {
         print_entry(&mut out, entry, &list.labels)?;

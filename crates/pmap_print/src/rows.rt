@@ -155,11 +155,12 @@ impl Table {
             return Ok(());
         }
         let lengths = print_row(&mut self.text, row, labels)?;
-        if labels.is_some() {
-            self.note(&lengths[..WITH_LABELS])
+        let count = if labels.is_some() {
+            WITH_LABELS
         } else {
-            self.note(&lengths[..COLUMNS])
-        }
+            COLUMNS
+        };
+        self.note(&lengths[..count])
     }
 }
 

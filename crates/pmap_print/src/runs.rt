@@ -46,25 +46,6 @@ fn print_run(
     out.push_bytes(text, b'\n')
 }
 
-// Appends the lines of the runs of the stretches to the header.
-fn push_runs(out: &mut Text, stretches: &Stretches, labels: &Labels) -> Result<(), AllocError>
-    requires title { out.old ≡ line_text run_titles }
-    requires known { AreLabelsBelow (length labels.now) stretches.now }
-    ensures { OnOk result (IsRunsText stretches.now.version (text_held labels.now stretches.now) out.new) }
-{
-    // Provides the law that no two texts of the table are equal.
-    let _count = labels.len();
-    let count = stretches.len();
-    let mut begin = 0;
-    for index in 0..count {
-        if index + 1 == count || stretches.label(index + 1) != stretches.label(index) {
-            print_run(out, stretches, begin, index, labels)?;
-            begin = index + 1;
-        }
-    }
-    Ok(())
-}
-
 /// Returns the text of the runs of stretches: a header, and a line for each maximal range of consecutive addresses with
 /// the same label or with none. The line has the first and the last address and the label.
 pub fn print_runs(
@@ -75,8 +56,17 @@ pub fn print_runs(
     requires { AreLabelsBelow (length labels.now) stretches.now }
     ensures { IfOk result (λ out. IsRunsText stretches.now.version (text_held labels.now stretches.now) out.items) }
 {
+    // Provides the law that no two texts of the table are equal.
+    let _count = labels.len();
     let mut out = Text::new(alloc);
     out.push_bytes(b"low|high|label", b'\n')?;
-    push_runs(&mut out, stretches, labels)?;
+    let count = stretches.len();
+    let mut begin = 0;
+    for index in 0..count {
+        if index + 1 == count || stretches.label(index + 1) != stretches.label(index) {
+            print_run(&mut out, stretches, begin, index, labels)?;
+            begin = index + 1;
+        }
+    }
     Ok(out.into_bytes())
 }

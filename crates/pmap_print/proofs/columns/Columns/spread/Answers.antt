@@ -1,11 +1,12 @@
-use Rattle.std.proofs.Common.{ℕ, ◌≡◌, ◌+◌, ◌-◌, ◌<◌, ◌∙◌, [], List, ap, arith, drop, get_or, length, map, sym}
+use Rattle.std.proofs.Common.{mod-eq_of_lt, ℕ, ◌≡◌, ◌+◌, ◌-◌, ◌<◌, ◌∙◌, [], List, ap, arith, drop, get_or, length, map, sym}
 use Rattle.std.specs.Prelude.{◌%◌, filter, slice_index}
 use Rattle.std.proofs.lemmas.List.{get_or_read, length-map}
+use Rattle.std.proofs.Math.Nat.{mod_self}
 use Rattle.std.proofs.lemmas.Nat.{mod_below}
 use Rattle.pmap_print.specs.Table.{CanSpread, Text, is_long, noted}
-use Rattle.pmap_print.proofs.Spreading.{IsSpread, Moves, long-next, moved, moves, noted-at}
+use Rattle.pmap_print.proofs.Spreading.{IsSpread, Moves, long-next, moved, moves, next_column, noted-at}
 use Rattle.pmap_print.proofs.columns.Columns.spread.Goals as goal
-use Rattle.pmap_print.proofs.columns.Columns.spread.Goals.{After-saturating_sub-spaces}
+use Rattle.pmap_print.proofs.columns.Columns.spread.Goals.{After-saturating_sub-spaces, then-next-len, else-next-len}
 
 module _ (c : After-saturating_sub-spaces) (texts : List Text) (can : CanSpread texts c.args.self.now c.args.from c.args.text.now) where
   abbrev i : ℕ
@@ -77,10 +78,14 @@ pub loop-byte-preserved : goal.loop-byte-preserved
 loop-byte-preserved c = λ texts can.
     let s = (goal.at.loop-byte-preserved c).After-saturating_sub-spaces in
     let i : ℕ = c.loop-byte.byte-index in
-    let count : c.len.result ≡ length c.args.self.now.widths.items = omega (arith, c.len.ensures, c.args.self.now.widths.ok) in
-    let after : c.column_after-column.result ≡ (i + 1) % length c.args.self.now.widths.items =
-    c.column_after-column.ensures i ((is s texts can).at ∙ (λ k. i % sym count k)) ∙ ap (λ k. (i + 1) % k) count in
+    let n : ℕ = length c.args.self.now.widths.items in
+    let count : c.len.result ≡ n = omega (arith, c.len.ensures, c.args.self.now.widths.ok) in
+    let next : (i + 1) % n ≡ (c.loop-byte.column + 1) % n = next_column i n c.loop-byte.column (is s texts can).at in
+    let after : c.if-next-len.column ≡ (i + 1) % n = elim c.if-next-len.branch [
+      | then-next-len w ↦ w.column-is ∙ sym (next ∙ ap (λ k. k % n) (omega (arith, w.if-next-len.true, count)) ∙ mod_self n)
+      | else-next-len w ↦ w.column-is ∙ sym (next ∙ mod-eq_of_lt (omega (arith, w.if-next-len.false, count, (is s texts can).at, mod_below i n can.some)))
+    ] in
     moved texts c.args.self.now.widths.items i (inside s texts can) c.loop-byte.text c.loop-byte.from c.loop-byte.to c.loop-byte.column
-    c.loop-byte.long.now (is s texts can) c.move_left.new.text c.column_after-column.result c.first_length-length.result.1.now
+    c.loop-byte.long.now (is s texts can) c.move_left.new.text c.if-next-len.column c.first_length-length.result.1.now
     c.first_length-length.result.0 c.saturating_sub-spaces.result (known s texts can).0 (spaces s texts can) after (known s texts can).1
     c.move_left.ensures.len c.move_left.ensures.front c.move_left.ensures.back

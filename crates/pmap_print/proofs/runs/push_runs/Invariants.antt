@@ -1,5 +1,0 @@
-use Rattle.pmap_print.proofs.Stretches.{IsPrintedTo}
-use Rattle.pmap_print.proofs.runs.push_runs.Given as goal
-
-abbrev pub invariant-loop-index : goal.invariant-loop-index
-invariant-loop-index l = IsPrintedTo l.labels l.stretches l.begin l.index l.initial.out l.out
