@@ -52,6 +52,8 @@ impl Declarations {
     }
 
     /// Returns the text that was declared for a number. The text is a label.
+    // A call keeps this out of the way of texts that declare nothing.
+    #[inline(never)]
     pub fn text_of(&self, number: u32) -> Option<&[u8]>
         ensures value { option_map (λ t. t.now) result ≡ declared_text self.now number }
         ensures label { IfSome result (λ t. IsTrue (is_label t.now)) }

@@ -70,6 +70,8 @@ impl Labels {
     }
 
     /// Returns the number of a text. The text with that number is this one, and it is a label.
+    // A call keeps this out of the way of the labels that were found recently.
+    #[inline(never)]
     pub fn id_of(&self, text: &[u8]) -> Option<LabelId>
         ensures value { option_map (λ id. id.0) result ≡ number_of self.now text.now }
         ensures text { IfSome result (λ id. slice_get self.now id.0 ≡ Some text.now) }

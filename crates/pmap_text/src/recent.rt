@@ -2,8 +2,8 @@ ghost use Rattle.std.specs.Prelude.{◌<◌};
 
 use crate::label::LabelId;
 
-// How many labels are remembered.
-const PLACES: usize = 4096;
+// How many labels are remembered: a prime, so that each of the bytes that select a slot counts.
+const PLACES: usize = 4093;
 
 /// The labels that were last found. The end of a label's text selects its slot, so that most labels are found again
 /// without a look-up in a table. A slot may have the number of another text, or of no text.
@@ -27,6 +27,7 @@ impl Recent {
     }
 
     /// Remembers the number of a text, replacing the one in its slot.
+    #[inline(never)]
     pub fn remember(&mut self, text: &[u8], id: LabelId) {
         self.ids[place_of(text)] = id;
     }
@@ -36,11 +37,13 @@ impl Recent {
 // different numbers.
 #[inline(always)]
 fn place_of(text: &[u8]) -> usize
-    ensures { result < 4096 }
+    ensures { result < PLACES }
 {
-    let mut place = 0;
-    for byte in &text[text.len().saturating_sub(4)..] {
-        place = (place * 27 + usize::from(*byte)) % PLACES;
-    }
-    place
+    let word = match text.last_chunk::<4>() {
+        Some(end) => u32::from_le_bytes(*end),
+        None => text
+            .iter()
+            .fold(0, |word, byte| word << 8 | u32::from(*byte)),
+    };
+    word as usize % PLACES
 }

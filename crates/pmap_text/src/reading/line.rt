@@ -250,8 +250,7 @@ impl Reading {
         }
     }
 
-    // Reads a line that begins with an address, given the address and the text after it. A second address is read in
-    // one pass if possible.
+    // Reads a line that begins with an address, given the address and the text after it.
     fn read_address_line(
         &mut self,
         form: Form,
@@ -261,9 +260,6 @@ impl Reading {
         ensures { Reads self.old self.new
             (one_or_two form self.old (first.version, first.value) (address_of (first_word rest.now)) rest.now) result }
     {
-        if let Some((Word::Address(second), behind)) = leading_word(rest) {
-            return self.read_range(form, first, second, behind);
-        }
         let (word, behind) = split_word(rest);
         match word_address(word) {
             Ok(second) => self.read_range(form, first, second, behind),
@@ -271,6 +267,23 @@ impl Reading {
                 let block = block_of(first, first.version.width());
                 self.read_behind_block(form, block, rest)
             }
+        }
+    }
+
+    // Reads a line that begins with an address, given the address and the text after it. A second address is read in
+    // one pass if possible.
+    fn read_behind_address(
+        &mut self,
+        form: Form,
+        first: Addr,
+        rest: &[u8],
+    ) -> Result<(), MapFaultKind>
+        ensures { Reads self.old self.new
+            (one_or_two form self.old (first.version, first.value) (address_of (first_word rest.now)) rest.now) result }
+    {
+        match leading_word(rest) {
+            Some((Word::Address(second), behind)) => self.read_range(form, first, second, behind),
+            _ => self.read_address_line(form, first, rest),
         }
     }
 
@@ -314,7 +327,7 @@ impl Reading {
     {
         match leading_word(content) {
             Some((Word::Block(block), rest)) => self.read_behind_block(form, block, rest),
-            Some((Word::Address(first), rest)) => self.read_address_line(form, first, rest),
+            Some((Word::Address(first), rest)) => self.read_behind_address(form, first, rest),
             None => self.read_words(form, content),
         }
     }

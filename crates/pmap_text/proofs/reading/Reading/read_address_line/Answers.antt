@@ -5,7 +5,7 @@ use Rattle.pmap_text.proofs.reading.Reading.read_address_line.Goals as goal
 
 pub returns-in-Ok : goal.returns-in-Ok
 returns-in-Ok c =
-    rw (← c.split_word.ensures.word, c.in-Ok.ensures.ok, ← c.split_word.ensures.rest) c.read_range-in-Ok.ensures
+    rw (← c.split_word.ensures.word, c.in-Ok.ensures.ok, ← c.split_word.ensures.rest) c.read_range.ensures
 
 -- the block of one address begins at it
 pub returns-in-Err : goal.returns-in-Err

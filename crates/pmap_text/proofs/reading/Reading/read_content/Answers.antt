@@ -17,4 +17,4 @@ returns-in-Some-Address-default c =
     let arm = c.in-Some-Address-default in
     let word : IsWord (first_word c.args.content.now) (Address arm.first) =
     subst (λ (w : Word). IsWord (first_word c.args.content.now) w) arm.field-0-0-is arm.ensures.word in
-    rw (content-address c.args.form c.args.self.now c.args.content.now arm.rest.now arm.first word arm.ensures.rest) c.read_address_line.ensures
+    rw (content-address c.args.form c.args.self.now c.args.content.now arm.rest.now arm.first word arm.ensures.rest) c.read_behind_address.ensures
