@@ -1,12 +1,12 @@
 //! The lines of a text and the words of a line.
 ghost use Rattle.std.specs.Prelude.{◌≡◌, ◌+◌, ◌<◌, ◌≤◌, ◌∷◌, ◌==◌, ◌||◌, ℕ, Bool, List, [], length, not, position, take};
-ghost use Rattle.std.specs.List.{before_first, position_or_len};
+ghost use Rattle.std.specs.List.{position_or_len};
 ghost use Rattle.pmap_text.specs.Label.{is_blank as is_blank_byte};
 ghost use Rattle.pmap_text.specs.Reading.{behind_word, content_of, first_word, lines_of, trim_end, trim_start};
 
 use crate::label::is_blank;
 use memchr::memchr2;
-use prefix_keys::find_byte;
+use prefix_keys::{cut, find_byte};
 
 // Returns the index of the first blank.
 fn find_blank(text: &[u8]) -> Option<usize>
@@ -33,8 +33,8 @@ fn place_or_end(found: Option<usize>, text: &[u8]) -> usize
     found.unwrap_or(text.len())
 }
 
-/// Returns the first line of a text, and the text after its line feed.
-pub fn split_line(text: &[u8]) -> (&[u8], &[u8])
+// Returns the first line of a text, and the text after its line feed.
+fn split_line(text: &[u8]) -> (&[u8], &[u8])
     requires { 0 < length text.now }
     ensures line { lines_of text.now ≡ result.0.now ∷ lines_of result.1.now }
     ensures shorter { length result.1.now < length text.now }
@@ -42,7 +42,7 @@ pub fn split_line(text: &[u8]) -> (&[u8], &[u8])
     split_at_feed(text, place_or_end(find_byte(text, b'\n'), text))
 }
 
-// Returns the text before the first line feed, which is at this index, and the text after it.
+// Returns the first line of a text, which ends at this index, and the text after its line feed.
 #[inline(always)]
 fn split_at_feed(text: &[u8], end: usize) -> (&[u8], &[u8])
     requires some { 0 < length text.now }
@@ -79,17 +79,10 @@ pub fn split_content(text: &[u8]) -> (&[u8], &[u8])
     let end = content_end(text);
     if end < text.len() && text[end] == b'#' {
         let (line, behind) = split_line(text);
-        return (without_outer_blanks(before_comment(line)), behind);
+        return (without_outer_blanks(cut(line, b'#').0), behind);
     }
     let (line, behind) = split_at_feed(text, end);
     (without_outer_blanks(line), behind)
-}
-
-// Returns the text before the first `#`.
-fn before_comment(line: &[u8]) -> &[u8]
-    ensures { result.now ≡ before_first (λ b. b == 35) line.now }
-{
-    &line[..place_or_end(find_byte(line, b'#'), line)]
 }
 
 /// Returns the text without its leading blanks.

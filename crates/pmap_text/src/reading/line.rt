@@ -188,19 +188,6 @@ impl Reading {
         }
     }
 
-    // Reads a label for a block in the text's version, given the text after the block.
-    #[inline(always)]
-    fn read_placed(&mut self, form: Form, block: Block, rest: &[u8]) -> Result<(), MapFaultKind>
-        requires { unwrap_or self.old.version block.version ≡ block.version }
-        ensures { Reads self.old self.new
-            (placed_line form self.old block.version block.value block.len rest.now) result }
-    {
-        match form {
-            Form::Map => self.read_span(block.span(), rest),
-            Form::List => self.read_prefix(block, rest),
-        }
-    }
-
     // Reads `BLOCK LABEL`, given the block and the text after it.
     #[inline(always)]
     fn read_behind_block(
@@ -213,7 +200,10 @@ impl Reading {
             (block_line form self.old (Ok (block.version, block.value, block.len)) rest.now) result }
     {
         let block = block_in(self.version_at(block.version), block)?;
-        self.read_placed(form, block, rest)
+        match form {
+            Form::Map => self.read_span(block.span(), rest),
+            Form::List => self.read_prefix(block, rest),
+        }
     }
 
     // Reads `BLOCK LABEL`, given the word of the block and the text after it.
