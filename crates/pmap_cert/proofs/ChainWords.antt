@@ -36,12 +36,6 @@ bits-digits [] = refl
 bits-digits (true ∷ bits) = bits-digits bits
 bits-digits (false ∷ bits) = bits-digits bits
 
--- what fits below a chain's bits fits into some room
-pub end-room : (Fits : ℕ → Type 0) (bits : List Bool) (room : ℕ) → HasRoomBelow Fits bits room → (left : ℕ) × Fits left
-end-room Fits [] room h = (room, h)
-end-room Fits (bit ∷ bits) zero h = absurd h
-end-room Fits (bit ∷ bits) (suc room) h = end-room Fits bits room h
-
 -- a weaker condition fits below a chain's bits too
 pub other-room : (Fits Other : ℕ → Type 0) → ((room : ℕ) → Fits room → Other room) → (bits : List Bool) (room : ℕ) →
     HasRoomBelow Fits bits room → HasRoomBelow Other bits room
@@ -55,6 +49,7 @@ room-left Fits [] room left e h = subst Fits (omega (arith, e)) h
 room-left Fits (bit ∷ bits) zero left e h = absurd (omega (arith, e))
 room-left Fits (bit ∷ bits) (suc room) left e h = room-left Fits bits room left (omega (arith, e)) h
 
+-- what fits below a chain's bits fits into the room that is left
 pub left-room : (Fits : ℕ → Type 0) (bits : List Bool) (room : ℕ) → HasRoomBelow Fits bits room →
     (left : ℕ) × (room ≡ length bits + left) × Fits left
 left-room Fits [] room h = (room, omega arith, h)

@@ -16,7 +16,7 @@ use Rattle.pmap_cert.specs.Format.{format_number, Format, One, Two}
 use Rattle.pmap_cert.specs.FormatReading.{ChainLine, DueLine, InnerLine}
 use Rattle.pmap_cert.specs.Node.{Chain, HasChainForm, Inner, Leaf, Node, cost_of, first_line, label_of, lines_of, node_of, set_of, tree_of}
 use Rattle.pmap_cert.specs.Inner.{IsCompactNode, IsCompacted, IsShort, bits_down, end_down, is_leaf, side_below}
-use Rattle.pmap_cert.proofs.ChainWords.{end-room, other-room}
+use Rattle.pmap_cert.proofs.ChainWords.{left-room, other-room}
 use Rattle.pmap_cert.proofs.Compacts.{compact-again, compact-first}
 use Rattle.pmap_cert.proofs.Runs.{compacted-inner, compacted-leaf, either-some}
 use Rattle.pmap_cert.proofs.Tables.{label-same}
@@ -165,9 +165,9 @@ module _ (cost : ℕ) (set : List ℕ) (lower upper : Node) where
           let count = ap length (run ∙ sym are) in
           let x : Label = text_at table side in
           let tree : Tree = tree_of table whole in
-          let left = end-room (HasChainForm (length table) (end_down side whole)) (bits_down side whole) (suc room) (form-down (length table) side whole (suc room) form) in
+          let left = left-room (HasChainForm (length table) (end_down side whole)) (bits_down side whole) (suc room) (form-down (length table) side whole (suc room) form) in
           let inside : tree_of table end ≡ compacted (tree_of table down) =
-          below.same table left.0 ok (subst (λ (n : Node). HasChainForm (length table) n left.0) (sym is) left.1) in
+          below.same table left.0 ok (subst (λ (n : Node). HasChainForm (length table) n left.0) (sym is) left.2) in
           sym (steps table (Some side) e
           ∙ cond-true (nat_le 2 (length (run_bits x tree))) (ChainNode (claim table) (run_bits x tree) x (compacted (run_end x tree)))
           (InnerNode (claim table) (compacted (tree_of table lower)) (compacted (tree_of table upper))) (le-leb _ _ (omega arith))

@@ -39,9 +39,6 @@ below-here : (line : DueLine) (lines : List DueLine) (k : ℕ) → Here lines k 
 below-here line lines k (leaf-here number rest is next) = leaf-here number rest is next
 below-here line lines k (inner-here cost set lower upper rest is next) = inner-here cost set lower upper rest is next
 
-rest-plain : (line : DueLine) (lines : List DueLine) → AreWhole (line ∷ lines) → AreWhole lines
-rest-plain line lines whole = whole-next (line ∷ lines) zero whole
-
 here-by : (lines : List DueLine) (k : ℕ) → AreWhole lines → All IsPlainLine lines → k < length lines → Here lines k
 here-by [] k whole plain inside = absurd (omega arith)
 here-by (LeafLine number ∷ lines) zero whole plain inside = leaf-here number (nodes_of lines) refl refl
@@ -50,7 +47,7 @@ here-by (ChainLine cost bits side numbers ∷ lines) zero whole plain inside =
     absurd (All-head IsPlainLine (ChainLine cost bits side numbers) lines plain)
 here-by (line ∷ lines) (suc k) whole plain inside =
     below-here line lines k
-    (here-by lines k (rest-plain line lines whole) (All-tail IsPlainLine line lines plain) (omega arith))
+    (here-by lines k (whole-next (line ∷ lines) zero whole) (All-tail IsPlainLine line lines plain) (omega arith))
 
 pub here : (lines : List DueLine) (k : ℕ) → ArePlain lines → k < length lines → Here lines k
 here lines k are inside = here-by lines k are.whole are.plain inside
@@ -63,9 +60,6 @@ some-here lines k (inner-here cost set lower upper rest is next) = let e = ap le
 pub line-of : (lines : List DueLine) (k : ℕ) → ArePlain lines → k < length lines → get_or lines k (LeafLine 0) ≡ first_line (node_from lines k)
 line-of lines k are inside =
     line-here lines k (LeafLine 0) (some-here lines k (here lines k are inside)) (whole-drop lines k are.whole)
-
-node-is : (lines : List DueLine) (k : ℕ) (node : Node) (rest : List Node) → nodes_of (drop k lines) ≡ node ∷ rest → node_from lines k ≡ node
-node-is lines k node rest is = ap first_node is
 
 inside-is : (lines : List DueLine) (k : ℕ) (node : Node) (rest : List Node) → nodes_of (drop k lines) ≡ node ∷ rest → k < length lines
 inside-is lines k node rest is = let e = ap length is in within lines k (omega arith)
@@ -85,7 +79,7 @@ halves-of lines all k place none = by (here lines k place.plain place.within)
     one = omega arith
 
     by : Here lines k → HasHalves lines all k (k + 1) (slice_index all (k + 1))
-    by (leaf-here number rest is next) = absurd (none-of-leaf number (sym (ap label_of (node-is lines k (Leaf number) rest is)) ∙ none))
+    by (leaf-here number rest is next) = absurd (none-of-leaf number (sym (ap label_of (ap first_node is)) ∙ none))
     by (inner-here cost set lower upper rest is next_suc) =
         let e : ℕ = slice_index all (k + 1) in
         let next : nodes_of (drop (k + 1) lines) ≡ lower ∷ upper ∷ rest = ap (λ (n : ℕ). nodes_of (drop n lines)) (sym one) ∙ next_suc in
@@ -97,8 +91,8 @@ halves-of lines all k place none = by (here lines k place.plain place.within)
           cost = cost;
           set = set;
           node =
-              node-is lines k (Inner cost set lower upper) rest is
-              ∙ (λ i. Inner cost set (sym (node-is lines (k + 1) lower (upper ∷ rest) next) i) (sym (node-is lines e upper rest after) i));
+              ap first_node is
+              ∙ (λ i. Inner cost set (sym (ap first_node next) i) (sym (ap first_node after) i));
           low = record { plain = place.plain; within = inside; ends = ends-later lines all (k + 1) (k + 1 + 1) place.ends (omega arith) };
           up = record { plain = place.plain; within = inside-is lines e upper rest after; ends = ends-later lines all (k + 1) (e + 1) place.ends (omega arith) };
           low_after = omega arith;
@@ -117,7 +111,7 @@ ends-leaf lines all k place leaf = by (here lines k place.plain place.within)
     by (leaf-here n rest is next) =
         subst (EndsAt lines k) (omega arith) (record { after = omega arith; within = within; behind = next ∙ sym (ap (drop 1) is) })
     by (inner-here cost set lower upper rest is next) =
-        absurd (none-has (subst (λ (node : Node). IsSome (label_of node)) (node-is lines k (Inner cost set lower upper) rest is) leaf))
+        absurd (none-has (subst (λ (node : Node). IsSome (label_of node)) (ap first_node is) leaf))
       where
         none-has : IsSome {T = ℕ} None → ⊥
         none-has e = cc

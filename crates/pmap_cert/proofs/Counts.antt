@@ -1,8 +1,10 @@
-use Rattle.std.proofs.Common.{◌≡◌, ℕ, suc, ◌+◌, ◌*◌, ◌/◌, ◌<◌, ◌≤◌, Bool, true, false, cond, ◌&&◌, ◌==◌, List, [], ◌∷◌, None, arith, filter, find, length, nat_le, refl}
+use Rattle.std.proofs.Common.{◌≡◌, ℕ, suc, ◌+◌, ◌*◌, ◌/◌, ◌<◌, ◌≤◌, Bool, true, false, cond, ◌&&◌, ◌==◌, List, [], ◌∷◌, None, arith, filter, find, length, nat_le, refl, slice_get, sym, ap, ◌∙◌}
 use Rattle.std.proofs.lemmas.Bool.Decides.{nat_tests}
+use Rattle.std.proofs.lemmas.List.{nil_from_length}
 use Rattle.prefix_keys.specs.Block.{block_number}
 use Rattle.pmap_text.specs.ListModel.{Prefix}
 use Rattle.pmap_text.specs.Settled.{one_if}
+use Rattle.pmap_cert.proofs.Filters.{filter-filter, find-filter}
 use Rattle.pmap_text.proofs.Blocks.{block_number-half}
 
 -- The number of entries of a prefix list that pass a test, such as lying at or within a block.
@@ -17,37 +19,22 @@ is_within W n q p = nat_le n p.bits && block_number W n p.start == q
 
 -- the number of entries that pass the test
 abbrev pub count_of : (Prefix → Bool) → List Prefix → ℕ
-count_of test [] = 0
-count_of test (p ∷ ps) = one_if (test p) + count_of test ps
+count_of test ps = length (filter test ps)
+
+count_of-cons : (b : Bool) (p : Prefix) (ps : List Prefix) → length (cond b (p ∷ ps) ps) ≡ one_if b + length ps
+count_of-cons true p ps = omega arith
+count_of-cons false p ps = omega arith
 
 pub count_of-le : (test : Prefix → Bool) (ps : List Prefix) → count_of test ps ≤ length ps
 count_of-le test [] = omega arith
-count_of-le test (p ∷ ps) = let ih = count_of-le test ps in grind arith
-
--- no entry passes if the filter keeps none
-filter-step : (b : Bool) (p : Prefix) (ps : List Prefix) → cond b (p ∷ ps) ps ≡ [] → (b ≡ false) × (ps ≡ [])
-filter-step true p ps e = cc
-filter-step false p ps e = (refl, e)
-
-pub count_of-filter : (test : Prefix → Bool) (ps : List Prefix) → filter test ps ≡ [] → count_of test ps ≡ 0
-count_of-filter test [] none = refl
-count_of-filter test (p ∷ ps) none =
-    let h = filter-step (test p) p (filter test ps) none in
-    let ih : count_of test ps ≡ 0 = count_of-filter test ps h.1 in
-    rw h.0 (omega arith)
-
-not-stronger : (a b : Bool) → (a ≡ true → b ≡ true) → one_if b ≡ 0 → a ≡ false
-not-stronger a b h e = grind arith
+count_of-le test (p ∷ ps) = let ih = count_of-le test ps in let e = count_of-cons (test p) p (filter test ps) in grind arith
 
 -- if no entry passes a test, none passes a stronger one
 pub find-none : (weak strong : Prefix → Bool) → ((p : Prefix) → strong p ≡ true → weak p ≡ true) → (ps : List Prefix) →
     count_of weak ps ≡ 0 → find strong ps ≡ None
-find-none weak strong weaker [] none = refl
-find-none weak strong weaker (p ∷ ps) none =
-    let zero_here : one_if (weak p) ≡ 0 = omega arith in
-    let zero_rest : count_of weak ps ≡ 0 = omega arith in
-    let s : strong p ≡ false = not-stronger (strong p) (weak p) (weaker p) zero_here in
-    rw s (find-none weak strong weaker ps zero_rest)
+find-none weak strong weaker ps none =
+    find-filter strong ps
+    ∙ ap (λ (qs : List Prefix). slice_get qs 0) (sym (filter-filter weak strong weaker ps) ∙ ap (filter strong) (nil_from_length (filter weak ps) none))
 
 -- an entry within a block is at it or within one of its halves
 within-halves : (n k b q : ℕ) → one_if (nat_le n k && b / 2 == q)
@@ -63,4 +50,10 @@ count_of-halves W n q below (p ∷ ps) =
     let h = within-halves n p.bits (block_number W (suc n) p.start) q in
     let h' : one_if (is_within W n q p)
     ≡ one_if (is_at W n q p) + (one_if (is_within W (suc n) (2 * q) p) + one_if (is_within W (suc n) (2 * q + 1) p)) = rw e h in
-    omega arith
+    omega (
+      arith,
+      count_of-cons (is_within W n q p) p (filter (is_within W n q) ps),
+      count_of-cons (is_at W n q p) p (filter (is_at W n q) ps),
+      count_of-cons (is_within W (suc n) (2 * q) p) p (filter (is_within W (suc n) (2 * q)) ps),
+      count_of-cons (is_within W (suc n) (2 * q + 1) p) p (filter (is_within W (suc n) (2 * q + 1)) ps),
+    )

@@ -1,13 +1,13 @@
 use Rattle.std.proofs.Common.{◌≡◌, ℕ, suc, ◌+◌, ◌-◌, ◌*◌, ◌^◌, ◌<◌, ◌≤◌, List, Some, arith, length, sym, ap, ◌∙◌, subst, ⊎_elim}
 use Rattle.prefix_keys.specs.Block.{block_number, first_of, width_of}
 use Rattle.prefix_keys.specs.declared.version.Version.{Version}
-use Rattle.pmap_text.specs.ListModel.{IsEquivalent, ListModel, Prefix, label_below, lies_inside}
+use Rattle.pmap_text.specs.ListModel.{IsEquivalent, ListModel, Prefix, label_below}
 use Rattle.pmap_text.specs.MapModel.{Label, MapModel, map_label}
 use Rattle.pmap_cert.specs.Acceptance.{IsAccepted, IsDecided, IsLeast, IsNodeAccepted}
 use Rattle.pmap_cert.specs.CertificateModel.{CertificateModel, ChainNode, InnerNode, LeafNode, Claim, Tree, claim_of, IsPlain, opened_certificate}
 use Rattle.pmap_cert.proofs.Chains.{claim-opened, opened-accepted, opened-plain}
 use Rattle.pmap_text.proofs.Blocks.{block_number-first_of, block_number-halves, block_number-zero}
-use Rattle.pmap_cert.proofs.Counts.{count_of-filter, count_of-le, is_within}
+use Rattle.pmap_cert.proofs.Counts.{count_of-le, is_within}
 use Rattle.pmap_cert.proofs.Kernel.{kernel}
 use Rattle.pmap_cert.proofs.Longest.{label_below-inside, label_below-same}
 use Rattle.pmap_text.proofs.Settled.{map_label-settled}
@@ -20,7 +20,7 @@ label_below-decided : (W : ℕ) (ps : List Prefix) (n q a : ℕ) (x : Label) →
 label_below-decided W ps n q a x le e decided =
     let s : suc W ≡ suc n + (W - n) = omega arith in
     ap (λ (j : ℕ). label_below W ps j a) s
-    ∙ label_below-inside W ps n (W - n) q a (omega arith) e (count_of-filter (lies_inside W n q) ps decided.inside)
+    ∙ label_below-inside W ps n (W - n) q a (omega arith) e (ap length decided.inside)
     ∙ label_below-same W ps n a (first_of W n q) le (e ∙ sym (block_number-first_of W n q))
     ∙ decided.longest
 

@@ -21,7 +21,7 @@ use Rattle.pmap_cert.proofs.Tables.{bind_ok, labels_at-again, labels_at-found, o
 use Rattle.std.specs.List.{AllByRecursion}
 use Rattle.std.proofs.lemmas.Option.{none-some}
 use Rattle.prefix_keys.proofs.Printed.{Lacks}
-use Rattle.pmap_cert.proofs.ChainWords.{end-room}
+use Rattle.pmap_cert.proofs.ChainWords.{left-room}
 
 pub no_labels : IsLabelTable []
 no_labels = record { few = omega arith; labels = λ i text e. absurd (none-some text e); places = λ i text e. absurd (none-some text e) }
@@ -52,9 +52,9 @@ module _ (table : List Label) (ok : IsLabelTable table) where
   nodes-lack : (tree : Tree) (room : ℕ) → HasNodeForm table tree room → AllByRecursion (Lacks 10) (node_lines table tree)
   nodes-lack (LeafNode x) room form = (lacks 0 (LeafLine (place_of table x)) form, tt)
   nodes-lack (ChainNode claim bits side end) room form =
-      let last = end-room (HasNodeForm table end) bits room form.4 in (
+      let last = left-room (HasNodeForm table end) bits room form.4 in (
         lacks (length bits) (ChainLine claim.cost bits (place_of table side) (map (place_of table) claim.labels)) (refl, form.0, form.3, omega arith, form.2, form.1),
-        nodes-lack end last.0 last.1,
+        nodes-lack end last.0 last.2,
       )
   nodes-lack (InnerNode claim lower upper) zero form = absurd form
   nodes-lack (InnerNode claim lower upper) (suc room) form = (

@@ -47,25 +47,18 @@ pub line_from-whole : (number : ℕ) (text : List ℕ) → position (λ b. b == 
 line_from-whole number text e = ap (line_from number) (split-whole (λ b. b == 10) text (found_nowhere (λ b. b == 10) text e))
 
 -- only an empty text is at its end
-pub is_ended-two : (pieces : List (List ℕ)) → 1 < length pieces → is_ended pieces ≡ false
-is_ended-two [] h = absurd (omega arith)
-is_ended-two ([] ∷ []) h = absurd (omega arith)
-is_ended-two ((b ∷ bs) ∷ []) h = refl
-is_ended-two ([] ∷ piece ∷ pieces) h = refl
-is_ended-two ((b ∷ bs) ∷ piece ∷ pieces) h = refl
-
-is_ended-begun : (b : ℕ) (pieces : List (List ℕ)) → 0 < length pieces → is_ended (onto_first b pieces) ≡ false
-is_ended-begun b [] h = refl
-is_ended-begun b (piece ∷ []) h = refl
-is_ended-begun b (piece ∷ next ∷ pieces) h = refl
+not-ended : (b : ℕ) (pieces : List (List ℕ)) → 0 < length pieces → (is_ended ([] ∷ pieces) ≡ false) × (is_ended (onto_first b pieces) ≡ false)
+not-ended b [] h = absurd (omega arith)
+not-ended b (piece ∷ []) h = (refl, refl)
+not-ended b (piece ∷ next ∷ pieces) h = (refl, refl)
 
 pub is_ended-pieces : (text : List ℕ) → is_ended (pieces_of text) ≡ (length text == 0)
 is_ended-pieces [] = refl
 is_ended-pieces (b ∷ bs) = by (b == 10) refl ∙ sym (ne_eqb (length (b ∷ bs)) 0 (λ e. omega arith))
   where
     by : (t : Bool) → (b == 10) ≡ t → is_ended (pieces_of (b ∷ bs)) ≡ false
-    by true e = rw e (is_ended-two ([] ∷ pieces_of bs) (omega (arith, split_some (λ b. b == 10) bs)))
-    by false e = rw e (is_ended-begun b (pieces_of bs) (split_some (λ b. b == 10) bs))
+    by true e = rw e ((not-ended b (pieces_of bs) (split_some (λ b. b == 10) bs)).0)
+    by false e = rw e ((not-ended b (pieces_of bs) (split_some (λ b. b == 10) bs)).1)
 
 -- lines and an empty piece, joined by line feeds, are the text of the lines
 joined-lines : (lines : List (List ℕ)) → join_with_byte 10 (lines ++ [] ∷ []) ≡ text_of_lines lines

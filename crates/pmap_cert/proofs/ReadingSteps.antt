@@ -1,5 +1,5 @@
 -- Reading labels and nodes one after the other, as the code does.
-use Rattle.std.proofs.Common.{◌≡◌, ℕ, zero, suc, ◌+◌, ◌-◌, ◌<◌, ◌≤◌, ◌∙◌, Bool, true, false, cond, List, [], ◌∷◌, ◌++◌, Result, Ok, Err, length, map, nat_le, sym, ap, subst, arith}
+use Rattle.std.proofs.Common.{◌≡◌, ℕ, zero, suc, ◌+◌, ◌-◌, ◌<◌, ◌≤◌, ◌∙◌, Bool, List, [], ◌∷◌, ◌++◌, Result, Ok, Err, length, map, nat_le, sym, ap, subst, arith}
 use Rattle.std.proofs.lemmas.Bool.{cond-false, cond-true, le-leb, lt-leb}
 use Rattle.std.proofs.lemmas.List.{append_assoc, length_push}
 use Rattle.pmap_text.specs.MapModel.{Label}
@@ -124,16 +124,10 @@ module _ (format : Format) (most : ℕ) (table : List Label) where
         chain-in due_in table place after cost numbers bits side room due (omega (arith, fits, is)) (chain-bits place after cost bits side numbers due)
         ∙ ap (end_then due_in table place after cost numbers bits side) (ap (λ (n : ℕ). nodes_at due_in table (room - n) 0 after) (sym is) ∙ e)
 
-  -- lines that are kept, if any are, after others
-  kept-joined : (keeps : Bool) (old next last a b : List DueLine) → next ≡ cond keeps (old ++ a) old → last ≡ cond keeps (next ++ b) next
-      → last ≡ cond keeps (old ++ (a ++ b)) old
-  kept-joined true old next last a b e f = f ∙ ap (λ (ls : List DueLine). ls ++ b) e ∙ append_assoc old a b
-  kept-joined false old next last a b e f = f ∙ e
-
   -- a leaf that was read, and its line after the old ones
-  pub read-leaf : (room : ℕ) (place after : Place) (number : ℕ) (keeps : Bool) (old new : List DueLine) → due_in place ≡ Ok (LeafLine number, after)
-      → new ≡ cond keeps (old ++ LeafLine number ∷ []) old → IsReadNode format most table room place keeps old new after
-  read-leaf room place after number keeps old new due is =
+  pub read-leaf : (room : ℕ) (place after : Place) (number : ℕ) (old new : List DueLine) → due_in place ≡ Ok (LeafLine number, after)
+      → new ≡ old ++ LeafLine number ∷ [] → IsReadNode format most table room place old new after
+  read-leaf room place after number old new due is =
       let said = line_due-found (format_number format) most (length table) place (LeafLine number, after) due in record {
         node = Leaf number;
         read = node-leaf due_in table place after room number due;
@@ -142,11 +136,11 @@ module _ (format : Format) (most : ℕ) (table : List Label) where
         lines = is;
       }
 
-  pub read-inner : (room : ℕ) (place after middle end : Place) (cost : ℕ) (numbers : List ℕ) (keeps : Bool) (old first second third : List DueLine)
-      → due_in place ≡ Ok (InnerLine cost numbers, after) → 0 < room → first ≡ cond keeps (old ++ InnerLine cost numbers ∷ []) old
-      → IsReadNode format most table (room - 1) after keeps first second middle → IsReadNode format most table (room - 1) middle keeps second third end
-      → IsReadNode format most table room place keeps old third end
-  read-inner room place after middle end cost numbers keeps old first second third due some is low up =
+  pub read-inner : (room : ℕ) (place after middle end : Place) (cost : ℕ) (numbers : List ℕ) (old first second third : List DueLine)
+      → due_in place ≡ Ok (InnerLine cost numbers, after) → 0 < room → first ≡ old ++ InnerLine cost numbers ∷ []
+      → IsReadNode format most table (room - 1) after first second middle → IsReadNode format most table (room - 1) middle second third end
+      → IsReadNode format most table room place old third end
+  read-inner room place after middle end cost numbers old first second third due some is low up =
       let said = line_due-found (format_number format) most (length table) place (InnerLine cost numbers, after) due in
       let more : suc (room - 1) ≡ room = omega arith in
       let node : Node = Inner cost numbers low.node up.node in record {
@@ -155,14 +149,15 @@ module _ (format : Format) (most : ℕ) (table : List Label) where
         form = subst (HasChainForm (length table) node) more (said.1.0, said.1.1, low.form, up.form);
         kind = λ one. (low.kind one, up.kind one);
         lines =
-            kept-joined keeps old first third (InnerLine cost numbers ∷ []) (lines_of low.node ++ lines_of up.node) is
-            (kept-joined keeps first second third (lines_of low.node) (lines_of up.node) low.lines up.lines);
+            up.lines ∙ ap (λ (ls : List DueLine). ls ++ lines_of up.node) (low.lines ∙ ap (λ (ls : List DueLine). ls ++ lines_of low.node) is)
+            ∙ append_assoc (old ++ InnerLine cost numbers ∷ []) (lines_of low.node) (lines_of up.node)
+            ∙ append_assoc old (InnerLine cost numbers ∷ []) (lines_of low.node ++ lines_of up.node);
       }
 
-  pub read-chain : (room : ℕ) (place after end : Place) (cost : ℕ) (bits : List Bool) (side : ℕ) (numbers : List ℕ) (keeps : Bool) (old first second : List DueLine)
-      → due_in place ≡ Ok (ChainLine cost bits side numbers, after) → length bits ≤ room → first ≡ cond keeps (old ++ ChainLine cost bits side numbers ∷ []) old
-      → IsReadNode format most table (room - length bits) after keeps first second end → IsReadNode format most table room place keeps old second end
-  read-chain room place after end cost bits side numbers keeps old first second due fits is last =
+  pub read-chain : (room : ℕ) (place after end : Place) (cost : ℕ) (bits : List Bool) (side : ℕ) (numbers : List ℕ) (old first second : List DueLine)
+      → due_in place ≡ Ok (ChainLine cost bits side numbers, after) → length bits ≤ room → first ≡ old ++ ChainLine cost bits side numbers ∷ []
+      → IsReadNode format most table (room - length bits) after first second end → IsReadNode format most table room place old second end
+  read-chain room place after end cost bits side numbers old first second due fits is last =
       let said = line_due-found (format_number format) most (length table) place (ChainLine cost bits side numbers, after) due in
       let some = said.1.2 in record {
         node = Chain cost numbers bits side last.node;
@@ -177,5 +172,7 @@ module _ (format : Format) (most : ℕ) (table : List Label) where
           room-left (HasChainForm (length table) last.node) bits room (room - length bits) (omega arith) last.form,
         );
         kind = λ one. absurd (omega (arith, said.1.0, ap format_number one));
-        lines = kept-joined keeps old first second (ChainLine cost bits side numbers ∷ []) (lines_of last.node) is last.lines;
+        lines =
+            last.lines ∙ ap (λ (ls : List DueLine). ls ++ lines_of last.node) is
+            ∙ append_assoc old (ChainLine cost bits side numbers ∷ []) (lines_of last.node);
       }

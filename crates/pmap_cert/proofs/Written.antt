@@ -11,7 +11,7 @@ use Rattle.pmap_text.specs.MapModel.{Label}
 use Rattle.pmap_cert.specs.CertificateText.{HasNodeForm, IsAscending, certificate_text, chain_line, format_header, inner_line, leaf_line, node_lines, text_of_lines}
 use Rattle.pmap_cert.specs.FormatReading.{DueLine}
 use Rattle.pmap_cert.specs.Node.{Chain, HasChainForm, Inner, Leaf, Node, line_text, lines_of, tree_of}
-use Rattle.pmap_cert.proofs.ChainWords.{end-room, other-room}
+use Rattle.pmap_cert.proofs.ChainWords.{left-room, other-room}
 use Rattle.pmap_cert.proofs.Tables.{place_of-text_at, places-texts}
 
 -- a word and numbers joined by spaces are the word and each number after a space
@@ -37,8 +37,8 @@ module _ (table : List Label) (ok : IsLabelTable table) where
       ap (λ (lines : List (List ℕ)). inner_line cost set ∷ lines) (map-append line_text (lines_of lower) (lines_of upper))
       ∙ (λ i. ap (inner_line cost) (sym (places-texts table 0 set ok form.1)) i ∷ (line_texts-tree lower room form.2 i ++ line_texts-tree upper room form.3 i))
   line_texts-tree (Chain cost set bits side end) room form =
-      let last = end-room (HasChainForm (length table) end) bits room form.4 in
-      λ i. chain_line cost bits (sym (place_of-text_at table side ok form.2) i) (sym (places-texts table 0 set ok form.1) i) ∷ line_texts-tree end last.0 last.1 i
+      let last = left-room (HasChainForm (length table) end) bits room form.4 in
+      λ i. chain_line cost bits (sym (place_of-text_at table side ok form.2) i) (sym (places-texts table 0 set ok form.1) i) ∷ line_texts-tree end last.0 last.2 i
 
   pub node_form : (node : Node) (room : ℕ) → HasChainForm (length table) node room → HasNodeForm table (tree_of table node) room
   node_form (Leaf number) room form = subst (λ (n : ℕ). n < length table) (sym (place_of-text_at table number ok form)) form

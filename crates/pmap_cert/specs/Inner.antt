@@ -26,13 +26,13 @@ reading_from format version table place =
     node_due_at format (width_of version) table (width_of version) place >>= (λ root.
     ended_by (record { format = format_number format; version = version; table = table; root = root.0 }) root.1)
 
--- the next node was read, and, if nodes are kept, its lines with those of the nodes below it follow the old ones
-pub record IsReadNode (format : Format) (most : ℕ) (table : List Label) (room : ℕ) (place : Place) (keeps : Bool) (old new : List DueLine) (after : Place) : Type 0 where
+-- the next node was read, and its lines with those of the nodes below it follow the old ones
+pub record IsReadNode (format : Format) (most : ℕ) (table : List Label) (room : ℕ) (place : Place) (old new : List DueLine) (after : Place) : Type 0 where
   pub node : Node
   pub read : node_due_at format most table room place ≡ Ok (tree_of table node, after)
   pub form : HasChainForm (length table) node room
   pub kind : IsNodeOf format node
-  pub lines : new ≡ (if keeps then old ++ lines_of node else old)
+  pub lines : new ≡ old ++ lines_of node
 
 -- A reading of the text finds x and the rest exactly if `Begins x rest` holds.
 pub record Reads {A : Type 0} (Begins : A → List ℕ → Type 0) (found : Option (A × List ℕ)) : Type 0 where

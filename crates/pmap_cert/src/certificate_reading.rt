@@ -1,12 +1,11 @@
 //! Reading the text of a certificate, line by line.
-ghost use Rattle.std.specs.Prelude.{◌≡◌, ◌≢◌, ◌<◌, ◌≤◌, ◌++◌, ◌∷◌, [], Ok, Err, false, length, IfErr, IfOk, IsTrue, OnOk, if◌then◌else◌};
+ghost use Rattle.std.specs.Prelude.{◌≡◌, ◌≢◌, ◌-◌, ◌<◌, ◌≤◌, [], Ok, Err, false, length, IfErr, IfOk, IsTrue, OnOk, if◌then◌else◌};
 ghost use Rattle.pmap_text.specs.Label.{has_label, is_label as is_label_text};
 ghost use Rattle.pmap_cert.specs.Certificate.{ReturnsCertificate, certificate_of};
 ghost use Rattle.pmap_cert.specs.Format.{IsNodeOf, format_number};
 ghost use Rattle.pmap_cert.specs.FormatReading.{format_reading, is_ended, labels_at, line_due_at, new_label, line_value, BadLabelTable, BadNode, NoMemory, NodesMissing};
 ghost use Rattle.pmap_cert.specs.CertificateModel.{Tree};
 ghost use Rattle.pmap_cert.specs.Node.{HasChainForm, tree_of};
-ghost use Rattle.pmap_cert.specs.Packed.{line_of};
 ghost use Rattle.pmap_cert.specs.Inner.{IsReadNode, node_due_at, reading_from};
 
 use crate::certificate::Certificate;
@@ -19,7 +18,7 @@ use crate::nodes::Nodes;
 use crate::root::Root;
 use pmap_text::{KeyHashing, Labels, is_label};
 use prefix_keys::Version;
-use std::alloc::{AllocError, Global};
+use std::alloc::Global;
 
 // Reads the next line as a label that the table doesn't have yet.
 fn read_label<'a>(labels: &Labels, lines: &Lines<'a>) -> Result<(&'a [u8], Lines<'a>), CertFault>
@@ -59,24 +58,15 @@ fn read_labels<'a>(
     Ok((labels, lines))
 }
 
-// Adds the line of a node if nodes are kept.
-fn keep(nodes: &mut Nodes, keeps: bool, node: Node) -> Result<(), AllocError>
-    ensures { OnOk result (nodes.new ≡ (if keeps then nodes.old ++ line_of node.entry ∷ [] else nodes.old)) }
-{
-    if keeps { nodes.push(node) } else { Ok(()) }
-}
-
-// Reads the next node, with at most `room` levels below it, and moves `lines` past it and the nodes below it. Adds their
-// lines to `nodes` if `keeps` is true.
+// Reads the next node, with at most `room` levels below it, adds its lines to `nodes`, and moves `lines` past them.
 fn read_node(
     nodes: &mut Nodes,
-    keeps: bool,
     kept: &mut Kept,
     frame: &Frame,
     room: u32,
     lines: &mut Lines,
 ) -> Result<(), CertFault>
-    ensures ok { OnOk result (IsReadNode frame.now.format frame.now.width frame.now.labels.now room lines.old keeps
+    ensures ok { OnOk result (IsReadNode frame.now.format frame.now.width frame.now.labels.now room lines.old
         nodes.old nodes.new lines.new) }
     ensures err { IfErr result (λ fault. fault.kind ≢ NoMemory →
         node_due_at frame.now.format frame.now.width frame.now.labels.now room lines.old ≡ Err fault) }
@@ -84,22 +74,28 @@ fn read_node(
 {
     let deepest = lines.fault(CertFaultKind::TooDeep);
     let node = lines.next_node(kept, frame)?;
-    keep(nodes, keeps, node)?;
     match node {
-        Node::Leaf(_) => Ok(()),
-        Node::Inner(_) => {
+        Node::Leaf(id) => {
+            nodes.push(Node::Leaf(id))?;
+            Ok(())
+        }
+        Node::Inner(claim) => {
             if room == 0 {
                 return Err(deepest);
             }
-            read_node(nodes, keeps, kept, frame, room - 1, lines)?;
-            read_node(nodes, keeps, kept, frame, room - 1, lines)
+            nodes.push(Node::Inner(claim))?;
+            read_node(nodes, kept, frame, room - 1, lines)?;
+            read_node(nodes, kept, frame, room - 1, lines)?;
+            Ok(())
         }
-        Node::Chain { path, .. } => {
+        Node::Chain { claim, path, side } => {
             let deep = path.len();
             if deep > room {
                 return Err(deepest);
             }
-            read_node(nodes, keeps, kept, frame, room - deep, lines)
+            nodes.push(Node::Chain { claim, path, side })?;
+            read_node(nodes, kept, frame, room - deep, lines)?;
+            Ok(())
         }
     }
 }
@@ -117,8 +113,27 @@ pub fn skip_node(
         node_due_at frame.now.format frame.now.width frame.now.labels.now room lines.old ≡ Err fault) }
     ensures memory { IfErr result (λ fault. fault.kind ≡ NoMemory → fault.line ≡ 0) }
 {
-    let mut nodes = Nodes::new(kept.alloc);
-    read_node(&mut nodes, false, kept, frame, room, lines)
+    let deepest = lines.fault(CertFaultKind::TooDeep);
+    let node = lines.next_node(kept, frame)?;
+    match node {
+        Node::Leaf(_) => Ok(()),
+        Node::Inner(claim) => {
+            if room == 0 {
+                return Err(deepest);
+            }
+            skip_node(lines, kept, frame, room - 1)?;
+            skip_node(lines, kept, frame, room - 1)?;
+            Ok(())
+        }
+        Node::Chain { claim, path, side } => {
+            let deep = path.len();
+            if deep > room {
+                return Err(deepest);
+            }
+            skip_node(lines, kept, frame, room - deep)?;
+            Ok(())
+        }
+    }
 }
 
 // Reads the root with all nodes below it, and moves `lines` past them.
@@ -134,7 +149,7 @@ fn read_root(alloc: Global, frame: &Frame, lines: &mut Lines) -> Result<Root, Ce
 {
     let mut nodes = Nodes::new(alloc);
     let mut kept = Kept::new(alloc);
-    read_node(&mut nodes, true, &mut kept, frame, frame.width, lines)?;
+    read_node(&mut nodes, &mut kept, frame, frame.width, lines)?;
     Ok(Root::new(nodes))
 }
 

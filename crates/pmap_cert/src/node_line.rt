@@ -19,10 +19,9 @@ pub struct Frame<'a> {
     ghost narrow: { width ≤ 128 },
 }
 
-/// The memory for the set and the bits of the node that was read last, and its allocator.
+/// The memory for the set and the bits of the node that was read last.
 #[derive(Drop)]
 pub struct Kept {
-    pub alloc: Global,
     set: Vec<LabelId>,
     path: Path,
 }
@@ -31,7 +30,6 @@ impl Kept {
     /// Constructs the set and the bits before the first line, which are empty.
     pub fn new(alloc: Global) -> Kept {
         Kept {
-            alloc,
             set: Vec::new(alloc),
             path: Path { value: 0, count: 0 },
         }

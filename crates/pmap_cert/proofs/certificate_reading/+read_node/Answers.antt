@@ -1,5 +1,5 @@
 use Rattle.std.proofs.Common.{◌≡◌, ◌-◌, ℕ, length, subst, arith}
-use Rattle.std.proofs.lemmas.Result.{IfErr-weaker, err_from_is_err_and, on_ok_weaker}
+use Rattle.std.proofs.lemmas.Result.{err_from_is_err_and}
 use Rattle.pmap_cert.specs.Inner.{IsReadNode}
 use Rattle.pmap_cert.specs.Packed.{bits_in}
 use Rattle.pmap_cert.proofs.ReadingSteps.{chain-below, chain-bits, chain-over, node-deep, node-fault, node-lower_fault, node-upper_fault, read-chain, read-inner, read-leaf}
@@ -20,9 +20,22 @@ returns-in_err-read_node-in-Inner-clause-err t c =
     rw (p.1, p.2)
     (λ some. node-lower_fault _ _ _ _ _ _ (rw c.in-Inner.is at c.in_ok-node.ensures.ok) _ (omega arith) _ (c.in_err-read_node-in-Inner.ensures.err some))
 
-pub returns-in-Leaf-clause-ok : goal.returns-in-Leaf-clause-ok
-returns-in-Leaf-clause-ok t c =
-    read-leaf _ _ _ _ _ _ _ _ _ _ (rw c.in-Leaf.is at c.in_ok-node.ensures.ok) (rw c.in-Leaf.is at c.in_ok-keep.ensures)
+pub returns-in_err-read_node-in-Inner-2-clause-err : goal.returns-in_err-read_node-in-Inner-2-clause-err
+returns-in_err-read_node-in-Inner-2-clause-err t c =
+    let p = err_from_is_err_and c.from_residual-in_err-read_node-in-Inner-2.result c.from_residual-in_err-read_node-in-Inner-2.ensures.1 in
+    let low = c.in_ok-read_node-in-Inner.ensures.ok in
+    rw (p.1, p.2)
+    (λ some. node-upper_fault _ _ _ _ _ _ (rw c.in-Inner.is at c.in_ok-node.ensures.ok) _ (omega arith) _ _ low.read _
+    (c.in_err-read_node-in-Inner-2.ensures.err some))
+
+pub returns-in_ok-push-in-Leaf-clause-ok : goal.returns-in_ok-push-in-Leaf-clause-ok
+returns-in_ok-push-in-Leaf-clause-ok t c =
+    read-leaf _ _ _ _ _ _ _ _ _ (rw c.in-Leaf.is at c.in_ok-node.ensures.ok) c.in_ok-push-in-Leaf.ensures.ok
+
+pub returns-in_ok-read_node-in-Inner-2-clause-ok : goal.returns-in_ok-read_node-in-Inner-2-clause-ok
+returns-in_ok-read_node-in-Inner-2-clause-ok t c =
+    read-inner _ _ _ _ _ _ _ _ _ _ _ _ _ _ (rw c.in-Inner.is at c.in_ok-node.ensures.ok) (omega arith) c.in_ok-push-in-Inner.ensures.ok
+    c.in_ok-read_node-in-Inner.ensures.ok c.in_ok-read_node-in-Inner-2.ensures.ok
 
 pub returns-then-deep-room-clause-err : goal.returns-then-deep-room-clause-err
 returns-then-deep-room-clause-err t c = λ _.
@@ -35,29 +48,18 @@ read_node-requires-in-Chain t c =
     let some = chain-bits frame.format frame.width frame.labels.now c.args.lines.now _ _ _ _ _ (rw c.in-Chain.is at c.in_ok-node.ensures.ok) in
     (omega (arith, some, c.len-deep.ensures, c.if-deep-room.false, c.decreases), tt)
 
-pub returns-in_ok-read_node-in-Inner-clause-err : goal.returns-in_ok-read_node-in-Inner-clause-err
-returns-in_ok-read_node-in-Inner-clause-err t c =
-    IfErr-weaker c.read_node-in-Inner.result _ _
-    (λ fault failed some. node-upper_fault _ _ _ _ _ _ (rw c.in-Inner.is at c.in_ok-node.ensures.ok) _ (omega arith) _ _ c.in_ok-read_node-in-Inner.ensures.ok.read _
-    (failed some)) c.read_node-in-Inner.ensures.err
+pub returns-in_err-read_node-in-Chain-clause-err : goal.returns-in_err-read_node-in-Chain-clause-err
+returns-in_err-read_node-in-Chain-clause-err t c =
+    let p = err_from_is_err_and c.from_residual-in_err-read_node-in-Chain.result c.from_residual-in_err-read_node-in-Chain.ensures.1 in
+    rw (p.1, p.2)
+    (λ some. chain-below _ _ _ _ _ _ _ _ _ (rw c.in-Chain.is at c.in_ok-node.ensures.ok) _ c.len-deep.result c.len-deep.ensures (omega (arith, c.if-deep-room.false)) _
+    (c.in_err-read_node-in-Chain.ensures.err some))
 
-pub returns-in_ok-read_node-in-Inner-clause-ok : goal.returns-in_ok-read_node-in-Inner-clause-ok
-returns-in_ok-read_node-in-Inner-clause-ok t c =
-    on_ok_weaker c.read_node-in-Inner.result
-    (read-inner _ _ _ _ _ _ _ _ _ _ _ _ _ _ _ (rw c.in-Inner.is at c.in_ok-node.ensures.ok) (omega arith) (rw c.in-Inner.is at c.in_ok-keep.ensures)
-    c.in_ok-read_node-in-Inner.ensures.ok) c.read_node-in-Inner.ensures.ok
-
-pub returns-else-deep-room-clause-err : goal.returns-else-deep-room-clause-err
-returns-else-deep-room-clause-err t c =
-    IfErr-weaker c.read_node-in-Chain.result _ _
-    (λ fault failed some. chain-below _ _ _ _ _ _ _ _ _ (rw c.in-Chain.is at c.in_ok-node.ensures.ok) _ c.len-deep.result c.len-deep.ensures
-    (omega (arith, c.if-deep-room.false)) _ (failed some)) c.read_node-in-Chain.ensures.err
-
-pub returns-else-deep-room-clause-ok : goal.returns-else-deep-room-clause-ok
-returns-else-deep-room-clause-ok t c =
+pub returns-in_ok-read_node-in-Chain-clause-ok : goal.returns-in_ok-read_node-in-Chain-clause-ok
+returns-in_ok-read_node-in-Chain-clause-ok t c =
     let frame = c.args.frame.now in
     let deep : c.len-deep.result ≡ length (bits_in c.in-Chain.path.now) = c.len-deep.ensures in
-    on_ok_weaker c.read_node-in-Chain.result (λ end. read-chain frame.format frame.width frame.labels.now c.args.room c.args.lines.now _ _ _ _ _ _ _ _ _ _
-    (rw c.in-Chain.is at c.in_ok-node.ensures.ok) (omega (arith, deep, c.if-deep-room.false)) (rw c.in-Chain.is at c.in_ok-keep.ensures)
-    (subst (λ (n : ℕ). IsReadNode frame.format frame.width frame.labels.now (c.args.room - n) c.next_node.new.self c.args.keeps c.keep.new.nodes c.read_node-in-Chain.new.nodes c.read_node-in-Chain.new.lines)
-    deep end)) c.read_node-in-Chain.ensures.ok
+    read-chain frame.format frame.width frame.labels.now c.args.room c.args.lines.now _ _ _ _ _ _ _ _ _ (rw c.in-Chain.is at c.in_ok-node.ensures.ok)
+    (omega (arith, deep, c.if-deep-room.false)) c.in_ok-push-in-Chain.ensures.ok
+    (subst (λ (n : ℕ). IsReadNode frame.format frame.width frame.labels.now (c.args.room - n) c.next_node.new.self c.push-in-Chain.new.self c.read_node-in-Chain.new.nodes c.read_node-in-Chain.new.lines)
+    deep c.in_ok-read_node-in-Chain.ensures.ok)
