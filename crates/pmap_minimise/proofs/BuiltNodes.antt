@@ -105,31 +105,24 @@ are-halves lines upper low high below above low_ascending high_ascending few = r
 }
 
 -- a compact node has the claim of the node that it opens to
-pub opens-cost : (compact node : Node) → Opens compact node → cost_of compact ≡ cost_of node
-opens-cost (Leaf label) node is = sym (ap cost_of is)
-opens-cost (Inner cost set lower upper) node is = sym (ap cost_of is.node_is)
-opens-cost (Chain cost set bits side end) node is = is.cost_is ∙ sym (by is.count is.long) ∙ sym (ap cost_of is.node_is)
+pub opens-claim : (compact node : Node) → Opens compact node → (cost_of compact ≡ cost_of node) × (set_of compact ≡ set_of node)
+opens-claim (Leaf label) node is = (sym (ap cost_of is), sym (ap set_of is))
+opens-claim (Inner cost set lower upper) node is = (sym (ap cost_of is.node_is), sym (ap set_of is.node_is))
+opens-claim (Chain cost set bits side end) node is =
+    let claim = by is.count is.long in
+    (is.cost_is ∙ sym claim.0 ∙ sym (ap cost_of is.node_is), is.set_is ∙ sym claim.1 ∙ sym (ap set_of is.node_is))
   where
-    by : (count : ℕ) → 2 ≤ count → cost_of (path_node side is.value count is.end) ≡ cost_above side is.end
-    by zero long = absurd (omega arith)
-    by (suc count) long = path-cost side is.end is.value (suc count)
-
-pub opens-set : (compact node : Node) → Opens compact node → set_of compact ≡ set_of node
-opens-set (Leaf label) node is = sym (ap set_of is)
-opens-set (Inner cost set lower upper) node is = sym (ap set_of is.node_is)
-opens-set (Chain cost set bits side end) node is = is.set_is ∙ sym (by is.count is.long) ∙ sym (ap set_of is.node_is)
-  where
-    by : (count : ℕ) → 2 ≤ count → set_of (path_node side is.value count is.end) ≡ side ∷ []
+    by : (count : ℕ) → 2 ≤ count → (cost_of (path_node side is.value count is.end) ≡ cost_above side is.end) × (set_of (path_node side is.value count is.end) ≡ side ∷ [])
     by zero long = absurd (omega arith)
     by (suc zero) long = absurd (omega arith)
-    by (suc (suc count)) long = path-set side is.end is.value (suc (suc count))
+    by (suc (suc count)) long = (path-cost side is.end is.value (suc (suc count)), path-set side is.end is.value (suc (suc count)))
 
 -- the line with this index has the claim of the node that a compact node opens to
 pub opened-claim : (lines : List DueLine) (number : ℕ) (compact node : Node) → Opens compact node → HasClaimOf lines number compact → HasClaimOf lines number node
 opened-claim lines number compact node opens is = record {
   inside = is.inside;
-  cost = is.cost ∙ opens-cost compact node opens;
-  set = is.set ∙ opens-set compact node opens;
+  cost = is.cost ∙ (opens-claim compact node opens).0;
+  set = is.set ∙ (opens-claim compact node opens).1;
 }
 
 -- the claims of the lines of what was built last, and of what was built before
@@ -260,8 +253,8 @@ chain-built s a low high end old middle new side number bits is are label fits r
       few = let inside = run.counted.window.within in omega (arith, width-le s.version);
       node_is = refl;
     } in
-    let parts_cost : cost_above side built.node ≡ parts.cost = opens-cost compact node opens ∙ ap cost_of parts.node_is in
-    let parts_set : side ∷ [] ≡ parts.set = opens-set compact node opens ∙ ap set_of parts.node_is in
+    let parts_cost : cost_above side built.node ≡ parts.cost = (opens-claim compact node opens).0 ∙ ap cost_of parts.node_is in
+    let parts_set : side ∷ [] ≡ parts.set = (opens-claim compact node opens).1 ∙ ap set_of parts.node_is in
     let sides : option_or (label_of parts.lower) (label_of parts.upper) ≡ Some side =
     sym (ap side_below parts.node_is) ∙ made-side s a low high node made are ∙ label in
     record {

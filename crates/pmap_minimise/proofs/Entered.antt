@@ -64,7 +64,7 @@ module _ (table : List Label) (ok : IsLabelTable table) (ids : List LabelId) (bl
       let is : first ≡ id = same_Some first id (subst (λ (l : List LabelId). slice_get l 0 ≡ Some id) same own.1) in
       let up : IsAscending (length table) 0 (first.0 ∷ numbers_of rest) = subst (λ (l : List LabelId). IsAscending (length table) 0 (numbers_of l)) same ascending in
       let least : least_label table s ≡ text_at table id.0 =
-      ap (λ (l : List LabelId). least_label table (map (text_at table) (numbers_of l))) same ∙ least-texts table ok 0 first.0 (numbers_of rest) up
+      ap (λ (l : List LabelId). least_label table (map (text_at table) (numbers_of l))) same ∙ least-texts table ok first.0 (numbers_of rest) up
       ∙ ap (λ (i : LabelId). text_at table i.0) is in
       let prefix : prefix_of table (record { block = block; label = id }) ≡ own_prefix =
       λ i. record { start = block-first block i; bits = block.len; label = sym least i } in

@@ -1,5 +1,5 @@
 -- Numbers of labels and their texts.
-use Rattle.std.proofs.Common.{◌≡◌, ℕ, zero, suc, ◌+◌, ◌^◌, ◌<◌, ◌≤◌, ◌==◌, ◌||◌, ◌∙◌, Bool, true, false, cond, List, [], ◌∷◌, ◌++◌, Option, Some, None, filter, find, map, length, nat_le, get_or, refl, sym, ap, subst, arith, unwrap_or, inl, inr, IsTrue}
+use Rattle.std.proofs.Common.{◌≡◌, ℕ, suc, ◌+◌, ◌^◌, ◌<◌, ◌≤◌, ◌==◌, ◌||◌, ◌∙◌, Bool, true, false, cond, List, [], ◌∷◌, ◌++◌, Option, Some, None, filter, map, length, nat_le, get_or, slice_get, refl, sym, ap, subst, arith, unwrap_or, inl, inr, IsTrue}
 use Rattle.std.specs.List.{list_any}
 use Rattle.std.specs.Option.{ForSome}
 use Rattle.std.specs.Str.{bytes_eq}
@@ -14,6 +14,7 @@ use Rattle.pmap_text.specs.declared.label.LabelId.{LabelId}
 use Rattle.pmap_cert.specs.CertificateText.{IsAscending}
 use Rattle.pmap_cert.specs.CertificateModel.{Claim, has, IsSameClaim, exact_claim, exact_claim_by}
 use Rattle.pmap_cert.specs.Acceptance.{has_inherited, least_label, in_table_order}
+use Rattle.pmap_cert.proofs.Filters.{find-filter}
 use Rattle.pmap_cert.proofs.InTableOrder.{listed-known}
 use Rattle.pmap_cert.proofs.Sets.{bytes_eq-same, has-append}
 use Rattle.pmap_cert.proofs.Tables.{ascending-filter, label-same}
@@ -75,14 +76,6 @@ any-texts table p (n ∷ ns) = ap (λ (t : Bool). p (text_at table n) || t) (any
 pub any-numbers : (ids : List LabelId) (n : ℕ) → has_number (numbers_of ids) n ≡ list_any (λ label. n == label.0) ids
 any-numbers [] n = refl
 any-numbers (id ∷ ids) n = ap (λ (t : Bool). (n == id.0) || t) (any-numbers ids n)
-
--- `find` returns the first item that passes
-find-first : (p : Label → Bool) (xs : List Label) (n : ℕ) → n < length xs → ((i : ℕ) → i < n → p (get_or xs i []) ≡ false) → p (get_or xs n []) ≡ true
-    → find p xs ≡ Some (get_or xs n [])
-find-first p [] n inside below here = absurd (omega arith)
-find-first p (x ∷ xs) zero inside below here = cond-true (p x) (Some x) (find p xs) here
-find-first p (x ∷ xs) (suc n) inside below here =
-    cond-false (p x) (Some x) (find p xs) (below 0 (omega arith)) ∙ find-first p xs n (omega arith) (λ i h. below (suc i) (omega arith)) here
 
 pub table-has : (table : List Label) (n : ℕ) → n < length table → IsTrue (has table (text_at table n))
 table-has table n known =
@@ -175,6 +168,10 @@ module _ (table : List Label) (ok : IsLabelTable table) where
             ∙ go (n ∷ ns) up (λ j from to. same j (omega arith) to)
       ]
 
+  kept-all : (s : List Label) (ns : List ℕ) → IsAscending (length table) 0 ns → AreThose s 0 ns → filter (has s) table ≡ map (text_at table) ns
+  kept-all s ns ascending same =
+      kept-from s 0 table ns ascending (omega arith) (λ j less. let none : j ≡ 0 + j = omega arith in sym (unwrap_or-slice_get table j []) ∙ ap (text_at table) none) same
+
   texts-known : (low : ℕ) (ns : List ℕ) (x : Label) → IsAscending (length table) low ns → has (map (text_at table) ns) x ≡ true → has table x ≡ true
   texts-known low [] x ascending h = absurd (false≢true h)
   texts-known low (n ∷ ns) x ascending h = elim (or_cases (bytes_eq x (text_at table n)) (has (map (text_at table) ns) x) h) [
@@ -191,9 +188,7 @@ module _ (table : List Label) (ok : IsLabelTable table) where
       let e : Claim = exact_claim (record { cost = low_cost; labels = map (text_at table) ls }) (record { cost = high_cost; labels = map (text_at table) hs }) in
       let same = same_claim low_cost high_cost ls hs cost set up also exact in
       let ascending = exact-ascending (length table) low_cost high_cost ls hs cost set up also exact in
-      let kept = kept-from e.labels 0 table set ascending (omega arith)
-      (λ j less. let same : j ≡ 0 + j = omega arith in sym (unwrap_or-slice_get table j []) ∙ ap (text_at table) same)
-      (λ j from to. sym (same.labels (text_at table j)) ∙ texts-has 0 set j ascending to) in
+      let kept = kept-all e.labels set ascending (λ j from to. sym (same.labels (text_at table j)) ∙ texts-has 0 set j ascending to) in
       let labels = sym kept ∙ sym (listed-known table e (λ x h. texts-known 0 set x ascending (same.labels x ∙ h))) in
       λ i. record { cost = same.cost i; labels = labels i }
 
@@ -204,23 +199,8 @@ module _ (table : List Label) (ok : IsLabelTable table) where
   keeps-texts ids (Some id) ascending known = texts-has 0 (numbers_of ids) id.0 ascending (known id refl)
 
   -- the first of ascending numbers is the least label's
-  pub least-texts : (low n : ℕ) (ns : List ℕ) → IsAscending (length table) low (n ∷ ns) → least_label table (map (text_at table) (n ∷ ns)) ≡ text_at table n
-  least-texts low n ns ascending =
+  pub least-texts : (n : ℕ) (ns : List ℕ) → IsAscending (length table) 0 (n ∷ ns) → least_label table (map (text_at table) (n ∷ ns)) ≡ text_at table n
+  least-texts n ns ascending =
+      let s = map (text_at table) (n ∷ ns) in
       ap (λ (o : Option Label). unwrap_or o (text_at table n))
-      (find-first (has s) table n ascending.1 below here)
-      ∙ sym (unwrap_or-slice_get table n [])
-    where
-      s : List Label
-      s = map (text_at table) (n ∷ ns)
-
-      at : (i : ℕ) → i < length table → has s (get_or table i []) ≡ has_number (n ∷ ns) i
-      at i h = ap (has s) (sym (unwrap_or-slice_get table i [])) ∙ texts-has low (n ∷ ns) i ascending h
-
-      below : (i : ℕ) → i < n → has s (get_or table i []) ≡ false
-      below i h = at i (let top = ascending.1 in omega arith) ∙ lacks (length table) n (n ∷ ns) i (omega arith, ascending.1, ascending.2) h
-
-      here : has s (get_or table n []) ≡ true
-      here = ap (has s) (sym (unwrap_or-slice_get table n [])) ∙ own
-        where
-          own : has s (text_at table n) ≡ true
-          own = ap (λ (t : Bool). t || has (map (text_at table) ns) (text_at table n)) (bytes_eq-same (text_at table n))
+      (find-filter (has s) table ∙ ap (λ (l : List Label). slice_get l 0) (kept-all s (n ∷ ns) ascending (λ j from to. texts-has 0 (n ∷ ns) j ascending to)))

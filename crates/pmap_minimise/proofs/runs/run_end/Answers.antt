@@ -12,8 +12,7 @@ invariant_of-block_of c =
     let s = c.args.stretches.now in
     let a = c.args.window.now in
     let is = c.requires.counted in
-    let inner = trimmed s c.args.side.0 a is c.requires.divided c.is_side.result c.is_side-2.result c.max-low.result c.min-high.result (a.from + c.from.result) (a.to - c.from-2.result)
-    c.is_side.ensures.0 c.is_side-2.ensures.0 (ap (λ (n : ℕ). a.from + n) c.from.ensures) (ap (λ (n : ℕ). a.to - n) c.from-2.ensures)
+    let inner = trimmed s c.args.side.0 a is c.requires.divided _ _ _ _ _ _ c.is_side.ensures.0 c.is_side-2.ensures.0 (ap (λ (n : ℕ). a.from + n) c.from.ensures) (ap (λ (n : ℕ). a.to - n) c.from-2.ensures)
     (c.max-low.ensures ∙ ap (max a.first) c.first.ensures) (c.min-high.ensures ∙ ap (min a.last) c.last.ensures)
     (λ own. absurd (true≢false (sym (c.is_side-3.ensures.1 own) ∙ c.if-is_side.false))) (λ own. absurd (true≢false (sym (c.is_side-else-is_side.ensures.1 own) ∙ c.if-is_side-2.false))) in
     let within = (is.few.stretches.each (a.from + c.from.result) inner.inside.low.index).within in
@@ -24,8 +23,7 @@ overflow_sub-len-2 c =
     let s = c.args.stretches.now in
     let a = c.args.window.now in
     let is = c.requires.counted in
-    let inner = trimmed s c.args.side.0 a is c.requires.divided c.is_side.result c.is_side-2.result c.max-low.result c.min-high.result (a.from + c.from.result) (a.to - c.from-2.result)
-    c.is_side.ensures.0 c.is_side-2.ensures.0 (ap (λ (n : ℕ). a.from + n) c.from.ensures) (ap (λ (n : ℕ). a.to - n) c.from-2.ensures)
+    let inner = trimmed s c.args.side.0 a is c.requires.divided _ _ _ _ _ _ c.is_side.ensures.0 c.is_side-2.ensures.0 (ap (λ (n : ℕ). a.from + n) c.from.ensures) (ap (λ (n : ℕ). a.to - n) c.from-2.ensures)
     (c.max-low.ensures ∙ ap (max a.first) c.first.ensures) (c.min-high.ensures ∙ ap (min a.last) c.last.ensures)
     (λ own. absurd (true≢false (sym (c.is_side-3.ensures.1 own) ∙ c.if-is_side.false))) (λ own. absurd (true≢false (sym (c.is_side-else-is_side.ensures.1 own) ∙ c.if-is_side-2.false))) in
     let width : c.width.result ≡ width_of s.version = c.width.ensures ∙ ap width_of c.version-version.ensures in
@@ -37,8 +35,7 @@ returns-then-last-high c =
     let s = c.args.stretches.now in
     let a = c.args.window.now in
     let is = c.requires.counted in
-    let inner = trimmed s c.args.side.0 a is c.requires.divided c.is_side.result c.is_side-2.result c.max-low.result c.min-high.result (a.from + c.from.result) (a.to - c.from-2.result)
-    c.is_side.ensures.0 c.is_side-2.ensures.0 (ap (λ (n : ℕ). a.from + n) c.from.ensures) (ap (λ (n : ℕ). a.to - n) c.from-2.ensures)
+    let inner = trimmed s c.args.side.0 a is c.requires.divided _ _ _ _ _ _ c.is_side.ensures.0 c.is_side-2.ensures.0 (ap (λ (n : ℕ). a.from + n) c.from.ensures) (ap (λ (n : ℕ). a.to - n) c.from-2.ensures)
     (c.max-low.ensures ∙ ap (max a.first) c.first.ensures) (c.min-high.ensures ∙ ap (min a.last) c.last.ensures)
     (λ own. absurd (true≢false (sym (c.is_side-3.ensures.1 own) ∙ c.if-is_side.false))) (λ own. absurd (true≢false (sym (c.is_side-else-is_side.ensures.1 own) ∙ c.if-is_side-2.false))) in
     let width : c.width.result ≡ width_of s.version = c.width.ensures ∙ ap width_of c.version-version.ensures in
@@ -61,8 +58,7 @@ returns-else-last-high c =
     let s = c.args.stretches.now in
     let a = c.args.window.now in
     let is = c.requires.counted in
-    let inner = trimmed s c.args.side.0 a is c.requires.divided c.is_side.result c.is_side-2.result c.max-low.result c.min-high.result (a.from + c.from.result) (a.to - c.from-2.result)
-    c.is_side.ensures.0 c.is_side-2.ensures.0 (ap (λ (n : ℕ). a.from + n) c.from.ensures) (ap (λ (n : ℕ). a.to - n) c.from-2.ensures)
+    let inner = trimmed s c.args.side.0 a is c.requires.divided _ _ _ _ _ _ c.is_side.ensures.0 c.is_side-2.ensures.0 (ap (λ (n : ℕ). a.from + n) c.from.ensures) (ap (λ (n : ℕ). a.to - n) c.from-2.ensures)
     (c.max-low.ensures ∙ ap (max a.first) c.first.ensures) (c.min-high.ensures ∙ ap (min a.last) c.last.ensures)
     (λ own. absurd (true≢false (sym (c.is_side-3.ensures.1 own) ∙ c.if-is_side.false))) (λ own. absurd (true≢false (sym (c.is_side-else-is_side.ensures.1 own) ∙ c.if-is_side-2.false))) in
     let width : c.width.result ≡ width_of s.version = c.width.ensures ∙ ap width_of c.version-version.ensures in
