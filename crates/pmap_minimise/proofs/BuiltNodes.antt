@@ -236,7 +236,7 @@ chain-built s a low high end old middle new side number bits is are label fits r
     let node : Node = path_node side value count built.node in
     let made = run-made s side fits end built.node built.made count a is run.run in
     let down = run-down s side fits end built.node built.made run.stop count a is run.run in
-    let parts = made.halves are.divided in
+    let parts = made.halves low high are in
     let claim = built-claim s end old middle built in
     let cost : cost_above side (last_node middle) ≡ cost_above side built.node =
     λ i. cond (has_number (claim.set i) side) (claim.cost i) (claim.cost i + 1) in

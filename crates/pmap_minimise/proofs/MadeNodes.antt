@@ -112,7 +112,7 @@ leaf-made s a n is own fits =
       ascending = (omega arith, fits, tt);
       own = sym own;
       single = λ same. (n, refl);
-      halves = λ less. absurd (omega arith);
+      halves = λ low high are. let divided = are.divided in absurd (omega arith);
     }
 
 -- the node of a block is built from those of its halves
@@ -151,18 +151,17 @@ module _ (s : StretchesModel) (a low high : Window) (lower upper : Node) (is : I
         ascending = ascending;
         own = sym (own-none s a are.divided);
         single = λ same. absurd (other same);
-        halves = λ less. record {
-          cost = cost;
-          set = set;
-          lower = lower;
-          upper = upper;
-          node_is = refl;
-          low = low;
-          high = high;
-          halves = are;
-          low_label = low_made.own;
-          high_label = high_made.own;
-        };
+        halves = λ low' high' are'.
+            let same = same-halves s a low high low' high' are are' in
+            record {
+              cost = cost;
+              set = set;
+              lower = lower;
+              upper = upper;
+              node_is = refl;
+              low_label = low_made.own ∙ ap (own_label s) same.low_is;
+              high_label = high_made.own ∙ ap (own_label s) same.high_is;
+            };
       }
 
 -- if no step leads on from a block, its node has no run
@@ -172,11 +171,8 @@ made-stop s side a node made (inl single) =
     let leaf = made.single single in
     (ap (bits_down side) leaf.1, ap (end_down side) leaf.1 ∙ sym leaf.1)
 made-stop s side a node made (inr none) =
-    let own = made.halves none.halves.divided in
-    let same = same-halves s a own.low own.high none.low none.high own.halves none.halves in
-    let low : label_of own.lower ≡ own_label s none.low = own.low_label ∙ ap (own_label s) same.low_is in
-    let high : label_of own.upper ≡ own_label s none.high = own.high_label ∙ ap (own_label s) same.high_is in
-    let down = down-none side own.cost own.set own.lower own.upper (λ e. none.low_other (sym low ∙ e)) (λ e. none.high_other (sym high ∙ e)) in
+    let own = made.halves none.low none.high none.halves in
+    let down = down-none side own.cost own.set own.lower own.upper (λ e. none.low_other (sym own.low_label ∙ e)) (λ e. none.high_other (sym own.high_label ∙ e)) in
     (ap (bits_down side) own.node_is ∙ down.0, ap (end_down side) own.node_is ∙ down.1 ∙ sym own.node_is)
 
 -- Runs.
@@ -373,7 +369,5 @@ module _ (s : StretchesModel) (side : ℕ) (fits : side < 2 ^ 32) (end : Window)
 pub made-side : (s : StretchesModel) (a low high : Window) (node : Node) → IsMade s a node → AreCountedHalves s a low high
     → side_below node ≡ option_or (own_label s low) (own_label s high)
 made-side s a low high node made are =
-    let own = made.halves are.divided in
-    let same = same-halves s a own.low own.high low high own.halves are in
-    ap side_below own.node_is
-    ∙ (λ i. option_or ((own.low_label ∙ ap (own_label s) same.low_is) i) ((own.high_label ∙ ap (own_label s) same.high_is) i))
+    let own = made.halves low high are in
+    ap side_below own.node_is ∙ (λ i. option_or (own.low_label i) (own.high_label i))

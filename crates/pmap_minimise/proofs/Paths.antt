@@ -34,29 +34,6 @@ common-one b k n (m ∷ ms) ascending = by (common-one b (m + 1) n ms ascending.
         true-not : true ≡ false → ⊥
         true-not t = cc
 
--- a set with one more number has that number
-pub with-has : (n : ℕ) (set : List ℕ) → has_number (with_number n set) n ≡ true
-with-has n [] = ap (λ (t : Bool). t || false) (eq-eqb n n refl)
-with-has n (m ∷ ms) =
-    elim (cases_lt n m) [
-      | inl less ↦ ap (λ (l : List ℕ). has_number l n) (sym (cond_below n m (n ∷ m ∷ ms) (m ∷ with_number n ms) less)) ∙ ap (λ (t : Bool). t || has_number (m ∷ ms) n) (eq-eqb n n refl)
-      | inr most ↦ ap (λ (l : List ℕ). has_number l n) (sym (cond_above n m (n ∷ m ∷ ms) (m ∷ with_number n ms) (m ∷ with_number n ms) most refl))
-          ∙ ap (λ (t : Bool). (n == m) || t) (with-has n ms) ∙ or-true (n == m)
-    ]
-  where
-    or-true : (t : Bool) → (t || true) ≡ true
-    or-true true = refl
-    or-true false = refl
-
--- each node of a run has the side label
-pub above-has : (side : ℕ) (set : List ℕ) (more : ℕ) → has_number (set_above side set more) side ≡ true
-above-has side set zero = by (has_number set side)
-  where
-    by : (t : Bool) → has_number (cond t (side ∷ []) (with_number side set)) side ≡ true
-    by true = ap (λ (t : Bool). t || false) (eq-eqb side side refl)
-    by false = with-has side set
-above-has side set (suc more) = ap (λ (t : Bool). t || false) (eq-eqb side side refl)
-
 with-any : (p : ℕ → Bool) (n : ℕ) (set : List ℕ) → list_any p (with_number n set) ≡ (p n || list_any p set)
 with-any p n [] = refl
 with-any p n (m ∷ ms) =
@@ -68,6 +45,19 @@ with-any p n (m ∷ ms) =
   where
     swap : (x y z : Bool) → (x || (y || z)) ≡ (y || (x || z))
     swap x y z = grind arith
+
+-- a set with one more number has that number
+with-has : (n : ℕ) (set : List ℕ) → has_number (with_number n set) n ≡ true
+with-has n set = with-any (λ m. n == m) n set ∙ ap (λ (t : Bool). t || has_number set n) (eq-eqb n n refl)
+
+-- each node of a run has the side label
+pub above-has : (side : ℕ) (set : List ℕ) (more : ℕ) → has_number (set_above side set more) side ≡ true
+above-has side set zero = by (has_number set side)
+  where
+    by : (t : Bool) → has_number (cond t (side ∷ []) (with_number side set)) side ≡ true
+    by true = ap (λ (t : Bool). t || false) (eq-eqb side side refl)
+    by false = with-has side set
+above-has side set (suc more) = ap (λ (t : Bool). t || false) (eq-eqb side side refl)
 
 with-ascending : (b k n : ℕ) (set : List ℕ) → IsAscending b k set → k ≤ n → n < b → has_number set n ≡ false → IsAscending b k (with_number n set)
 with-ascending b k n [] ascending least below none = (least, below, tt)

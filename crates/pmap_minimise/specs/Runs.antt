@@ -91,16 +91,13 @@ pub record IsRunTo (s : StretchesModel) (side : ℕ) (a end : Window) : Type 0 w
   pub counted : IsCounted s end
   pub len : end.len ≡ a.len + count
 
--- the node is an inner one, and a half that is a leaf has the label of the block's half
-pub record HasLabelledHalves (s : StretchesModel) (a : Window) (node : Node) : Type 0 where
+-- the node is an inner one, and a half that is a leaf has the label of this window
+pub record HasLabelledHalves (s : StretchesModel) (low high : Window) (node : Node) : Type 0 where
   pub cost : ℕ
   pub set : List ℕ
   pub lower : Node
   pub upper : Node
   pub node_is : node ≡ Inner cost set lower upper
-  pub low : Window
-  pub high : Window
-  pub halves : AreCountedHalves s a low high
   pub low_label : label_of lower ≡ own_label s low
   pub high_label : label_of upper ≡ own_label s high
 
@@ -112,4 +109,4 @@ pub record IsMade (s : StretchesModel) (a : Window) (node : Node) : Type 0 where
   pub ascending : IsAscending (2 ^ 32) 0 (set_of node)
   pub own : label_of node ≡ own_label s a
   pub single : a.from ≡ a.to → (n : ℕ) × (node ≡ Leaf n)
-  pub halves : a.from < a.to → HasLabelledHalves s a node
+  pub halves : (low high : Window) → AreCountedHalves s a low high → HasLabelledHalves s low high node
