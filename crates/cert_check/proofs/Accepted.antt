@@ -1,9 +1,12 @@
 -- A certificate has no fault exactly if it is accepted.
-use Rattle.std.proofs.Common.{◌≡◌, ℕ, zero, suc, ◌+◌, ◌*◌, ◌≤◌, Bool, true, false, cond, not, ◌&&◌, ◌||◌, ◌==◌, List, [], ◌∷◌, Option, Some, None, length, nat_lt, option_map, refl, sym, ap, ap₂, ◌∙◌, subst, arith, bytes_eq}
+use Rattle.std.proofs.Common.{◌≡◌, ℕ, zero, suc, ◌+◌, ◌*◌, ◌≤◌, Bool, true, false, cond, not, ◌&&◌, ◌==◌, List, [], ◌∷◌, Option, Some, None, get_or, length, nat_lt, option_map, refl, sym, ap, ap₂, ◌∙◌, subst, arith, bytes_eq}
 use Rattle.std.specs.List.{list_all, list_any}
 use Rattle.std.specs.Option.{option_or}
-use Rattle.std.proofs.lemmas.Bool.{and_from, and_parts, both_ways, eq-eqb, eqb-true, false_from_ne_true, false≢true, not-true, or_left, or_right}
+use Rattle.std.proofs.lemmas.Bool.{and_from, and_parts, both_ways, eq-eqb, eqb-true, false_from_ne_true, false≢true, not-true}
 use Rattle.std.proofs.lemmas.Bool.Decides.{nat_tests}
+use Rattle.std.proofs.lemmas.List.Elements.{All-contains}
+use Rattle.std.proofs.lemmas.List.Folds.{Any-from_list_any, list_any_at}
+use Rattle.std.proofs.lemmas.List.Sums.{AllPass-from_list_all, list_all-from_AllPass}
 use Rattle.std.proofs.lemmas.Option.{none-some}
 use Rattle.std.proofs.lemmas.Slice.Eq.{bytes_eq-Decides}
 use Rattle.prefix_keys.specs.Block.{first_of, width_of}
@@ -81,20 +84,12 @@ leaf-none m ps n q x h =
 
 -- a set that passes the test of all labels of a list has each of them
 all-has : (s xs : List Label) → list_all (has s) xs ≡ true → (x : Label) → has xs x ≡ true → has s x ≡ true
-all-has s [] h x inside = absurd (false≢true inside)
-all-has s (y ∷ ys) h x inside =
-    let parts = and_parts (has s y) (list_all (has s) ys) h in
-    by (bytes_eq x y) refl parts.0 (all-has s ys parts.1 x) inside
-  where
-    by : (b : Bool) → bytes_eq x y ≡ b → has s y ≡ true → (has ys x ≡ true → has s x ≡ true) → (b || has ys x) ≡ true → has s x ≡ true
-    by true e here rest inside = subst (λ (z : Label). has s z ≡ true) (sym ((bytes_eq-Decides x y).0 e)) here
-    by false e here rest inside = rest inside
+all-has s xs h x inside =
+    let (k, y, below, is, same) = Any-from_list_any (bytes_eq x) xs inside in
+    subst (λ (z : Label). has s z ≡ true) (sym ((bytes_eq-Decides x y).0 same)) (All-contains (λ z. has s z ≡ true) xs y (AllPass-from_list_all (has s) xs h) (k, below, is))
 
 has-all : (s xs : List Label) → ((x : Label) → has xs x ≡ true → has s x ≡ true) → list_all (has s) xs ≡ true
-has-all s [] h = refl
-has-all s (y ∷ ys) h =
-    and_from (has s y) (list_all (has s) ys) (h y (or_left (bytes_eq y y) (has ys y) (bytes_eq-same y)))
-    (has-all s ys (λ x inside. h x (or_right (bytes_eq x y) (has ys x) inside)))
+has-all s xs h = list_all-from_AllPass (has s) xs (λ k d below. h (get_or xs k d) (list_any_at (bytes_eq (get_or xs k d)) xs k d below (bytes_eq-same (get_or xs k d))))
 
 at_most : (a b : ℕ) → nat_lt a b ≡ false → b ≤ a
 at_most a b h = grind (arith, nat_tests)

@@ -1,7 +1,13 @@
 -- The root of a certificate, with the whole map and the whole list.
 use Rattle.std.specs.Option.{option_or}
 use Rattle.std.proofs.Common.{◌≡◌, ◌∙◌, ℕ, ◌+◌, ◌-◌, ◌^◌, ◌<◌, List, Option, None, Some, Result, Err, Ok, cond, true, length, nat_lt, refl, sym, ap, subst, arith}
+use Rattle.std.specs.List.Sorted.{IsNonDecreasingBy, IsPermutation}
 use Rattle.std.proofs.lemmas.Bool.{and_from}
+use Rattle.std.proofs.lemmas.List.Sorted.{Contains-permutation, IsPermutation-sym}
+use Rattle.std.proofs.lemmas.Map.Keys.{IsDistinct-IsPermutation}
+use Rattle.pmap_text.specs.ListEntries.{rank_of, same_block}
+use Rattle.pmap_text.proofs.Filed.{flips}
+use Rattle.pmap_text.proofs.ListBlocks.{ranks_ascend}
 use Rattle.std.proofs.lemmas.List.{length-map}
 use Rattle.std.proofs.Math.Nat.{zero-div}
 use Rattle.std.proofs.lemmas.Option.{none-some}
@@ -16,7 +22,7 @@ use Rattle.pmap_text.proofs.Blocks.{block_number-zero}
 use Rattle.pmap_cert.specs.CertificateModel.{Claim, Tree, claim_of}
 use Rattle.pmap_text.specs.MapText.{map_of}
 use Rattle.pmap_text.specs.PrefixList.{list_of, prefix_of}
-use Rattle.cert_check.specs.Inner.{AreInOrder, IsListPart, IsPassed, IsRootChecked, IsUnread, Part, Sources, Walk, certificate_with, fault_of_node, reading_at, root_reading}
+use Rattle.cert_check.specs.Inner.{IsListPart, IsPassed, IsRootChecked, IsUnread, Part, Sources, Walk, certificate_with, fault_of_node, reading_at, root_reading}
 use Rattle.pmap_cert.specs.FormatReading.{Place, ended_by, fault_at, is_ended}
 use Rattle.pmap_cert.specs.Inner.{node_due_at, reading_from}
 use Rattle.pmap_cert.specs.declared.fault.CertFault.{CertFault}
@@ -33,24 +39,25 @@ use Rattle.cert_check.proofs.Within.{entry-version}
 whole-number : (s : StretchesModel) (w : Window) → w.first ≡ 0 → number_at s w ≡ 0
 whole-number s w first = ap (block_number (width_of s.version) w.len) first ∙ zero-div (2 ^ (width_of s.version - w.len))
 
-root-list : (l : PrefixList) (entries : List Entry) → AreInOrder l.entries entries → IsListPart l 0 0 0 entries None
-root-list l entries order = record {
+-- the whole list has all of its entries, in order
+root-list : (l : PrefixList) (sorted : List Entry) → IsPermutation l.entries sorted → IsNonDecreasingBy (λ e. rank_of e.block) sorted → IsListPart l 0 0 0 sorted None
+root-list l sorted moved rising = record {
   within = record {
-    ascending = order.ascending;
+    ascending = ranks_ascend sorted (IsDistinct-IsPermutation same_block flips l.entries sorted moved l.blocks_distinct) rising;
     inside = λ e has.
-        let listed = order.listed e has in
+        let listed = Contains-permutation sorted l.entries e (IsPermutation-sym l.entries sorted moved) has in
         let below = subst (λ (v : Version). e.block.value < 2 ^ width_of v) (entry-version l 0 0 e listed) e.block.in_range in
         (listed, record { long = omega arith; number = block_number-zero (width_of l.version) e.block.value below });
-    every = λ e has lies. order.every e has;
+    every = λ e has lies. Contains-permutation l.entries sorted e moved has;
   };
   above = record { known = λ id is. absurd (none-some id is); text = refl };
 }
 
-pub root-part : (l : PrefixList) (s : StretchesModel) (w : Window) → w.first ≡ 0 → w.len ≡ 0 → (entries : List Entry) → AreInOrder l.entries entries
-    → IsListPart l w.len (number_at s w) w.len entries None
-root-part l s w first len entries order =
-    subst (λ (n : ℕ). IsListPart l n (number_at s w) n entries None) (sym len)
-    (subst (λ (q : ℕ). IsListPart l 0 q 0 entries None) (sym (whole-number s w first)) (root-list l entries order))
+pub root-part : (l : PrefixList) (s : StretchesModel) (w : Window) → w.first ≡ 0 → w.len ≡ 0 → (sorted : List Entry) → IsPermutation l.entries sorted
+    → IsNonDecreasingBy (λ e. rank_of e.block) sorted → IsListPart l w.len (number_at s w) w.len sorted None
+root-part l s w first len sorted moved rising =
+    subst (λ (n : ℕ). IsListPart l n (number_at s w) n sorted None) (sym len)
+    (subst (λ (q : ℕ). IsListPart l 0 q 0 sorted None) (sym (whole-number s w first)) (root-list l sorted moved rising))
 
 root-from : (frame : Frame) (n : ℕ) → n ≡ 0 → (place : Place) → root_reading frame place ≡ node_due_at frame.format frame.width frame.labels.now (frame.width - n) place
 root-from frame n none place = ap (λ (room : ℕ). node_due_at frame.format frame.width frame.labels.now room place) (omega (arith, none))

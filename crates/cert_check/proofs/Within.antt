@@ -1,25 +1,22 @@
 -- The entries of a list in a block and in blocks inside it.
 use Rattle.std.proofs.Common.{◌≡◌, ◌∙◌, inl, inr, ℕ, suc, ◌+◌, ◌*◌, ◌/◌, ◌%◌, ◌^◌, ◌-◌, ◌<◌, ◌≤◌, List, ◌∷◌, Contains, drop, get_or, get_or-drop, get_or-take, is_lt, length, length-drop, length-take, min, nat_cmp, slice_get, Some, false, take, ap, subst, sym, arith, mul-div_cancel, mul_assoc, pow_pos}
-use Rattle.std.specs.List.Sorted.{IsNonDecreasingBy, IsPermutation}
+use Rattle.std.specs.List.Sorted.{IsNonDecreasingBy}
 use Rattle.std.proofs.lemmas.Bool.{cases_eq, cases_lt}
 use Rattle.std.proofs.lemmas.Bool.Decides.{nat_tests}
 use Rattle.std.proofs.lemmas.Option.{get_or_from_slice_get}
 use Rattle.std.proofs.lemmas.List.Elements.{All-contains}
-use Rattle.std.proofs.lemmas.Map.Keys.{IsDistinct-IsPermutation}
-use Rattle.std.proofs.lemmas.List.Sorted.{Contains-permutation, IsPermutation-sym}
 use Rattle.std.proofs.lemmas.Nat.{pow-add}
 use Rattle.prefix_keys.proofs.Quotients.{whole}
 use Rattle.prefix_keys.specs.Block.{block_number, first_of, last_of, width_of}
 use Rattle.prefix_keys.specs.declared.block.Block.{Block}
-use Rattle.pmap_text.specs.ListEntries.{HasDistinctBlocks, rank_of, same_block}
+use Rattle.pmap_text.specs.ListEntries.{rank_of}
 use Rattle.pmap_text.specs.declared.entry.Entry.{Entry}
 use Rattle.pmap_text.specs.declared.prefix_list.PrefixList.{PrefixList}
 use Rattle.pmap_text.proofs.Blocks.{address-between, address-first, address-last}
-use Rattle.pmap_text.proofs.Filed.{flips}
-use Rattle.pmap_text.proofs.ListBlocks.{block_start, ranks_ascend, short-block}
+use Rattle.pmap_text.proofs.ListBlocks.{block_start, short-block}
 use Rattle.pmap_text.proofs.Finds.{Contains-cases, Contains-first, Contains-later}
 use Rattle.pmap_text.specs.PrefixList.{number_of_block as number_of}
-use Rattle.cert_check.specs.Inner.{AreInOrder, AreAscending, AreWithin, LiesIn}
+use Rattle.cert_check.specs.Inner.{AreAscending, AreWithin, LiesIn}
 use Rattle.cert_check.proofs.HalfBlocks.{IsWithin, block-first}
 
 -- the first of entries in order comes before all later ones
@@ -240,10 +237,3 @@ lies-after b e same from to =
       ];
       number = number;
     }
-
-pub sorted-order : (es sorted : List Entry) → HasDistinctBlocks es → IsPermutation es sorted → IsNonDecreasingBy (λ e. rank_of e.block) sorted → AreInOrder es sorted
-sorted-order es sorted distinct moved ascending = record {
-  ascending = ranks_ascend sorted (IsDistinct-IsPermutation same_block flips es sorted moved distinct) ascending;
-  listed = λ e has. Contains-permutation sorted es e (IsPermutation-sym es sorted moved) has;
-  every = λ e has. Contains-permutation es sorted e moved has;
-}

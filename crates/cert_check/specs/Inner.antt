@@ -97,11 +97,6 @@ abbrev pub IsSettledBetween : MapModel → ℕ → ℕ → Label → Type 0
 IsSettledBetween m first stop x =
     (j r : ℕ) → first ≤ first_of (width_of m.version) j r → last_of (width_of m.version) j r < stop → is_label_of (settled_label m j r) x ≡ true
 
-pub record AreInOrder (es entries : List Entry) : Type 0 where
-  pub ascending : AreAscending entries
-  pub listed : (e : Entry) → Contains entries e → Contains es e
-  pub every : (e : Entry) → Contains es e → Contains entries e
-
 -- the claim with this cost and the labels with these numbers
 abbrev pub claim_with : List Label → ℕ → List ℕ → Claim
 claim_with table cost ns = record { cost = cost; labels = map (text_at table) ns }

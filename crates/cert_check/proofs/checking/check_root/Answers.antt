@@ -7,23 +7,21 @@ use Rattle.std.proofs.lemmas.Result.{err_from_is_err_and}
 use Rattle.pmap_text.specs.declared.entry.Entry.{Entry}
 use Rattle.pmap_text.specs.declared.window.Window.{Window}
 use Rattle.cert_check.specs.Checking.{fault_of_number, BoundNotMet}
-use Rattle.cert_check.specs.Inner.{AreInOrder, Walk}
+use Rattle.cert_check.specs.Inner.{IsListPart, Walk}
 use Rattle.cert_check.proofs.Nodes.{or-none}
 use Rattle.cert_check.proofs.Whole.{root-checked, root-part, root-unread}
-use Rattle.cert_check.proofs.Within.{sorted-order}
+use Rattle.pmap_text.specs.Windows.{number_at}
 use Rattle.cert_check.proofs.checking.check_root.Goals as goal
 use Rattle.cert_check.proofs.checking.check_root.Goals.{then-len-from, else-len-from}
 
 pub check_node-requires-clause-part : goal.check_node-requires-clause-part
 check_node-requires-clause-part c =
-    let es = c.args.list.now.entries in
     let sorted = cow_slice_items c.in_ok-entries.entries in
     let same : c.args.list.now.version ≡ c.args.map.now.version = search rules in
     c.new-space.ensures.part _ (c.in_ok-of_map.ensures.version ∙ sym same) c.whole.ensures.window
-    (root-part c.args.list.now c.in_ok-of_map.field-0 c.whole.result c.whole.ensures.first c.whole.ensures.len c.as_slice-2.result.now
-    (subst (AreInOrder es) (sym c.as_slice-2.ensures.value)
-    (sorted-order es sorted c.args.list.now.blocks_distinct
-    (subst (λ (xs : List Entry). IsPermutation xs sorted) c.as_slice.ensures.value c.in_ok-entries.ensures.same) c.in_ok-entries.ensures.ascending)))
+    (subst (λ (es : List Entry). IsListPart c.args.list.now c.whole.result.len (number_at c.in_ok-of_map.field-0 c.whole.result) c.whole.result.len es None) (sym c.as_slice-2.ensures.value)
+    (root-part c.args.list.now c.in_ok-of_map.field-0 c.whole.result c.whole.ensures.first c.whole.ensures.len sorted
+    (subst (λ (xs : List Entry). IsPermutation xs sorted) c.as_slice.ensures.value c.in_ok-entries.ensures.same) c.in_ok-entries.ensures.ascending))
 
 pub returns-in_err-cost-clause-err : goal.returns-in_err-cost-clause-err
 returns-in_err-cost-clause-err c =
