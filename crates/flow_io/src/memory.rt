@@ -20,10 +20,14 @@ fn is_due(failing_call: &mut u64) -> bool
 /// A reader over bytes in memory, for tests. It returns them in pieces, and fails at a chosen call.
 #[derive(Drop)]
 pub struct MemoryInput<'a> {
-    left: &'a [u8],
-    step: usize,
-    failing_call: u64,
-    failed: bool,
+    /// The bytes left.
+    pub left: &'a [u8],
+    /// The maximum that a read returns. 0 counts as 1.
+    pub step: usize,
+    /// The number of the next call that fails: 1 is the next call, 0 is no call.
+    pub failing_call: u64,
+    /// Whether a call has failed.
+    pub failed: bool,
 }
 
 impl<'a> MemoryInput<'a> {
@@ -80,12 +84,18 @@ impl Input for MemoryInput<'_> {
 /// A writer into memory, for tests, with room for `N` bytes. It takes them in pieces, and fails at a chosen call.
 #[derive(Drop)]
 pub struct MemoryOutput<const N: usize> {
-    taken: ArrayVec<u8, N>,
-    step: usize,
-    failing_call: u64,
-    zero: bool,
-    failed: bool,
-    last_call: LastCall,
+    /// The bytes taken.
+    pub taken: ArrayVec<u8, N>,
+    /// The maximum that a write takes. 0 counts as 1.
+    pub step: usize,
+    /// The number of the next call that fails: 1 is the next call, 0 is no call.
+    pub failing_call: u64,
+    /// Whether a write that fails returns 0.
+    pub zero: bool,
+    /// Whether a call has failed.
+    pub failed: bool,
+    /// The last call.
+    pub last_call: LastCall,
 }
 
 impl<const N: usize> MemoryOutput<N> {

@@ -20,9 +20,7 @@
 //! law the bytes of all calls are the whole File, whether or not the reader reports its bytes.
 #![tactic(auto)]
 
-mod buffer;
 mod fault;
-mod file;
 mod laws;
 mod message;
 mod progress;
@@ -30,12 +28,10 @@ mod record;
 mod set;
 mod value;
 
-pub use buffer::Buffer;
 pub use fault::{ReadFault, ReadFaultKind};
-pub use file::{FileEvents, read_file};
 pub use laws::{calls_join_file, first_message_and_rest};
-pub use message::{Message, MessageList};
-pub use progress::{Messages, Progress, State};
+pub use message::{FileEvents, Message, read_file};
+pub use progress::{Buffer, Messages, Progress, State};
 pub use record::{Record, RecordList, Records};
-pub use set::{Set, SetList};
+pub use set::Set;
 pub use value::{FieldValue, FieldValues, Values, read_bytes, read_variable};

@@ -1,12 +1,14 @@
+//! Messages and Files.
 ghost use Rattle.std.specs.Prelude.{◌≡◌, ◌^◌, ◌+◌, ◌<◌, ◌≤◌, length, false, IfOk, IfErr, OnOk, None, Some};
 ghost use Rattle.std.specs.Result.{result_map_both};
 ghost use Rattle.ipfix_templates.specs.InForce.{template_at};
-ghost use Rattle.ipfix_read.specs.Fault.{is_of_calls};
+ghost use Rattle.ipfix_read.specs.Fault.{Reads, is_of_calls};
+ghost use Rattle.ipfix_read.specs.Messages.{file_reading};
 ghost use Rattle.ipfix_read.specs.Message.{own_fault, events_of_message, message_next, message_size, whole_reading, HasHeader};
 ghost use Rattle.ipfix_read.specs.Set.{written_length, ReadsUnder};
 
 use crate::fault::{ReadFault, ReadFaultKind};
-use crate::set::{SetList, read_sets};
+use crate::set::{Set, read_sets};
 use byteorder::{BigEndian, ByteOrder};
 use ipfix_templates::{Items, TemplateTable};
 use std::alloc::Global;
@@ -22,7 +24,7 @@ pub struct Message<'a> {
     /// The observation domain ID.
     pub domain: u32,
     /// The sets in order.
-    pub sets: SetList<'a>,
+    pub sets: Items<Set<'a>>,
 }
 
 impl<'a> Model for Message<'a> {
@@ -43,16 +45,13 @@ impl<'a> Model for Message<'a> {
 
 impl<'a> Message<'a> {
     /// Returns the sets in order. The sets with their template events and data records are at most 65,535.
-    pub fn sets(&self) -> &SetList<'a>
+    pub fn sets(&self) -> &Items<Set<'a>>
         ensures value { result.now ≡ self.now.sets }
         ensures size { message_size self.now.sets ≤ 65535 }
     {
         &self.sets
     }
 }
-
-/// A list of messages.
-pub type MessageList<'a> = Items<Message<'a>>;
 
 /// The length of a message header in bytes.
 pub const HEADER_LENGTH: usize = 16;
@@ -106,10 +105,10 @@ pub fn whole_message<'a>(
     })
 }
 
-/// Reads the message at the start of the bytes, which follows `count` messages, and returns it with the bytes after it.
-/// `base` is the offset of the message in the File. The events of its template sets change the table. After a fault the
-/// table may have changed by some of them.
-pub fn read_message<'a>(
+// Reads the message at the start of the bytes, which follows `count` messages, and returns it with the bytes after it.
+// `base` is the offset of the message in the File. The events of its template sets change the table. After a fault the
+// table may have changed by some of them.
+fn read_message<'a>(
     alloc: Global,
     table: &mut TemplateTable,
     count: u32,
@@ -136,4 +135,35 @@ pub fn read_message<'a>(
     let (front, after) = bytes.split_at(size);
     let message = whole_message(alloc, table, front, base)?;
     Ok((message, after))
+}
+
+/// The content of a File: its messages in order, at most 4,294,967,295. The values of records are slices of the File.
+#[derive(Drop)]
+pub struct FileEvents<'a> {
+    /// The messages in order.
+    pub messages: Items<Message<'a>>,
+    ghost counted: { length messages ≤ 4294967295 },
+}
+
+/// Reads an IPFIX File (RFC 5655): consecutive messages of RFC 7011, which share one set of templates in force. The
+/// memory used is linear in the length of the bytes.
+///
+/// # Errors
+///
+/// Returns the first fault, in byte order, or `NoMemory` if an allocation fails.
+pub fn read_file(alloc: Global, bytes: &[u8]) -> Result<FileEvents<'_>, ReadFault>
+    ensures { Reads (file_reading bytes.now) (result_map_both (λ file. file.messages) (λ fault. fault) result) }
+{
+    let mut table = TemplateTable::new(alloc);
+    let mut messages = Items::new(alloc);
+    let mut rest = bytes;
+    let mut count = 0u32;
+    while !rest.is_empty() {
+        let base = (bytes.len() - rest.len()) as u64;
+        let (message, after) = read_message(alloc, &mut table, count, rest, base)?;
+        messages.push(message)?;
+        count += 1;
+        rest = after;
+    }
+    Ok(FileEvents { messages })
 }

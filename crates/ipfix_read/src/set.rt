@@ -23,9 +23,6 @@ pub enum Set<'a> {
     Skipped(u16),
 }
 
-/// A list of sets.
-pub type SetList<'a> = Items<Set<'a>>;
-
 // The length of a set header in bytes.
 const HEADER_LENGTH: usize = 4;
 
@@ -137,13 +134,13 @@ pub fn read_sets<'a>(
     domain: u32,
     bytes: &'a [u8],
     base: u64,
-) -> Result<SetList<'a>, ReadFault>
+) -> Result<Items<Set<'a>>, ReadFault>
     requires { base + length bytes.now < 2 ^ 64 }
     ensures read { ReadsUnder table.old table.new (events_of_sets domain)
         (sets_reading (template_at table.old) domain base bytes.now) result }
     ensures size { IfOk result (λ sets. message_size sets ≤ length bytes.now) }
 {
-    let mut sets = SetList::new(alloc);
+    let mut sets = Items::new(alloc);
     let mut rest = bytes;
     while !rest.is_empty() {
         let place = base + (bytes.len() - rest.len()) as u64;

@@ -7,7 +7,7 @@ use Rattle.ipfix_read.specs.Message.{events_of_message}
 use Rattle.ipfix_read.specs.Messages.{messages_from}
 use Rattle.ipfix_read.proofs.Sets.{fault_kept, in_force_more, none_in_force, not_empty}
 use Rattle.ipfix_read.proofs.Readings.{messages_end, messages_fault, messages_more}
-use Rattle.ipfix_read.proofs.file.read_file.Goals as goal
+use Rattle.ipfix_read.proofs.message.read_file.Goals as goal
 
 pub loop-rest-init : goal.loop-rest-init
 loop-rest-init c = rw c.new-messages.ensures (record {

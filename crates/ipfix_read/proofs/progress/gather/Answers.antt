@@ -2,7 +2,7 @@ use Rattle.std.proofs.Common.{rules, ◌∙◌, sym, arith}
 use Rattle.std.proofs.lemmas.Result.{err_from_is_err_and}
 use Rattle.ipfix_read.proofs.Gathering.{own_sound, head_of, unread_header, unread_rest, nothing_left, short_header, faulty_header, short_message, gathered, holds_message}
 use Rattle.ipfix_read.proofs.Readings.{not_of_reader}
-use Rattle.ipfix_read.proofs.buffer.gather.Goals as goal
+use Rattle.ipfix_read.proofs.progress.gather.Goals as goal
 
 pub returns-then-head-eq0-clause-gathers : goal.returns-then-head-eq0-clause-gathers
 returns-then-head-eq0-clause-gathers g c =

@@ -1,7 +1,7 @@
 use Rattle.std.proofs.Common.{◌≡◌, ◌-◌, ◌≤◌, length}
 use Rattle.ipfix_templates.specs.InForce.{in_force, no_templates, template_at}
 use Rattle.ipfix_read.specs.Messages.{events_of_messages, file_reading, messages_from}
-use Rattle.ipfix_read.proofs.file.read_file.Given as goal
+use Rattle.ipfix_read.proofs.message.read_file.Given as goal
 
 abbrev pub invariant-loop-rest : goal.invariant-loop-rest
 invariant-loop-rest l = record {

@@ -2,7 +2,7 @@ use Rattle.std.proofs.Common.{rules, ◌-◌, ◌≤◌, ℕ, List, length, take
 use Rattle.std.specs.Io.KnownBytes.{Consumes}
 use Rattle.std.proofs.KnownBytes.{Consumes-trans}
 use Rattle.ipfix_read.proofs.Gathering.{take_filled}
-use Rattle.ipfix_read.proofs.buffer.fill.Goals as goal
+use Rattle.ipfix_read.proofs.progress.fill.Goals as goal
 
 pub loop-filled-preserved : goal.loop-filled-preserved
 loop-filled-preserved g c =
