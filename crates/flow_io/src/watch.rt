@@ -52,12 +52,9 @@ impl<T: Write> Output for Watched<T> {
 
     fn write(&mut self, slice: &[u8]) -> Result<usize, DeviceFault> {
         self.last_call = LastCall::Write;
-        let Ok(count) = self.inner.write(slice) else {
-            self.failed = true;
-            return Err(DeviceFault);
-        };
-        self.failed |= count == 0 && !slice.is_empty();
-        Ok(count)
+        let count = self.inner.write(slice).map_err(|_| DeviceFault);
+        self.failed |= count.is_err() || (count == Ok(0) && !slice.is_empty());
+        count
     }
 
     fn flush(&mut self) -> Result<(), DeviceFault> {

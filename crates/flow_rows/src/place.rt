@@ -4,7 +4,7 @@ ghost use Rattle.flow_rows.specs.Elements.{big_endian};
 ghost use Rattle.flow_rows.specs.Inner.{IsWithin, bytes_there, number_there};
 
 use byteorder::{BigEndian, ByteOrder};
-use ipfix_read::{read_bytes, read_variable};
+use ipfix_read::read_variable;
 use ipfix_templates::Place;
 
 // Returns the bytes at a place in a record, given the number of bytes between each value of variable length and the one
@@ -15,12 +15,12 @@ fn find_bytes<'a>(place: &Place, runs: &[u32], bytes: &'a [u8]) -> Option<&'a [u
 {
     let mut rest = bytes;
     for run in &runs[..usize::from(place.skips).min(runs.len())] {
-        let (_fixed, behind) = read_bytes(*run as usize, rest)?;
+        let (_fixed, behind) = rest.split_at_checked(*run as usize)?;
         let (_value, after) = read_variable(behind)?;
         rest = after;
     }
-    let (_before, from) = read_bytes(place.offset as usize, rest)?;
-    let (value, _after) = read_bytes(usize::from(place.length), from)?;
+    let (_before, from) = rest.split_at_checked(place.offset as usize)?;
+    let (value, _after) = from.split_at_checked(usize::from(place.length))?;
     Some(value)
 }
 

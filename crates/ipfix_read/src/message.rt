@@ -69,17 +69,13 @@ pub fn header_length(count: u32, header: &[u8]) -> Result<usize, ReadFaultKind>
     ensures most { IfOk result (λ size. size ≤ 65535) }
     ensures fault { IfErr result (λ kind. (own_fault count header.now ≡ Some kind) × (is_of_calls kind ≡ false)) }
 {
-    if count == u32::MAX {
-        return Err(ReadFaultKind::TooManyMessages);
-    }
-    if BigEndian::read_u16(header) != VERSION {
-        return Err(ReadFaultKind::BadVersion);
-    }
     let size = usize::from(BigEndian::read_u16(&header[2..]));
-    if size < HEADER_LENGTH {
-        return Err(ReadFaultKind::BadMessageLength);
+    match (count, BigEndian::read_u16(header)) {
+        (u32::MAX, _) => Err(ReadFaultKind::TooManyMessages),
+        (_, VERSION) if size < HEADER_LENGTH => Err(ReadFaultKind::BadMessageLength),
+        (_, VERSION) => Ok(size),
+        _ => Err(ReadFaultKind::BadVersion),
     }
-    Ok(size)
 }
 
 /// Reads a message from exactly its bytes, whose header gives their length. `base` is the offset of the message in the

@@ -1,6 +1,6 @@
 ghost use Rattle.std.specs.Prelude.{◌≡◌, ℕ, List, Some, map, option_map};
 ghost use Rattle.std.specs.Iterator.{YieldsFirst, item_count};
-ghost use Rattle.ipfix_read.specs.Value.{bytes_at, values_at, variable_at, whole_values};
+ghost use Rattle.ipfix_read.specs.Value.{values_at, variable_at, whole_values};
 
 use byteorder::{BigEndian, ByteOrder};
 use ipfix_templates::{Field, Fields};
@@ -99,20 +99,13 @@ impl<'f, 'a> Iterator for Values<'f, 'a> {
         let (value, bytes) = if field.is_variable() {
             read_variable(self.bytes)?
         } else {
-            read_bytes(usize::from(field.length), self.bytes)?
+            self.bytes.split_at_checked(usize::from(field.length))?
         };
         self.specifiers = specifiers;
         self.bytes = bytes;
         let field = *field;
         Some(FieldValue { field, value })
     }
-}
-
-/// Splits the bytes after the first `count`. Returns `None` if the input is too short.
-pub fn read_bytes(count: usize, bytes: &[u8]) -> Option<(&[u8], &[u8])>
-    ensures { option_map (λ x. (x.0.now, x.1.now)) result ≡ bytes_at count bytes.now }
-{
-    bytes.split_at_checked(count)
 }
 
 /// Reads the value of a variable length at the start of the bytes, and returns it with the bytes after it. Returns
@@ -122,12 +115,12 @@ pub fn read_variable(bytes: &[u8]) -> Option<(&[u8], &[u8])>
 {
     let (first, rest) = bytes.split_first()?;
     if *first < 255 {
-        return read_bytes(usize::from(*first), rest);
+        return rest.split_at_checked(usize::from(*first));
     }
     if rest.len() < 2 {
         return None;
     }
-    read_bytes(usize::from(BigEndian::read_u16(rest)), &rest[2..])
+    rest[2..].split_at_checked(usize::from(BigEndian::read_u16(rest)))
 }
 
 /// Skips the values of these fields at the start of the bytes, and returns the bytes after them. Returns `None` if the
@@ -138,10 +131,10 @@ pub fn skip_values<'a>(fields: &Fields, bytes: &'a [u8]) -> Option<&'a [u8]>
 {
     let mut rest = bytes;
     for run in fields.runs() {
-        let (_fixed, behind) = read_bytes(*run as usize, rest)?;
+        let (_fixed, behind) = rest.split_at_checked(*run as usize)?;
         let (_value, after) = read_variable(behind)?;
         rest = after;
     }
-    let (_fixed, after) = read_bytes(fields.last_run() as usize, rest)?;
+    let (_fixed, after) = rest.split_at_checked(fields.last_run() as usize)?;
     Some(after)
 }
