@@ -6,7 +6,7 @@ use Rattle.prefix_keys.specs.Text.{AddressOf}
 use Rattle.pmap_text.specs.MapModel.{Label}
 use Rattle.flow_rows.specs.Elements.{RowView}
 use Rattle.flow_uniq.specs.Key.{KeyField, Key, key_of, same_key, part_numbers}
-pub use Rattle.flow_uniq.specs.declared.totals.Totals.{Totals}
+pub use Rattle.flow_uniq.specs.declared.groups.Totals.{Totals}
 
 -- The groups of rows by their keys, and their totals.
 

@@ -10,7 +10,7 @@ use Rattle.prefix_keys.specs.declared.version.Version.TheVariants.{V4, V6}
 use Rattle.flow_rows.specs.Elements.{RowView}
 use Rattle.flow_uniq.specs.declared.codec.KeyPart.{KeyPart}
 use Rattle.flow_uniq.specs.Key.{Key, KeyPartModel, AddressPart, NumberPart, LabelPart}
-pub use Rattle.flow_uniq.specs.declared.group.Group.{Group}
+pub use Rattle.flow_uniq.specs.declared.groups.Group.{Group}
 use Rattle.flow_uniq.specs.Groups.{Totals, GroupModel}
 use Rattle.flow_uniq.specs.declared.codec.KeyPart.TheVariants as part
 use Rattle.flow_uniq.specs.declared.codec.Key as lent

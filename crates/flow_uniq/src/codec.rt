@@ -1,8 +1,11 @@
 //! Keys as bytes: the bytes that are written for the key of a row are read back as this key, part by part.
 ghost use Rattle.std.specs.Prelude.{◌≡◌, ◌++◌, ◌∷◌, ◌<◌, ◌^◌, ◌↔◌, [], IfNone, IfOk, IfSome, IsTrue, OnOk, length, option_map};
+ghost use Rattle.std.specs.Cmp.Lexicographic.{slice_cmp};
+ghost use Rattle.std.specs.Ordering.{nat_cmp};
 ghost use Rattle.label_lookup.specs.Labelling.{label_where, labelling_lent};
-ghost use Rattle.flow_uniq.specs.Key.{AddressPart, Key as Parts, LabelPart, key_of, key_part};
-ghost use Rattle.flow_uniq.specs.Inner.{AreSmall, IsCode, IsSmall, first_part, key_code, key_in, part_code, part_model};
+ghost use Rattle.flow_uniq.specs.Key.{AddressPart, Key as Parts, key_of, key_part, part_numbers};
+ghost use Rattle.flow_uniq.specs.Groups.{key_order};
+ghost use Rattle.flow_uniq.specs.Inner.{AreSmall, IsCode, IsSmall, first_part, key_code, key_in, key_model, part_code, part_model};
 
 use crate::field::KeyField;
 use flow_rows::Row;
@@ -10,6 +13,7 @@ use label_lookup::{Labeller, label_row_under};
 use prefix_keys::{Addr, Version};
 use smallvec::SmallVec;
 use std::alloc::{AllocError, Global};
+use std::cmp::Ordering;
 use std::hash::{Hash, Hasher};
 use std::marker::Model;
 
@@ -216,8 +220,6 @@ fn first_part(code: &[u8]) -> Option<(KeyPart<'_>, &[u8])>
 }
 
 impl<'a> Key<'a> {
-    ghost use Rattle.flow_uniq.specs.Inner.{key_model};
-
     /// Returns the key with this code.
     pub(crate) fn of_code(code: &'a Code) -> Key<'a>
         ensures { key_model result ≡ code.now }
@@ -234,6 +236,38 @@ impl<'a> Key<'a> {
     {
         let (part, code) = first_part(self.code)?;
         Some((part, Key { code }))
+    }
+}
+
+// Compares two parts: addresses are before numbers, and numbers before labels. IPv4 addresses are before those of IPv6,
+// and no label is before any label. Otherwise addresses and numbers compare by value, and labels by their bytes.
+fn compare_parts(a: KeyPart<'_>, b: KeyPart<'_>) -> Ordering
+    ensures { result ≡ slice_cmp nat_cmp (part_numbers (part_model a.entry)) (part_numbers (part_model b.entry)) }
+{
+    match (a, b) {
+        (KeyPart::Address(a), KeyPart::Address(b)) => {
+            let versions = a.version.width().cmp(&b.version.width());
+            versions.then(a.value.cmp(&b.value))
+        }
+        (KeyPart::Number(a), KeyPart::Number(b)) => a.cmp(&b),
+        (KeyPart::Label(a), KeyPart::Label(b)) => a.cmp(&b),
+        (KeyPart::Address(_), _) | (_, KeyPart::Label(_)) => Ordering::Less,
+        _ => Ordering::Greater,
+    }
+}
+
+/// Compares two keys by their parts from the left.
+pub fn compare_keys(a: Key<'_>, b: Key<'_>) -> Ordering
+    ensures { result ≡ key_order (key_model a.entry) (key_model b.entry) }
+{
+    match (a.split_first(), b.split_first()) {
+        (None, None) => Ordering::Equal,
+        (None, Some(_)) => Ordering::Less,
+        (Some(_), None) => Ordering::Greater,
+        (Some((x, xs)), Some((y, ys))) => match compare_parts(x, y) {
+            Ordering::Equal => compare_keys(xs, ys),
+            order => order,
+        },
     }
 }
 

@@ -1,15 +1,12 @@
-ghost use Rattle.std.specs.Prelude.{All, ◌≡◌, ◌++◌, ℕ, ◌∷◌, [], ◌+◌, ◌-◌, ◌^◌, ◌<◌, false, IsTrue, List, IfOk, OnOk, OnErr, length, map, option_map, slice_get};
+ghost use Rattle.std.specs.Prelude.{All, ◌≡◌, ◌++◌, ℕ, ◌∷◌, [], ◌+◌, ◌-◌, ◌^◌, ◌<◌, ◌≤◌, false, IsTrue, List, IfOk, OnOk, OnErr, length, map, option_map, slice_get};
 ghost use Rattle.label_lookup.specs.Labelling.{label_where, labelling_lent};
 ghost use Rattle.flow_uniq.specs.Groups.{AreOfNoRows, KeyedRow, groups_of_keyed, record_count, sorted_groups};
 ghost use Rattle.flow_uniq.specs.Key.{key_of};
 ghost use Rattle.flow_uniq.specs.Inner.{HasRow, IsCode, IsKept, group_model, kept_groups, key_in};
 
-use crate::codec::{Code, Key, write_key};
+use crate::codec::{Code, Key, compare_keys, write_key};
 use crate::field::KeyField;
-use crate::group::Group;
 use crate::keys::Keys;
-use crate::order::compare_keys;
-use crate::totals::Totals;
 use flow_rows::Row;
 use indexmap::IndexMap;
 use label_lookup::Labeller;
@@ -22,6 +19,43 @@ type Entries = IndexMap<Code, Totals, KeyHashing>;
 
 // How many groups are remembered.
 const RECENT: usize = 4096;
+
+/// The totals of the rows of a group.
+#[derive(Clone, Copy, Default)]
+pub struct Totals {
+    /// The number of rows.
+    pub records: u64,
+    /// The number of packets of all rows.
+    pub packets: u128,
+    /// The number of bytes of these packets, including IP headers.
+    pub octets: u128,
+}
+
+impl Totals {
+    ghost use Rattle.flow_uniq.specs.Inner.{IsBounded, with_row};
+
+    /// Adds a row to the totals.
+    pub fn add(&mut self, row: &Row<'_>)
+        requires bounded { IsBounded self.old }
+        requires few { self.old.records < 2 ^ 64 - 1 }
+        ensures value { self.new ≡ with_row self.old row.now }
+        ensures packets { row.now.packets ≤ 2 ^ 64 - 1 }
+        ensures octets { row.now.octets ≤ 2 ^ 64 - 1 }
+    {
+        self.records += 1;
+        self.packets += u128::from(row.packets());
+        self.octets += u128::from(row.octets());
+    }
+}
+
+/// A group of rows with one key, and their totals.
+#[derive(Clone, Copy)]
+pub struct Group<'a> {
+    /// The parts of the key, in the order of the fields.
+    pub key: Key<'a>,
+    /// The totals of its rows.
+    pub totals: Totals,
+}
 
 /// The groups of rows by their keys, in the order of the first rows, with their totals.
 #[derive(Drop)]

@@ -21,18 +21,13 @@
 mod codec;
 mod fault;
 mod field;
-mod group;
 mod groups;
 mod keys;
 mod laws;
-mod order;
-mod totals;
 
 pub use codec::{Key, KeyPart, equal_codes_are_equal_keys};
 pub use fault::KeyFault;
 pub use field::KeyField;
-pub use group::Group;
-pub use groups::Groups;
+pub use groups::{Group, Groups, Totals};
 pub use keys::Keys;
 pub use laws::{groups_divide_the_rows, sorted_groups_are_in_order};
-pub use totals::Totals;

@@ -4,7 +4,7 @@ use Rattle.std.specs.Prelude.{decimal}
 use Rattle.std.proofs.lemmas.List.{get_or-map, length-append, length-map, map_push, take_more}
 use Rattle.std.proofs.lemmas.Option.{get_or_from_slice_get, slice_get-get_or, slice_get_within}
 use Rattle.flow_uniq.specs.declared.field.KeyField.{KeyField}
-use Rattle.flow_uniq.specs.declared.group.Group.{Group}
+use Rattle.flow_uniq.specs.declared.groups.Group.{Group}
 use Rattle.flow_uniq.specs.Key.{field_name}
 use Rattle.flow_uniq.specs.Groups.{GroupModel}
 use Rattle.flow_uniq.specs.Inner.{group_model}

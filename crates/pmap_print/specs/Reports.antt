@@ -3,7 +3,7 @@ use Rattle.std.specs.Borrow.{Bor}
 use Rattle.std.specs.List.{zip}
 use Rattle.prefix_keys.specs.Print.{address_text}
 use Rattle.flow_rows.specs.Elements.{RowView}
-use Rattle.flow_uniq.specs.declared.totals.Totals.{Totals}
+use Rattle.flow_uniq.specs.declared.groups.Totals.{Totals}
 use Rattle.flow_uniq.specs.declared.field.KeyField.{KeyField}
 use Rattle.flow_uniq.specs.Key.{field_name, KeyPartModel, AddressPart, NumberPart, LabelPart}
 use Rattle.flow_uniq.specs.Groups.{GroupModel}
