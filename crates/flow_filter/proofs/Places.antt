@@ -1,10 +1,9 @@
 -- The numbers of a block's addresses as IPv6 addresses.
-use Rattle.std.proofs.Common.{◌≡◌, ℕ, ◌+◌, ◌-◌, ◌*◌, ◌/◌, ◌%◌, ◌^◌, ◌<◌, ◌≤◌, ◌&&◌, ◌==◌, Bool, true, false, Some, None, nat_le, lit<, refl, ap, ◌∙◌, arith, eq-eqb}
+use Rattle.std.proofs.Common.{◌≡◌, ℕ, ◌+◌, ◌-◌, ◌*◌, ◌/◌, ◌%◌, ◌^◌, ◌<◌, ◌≤◌, ◌&&◌, ◌==◌, Bool, true, false, nat_le, lit<, refl, ◌∙◌, arith, eq-eqb}
 use Rattle.std.proofs.lemmas.Bool.{and_from, and_parts, both_ways, eqb-true, false_from_ne_true, le-leb, leb-true}
 use Rattle.std.proofs.lemmas.Nat.{pow_pos}
-use Rattle.std.proofs.lemmas.Option.{same_Some}
 use Rattle.prefix_keys.specs.Block.{block_number, first_of, last_of, width_of}
-use Rattle.prefix_keys.specs.Conversion.{converted, mapped_prefix}
+use Rattle.prefix_keys.specs.Conversion.{mapped_prefix}
 use Rattle.prefix_keys.specs.Text.{AddressOf}
 use Rattle.prefix_keys.specs.declared.block.Block.{Block}
 use Rattle.prefix_keys.specs.declared.version.Version.{Version}
@@ -13,15 +12,6 @@ use Rattle.prefix_keys.proofs.Quotients.{above_first, below_end, block_end, quot
 use Rattle.flow_filter.specs.Condition.{covers, in_range}
 use Rattle.flow_filter.specs.Filters.{mapped_number, view_of}
 use Rattle.flow_filter.specs.Texts.{single}
-
--- the number that a conversion to IPv6 gives
-pub place_is : (version : Version) (value : ℕ) (place : AddressOf) → Some place ≡ converted V6 (version, value) → place.1 ≡ mapped_number (version, value)
-place_is V4 value place e = ap (λ (a : AddressOf). a.1) (same_Some place _ e)
-place_is V6 value place e = ap (λ (a : AddressOf). a.1) (same_Some place _ e)
-
-pub place_there : (version : Version) (value : ℕ) → None ≡ converted V6 (version, value) → ⊥
-place_there V4 value e = absurd (cc)
-place_there V6 value e = absurd (cc)
 
 -- the numbers of a block of d numbers, increased by m
 interval : (n d value m low high at : ℕ) → 0 < d → value / d * d ≡ value → low ≡ value + m → high ≡ (value / d + 1) * d - 1 + m → at ≡ n + m →

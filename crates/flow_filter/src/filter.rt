@@ -1,9 +1,10 @@
-ghost use Rattle.std.specs.Prelude.{◌≡◌, ◌++◌, ◌∷◌, [], IfErr, IfOk, Ok, OnOk, Some, false};
+ghost use Rattle.std.specs.Prelude.{◌≡◌, ◌++◌, ◌∷◌, [], IfErr, IfOk, Ok, OnOk, Some, false, true};
 ghost use Rattle.std.specs.Option.{option_eq};
 ghost use Rattle.std.specs.Str.{bytes_eq};
 ghost use Rattle.label_lookup.specs.Labelling.{label_where, labelling_lent};
 ghost use Rattle.flow_filter.specs.Condition.{filter_of, is_malformed, meets, needs_map, row_passes};
 ghost use Rattle.flow_filter.specs.Filters.{IsFault, IsRefused, number_of, texts_of};
+ghost use Rattle.flow_filter.specs.Options.{is_on_labels};
 
 use crate::fault::{FilterFault, FilterFaultKind};
 use crate::items::{mapped_number, read_ranges};
@@ -72,8 +73,7 @@ fn number_of(option: FilterOption, row: &Row<'_>) -> u128
     }
 }
 
-// Returns `true` if the address has this label. Out of line, so that `meets` needs little of the stack.
-#[inline(never)]
+// Returns `true` if the address has this label.
 fn has_label<L: Labeller>(label: &str, labeller: Option<&L>, addr: Addr) -> bool
     ensures { result ≡ option_eq bytes_eq
         (label_where (labelling_lent L.version_of L.label labeller.entry) (addr.version, addr.value)) (Some label.now) }
@@ -106,14 +106,25 @@ impl<'a> Part<'a> {
     fn meets<L: Labeller>(&self, row: &Row<'_>, labeller: Option<&L>) -> bool
         ensures { result ≡ meets (label_where (labelling_lent L.version_of L.label labeller.entry)) row.now self.now }
     {
+        if self.option.is_on_labels() {
+            return self.meets_label(row, labeller);
+        }
+        covers(self.ranges.as_slice(), number_of(self.option, row))
+    }
+
+    // Whether an address of the row has the label. Out of line, so that `meets` needs little of the stack.
+    #[inline(never)]
+    fn meets_label<L: Labeller>(&self, row: &Row<'_>, labeller: Option<&L>) -> bool
+        requires { is_on_labels self.now.0 ≡ true }
+        ensures { result ≡ meets (label_where (labelling_lent L.version_of L.label labeller.entry)) row.now self.now }
+    {
         match self.option {
             FilterOption::SourceLabel => has_label(self.text, labeller, row.src()),
             FilterOption::DestinationLabel => has_label(self.text, labeller, row.dst()),
-            FilterOption::AnyLabel => {
+            _ => {
                 has_label(self.text, labeller, row.src())
                     || has_label(self.text, labeller, row.dst())
             }
-            option => covers(self.ranges.as_slice(), number_of(option, row)),
         }
     }
 }

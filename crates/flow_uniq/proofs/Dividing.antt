@@ -3,7 +3,9 @@ use Rattle.std.proofs.Common.{◌≡◌, ℕ, ◌+◌, Bool, true, false, not, �
 use Rattle.std.specs.Prelude.{sum_by}
 use Rattle.std.specs.List.{AllByRecursion, IsDistinct, list_any}
 use Rattle.std.specs.List.Sorted.{IsPermutation}
+use Rattle.std.proofs.lemmas.Bool.{not-true}
 use Rattle.std.proofs.lemmas.List.{map-id}
+use Rattle.std.proofs.lemmas.List.Elements.{All-filter, All-from_recursion, All-weaker, filter_passes, recursion_from_All}
 use Rattle.std.proofs.lemmas.List.Filters.{length-filter_both, sum_by-filter_both}
 use Rattle.std.proofs.lemmas.List.Sums.{sum_by-cons}
 use Rattle.std.proofs.lemmas.List.Sorted.{IsPermutation-cons, IsPermutation-middle, IsPermutation-refl, IsPermutation-trans}
@@ -16,34 +18,24 @@ use Rattle.flow_uniq.proofs.Grouping.{rows_with, same_key-equiv, stands-distinct
 
 -- The keys of groups are distinct.
 
-module _ {X : Type 0} (p : X → Bool) where
-  every-filter : (P : X → Type 0) (xs : List X) → AllByRecursion P xs → AllByRecursion P (filter p xs)
-  every-filter P [] all = tt
-  every-filter P (x ∷ xs) all = by (p x) (every-filter P xs all.1)
-    where
-      by : (b : Bool) → AllByRecursion P (filter p xs) → AllByRecursion P (cond b (x ∷ filter p xs) (filter p xs))
-      by true rest = (all.0, rest)
-      by false rest = rest
-
-  distinct-filter : (same : X → X → Bool) (xs : List X) → IsDistinct same xs → IsDistinct same (filter p xs)
-  unfolding IsDistinct
-  distinct-filter same [] apart = tt
-  distinct-filter same (x ∷ xs) apart = by (p x) (distinct-filter same xs apart.1)
-    where
-      by : (b : Bool) → IsDistinct same (filter p xs) → IsDistinct same (cond b (x ∷ filter p xs) (filter p xs))
-      by true rest = (every-filter (λ y. same x y ≡ false) xs apart.0, rest)
-      by false rest = rest
+distinct-filter : {X : Type 0} (p : X → Bool) (same : X → X → Bool) (xs : List X) → IsDistinct same xs → IsDistinct same (filter p xs)
+unfolding IsDistinct
+distinct-filter p same [] apart = tt
+distinct-filter {X} p same (x ∷ xs) apart = by (p x) (distinct-filter p same xs apart.1)
+  where
+    by : (b : Bool) → IsDistinct same (filter p xs) → IsDistinct same (cond b (x ∷ filter p xs) (filter p xs))
+    by true rest =
+        let P : X → Type 0 = λ y. same x y ≡ false in
+        (recursion_from_All P (filter p xs) (All-filter p P xs (All-from_recursion P xs apart.0)), rest)
+    by false rest = rest
 
 -- the keys that are kept differ from this one
 others_differ : (k : Key) (ks : List Key) → AllByRecursion (λ o. same_key k o ≡ false) (filter (λ o. not (same_key k o)) ks)
-others_differ k [] = tt
-others_differ k (x ∷ xs) = by (same_key k x) refl (others_differ k xs)
-  where
-    by : (b : Bool) → same_key k x ≡ b → AllByRecursion (λ o. same_key k o ≡ false) (filter (λ o. not (same_key k o)) xs)
-        → AllByRecursion (λ o. same_key k o ≡ false)
-        (cond (not b) (x ∷ filter (λ o. not (same_key k o)) xs) (filter (λ o. not (same_key k o)) xs))
-    by true e rest = rest
-    by false e rest = (e, rest)
+others_differ k ks =
+    let kept = filter (λ o. not (same_key k o)) ks in
+    recursion_from_All (λ o. same_key k o ≡ false) kept
+    (All-weaker (λ o. not (same_key k o) ≡ true) (λ o. same_key k o ≡ false) (λ o h. not-true (same_key k o) h) kept
+    (filter_passes (λ o. not (same_key k o)) ks))
 
 distinct-distinct_keys : (ks : List Key) → IsDistinct same_key (distinct_keys ks)
 unfolding IsDistinct
@@ -74,12 +66,8 @@ have-more : (all : List Key) (rows : List KeyedRow)
 have-more all [] up = tt
 have-more all (r ∷ rows) up = (
   up r.0 (ap (λ b. b || list_any (same_key r.0) (map (λ x. x.0) rows)) (same_key-equiv.refl r.0)),
-  have-more all rows (λ k h. up k (ap (λ b. same_key k r.0 || b) h ∙ or_true (same_key k r.0))),
+  have-more all rows (λ k h. up k (grind (arith, h))),
 )
-  where
-    or_true : (b : Bool) → (b || true) ≡ true
-    or_true true = refl
-    or_true false = refl
 
 have-others : (d : Key) (ds : List Key) (rows : List KeyedRow) → HaveKeys (d ∷ ds) rows → HaveKeys ds (other_rows d rows)
 have-others d ds [] all = tt
@@ -174,7 +162,7 @@ module _ (f : RowView → ℕ) where
 -- A list in order is a permutation.
 
 module _ {X : Type 0} (lt : X → X → Bool) where
-  same-with_in_order : (x : X) (ys : List X) → IsPermutation (x ∷ ys) (with_in_order lt x ys)
+  pub same-with_in_order : (x : X) (ys : List X) → IsPermutation (x ∷ ys) (with_in_order lt x ys)
   same-with_in_order x [] = IsPermutation-refl (x ∷ [])
   same-with_in_order x (y ∷ ys) = by (lt y x) (same-with_in_order x ys)
     where

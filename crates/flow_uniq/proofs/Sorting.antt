@@ -1,11 +1,12 @@
 -- A list in order is the only list that ascends and keeps the order of elements that tie.
 use Rattle.std.proofs.Common.{◌≡◌, get_or, zero, suc, ◌+◌, Bool, true, false, not, ◌&&◌, cond, if◌then◌else◌, List, [], ◌∷◌, map, filter, All, true≢false, refl, sym, ap, subst, ◌∙◌, arith}
 use Rattle.std.proofs.lemmas.Bool.{and_parts, both_ways, false_from_ne_true, not-true}
-use Rattle.std.proofs.lemmas.List.Elements.{All-cons, All-filter, All-from_get_or, All-head, All-nil, All-tail, All-weaker}
-use Rattle.std.proofs.lemmas.List.Sorted.{sorted_far}
+use Rattle.std.proofs.lemmas.List.Elements.{All-cons, All-filter, All-from_get_or, All-head, All-nil, All-weaker}
+use Rattle.std.proofs.lemmas.List.Sorted.{All-permutation, sorted_far}
 use Rattle.std.specs.Cmp.{IsStrictWeakOrder}
 use Rattle.std.specs.List.Sorted.{IsSortedBy, IsStableBy, ties}
 use Rattle.flow_uniq.specs.Groups.{in_order, with_in_order}
+use Rattle.flow_uniq.proofs.Dividing.{same-with_in_order}
 
 -- two elements at the start of a list are swapped if not both are kept
 swapped : {X : Type 0} (x y : X) (xs : List X) (a b : Bool) → (a ≡ true → b ≡ true → ⊥)
@@ -98,12 +99,7 @@ module _ {X : Type 0} (lt : X → X → Bool) (o : IsStrictWeakOrder lt) where
       subst (λ j. lt (get_or (x ∷ xs) j d) (get_or xs k d) ≡ false) next (sorted_from_ascends xs r.1 k d (omega arith) (omega arith))
 
   All-with_in_order : (P : X → Type 0) (x : X) (ys : List X) → P x → All P ys → All P (with_in_order lt x ys)
-  All-with_in_order P x [] here all = All-cons P x [] here (All-nil P)
-  All-with_in_order P x (y ∷ ys) here all = by (lt y x) (All-with_in_order P x ys here (All-tail P y ys all))
-    where
-      by : (b : Bool) → All P (with_in_order lt x ys) → All P (if b then y ∷ with_in_order lt x ys else x ∷ y ∷ ys)
-      by true ih = All-cons P y (with_in_order lt x ys) (All-head P y ys all) ih
-      by false ih = All-cons P x (y ∷ ys) here all
+  All-with_in_order P x ys here all = All-permutation P (x ∷ ys) (with_in_order lt x ys) (same-with_in_order lt x ys) (All-cons P x ys here all)
 
   ascends-with_in_order : (x : X) (ys : List X) → Ascends ys → Ascends (with_in_order lt x ys)
   ascends-with_in_order x [] r = (All-nil (λ y. lt y x ≡ false), tt)
