@@ -3,7 +3,7 @@ use Rattle.std.proofs.Common.{◌≡◌, ℕ, ◌+◌, ◌-◌, ◌<◌, ◌≤�
 use Rattle.std.specs.Fmt.{decimal}
 use Rattle.std.specs.List.{list_any}
 use Rattle.std.specs.Str.{bytes_eq}
-use Rattle.std.proofs.lemmas.Bool.{both_ways, false_from_ne_true, leb-true, lt-ltb}
+use Rattle.std.proofs.lemmas.Bool.{both_ways, false_from_ne_true, leb-true}
 use Rattle.std.proofs.lemmas.List.Elements.{All-weaker}
 use Rattle.std.proofs.lemmas.List.Sums.{AllPass-from_list_all}
 use Rattle.std.proofs.lemmas.Grind.{common_steps}
@@ -18,7 +18,7 @@ use Rattle.prefix_keys.specs.declared.version.Version.{Version}
 use Rattle.prefix_keys.specs.declared.version.Version.TheVariants.{V4, V6}
 use Rattle.prefix_keys.proofs.ReadBack.{block_is_read_back}
 use Rattle.pmap_text.specs.Label.{declared_text, label_number, meant_text, is_label, with_label}
-use Rattle.pmap_text.specs.Reading.{behind_word, content_of, first_word, Earlier, block_line, content_line, has_prefix, has_room, label_of, mapping_limit, no_lines, number_in, placed_line, statement_line}
+use Rattle.pmap_text.specs.Reading.{behind_word, content_of, first_word, Earlier, block_line, content_line, label_of, no_lines, number_in, placed_line, statement_line}
 use Rattle.pmap_text.specs.ListModel.{Prefix}
 use Rattle.pmap_text.specs.MapModel.{Label}
 use Rattle.pmap_text.specs.declared.form.Form.{Form}
@@ -44,7 +44,7 @@ word-line kind earlier word label some high is =
     ∙ ap (statement_line kind earlier word) (line-behind_word word label some high is)
 
 -- a label is read as itself if no number is declared
-label_of-label : (label : Label) → is_label label ≡ true → label_of label ≡ Ok label
+pub label_of-label : (label : Label) → is_label label ≡ true → label_of label ≡ Ok label
 label_of-label [] is = absurd (both_ways false refl is)
 label_of-label (b ∷ bs) is = rw is refl
 
@@ -52,7 +52,7 @@ meant-number : (label : Label) (number : Option ℕ) → unwrap_or (option_and_t
 meant-number label None = refl
 meant-number label (Some number) = refl
 
-meant-label : (label : Label) → meant_text [] label ≡ label
+pub meant-label : (label : Label) → meant_text [] label ≡ label
 meant-label label = meant-number label (label_number label)
 
 -- the line of the name
@@ -132,20 +132,8 @@ entered form.Map version p earlier = record earlier {
   table = with_label earlier.table p.label;
 }
 
--- if there is room, the line of an entry is read as that entry
-placed-list : (earlier : Earlier) (version : Version) (p : Prefix) → is_label p.label ≡ true → earlier.declared ≡ []
-    → has_prefix earlier.prefixes p.start p.bits ≡ false → length earlier.prefixes < mapping_limit → has_room earlier.table p.label ≡ true
-    → placed_line form.List earlier version p.start p.bits p.label ≡ Ok (entered form.List version p earlier)
-placed-list earlier version p is none new few room =
-    rw (label_of-label p.label is, none, meant-label p.label, new, lt-ltb _ _ few, room) refl
-
-placed-map : (earlier : Earlier) (version : Version) (p : Prefix) → is_label p.label ≡ true → earlier.declared ≡ []
-    → length earlier.mappings < mapping_limit → has_room earlier.table p.label ≡ true
-    → placed_line form.Map earlier version p.start p.bits p.label ≡ Ok (entered form.Map version p earlier)
-placed-map earlier version p is none few room =
-    rw (label_of-label p.label is, none, meant-label p.label, lt-ltb _ _ few, room) refl
-
-placed-entry : (kind : Form) (earlier : Earlier) (version : Version) (p : Prefix) → IsPrintedEntry version p → earlier.version ≡ Some version
+-- the line of an entry is read as its block and its label
+pub placed-entry : (kind : Form) (earlier : Earlier) (version : Version) (p : Prefix) → IsPrintedEntry version p → earlier.version ≡ Some version
     → content_line kind earlier (content_of (entry_line version p)) ≡ placed_line kind earlier version p.start p.bits p.label
 placed-entry kind earlier version p is decided =
     let word = block_text version p.start p.bits in
@@ -155,16 +143,3 @@ placed-entry kind earlier version p is decided =
     ∙ block-statement kind earlier word p.label (slash-in (address_text version p.start) (decimal p.bits))
     ∙ ap (λ (r : Result BlockOf BlockFault). block_line kind earlier r p.label) (read-block version p is)
     ∙ own-block kind earlier version p.start p.bits p.label decided
-
-pub list-entry : (earlier : Earlier) (version : Version) (p : Prefix) → IsPrintedEntry version p → earlier.version ≡ Some version
-    → earlier.declared ≡ [] → has_prefix earlier.prefixes p.start p.bits ≡ false → length earlier.prefixes < mapping_limit
-    → has_room earlier.table p.label ≡ true
-    → content_line form.List earlier (content_of (entry_line version p)) ≡ Ok (entered form.List version p earlier)
-list-entry earlier version p is decided none new few room =
-    placed-entry form.List earlier version p is decided ∙ placed-list earlier version p is.label none new few room
-
-pub map-entry : (earlier : Earlier) (version : Version) (p : Prefix) → IsPrintedEntry version p → earlier.version ≡ Some version
-    → earlier.declared ≡ [] → length earlier.mappings < mapping_limit → has_room earlier.table p.label ≡ true
-    → content_line form.Map earlier (content_of (entry_line version p)) ≡ Ok (entered form.Map version p earlier)
-map-entry earlier version p is decided none few room =
-    placed-entry form.Map earlier version p is decided ∙ placed-map earlier version p is.label none few room

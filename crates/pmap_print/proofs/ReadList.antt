@@ -1,8 +1,10 @@
 -- The printed text of a list, read as a list and as a map.
 use Rattle.std.proofs.Common.{◌≡◌, ℕ, ◌+◌, ◌≤◌, ◌==◌, ◌&&◌, ◌∙◌, true, false, List, [], ◌∷◌, ◌++◌, All, Option, Some, None, Result, Ok, codes, fold, get_or, length, map, refl, sym, ap, subst, arith, IsTrue}
 use Rattle.std.specs.List.{AllByRecursion, IsDistinct, list_any}
+use Rattle.std.specs.Prelude.{nat_lt}
 use Rattle.std.specs.Option.{ForSome}
 use Rattle.std.proofs.lemmas.Bool.Decides.{nat_tests}
+use Rattle.std.proofs.lemmas.Bool.{lt-ltb}
 use Rattle.std.proofs.lemmas.List.{append_assoc, append-nil, get_or_append_left, get_or_at, length-append, length-map, map-append}
 use Rattle.std.proofs.lemmas.List.Elements.{recursion_from_All}
 use Rattle.std.proofs.lemmas.List.Folds.{list_any_none}
@@ -13,7 +15,7 @@ use Rattle.prefix_keys.specs.declared.version.Version.{Version}
 use Rattle.pmap_text.specs.Label.{is_label, with_label}
 use Rattle.pmap_text.specs.ListModel.{Prefix}
 use Rattle.pmap_text.specs.MapModel.{Label, Mapping}
-use Rattle.pmap_text.specs.Reading.{content_line, content_of, Earlier, has_room, label_limit, lines_read, mapping_limit, no_lines}
+use Rattle.pmap_text.specs.Reading.{content_line, content_of, Earlier, has_prefix, has_room, label_limit, lines_read, mapping_limit, no_lines}
 use Rattle.pmap_text.specs.declared.fault.MapFaultKind.{MapFaultKind}
 use Rattle.pmap_text.specs.declared.form.Form.{Form}
 use Rattle.pmap_text.specs.declared.form.Form.TheVariants as form
@@ -21,7 +23,7 @@ use Rattle.pmap_text.proofs.ProgressSteps.{length-with_label}
 use Rattle.pmap_print.proofs.LastMatch.{mapping_of_prefix}
 use Rattle.pmap_print.specs.List.{entry_line, mode_text, name_lines, starts_alike, IsPrintedEntry, labels_of}
 use Rattle.pmap_print.specs.Table.{Text}
-use Rattle.pmap_print.proofs.ReadLines.{entered, list-entry, map-entry, mode-entry, name-entry}
+use Rattle.pmap_print.proofs.ReadLines.{entered, label_of-label, meant-label, mode-entry, name-entry, placed-entry}
 
 -- the entries that were read are these
 abbrev pub AreEntries : Form → Version → Earlier → List Prefix → Type 0
@@ -96,12 +98,17 @@ next-entry : (kind : Form) (version : Version) (name : Option Label) (earlier : 
     → length (done ++ p ∷ ps) ≤ mapping_limit → length (labels_of (done ++ p ∷ ps)) ≤ label_limit
     → content_line kind earlier (content_of (entry_line version p)) ≡ Ok (entered kind version p earlier)
 next-entry form.List version name earlier done p ps has is distinct few few_labels =
-    list-entry earlier version p is has.version_is has.declared (rw has.entries (block-new done p ps distinct))
-    (rw has.entries (omega (arith, few, length-append done (p ∷ ps)))) (rw has.table (entry-room done p ps few_labels))
+    let new : has_prefix earlier.prefixes p.start p.bits ≡ false = rw has.entries (block-new done p ps distinct) in
+    let limit : nat_lt (length earlier.prefixes) mapping_limit ≡ true = rw has.entries (lt-ltb _ _ (omega (arith, few, length-append done (p ∷ ps)))) in
+    let room : has_room earlier.table p.label ≡ true = rw has.table (entry-room done p ps few_labels) in
+    placed-entry form.List earlier version p is has.version_is
+    ∙ rw (label_of-label p.label is.label, has.declared, meant-label p.label, new, limit, room) refl
 next-entry form.Map version name earlier done p ps has is distinct few few_labels =
-    map-entry earlier version p is has.version_is has.declared
-    (rw has.entries (omega (arith, few, length-append done (p ∷ ps), length-map done (mapping_of_prefix (width_of version)))))
-    (rw has.table (entry-room done p ps few_labels))
+    let limit : nat_lt (length earlier.mappings) mapping_limit ≡ true = rw has.entries
+    (lt-ltb _ _ (omega (arith, few, length-append done (p ∷ ps), length-map done (mapping_of_prefix (width_of version))))) in
+    let room : has_room earlier.table p.label ≡ true = rw has.table (entry-room done p ps few_labels) in
+    placed-entry form.Map earlier version p is has.version_is
+    ∙ rw (label_of-label p.label is.label, has.declared, meant-label p.label, limit, room) refl
 
 -- the lines of the other entries are read
 abbrev AllRead : Form → Version → Option Label → Earlier → ℕ → List Prefix → List Prefix → Type 0
