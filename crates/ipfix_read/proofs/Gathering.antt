@@ -104,9 +104,6 @@ pub none_follow : (bytes : List ℕ) (n : Option (List ℕ)) → IsAtEnd n → b
 none_follow bytes None end = append-nil bytes
 none_follow bytes (Some left) end = ap (λ (l : List ℕ). bytes ++ l) end ∙ append-nil bytes
 
-pub unread_header : (o n : Option (List ℕ)) (count : ℕ) (ys : List ℕ) → length ys ≡ 16 → ReadsInput o n (λ taken left. length taken < length ys) → ReadsInput o n (Gathers count (Err Unread))
-unread_header o n count ys sixteen r = (r.0, r.1, inl (refl, inl (header_short count r.0 (omega (arith, r.2, sixteen)))))
-
 -- the fault and the length that a header at the start gives
 same_fault : (count : ℕ) (xs ys more : List ℕ) → length ys ≡ 16 → own_fault count (ys ++ more) ≡ own_fault count (head_of xs ys)
 same_fault count xs ys more sixteen = own_ahead count ys more (omega (arith, sixteen)) ∙ ap (λ (l : List ℕ). own_fault count l) (sym (head_is xs ys sixteen))
@@ -116,14 +113,6 @@ same_length xs ys more sixteen = written_ahead ys more (omega (arith, sixteen)) 
 
 -- the first read
 module _ (o n : Option (List ℕ)) (count head : ℕ) (ys : List ℕ) (given : Consumes o n (take head ys)) where
-  pub nothing_left : head ≡ 0 → IsAtEnd n → ReadsInput o n (Gathers count (Ok None))
-  nothing_left none end = (take head ys, given, none_follow (take head ys) n end ∙ ap (λ (k : ℕ). take k ys) none)
-
-  pub short_header : 0 < head → head < 16 → head ≤ length ys → IsAtEnd n → ReadsInput o n (Gathers count (Err TruncatedHeader))
-  short_header some short within end =
-      let long = length-take-le head ys within in
-      (take head ys, given, inr (refl, omega (arith, long, some), ap (λ (l : List ℕ). header_fault count l) (none_follow (take head ys) n end) ∙ header_short count (take head ys) (omega (arith, long, short))))
-
   module _ (xs : List ℕ) (sixteen : length ys ≡ 16) (whole : 16 ≤ head) where
     all_given : Consumes o n ys
     all_given = subst (λ (l : List ℕ). Consumes o n l) (take_all head ys (omega (arith, sixteen, whole))) given

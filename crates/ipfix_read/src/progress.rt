@@ -72,16 +72,13 @@ fn gather<'b, R: Input>(
     ensures device { R.failed reader.old ≡ false → MatchResult result (λ _. R.failed reader.new ≡ false)
         (λ kind. R.failed reader.new ≡ is_of_reader kind) }
 {
-    let head = fill(reader, &mut buffer[..HEADER_LENGTH])?;
-    if head == 0 {
-        return Ok(None);
-    }
-    if head < HEADER_LENGTH {
-        return Err(ReadFaultKind::TruncatedHeader);
+    match fill(reader, &mut buffer[..HEADER_LENGTH])? {
+        0 => return Ok(None),
+        HEADER_LENGTH => {}
+        _ => return Err(ReadFaultKind::TruncatedHeader),
     }
     let size = header_length(count, &buffer[..HEADER_LENGTH])?;
-    let got = fill(reader, &mut buffer[HEADER_LENGTH..size])?;
-    if got < size - HEADER_LENGTH {
+    if fill(reader, &mut buffer[HEADER_LENGTH..size])? < size - HEADER_LENGTH {
         return Err(ReadFaultKind::TruncatedMessage);
     }
     Ok(Some(&buffer[..size]))
