@@ -109,7 +109,8 @@ impl<'a> Part<'a> {
         if self.option.is_on_labels() {
             return self.meets_label(row, labeller);
         }
-        covers(self.ranges.as_slice(), number_of(self.option, row))
+        let number = number_of(self.option, row);
+        covers(self.ranges.as_slice(), number)
     }
 
     // Whether an address of the row has the label. Out of line, so that `meets` needs little of the stack.

@@ -25,6 +25,6 @@ pub fn covers(ranges: &[Range], number: u128) -> bool
     requires { AreAscending ranges.now }
     ensures { result ≡ in_ranges ranges.now number }
 {
-    let at = ranges.partition_point(|range| range.high < number);
-    at < ranges.len() && ranges[at].low <= number
+    let begun = ranges.partition_point(|range| range.low <= number);
+    begun > 0 && number <= ranges[begun - 1].high
 }

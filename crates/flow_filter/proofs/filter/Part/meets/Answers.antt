@@ -7,7 +7,7 @@ pub returns : goal.returns
 returns g c =
     let label = label_where (labelling_lent g.L.Labeller.version_of g.L.Labeller.label c.args.labeller) in
     rw (← c.self.view_is)
-    (c.covers.ensures ∙ (λ i. in_ranges (c.as_slice.ensures.value i) (c.number_of.ensures i))
+    (c.covers.ensures ∙ (λ i. in_ranges (c.as_slice.ensures.value i) (c.number_of-number.ensures i))
     ∙ sym (c.self.invariant.numbers (sym c.is_on_labels.ensures ∙ c.if-is_on_labels.false) label c.args.row.now))
 
 pub covers-requires : goal.covers-requires
