@@ -21,7 +21,7 @@ use pmap_cert::{
     CertFault, CertFaultKind, Certificate, Frame, Head, acceptance_is_enough, read_head, skip_node,
     text_of_format_is_read_or_has_a_fault, write_cert,
 };
-use pmap_text::{KeyHashing, MapText, PrefixList, Stretches, Window, in_order};
+use pmap_text::{KeyHashing, MapText, PrefixList, Stretches, Window, in_order, sorted_or};
 use prefix_keys::Version;
 use std::alloc::Global;
 
@@ -52,7 +52,8 @@ fn check_root(
         map_numbers: numbers_in(alloc, &map.labels, frame.labels)?,
         list_numbers: numbers_in(alloc, &list.labels, frame.labels)?,
     };
-    let entries = in_order(alloc, list.entries.as_slice())?;
+    let sorted = in_order(alloc, &list.entries)?;
+    let entries = sorted_or(&sorted, &list.entries).to_vec(alloc)?;
     let space = Part::new(Window::whole(&sources.stretches), entries.as_slice(), None);
     let cost = check_node(&sources, walk, &space)?;
     if list.entries.len() as u64 > u64::from(cost) + 1 {

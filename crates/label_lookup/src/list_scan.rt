@@ -3,7 +3,7 @@ ghost use Rattle.pmap_text.specs.PrefixList.{list_of};
 ghost use Rattle.label_lookup.specs.Labelling.{IsLongest};
 
 use crate::labeller::Labeller;
-use pmap_text::{Entry, PrefixList};
+use pmap_text::{Entries, Entry, PrefixList};
 use prefix_keys::{Addr, Version};
 use std::marker::Model;
 
@@ -45,19 +45,20 @@ impl<'a> Labeller for ListScan<'a> {
     }
 
     fn label_of(&self, addr: Addr) -> Option<&[u8]> {
-        let entry = longest(self.list.entries.as_slice(), addr)?;
+        let entry = longest(&self.list.entries, addr)?;
         self.list.labels.text(entry.label)
     }
 }
 
 // Returns the first of the longest entries that cover an address.
-fn longest(entries: &[Entry], addr: Addr) -> Option<Entry>
+fn longest(entries: &Entries, addr: Addr) -> Option<Entry>
     ensures { IsLongest entries.now addr result }
 {
     let mut found: Option<Entry> = None;
-    for entry in entries {
+    for place in 0..entries.len() {
+        let entry = entries.at(place);
         if entry.block.covers(&addr) {
-            found = Some(longer(found, *entry));
+            found = Some(longer(found, entry));
         }
     }
     found

@@ -2,7 +2,7 @@
 ghost use Rattle.std.specs.Prelude.{◌≡◌, ◌<◌, IfOk, length};
 ghost use Rattle.pmap_minimise.specs.Numbers.{IsOwn, has_number, numbers_of};
 
-use pmap_text::{Entry, LabelId};
+use pmap_text::{Entries, Entry, LabelId};
 use prefix_keys::Block;
 use std::alloc::AllocError;
 
@@ -15,13 +15,13 @@ pub fn has_label(labels: &[LabelId], id: LabelId) -> bool
 
 /// Adds the own entry of a node with these labels, if it has one, and returns the label that the node passes on.
 pub fn push_own(
-    entries: &mut Vec<Entry>,
+    entries: &mut Entries,
     labels: &[LabelId],
     block: Block,
     inherited: Option<LabelId>,
 ) -> Result<LabelId, AllocError>
     requires { 0 < length labels.now }
-    ensures { IfOk result (IsOwn labels.now block inherited entries.old.items entries.new.items) }
+    ensures { IfOk result (IsOwn labels.now block inherited entries.old entries.new) }
 {
     if let Some(id) = inherited
         && has_label(labels, id)

@@ -8,14 +8,14 @@ ghost use Rattle.pmap_minimise.specs.Opened.{IsSoundAt, Opens};
 
 use crate::entering::push_own;
 use pmap_cert::{Cursor, Node, Root, cursor_of};
-use pmap_text::{Entry, LabelId};
+use pmap_text::{Entries, LabelId};
 use prefix_keys::{Block, Version, whole_space};
 use std::alloc::{AllocError, Global};
 use std::slice;
 
 // Adds the entries of the node at the cursor for the block `here`. The cursor moves past the node.
 fn push_entries(
-    entries: &mut Vec<Entry>,
+    entries: &mut Entries,
     at: &mut Cursor<'_>,
     here: &Block,
     inherited: Option<LabelId>,
@@ -23,7 +23,7 @@ fn push_entries(
     requires { IsSoundAt at.old (width_of here.now.version - here.now.len) }
     ensures next { OnOk result (at.new ≡ drop 1 at.old) }
     ensures adds { OnOk result ((node : AnyNode) → Opens (first_node at.old) node
-        → AddsEntries node here.now inherited entries.old.items entries.new.items) }
+        → AddsEntries node here.now inherited entries.old entries.new) }
 {
     let node = at.node();
     *at = at.next();
@@ -48,15 +48,13 @@ fn push_entries(
 }
 
 /// Returns the entries of the shortest list by ascending first address, by the root of a map's certificate.
-pub fn entries_of(alloc: Global, root: &Root, version: Version) -> Result<Vec<Entry>, AllocError>
+pub fn entries_of(alloc: Global, root: &Root, version: Version) -> Result<Entries, AllocError>
     requires { (node : AnyNode) × IsSound node (width_of version) × Opens root.now node }
     ensures { IfOk result (λ entries. (node : AnyNode) → Opens root.now node
-        → IsListedBy version node entries.items) }
+        → IsListedBy version node entries) }
 {
     let mut at = cursor_of(root);
-    // The list has one entry more than the root's cost.
-    let count = (at.claim().cost as usize).saturating_add(1);
-    let mut entries = Vec::with_capacity(alloc, count)?;
+    let mut entries = Entries::new(alloc);
     push_entries(&mut entries, &mut at, &whole_space(version), None)?;
     Ok(entries)
 }

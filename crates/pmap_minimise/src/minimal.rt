@@ -17,7 +17,7 @@ use crate::entries::entries_of;
 use crate::opened::push_opened;
 use label_trie::Trie;
 use pmap_cert::{Certificate, Format, Root, minimal_pair_is_accepted, push_head, write_cert};
-use pmap_text::{Entries, Entry, Labels, MapText, Name, PrefixList, Stretches};
+use pmap_text::{Entries, Labels, MapText, Name, PrefixList, Stretches};
 use prefix_keys::Version;
 use std::alloc::{AllocError, Global};
 
@@ -133,14 +133,14 @@ fn compact_root(alloc: Global, map: MapText) -> Result<(Root, Labels), AllocErro
     Ok((root, map.labels))
 }
 
-fn list_with(version: Version, name: Option<Name>, labels: Labels, items: Vec<Entry>) -> PrefixList
-    requires versions { All (λ e. e.block.version ≡ version) items.items }
-    requires known { All (λ e. e.label.0 < length labels) items.items }
-    requires distinct { HasDistinctBlocks items.items }
+fn list_with(version: Version, name: Option<Name>, labels: Labels, entries: Entries) -> PrefixList
+    requires versions { All (λ e. e.block.version ≡ version) entries }
+    requires known { All (λ e. e.label.0 < length labels) entries }
+    requires distinct { HasDistinctBlocks entries }
     ensures { list_of result ≡ record {
       version = version;
       name = name;
-      prefixes = map (prefix_of labels) items.items;
+      prefixes = map (prefix_of labels) entries;
       table = labels;
     } }
 {
@@ -149,7 +149,7 @@ fn list_with(version: Version, name: Option<Name>, labels: Labels, items: Vec<En
     PrefixList {
         version,
         name,
-        entries: Entries::from_distinct(items),
+        entries,
         labels,
     }
 }

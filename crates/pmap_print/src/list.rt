@@ -4,7 +4,7 @@ ghost use Rattle.pmap_cert.specs.CertificateText.{text_of_lines};
 ghost use Rattle.pmap_print.specs.List.{entry_line, list_text, mode_text, name_lines};
 ghost use Rattle.pmap_text.specs.PrefixList.{list_of, prefix_of};
 
-use pmap_text::{Entry, Labels, PrefixList, in_order};
+use pmap_text::{Entry, Labels, PrefixList, in_order, sorted_or};
 use prefix_keys::{Version, print_block};
 use std::alloc::{AllocError, Global};
 
@@ -35,9 +35,10 @@ pub fn print_list(alloc: Global, list: &PrefixList) -> Result<Vec<u8>, AllocErro
         Version::V4 => b"mode ipv4\n",
         Version::V6 => b"mode ipv6\n",
     })?;
-    let sorted = in_order(alloc, list.entries.as_slice())?;
-    for entry in sorted.as_slice() {
-        print_entry(&mut out, entry, &list.labels)?;
+    let sorted = in_order(alloc, &list.entries)?;
+    let entries = sorted_or(&sorted, &list.entries);
+    for place in 0..entries.len() {
+        print_entry(&mut out, &entries.at(place), &list.labels)?;
     }
     Ok(out)
 }

@@ -1,5 +1,5 @@
 -- Packed mappings.
-use Rattle.std.proofs.Common.{◌≡◌, ℕ, ◌+◌, ◌-◌, ◌<◌, ◌≤◌, ◌^◌, List, [], ◌∷◌, ◌++◌, Some, length, map, get_or, slice_get, ap, sym, ◌∙◌, arith}
+use Rattle.std.proofs.Common.{◌≡◌, ℕ, ◌+◌, ◌-◌, ◌<◌, ◌≤◌, ◌%◌, ◌^◌, List, [], ◌∷◌, ◌++◌, Some, length, map, get_or, slice_get, ap, sym, ◌∙◌, arith}
 use Rattle.std.proofs.Props.{props}
 use Rattle.std.proofs.lemmas.List.{append-nil, append_assoc, get_or-map, get_or-append_right, length-append, length-map, map-append, nil_from_length}
 use Rattle.std.proofs.lemmas.Option.{slice_get-get_or}
@@ -9,6 +9,7 @@ use Rattle.prefix_keys.specs.declared.addr.Addr.{Addr}
 use Rattle.prefix_keys.specs.declared.span.Span.{Span}
 use Rattle.pmap_text.specs.Packed.{narrow_statement, wide_statement, Narrow, Wide}
 use Rattle.pmap_text.specs.declared.statement.Statement.{Statement}
+use Rattle.pmap_text.specs.declared.entry.Entry.{Entry}
 
 -- addresses, spans and statements are equal if their parts are
 pub addr-same : (a b : Addr) → a.version ≡ b.version → a.value ≡ b.value → a ≡ b
@@ -30,6 +31,20 @@ span-same s t low high =
 
 pub statement-same : (s t : Statement) → s.span.low ≡ t.span.low → s.span.high ≡ t.span.high → s.label ≡ t.label → s ≡ t
 statement-same s t low high label = λ i. record { span = span-same s.span t.span low high i; label = label i }
+
+pub entry-same : (d e : Entry) → d.block.version ≡ e.block.version → d.block.value ≡ e.block.value → d.block.len ≡ e.block.len → d.label ≡ e.label → d ≡ e
+entry-same d e version value len label =
+    λ i. record {
+      block = record {
+        version = version i;
+        value = value i;
+        len = len i;
+        len_in_range = is_prop→PathP (λ i. len i ≤ width_of (version i)) (λ i. hlevel props) d.block.len_in_range e.block.len_in_range i;
+        in_range = is_prop→PathP (λ i. value i < 2 ^ width_of (version i)) (λ i. hlevel props) d.block.in_range e.block.in_range i;
+        no_host_bit = is_prop→PathP (λ i. value i % 2 ^ (width_of (version i) - len i) ≡ 0) (λ i. hlevel props) d.block.no_host_bit e.block.no_host_bit i;
+      };
+      label = label i;
+    }
 
 pub packed-right : (ns : List Narrow) (ws : List Wide) (i k : ℕ) (w : Wide) (s : Statement) → k + length ns ≡ i → w ≡ get_or ws k w
     → k < length ws → s ≡ wide_statement w → slice_get (map narrow_statement ns ++ map wide_statement ws) i ≡ Some s

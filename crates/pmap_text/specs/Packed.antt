@@ -1,10 +1,12 @@
 use Rattle.prefix_keys.specs.declared.version.Version.TheVariants.{V4}
 pub use Rattle.pmap_text.specs.declared.packed.Narrow.{Narrow}
 pub use Rattle.pmap_text.specs.declared.packed.Wide.{Wide}
+pub use Rattle.pmap_text.specs.declared.packed.NarrowEntry.{NarrowEntry}
+use Rattle.pmap_text.specs.declared.entry.Entry.{Entry}
 use Rattle.pmap_text.specs.declared.statement.Statement.{Statement}
 use Rattle.std.proofs.Common.{refl}
 
--- How mappings are stored. This is private, and callers of the crate need not read it.
+-- How mappings and entries are stored. This is private, and callers of the crate need not read it.
 
 abbrev pub narrow_statement : Narrow → Statement
 narrow_statement n = record {
@@ -26,4 +28,17 @@ wide_statement w = record {
     ordered = w.ordered;
   };
   label = w.label;
+}
+
+abbrev pub narrow_entry : NarrowEntry → Entry
+narrow_entry n = record {
+  block = record {
+    version = V4;
+    value = n.value;
+    len = n.len;
+    len_in_range = n.len_in_range;
+    in_range = n.in_range;
+    no_host_bit = n.no_host_bit;
+  };
+  label = n.label;
 }

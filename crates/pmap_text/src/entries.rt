@@ -1,49 +1,109 @@
-ghost use Rattle.std.specs.Prelude.{◌≡◌, length};
-ghost use Rattle.pmap_text.specs.ListEntries.{HasDistinctBlocks};
+ghost use Rattle.std.specs.Prelude.{◌≡◌, ◌<◌, ◌++◌, ◌∷◌, [], IfOk, OnErr, OnOk, Some, length, slice_get};
+ghost use Rattle.prefix_keys.specs.declared.version.Version.TheVariants.{V4};
+ghost use Rattle.pmap_text.specs.Packed.{narrow_entry};
 
 use crate::entry::Entry;
+use crate::packed::NarrowEntry;
+use prefix_keys::{Block, Version};
+use std::alloc::{AllocError, Global};
 use std::marker::Model;
 
-/// The entries of a prefix list, in the order of the text. No two have blocks with the same start and length.
+/// The entries of a prefix list, in order. An entry takes 12 bytes for IPv4, and 48 for IPv6.
 #[derive(Drop)]
 pub struct Entries {
-    items: Vec<Entry>,
+    narrow: Vec<NarrowEntry>,
+    wide: Vec<Entry>,
 }
 
 impl Model for Entries {
-    ghost use Rattle.std.specs.Prelude.{List};
-    ghost use Rattle.pmap_text.specs.ListEntries.{HasDistinctBlocks};
+    ghost use Rattle.std.specs.Prelude.{List, map, ◌++◌};
+    ghost use Rattle.pmap_text.specs.Packed.{narrow_entry};
     ghost use Rattle.pmap_text.specs.declared.entry.Entry.{Entry};
 
     ghost Value = { List Entry };
 
-    ghost view = { λ l. l.items.items };
+    ghost view = { λ l. map narrow_entry l.narrow.items ++ l.wide.items };
+}
 
-    ghost invariant = { λ l. HasDistinctBlocks l.items.items };
+// Unpacks an IPv4 entry.
+fn unpack(packed: NarrowEntry) -> Entry
+    ensures { result ≡ narrow_entry packed }
+{
+    Entry {
+        block: Block {
+            version: Version::V4,
+            value: u128::from(packed.value),
+            len: packed.len,
+        },
+        label: packed.label,
+    }
+}
+
+// Packs an IPv4 entry.
+#[inline(always)]
+fn pack(entry: Entry) -> NarrowEntry
+    requires { entry.block.version ≡ V4 }
+    ensures { narrow_entry result ≡ entry }
+{
+    NarrowEntry {
+        value: entry.block.value as u32,
+        len: entry.block.len,
+        label: entry.label,
+    }
 }
 
 impl Entries {
-    /// Returns the list of these entries, whose blocks must be distinct.
-    pub fn from_distinct(items: Vec<Entry>) -> Entries
-        requires { HasDistinctBlocks items.items }
-        ensures { result ≡ items.items }
+    /// Returns an empty list.
+    pub fn new(alloc: Global) -> Entries
+        ensures { result ≡ [] }
     {
-        Entries { items }
+        Entries {
+            narrow: Vec::new(alloc),
+            wide: Vec::new(alloc),
+        }
     }
 
     /// Returns the number of entries.
     pub fn len(&self) -> usize
-        ensures value { result ≡ length self.now }
-        ensures distinct { HasDistinctBlocks self.now }
+        ensures { result ≡ length self.now }
     {
-        self.items.len()
+        self.narrow.len() + self.wide.len()
     }
 
-    /// Returns the entries in order.
-    pub fn as_slice(&self) -> &[Entry]
-        ensures value { result.now ≡ self.now }
-        ensures distinct { HasDistinctBlocks self.now }
+    /// Returns the entry at an index.
+    pub fn at(&self, place: usize) -> Entry
+        requires { place < length self.now }
+        ensures { slice_get self.now place ≡ Some result }
     {
-        self.items.as_slice()
+        if place < self.narrow.len() {
+            unpack(self.narrow[place])
+        } else {
+            self.wide[place - self.narrow.len()]
+        }
+    }
+
+    /// Returns the entries in order, unpacked.
+    pub fn to_vec(&self, alloc: Global) -> Result<Vec<Entry>, AllocError>
+        ensures { IfOk result (λ all. all.items ≡ self.now) }
+    {
+        let mut all = Vec::with_capacity(alloc, self.len())?;
+        for place in 0..self.len() {
+            all.push(self.at(place))?;
+        }
+        Ok(all)
+    }
+
+    /// Appends an entry. If an allocation fails, the list is unchanged.
+    #[inline(always)]
+    pub fn push(&mut self, entry: Entry) -> Result<(), AllocError>
+        ensures ok { OnOk result (self.new ≡ self.old ++ entry ∷ []) }
+        ensures err { OnErr result (self.new ≡ self.old) }
+    {
+        if entry.block.version == Version::V4 && self.wide.is_empty() {
+            self.narrow.push(pack(entry))?;
+        } else {
+            self.wide.push(entry)?;
+        }
+        Ok(())
     }
 }

@@ -5,8 +5,8 @@ ghost use Rattle.pmap_text.specs.ListModel.{list_label};
 ghost use Rattle.pmap_text.specs.PrefixList.{AreShortestFirst, HasStatement, list_of};
 ghost use Rattle.pmap_text.specs.Stretches.{text_won};
 
-use crate::entry::Entry;
-use crate::order::in_order;
+use crate::entries::Entries;
+use crate::order::{in_order, sorted_or};
 use crate::prefix_list::PrefixList;
 use crate::statement::Statement;
 use crate::statements::Statements;
@@ -20,16 +20,17 @@ pub fn statements_of_list(alloc: Global, list: &PrefixList) -> Result<Statements
     ensures labels { IfOk result (λ ss. (a : ℕ) →
         text_won list.now.labels None ss a ≡ list_label (list_of list.now) a) }
 {
-    let sorted = in_order(alloc, list.entries.as_slice())?;
-    statements_of(alloc, sorted.as_slice())
+    let sorted = in_order(alloc, &list.entries)?;
+    statements_of(alloc, sorted_or(&sorted, &list.entries))
 }
 
 // Returns the entries as statements, in their own order.
-fn statements_of(alloc: Global, entries: &[Entry]) -> Result<Statements, AllocError>
+fn statements_of(alloc: Global, entries: &Entries) -> Result<Statements, AllocError>
     ensures { IfOk result (λ statements. AllZip HasStatement entries.now statements) }
 {
     let mut statements = Statements::new(alloc);
-    for entry in entries {
+    for place in 0..entries.len() {
+        let entry = entries.at(place);
         statements.push(Statement {
             span: entry.block.span(),
             label: entry.label,

@@ -1,14 +1,13 @@
 //! The order of entries by their blocks: by first address, and of equal first addresses the shorter block first.
-ghost use Rattle.std.specs.Prelude.{◌≡◌, IfOk, IsTrue};
-ghost use Rattle.std.specs.Cow.{cow_slice_items};
+ghost use Rattle.std.specs.Prelude.{◌≡◌, IfOk, IsTrue, unwrap_or};
 ghost use Rattle.std.specs.List.Sorted.{IsNonDecreasingBy, IsPermutation};
 ghost use Rattle.std.specs.Ordering.{nat_cmp};
 ghost use Rattle.pmap_text.specs.ListEntries.{HasDistinctBlocks, rank_of};
 
+use crate::entries::Entries;
 use crate::entry::Entry;
 use prefix_keys::Block;
 use std::alloc::{AllocError, Global};
-use std::borrow::CowSlice;
 use std::cmp::Ordering;
 
 /// Compares two blocks by first address, and by length if these are equal.
@@ -23,27 +22,49 @@ pub fn by_rank(block: &Block, other: &Block) -> Ordering
 }
 
 /// Returns `true` if each entry comes after the one before it.
-pub fn are_in_order(entries: &[Entry]) -> bool
+pub fn are_in_order(entries: &Entries) -> bool
     ensures ascending { IsTrue result → IsNonDecreasingBy (λ e. rank_of e.block) entries.now }
     ensures distinct { IsTrue result → HasDistinctBlocks entries.now }
 {
     for i in 1..entries.len() {
-        if !by_rank(&entries[i - 1].block, &entries[i].block).is_lt() {
+        if !by_rank(&entries.at(i - 1).block, &entries.at(i).block).is_lt() {
             return false;
         }
     }
     true
 }
 
-/// Returns the entries in order. They are copied only if they aren't in order.
-pub fn in_order(alloc: Global, entries: &[Entry]) -> Result<CowSlice<'_, Entry>, AllocError>
-    ensures same { IfOk result (λ sorted. IsPermutation entries.now (cow_slice_items sorted)) }
-    ensures ascending { IfOk result (λ sorted. IsNonDecreasingBy (λ e. rank_of e.block) (cow_slice_items sorted)) }
+// Returns the list of these entries.
+fn packed(alloc: Global, entries: &[Entry]) -> Result<Entries, AllocError>
+    ensures { IfOk result (λ packed. packed ≡ entries.now) }
+{
+    let mut packed = Entries::new(alloc);
+    for entry in entries {
+        packed.push(*entry)?;
+    }
+    Ok(packed)
+}
+
+/// Returns the entries in order, or `None` if they are in order as they are.
+pub fn in_order(alloc: Global, entries: &Entries) -> Result<Option<Entries>, AllocError>
+    ensures same { IfOk result (λ sorted. IsPermutation entries.now (unwrap_or sorted entries.now)) }
+    ensures ascending { IfOk result (λ sorted.
+        IsNonDecreasingBy (λ e. rank_of e.block) (unwrap_or sorted entries.now)) }
 {
     if are_in_order(entries) {
-        return Ok(CowSlice::Borrowed(entries));
+        return Ok(None);
     }
-    let mut sorted = Vec::from_slice(alloc, entries)?;
+    let mut sorted = entries.to_vec(alloc)?;
     sorted.sort_unstable_by(|entry, other| by_rank(&entry.block, &other.block));
-    Ok(CowSlice::Owned(sorted))
+    Ok(Some(packed(alloc, sorted.as_slice())?))
+}
+
+/// Returns the entries that [`in_order`] has sorted, or the given ones if they were in order.
+pub fn sorted_or<'a>(sorted: &'a Option<Entries>, given: &'a Entries) -> &'a Entries
+    ensures { result.now ≡ unwrap_or sorted.now given.now }
+{
+    match sorted {
+        Some(sorted) => sorted,
+        None => given,
+    }
 }

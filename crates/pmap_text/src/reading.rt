@@ -44,7 +44,7 @@ pub struct Reading {
     declared: Declarations,
     default: Option<LabelId>,
     statements: Statements,
-    entries: Vec<Entry>,
+    entries: Entries,
     labels: Labels,
     recent: Recent,
 }
@@ -55,9 +55,9 @@ impl Model for Reading {
 
     ghost Value = { Earlier };
 
-    ghost view = { λ r. progress_of r.version r.name r.declared r.default r.statements r.entries.items r.labels };
+    ghost view = { λ r. progress_of r.version r.name r.declared r.default r.statements r.entries r.labels };
 
-    ghost invariant = { λ r. IsProgress r.version r.default r.statements r.entries.items r.labels };
+    ghost invariant = { λ r. IsProgress r.version r.default r.statements r.entries r.labels };
 }
 
 // Returns the number of a text in the table. The search starts where the text was last found.
@@ -108,7 +108,7 @@ impl Reading {
             declared: Declarations::new(alloc, hashing),
             default: None,
             statements: Statements::new(alloc),
-            entries: Vec::new(alloc),
+            entries: Entries::new(alloc),
             labels: Labels::with_hashing(alloc, hashing),
             recent: Recent::new(),
         }
@@ -232,7 +232,6 @@ impl Reading {
         } = self;
         let count = entries.len();
         prove!(count <= MAPPING_LIMIT);
-        let entries = Entries::from_distinct(entries);
         PrefixList {
             version: version.unwrap_or(Version::V4),
             name,

@@ -6,17 +6,30 @@ ghost use Rattle.pmap_text.specs.Inner.{IsFirstRepeat, has_key, key_cmp};
 ghost use Rattle.pmap_text.specs.MapModel.{Label};
 ghost use Rattle.pmap_text.specs.PrefixList.{prefix_of};
 
+use crate::entries::Entries;
 use crate::entry::Entry;
-use crate::order::{are_in_order, in_order};
+use crate::order::{are_in_order, in_order, sorted_or};
 use prefix_keys::Block;
 use std::alloc::{AllocError, Global};
 use std::collections::BTreeSet;
 
+// Whether the entry has the start and the length of this block.
+fn is_for(entry: &Entry, block: &Block) -> bool
+    ensures { result ≡ (entry.now.block.value == block.now.value && entry.now.block.len == block.now.len) }
+{
+    entry.block.value == block.value && entry.block.len == block.len
+}
+
 /// Returns `true` if an entry has the start and the length of this block.
-pub fn has_block(entries: &[Entry], block: &Block) -> bool
+pub fn has_block(entries: &Entries, block: &Block) -> bool
     ensures { result ≡ list_any (λ e. e.block.value == block.now.value && e.block.len == block.now.len) entries.now }
 {
-    entries.iter().any(|entry| entry.block.value == block.value && entry.block.len == block.len)
+    for place in 0..entries.len() {
+        if is_for(&entries.at(place), block) {
+            return true;
+        }
+    }
+    false
 }
 
 // Adds a start and a length. Returns `true` if they are new.
@@ -29,24 +42,23 @@ fn add_key(keys: &mut BTreeSet<(u128, u32)>, key: (u128, u32)) -> Result<bool, A
 }
 
 // Returns the index of the first entry with the block of an earlier one, by a look-up of each block.
-fn find_repeat(alloc: Global, entries: &[Entry]) -> Result<Option<usize>, AllocError>
+fn find_repeat(alloc: Global, entries: &Entries) -> Result<Option<usize>, AllocError>
     ensures { IfOk result (λ first. (table : List Label) → IsFirstRepeat (map (prefix_of table) entries.now) first) }
 {
     let mut keys = BTreeSet::new(alloc);
-    let mut count = 0;
-    for entry in entries {
-        let new = add_key(&mut keys, (entry.block.value, entry.block.len))?;
+    for place in 0..entries.len() {
+        let block = entries.at(place).block;
+        let new = add_key(&mut keys, (block.value, block.len))?;
         if !new {
-            return Ok(Some(count));
+            return Ok(Some(place));
         }
-        count += 1;
     }
     Ok(None)
 }
 
 /// Returns the index of the first entry with the block of an earlier one. Unlike with a hash table, no choice of blocks
 /// makes this slow.
-pub fn first_repeat(alloc: Global, entries: &[Entry]) -> Result<Option<usize>, AllocError>
+pub fn first_repeat(alloc: Global, entries: &Entries) -> Result<Option<usize>, AllocError>
     ensures { IfOk result (λ first. (table : List Label) → IsFirstRepeat (map (prefix_of table) entries.now) first) }
 {
     if are_in_order(entries) {
@@ -54,7 +66,7 @@ pub fn first_repeat(alloc: Global, entries: &[Entry]) -> Result<Option<usize>, A
     }
     // Sorting is faster than looking up each block, and few lists have a repeated block.
     let sorted = in_order(alloc, entries)?;
-    if are_in_order(sorted.as_slice()) {
+    if are_in_order(sorted_or(&sorted, entries)) {
         return Ok(None);
     }
     find_repeat(alloc, entries)

@@ -21,7 +21,7 @@ returns c =
     let accepted = c.no_fault_is_acceptance.ensures.accepted m l k ((c.text_of_format_is_read_or_has_a_fault.ensures.read c.args.text.now k).0 read).0 none in
     record {
       accepted = (k, read, accepted);
-      count = c.len.ensures.value ∙ sym (length-map c.args.list.now.entries (prefix_of c.args.list.now.labels));
+      count = c.len.ensures ∙ sym (length-map c.args.list.now.entries (prefix_of c.args.list.now.labels));
       equivalent = c.acceptance_is_enough.ensures.equivalent m l k accepted;
       least = c.acceptance_is_enough.ensures.least m l k accepted;
       fault = ap (text_fault m l) read ∙ ap (option_map Check) none;

@@ -22,6 +22,6 @@ returns c node opens =
       version_is = whole.version;
       start = whole.value;
       bits = whole.len;
-      adds = subst (λ (l : List Entry). AddsEntries node c.whole_space.result None l c.push_entries.new.entries.items) c.in_ok-entries.ensures.items
+      adds = subst (λ (l : List Entry). AddsEntries node c.whole_space.result None l c.push_entries.new.entries) c.new-entries.ensures
           (c.in_ok-push_entries.ensures.adds node (subst (λ (ns : List Node). Opens (first_node ns) node) (sym c.cursor_of-at.ensures) opens));
     }

@@ -22,11 +22,11 @@ list_with-requires c =
     let is = c.in_ok-runs.ensures in
     let built = runs-built m c.in_ok-runs.runs is.version is.every is.few is.labels c.len-labels.ensures.table c.in_ok-root.root c.in_ok-root.ensures in
     let listed = c.in_ok-items.ensures built.node built.opens in
-    let made = runs-entries m c.in_ok-runs.runs is.version is.every is.few is.labels c.len-labels.ensures.table c.in_ok-root.root c.in_ok-root.ensures c.in_ok-items.items.items listed in
+    let made = runs-entries m c.in_ok-runs.runs is.version is.every is.few is.labels c.len-labels.ensures.table c.in_ok-root.root c.in_ok-root.ensures c.in_ok-items.items listed in
     record {
       versions = made.versions;
       known = made.known;
-      distinct = runs-distinct m c.in_ok-runs.runs is.version is.every is.few is.labels c.len-labels.ensures.table c.in_ok-root.root c.in_ok-root.ensures c.in_ok-items.items.items listed;
+      distinct = runs-distinct m c.in_ok-runs.runs is.version is.every is.few is.labels c.len-labels.ensures.table c.in_ok-root.root c.in_ok-root.ensures c.in_ok-items.items listed;
     }
 
 pub returns : goal.returns
@@ -34,7 +34,7 @@ returns c =
     let m = c.args.map in
     let l = list_of c.list_with.result in
     let runs = c.in_ok-runs.ensures in
-    let items = c.in_ok-items.items.items in
+    let items = c.in_ok-items.items in
     let built = runs-built m c.in_ok-runs.runs runs.version runs.every runs.few runs.labels c.len-labels.ensures.table c.in_ok-root.root c.in_ok-root.ensures in
     let listed = c.in_ok-items.ensures built.node built.opens in
     let pair = runs-pair m c.in_ok-runs.runs runs.version runs.every runs.few runs.labels c.len-labels.ensures.table c.in_ok-root.root c.in_ok-root.ensures items listed l c.list_with.ensures in

@@ -1,10 +1,10 @@
-use Rattle.std.proofs.Common.{ℕ, ◌≡◌, ◌∙◌, List, [], ◌∷◌, ◌++◌, ap, arith, map, refl, subst}
-use Rattle.std.specs.Cow.{cow_slice_items}
-use Rattle.std.specs.List.Sorted.{IsPermutation}
+use Rattle.std.proofs.Common.{ℕ, ◌≡◌, ◌+◌, ◌∙◌, List, [], ◌∷◌, ◌++◌, ap, arith, map, refl, subst, take}
+use Rattle.std.specs.Prelude.{unwrap_or}
 use Rattle.std.proofs.lemmas.Grind.{common_steps}
 use Rattle.std.proofs.lemmas.List.Elements.{All-same}
 use Rattle.std.proofs.lemmas.List.Sorted.{All-permutation}
-use Rattle.std.proofs.lemmas.List.{take_all}
+use Rattle.std.proofs.lemmas.List.{take_all, take_more}
+use Rattle.std.proofs.lemmas.Option.{get_or_from_slice_get, slice_get_within}
 use Rattle.pmap_cert.specs.CertificateText.{text_of_lines}
 use Rattle.pmap_text.specs.ListModel.{Prefix}
 use Rattle.pmap_text.specs.PrefixList.{prefix_of}
@@ -14,12 +14,11 @@ use Rattle.pmap_print.proofs.Order.{sorted-order}
 use Rattle.pmap_print.proofs.list.print_list.Goals as goal
 use Rattle.pmap_print.proofs.list.print_list.Goals.{in-Some+in_ok-extend_from_slice+in_ok-extend_from_slice-2+in_ok-push, in_default, in-V4, in-V6}
 
-pub loop-entry-init : goal.loop-entry-init
-loop-entry-init c = record {
+pub loop-place-init : goal.loop-place-init
+loop-place-init c = record {
   version =
-      All-same (λ (e : Entry). e.block.version ≡ c.args.list.now.version) _ _ c.as_slice-entry-items.ensures.value
-      (All-permutation (λ (e : Entry). e.block.version ≡ c.args.list.now.version) _ _ c.in_ok-sorted.ensures.same
-      (All-same (λ (e : Entry). e.block.version ≡ c.args.list.now.version) _ _ c.as_slice.ensures.value c.args.list.now.one_version));
+      All-same (λ (e : Entry). e.block.version ≡ c.args.list.now.version) _ _ c.sorted_or-entries.ensures
+      (All-permutation (λ (e : Entry). e.block.version ≡ c.args.list.now.version) _ _ c.in_ok-sorted.ensures.same c.args.list.now.one_version);
   text =
       let l = c.args.list.now in
       let name : c.match-list.out.items ≡ text_of_lines (name_lines l.name) = elim c.match-list.branch [
@@ -42,10 +41,23 @@ loop-entry-init c = record {
 pub returns : goal.returns
 returns c =
     let l = c.args.list.now in
-    let sorted = cow_slice_items c.in_ok-sorted.sorted in
-    let moved = subst (λ (es : List Entry). IsPermutation es sorted) c.as_slice.ensures.value c.in_ok-sorted.ensures.same in
+    let sorted = unwrap_or c.in_ok-sorted.sorted l.entries in
     let text : List Prefix → List ℕ = λ ps. text_of_lines (name_lines l.name ++ mode_text l.version ∷ map (entry_line l.version) ps) in
-    c.loop-entry.invariant.text
+    c.loop-place.invariant.text
     ∙ ap (λ (es : List Entry). text (map (prefix_of l.labels) es))
-    (take_all c.loop-entry.entry-index c.as_slice-entry-items.result.now (omega (arith, c.loop-entry-test.false)) ∙ c.as_slice-entry-items.ensures.value)
-    ∙ ap text (sorted-order l.labels l.entries sorted moved c.in_ok-sorted.ensures.ascending l.blocks_distinct)
+    (take_all c.loop-place.place c.sorted_or-entries.result.now (omega (arith, c.len-place-end.ensures, c.loop-place-test.false)) ∙ c.sorted_or-entries.ensures)
+    ∙ ap text (sorted-order l.labels l.entries sorted c.in_ok-sorted.ensures.same c.in_ok-sorted.ensures.ascending l.blocks_distinct)
+
+pub loop-place-preserved : goal.loop-place-preserved
+loop-place-preserved c =
+    let es = c.sorted_or-entries.result.now in
+    let e = c.at.result in
+    let place = c.loop-place.place in
+    let within = slice_get_within es place e c.at.ensures in
+    let is = get_or_from_slice_get es place e e c.at.ensures in
+    let version = subst (λ (x : Entry). x.block.version ≡ c.args.list.now.version) is (c.loop-place.invariant.version place e within) in
+    let more : take (place + 1) es ≡ take place es ++ e ∷ [] = take_more es place e within ∙ ap (λ (x : Entry). take place es ++ x ∷ []) is in
+    record {
+      version = c.loop-place.invariant.version;
+      text = rw (c.in_ok-print_entry.ensures, c.loop-place.invariant.text, version, more) (grind (arith, common_steps));
+    }

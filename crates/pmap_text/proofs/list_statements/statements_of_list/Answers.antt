@@ -1,9 +1,6 @@
-use Rattle.std.proofs.Common.{List, subst}
-use Rattle.std.specs.List.Sorted.{IsPermutation}
-use Rattle.std.specs.Cow.{cow_slice_items}
+use Rattle.std.specs.Prelude.{unwrap_or}
 use Rattle.std.specs.Result.{IfOk}
 use Rattle.std.proofs.lemmas.Result.{IfOk-weaker}
-use Rattle.pmap_text.specs.PrefixList.{Entry}
 use Rattle.pmap_text.proofs.ListBlocks.{longer_later}
 use Rattle.pmap_text.proofs.ListPainted.{AreStatementsOf, statements_of}
 use Rattle.pmap_text.proofs.list_statements.statements_of_list.Goals as goal
@@ -11,13 +8,13 @@ use Rattle.pmap_text.proofs.list_statements.statements_of_list.Goals.{Joined-sor
 
 pub returns-clause-order : goal.returns-clause-order
 returns-clause-order c =
-    let sorted = cow_slice_items c.in_ok-sorted.sorted in
+    let sorted = unwrap_or c.in_ok-sorted.sorted c.args.list.now.entries in
     IfOk-weaker c.statements_of.result _ _
     (λ ss each. record {
       sorted = sorted;
-      moved = subst (λ (es : List Entry). IsPermutation es sorted) c.as_slice.ensures.value c.in_ok-sorted.ensures.same;
+      moved = c.in_ok-sorted.ensures.same;
       later = longer_later sorted c.in_ok-sorted.ensures.ascending;
-      each = rw c.as_slice-2.ensures.value at each;
+      each = rw c.sorted_or.ensures at each;
     })
     c.statements_of.ensures
 

@@ -1,4 +1,4 @@
-use Rattle.std.proofs.Common.{◌∙◌, ◌<◌, List, None, Some, ap, length, option_map, subst, sym}
+use Rattle.std.proofs.Common.{◌∙◌, ◌<◌, Some, ap, length, option_map, sym}
 use Rattle.std.proofs.lemmas.List.Elements.{All-contains}
 use Rattle.pmap_text.specs.ListModel.{ListModel, list_label}
 use Rattle.pmap_text.specs.declared.entry.Entry.{Entry}
@@ -11,8 +11,7 @@ pub returns : goal.returns
 returns c =
     let l = c.self.inside.list.now in
     let version = c.requires ∙ sym (ap (λ (t : ListModel). t.version) c.self.view_is) in
-    let longest : IsLongest l.entries c.args.addr (Some c.in_ok-entry.entry) =
-    subst (λ (es : List Entry). IsLongest es c.args.addr (Some c.in_ok-entry.entry)) c.as_slice.ensures.value c.in_ok-entry.ensures in
+    let longest : IsLongest l.entries c.args.addr (Some c.in_ok-entry.entry) = c.in_ok-entry.ensures in
     let known = All-contains (λ (t : Entry). t.label.0 < length l.labels) l.entries c.in_ok-entry.entry l.numbers_known longest.0 in
     c.text.ensures.value
     ∙ known_text l.labels c.in_ok-entry.entry.label.0 known
@@ -24,6 +23,5 @@ returns-in_err-entry c =
     let l = c.self.inside.list.now in
     let version = c.requires ∙ sym (ap (λ (t : ListModel). t.version) c.self.view_is) in
     ap (option_map (λ t. t.now)) c.from_residual.ensures
-    ∙ sym (none_label l c.args.addr version
-    (subst (λ (es : List Entry). IsLongest es c.args.addr None) c.as_slice.ensures.value c.in_err-entry.ensures))
+    ∙ sym (none_label l c.args.addr version c.in_err-entry.ensures)
     ∙ ap (λ (t : ListModel). list_label t c.args.addr.value) c.self.view_is

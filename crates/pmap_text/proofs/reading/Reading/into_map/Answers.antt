@@ -22,12 +22,12 @@ invariant_of-result-clause-numbers_known c =
 pub returns : goal.returns
 returns c =
     let r = c.self.inside in
-    let whole : finished r.version r.name r.declared r.default r.statements r.entries.items r.labels c.match-default.default c.match-default.labels ≡ map_from c.args.self = elim c.match-default.branch [
+    let whole : finished r.version r.name r.declared r.default r.statements r.entries r.labels c.match-default.default c.match-default.labels ≡ map_from c.args.self = elim c.match-default.branch [
       | in-Some w ↦
           rw (w.labels-is, w.default-is, ← c.self.view_is, w.in-Some.is)
-          (finished-known r.version r.name r.declared r.default r.statements r.entries.items r.labels w.in-Some.label (c.self.invariant.fallback w.in-Some.label w.in-Some.is))
+          (finished-known r.version r.name r.declared r.default r.statements r.entries r.labels w.in-Some.label (c.self.invariant.fallback w.in-Some.label w.in-Some.is))
       | in-None+in_ok-default-in-None w ↦
-          let ok = subst (λ (d : Option LabelId). IsProgress r.version d r.statements r.entries.items r.labels) w.in-None.is c.self.invariant in
+          let ok = subst (λ (d : Option LabelId). IsProgress r.version d r.statements r.entries r.labels) w.in-None.is c.self.invariant in
           let to = w.in_ok-default-in-None.ensures.ok in
-          rw (w.labels-is, w.default-is, to, ← c.self.view_is, w.in-None.is) (finished-unknown r.version r.name r.declared r.default r.statements r.entries.items r.labels w.in_ok-default-in-None.default ok (rw to at w.in_ok-default-in-None.ensures.text))
+          rw (w.labels-is, w.default-is, to, ← c.self.view_is, w.in-None.is) (finished-unknown r.version r.name r.declared r.default r.statements r.entries r.labels w.in_ok-default-in-None.default ok (rw to at w.in_ok-default-in-None.ensures.text))
     ] in rw c.unwrap_or.ensures whole

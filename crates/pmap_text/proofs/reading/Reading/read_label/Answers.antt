@@ -12,8 +12,8 @@ returns c =
     rw (← c.split_word.ensures.word, ← c.split_word.ensures.rest, ← c.label_number.ensures, c.in-Some.is, ← c.self.view_is, c.in_ok-check_label.ensures.ok, digits, agrees, c.in_ok-number_for.ensures.room, c.in_ok-number_for.ensures.ok, c.in-Ok.ensures.ok)
     (record {
       ok = inl (
-        ap Ok (sym (progress-with_label r.version r.name _ r.default r.statements r.entries.items r.labels c.split_word.result.1.now c.self.invariant)),
-        prefixes-with_label r.labels c.split_word.result.1.now r.entries.items c.self.invariant.entry_numbers,
+        ap Ok (sym (progress-with_label r.version r.name _ r.default r.statements r.entries r.labels c.split_word.result.1.now c.self.invariant)),
+        prefixes-with_label r.labels c.split_word.result.1.now r.entries c.self.invariant.entry_numbers,
       );
       err = tt;
       kept = tt;
@@ -28,8 +28,8 @@ returns-in_default-add c =
     (record {
       ok = tt;
       err = refl;
-      kept = ap (λ (t : List Label). map (prefix_of t) r.entries.items) c.in_ok-number_for.ensures.ok
-          ∙ prefixes-with_label r.labels c.split_word.result.1.now r.entries.items c.self.invariant.entry_numbers;
+      kept = ap (λ (t : List Label). map (prefix_of t) r.entries) c.in_ok-number_for.ensures.ok
+          ∙ prefixes-with_label r.labels c.split_word.result.1.now r.entries c.self.invariant.entry_numbers;
     })
 
 pub invariant_of-self-2 : goal.invariant_of-self-2
