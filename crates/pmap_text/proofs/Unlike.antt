@@ -1,4 +1,4 @@
--- A word that doesn't look like an address is none.
+-- A word that doesn't look like an address is not one.
 use Rattle.std.proofs.Common.{◌≡◌, ◌||◌, ◌&&◌, ◌==◌, ◌⊎◌, ◌∷◌, [], ℕ, Bool, List, Option, None, true, false, refl, ap, map, slice_index, inl, inr, ◌∙◌}
 use Rattle.std.specs.List.{list_any, list_all, slice_split, onto_first}
 use Rattle.std.proofs.lemmas.Bool.{cases_Bool, or_parts}
