@@ -5,7 +5,7 @@ ghost use Rattle.flowlabel.specs.Faults.{exit_status_of};
 ghost use Rattle.flowlabel.specs.Run.{Usage};
 ghost use Rattle.flowlabel.specs.declared.usage.UsageFault.TheVariants as usage;
 
-use crate::fault::{RunFault, exit_status, fault_line};
+use crate::fault::{RunFault, fault_line, status};
 use crate::usage::UsageFault;
 use flow_io::{Output, write_whole};
 use std::alloc::Global;
@@ -34,5 +34,8 @@ pub fn end<O: Output, E: Output>(
             Err(_) => Ok(()),
         },
     };
-    exit_status(outcome)
+    match outcome {
+        Ok(()) => 0,
+        Err(fault) => status(fault),
+    }
 }

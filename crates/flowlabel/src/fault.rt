@@ -1,6 +1,6 @@
 ghost use Rattle.std.specs.Prelude.{◌≡◌, IfOk};
 ghost use Rattle.std.specs.String.{string_bytes};
-ghost use Rattle.flowlabel.specs.Faults.{exit_status_of, fault_text, filter_fault_text, key_fault_text, option_text, place_text, status_of, usage_fault_text};
+ghost use Rattle.flowlabel.specs.Faults.{fault_text, filter_fault_text, key_fault_text, option_text, place_text, status_of, usage_fault_text};
 
 use crate::bytes_fault::BytesFault;
 use crate::usage::UsageFault;
@@ -131,15 +131,5 @@ pub fn status(fault: &RunFault<'_>) -> u8
         RunFault::CannotOpen(_) | RunFault::CannotRead(_) | RunFault::CannotWrite => 4,
         RunFault::NoMemory => 3,
         RunFault::File { .. } => 1,
-    }
-}
-
-/// Returns the exit status of a run with this outcome: 0 if it succeeded, otherwise that of its fault.
-pub fn exit_status(outcome: &Result<(), RunFault<'_>>) -> u8
-    ensures { result ≡ exit_status_of outcome.now }
-{
-    match outcome {
-        Ok(()) => 0,
-        Err(fault) => status(fault),
     }
 }
