@@ -128,10 +128,7 @@ fn keys_in(entries: &ArgMatches<'_>) -> Result<Keys, UsageFault>
     ensures ok { IfOk result (λ keys. fields_in_rows (rows_of (found_of entries.now)) ≡ Ok keys) }
     ensures err { IfErr result (λ fault. fault ≢ NoMemory → fields_in_rows (rows_of (found_of entries.now)) ≡ Err fault) }
 {
-    match Keys::read(needed_text(entries, "fields")) {
-        Ok(keys) => Ok(keys),
-        Err(fault) => Err(UsageFault::Key(fault)),
-    }
+    Keys::read(needed_text(entries, "fields")).map_err(UsageFault::Key)
 }
 
 fn uniq_command<'a>(alloc: Global, entries: &ArgMatches<'a>) -> Result<Command<'a>, UsageFault>
