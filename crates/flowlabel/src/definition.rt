@@ -118,12 +118,9 @@ fn label<'a>(alloc: Global) -> Result<Command<'a>, AllocError>
         "the label of one address",
         "flowlabel label --pmap customers.txt 10.2.3.4"
     );
-    let arguments = [
-        Argument::Optional("pmap", "FILE", "Labels", "The prefix map"),
-        Argument::Optional("list", "FILE", "Labels", "The prefix list"),
-        Argument::Word("address", "ADDR", "The address to label"),
-    ];
-    command(alloc, "label", about, usage, example, &arguments)
+    let sourced = command(alloc, "label", about, usage, example, &SOURCES)?;
+    let word = [Argument::Word("address", "ADDR", "The address to label")];
+    with_arguments(alloc, sourced, &word)
 }
 
 fn info<'a>(alloc: Global) -> Result<Command<'a>, AllocError>
