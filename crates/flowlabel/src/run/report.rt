@@ -78,21 +78,6 @@ fn take_from_reader<R: Input, P: Report>(
     }
 }
 
-fn take_from_source<R: Input, P: Report>(
-    alloc: Global,
-    source: &mut Source<'_, R>,
-    report: &P,
-    taken: &mut P::Taken,
-) -> Result<(), OutputFault>
-    requires reader { R.failed source.old.reader ≡ false }
-    requires none { P.is_of report.now [] taken.old }
-    ensures taken { TakesFile (P.is_of report.now) (R.bytes_left source.old.reader) (R.bytes_left source.new.reader)
-        taken.new result }
-    ensures failed { R.failed source.new.reader ≡ is_unread result }
-{
-    take_from_reader(alloc, &mut source.reader, report, taken)
-}
-
 /// Reads the messages of a File, and gives each to the report. A File that isn't there has none. The memory is that of
 /// one message.
 pub fn take_messages<R: Input, P: Report>(
@@ -108,7 +93,7 @@ pub fn take_messages<R: Input, P: Report>(
     ensures failed { source_failed R.failed flows.new ≡ is_unread result }
 {
     match flows {
-        Some(source) => take_from_source(alloc, source, report, taken),
+        Some(source) => take_from_reader(alloc, &mut source.reader, report, taken),
         None => Ok(()),
     }
 }
