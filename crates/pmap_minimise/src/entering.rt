@@ -14,6 +14,7 @@ pub fn has_label(labels: &[LabelId], id: LabelId) -> bool
 }
 
 /// Adds the own entry of a node with these labels, if it has one, and returns the label that the node passes on.
+#[inline(always)]
 pub fn push_own(
     entries: &mut Entries,
     labels: &[LabelId],

@@ -26,6 +26,7 @@ impl Model for Entries {
 }
 
 // Unpacks an IPv4 entry.
+#[inline(always)]
 fn unpack(packed: NarrowEntry) -> Entry
     ensures { result ≡ narrow_entry packed }
 {
@@ -71,6 +72,7 @@ impl Entries {
     }
 
     /// Returns the entry at an index.
+    #[inline(always)]
     pub fn at(&self, place: usize) -> Entry
         requires { place < length self.now }
         ensures { slice_get self.now place ≡ Some result }
@@ -94,7 +96,6 @@ impl Entries {
     }
 
     /// Appends an entry. If an allocation fails, the list is unchanged.
-    #[inline(always)]
     pub fn push(&mut self, entry: Entry) -> Result<(), AllocError>
         ensures ok { OnOk result (self.new ≡ self.old ++ entry ∷ []) }
         ensures err { OnErr result (self.new ≡ self.old) }

@@ -11,6 +11,7 @@ use std::alloc::{AllocError, Global};
 use std::cmp::Ordering;
 
 /// Compares two blocks by first address, and by length if these are equal.
+#[inline(always)]
 pub fn by_rank(block: &Block, other: &Block) -> Ordering
     ensures { result ≡ nat_cmp (rank_of block.now) (rank_of other.now) }
 {
