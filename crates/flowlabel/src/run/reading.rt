@@ -19,22 +19,6 @@ use pmap_cert::{Certificate, read_cert_with_hashing, text_of_format_is_read_or_h
 use pmap_text::{KeyHashing, MapText, PrefixList, read_list_with_hashing, read_map_with_hashing};
 use std::alloc::Global;
 
-fn text_of_source<R: Input>(
-    alloc: Global,
-    role: Role,
-    source: &mut Source<'_, R>,
-) -> Result<Vec<u8>, OutputFault>
-    requires { R.failed source.old.reader ≡ false }
-    ensures whole { IsWhole role (R.bytes_left source.old.reader) result }
-    ensures failed { R.failed source.new.reader ≡ is_unread result }
-{
-    match read_whole(alloc, &mut source.reader) {
-        Ok(text) => Ok(text),
-        Err(ReadStop::ReadFault) => Err(OutputFault::Unread(role)),
-        Err(ReadStop::NoMemory) => Err(OutputFault::NoMemory),
-    }
-}
-
 fn text_of<R: Input>(
     alloc: Global,
     role: Role,
@@ -45,7 +29,10 @@ fn text_of<R: Input>(
     ensures failed { source_failed R.failed source.new ≡ is_unread result }
 {
     match source {
-        Some(source) => text_of_source(alloc, role, source),
+        Some(source) => read_whole(alloc, &mut source.reader).map_err(|stop| match stop {
+            ReadStop::ReadFault => OutputFault::Unread(role),
+            ReadStop::NoMemory => OutputFault::NoMemory,
+        }),
         None => Ok(Vec::new(alloc)),
     }
 }
