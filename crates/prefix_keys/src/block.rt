@@ -91,7 +91,7 @@ impl Block {
     pub fn covers(&self, addr: &Addr) -> bool
         ensures { IsTrue result ↔ BlockCovers self.now addr.now }
     {
-        self.version == addr.version && block_of(*addr, self.len).value == self.value
+        self.span().covers(addr)
     }
 
     /// Returns the lowest address of the block.
