@@ -1,13 +1,12 @@
 use Rattle.std.specs.Prelude.{ℕ, ◌*◌, ◌-◌, ◌/◌, ◌%◌, ◌^◌, List, bit_and, bit_or, bit_xor, drop, length, ◌≡◌, ◌||◌, ◌==◌, Bool, true, false, if◌then◌else◌, ◌∷◌, ◌++◌, Some, Ok, ◌+◌, ◌≤◌, ◌⊎◌, Option, All, Contains, IsSomeAnd, option_and_then, option_map, slice_get, unwrap_or, ◌&&◌, None, take, ◌≢◌, [], Result, Err, IfErr, IfOk, OnErr, OnOk}
 use Rattle.std.specs.Int.{from_le_bytes, w64}
-use Rattle.std.specs.List.{fold, list_all, list_any, IsDistinct}
+use Rattle.std.specs.List.{fold, list_any, IsDistinct}
 use Rattle.std.specs.Simd.{first_chunks}
 use Rattle.std.specs.Option.{ForSome}
 use Rattle.std.specs.Ordering.{is_eq, nat_cmp, ordering_then}
 use Rattle.std.specs.declared.cmp.Ordering.{Ordering}
 use Rattle.std.specs.Char.{is_ascii_hexdigit}
 use Rattle.prefix_keys.specs.Text.{address_of, block_of_text, is_digit}
-use Rattle.prefix_keys.specs.declared.addr.Addr.{Addr}
 use Rattle.pmap_text.specs.declared.hashing.KeyHasher.{KeyHasher}
 use Rattle.pmap_text.specs.Label.{is_blank, meant_text}
 pub use Rattle.pmap_text.specs.declared.leading.Word.{Word}

@@ -1,8 +1,11 @@
-ghost use Rattle.std.specs.Prelude.{◌≡◌, ◌<◌, ◌++◌, ◌∷◌, [], IfOk, OnErr, OnOk, Some, length, slice_get};
+ghost use Rattle.std.specs.Prelude.{◌≡◌, ◌<◌, ◌++◌, ◌∷◌, [], IfOk, IsTrue, OnErr, OnOk, Some, length, slice_get};
+ghost use Rattle.std.specs.List.Sorted.{IsNonDecreasingBy};
 ghost use Rattle.prefix_keys.specs.declared.version.Version.TheVariants.{V4};
+ghost use Rattle.pmap_text.specs.ListEntries.{HasDistinctBlocks, rank_of};
 ghost use Rattle.pmap_text.specs.Packed.{narrow_entry};
 
 use crate::entry::Entry;
+use crate::order::by_rank;
 use crate::packed::NarrowEntry;
 use prefix_keys::{Block, Version};
 use std::alloc::{AllocError, Global};
@@ -81,6 +84,24 @@ impl Entries {
             unpack(self.narrow[place])
         } else {
             self.wide[place - self.narrow.len()]
+        }
+    }
+
+    /// Returns `true` if each entry comes after the one before it. Entries of two versions count as out of order.
+    pub(crate) fn are_in_order(&self) -> bool
+        ensures ascending { IsTrue result → IsNonDecreasingBy (λ e. rank_of e.block) self.now }
+        ensures distinct { IsTrue result → HasDistinctBlocks self.now }
+    {
+        if self.wide.is_empty() {
+            self.narrow.is_sorted_by(|entry, next| by_rank(
+                &unpack(*entry).block,
+                &unpack(*next).block,
+            ).is_lt())
+        } else {
+            self.narrow.is_empty()
+                && self
+                    .wide
+                    .is_sorted_by(|entry, next| by_rank(&entry.block, &next.block).is_lt())
         }
     }
 

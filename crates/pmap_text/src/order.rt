@@ -1,8 +1,8 @@
 //! The order of entries by their blocks: by first address, and of equal first addresses the shorter block first.
-ghost use Rattle.std.specs.Prelude.{◌≡◌, IfOk, IsTrue, unwrap_or};
+ghost use Rattle.std.specs.Prelude.{◌≡◌, IfOk, unwrap_or};
 ghost use Rattle.std.specs.List.Sorted.{IsNonDecreasingBy, IsPermutation};
 ghost use Rattle.std.specs.Ordering.{nat_cmp};
-ghost use Rattle.pmap_text.specs.ListEntries.{HasDistinctBlocks, rank_of};
+ghost use Rattle.pmap_text.specs.ListEntries.{rank_of};
 
 use crate::entries::Entries;
 use crate::entry::Entry;
@@ -22,19 +22,6 @@ pub fn by_rank(block: &Block, other: &Block) -> Ordering
     }
 }
 
-/// Returns `true` if each entry comes after the one before it.
-pub fn are_in_order(entries: &Entries) -> bool
-    ensures ascending { IsTrue result → IsNonDecreasingBy (λ e. rank_of e.block) entries.now }
-    ensures distinct { IsTrue result → HasDistinctBlocks entries.now }
-{
-    for i in 1..entries.len() {
-        if !by_rank(&entries.at(i - 1).block, &entries.at(i).block).is_lt() {
-            return false;
-        }
-    }
-    true
-}
-
 // Returns the list of these entries.
 fn packed(alloc: Global, entries: &[Entry]) -> Result<Entries, AllocError>
     ensures { IfOk result (λ packed. packed ≡ entries.now) }
@@ -52,7 +39,7 @@ pub fn in_order(alloc: Global, entries: &Entries) -> Result<Option<Entries>, All
     ensures ascending { IfOk result (λ sorted.
         IsNonDecreasingBy (λ e. rank_of e.block) (unwrap_or sorted entries.now)) }
 {
-    if are_in_order(entries) {
+    if entries.are_in_order() {
         return Ok(None);
     }
     let mut sorted = entries.to_vec(alloc)?;

@@ -8,7 +8,7 @@ ghost use Rattle.pmap_text.specs.PrefixList.{prefix_of};
 
 use crate::entries::Entries;
 use crate::entry::Entry;
-use crate::order::{are_in_order, in_order, sorted_or};
+use crate::order::{in_order, sorted_or};
 use prefix_keys::Block;
 use std::alloc::{AllocError, Global};
 use std::collections::BTreeSet;
@@ -61,12 +61,12 @@ fn find_repeat(alloc: Global, entries: &Entries) -> Result<Option<usize>, AllocE
 pub fn first_repeat(alloc: Global, entries: &Entries) -> Result<Option<usize>, AllocError>
     ensures { IfOk result (λ first. (table : List Label) → IsFirstRepeat (map (prefix_of table) entries.now) first) }
 {
-    if are_in_order(entries) {
+    if entries.are_in_order() {
         return Ok(None);
     }
     // Sorting is faster than looking up each block, and few lists have a repeated block.
     let sorted = in_order(alloc, entries)?;
-    if are_in_order(sorted_or(&sorted, entries)) {
+    if sorted_or(&sorted, entries).are_in_order() {
         return Ok(None);
     }
     find_repeat(alloc, entries)
