@@ -76,7 +76,7 @@ impl TemplateTable {
         }
     }
 
-    /// Defines a template in the domain, replacing the one with its ID. If an allocation fails, the table is unchanged.
+    /// Defines a template in the domain, replacing the one with its ID. If an allocation fails, no template changes.
     pub fn set(&mut self, domain: u32, template: Template) -> Result<(), AllocError>
         ensures ok { OnOk result (template_at self.new ≡ after_event (template_at self.old) (domain, Define template)) }
         ensures err { OnErr result (template_at self.new ≡ template_at self.old) }

@@ -142,7 +142,7 @@ module _ (table : List Label) (s : StretchesModel) (every : HasEveryAddress s) w
       goes_on = is.goes_on;
     }
 
-    -- if the next stretch has another label, or there is none, the run is printed
+    -- the run is printed unless the next stretch has the same label
     pub run_ends : (new : Text) → IsLabelTable table → AreLabelsBelow (length table) s
         → (index + 1 < length s.firsts → label_at s (index + 1) ≢ label_at s index)
         → new ≡ out ++ run_text s.version (run_between table s begin index) → IsPrintedTo table s (index + 1) (index + 1) new
