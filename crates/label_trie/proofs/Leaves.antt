@@ -1,5 +1,5 @@
 -- The leaves of stretches.
-use Rattle.std.proofs.Common.{◌≡◌, ◌∙◌, ℕ, zero, suc, ◌+◌, ◌-◌, ◌*◌, ◌/◌, ◌^◌, ◌<◌, ◌≤◌, inl, inr, List, [], ◌∷◌, ◌++◌, Option, Some, None, All, Contains, IsSome, length, option_map, refl, sym, ap, subst, arith, length-append, true≢false}
+use Rattle.std.proofs.Common.{◌≡◌, ◌∙◌, ℕ, zero, suc, ◌+◌, ◌-◌, ◌*◌, ◌/◌, ◌^◌, ◌<◌, ◌≤◌, inl, inr, List, [], ◌∷◌, ◌++◌, Option, Some, None, All, Contains, IsSome, length, option_map, refl, sym, ap, subst, arith, length-append, true, false, true≢false}
 use Rattle.std.proofs.Math.Nat.{zero-div}
 use Rattle.std.proofs.lemmas.Bool.{cases_eq, cond-false, cond-true, eq-eqb, ne_eqb}
 use Rattle.std.proofs.lemmas.List.Elements.{All-append, All-cons, All-contains, All-nil, All-weaker, Contains-append_left, Contains-push}
@@ -125,14 +125,20 @@ module _ (s : StretchesModel) (every : HasEveryAddress s) where
     one : leaf_in s w.len q ∷ [] ≡ labelled_leaf w.len q (label_at s w.from) ∷ []
     one = ap (λ (i : ℕ). labelled_leaf w.len q (label_at s i) ∷ []) first_held
 
+    pub in_same : w.from ≡ w.to → in_one s w.len q ≡ true
+    in_same same = eq-eqb _ _ (first_held ∙ same ∙ sym last_held)
+
+    pub in_several : (w.from ≡ w.to → ⊥) → in_one s w.len q ≡ false
+    in_several other = ne_eqb _ _ (λ same. other (sym first_held ∙ same ∙ last_held))
+
     -- a block in one stretch is a leaf
     pub one_leaf : (h : ℕ) → w.from ≡ w.to → leaves_in s h w.len q ≡ labelled_leaf w.len q (label_at s w.from) ∷ []
     one_leaf zero same = one
-    one_leaf (suc h) same = cond-true (in_one s w.len q) (leaf_in s w.len q ∷ []) _ (eq-eqb _ _ (first_held ∙ same ∙ sym last_held)) ∙ one
+    one_leaf (suc h) same = cond-true (in_one s w.len q) (leaf_in s w.len q ∷ []) _ (in_same same) ∙ one
 
     -- any other is divided
     pub both_halves : (h : ℕ) → (w.from ≡ w.to → ⊥) → leaves_in s (suc h) w.len q ≡ leaves_in s h (suc w.len) (2 * q) ++ leaves_in s h (suc w.len) (2 * q + 1)
-    both_halves h other = cond-false (in_one s w.len q) _ _ (ne_eqb _ _ (λ same. other (sym first_held ∙ same ∙ last_held)))
+    both_halves h other = cond-false (in_one s w.len q) _ _ (in_several other)
 
     pub window_below : (w.from ≡ w.to → ⊥) → w.len < W
     window_below other =

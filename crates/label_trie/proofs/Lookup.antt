@@ -1,8 +1,7 @@
 -- The label of an address among leaves.
-use Rattle.std.proofs.Common.{◌≡◌, ℕ, All, ◌+◌, ◌-◌, ◌^◌, ◌<◌, ◌≤◌, inl, inr, List, [], ◌∷◌, Option, false, Some, None, option_and_then, option_map, refl, sym, ◌∙◌, ap, arith, find, slice_get}
+use Rattle.std.proofs.Common.{◌≡◌, ℕ, All, ◌+◌, ◌^◌, ◌<◌, ◌≤◌, inl, inr, List, [], ◌∷◌, Option, false, Some, None, option_and_then, option_map, refl, sym, ◌∙◌, ap, arith, find, slice_get}
 use Rattle.std.proofs.lemmas.Bool.{cases_lt, eq-eqb, eqb-true, ne_eqb}
 use Rattle.std.proofs.lemmas.List.Elements.{All-contains}
-use Rattle.std.proofs.lemmas.Nat.{pow_pos}
 use Rattle.prefix_keys.specs.Block.{block_number, last_of, width_of}
 use Rattle.pmap_text.specs.MapModel.{Label}
 use Rattle.pmap_text.specs.Stretches.{HasEveryAddress, StretchesModel, label_held, text_held}
@@ -12,15 +11,6 @@ use Rattle.label_trie.specs.TrieModel.{LeafModel, IsCut, has_address, label_amon
 use Rattle.pmap_text.proofs.Blocks.{address-between, address-last}
 use Rattle.pmap_text.proofs.Finds.{find_passes}
 use Rattle.label_trie.proofs.Leaves.{HasItsLabel, leaves_held, space_cut}
-
--- leaves that cut addresses end no earlier than they begin
-cut_ordered : (W from to : ℕ) (leaves : List LeafModel) → IsCut W from to leaves → from ≤ to
-cut_ordered W from to [] cut = omega (arith, cut)
-cut_ordered W from to (leaf ∷ leaves) cut =
-    let positive = pow_pos (W - leaf.bits) in
-    let rest = cut_ordered W (last_of W leaf.bits leaf.number + 1) to leaves cut.2 in
-    let begins = cut.1 in
-    omega arith
 
 -- a leaf that ends before an address doesn't have it
 ends_before : (W a : ℕ) (leaf : LeafModel) → last_of W leaf.bits leaf.number < a → has_address W a leaf ≡ false

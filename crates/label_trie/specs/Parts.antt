@@ -1,4 +1,4 @@
-use Rattle.std.specs.Prelude.{◌≡◌, ℕ, ◌+◌, ◌*◌, [], ◌∷◌, ◌++◌, None, All}
+use Rattle.std.specs.Prelude.{◌≡◌, ℕ, ◌+◌, ◌*◌, [], ◌∷◌, ◌++◌, None, All, length}
 use Rattle.prefix_keys.specs.declared.block.Block.{Block}
 use Rattle.pmap_text.specs.MapModel.{MapModel, settled_label}
 use Rattle.label_trie.specs.TrieModel.{IsUndivided, number_of, model_of, CursorModel}
@@ -11,12 +11,17 @@ pub record IsHalf (side : ℕ) (whole half : Block) : Type 0 where
   pub len : half.len ≡ whole.len + 1
   pub number : number_of half ≡ 2 * number_of whole + side
 
--- A node and its two halves. A map that settles no block larger than a leaf there doesn't settle the node's block.
+-- A node and its two halves. A map that settles no block larger than a leaf there doesn't settle the node's block. At
+-- and below a node there are twice as many nodes as leaves, less one.
 pub record IsDivided (whole low high : CursorModel) : Type 0 where
   pub low_half : IsHalf 0 whole.block low.block
   pub high_half : IsHalf 1 whole.block high.block
   pub leaves : whole.leaves ≡ low.leaves ++ high.leaves
   pub unsettled : (m : MapModel) → All (IsUndivided m) whole.leaves → settled_label m whole.block.len (number_of whole.block) ≡ None
+  pub low_nodes : low.nodes ≡ whole.nodes
+  pub high_nodes : high.nodes ≡ whole.nodes
+  pub low_number : low.number ≡ whole.number + 1
+  pub high_number : high.number + 1 ≡ low.number + 2 * length low.leaves
 
 -- the parts of a node: one leaf with its block and the label, or two nodes
 abbrev pub ArePartsOf : CursorModel → Parts → Type 0

@@ -9,7 +9,7 @@ use Rattle.pmap_text.specs.MapText.{text_at}
 pub use Rattle.pmap_text.specs.PrefixList.{number_of_block as number_of}
 use Rattle.label_trie.specs.declared.leaf.Leaf.{Leaf}
 
--- A trie as contracts see it: its leaves, in ascending order of their addresses.
+-- A trie as contracts see it: its leaves, in ascending order of their addresses, and its nodes.
 
 -- the block of `bits` bits with the number `number`, and the number of its label, if it has one
 pub record LeafModel : Type 0 where
@@ -17,10 +17,17 @@ pub record LeafModel : Type 0 where
   pub number : ℕ
   pub label : Option ℕ
 
--- a trie: the version of its addresses and its leaves
+-- a node of a trie: the block of `bits` bits with the number `number`, and the leaves at and below it in ascending order
+pub record NodeModel : Type 0 where
+  pub bits : ℕ
+  pub number : ℕ
+  pub leaves : List LeafModel
+
+-- a trie: the version of its addresses, its leaves, and its nodes in the order of their numbers
 pub record TrieModel : Type 0 where
   pub version : Version
   pub leaves : List LeafModel
+  pub nodes : List NodeModel
 
 -- The leaves are consecutive blocks of addresses of W bits. The first begins at `from`, and the last ends right before
 -- `to`, so each address between is in exactly one leaf.
@@ -65,8 +72,15 @@ abbrev pub model_of : Leaf → LeafModel
 model_of leaf =
     record { bits = leaf.block.len; number = number_of leaf.block; label = option_map (λ id. id.0) leaf.label }
 
--- A cursor in a trie as contracts see it: the block of its node, and the leaves at and below the node in ascending
--- order.
+-- A cursor in a trie as contracts see it: the block of its node, the leaves at and below the node in ascending order,
+-- the number of the node, and the nodes of the trie in the order of their numbers.
 pub record CursorModel : Type 0 where
   pub block : Block
   pub leaves : List LeafModel
+  pub number : ℕ
+  pub nodes : List NodeModel
+
+-- the cursor is at the node with its number
+abbrev pub IsNode : CursorModel → Type 0
+IsNode c = slice_get c.nodes c.number
+    ≡ Some (record { bits = c.block.len; number = number_of c.block; leaves = c.leaves })

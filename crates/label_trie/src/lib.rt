@@ -16,9 +16,11 @@
 //! and has the label that settles it, and no block that strictly contains a leaf is settled. So the label that the trie
 //! gives an address is the map's. In the trie of a prefix list, no entry lies strictly inside a leaf. Each leaf, and so
 //! each address, has the label of the longest entry that covers it, or none. A walk by cursors from the root reaches
-//! these leaves, and in the trie of a map no block on the path is settled. The number of nodes is at most one, plus four
-//! times the width for each statement of a map, or twice the width for each entry of a list. Contracts see a trie as
-//! the list of its leaves. No node is stored: a cursor finds the halves of its block among the stretches.
+//! these leaves, and in the trie of a map no block on the path is settled. The number of nodes is at most one, plus
+//! four times the width for each statement of a map, or twice the width for each entry of a list. Contracts see a trie
+//! as the list of its leaves and the list of its nodes. The numbers of nodes begin with 0 at the root, and the halves
+//! of a block have greater numbers than the block. A trie stores its stretches, among which a cursor finds the halves
+//! of its block, and for each node the number of nodes at and below it.
 #![tactic(auto)]
 
 mod cursor;

@@ -4,7 +4,8 @@ ghost use Rattle.pmap_text.specs.ListModel.{list_label};
 ghost use Rattle.pmap_text.specs.PrefixList.{list_of};
 ghost use Rattle.pmap_text.specs.MapModel.{map_label};
 ghost use Rattle.pmap_text.specs.MapText.{map_of};
-ghost use Rattle.label_trie.specs.Leaves.{leaves_in};
+ghost use Rattle.pmap_text.specs.Windows.{IsWindow};
+ghost use Rattle.label_trie.specs.Leaves.{leaves_in, nodes_of, size_of};
 ghost use Rattle.label_trie.specs.TrieModel.{model_of, IsCut, IsDecidedLeaf, IsSettledLeaf, IsUndivided, label_in};
 
 use crate::cursor::{Cursor, Parts, cursor_at};
@@ -18,9 +19,11 @@ use std::marker::Model;
 /// leaf has the number of a label or none.
 #[derive(Drop)]
 pub struct Trie {
-    // A block is a leaf if one stretch has all its addresses, and otherwise divided. So no node is stored.
+    // A block is a leaf if one stretch has all its addresses, and otherwise divided.
     stretches: Stretches,
-    node_count: u32,
+    // For each node, the number of nodes at and below it. A node comes before those of its lower half, and these come
+    // before those of its upper half.
+    sizes: Vec<u32>,
 }
 
 impl Model for Trie {
@@ -29,16 +32,15 @@ impl Model for Trie {
 
     ghost Value = { TrieModel };
 
-    ghost use Rattle.std.specs.Prelude.{◌≡◌, ◌+◌, ◌*◌, length};
-    ghost use Rattle.label_trie.specs.Leaves.{leaves_in};
+    ghost use Rattle.label_trie.specs.Leaves.{AreSizes, all_nodes, leaves_in};
 
     ghost view = { λ t. record {
       version = t.stretches.version;
       leaves = leaves_in t.stretches (width_of t.stretches.version) 0 0;
+      nodes = all_nodes t.stretches;
     } };
 
-    ghost invariant = { λ t. t.node_count + 1
-        ≡ 2 * length (leaves_in t.stretches (width_of t.stretches.version) 0 0) };
+    ghost invariant = { λ t. AreSizes t.stretches t.sizes.items };
 }
 
 impl Trie {
@@ -54,7 +56,8 @@ impl Trie {
             ≤ 2 + 4 * width_of map.now.version * length map.now.statements) }
     {
         let stretches = Stretches::of_map(alloc, map)?;
-        Ok(trie_of(stretches))
+        let trie = trie_of(alloc, stretches)?;
+        Ok(trie)
     }
 
     /// Builds the trie of a prefix list under longest match. No entry lies strictly inside a leaf, and a leaf that no
@@ -70,7 +73,8 @@ impl Trie {
             ≤ 2 + 2 * width_of list.now.version * length list.now.entries) }
     {
         let stretches = Stretches::of_list(alloc, list)?;
-        Ok(trie_of(stretches))
+        let trie = trie_of(alloc, stretches)?;
+        Ok(trie)
     }
 
     /// Returns the number of the label at `addr`, which must be of the trie's version.
@@ -85,9 +89,10 @@ impl Trie {
 
     /// Returns the number of nodes: the leaves, and the divided blocks, one fewer than the leaves.
     pub fn node_count(&self) -> u32
-        ensures { result + 1 ≡ 2 * length self.now.leaves }
+        ensures leaves { result + 1 ≡ 2 * length self.now.leaves }
+        ensures nodes { result ≡ length self.now.nodes }
     {
-        self.node_count
+        self.sizes.len() as u32
     }
 
     /// Returns the leaves in ascending order of their blocks.
@@ -106,42 +111,67 @@ impl Trie {
         ensures value { result.block.value ≡ 0 }
         ensures len { result.block.len ≡ 0 }
         ensures leaves { result.leaves ≡ self.now.leaves }
+        ensures number { result.number ≡ 0 }
+        ensures nodes { result.nodes ≡ self.now.nodes }
     {
-        root_of(&self.stretches)
+        cursor_at(
+            &self.stretches,
+            self.sizes.as_slice(),
+            0,
+            Window::whole(&self.stretches),
+        )
     }
-}
 
-// Returns a cursor at the node of the whole address space of the stretches.
-fn root_of(stretches: &Stretches) -> Cursor
-    ensures version { result.block.version ≡ stretches.now.version }
-    ensures value { result.block.value ≡ 0 }
-    ensures len { result.block.len ≡ 0 }
-    ensures leaves { result.leaves ≡ leaves_in stretches.now (width_of stretches.now.version) 0 0 }
-{
-    cursor_at(stretches, Window::whole(stretches))
+    /// Returns a cursor at the node with this number, which must be below `node_count`. The cursor descends from the
+    /// root, one step for each bit of the block's length.
+    pub fn node(&self, number: u32) -> Cursor
+        requires { number < length self.now.nodes }
+        ensures version { result.block.version ≡ self.now.version }
+        ensures number { result.number ≡ number }
+        ensures nodes { result.nodes ≡ self.now.nodes }
+    {
+        // Provides the law that the nodes are twice the leaves, less one.
+        let _count = self.node_count();
+        let mut place = self.root();
+        while place.number() < number {
+            let Parts::Inner(low, high) = place.parts() else {
+                unreachable!()
+            };
+            place = if number < high.number() { low } else { high };
+        }
+        place
+    }
 }
 
 // Returns the trie with these stretches.
-fn trie_of(stretches: Stretches) -> Trie
+fn trie_of(alloc: Global, stretches: Stretches) -> Result<Trie, AllocError>
     requires { 2 * length (leaves_in stretches (width_of stretches.version) 0 0) < 2 ^ 32 }
-    ensures version { result.version ≡ stretches.version }
-    ensures leaves { result.leaves ≡ leaves_in stretches (width_of stretches.version) 0 0 }
+    ensures version { IfOk result (λ t. t.version ≡ stretches.version) }
+    ensures leaves { IfOk result (λ t. t.leaves ≡ leaves_in stretches (width_of stretches.version) 0 0) }
 {
-    Trie {
-        node_count: count_nodes(&root_of(&stretches)),
-        stretches,
-    }
+    let mut sizes = Vec::new(alloc);
+    push_sizes(&mut sizes, &stretches, Window::whole(&stretches))?;
+    Ok(Trie { stretches, sizes })
 }
 
-// Returns the number of nodes at and below the node.
-fn count_nodes(place: &Cursor) -> u32
-    requires { 2 * length place.now.leaves < 2 ^ 32 }
-    ensures { result + 1 ≡ 2 * length place.now.leaves }
+// Appends the sizes of the nodes at and below the node for a block. If an allocation fails, some of them may have been
+// appended.
+fn push_sizes(sizes: &mut Vec<u32>, stretches: &Stretches, window: Window) -> Result<(), AllocError>
+    requires window { IsWindow stretches.now window }
+    requires few { length (nodes_of stretches.now window) < 2 ^ 32 }
+    ensures { OnOk result (sizes.new.items ≡ sizes.old.items ++ map size_of (nodes_of stretches.now window)) }
 {
-    match place.parts() {
-        Parts::Leaf(_) => 1,
-        Parts::Inner(low, high) => 1 + count_nodes(&low) + count_nodes(&high),
+    // Provides the law that the stretches cover every address.
+    let _count = stretches.len();
+    let number = sizes.len();
+    sizes.push(1)?;
+    if window.from < window.to {
+        let (low, high) = window.halves(stretches);
+        push_sizes(sizes, stretches, low)?;
+        push_sizes(sizes, stretches, high)?;
+        sizes[number] = (sizes.len() - number) as u32;
     }
+    Ok(())
 }
 
 // Appends the leaves at and below the node. If an allocation fails, some of them may have been appended.

@@ -7,5 +7,5 @@ use Rattle.label_trie.proofs.cursor.cursor_at.Goals as goal
 pub invariant_of-addr : goal.invariant_of-addr
 invariant_of-addr c = record {
   in_range = subst (λ (v : Version). c.args.window.first < 2 ^ width_of v) (sym c.version.ensures)
-      (held_fits c.args.stretches.now c.len-count.ensures.every c.args.window.first c.args.window.from c.requires.start);
+      (held_fits c.args.stretches.now c.len-count.ensures.every c.args.window.first c.args.window.from c.requires.window.start);
 }

@@ -4,9 +4,15 @@ use Rattle.prefix_keys.specs.Block.{width_of}
 use Rattle.pmap_text.specs.declared.label.LabelId.{LabelId}
 use Rattle.label_trie.specs.TrieModel.{LeafModel, model_of}
 use Rattle.pmap_minimise.specs.Built.{AddsInner, AreHalves}
+use Rattle.pmap_minimise.proofs.BuiltNodes.{last-claim}
 use Rattle.pmap_minimise.proofs.Claimed.{halves-claimed, halves-claims, leaf-claimed}
 use Rattle.pmap_text.proofs.Finds.{All-left, All-right}
 use Rattle.pmap_minimise.proofs.claiming.+push_node.Goals as goal
+
+pub overflow_sub-upper : goal.overflow_sub-upper
+overflow_sub-upper t c =
+    let above = c.in_ok-push_node-in-Inner.ensures in
+    omega (arith, (last-claim c.args.nodes.now c.push_node.new.nodes above.node above.lines_are).inside, c.len-upper.ensures)
 
 pub push_node-requires : goal.push_node-requires
 push_node-requires t c =

@@ -23,7 +23,7 @@ returns c =
     let is = c.in_ok-stretches.ensures in
     let are = is.stretches in
     let own : IsMapOf (width_of s.version) map.statements (Some map.default) (map_of map) = rw is.version (map_is map) in
-    let trie = c.trie_of.ensures in
+    let trie = c.in_ok-trie.ensures in
     record {
       version = trie.version ∙ is.version;
       cut = rw (trie.leaves, ← is.version) (space_cut s are.every);

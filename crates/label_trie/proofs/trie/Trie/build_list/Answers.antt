@@ -21,7 +21,7 @@ returns c =
     let list = c.args.list.now in
     let is = c.in_ok-stretches.ensures in
     let every = is.stretches.2.every in
-    let trie = c.trie_of.ensures in
+    let trie = c.in_ok-trie.ensures in
     record {
       version = trie.version ∙ is.version;
       cut = rw (trie.leaves, ← is.version) (space_cut s every);
