@@ -117,7 +117,8 @@ pub fn claim_fault(
     }
 }
 
-/// Returns the fault of the claim of a chain with this path and side label, if any, by the claim of the node at its end.
+/// Returns the fault of the claim of a chain with this path and side label, if any, by the claim of the node at its
+/// end.
 #[tactic(auto, using(crate::proofs::Sets::set_ascending))]
 pub fn chain_fault(
     labels: &Labels,

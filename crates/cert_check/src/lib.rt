@@ -16,8 +16,8 @@
 //! on this: `check` returns the number of entries exactly if the certificate is accepted for the map and the list, and
 //! then the list labels every address as the map does and no list that does so has fewer entries. Otherwise it returns
 //! the first fault with the number of its node. `check_text` does the same for a certificate's text while it reads the
-//! text, and stores no node: a fault of the text comes first. `carried` and `carried_entries` return the statements and entries that
-//! affect a block.
+//! text, and stores no node: a fault of the text comes first. `carried` and `carried_entries` return the statements and
+//! entries that affect a block.
 #![tactic(auto)]
 
 mod carrying;

@@ -19,8 +19,8 @@ use pmap_cert::Path;
 use pmap_text::{Entry, LabelId, Window, by_rank};
 use prefix_keys::Block;
 
-/// A block with what affects it: the stretches of the map at its ends, the list's entries for blocks strictly inside it, in
-/// order, and the label of the longest entry that covers it.
+/// A block with what affects it: the stretches of the map at its ends, the list's entries for blocks strictly inside
+/// it, in order, and the label of the longest entry that covers it.
 #[derive(Drop)]
 pub struct Part<'a> {
     pub window: Window,
@@ -44,8 +44,8 @@ fn lie_in(entries: &[Entry], block: &Block) -> bool
 }
 
 impl<'a> Part<'a> {
-    /// Returns the part of a block, by the list's entries for the block itself and for blocks inside it, in order, and the
-    /// label of the longest entry with fewer bits that covers it.
+    /// Returns the part of a block, by the list's entries for the block itself and for blocks inside it, in order, and
+    /// the label of the longest entry with fewer bits that covers it.
     pub fn new(window: Window, entries: &'a [Entry], above: Option<LabelId>) -> Part<'a>
         ensures window { result.window ≡ window }
         ensures part { (s : Sources) → s.stretches.version ≡ s.list.now.version → IsWindow s.stretches window →

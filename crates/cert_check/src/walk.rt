@@ -13,8 +13,8 @@ use pmap_text::LabelId;
 use std::alloc::{AllocError, Global};
 use std::slice;
 
-/// The rest of a certificate's text, with its last node line, the number of the next node, from 1, the sets of the nodes
-/// whose claims are still to be compared, in the order of their lines, and the first fault of the nodes so far.
+/// The rest of a certificate's text, with its last node line, the number of the next node, from 1, the sets of the
+/// nodes whose claims are still to be compared, in the order of their lines, and the first fault of the nodes so far.
 #[derive(Drop)]
 pub struct Walk<'a> {
     pub lines: Lines<'a>,

@@ -137,7 +137,8 @@ pub fn a_block_is_an_address_and_a_length()
     ensures mapped_with_a_long_length { block_of_text (codes "::ffff:10.0.0.0/104") ≡ Ok (V6, 0xffff_0a00_0000, 104) }
 {}
 
-/// RFC 4291, section 2.3: three texts of one prefix, a node's address with its prefix, and texts that are wrong for the prefix.
+/// RFC 4291, section 2.3: three texts of one prefix, a node's address with its prefix, and texts that are wrong for the
+/// prefix.
 pub fn the_blocks_of_rfc_4291()
     ensures in_full { block_of_text (codes "2001:0DB8:0000:CD30:0000:0000:0000:0000/60") ≡ Ok (V6, 0x2001_0db8_0000_cd30_0000_0000_0000_0000, 60) }
     ensures a_gap_before { block_of_text (codes "2001:0DB8::CD30:0:0:0:0/60") ≡ Ok (V6, 0x2001_0db8_0000_cd30_0000_0000_0000_0000, 60) }

@@ -92,7 +92,8 @@ pub fn one_range_of_packets_or_bytes()
     ensures bytes_at_least { passes Bytes (codes "547-") tcp ≡ Ok false }
 {}
 
-/// FORMATS.md, "Filters": labels are compared byte by byte, and are no lists. An address without a label matches no label.
+/// FORMATS.md, "Filters": labels are compared byte by byte, and are no lists. An address without a label matches no
+/// label.
 pub fn labels()
     ensures of_the_source { passes_all ((SourceLabel, codes "Inside") ∷ []) (by_map (codes "10.0.0.0/8 Inside\n198.51.100.0/24 Out, far\n")) tcp ≡ Ok true }
     ensures of_the_destination { passes_all ((DestinationLabel, codes "Out, far") ∷ []) (by_map (codes "10.0.0.0/8 Inside\n198.51.100.0/24 Out, far\n")) tcp ≡ Ok true }

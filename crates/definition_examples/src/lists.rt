@@ -15,7 +15,8 @@ pub fn the_list_of_the_page()
     ensures its_name { of_list (λ m. m.name) office_list ≡ Ok None }
 {}
 
-/// FORMATS.md, "Prefix lists": if several entries cover an address, the one with the longest block counts, whatever their order.
+/// FORMATS.md, "Prefix lists": if several entries cover an address, the one with the longest block counts, whatever
+/// their order.
 pub fn the_longest_block_counts()
     ensures the_longer_one_later { under_list (codes "10.0.0.0/8 A\n10.1.0.0/16 B\n") (codes "10.1.0.1") ≡ Ok (Some (codes "B")) }
     ensures the_longer_one_earlier { under_list (codes "10.1.0.0/16 B\n10.0.0.0/8 A\n") (codes "10.1.0.1") ≡ Ok (Some (codes "B")) }

@@ -22,7 +22,8 @@ pub fn m1_bad_statement()
     ensures a_letter_in_hexadecimal { map_reading (codes "dead A\n") ≡ Err (at_line BadStatement 1) }
 {}
 
-/// The line begins with a malformed address, alone or in a block. A first word that begins with a digit or contains a `:` is taken for an address.
+/// The line begins with a malformed address, alone or in a block. A first word that begins with a digit or contains a
+/// `:` is taken for an address.
 pub fn m2_bad_address()
     ensures a_truncated_block { map_reading (codes "10.0.0/8 A") ≡ Err (at_line BadAddress 1) }
     ensures a_truncated_address { map_reading (codes "10.0.0 A") ≡ Err (at_line BadAddress 1) }

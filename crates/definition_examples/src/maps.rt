@@ -99,7 +99,8 @@ pub fn a_map_has_one_version()
     ensures the_length_belongs_to_the_address_as_written { of_map (λ m. m.mappings) (codes "::ffff:10.0.0.0/8 A\n") ≡ Ok (record { low = 0x0000; high = 0x00ff_ffff_ffff_ffff_ffff_ffff_ffff_ffff; label = codes "A" } ∷ []) }
 {}
 
-/// FORMATS.md, "Addresses and versions": the last remark. Outside `::ffff:0:0/96` there is no label, not even the default.
+/// FORMATS.md, "Addresses and versions": the last remark. Outside `::ffff:0:0/96` there is no label, not even the
+/// default.
 pub fn an_address_is_looked_up_in_the_version_of_the_map()
     ensures mapped_under_ipv4 { under_map (codes "10.0.0.0/8 A\n") (codes "::ffff:10.0.0.1") ≡ Ok (Some (codes "A")) }
     ensures mapped_under_a_default { under_map (codes "10.0.0.0/8 A\n") (codes "::ffff:11.0.0.1") ≡ Ok (Some (codes "UNKNOWN")) }
@@ -150,7 +151,8 @@ pub fn a_label_is_the_rest_of_its_line()
     ensures of_255_bytes { of_map (λ m. m.fallback) (codes "default " ++ replicate 255 120) ≡ Ok (replicate 255 120) }
 {}
 
-/// FORMATS.md, "Limits" and "Certificates": in the order of first occurrence, with `UNKNOWN` last if there is no default.
+/// FORMATS.md, "Limits" and "Certificates": in the order of first occurrence, with `UNKNOWN` last if there is no
+/// default.
 pub fn the_label_table_has_each_label_once()
     ensures of_an_empty_text { of_map (λ m. m.table) (codes "") ≡ Ok (codes "UNKNOWN" ∷ []) }
     ensures with_a_default { of_map (λ m. m.table) (codes "10.0.0.0/8 A\ndefault B\n") ≡ Ok (codes "A" ∷ codes "B" ∷ []) }

@@ -123,7 +123,8 @@ pub fn the_flow_records_of_rfc_7011()
     ensures the_third { rows_of (value 8 (codes "c0000238") ∷ value 12 (codes "c0000241") ∷ value 15 (codes "c0000203") ∷ value 2 (codes "00000005") ∷ value 1 (codes "00001986") ∷ []) ≡ record plain { src = 0xc000_0238; dst = 0xc000_0241; packets = 5; octets = 6534 } ∷ [] }
 {}
 
-/// RFC 7011, sections 3.4.3 and 7: the length of a value is that of its field, or precedes the value in one byte or three.
+/// RFC 7011, sections 3.4.3 and 7: the length of a value is that of its field, or precedes the value in one byte or
+/// three.
 pub fn values_are_cut_out_of_a_record()
     ensures fixed_lengths { values_at (field 8 4 ∷ field 7 2 ∷ []) (hex (codes "0a000001 0050 ff")) ≡ Some (record { field = field 8 4; value = hex (codes "0a000001") } ∷ record { field = field 7 2; value = hex (codes "0050") } ∷ [], hex (codes "ff")) }
     ensures too_short { values_at (field 8 4 ∷ field 7 2 ∷ []) (hex (codes "0a000001 00")) ≡ None }

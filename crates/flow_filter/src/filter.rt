@@ -154,8 +154,8 @@ impl<'a> Filter<'a> {
         Ok(Filter { parts })
     }
 
-    /// Returns `true` if the row meets each condition given. Without a labeller no address has a label. Inlined, so that
-    /// a filter without conditions costs no call.
+    /// Returns `true` if the row meets each condition given. Without a labeller no address has a label. Inlined, so
+    /// that a filter without conditions costs no call.
     #[inline(always)]
     pub fn passes<L: Labeller>(&self, row: &Row<'_>, labeller: Option<&L>) -> bool
         ensures { result ≡ row_passes self.now

@@ -16,9 +16,9 @@
 //! byte. A type may also report its bytes: those that a reader will still return, or those that a writer has taken. The
 //! contract of each read and write then says which bytes moved.
 //!
-//! `Watched` wraps any reader or writer of std. A slice or a `Vec` reports its bytes. A file does not, as no contract says
-//! what the system reads or writes. `MemoryInput` and `MemoryOutput` are for tests. `read_whole` and `write_whole` move all
-//! bytes, and return a fault if and only if their reader or writer failed. Only `read_whole` allocates.
+//! `Watched` wraps any reader or writer of std. A slice or a `Vec` reports its bytes. A file does not, as no contract
+//! says what the system reads or writes. `MemoryInput` and `MemoryOutput` are for tests. `read_whole` and `write_whole`
+//! move all bytes, and return a fault if and only if their reader or writer failed. Only `read_whole` allocates.
 #![tactic(auto)]
 
 mod devices;

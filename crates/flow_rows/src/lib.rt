@@ -14,12 +14,12 @@
 //! ```
 //!
 //! This crate uses ipfix_read (records and messages) and prefix_keys (addresses). `row_of` returns the flow row of a
-//! data record, and `reverse_row_of` the second row of a record with both directions of a flow (RFC 5103). A row borrows
-//! its record. Each number is read when it is requested: the first usable field of its information element, in network
-//! byte order. `give_rows` gives the rows of a message to what takes them. `Counts` counts the contents of messages.
-//! Callers may rely on this: the rows are a function of the list of the record's fields with their values. A record
-//! without both addresses of a version, and an options record, have none. Counts of a list of messages are, after one
-//! more message, those of the list with that message. Nothing here allocates.
+//! data record, and `reverse_row_of` the second row of a record with both directions of a flow (RFC 5103). A row
+//! borrows its record. Each number is read when it is requested: the first usable field of its information element, in
+//! network byte order. `give_rows` gives the rows of a message to what takes them. `Counts` counts the contents of
+//! messages. Callers may rely on this: the rows are a function of the list of the record's fields with their values. A
+//! record without both addresses of a version, and an options record, have none. Counts of a list of messages are,
+//! after one more message, those of the list with that message. Nothing here allocates.
 #![tactic(auto)]
 
 mod counting;

@@ -16,8 +16,8 @@
 //! in force. For any other bytes, the fault is the first one in byte order. The messages or the fault are a function of
 //! the bytes (`file_reading`), which can be computed. The rest of a File may be read after any of its messages.
 //!
-//! `Messages` reads the same messages from a reader, one at a time, into one buffer from which the message borrows. By a
-//! law the bytes of all calls are the whole File, whether or not the reader reports its bytes.
+//! `Messages` reads the same messages from a reader, one at a time, into one buffer from which the message borrows. By
+//! a law the bytes of all calls are the whole File, whether or not the reader reports its bytes.
 #![tactic(auto)]
 
 mod fault;

@@ -124,8 +124,8 @@ pub fn read_variable(bytes: &[u8]) -> Option<(&[u8], &[u8])>
 }
 
 /// Skips the values of these fields at the start of the bytes, and returns the bytes after them. Returns `None` if the
-/// values are not complete. The fixed lengths between variable fields are skipped together, so each step but the last takes
-/// at least one byte.
+/// values are not complete. The fixed lengths between variable fields are skipped together, so each step but the last
+/// takes at least one byte.
 pub fn skip_values<'a>(fields: &Fields, bytes: &'a [u8]) -> Option<&'a [u8]>
     ensures { option_map (λ rest. (whole_values fields.now bytes.now, rest.now)) result ≡ values_at fields.now bytes.now }
 {

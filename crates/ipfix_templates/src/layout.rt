@@ -168,8 +168,8 @@ fn places_between(is_v4: bool, src: Place, dst: Place, fields: &[Field]) -> Plac
     }
 }
 
-// Returns the places of the first row, if records with these fields have both addresses of a version. Those of IPv4 take
-// precedence.
+// Returns the places of the first row, if records with these fields have both addresses of a version. Those of IPv4
+// take precedence.
 fn first_places(fields: &[Field]) -> Option<Places>
     requires { length fields.now ≤ 65535 }
     ensures { result ≡ first_places (λ number. place forward number 0 0 fields.now) }

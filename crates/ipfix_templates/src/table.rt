@@ -5,8 +5,8 @@ use crate::template::Template;
 use std::alloc::{AllocError, Global};
 use std::collections::BTreeMap;
 
-// Templates by their domains and IDs. The templates of each domain have a map of their own, so dropping all of them does
-// not visit those of other domains. The maps are ordered, so no choice of domains or IDs makes a lookup slow.
+// Templates by their domains and IDs. The templates of each domain have a map of their own, so dropping all of them
+// does not visit those of other domains. The maps are ordered, so no choice of domains or IDs makes a lookup slow.
 type Domains = BTreeMap<u32, BTreeMap<u16, Template>>;
 
 /// The templates of each observation domain, by their IDs. `template_at` is the template at a domain and an ID.

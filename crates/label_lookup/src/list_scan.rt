@@ -50,7 +50,7 @@ impl<'a> Labeller for ListScan<'a> {
     }
 }
 
-// Returns the first of the longest entries that cover an address.
+// Returns one of the longest entries that cover an address.
 fn longest(entries: &Entries, addr: Addr) -> Option<Entry>
     ensures { IsLongest entries.now addr result }
 {

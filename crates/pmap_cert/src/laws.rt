@@ -47,7 +47,7 @@ pub fn minimal_pair_is_unique()
         IsMinimalPair m l c → IsMinimalPair m l' c' → l ≡ l' }
 {}
 
-/// A map read from a text has all its labels in its table, so it has only one minimal list.
+/// A map read from a text has all its labels in its table.
 pub fn map_text_has_its_labels()
     ensures { (text : List ℕ) (m : MapModel) → map_reading text ≡ Ok m → HasItsLabels m }
 {}

@@ -15,8 +15,8 @@
 //! depends on prefix_keys (blocks) and pmap_text (maps, prefix lists and their labels).
 //!
 //! The minimiser and the checker may rely on these laws: an accepted certificate shows that its list is equivalent and
-//! that no equivalent list is shorter; each map has a minimal pair of a list and a certificate that is accepted; all
-//! minimal pairs of a map are alike; and a map read from a text has one whose certificate has a text. The type
+//! that no equivalent list is shorter; each map has a minimal pair of a list and a certificate that is accepted; a
+//! map has at most one minimal pair; and a map read from a text has one whose certificate has a text. The type
 //! `Certificate` ensures that labels are in the table, that the numbers of each set ascend, that no node is deeper than
 //! an address has bits, and that format 1 has no chain. `write_cert` writes the one text of a certificate of either
 //! format. `read_cert` reads exactly these texts, and reports the first fault of any other. `compact` replaces runs of

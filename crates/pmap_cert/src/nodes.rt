@@ -13,8 +13,8 @@ use std::slice;
 // The number of values of 32 bits.
 const HALF: usize = 1 << 32;
 
-// The line of a node: a leaf's label, an inner node's cost and set, or the index of a chain. A set of one label is in the
-// line of its inner node, any other in `sets`, from an index on.
+// The line of a node: a leaf's label, an inner node's cost and set, or the index of a chain. A set of one label is in
+// the line of its inner node, any other in `sets`, from an index on.
 #[derive(Clone, Copy)]
 enum Packed {
     Leaf(LabelId),

@@ -7,7 +7,7 @@ use std::marker::Model;
 
 /// The root of a certificate with the nodes below it. A node is a leaf with the number of its label, an inner node with
 /// the cost and the set that it claims and the nodes of its block's halves, or a chain with such a claim, its bits, its
-/// side label and the node at its end. `Certificate::root` walks over them.
+/// side label and the node at its end. A walk over them begins at `Certificate::root`.
 #[derive(Drop)]
 pub struct Root {
     nodes: Nodes,

@@ -66,9 +66,9 @@ pub fn minimise(alloc: Global, map: &MapText, trie: &Trie) -> Result<Minimal, Al
     })
 }
 
-/// Returns the list of `minimise`, made without a trie and without the certificate's nodes: a shortest prefix list that
-/// labels every address as the map does, with the map's name and label table. The list depends only on the labels of
-/// addresses, so it is built from runs of one label.
+/// Returns the list of `minimise`, made without a trie: a shortest prefix list that labels every address as the map
+/// does, with the map's name and label table. The list depends only on the labels of addresses, so it is built from
+/// runs of one label.
 pub fn shortest(alloc: Global, map: MapText) -> Result<PrefixList, AllocError>
     // The list and a certificate that has a text are the map's minimal pair.
     ensures minimal { IfOk result (λ list. (c : CertificateModel) × IsMinimalPair (map_of map) (list_of list) c

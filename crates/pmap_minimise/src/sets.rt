@@ -65,8 +65,8 @@ fn either(alloc: Global, low: &[LabelId], high: &[LabelId]) -> Result<SmallSet, 
     Ok(set)
 }
 
-/// Returns the exact claim of two halves with these claims, its cost and its set: the labels that both have or, if there
-/// are none, those that either has, for one more than the sum of the costs.
+/// Returns the exact claim of two halves with these claims, its cost and its set: the labels that both have or, if
+/// there are none, those that either has, for one more than the sum of the costs.
 pub fn exact_claim(
     alloc: Global,
     low_cost: u32,

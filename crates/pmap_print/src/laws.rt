@@ -47,8 +47,8 @@ pub fn printed_list_is_read_back()
 
 /// The list of a minimal pair of a map text is well formed: its blocks are distinct, and its labels and its name are
 /// well formed. If it has at most 1,000,000 entries with at most 65,535 label texts, it can be printed and read again,
-/// and the pair's certificate is accepted for the list that is read. The map text doesn't imply these limits: a range may
-/// need several blocks, and a text with 65,535 labels may also use `UNKNOWN` without stating it.
+/// and the pair's certificate is accepted for the list that is read. The map text doesn't imply these limits: a range
+/// may need several blocks, and a text with 65,535 labels may also use `UNKNOWN` without stating it.
 pub fn minimal_list_can_be_read_again()
     ensures form { (text : List ℕ) (m : MapModel) (l : ListModel) (c : CertificateModel) →
         map_reading text ≡ Ok m → IsMinimalPair m l c → IsWellFormed l }

@@ -134,7 +134,8 @@ impl Table {
         Ok(table)
     }
 
-    /// Adds the line of a row, with its labels if the table has columns for them. The field of a missing label is empty.
+    /// Adds the line of a row, with its labels if the table has columns for them. The field of a missing label is
+    /// empty.
     ///
     /// # Errors
     /// If an allocation fails. The table may then end with a part of the line, and must not be used any more.

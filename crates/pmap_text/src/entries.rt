@@ -87,7 +87,7 @@ impl Entries {
         }
     }
 
-    /// Returns `true` if each entry comes after the one before it. Entries of two versions count as out of order.
+    /// Returns `true` only if each entry comes after the one before it. Entries of two versions count as out of order.
     pub(crate) fn are_in_order(&self) -> bool
         ensures ascending { IsTrue result → IsNonDecreasingBy (λ e. rank_of e.block) self.now }
         ensures distinct { IsTrue result → HasDistinctBlocks self.now }

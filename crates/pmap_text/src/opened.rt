@@ -39,7 +39,7 @@ impl Opened {
         }
     }
 
-    /// Adds a number. If an allocation fails, nothing changes.
+    /// Adds a number.
     #[inline(always)]
     pub fn push(&mut self, number: usize) -> Result<(), AllocError>
         ensures { OnOk result (IsPermutation (number ∷ self.old) self.new) }

@@ -36,8 +36,8 @@ fn checked(
     }
 }
 
-/// Returns the number of entries of a list, if the certificate shows that the list is a shortest one for the map. A file
-/// is read only after the one before it is decoded, so this function takes the files and not their texts.
+/// Returns the number of entries of a list, if the certificate shows that the list is a shortest one for the map. A
+/// file is read only after the one before it is decoded, so this function takes the files and not their texts.
 pub fn output<R: Input>(
     alloc: Global,
     files: &mut ByFile<Option<Source<'_, R>>>,

@@ -1,7 +1,7 @@
 //! Worked examples: what a request prints for given texts, by the definition of its output.
 //!
-//! The functions do nothing. Each clause is a claim that the prover computes. The texts are small, and what they give is
-//! worked out by hand from the rules of docs/FORMATS.md.
+//! The functions do nothing. Each clause is a claim that the prover computes. The texts are small, and what they give
+//! is worked out by hand from the rules of docs/FORMATS.md.
 #![tactic(auto, unfolding(crate::specs::Examples::opened))]
 
 ghost use Rattle.std.specs.Prelude.{◌++◌, ◌∷◌, [], Err, None, Ok, Some, codes, false};

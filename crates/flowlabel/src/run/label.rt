@@ -33,8 +33,8 @@ fn line_by<L: Labeller>(alloc: Global, labels: &L, addr: Addr) -> Result<Vec<u8>
     }
 }
 
-/// Returns the line of the label that the text of a map or a list gives an address. It searches all statements or entries
-/// once, which takes less time than building an index.
+/// Returns the line of the label that the text of a map or a list gives an address. It searches all statements or
+/// entries once, which takes less time than building an index.
 pub fn output(
     alloc: Global,
     labels: LabelFile<'_>,

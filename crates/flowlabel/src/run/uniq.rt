@@ -43,8 +43,8 @@ impl<'a> TakesRows for UniqReport<'a> {
     }
 }
 
-/// Returns the groups, by fields, of the rows of a File that pass a filter. They are sorted if `sorted`, otherwise in the
-/// order of their first rows, and padded to columns if `columns`.
+/// Returns the groups, by fields, of the rows of a File that pass a filter. They are sorted if `sorted`, otherwise in
+/// the order of their first rows, and padded to columns if `columns`.
 pub fn output<R: Input>(
     alloc: Global,
     keys: &Keys,
