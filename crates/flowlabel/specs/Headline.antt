@@ -3,7 +3,7 @@ use Rattle.std.specs.List.Sorted.{IsSortedBy}
 use Rattle.std.specs.Option.{ForSome}
 use Rattle.prefix_keys.specs.Block.{width_of}
 use Rattle.pmap_text.specs.ListModel.{IsEquivalent, ListModel}
-use Rattle.pmap_text.specs.MapModel.{Label, MapModel}
+use Rattle.pmap_text.specs.MapModel.{Label, MapModel, map_label}
 use Rattle.pmap_text.specs.Reading.{map_reading, list_reading}
 use Rattle.pmap_cert.specs.Acceptance.{IsLeast, IsInOrder}
 use Rattle.pmap_cert.specs.CertificateText.{certificate_text}
@@ -92,10 +92,15 @@ IsHeadline (check map list certificate) out = (m : MapModel) × (l : ListModel) 
     × IsEquivalent l m × IsLeast m l × (out ≡ minimal_text (length l.prefixes))
 IsHeadline (recert certificate) out = IsAsGood certificate out
 
--- The printed text of a list is read again as this list, with a label table of its own. Over the map's text, this text
--- and the printed certificate, compacted or not, `check` prints the number of the list's entries.
-pub record StandsAgain (map : Text) (l : ListModel) (c : CertificateModel) : Type 0 where
+-- The printed text of a list is read again as this list, with a label table of its own. Read as a map text, the text
+-- gives each address the same label as the map. Over the map's text, the printed text and the printed certificate,
+-- compacted or not, `check` prints the number of the list's entries.
+pub record StandsAgain (map : Text) (m : MapModel) (l : ListModel) (c : CertificateModel) : Type 0 where
   pub table : List Label
   pub reads : list_reading (list_text l) ≡ Ok (record l { table = table })
+  pub again : MapModel
+  pub reads_map : map_reading (list_text l) ≡ Ok again
+  pub version : again.version ≡ m.version
+  pub labels : (a : ℕ) → a < 2 ^ width_of m.version → map_label again a ≡ map_label m a
   pub checks : (printed : Text) → (printed ≡ certificate_text c) ⊎ (printed ≡ certificate_text (compact c))
       → IsOutput (check map (list_text l) printed) (Ok (minimal_text (length l.prefixes)))

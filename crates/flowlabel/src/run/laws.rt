@@ -35,12 +35,13 @@ pub fn one_output()
 }
 
 /// For each map text, `shrink` prints a shortest list, or its certificate. If the list is within the limits of a text,
-/// its text is read again as the same list, and `check` accepts it with the certificate, compacted or not.
+/// its text is read again as the same list. Read as a map text, the text gives each address the same label as the map.
+/// `check` accepts the text with the certificate, compacted or not.
 pub fn shrunk_list_is_least()
     ensures { (map : Text) (m : MapModel) → map_reading map ≡ Ok m → (l : ListModel) × (c : CertificateModel)
         × ((printed : Shrunk) → IsOutput (shrink map printed) (Ok (shrunk_text printed l c)))
         × IsShortest m l c
-        × (length l.prefixes ≤ mapping_limit → length (labels_of l.prefixes) ≤ label_limit → StandsAgain map l c) }
+        × (length l.prefixes ≤ mapping_limit → length (labels_of l.prefixes) ≤ label_limit → StandsAgain map m l c) }
 {
     map_text_has_a_minimal_pair();
     map_text_has_its_labels();

@@ -1,4 +1,9 @@
-use Rattle.std.proofs.Common.{◌≡◌, ◌∙◌, ℕ, Ok, None, Option, ap, inl, inr, length, refl, sym}
+use Rattle.std.proofs.Common.{◌≡◌, ◌∙◌, ◌^◌, ◌<◌, ℕ, Ok, None, Option, ap, inl, inr, length, refl, subst, sym, unwrap_or}
+use Rattle.prefix_keys.specs.Block.{width_of}
+use Rattle.prefix_keys.specs.declared.version.Version.{Version}
+use Rattle.pmap_text.specs.ListModel.{IsEquivalent}
+use Rattle.pmap_text.specs.MapModel.{Label}
+use Rattle.pmap_text.specs.Reading.{unknown}
 use Rattle.pmap_cert.specs.Acceptance.{IsAccepted, IsInOrder}
 use Rattle.pmap_cert.specs.CertificateText.{HasFormatText, certificate_text}
 use Rattle.pmap_cert.specs.CertificateModel.{CertificateModel}
@@ -38,9 +43,16 @@ returns c map m reads =
           let (can, kept) = c.minimal_list_can_be_read_again.ensures.again map m l k reads pair few few_labels in
           let (again, reads_list, is) = c.printed_list_is_read_back.ensures.list l can in
           let (same, accepted') = kept again is in
+          let (other, reads_map, is_map) = c.printed_list_is_read_back.ensures.map l can in
+          let alike : IsEquivalent l m = c.acceptance_is_enough.ensures.equivalent m l k accepted in
           record {
             table = again.table;
             reads = reads_list ∙ (λ i. Ok (record { version = is.version i; name = is.name i; prefixes = same i; table = again.table }));
+            again = other;
+            reads_map = reads_map;
+            version = is_map.version ∙ alike.version;
+            labels = λ a below. is_map.labels a (subst (λ (v : Version). a < 2 ^ width_of v) (sym alike.version) below)
+                ∙ ap (λ (o : Option Label). unwrap_or o unknown) (alike.labels a below);
             checks = λ printed either.
                 let (x, reads', accepts) : (x : CertificateModel) × (format_reading printed ≡ Ok x) × IsAccepted m again x = elim either [
                   | inl plain ↦ (k, (read printed k).1 (formed, plain), accepted')
