@@ -90,34 +90,3 @@ failing_in_group keys condition labels rows row had has failed = record {
   count = omega (arith, has.count, length-append rows (row ∷ []));
   groups = has.groups ∙ ap (groups_of keys (label_where labels)) (sym (without_failing condition labels rows row failed));
 }
-
--- the rows of messages, with those of one more message
-messages_more : (messages : List MessageView) (message : MessageView)
-    → rows_of_messages (messages ++ message ∷ []) ≡ rows_of_messages messages ++ rows_of message.sets
-messages_more messages message =
-    ap rows_of
-    (flat_map-append (λ (m : MessageView). m.sets) messages (message ∷ []) ∙ ap (λ (sets : List Set). sets_of messages ++ sets) (append-nil message.sets))
-    ∙ ap (λ (records : List Record). flat_map rows_of_record records) (flat_map-append records_in (sets_of messages) message.sets)
-    ∙ flat_map-append rows_of_record (records_of (sets_of messages)) (records_of message.sets)
-
--- a report that takes the rows of one more message
-module _ {T : Type 0} (has : List RowView → T → Type 0) (messages : List MessageView) (few : length messages < 4294967295) (old : T) (is : IsAfter has messages old) where
-  pub can_take : CanTake has 131070 old
-  can_take = (rows_of_messages messages, omega (arith, few, is.few), is.rows)
-
-  pub after_message : (message : MessageView) (new : T) → length (rows_of message.sets) ≤ 131070 → Takes has (rows_of message.sets) old new
-      → IsAfter has (messages ++ message ∷ []) new
-  after_message message new small takes = record {
-    few =
-        omega (
-          arith,
-          ap length (messages_more messages message),
-          length-append (rows_of_messages messages) (rows_of message.sets),
-          length-append messages (message ∷ []),
-          small,
-          is.few,
-        );
-    rows =
-        subst (λ (rows : List RowView). has rows new) (sym (messages_more messages message))
-        (takes (rows_of_messages messages) (omega (arith, small, few, is.few)) is.rows);
-  }

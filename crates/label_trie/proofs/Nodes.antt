@@ -66,7 +66,7 @@ module _ (s : StretchesModel) (every : HasEveryAddress s) (w : Window) (is : IsW
     pub length_both : length (nodes_of s w) ≡ 1 + length (nodes_of s low) + length (nodes_of s high)
     length_both = omega (arith, ap length (both_nodes s every w is other low high are), length-append (nodes_of s low) (nodes_of s high))
 
-    -- a list with the sizes of the halves' nodes behind a number, once their number stands there
+    -- a list that ends with a number and the sizes of the halves' nodes, after the size is set in place of the number
     pub sizes_set : (old new : List ℕ) (size : ℕ) → new ≡ old ++ 1 ∷ [] ++ map size_of (nodes_of s low) ++ map size_of (nodes_of s high)
         → size + length old ≡ length new → set new (length old) size ≡ old ++ map size_of (nodes_of s w)
     sizes_set old new size is_new sized =

@@ -1,13 +1,11 @@
 -- The lines of groups, one by one.
-use Rattle.std.proofs.Common.{ℕ, subst, ◌≡◌, ◌+◌, ◌<◌, ◌∙◌, List, [], ◌∷◌, ◌++◌, All, Some, length, map, take, get_or, slice_get, ap, sym, arith}
+use Rattle.std.proofs.Common.{ℕ, subst, ◌≡◌, ◌+◌, ◌∙◌, List, [], ◌∷◌, ◌++◌, All, Some, length, map, take, slice_get, ap, sym, arith}
 use Rattle.std.specs.Prelude.{decimal}
-use Rattle.std.proofs.lemmas.List.{get_or-map, length-append, length-map, map_push, take_more}
-use Rattle.std.proofs.lemmas.Option.{get_or_from_slice_get, slice_get-get_or, slice_get_within}
+use Rattle.std.proofs.lemmas.List.{length-append, length-map, map_push, take_more}
+use Rattle.std.proofs.lemmas.Option.{get_or_from_slice_get, slice_get_within}
 use Rattle.flow_uniq.specs.declared.field.KeyField.{KeyField}
-use Rattle.flow_uniq.specs.declared.groups.Group.{Group}
 use Rattle.flow_uniq.specs.Key.{field_name}
 use Rattle.flow_uniq.specs.Groups.{GroupModel}
-use Rattle.flow_uniq.specs.Inner.{group_model}
 use Rattle.pmap_print.specs.Reports.{group_fields, group_titles, part_text, total_titles}
 use Rattle.pmap_print.specs.Table.{Line}
 
@@ -35,9 +33,3 @@ pub parts_at : (groups : List GroupModel) (count i : ℕ) (g : GroupModel) → A
 parts_at groups count i g all at =
     length-group_fields g count (subst (λ (x : GroupModel). length x.key ≡ count) (get_or_from_slice_get groups i g g at)
     (all i g (slice_get_within groups i g at)))
-
--- the group of a list at an index
-pub listed_at : (groups : List Group) (i : ℕ) (d : Group) → i < length groups → slice_get (map group_model groups) i ≡ Some (group_model (get_or groups i d))
-listed_at groups i d inside =
-    slice_get-get_or (map group_model groups) i (group_model d) (omega (arith, inside, length-map groups group_model))
-    ∙ ap Some (get_or-map group_model groups i d (group_model d) inside)

@@ -17,7 +17,7 @@ push_sizes-requires-then-window t c =
     let both = length_both c.args.stretches.now c.len-count.ensures.every c.args.window c.requires.window (λ same. omega (arith, same, c.if-window.true)) c.halves.result.0 c.halves.result.1 are in
     (omega (arith, c.decreases, are.high_len, are.high_window.within), (are.high_window, omega (arith, both, c.requires.few)))
 
--- the sizes of the halves' nodes stand behind the own one
+-- the sizes of the halves' nodes follow the block's own
 joined : (old pushed first both lows highs : List ℕ) → pushed ≡ old ++ 1 ∷ [] → first ≡ pushed ++ lows → both ≡ first ++ highs
     → both ≡ old ++ 1 ∷ [] ++ lows ++ highs
 joined old pushed first both lows highs p f b = b ∙ ap (λ (l : List ℕ). l ++ highs) (f ∙ ap (λ (l : List ℕ). l ++ lows) p)
