@@ -1,5 +1,5 @@
 -- The values of a data record (RFC 7011 sections 3.4.3 and 7).
-use Rattle.std.specs.Prelude.{ℕ, List, [], ◌∷◌, length, take, drop, Option, Some, None, option_and_then, nat_lt, if◌then◌else◌}
+use Rattle.std.specs.Prelude.{◌≡◌, false, ℕ, List, [], ◌∷◌, length, take, drop, Option, Some, None, option_and_then, nat_lt, if◌then◌else◌}
 use Rattle.std.specs.Option.{option_map_or}
 use Rattle.byteorder.specs.Endian.{big_number}
 use Rattle.ipfix_templates.specs.declared.field.Field.{Field}
@@ -9,6 +9,10 @@ use Rattle.ipfix_templates.specs.Field.{is_variable}
 pub record FieldValueView : Type 0 where
   pub field : Field
   pub value : List ℕ
+
+-- the value of a field of fixed length has that length
+abbrev pub IsValueOf : Field → List ℕ → Type 0
+IsValueOf field value = is_variable field ≡ false → length value ≡ field.length
 
 -- the given number of bytes at the start, and the bytes after them
 abbrev pub bytes_at : ℕ → List ℕ → Option (List ℕ × List ℕ)

@@ -17,11 +17,13 @@ pub struct FieldValue<'a> {
 }
 
 impl<'a> Model for FieldValue<'a> {
-    ghost use Rattle.ipfix_read.specs.Value.{FieldValueView};
+    ghost use Rattle.ipfix_read.specs.Value.{FieldValueView, IsValueOf};
 
     ghost Value = { FieldValueView };
 
     ghost view = { λ v. record { field = v.field; value = v.value.now } };
+
+    ghost invariant = { λ v. IsValueOf v.field v.value.now };
 }
 
 /// The values of a data record, one for each field of its template. The list holds the bytes from the record on, and
