@@ -1,6 +1,6 @@
 use Rattle.std.specs.Prelude.{ℕ, List, Option, Some, None, fold, option_and_then, ◌==◌, ◌&&◌, if◌then◌else◌}
 use Rattle.std.specs.Option.{option_or}
-use Rattle.ipfix_templates.specs.Template.{same_kind, Template}
+use Rattle.ipfix_templates.specs.Template.{same_kind, TemplateView}
 use Rattle.ipfix_templates.specs.Table.{stored}
 pub use Rattle.ipfix_templates.specs.declared.table.TemplateTable.{TemplateTable}
 pub use Rattle.ipfix_templates.specs.declared.event.TemplateEvent.{TemplateEvent}
@@ -8,13 +8,13 @@ pub use Rattle.ipfix_templates.specs.declared.event.TemplateEvent.TheVariants.{D
 
 -- the templates in force, by domain and ID (RFC 7011 section 8)
 abbrev pub InForce : Type 0
-InForce = ℕ → ℕ → Option Template
+InForce = ℕ → ℕ → Option TemplateView
 
 abbrev pub no_templates : InForce
 no_templates domain id = None
 
 -- these templates, but with this one or none at a domain and an ID
-abbrev pub changed_at : InForce → ℕ → ℕ → Option Template → InForce
+abbrev pub changed_at : InForce → ℕ → ℕ → Option TemplateView → InForce
 changed_at before at number value domain id = if at == domain && number == id then value else before domain id
 
 -- the templates in force after one more event in a domain: it puts a template at its ID, removes the one at an ID, or

@@ -1,7 +1,7 @@
 -- Where the numbers of rows are in records with the same fields. This is private. A record's values alone specify its
 -- rows, and callers need not read this file.
 use Rattle.std.specs.Prelude.{ℕ, ◌+◌, List, [], ◌∷◌, Bool, true, false, not, Option, Some, None, option_map, ◌==◌, ◌&&◌, if◌then◌else◌}
-use Rattle.ipfix_templates.specs.Field.{Field, is_variable}
+use Rattle.ipfix_templates.specs.Field.{FieldView, is_variable}
 use Rattle.ipfix_templates.specs.Elements.{back, forward, is_usable}
 use Rattle.ipfix_templates.specs.declared.layout.Place.{Place}
 use Rattle.ipfix_templates.specs.declared.layout.Places.{Places}
@@ -9,7 +9,7 @@ use Rattle.ipfix_templates.specs.declared.layout.RowLayout.{RowLayout}
 
 -- the place of an element of a direction: that of the value of the first usable field, after `skips` variable values and
 -- `offset` bytes; a missing one has no length
-abbrev pub place : Option ℕ → ℕ → ℕ → ℕ → List Field → Place
+abbrev pub place : Option ℕ → ℕ → ℕ → ℕ → List FieldView → Place
 place direction number skips offset [] = record { offset = 0; skips = 0; length = 0 }
 place direction number skips offset (f ∷ fs) =
     if is_usable direction number f then record { offset = offset; skips = skips; length = f.length }
@@ -60,7 +60,7 @@ second_places first at = record {
 }
 
 -- the places of both rows of records with these fields, if they have rows
-unfoldable pub layout_of : List Field → Option RowLayout
+unfoldable pub layout_of : List FieldView → Option RowLayout
 layout_of fields =
     option_map (λ first. record { first = first; second = second_places first (λ number. place back number 0 0 fields) })
     (first_places (λ number. place forward number 0 0 fields))

@@ -28,11 +28,11 @@ pub struct Fields {
 impl Model for Fields {
     ghost use Rattle.std.specs.Prelude.{◌≡◌, ◌≤◌, List, length};
     ghost use Rattle.std.specs.Rc.{rc_value};
-    ghost use Rattle.ipfix_templates.specs.Field.{Field, least_length};
+    ghost use Rattle.ipfix_templates.specs.Field.{FieldView, least_length};
     ghost use Rattle.ipfix_templates.specs.Runs.{runs_behind, last_run_behind};
     ghost use Rattle.ipfix_templates.specs.Layout.{layout_of};
 
-    ghost Value = { List Field };
+    ghost Value = { List FieldView };
 
     ghost view = { λ a. (rc_value a.shared).items.items };
 

@@ -1,4 +1,4 @@
-ghost use Rattle.std.specs.Prelude.{◌≡◌, ◌≤◌, ◌⊎◌, length, IfErr, IfOk, Ok, None, Some, option_map};
+ghost use Rattle.std.specs.Prelude.{◌≡◌, ◌<◌, ◌≤◌, ◌⊎◌, length, IfErr, IfOk, Ok, None, Some, option_map};
 ghost use Rattle.ipfix_templates.specs.Reading.{NoMemory, Truncated, IsFault, field_at, fields_at, template_record_at, definition_at};
 
 use crate::event::TemplateEvent;
@@ -76,6 +76,8 @@ fn read_definition(
     count: u16,
     bytes: &[u8],
 ) -> Read<'_, TemplateEvent>
+    requires id { 256 ≤ id }
+    requires some { 0 < count }
     ensures ok { IfOk result (λ x. definition_at kind id count bytes.now ≡ Ok (x.0, x.1.now)) }
     ensures fault { IfErr result (IsFault NoMemory (definition_at kind id count bytes.now)) }
 {

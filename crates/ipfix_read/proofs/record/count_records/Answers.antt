@@ -1,8 +1,9 @@
-use Rattle.std.proofs.Common.{◌≡◌, ◌+◌, ◌*◌, ◌/◌, [], drop, length, sym, ◌∙◌, length-drop, arith}
+use Rattle.std.proofs.Common.{◌≡◌, ◌+◌, ◌*◌, ◌/◌, [], ap, drop, length, sym, ◌∙◌, length-drop, arith}
 use Rattle.std.proofs.Math.Nat.{div-mul-le_self}
 use Rattle.std.proofs.lemmas.Bool.{eqb-true}
 use Rattle.std.proofs.lemmas.List.{nil_from_length}
 use Rattle.ipfix_templates.specs.Field.{least_length}
+use Rattle.ipfix_templates.specs.declared.template.Template.{Template}
 use Rattle.ipfix_read.proofs.RecordValues.{HasRead, cut_off, few_end, few_left, fixed_read, none_end, none_read, one_read, packed, values_shorter}
 use Rattle.ipfix_read.proofs.record.count_records.Goals as goal
 
@@ -19,8 +20,9 @@ fixed : (c : goal.Then-is_empty) → HasRead c.args.template.now c.args.base c.a
 fixed c =
     let t = c.args.template.now in
     let bytes = c.args.bytes.now in
+    let fields = ap (λ (t : Template). t.fields) c.template.view_is in
     let none : c.runs.result.now ≡ [] = nil_from_length c.runs.result.now (eqb-true _ _ (sym c.is_empty.ensures ∙ c.if-is_empty.true)) in
-    fixed_read t c.args.base bytes (length bytes / least_length t.fields) (sym c.runs.ensures ∙ none) (omega (arith, c.least_length-least.ensures)) (div-mul-le_self (length bytes) (least_length t.fields))
+    fixed_read t c.args.base bytes (length bytes / least_length t.fields) (rw fields at (sym c.runs.ensures ∙ none)) (omega (arith, c.least_length-least.ensures)) (div-mul-le_self (length bytes) (least_length t.fields))
 
 pub returns-then-is_empty-clause-ok : goal.returns-then-is_empty-clause-ok
 returns-then-is_empty-clause-ok c =
@@ -39,8 +41,9 @@ overflow_sub-offset c = omega (arith, c.loop-rest.invariant.within)
 
 pub returns-in_default-clause-fault : goal.returns-in_default-clause-fault
 returns-in_default-clause-fault c =
+    let fields = ap (λ (t : Template). t.fields) c.template.view_is in
     rw c.at.ensures (cut_off c.args.template.now c.args.base c.args.bytes.now c.loop-rest.count c.loop-rest.rest.now c.loop-rest.invariant
-    (omega (arith, c.least_length-least.ensures), omega (arith, c.least_length-least.ensures)) (sym c.in_default.ensures))
+    (omega (arith, c.least_length-least.ensures), omega (arith, c.least_length-least.ensures)) (rw fields at (sym c.in_default.ensures)))
 
 pub overflow_add-count : goal.overflow_add-count
 overflow_add-count c = omega (arith, c.loop-rest.invariant.within)
@@ -49,12 +52,15 @@ pub loop-rest-init : goal.loop-rest-init
 loop-rest-init c = none_read c.args.template.now c.args.base c.args.bytes.now
 
 pub loop-rest-smaller : goal.loop-rest-smaller
-loop-rest-smaller c = omega (arith, values_shorter c.args.template.now.fields c.loop-rest.rest.now _ (sym c.in-Some.ensures), c.least_length-least.ensures)
+loop-rest-smaller c =
+    let fields = ap (λ (t : Template). t.fields) c.template.view_is in
+    omega (arith, values_shorter c.args.template.now.fields c.loop-rest.rest.now _ (rw fields at (sym c.in-Some.ensures)), c.least_length-least.ensures)
 
 pub loop-rest-preserved : goal.loop-rest-preserved
 loop-rest-preserved c =
+    let fields = ap (λ (t : Template). t.fields) c.template.view_is in
     one_read c.args.template.now c.args.base c.args.bytes.now c.loop-rest.count (c.loop-rest.count + 1) c.loop-rest.rest.now _ c.loop-rest.invariant
-    (omega (arith, c.least_length-least.ensures), omega (arith, c.least_length-least.ensures)) (sym c.in-Some.ensures) (omega arith)
+    (omega (arith, c.least_length-least.ensures), omega (arith, c.least_length-least.ensures)) (rw fields at (sym c.in-Some.ensures)) (omega arith)
 
 pub returns-clause-ok : goal.returns-clause-ok
 returns-clause-ok c =
