@@ -1,9 +1,25 @@
-use Rattle.std.specs.Prelude.{◌≡◌, ◌==◌, ◌&&◌, ◌||◌, ℕ, Bool, true, List, Result, Ok, Err, length, false, ◌⊎◌, ◌++◌, Option, nat_lt}
-use Rattle.std.specs.Io.KnownBytes.{Appends}
+use Rattle.std.specs.Prelude.{◌≡◌, ◌==◌, ◌&&◌, ◌||◌, ℕ, Bool, true, false, List, [], Option, Result, Ok, Err, length, take, ◌⊎◌, ◌++◌, nat_lt, unwrap_or}
+use Rattle.std.specs.Io.KnownBytes.{Appends, Consumes}
 pub use Rattle.flow_io.specs.declared.devices.LastCall.{LastCall}
 pub use Rattle.flow_io.specs.declared.devices.LastCall.TheVariants.{FailedFlush, Flush, Nothing, Write}
 use Rattle.flow_io.specs.declared.whole.ReadStop.{ReadStop}
 use Rattle.flow_io.specs.declared.whole.ReadStop.TheVariants.{ReadFault, NoMemory}
+
+-- What contracts see of a reader: whether a read has failed, the bytes that reads have returned, whether the last read
+-- returned no byte although there was room for one, and the bytes that are left, if the reader reports them.
+pub record InputView : Type 0 where
+  pub failed : Bool
+  pub returned : List ℕ
+  pub stopped : Bool
+  pub left : Option (List ℕ)
+
+-- What contracts see of a writer: whether a call has failed, the last call, the bytes that writes have taken, and all
+-- bytes that the writer holds, if it reports them.
+pub record OutputView : Type 0 where
+  pub failed : Bool
+  pub last_call : LastCall
+  pub taken : List ℕ
+  pub contents : Option (List ℕ)
 
 -- When a call makes a reader or a writer failed: from `old` to `new`, where `true` means failed.
 
@@ -28,16 +44,54 @@ is_read_fault (Ok _) = false
 is_read_fault (Err ReadFault) = true
 is_read_fault (Err NoMemory) = false
 
--- How a writer changes from one state to another: the bytes that it has taken, and its last call.
+-- Which bytes a reader returns.
 
--- known bytes grow by a prefix of these
-abbrev pub AppendsPrefix : Option (List ℕ) → Option (List ℕ) → List ℕ → Type 0
-AppendsPrefix old new bytes = (front : List ℕ) × ((rest : List ℕ) × (bytes ≡ front ++ rest)) × Appends old new front
+-- reads return these bytes; of a reader that reports the bytes left they are the first ones
+pub record Gives (old new : InputView) (bytes : List ℕ) : Type 0 where
+  pub returned : new.returned ≡ old.returned ++ bytes
+  pub left : Consumes old.left new.left bytes
 
--- Two states of a writer. The first function returns the bytes taken, and the second the last call.
-module _ {W : Type 0} (taken : W → Option (List ℕ)) (last : W → LastCall) where
-  -- the writer was to take these bytes and then be flushed, and failed: at a write, with a prefix of them taken, or at
-  -- the flush, with all of them taken
-  abbrev pub StopsWriting : W → W → List ℕ → Type 0
-  StopsWriting old new bytes =
-      (AppendsPrefix (taken old) (taken new) bytes × (last new ≡ Write)) ⊎ (Appends (taken old) (taken new) bytes × (last new ≡ FailedFlush))
+-- a read returns the `count` bytes at the start of the buffer if it returns `Ok count`, and none if it returns `Err`
+abbrev pub GivesCount : {E : Type 0} → InputView → InputView → Result ℕ E → List ℕ → Type 0
+GivesCount old new (Ok count) buffer = Gives old new (take count buffer)
+GivesCount old new (Err _) buffer = Gives old new []
+
+-- reads return some bytes, for which the property holds
+abbrev pub ReadsInput : InputView → InputView → (List ℕ → Type 0) → Type 0
+ReadsInput old new P = (bytes : List ℕ) × Gives old new bytes × P bytes
+
+-- a read finds the end if it returns no byte although there is room for one
+abbrev pub finds_end : {E : Type 0} → Result ℕ E → List ℕ → Bool
+finds_end (Ok count) buffer = count == 0 && nat_lt 0 (length buffer)
+finds_end (Err _) buffer = false
+
+-- the last read found the end of the input, and no byte is left, as far as the reader reports it
+abbrev pub has_ended : InputView → Bool
+has_ended input = input.stopped && length (unwrap_or input.left []) == 0
+
+-- these bytes may follow those that reads have returned: none after the end, otherwise any
+abbrev pub MayFollow : Bool → List ℕ → Type 0
+MayFollow ended rest = ended ≡ true → rest ≡ []
+
+-- Which bytes a writer takes.
+
+-- writes take these bytes; a writer that reports its bytes holds them after those that it held before
+pub record Takes (old new : OutputView) (bytes : List ℕ) : Type 0 where
+  pub taken : new.taken ≡ old.taken ++ bytes
+  pub contents : Appends old.contents new.contents bytes
+
+-- a write takes the first `count` bytes of the slice if it returns `Ok count`, and none if it returns `Err`
+abbrev pub TakesCount : {E : Type 0} → OutputView → OutputView → Result ℕ E → List ℕ → Type 0
+TakesCount old new (Ok count) slice = Takes old new (take count slice)
+TakesCount old new (Err _) slice = Takes old new []
+
+-- the writer took exactly these bytes, and was flushed last
+abbrev pub Writes : OutputView → OutputView → List ℕ → Type 0
+Writes old new bytes = Takes old new bytes × (new.last_call ≡ Flush) × (new.failed ≡ false)
+
+-- the writer was to take these bytes and then be flushed, and failed: at a write, with a prefix of them taken, or at the
+-- flush, with all of them taken
+abbrev pub StopsWriting : OutputView → OutputView → List ℕ → Type 0
+StopsWriting old new bytes =
+    (((front rest : List ℕ) × (bytes ≡ front ++ rest) × Takes old new front × (new.last_call ≡ Write))
+    ⊎ (Takes old new bytes × (new.last_call ≡ FailedFlush))) × (new.failed ≡ true)

@@ -1,6 +1,5 @@
-ghost use Rattle.std.specs.Prelude.{◌≡◌, ◌≤◌, ℕ, Bool, List, Option, IfOk, length};
-ghost use Rattle.std.specs.Io.KnownBytes.{Keeps, ReadConsumes, WriteAppends};
-ghost use Rattle.flow_io.specs.Devices.{FailsOnErr, FailsOnShortWrite, flush_call, LastCall, Write};
+ghost use Rattle.std.specs.Prelude.{◌≡◌, ◌≤◌, [], IfOk, length};
+ghost use Rattle.flow_io.specs.Devices.{FailsOnErr, FailsOnShortWrite, InputView, OutputView, GivesCount, Takes, TakesCount, finds_end, flush_call, has_ended, Write};
 
 use thiserror::Error;
 
@@ -24,51 +23,43 @@ pub enum LastCall {
 
 /// A reader that remembers whether it failed.
 pub trait Input {
-    // Whether a read has failed.
-    ghost failed: { Self → Bool };
-
-    // The bytes that reads will still return, or `None` if the type does not report them.
-    ghost bytes_left: { Self → Option (List ℕ) };
+    // Whether a read has failed, and which bytes reads have returned.
+    ghost input: { Self → InputView };
 
     /// Reads into the start of the buffer, and returns the number of bytes read. The number is 0 only at the end of the
     /// input or if the buffer is empty. After an `Err` no byte is lost.
     fn read(&mut self, buffer: &mut [u8]) -> Result<usize, DeviceFault>
         ensures within { IfOk result (λ count. count ≤ length buffer.new) }
-        ensures given { ReadConsumes (bytes_left self.old) (bytes_left self.new) result buffer.new }
-        ensures fails { FailsOnErr (failed self.old) (failed self.new) result };
+        ensures read { GivesCount (input self.old) (input self.new) result buffer.new }
+        ensures end { has_ended (input self.new) ≡ finds_end result buffer.new }
+        ensures fails { FailsOnErr (input self.old).failed (input self.new).failed result };
 
     /// Returns `true` if a call of `read` has returned `Err`.
     fn failed(&self) -> bool
-        ensures { result ≡ failed self.now };
+        ensures { result ≡ (input self.now).failed };
 }
 
 /// A writer that remembers whether it failed, and which call was the last one.
 pub trait Output {
-    // Whether a write or a flush has failed.
-    ghost failed: { Self → Bool };
-
-    // The last call of `write` or `flush`.
-    ghost last_call: { Self → LastCall };
-
-    // The bytes taken so far, or `None` if the type does not report them.
-    ghost bytes_taken: { Self → Option (List ℕ) };
+    // Whether a write or a flush has failed, the last call, and which bytes writes have taken.
+    ghost output: { Self → OutputView };
 
     /// Takes bytes from the start of the slice, and returns their number. After an `Err` no byte of the slice was
     /// taken.
     fn write(&mut self, slice: &[u8]) -> Result<usize, DeviceFault>
         ensures within { IfOk result (λ count. count ≤ length slice.now) }
-        ensures taken { WriteAppends (bytes_taken self.old) (bytes_taken self.new) result slice.now }
-        ensures fails { FailsOnShortWrite (failed self.old) (failed self.new) result slice.now }
-        ensures last { last_call self.new ≡ Write };
+        ensures taken { TakesCount (output self.old) (output self.new) result slice.now }
+        ensures fails { FailsOnShortWrite (output self.old).failed (output self.new).failed result slice.now }
+        ensures last { (output self.new).last_call ≡ Write };
 
     /// Passes on the bytes that the writer holds back. The bytes taken stay as they are.
     fn flush(&mut self) -> Result<(), DeviceFault>
-        ensures taken { Keeps (bytes_taken self.old) (bytes_taken self.new) }
-        ensures fails { FailsOnErr (failed self.old) (failed self.new) result }
-        ensures last { last_call self.new ≡ flush_call result };
+        ensures taken { Takes (output self.old) (output self.new) [] }
+        ensures fails { FailsOnErr (output self.old).failed (output self.new).failed result }
+        ensures last { (output self.new).last_call ≡ flush_call result };
 
     /// Returns `true` if a call of `write` or `flush` has returned `Err`, or if a call of `write` has returned 0 for a
     /// nonempty slice.
     fn failed(&self) -> bool
-        ensures { result ≡ failed self.now };
+        ensures { result ≡ (output self.now).failed };
 }

@@ -13,20 +13,26 @@
 //! its first call on that returned `Err`. A writer has also failed from its first call on that took nothing of a
 //! nonempty slice. `failed` reports this, so a caller can prove that it returns a read fault or a write fault only if a
 //! device failed. A writer also reports its last call, so a caller can prove that the output was flushed after its last
-//! byte. A type may also report its bytes: those that a reader will still return, or those that a writer has taken. The
-//! contract of each read and write then says which bytes moved.
+//! byte.
 //!
-//! `Watched` wraps any reader or writer of std. A slice or a `Vec` reports its bytes. A file does not, as no contract
-//! says what the system reads or writes. `MemoryInput` and `MemoryOutput` are for tests. `read_whole` and `write_whole`
-//! move all bytes, and return a fault if and only if their reader or writer failed. Only `read_whole` allocates.
+//! Contracts see which bytes the reads of a reader have returned, and which bytes the writes of a writer have taken. A
+//! type may also report its bytes: those that a reader will still return, or those that a writer holds. Then they are
+//! the same bytes. A slice or a `Vec` reports its bytes. A file does not, as no contract says what the system reads or
+//! writes.
+//!
+//! `Watched` wraps any reader or writer of std, and notes the bytes in a `Record`, which takes no memory. `MemoryInput`
+//! and `MemoryOutput` are for tests. `read_whole` and `write_whole` move all bytes, and return a fault if and only if
+//! their reader or writer failed. Only `read_whole` allocates.
 #![tactic(auto)]
 
 mod devices;
 mod memory;
+mod record;
 mod watch;
 mod whole;
 
 pub use devices::{DeviceFault, Input, LastCall, Output};
 pub use memory::{MemoryInput, MemoryOutput};
+pub use record::Record;
 pub use watch::Watched;
 pub use whole::{ReadStop, read_whole, write_whole};

@@ -1,10 +1,11 @@
 //! Readers and writers in memory, for tests.
 ghost use Rattle.std.specs.Prelude.{◌≡◌, ◌-◌, ◌≤◌, ◌↔◌, false, [], IfOk, IsErr, drop, length, max, min, nat_eq, unwrap_or, if◌then◌else◌};
 ghost use Rattle.std.specs.Result.{result_unwrap_or};
-ghost use Rattle.std.specs.Io.KnownBytes.{Keeps, ReadConsumes, WriteAppends};
-ghost use Rattle.flow_io.specs.Devices.{FailsOnErr, FailsOnShortWrite, flush_call, Nothing, Write};
+ghost use Rattle.flow_io.specs.Devices.{FailsOnErr, FailsOnShortWrite, GivesCount, Takes, TakesCount, finds_end, flush_call, has_ended, Nothing, Write};
+ghost use Rattle.flow_io.specs.Memory.{input_in, output_in};
 
 use crate::devices::{DeviceFault, Input, LastCall, Output};
+use crate::record::Record;
 use arrayvec::ArrayVec;
 
 // Counts a call, and returns `true` if it is the one that is to fail: `failing_call` was 1.
@@ -28,33 +29,38 @@ pub struct MemoryInput<'a> {
     pub failing_call: u64,
     /// Whether a call has failed.
     pub failed: bool,
+    /// Whether the last read found the end.
+    pub ended: bool,
+    /// The bytes read so far.
+    pub read: Record,
 }
 
 impl<'a> MemoryInput<'a> {
     /// Returns a reader of `bytes` that returns at most `step` of them a call, or 1 if `step` is 0. Call number
     /// `fail_at`, counted from 1, returns `Err`. With `None` or 0 no call fails.
     pub fn new(bytes: &'a [u8], step: usize, fail_at: Option<u64>) -> Self
-        ensures { result ≡ record { left = bytes.entry; step = step; failing_call = unwrap_or fail_at 0; failed = false } }
+        ensures left { result.left ≡ bytes.entry }
+        ensures settings { (result.step ≡ step) × (result.failing_call ≡ unwrap_or fail_at 0) }
+        ensures fresh { (result.failed ≡ false) × (result.ended ≡ false) × (result.read.bytes ≡ []) }
     {
         MemoryInput {
             left: bytes,
             step,
             failing_call: fail_at.unwrap_or(0),
             failed: false,
+            ended: false,
+            read: Record::new(),
         }
     }
 }
 
 impl Input for MemoryInput<'_> {
-    ghost use Rattle.std.specs.Prelude.{Some};
-
-    ghost failed = { λ input. input.failed };
-
-    ghost bytes_left = { λ input. Some input.left.now };
+    ghost input = { input_in };
 
     fn read(&mut self, buffer: &mut [u8]) -> Result<usize, DeviceFault>
         ensures within { IfOk result (λ count. count ≤ length buffer.new) }
-        ensures given { ReadConsumes (Some self.old.left.now) (Some self.new.left.now) result buffer.new }
+        ensures read { GivesCount (input_in self.old) (input_in self.new) result buffer.new }
+        ensures end { has_ended (input_in self.new) ≡ finds_end result buffer.new }
         ensures fails { FailsOnErr self.old.failed self.new.failed result }
 
         // When the call fails, otherwise how many bytes it returns, and what stays the same.
@@ -65,6 +71,7 @@ impl Input for MemoryInput<'_> {
         ensures step { self.new.step ≡ self.old.step }
         ensures counted { self.new.failing_call ≡ self.old.failing_call - 1 }
     {
+        self.ended = false;
         if is_due(&mut self.failing_call) {
             self.failed = true;
             return Err(DeviceFault);
@@ -73,6 +80,8 @@ impl Input for MemoryInput<'_> {
         let (front, rest) = self.left.split_at(count);
         buffer[..count].copy_from_slice(front);
         self.left = rest;
+        self.read.note(&buffer[..count]);
+        self.ended = count == 0 && !buffer.is_empty();
         Ok(count)
     }
 
@@ -126,17 +135,11 @@ impl<const N: usize> MemoryOutput<N> {
 }
 
 impl<const N: usize> Output for MemoryOutput<N> {
-    ghost use Rattle.std.specs.Prelude.{Some};
-
-    ghost failed = { λ output. output.failed };
-
-    ghost last_call = { λ output. output.last_call };
-
-    ghost bytes_taken = { λ output. Some output.taken.items };
+    ghost output = { output_in };
 
     fn write(&mut self, slice: &[u8]) -> Result<usize, DeviceFault>
         ensures within { IfOk result (λ count. count ≤ length slice.now) }
-        ensures taken { WriteAppends (Some self.old.taken.items) (Some self.new.taken.items) result slice.now }
+        ensures taken { TakesCount (output_in self.old) (output_in self.new) result slice.now }
         ensures fails { FailsOnShortWrite self.old.failed self.new.failed result slice.now }
         ensures last { self.new.last_call ≡ Write }
 
@@ -161,7 +164,7 @@ impl<const N: usize> Output for MemoryOutput<N> {
     }
 
     fn flush(&mut self) -> Result<(), DeviceFault>
-        ensures taken { Keeps (Some self.old.taken.items) (Some self.new.taken.items) }
+        ensures taken { Takes (output_in self.old) (output_in self.new) [] }
         ensures fails { FailsOnErr self.old.failed self.new.failed result }
         ensures last { self.new.last_call ≡ flush_call result }
         ensures err { IsErr result ↔ (self.old.failing_call ≡ 1) }

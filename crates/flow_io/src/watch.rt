@@ -1,40 +1,59 @@
-ghost use Rattle.std.specs.Prelude.{◌≡◌, false};
+ghost use Rattle.std.specs.Prelude.{◌≡◌, [], false};
 ghost use Rattle.flow_io.specs.Devices.{Nothing};
 
 use crate::devices::{DeviceFault, Input, LastCall, Output};
+use crate::record::Record;
 use std::io::{Read, Write};
 
-/// A reader or writer of std that remembers whether it failed, and in case of a writer which call was the last one.
-/// Each call is passed on unchanged. Any error, including an interrupted call, is a `DeviceFault`. If the inner reader
-/// or writer reports its bytes, these are the bytes of the wrapper.
+/// A reader or writer of std that remembers whether it failed, whether its last read found the end, and which call of
+/// it as a writer was the last one. Each call is passed on unchanged. Any error, including an interrupted call, is a
+/// `DeviceFault`.
+///
+/// For contracts it also remembers the bytes that its reads have returned and its writes have taken. If the inner
+/// reader or writer reports its bytes, they are the ones that it reports.
 #[derive(Drop)]
 pub struct Watched<T> {
     inner: T,
     failed: bool,
+    ended: bool,
     last_call: LastCall,
+    read: Record,
+    taken: Record,
 }
 
 impl<T> Watched<T> {
     /// Wraps `inner`, which counts as not failed and not called yet.
     pub fn new(inner: T) -> Self
-        ensures { result ≡ record { inner = inner; failed = false; last_call = Nothing } }
+        ensures inner { result.inner ≡ inner }
+        ensures fresh { (result.failed ≡ false) × (result.ended ≡ false) × (result.last_call ≡ Nothing) }
+        ensures unmoved { (result.read.bytes ≡ []) × (result.taken.bytes ≡ []) }
     {
         Watched {
             inner,
             failed: false,
+            ended: false,
             last_call: LastCall::Nothing,
+            read: Record::new(),
+            taken: Record::new(),
         }
     }
 }
 
 impl<T: Read> Input for Watched<T> {
-    ghost failed = { λ watched. watched.failed };
-
-    ghost bytes_left = { λ watched. T.remaining watched.inner };
+    ghost input = { λ watched. record {
+      failed = watched.failed;
+      returned = watched.read.bytes;
+      stopped = watched.ended;
+      left = T.remaining watched.inner;
+    } };
 
     fn read(&mut self, buffer: &mut [u8]) -> Result<usize, DeviceFault> {
         let count = self.inner.read(buffer).map_err(|_| DeviceFault);
         self.failed |= count.is_err();
+        self.ended = count == Ok(0) && !buffer.is_empty();
+        if let Ok(count) = count {
+            self.read.note(&buffer[..count]);
+        }
         count
     }
 
@@ -44,16 +63,20 @@ impl<T: Read> Input for Watched<T> {
 }
 
 impl<T: Write> Output for Watched<T> {
-    ghost failed = { λ watched. watched.failed };
-
-    ghost last_call = { λ watched. watched.last_call };
-
-    ghost bytes_taken = { λ watched. T.contents watched.inner };
+    ghost output = { λ watched. record {
+      failed = watched.failed;
+      last_call = watched.last_call;
+      taken = watched.taken.bytes;
+      contents = T.contents watched.inner;
+    } };
 
     fn write(&mut self, slice: &[u8]) -> Result<usize, DeviceFault> {
         self.last_call = LastCall::Write;
         let count = self.inner.write(slice).map_err(|_| DeviceFault);
         self.failed |= count.is_err() || (count == Ok(0) && !slice.is_empty());
+        if let Ok(count) = count {
+            self.taken.note(&slice[..count]);
+        }
         count
     }
 

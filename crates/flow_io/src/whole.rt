@@ -1,7 +1,6 @@
 //! Reading and writing all bytes.
-ghost use Rattle.std.specs.Prelude.{◌≡◌, false, IfOk, IfSome, OnErr, OnOk, is_err};
-ghost use Rattle.std.specs.Io.KnownBytes.{Appends, IsAtEnd};
-ghost use Rattle.flow_io.specs.Devices.{Flush, StopsWriting, is_read_fault};
+ghost use Rattle.std.specs.Prelude.{◌≡◌, ⊤, false, true, IfErr, IfOk, OnErr, OnOk};
+ghost use Rattle.flow_io.specs.Devices.{ReadsInput, Gives, StopsWriting, Writes, has_ended, is_read_fault};
 
 use crate::devices::{DeviceFault, Input, Output};
 use std::alloc::Global;
@@ -21,13 +20,14 @@ pub enum ReadStop {
 // The number of bytes that are requested from the reader at a time.
 const CHUNK: usize = 65536;
 
-/// Reads all the bytes that the reader will still return. For a reader that never ends it returns `NoMemory`, as each
-/// read makes the text longer.
+/// Reads to the end of the input, and returns all bytes that its reads returned. For a reader that never ends it
+/// returns `NoMemory`, as each read makes the text longer.
 pub fn read_whole<R: Input>(alloc: Global, reader: &mut R) -> Result<Vec<u8>, ReadStop>
-    requires { R.failed reader.old ≡ false }
-    ensures whole { IfOk result (λ text. IfSome (R.bytes_left reader.old) (λ left. text.items ≡ left)) }
-    ensures end { OnOk result (IsAtEnd (R.bytes_left reader.new)) }
-    ensures fault { R.failed reader.new ≡ is_read_fault result }
+    requires { (R.input reader.old).failed ≡ false }
+    ensures whole { IfOk result (λ text. Gives (R.input reader.old) (R.input reader.new) text.items) }
+    ensures end { OnOk result (has_ended (R.input reader.new) ≡ true) }
+    ensures stopped { OnErr result (ReadsInput (R.input reader.old) (R.input reader.new) (λ _. ⊤)) }
+    ensures fault { (R.input reader.new).failed ≡ is_read_fault result }
 {
     let mut text = Vec::new(alloc);
     let mut chunk = Vec::new(alloc);
@@ -47,11 +47,9 @@ pub fn read_whole<R: Input>(alloc: Global, reader: &mut R) -> Result<Vec<u8>, Re
 /// Writes all the bytes, and flushes the writer last. If a write fails, the writer has taken a prefix of them. If the
 /// flush fails, the writer has taken all of them.
 pub fn write_whole<W: Output>(writer: &mut W, bytes: &[u8]) -> Result<(), DeviceFault>
-    requires { W.failed writer.old ≡ false }
-    ensures whole { OnOk result (Appends (W.bytes_taken writer.old) (W.bytes_taken writer.new) bytes.now) }
-    ensures flushed { OnOk result (W.last_call writer.new ≡ Flush) }
-    ensures stopped { OnErr result (StopsWriting W.bytes_taken W.last_call writer.old writer.new bytes.now) }
-    ensures fault { W.failed writer.new ≡ is_err result }
+    requires { (W.output writer.old).failed ≡ false }
+    ensures whole { OnOk result (Writes (W.output writer.old) (W.output writer.new) bytes.now) }
+    ensures stopped { OnErr result (StopsWriting (W.output writer.old) (W.output writer.new) bytes.now) }
 {
     let mut rest = bytes;
     while !rest.is_empty() {

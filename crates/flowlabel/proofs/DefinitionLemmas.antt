@@ -1,5 +1,5 @@
 -- How clap reads a command with one more argument, and with a subcommand.
-use Rattle.std.proofs.Common.{◌≡◌, ◌∙◌, ℕ, ◌+◌, ◌<◌, ◌||◌, Bool, false, List, get_or, length, refl, take}
+use Rattle.std.proofs.Common.{◌∙◌, ℕ, ◌+◌, ◌<◌, List, get_or, length, take}
 use Rattle.std.specs.List.{fold}
 use Rattle.std.proofs.lemmas.Bool.{or_from}
 use Rattle.std.proofs.lemmas.List.Sums.{fold_more}

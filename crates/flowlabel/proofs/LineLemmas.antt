@@ -1,5 +1,5 @@
 -- What clap's theorems say about the example command lines, by computation.
-use Rattle.std.proofs.Common.{◌≡◌, ◌∙◌, ◌==◌, ℕ, Bool, true, false, not, [], ◌∷◌, Option, Some, None, Ok, Err, refl, sym, ap, codes}
+use Rattle.std.proofs.Common.{◌≡◌, ◌∙◌, ◌==◌, ℕ, true, false, [], ◌∷◌, Option, Some, None, Ok, Err, refl, sym, ap, codes}
 use Rattle.std.proofs.lemmas.Bool.{not-true}
 use Rattle.std.specs.Prelude.{ok_or, unwrap_or}
 use Rattle.clap.specs.Lexer.{short_of}

@@ -1,30 +1,36 @@
 -- How what a command reads of its files makes its output.
-use Rattle.std.proofs.Common.{◌≡◌, ◌∙◌, ◌⊎◌, ◌≤◌, ◌<◌, ◌+◌, ℕ, Bool, List, [], Option, Some, None, Result, Ok, Err, true, false, ◌||◌, refl, sym, ap, subst, inl, inr, arith}
+use Rattle.std.proofs.Common.{◌≡◌, ◌∙◌, ◌⊎◌, ◌≤◌, ◌<◌, ◌+◌, ℕ, Bool, List, [], Option, Some, None, Result, Ok, Err, true, false, ◌&&◌, ◌∷◌, refl, sym, ap, subst, inl, inr, arith}
 use Rattle.std.proofs.Math.Bool.{or-false}
+use Rattle.std.proofs.lemmas.Grind.{common_steps}
+use Rattle.std.proofs.lemmas.Bool.Decides.{nat_tests}
 use Rattle.std.proofs.lemmas.Bool.{or_parts}
-use Rattle.std.specs.Prelude.{IfSome, option_copied, option_map, unwrap_or}
+use Rattle.std.specs.Prelude.{◌++◌, ◌==◌, length, unwrap_or, ⊤, option_copied, option_map}
+use Rattle.std.specs.Io.KnownBytes.{Consumes}
 use Rattle.std.specs.Borrow.{Bor}
 use Rattle.std.specs.Result.{IsErrAnd}
 use Rattle.std.specs.Global.{Vec}
-use Rattle.std.specs.Io.KnownBytes.{Consumes}
+use Rattle.std.proofs.lemmas.List.{append-nil}
+use Rattle.flow_io.specs.Devices.{InputView, Gives, OutputView, ReadsInput, has_ended}
+use Rattle.flow_io.proofs.Moving.{gives_more, gives_none}
 use Rattle.ipfix_read.specs.Message.{MessageView}
-use Rattle.ipfix_read.specs.Messages.{file_reading}
+use Rattle.ipfix_read.specs.Messages.{StopsReading, file_reading}
 use Rattle.label_lookup.specs.Labelling.{Labelling, StretchModel, labelling_of_list, labelling_of_map, labelling_of_stretches}
 use Rattle.flowlabel.specs.BytesFault.{role_of}
 use Rattle.flowlabel.specs.ByFile.{ByFile, Role, at, each, turn, with_at}
 use Rattle.flowlabel.specs.declared.by_file.Role.TheVariants as role
 use Rattle.flowlabel.specs.declared.bytes_fault.BytesFault.TheVariants.{List as InList, Certificate as InCertificate, Flows as InFlows}
-use Rattle.flowlabel.specs.Output.{BytesFault, Decodes, Faulty, LabelsThen, NoMemory, Outcome, OutputFault, Prints, Returns, Then, Unread}
+use Rattle.flowlabel.specs.Output.{BytesFault, Decodes, Faulty, IsOutput, LabelsThen, NoMemory, Outcome, OutputFault, Prints, Returns, Then, Unread}
 use Rattle.flowlabel.proofs.Outcomes.{CertificateThen, ListThen, PrintsCompact, ReportsOf}
 use Rattle.pmap_text.specs.ListModel.{ListModel}
 use Rattle.pmap_cert.specs.FormatReading.{format_reading}
 use Rattle.pmap_text.specs.Reading.{list_reading}
 use Rattle.flowlabel.specs.declared.run.labels.LabelsRead.{LabelsRead}
-use Rattle.flowlabel.specs.Reports.{AreLabels, AreLabelsOf, IsMade, IsMadeOf, IsReadOf, IsWhole, ReadsLabels, ReportsThen, TakesFile, labelling_found, labelling_read}
+use Rattle.flowlabel.specs.declared.run.labels.LabelsRead.TheVariants as read
+use Rattle.flowlabel.specs.Reports.{AreLabels, AreLabelsOf, IsMade, IsReadOf, IsWhole, LabelsMade, Makes, ReadsLabels, ReportsThen, TakesFile, TakesMessages, labelling_found, labelling_read}
 use Rattle.flowlabel.specs.declared.command.LabelFile.{LabelFile}
 use Rattle.flowlabel.specs.declared.command.LabelFile.TheVariants.{Map, List as Prefixes}
-use Rattle.flowlabel.specs.Request.{FromList, FromMap, LabelSource, Text, role_in, source_by, source_with}
-use Rattle.flowlabel.specs.Run.{AreKeptBehind, AreTexts, IsFaultOf, Source, any_failed, bytes_of, is_unread, source_failed}
+use Rattle.flowlabel.specs.Request.{Command, FromList, FromMap, LabelSource, Text, role_in, source_by, source_with, with_texts}
+use Rattle.flowlabel.specs.Run.{AreKeptBehind, AreReadOn, AreReported, AreTexts, AreUnread, EndsAs, IsFaultOf, IsNamed, MayHave, RunFault, CannotRead, File, NoMemory as OutOfMemory, Source, any_failed, is_unread, name_in, view_of}
 
 -- a result that passes on a fault has the properties of one with this fault
 pub handed_on : {A F : Type 0} (P : Result A F → Type 0) (r : Result A F) (fault : F) → IsErrAnd r (λ y. y ≡ fault) → P (Err fault) → P r
@@ -42,16 +48,25 @@ at_other x files role.Certificate o = inr refl
 at_other x files role.Flows role.Flows = inl refl
 at_other x files role.Flows o = inr refl
 
-module _ {R : Type 0} (failed : R → Bool) (old : ByFile (Option (Source R))) (none : any_failed failed old ≡ false) where
-  none_failed : (source_failed failed old.map ≡ false) × (source_failed failed old.list ≡ false)
-      × (source_failed failed old.certificate ≡ false) × (source_failed failed old.flows ≡ false)
+at_same : {T : Type 0} (r : Role) (x : T) (files : ByFile T) → at r (with_at r x files) ≡ x
+at_same role.Map x files = refl
+at_same role.List x files = refl
+at_same role.Certificate x files = refl
+at_same role.Flows x files = refl
+
+blank : ByFile Text
+blank = record { map = []; list = []; certificate = []; flows = [] }
+
+module _ {R : Type 0} (input : R → InputView) (old : ByFile (Option (Source R))) (none : any_failed input old ≡ false) where
+  none_failed : ((view_of input old.map).failed ≡ false) × ((view_of input old.list).failed ≡ false)
+      × ((view_of input old.certificate).failed ≡ false) × ((view_of input old.flows).failed ≡ false)
   none_failed =
-      let (map, later) = or_parts (source_failed failed old.map) _ none in
-      let (list, last) = or_parts (source_failed failed old.list) _ later in
-      let (certificate, flows) = or_parts (source_failed failed old.certificate) _ last in (map, list, certificate, flows)
+      let (map, later) = or_parts (view_of input old.map).failed _ none in
+      let (list, last) = or_parts (view_of input old.list).failed _ later in
+      let (certificate, flows) = or_parts (view_of input old.certificate).failed _ last in (map, list, certificate, flows)
 
   -- the one that was read since decides whether any has
-  pub one_tells : (r : Role) (file : Option (Source R)) → any_failed failed (with_at r file old) ≡ source_failed failed file
+  pub one_tells : (r : Role) (file : Option (Source R)) → any_failed input (with_at r file old) ≡ (view_of input file).failed
   one_tells role.Map file = rw (none_failed.1, none_failed.2, none_failed.3) (or-false _)
   one_tells role.List file = rw (none_failed.0, none_failed.2, none_failed.3) (or-false _)
   one_tells role.Certificate file = rw (none_failed.0, none_failed.1, none_failed.3) (or-false _)
@@ -134,25 +149,17 @@ report_first report file texts fault =
     (λ labels after. omega (arith, flows_only report (Some labels) texts.flows fault after))
 
 -- what holds of the source of labels with a text holds among texts of which this is the file's
-pub of_source : (P : LabelSource → List ℕ → Type 0) (file : LabelFile) (text : Text) (texts : ByFile Text) → P (source_by file text) texts.flows
-    → P (source_with (with_at (role_in file) text texts) file) (at role.Flows (with_at (role_in file) text texts))
-of_source P (Map file) text texts is = is
-of_source P (Prefixes file) text texts is = is
+pub of_source : (P : LabelSource → List ℕ → Type 0) (file : LabelFile) (text : Text) (texts : ByFile Text) → at (role_in file) texts ≡ text → P (source_by file text) texts.flows
+    → P (source_with texts file) texts.flows
+of_source P (Map file) text texts same is = subst (λ (t : Text). P (FromMap t) texts.flows) (sym same) is
+of_source P (Prefixes file) text texts same is = subst (λ (t : Text). P (FromList t) texts.flows) (sym same) is
 
 -- of which file a reader can have failed
-unread_at : (q p : Role) (given : Option (List ℕ)) (fault : OutputFault) → IsWhole q given (Err fault)
+unread_at : (q p : Role) (ended : Bool) (bytes : List ℕ) (fault : OutputFault) → IsWhole q ended (Err fault) bytes
     → ◌≡◌ {A = Result (Vec ℕ) OutputFault} (Err fault) (Err (Unread p)) → turn q ≤ turn p
-unread_at q p given NoMemory whole e = cc
-unread_at q p given (Unread other) whole e = let same : other ≡ p = cc in omega (arith, ap turn (sym whole ∙ same))
-unread_at q p given (Faulty fault) whole e = absurd whole
-
--- the texts that the readers report, and empty ones for the others
-abbrev pub texts_of : {R : Type 0} → (R → Option (List ℕ)) → ByFile (Option (Source R)) → ByFile Text
-texts_of left files = each (λ file. unwrap_or (bytes_of left file) []) files
-
-given_text : (known : Option (List ℕ)) → IfSome known (λ bytes. unwrap_or known [] ≡ bytes)
-given_text None = tt
-given_text (Some bytes) = refl
+unread_at q p ended bytes NoMemory whole e = cc
+unread_at q p ended bytes (Unread other) whole e = let same : other ≡ p = cc in omega (arith, ap turn (sym whole ∙ same))
+unread_at q p ended bytes (Faulty fault) whole e = absurd whole
 
 -- the files after one that was read are untouched
 pub kept_behind : {R : Type 0} (old new : ByFile (Option (Source R))) (r : Role) (file : Option (Source R)) → new ≡ with_at r file old → AreKeptBehind r old new
@@ -161,229 +168,304 @@ kept_behind old new r file is o later = elim (at_other file old r o) [
   | inr still ↦ ap (at o) is ∙ still
 ]
 
+-- the files before this turn are untouched
+abbrev pub AreKeptBefore : {R : Type 0} → ℕ → ByFile (Option (Source R)) → ByFile (Option (Source R)) → Type 0
+AreKeptBefore n old new = (earlier : Role) → turn earlier < n → at earlier new ≡ at earlier old
+
+kept_before : {R : Type 0} (old new : ByFile (Option (Source R))) (r : Role) (file : Option (Source R)) → new ≡ with_at r file old → AreKeptBefore (turn r) old new
+kept_before old new r file is o early = elim (at_other file old r o) [
+  | inl same ↦ let wrong : turn r < turn r = subst (λ (p : Role). turn p < turn r) same early in absurd (omega (arith, wrong))
+  | inr still ↦ ap (at o) is ∙ still
+]
+
 -- the outcomes over texts with a fault of an earlier file
 abbrev pub IsFirst : (ByFile Text → Outcome → Type 0) → Role → Type 0
 IsFirst Is r = (texts : ByFile Text) (fault : BytesFault) → Is texts (Err fault) → turn r ≤ turn (role_of fault)
 
+-- from this turn on, nothing of the files is read
+abbrev pub AreUnreadFrom : {R : Type 0} → (R → InputView) → ℕ → ByFile (Option (Source R)) → Type 0
+AreUnreadFrom input n files = (r : Role) → n ≤ turn r → (view_of input (at r files)).returned ≡ []
+
 -- what a command returns that has read the files before this one
-abbrev pub MadeFrom : {R : Type 0} → (R → Option (List ℕ)) → (R → Bool) → ℕ → (ByFile Text → Outcome → Type 0) → ByFile (Option (Source R)) → ByFile (Option (Source R))
-    → Result (Vec ℕ) OutputFault → Type 0
-MadeFrom left failed n Is old new result = IsMade left failed Is old new result × ((p : Role) → result ≡ Err (Unread p) → n ≤ turn p)
+pub record MadeFrom {R : Type 0} (input : R → InputView) (n : ℕ) (Is : ByFile Text → Outcome → Type 0) (old new : ByFile (Option (Source R)))
+    (result : Result (Vec ℕ) OutputFault) : Type 0 where
+  pub made : IsMade input Is old new result
+  pub later : (p : Role) → result ≡ Err (Unread p) → n ≤ turn p
+  pub kept : AreKeptBefore n old new
 
-module _ {R : Type 0} (left : R → Option (List ℕ)) where
-  pub texts_given : (files : ByFile (Option (Source R))) → AreTexts left files (texts_of left files)
-  texts_given files role.Map = given_text (bytes_of left files.map)
-  texts_given files role.List = given_text (bytes_of left files.list)
-  texts_given files role.Certificate = given_text (bytes_of left files.certificate)
-  texts_given files role.Flows = given_text (bytes_of left files.flows)
+-- the bytes that are returned when none were before
+all_read : {old new : InputView} {bytes : List ℕ} → old.returned ≡ [] → Gives old new bytes → new.returned ≡ bytes
+all_read {bytes = bytes} none returns = returns.returned ∙ ap (λ (l : List ℕ). l ++ bytes) none
 
-  -- texts with that of a file that was read
-  given_with : (files : ByFile (Option (Source R))) (texts : ByFile Text) (r : Role) (file : Option (Source R)) (text : Text)
-      → AreTexts left (with_at r file files) texts → IfSome (bytes_of left (at r files)) (λ bytes. text ≡ bytes) → AreTexts left files (with_at r text texts)
-  given_with files texts role.Map file text all own role.Map = own
-  given_with files texts role.Map file text all own o = all o
-  given_with files texts role.List file text all own role.List = own
-  given_with files texts role.List file text all own o = all o
-  given_with files texts role.Certificate file text all own role.Certificate = own
-  given_with files texts role.Certificate file text all own o = all o
-  given_with files texts role.Flows file text all own role.Flows = own
-  given_with files texts role.Flows file text all own o = all o
+-- an input that was read to its end has this text
+text_is : (view : InputView) (text bytes : Text) → view.returned ≡ bytes → has_ended view ≡ true → MayHave view text → text ≡ bytes
+text_is view text bytes is end (rest, follows, all) = all ∙ ap (λ (l : List ℕ). view.returned ++ l) (follows end) ∙ append-nil view.returned ∙ is
 
-  pub text_given : (files mid : ByFile (Option (Source R))) (texts : ByFile Text) (r : Role) (file : Option (Source R)) (text : Text)
-      → mid ≡ with_at r file files → AreTexts left mid texts → IfSome (bytes_of left (at r files)) (λ bytes. text ≡ bytes)
-      → AreTexts left files (with_at r text texts)
-  text_given files mid texts r file text is all =
-      given_with files texts r file text (subst (λ (m : ByFile (Option (Source R))). AreTexts left m texts) is all)
+module _ {R : Type 0} (input : R → InputView) where
+  -- what is returned of the files so far may be their texts
+  pub read_so_far : (files : ByFile (Option (Source R))) → AreTexts input files (each (λ file. (view_of input file).returned) files)
+  read_so_far files role.Map = ([], λ _. refl, sym (append-nil _))
+  read_so_far files role.List = ([], λ _. refl, sym (append-nil _))
+  read_so_far files role.Certificate = ([], λ _. refl, sym (append-nil _))
+  read_so_far files role.Flows = ([], λ _. refl, sym (append-nil _))
 
-  -- the texts with that of the File
-  with_flows : (old mid : ByFile (Option (Source R))) (texts : ByFile Text) (bytes : List ℕ) → AreTexts left old texts → mid.flows ≡ old.flows
-      → IfSome (bytes_of left mid.flows) (λ all. bytes ≡ all) → AreTexts left old (with_at role.Flows bytes texts)
-  with_flows old mid texts bytes given same all =
-      text_given old old texts role.Flows old.flows bytes refl given (subst (λ (x : Option (Source R)). IfSome (bytes_of left x) (λ all. bytes ≡ all)) same all)
+  -- the texts with the bytes of the flows that are read, before more of them are
+  texts_before : (mid : ByFile (Option (Source R))) (flows : Option (Source R)) (texts : ByFile Text) → AreTexts input (with_at role.Flows flows mid) texts
+      → AreTexts input mid (with_at role.Flows (view_of input mid.flows).returned texts)
+  texts_before mid flows texts all role.Map = all role.Map
+  texts_before mid flows texts all role.List = all role.List
+  texts_before mid flows texts all role.Certificate = all role.Certificate
+  texts_before mid flows texts all role.Flows = ([], λ _. refl, sym (append-nil _))
 
--- the outcomes of a report over the File under labels that are read
-flows_made : (text : Option Labelling → List MessageView → List ℕ) (named : Option LabelFile) (labels : Option Labelling) (texts : ByFile Text) (bytes : List ℕ)
-    (outcome : Outcome) → ReadsLabels (option_map (source_with texts) named) labels → ReportsOf text labels bytes outcome
-    → ReportsThen text (option_map (source_with (with_at role.Flows bytes texts)) named) bytes outcome
-flows_made text named labels texts bytes outcome reads is =
-    subst (λ (s : Option LabelSource). ReportsThen text s bytes outcome) (sym (source_stays texts bytes named))
-    (labels_then text (option_map (source_with texts) named) labels bytes outcome reads is)
+  -- reads return more of files, or nothing
+  pub none_read : (files : ByFile (Option (Source R))) → AreReadOn input files files
+  none_read files r = ([], gives_none _, tt)
 
-module _ {R : Type 0} {left : R → Option (List ℕ)} {failed : R → Bool} where
+  pub read_more : {a b c : ByFile (Option (Source R))} → AreReadOn input a b → AreReadOn input b c → AreReadOn input a c
+  read_more first second r = let (front, returns, _) = first r in let (more, returns', _) = second r in (front ++ more, gives_more returns returns', tt)
+
+  pub one_read : (r : Role) (file : Option (Source R)) (old new : ByFile (Option (Source R))) → new ≡ with_at r file old
+      → ReadsInput (view_of input (at r old)) (view_of input (at r new)) (λ _. ⊤) → AreReadOn input old new
+  one_read r file old new is reads o = elim (at_other file old r o) [
+    | inl same ↦ subst (λ (p : Role). ReadsInput (view_of input (at p old)) (view_of input (at p new)) (λ _. ⊤)) (sym same) reads
+    | inr still ↦
+        subst (λ (f : Option (Source R)). ReadsInput (view_of input (at o old)) (view_of input f) (λ _. ⊤)) (sym (ap (at o) is ∙ still)) ([], gives_none _, tt)
+  ]
+
   -- an allocation failed, and no reader
   pub memory_made : (Is : ByFile Text → Outcome → Type 0) (old new : ByFile (Option (Source R))) (result : Result (Vec ℕ) OutputFault)
-      → IsErrAnd result (λ fault. fault ≡ NoMemory) → any_failed failed new ≡ false → IsMade left failed Is old new result
-  memory_made Is old new result is none =
-      handed_on (IsMade left failed Is old new) result NoMemory is (record { texts = texts_of left old; given = texts_given left old; made = none })
+      → IsErrAnd result (λ fault. fault ≡ NoMemory) → any_failed input new ≡ false → AreReadOn input old new → IsMade input Is old new result
+  memory_made Is old new result is none read = handed_on (IsMade input Is old new) result NoMemory is (record { made = none; read = read })
 
-  module _ {old : ByFile (Option (Source R))} (none : any_failed failed old ≡ false) where
-    read_tells : {r : Role} {new : ByFile (Option (Source R))} {result : Result (Vec ℕ) OutputFault} → IsReadOf left failed r old new result
-        → any_failed failed new ≡ is_unread result
-    read_tells {r = r} {new = new} read = ap (any_failed failed) read.others ∙ one_tells failed old none r (at r new) ∙ read.unread
+module _ {R : Type 0} {input : R → InputView} where
+  module _ {old : ByFile (Option (Source R))} (none : any_failed input old ≡ false) where
+    read_tells : {r : Role} {new : ByFile (Option (Source R))} {result : Result (Vec ℕ) OutputFault} → IsReadOf input r old new result
+        → any_failed input new ≡ is_unread result
+    read_tells {r = r} {new = new} got = ap (any_failed input) got.others ∙ one_tells input old none r (at r new) ∙ got.unread
+
+    read_of : {r : Role} {new : ByFile (Option (Source R))} {result : Result (Vec ℕ) OutputFault} → IsReadOf input r old new result → AreReadOn input old new
+    read_of {r = r} {new = new} got = one_read input r (at r new) old new got.others (got.whole.0, got.whole.1, tt)
 
     -- the first file of a command can't be read
-    unread : (Is : Outcome → Type 0) (r : Role) (new : ByFile (Option (Source R))) (fault : OutputFault) → turn r < 3
-        → ((fault : BytesFault) → Is (Err fault) → turn r ≤ turn (role_of fault)) → IsReadOf left failed r old new (Err fault) → IsFaultOf left failed Is old new fault
-    unread Is r new NoMemory early first read = read_tells read
-    unread Is r new (Unread other) early first read =
-        subst (λ (p : Role). IsFaultOf left failed Is old new (Unread p)) (sym read.whole) (
-          read.unread,
-          kept_behind old new r (at r new) read.others,
-          first,
+    unread : (Is : ByFile Text → Outcome → Type 0) (r : Role) (new : ByFile (Option (Source R))) (fault : OutputFault) → turn r < 3
+        → IsFirst Is r → IsReadOf input r old new (Err fault) → IsFaultOf input Is old new fault
+    unread Is r new NoMemory early first got = read_tells got
+    unread Is r new (Unread other) early first got =
+        subst (λ (p : Role). IsFaultOf input Is old new (Unread p)) (sym got.whole.2) (
+          got.unread,
+          kept_behind old new r (at r new) got.others,
+          λ texts given fault is. first texts fault is,
           λ flows. let wrong : 3 < 3 = subst (λ (p : Role). turn p < 3) flows early in absurd (omega (arith, wrong)),
         )
-    unread Is r new (Faulty fault) early first read = absurd read.whole
+    unread Is r new (Faulty fault) early first got = absurd got.whole.2
 
     pub unread_from : {new : ByFile (Option (Source R))} {fault : OutputFault} (Is : ByFile Text → Outcome → Type 0) (r : Role) → turn r < 3 → IsFirst Is r
-        → IsReadOf left failed r old new (Err fault) → MadeFrom left failed (turn r) Is old new (Err fault)
-    unread_from {new = new} {fault = fault} Is r early first read = (
-      record { texts = texts_of left old; given = texts_given left old; made = unread (Is (texts_of left old)) r new fault early (first _) read },
-      λ p same. unread_at r p (bytes_of left (at r old)) fault read.whole same,
-    )
+        → IsReadOf input r old new (Err fault) → MadeFrom input (turn r) Is old new (Err fault)
+    unread_from {new = new} {fault = fault} Is r early first got = record {
+      made = record { made = unread Is r new fault early first got; read = read_of got };
+      later = λ p same. unread_at r p (has_ended (view_of input (at r new))) got.whole.0 fault got.whole.2 same;
+      kept = kept_before old new r (at r new) got.others;
+    }
 
     pub unread_made : {new : ByFile (Option (Source R))} {fault : OutputFault} (Is : ByFile Text → Outcome → Type 0) (r : Role) (result : Result (Vec ℕ) OutputFault)
-        → IsErrAnd result (λ other. other ≡ fault) → turn r < 3 → IsFirst Is r → IsReadOf left failed r old new (Err fault) → IsMade left failed Is old new result
-    unread_made {new = new} {fault = fault} Is r result is early first read =
-        handed_on (IsMade left failed Is old new) result fault is (unread_from Is r early first read).0
+        → IsErrAnd result (λ other. other ≡ fault) → turn r < 3 → IsFirst Is r → IsReadOf input r old new (Err fault) → IsMade input Is old new result
+    unread_made {new = new} {fault = fault} Is r result is early first got =
+        handed_on (IsMade input Is old new) result fault is (unread_from Is r early first got).made
+
+    -- the text of a file that was read whole, and is untouched since then
+    text_of_read : {mid : ByFile (Option (Source R))} (new : ByFile (Option (Source R))) {text : Vec ℕ} (r : Role) → AreUnreadFrom input (turn r) old → IsReadOf input r old mid (Ok text)
+        → at r new ≡ at r mid → (texts : ByFile Text) → AreTexts input new texts → at r texts ≡ text.items
+    text_of_read {mid = mid} new {text = text} r fresh got kept texts given =
+        text_is (view_of input (at r mid)) (at r texts) text.items (all_read (fresh r (omega arith)) got.whole.1 ∙ sym got.whole.2.0) got.whole.2.1
+        (subst (λ (file : Option (Source R)). MayHave (view_of input file) (at r texts)) kept (given r))
 
     -- the first file of a command is read, and the output is that over its text
-    whole : (Is : Outcome → Type 0) (r : Role) (new : ByFile (Option (Source R))) (text : Vec ℕ) (result : Result (Vec ℕ) OutputFault)
-        → ((fault : BytesFault) → Is (Err fault) → turn r ≤ turn (role_of fault)) → IsReadOf left failed r old new (Ok text) → Returns Is result
-        → IsMadeOf left failed Is old new result
-    whole Is r new text (Ok out) first read returns = (returns, read_tells read)
-    whole Is r new text (Err NoMemory) first read returns = read_tells read
-    whole Is r new text (Err (Unread other)) first read returns = absurd returns
-    whole Is r new text (Err (Faulty fault)) first read returns = (
-      returns,
+    whole : (Is : ByFile Text → Outcome → Type 0) (r : Role) (new : ByFile (Option (Source R))) (text : Vec ℕ) (result : Result (Vec ℕ) OutputFault)
+        → AreUnreadFrom input (turn r) old → IsFirst Is r → IsReadOf input r old new (Ok text)
+        → ((texts : ByFile Text) → at r texts ≡ text.items → Returns (Is texts) result) → Makes input Is old new result
+    whole Is r new text (Ok out) fresh first got returns = (λ texts given. returns texts (text_of_read new r fresh got refl texts given), read_tells got)
+    whole Is r new text (Err NoMemory) fresh first got returns = read_tells got
+    whole Is r new text (Err (Unread other)) fresh first got returns = absurd (returns (with_at r text.items blank) (at_same r text.items blank))
+    whole Is r new text (Err (Faulty fault)) fresh first got returns = (
+      λ texts given. returns texts (text_of_read new r fresh got refl texts given),
       λ later behind.
-          let least : turn r ≤ turn (role_of fault) = first fault returns in
-          kept_behind old new r (at r new) read.others later (omega (arith, least, behind)),
-      read_tells read,
+          let least : turn r ≤ turn (role_of fault) = first _ fault (returns (with_at r text.items blank) (at_same r text.items blank)) in
+          kept_behind old new r (at r new) got.others later (omega (arith, least, behind)),
+      read_tells got,
     )
 
     pub whole_from : {new : ByFile (Option (Source R))} {text : Vec ℕ} (Is : ByFile Text → Outcome → Type 0) (r : Role) (result : Result (Vec ℕ) OutputFault)
-        → IsFirst Is r → IsReadOf left failed r old new (Ok text) → Returns (Is (with_at r text.items (texts_of left new))) result
-        → MadeFrom left failed (turn r) Is old new result
-    whole_from {new = new} {text = text} Is r result first read returns = (
-      record {
-        texts = with_at r text.items (texts_of left new);
-        given = text_given left old new (texts_of left new) r (at r new) text.items read.others (texts_given left new) read.whole;
-        made = whole (Is (with_at r text.items (texts_of left new))) r new text result (first _) read returns;
-      },
-      λ p same. absurd (subst (Returns (Is (with_at r text.items (texts_of left new)))) same returns),
-    )
+        → AreUnreadFrom input (turn r) old → IsFirst Is r → IsReadOf input r old new (Ok text)
+        → ((texts : ByFile Text) → at r texts ≡ text.items → Returns (Is texts) result) → MadeFrom input (turn r) Is old new result
+    whole_from {new = new} {text = text} Is r result fresh first got returns = record {
+      made = record { made = whole Is r new text result fresh first got returns; read = read_of got };
+      later = λ p same. absurd (subst (Returns (Is (with_at r text.items blank))) same (returns (with_at r text.items blank) (at_same r text.items blank)));
+      kept = kept_before old new r (at r new) got.others;
+    }
 
     pub whole_made : {new : ByFile (Option (Source R))} {text : Vec ℕ} (Is : ByFile Text → Outcome → Type 0) (r : Role) (result : Result (Vec ℕ) OutputFault)
-        → IsFirst Is r → IsReadOf left failed r old new (Ok text) → Returns (Is (with_at r text.items (texts_of left new))) result
-        → IsMade left failed Is old new result
-    whole_made Is r result first read returns = (whole_from Is r result first read returns).0
+        → AreUnreadFrom input (turn r) old → IsFirst Is r → IsReadOf input r old new (Ok text)
+        → ((texts : ByFile Text) → at r texts ≡ text.items → Returns (Is texts) result) → IsMade input Is old new result
+    whole_made Is r result fresh first got returns = (whole_from Is r result fresh first got returns).made
 
     -- a file is read, and what comes of its value and of later files is the output
-    then_made : (Is Is' : ByFile Text → Outcome → Type 0) (r : Role) (mid new : ByFile (Option (Source R))) (text : Vec ℕ)
-        (result : Result (Vec ℕ) OutputFault) → IsFirst Is r → IsReadOf left failed r old mid (Ok text)
-        → ((texts : ByFile Text) (outcome : Outcome) → Is' texts outcome → Is (with_at r text.items texts) outcome)
-        → ((texts : ByFile Text) (outcome : Outcome) → Is (with_at r text.items texts) outcome → Is' texts outcome)
-        → (made : MadeFrom left failed (turn r + 1) Is' mid new result) → IsMadeOf left failed (Is (with_at r text.items made.0.texts)) old new result
-    then_made Is Is' r mid new text (Ok out) first read there back (made, later) = (there made.texts (Ok out.items) made.made.0, made.made.1)
-    then_made Is Is' r mid new text (Err NoMemory) first read there back (made, later) = made.made
-    then_made Is Is' r mid new text (Err (Unread p)) first read there back (made, later) =
-        let after : turn r + 1 ≤ turn p = later p refl in
-        let still : AreKeptBehind r old mid = kept_behind old mid r (at r mid) read.others in (
-          made.made.0,
-          λ o behind. made.made.1 o behind ∙ still o (omega (arith, after, behind)),
-          λ fault is. made.made.2 fault (back made.texts (Err fault) is),
-          λ flows.
-              let (given, stop, stops, consumed) = made.made.3 flows in
-              let before : turn r + 1 ≤ 3 = subst (λ (q : Role). turn r + 1 ≤ turn q) flows after in (
-                given,
-                stop,
-                stops,
-                subst (λ (x : Option (Source R)). Consumes (bytes_of left x) (bytes_of left new.flows) given) (still role.Flows (omega (arith, before))) consumed,
-              ),
-        )
-    then_made Is Is' r mid new text (Err (Faulty fault)) first read there back (made, later) =
-        let is : Is (with_at r text.items made.texts) (Err fault) = there made.texts (Err fault) made.made.0 in
-        let least : turn r ≤ turn (role_of fault) = first _ fault is in
-        (is, λ o behind. made.made.1 o behind ∙ kept_behind old mid r (at r mid) read.others o (omega (arith, least, behind)), made.made.2)
+    module _ (Is Is' : ByFile Text → Outcome → Type 0) (r : Role) {mid : ByFile (Option (Source R))} {text : Vec ℕ} (fresh : AreUnreadFrom input (turn r) old) (first : IsFirst Is r)
+        (got : IsReadOf input r old mid (Ok text))
+        (there : (texts : ByFile Text) (outcome : Outcome) → at r texts ≡ text.items → Is' texts outcome → Is texts outcome)
+        (back : (texts : ByFile Text) (outcome : Outcome) → at r texts ≡ text.items → Is texts outcome → Is' texts outcome) where
+      then_made : (new : ByFile (Option (Source R))) (result : Result (Vec ℕ) OutputFault) → Makes input Is' mid new result
+          → ((p : Role) → result ≡ Err (Unread p) → turn r + 1 ≤ turn p) → at r new ≡ at r mid → Makes input Is old new result
+      then_made new (Ok out) (is, works) later kept =
+          (λ texts given. there texts (Ok out.items) (text_of_read new r fresh got kept texts given) (is texts given), works)
+      then_made new (Err NoMemory) works later kept = works
+      then_made new (Err (Unread p)) is later kept =
+          let after : turn r + 1 ≤ turn p = later p refl in (
+            is.0,
+            λ o behind. is.1 o behind ∙ kept_behind old mid r (at r mid) got.others o (omega (arith, after, behind)),
+            λ texts given fault has. is.2 texts given fault (back texts (Err fault) (text_of_read new r fresh got kept texts given) has),
+            is.3,
+          )
+      then_made new (Err (Faulty fault)) is later kept =
+          let has : (texts : ByFile Text) → AreTexts input new texts → Is texts (Err fault) =
+          λ texts given. there texts (Err fault) (text_of_read new r fresh got kept texts given) (is.0 texts given) in
+          let least : turn r ≤ turn (role_of fault) = first _ fault (has (each (λ file. (view_of input file).returned) new) (read_so_far input new)) in
+          (has, λ o behind. is.1 o behind ∙ kept_behind old mid r (at r mid) got.others o (omega (arith, least, behind)), is.2)
 
-    pub then_from : {mid new : ByFile (Option (Source R))} {text : Vec ℕ} {result : Result (Vec ℕ) OutputFault} (Is Is' : ByFile Text → Outcome → Type 0) (r : Role)
-        → IsFirst Is r → IsReadOf left failed r old mid (Ok text)
-        → ((texts : ByFile Text) (outcome : Outcome) → Is' texts outcome → Is (with_at r text.items texts) outcome)
-        → ((texts : ByFile Text) (outcome : Outcome) → Is (with_at r text.items texts) outcome → Is' texts outcome)
-        → (any_failed failed mid ≡ false → MadeFrom left failed (turn r + 1) Is' mid new result) → MadeFrom left failed (turn r) Is old new result
-    then_from {mid = mid} {new = new} {text = text} {result = result} Is Is' r first read there back rest =
-        let made = rest (read_tells read) in (
+      pub then_from : {new : ByFile (Option (Source R))} {result : Result (Vec ℕ) OutputFault}
+          → (any_failed input mid ≡ false → AreUnreadFrom input (turn r + 1) mid → MadeFrom input (turn r + 1) Is' mid new result)
+          → MadeFrom input (turn r) Is old new result
+      then_from {new = new} {result = result} rest =
+          let is = rest (read_tells got)
+          (λ q later. ap (λ file. (view_of input file).returned) (kept_behind old mid r (at r mid) got.others q (omega (arith, later))) ∙ fresh q (omega (arith, later))) in
           record {
-            texts = with_at r text.items made.0.texts;
-            given = text_given left old mid made.0.texts r (at r mid) text.items read.others made.0.given read.whole;
-            made = then_made Is Is' r mid new text result first read there back made;
-          },
-          λ p same. omega (arith, made.1 p same),
-        )
+            made = record { made = then_made new result is.made.made is.later (is.kept r (omega arith)); read = read_more input (read_of got) is.made.read };
+            later = λ p same. omega (arith, is.later p same);
+            kept = λ o early. is.kept o (omega (arith, early)) ∙ kept_before old mid r (at r mid) got.others o early;
+          }
 
     -- The labels of a report from a map or a list: they can't be read, or they are those of the text, or it has a fault.
-    pub labels_unread : {new : ByFile (Option (Source R))} {fault : OutputFault} (file : LabelFile) → IsReadOf left failed (role_in file) old new (Err fault)
-        → AreLabels left failed (Some file) old new (Err fault)
-    labels_unread file read report = (unread_from (ReportsOver report (Some file)) (role_in file) (early file) (report_first report file) read).0
+    pub labels_unread : {new : ByFile (Option (Source R))} {fault : OutputFault} (file : LabelFile) → IsReadOf input (role_in file) old new (Err fault)
+        → AreLabels input (Some file) old new (Err fault)
+    labels_unread file got report = (unread_from (ReportsOver report (Some file)) (role_in file) (early file) (report_first report file) got).made
 
     pub labels_made : (file : LabelFile) (new : ByFile (Option (Source R))) (text : Vec ℕ) (result : Result LabelsRead OutputFault)
-        → IsReadOf left failed (role_in file) old new (Ok text) → AreLabelsOf (source_by file text.items) result → AreLabels left failed (Some file) old new result
-    labels_made file new text (Ok labels) read is = (
-      with_at (role_in file) text.items (texts_of left new),
-      text_given left old new (texts_of left new) (role_in file) (at (role_in file) new) text.items read.others (texts_given left new) read.whole,
-      of_source (λ source flows. ReadsLabels (Some source) (labelling_read labels)) file text.items (texts_of left new) is,
-      kept_behind old new (role_in file) (at (role_in file) new) read.others role.Flows (early file),
-      read_tells read,
-    )
-    labels_made file new text (Err fault) read is = λ report.
-        (whole_from (ReportsOver report (Some file)) (role_in file) (Err fault) (report_first report file) read
-        (of_source (λ source flows. Returns (ReportsThen report (Some source) flows) (Err fault)) file text.items (texts_of left new) (is report (texts_of left new).flows))).0
+        → AreUnreadFrom input (turn (role_in file)) old → IsReadOf input (role_in file) old new (Ok text) → AreLabelsOf (source_by file text.items) result
+        → AreLabels input (Some file) old new result
+    labels_made file new text (Ok labels) fresh got is = record {
+      reads = λ texts given. of_source (λ source flows. ReadsLabels (Some source) (labelling_read labels)) file text.items texts (text_of_read new (role_in file) fresh got refl texts given) is;
+      flows = kept_behind old new (role_in file) (at (role_in file) new) got.others role.Flows (early file);
+      works = read_tells got;
+      read = read_of got;
+    }
+    labels_made file new text (Err fault) fresh got is = λ report.
+        whole_made (ReportsOver report (Some file)) (role_in file) (Err fault) fresh (report_first report file) got
+        (λ texts same. of_source (λ source flows. Returns (ReportsThen report (Some source) flows) (Err fault)) file text.items texts same (is report texts.flows))
 
-    -- A report on a File, whose labels are read.
-    module _ (text : Option Labelling → List MessageView → List ℕ) (named : Option LabelFile) (mid : ByFile (Option (Source R)))
-        (labels : Option Labelling) (texts : ByFile Text) (given : AreTexts left old texts)
-        (reads : ReadsLabels (option_map (source_with texts) named) labels) (same : mid.flows ≡ old.flows) (still : any_failed failed mid ≡ false)
-        (flows : Option (Source R)) where
-      pub report_done : {T : Type 0} (is_of : List MessageView → T → Type 0) (taken : T) (out : Vec ℕ) → TakesFile is_of (bytes_of left mid.flows) (bytes_of left flows) taken (Ok tt) → source_failed failed flows ≡ false
-          → ((messages : List MessageView) → is_of messages taken → out.items ≡ text labels messages) → IsMade left failed (ReportsOver text named) old (with_at role.Flows flows mid) (Ok out)
-      report_done is_of taken out (messages, is, bytes, all, whole) works says = record {
-        texts = with_at role.Flows bytes texts;
-        given = with_flows left old mid texts bytes given same all;
-        made = (flows_made text named labels texts bytes (Ok out.items) reads (rw whole (ap Ok (says messages is))), one_tells failed mid still role.Flows flows ∙ works);
-      }
+-- no labels are read
+pub no_labels : {R : Type 0} (input : R → InputView) (files : ByFile (Option (Source R))) → any_failed input files ≡ false → LabelsMade input None files files read.None
+no_labels input files none = record { reads = λ texts given. refl; flows = refl; works = none; read = none_read input files }
 
-      report_stopped : {T : Type 0} (is_of : List MessageView → T → Type 0) (taken : T) (fault : OutputFault)
-          → TakesFile is_of (bytes_of left mid.flows) (bytes_of left flows) taken (Err fault) → source_failed failed flows ≡ is_unread {A = Unit {0}} (Err fault) → IsMade left failed (ReportsOver text named) old (with_at role.Flows flows mid) (Err fault)
-      report_stopped is_of taken NoMemory is works = memory_made _ old (with_at role.Flows flows mid) (Err NoMemory) refl (one_tells failed mid still role.Flows flows ∙ works)
-      report_stopped is_of taken (Unread other) (named_flows, stop, read, consumed, stops) works = record {
-        texts = texts;
-        given = given;
-        made =
-            subst (λ (p : Role). IsFaultOf left failed (ReportsOver text named texts) old (with_at role.Flows flows mid) (Unread p)) (sym named_flows) (
-              works,
-              λ later behind. absurd (none_behind later behind),
-              λ fault is. flows_last text (option_map (source_with texts) named) labels texts.flows fault reads is,
-              λ is. (read, stop, stops, subst (λ (x : Option (Source R)). Consumes (bytes_of left x) (bytes_of left flows) read) same consumed),
-            );
-      }
-      report_stopped is_of taken (Faulty (InFlows fault)) (bytes, all, has) works = record {
-        texts = with_at role.Flows bytes texts;
-        given = with_flows left old mid texts bytes given same all;
-        made = (
-          flows_made text named labels texts bytes (Err (InFlows fault)) reads (rw has refl),
-          λ later behind. absurd (none_behind later behind),
-          one_tells failed mid still role.Flows flows ∙ works,
-        );
-      }
-      report_stopped is_of taken (Faulty fault) is works = absurd is
+-- A report on a File of which nothing is read, whose labels are read.
+module _ {R : Type 0} (input : R → InputView) {old mid : ByFile (Option (Source R))} (text : Option Labelling → List MessageView → List ℕ)
+    {named : Option LabelFile} {found : LabelsRead} (had : LabelsMade input named old mid found) (unread : AreUnread input old) (flows : Option (Source R)) where
+  fresh : (view_of input mid.flows).returned ≡ []
+  fresh = ap (λ file. (view_of input file).returned) had.flows ∙ unread role.Flows
 
-      pub report_fault : {T : Type 0} (is_of : List MessageView → T → Type 0) (taken : T) (fault : OutputFault) (result : Result (Vec ℕ) OutputFault)
-          → IsErrAnd result (λ other. other ≡ fault) → TakesFile is_of (bytes_of left mid.flows) (bytes_of left flows) taken (Err fault) → source_failed failed flows ≡ is_unread {A = Unit {0}} (Err fault)
-          → IsMade left failed (ReportsOver text named) old (with_at role.Flows flows mid) result
-      report_fault is_of taken fault result same is works = handed_on (IsMade left failed (ReportsOver text named) old (with_at role.Flows flows mid)) result fault same (report_stopped is_of taken fault is works)
+  pub works_then : any_failed input (with_at role.Flows flows mid) ≡ (view_of input flows).failed
+  works_then = one_tells input mid had.works role.Flows flows
+
+  -- the same labels, and what comes of the File under them
+  reads_then : (texts : ByFile Text) → AreTexts input (with_at role.Flows flows mid) texts → ReadsLabels (option_map (source_with texts) named) (labelling_read found)
+  reads_then texts given =
+      subst (λ (s : Option LabelSource). ReadsLabels s (labelling_read found)) (source_stays texts (view_of input mid.flows).returned named)
+      (had.reads (with_at role.Flows (view_of input mid.flows).returned texts) (texts_before input mid flows texts given))
+
+  over : (texts : ByFile Text) (bytes : List ℕ) (outcome : Outcome) → AreTexts input (with_at role.Flows flows mid) texts → texts.flows ≡ bytes
+      → ReportsOf text (labelling_read found) bytes outcome → ReportsOver text named texts outcome
+  over texts bytes outcome given same is =
+      labels_then text (option_map (source_with texts) named) (labelling_read found) texts.flows outcome (reads_then texts given)
+      (subst (λ (l : List ℕ). ReportsOf text (labelling_read found) l outcome) (sym same) is)
+
+  -- reads returned more of the flows alone
+  pub flows_read : ReadsInput (view_of input mid.flows) (view_of input flows) (λ _. ⊤) → AreReadOn input old (with_at role.Flows flows mid)
+  flows_read more = read_more input had.read (one_read input role.Flows flows mid (with_at role.Flows flows mid) refl more)
+
+  pub report_done : {T : Type 0} (is_of : List MessageView → T → Type 0) (taken : T) (out : Vec ℕ)
+      → TakesFile is_of (view_of input mid.flows) (view_of input flows) taken (Ok tt) → (view_of input flows).failed ≡ false
+      → ((messages : List MessageView) → is_of messages taken → out.items ≡ text (labelling_read found) messages)
+      → IsMade input (ReportsOver text named) old (with_at role.Flows flows mid) (Ok out)
+  report_done is_of taken out (bytes, returns, (messages, is, end, whole)) works says = record {
+    made = (
+      λ texts given.
+          over texts bytes (Ok out.items) given (text_is (view_of input flows) texts.flows bytes (all_read fresh returns) end (given role.Flows))
+          (rw whole (ap Ok (says messages is))),
+      works_then ∙ works,
+    );
+    read = flows_read (bytes, returns, tt);
+  }
+
+  report_stopped : {T : Type 0} (is_of : List MessageView → T → Type 0) (taken : T) (fault : OutputFault) (bytes : List ℕ)
+      → Gives (view_of input mid.flows) (view_of input flows) bytes → TakesMessages is_of taken (has_ended (view_of input flows)) (Err fault) bytes
+      → (view_of input flows).failed ≡ is_unread {A = Unit {0}} (Err fault) → IsFaultOf input (ReportsOver text named) old (with_at role.Flows flows mid) fault
+  report_stopped is_of taken NoMemory bytes returns is works = works_then ∙ works
+  report_stopped is_of taken (Unread other) bytes returns (named_flows, stop, stops) works =
+      subst (λ (p : Role). IsFaultOf input (ReportsOver text named) old (with_at role.Flows flows mid) (Unread p)) (sym named_flows) (
+        works,
+        λ later behind. absurd (none_behind later behind),
+        λ texts given fault is. flows_last text (option_map (source_with texts) named) (labelling_read found) texts.flows fault (reads_then texts given) is,
+        λ is. (stop, subst (λ (l : List ℕ). StopsReading l stop) (sym (all_read fresh returns)) stops),
+      )
+  report_stopped is_of taken (Faulty (InFlows fault)) bytes returns has works = (
+    λ texts given.
+        let (rest, follows, all) = given role.Flows in
+        over texts (bytes ++ rest) (Err (InFlows fault)) given (all ∙ ap (λ (l : List ℕ). l ++ rest) (all_read fresh returns))
+        (rw (has rest follows) refl),
+    λ later behind. absurd (none_behind later behind),
+    works_then ∙ works,
+  )
+  report_stopped is_of taken (Faulty fault) bytes returns is works = absurd is
+
+  pub report_fault : {T : Type 0} (is_of : List MessageView → T → Type 0) (taken : T) (fault : OutputFault) (result : Result (Vec ℕ) OutputFault)
+      → IsErrAnd result (λ other. other ≡ fault) → TakesFile is_of (view_of input mid.flows) (view_of input flows) taken (Err fault)
+      → (view_of input flows).failed ≡ is_unread {A = Unit {0}} (Err fault) → IsMade input (ReportsOver text named) old (with_at role.Flows flows mid) result
+  report_fault is_of taken fault result same (bytes, returns, is) works =
+      handed_on (IsMade input (ReportsOver text named) old (with_at role.Flows flows mid)) result fault same
+      (record { made = report_stopped is_of taken fault bytes returns is works; read = flows_read (bytes, returns, tt) })
+
+  -- no more memory after the flows
+  pub report_memory : {T : Type 0} (is_of : List MessageView → T → Type 0) (taken : T) (Is : ByFile Text → Outcome → Type 0) (result : Result (Vec ℕ) OutputFault)
+      → IsErrAnd result (λ fault. fault ≡ NoMemory) → TakesFile is_of (view_of input mid.flows) (view_of input flows) taken (Ok tt) → (view_of input flows).failed ≡ false
+      → IsMade input Is old (with_at role.Flows flows mid) result
+  report_memory is_of taken Is result same (bytes, gives, _) works =
+      memory_made input Is old (with_at role.Flows flows mid) result same (works_then ∙ works) (flows_read (bytes, gives, tt))
 
 -- an index that is borrowed has the labelling of the index
 pub found_is : (lent : Option (Bor StretchModel)) (owned : Option StretchModel) (labels : Option Labelling)
     → option_copied lent ≡ owned → option_map labelling_of_stretches owned ≡ labels → labelling_found lent ≡ labels
 found_is None owned labels is same = ap (option_map labelling_of_stretches) is ∙ same
 found_is (Some l) owned labels is same = ap (option_map labelling_of_stretches) is ∙ same
+
+-- What a reader reports of its text: what it gave are the first bytes, and all of them once it has ended.
+
+none_follows : (stopped : Bool) (rest : List ℕ) → (stopped && length rest == 0) ≡ true → rest ≡ []
+none_follows stopped [] end = refl
+none_follows true (byte ∷ bytes) end = let none : 1 + length bytes ≡ 0 = grind (arith, nat_tests, common_steps) in absurd (omega (arith, none))
+none_follows false (byte ∷ bytes) end = cc
+
+reports : (new : InputView) (text bytes : List ℕ) (left : Option (List ℕ)) → new.left ≡ left → Consumes (Some text) left bytes → new.returned ≡ bytes → MayHave new text
+reports new text bytes None same gone all = absurd gone
+reports new text bytes (Some rest) same gone all =
+    (rest, (λ end. none_follows new.stopped rest (subst (λ o. (new.stopped && length (unwrap_or o []) == 0) ≡ true) same end)), gone ∙ ap (λ (l : List ℕ). l ++ rest) (sym all))
+
+pub are_reported : {R : Type 0} (input : R → InputView) (old new : ByFile (Option (Source R))) → AreUnread input old → AreReadOn input old new → AreReported input old new
+are_reported input old new unread read role text is =
+    let (bytes, gives, _) = read role in let now = view_of input (at role new) in
+    reports now text bytes now.left refl (subst (λ o. Consumes o now.left bytes) is gives.left) (all_read (unread role) gives)
+
+-- a run ends with the fault of its command
+pub run_fault : {R W : Type 0} (input : R → InputView) (output : W → OutputView) (command : Command) (old new : ByFile (Option (Source R))) (writer : W) (made : OutputFault) (fault : RunFault)
+    → IsNamed (each name_in old) made fault → IsFaultOf input (λ texts. IsOutput (with_texts texts command)) old new made → EndsAs input output command old new writer writer (Err fault)
+run_fault input output command old new writer NoMemory OutOfMemory named is = (NoMemory, named, is, refl)
+run_fault input output command old new writer (Unread role) (CannotRead file) named is = (Unread role, named, is, refl)
+run_fault input output command old new writer (Faulty fault) (File file other) named is = (Faulty fault, named, is, refl)
+run_fault input output command old new writer made fault named is = absurd named

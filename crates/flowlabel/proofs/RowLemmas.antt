@@ -1,17 +1,11 @@
 -- The lines of rows, one by one.
-use Rattle.std.proofs.Common.{◌≡◌, ◌∙◌, ◌<◌, ◌≤◌, Bool, true, false, cond, List, [], ◌∷◌, ◌++◌, Option, Some, None, is_some, length, length-append, map, refl, subst, sym, ap, arith}
+use Rattle.std.proofs.Common.{◌≡◌, ◌∙◌, Bool, true, false, cond, List, [], ◌∷◌, ◌++◌, Option, Some, None, is_some, length-append, map, refl, subst, sym, ap, arith}
 use Rattle.std.specs.Prelude.{option_map}
 use Rattle.std.specs.Borrow.{Bor}
-use Rattle.std.specs.List.{flat_map, zip}
-use Rattle.std.proofs.lemmas.Grind.{flat_map-append}
+use Rattle.std.specs.List.{zip}
 use Rattle.std.proofs.lemmas.List.{append-nil, map-append}
 use Rattle.std.proofs.lemmas.List.Elements.{filter-append}
-use Rattle.ipfix_read.specs.Message.{MessageView}
-use Rattle.ipfix_read.specs.declared.record.Record.{Record}
-use Rattle.ipfix_read.specs.declared.set.Set.{Set}
-use Rattle.flow_rows.specs.Counts.{records_in, records_of, rows_of, rows_of_messages, sets_of}
-use Rattle.flow_rows.specs.Elements.{rows_of_record, RowView}
-use Rattle.flow_rows.specs.Walk.{CanTake, Takes}
+use Rattle.flow_rows.specs.Elements.{RowView}
 use Rattle.flow_filter.specs.Condition.{Condition, passing, row_passes}
 use Rattle.pmap_print.specs.declared.rows.RowLabels.{RowLabels}
 use Rattle.flow_uniq.specs.Groups.{GroupsModel, groups_of}
@@ -21,7 +15,7 @@ use Rattle.pmap_print.specs.Reports.{LabelTexts, column_count, label_fields, lab
 use Rattle.pmap_print.specs.Table.{IsTable, Line}
 use Rattle.label_lookup.specs.Labelling.{Labelling, StretchModel, label_where}
 use Rattle.flowlabel.specs.Output.{labelled_row_lines, row_labels}
-use Rattle.flowlabel.specs.Reports.{HasGroups, HasRows, IsAfter, labelling_found}
+use Rattle.flowlabel.specs.Reports.{HasGroups, HasRows, labelling_found}
 
 zip_more : {X Y : Type 0} (f : X → Y) (xs : List X) (x : X) → zip (xs ++ x ∷ []) (map f (xs ++ x ∷ [])) ≡ zip xs (map f xs) ++ (x, f x) ∷ []
 zip_more f [] x = refl

@@ -1,8 +1,7 @@
 use Rattle.std.specs.Prelude.{◌≡◌, ◌<◌, Option, Some, None, IfSome}
 use Rattle.flowlabel.specs.ByFile.{ByFile, Role, at, turn}
 use Rattle.flowlabel.specs.Request.{Text}
-use Rattle.flowlabel.specs.Run.{CannotOpen, RunFault, Source, Usage}
-use Rattle.flowlabel.specs.declared.usage.UsageFault.TheVariants as usage
+use Rattle.flowlabel.specs.Run.{CannotOpen, NoMemory, RunFault, Source}
 
 -- How the files of a request are opened. `answers` has the possible results for a name: a reader, or `None`.
 
@@ -23,7 +22,7 @@ module _ {R : Type 0} (answers : Text → Option R → Type 0) where
   -- the file with this name can't be opened, or an allocation failed before that was known
   abbrev pub CannotOpenNamed : Option Text → RunFault → Type 0
   CannotOpenNamed name (CannotOpen file) = (name ≡ Some file.now) × answers file.now None
-  CannotOpenNamed name (Usage usage.NoMemory) = Unit {0}
+  CannotOpenNamed name NoMemory = Unit {0}
   CannotOpenNamed name fault = ⊥
 
   -- the fault reports the first of the files that can't be opened

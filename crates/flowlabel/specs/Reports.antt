@@ -1,7 +1,7 @@
-use Rattle.std.specs.Prelude.{◌≡◌, ◌≤◌, ◌*◌, List, ℕ, Bool, Option, Some, None, IfSome, is_some, Result, Ok, Err, false, true, length, option_map}
+use Rattle.std.specs.Prelude.{◌≡◌, ⊤, ◌≤◌, ◌*◌, ◌++◌, List, ℕ, Bool, Option, Some, None, is_some, Result, Ok, Err, false, true, length, option_map}
 use Rattle.std.specs.Borrow.{Bor}
 use Rattle.std.specs.Global.{Vec}
-use Rattle.std.specs.Io.KnownBytes.{Consumes}
+use Rattle.flow_io.specs.Devices.{InputView, MayFollow, ReadsInput, has_ended}
 use Rattle.pmap_text.specs.MapText.{map_of}
 use Rattle.pmap_text.specs.PrefixList.{list_of}
 use Rattle.pmap_text.specs.ListModel.{ListModel}
@@ -25,7 +25,7 @@ use Rattle.flowlabel.specs.declared.bytes_fault.BytesFault.TheVariants.{Flows as
 use Rattle.flowlabel.specs.Output.{Faulty, FlowsThen, IsFaultFor, NoMemory, Outcome, OutputFault, Prints, Returns, Unread, labelled_row_lines}
 use Rattle.flowlabel.specs.declared.command.LabelFile.{LabelFile}
 use Rattle.flowlabel.specs.Request.{FromList, FromMap, LabelSource, Text, source_with}
-use Rattle.flowlabel.specs.Run.{AreTexts, IsFaultOf, Source, any_failed, bytes_of, is_unread, source_failed}
+use Rattle.flowlabel.specs.Run.{AreReadOn, AreTexts, IsFaultOf, Source, any_failed, is_unread, view_of}
 use Rattle.flowlabel.specs.declared.run.labels.LabelsRead.{LabelsRead}
 use Rattle.flowlabel.specs.declared.run.labels.LabelsRead.TheVariants as read
 use Rattle.pmap_print.specs.declared.table.Table.{Table}
@@ -63,45 +63,51 @@ abbrev pub IsFaultOfCall : ReadFault → OutputFault → Type 0
 IsFaultOfCall fault (Unread other) = (other ≡ roles.Flows) × (is_of_reader fault.kind ≡ true)
 IsFaultOfCall fault made = (is_of_reader fault.kind ≡ false) × IsFaultFor (InFlows fault) made
 
--- The messages of a File, given to something whose state is then `taken`. The reader had these bytes before, and has
--- those now, if it reports them.
-abbrev pub TakesFile : {T : Type 0} → (List MessageView → T → Type 0) → Option (List ℕ) → Option (List ℕ) → T → Result (Unit {0}) OutputFault → Type 0
-TakesFile is_of given gives taken (Ok done) =
-    (messages : List MessageView) × is_of messages taken × (bytes : List ℕ) × IfSome given (λ all. bytes ≡ all) × (file_reading bytes ≡ Ok messages)
-TakesFile is_of given gives taken (Err NoMemory) = Unit {0}
-TakesFile is_of given gives taken (Err (Unread other)) =
-    (other ≡ roles.Flows) × (stop : ReadFault) × (read : List ℕ) × Consumes given gives read × StopsReading read stop
-TakesFile is_of given gives taken (Err (Faulty (InFlows fault))) = (bytes : List ℕ) × IfSome given (λ all. bytes ≡ all) × (file_reading bytes ≡ Err fault)
-TakesFile is_of given gives taken (Err (Faulty fault)) = ⊥
+-- The messages of a File, given to something whose state is then `taken`: the reader returned these bytes, and may have
+-- found the end.
+abbrev pub TakesMessages : {T : Type 0} → (List MessageView → T → Type 0) → T → Bool → Result (Unit {0}) OutputFault → List ℕ → Type 0
+TakesMessages is_of taken ended (Ok done) bytes = (messages : List MessageView) × is_of messages taken × (ended ≡ true) × (file_reading bytes ≡ Ok messages)
+TakesMessages is_of taken ended (Err NoMemory) bytes = ⊤
+TakesMessages is_of taken ended (Err (Unread other)) bytes = (other ≡ roles.Flows) × (stop : ReadFault) × StopsReading bytes stop
+TakesMessages is_of taken ended (Err (Faulty (InFlows fault))) bytes = (rest : List ℕ) → MayFollow ended rest → file_reading (bytes ++ rest) ≡ Err fault
+TakesMessages is_of taken ended (Err (Faulty fault)) bytes = ⊥
+
+abbrev pub TakesFile : {T : Type 0} → (List MessageView → T → Type 0) → InputView → InputView → T → Result (Unit {0}) OutputFault → Type 0
+TakesFile is_of old new taken result = ReadsInput old new (TakesMessages is_of taken (has_ended new) result)
 
 -- a file was read whole, or it stopped as its reader or an allocation failed
-abbrev pub IsWhole : Role → Option (List ℕ) → Result (Vec ℕ) OutputFault → Type 0
-IsWhole role given (Ok text) = IfSome given (λ bytes. text.items ≡ bytes)
-IsWhole role given (Err NoMemory) = Unit {0}
-IsWhole role given (Err (Unread other)) = other ≡ role
-IsWhole role given (Err (Faulty fault)) = ⊥
+abbrev pub IsWhole : Role → Bool → Result (Vec ℕ) OutputFault → List ℕ → Type 0
+IsWhole role ended (Ok text) bytes = (text.items ≡ bytes) × (ended ≡ true)
+IsWhole role ended (Err NoMemory) bytes = ⊤
+IsWhole role ended (Err (Unread other)) bytes = other ≡ role
+IsWhole role ended (Err (Faulty fault)) bytes = ⊥
 
-module _ {R : Type 0} (left : R → Option (List ℕ)) (failed : R → Bool) where
+module _ {R : Type 0} (input : R → InputView) where
   -- one file was read whole, and nothing of any other
   pub record IsReadOf (role : Role) (old new : ByFile (Option (Source R))) (result : Result (Vec ℕ) OutputFault) : Type 0 where
-    pub whole : IsWhole role (bytes_of left (at role old)) result
+    pub whole : ReadsInput (view_of input (at role old)) (view_of input (at role new)) (IsWhole role (has_ended (view_of input (at role new))) result)
     pub others : new ≡ with_at role (at role new) old
-    pub unread : source_failed failed (at role new) ≡ is_unread result
+    pub unread : (view_of input (at role new)).failed ≡ is_unread result
 
-  -- What a command returns, by its outcomes over the texts of its files.
-  abbrev pub IsMadeOf : (Outcome → Type 0) → ByFile (Option (Source R)) → ByFile (Option (Source R)) → Result (Vec ℕ) OutputFault → Type 0
-  IsMadeOf Is old new (Ok out) = Is (Ok out.items) × (any_failed failed new ≡ false)
-  IsMadeOf Is old new (Err fault) = IsFaultOf left failed Is old new fault
+  -- what a command returns, by its outcomes over the texts that its files may have
+  abbrev pub Makes : (ByFile Text → Outcome → Type 0) → ByFile (Option (Source R)) → ByFile (Option (Source R)) → Result (Vec ℕ) OutputFault → Type 0
+  Makes Is old new (Ok out) = ((texts : ByFile Text) → AreTexts input new texts → Is texts (Ok out.items)) × (any_failed input new ≡ false)
+  Makes Is old new (Err fault) = IsFaultOf input Is old new fault
 
+  -- the same, and that no byte of a file is lost
   pub record IsMade (Is : ByFile Text → Outcome → Type 0) (old new : ByFile (Option (Source R))) (result : Result (Vec ℕ) OutputFault) : Type 0 where
-    pub texts : ByFile Text
-    pub given : AreTexts left old texts
-    pub made : IsMadeOf (Is texts) old new result
+    pub made : Makes Is old new result
+    pub read : AreReadOn input old new
 
   -- The labels of a report are read, if it has labels. A report under a source of labels ends with any fault of them.
+  pub record LabelsMade (labels : Option LabelFile) (old new : ByFile (Option (Source R))) (found : LabelsRead) : Type 0 where
+    pub reads : (texts : ByFile Text) → AreTexts input new texts → ReadsLabels (option_map (source_with texts) labels) (labelling_read found)
+    pub flows : new.flows ≡ old.flows
+    pub works : any_failed input new ≡ false
+    pub read : AreReadOn input old new
+
   abbrev pub AreLabels : Option LabelFile → ByFile (Option (Source R)) → ByFile (Option (Source R)) → Result LabelsRead OutputFault → Type 0
-  AreLabels labels old new (Ok read) = (texts : ByFile Text) × AreTexts left old texts
-      × ReadsLabels (option_map (source_with texts) labels) (labelling_read read) × (new.flows ≡ old.flows) × (any_failed failed new ≡ false)
+  AreLabels labels old new (Ok found) = LabelsMade labels old new found
   AreLabels labels old new (Err fault) = (text : Option Labelling → List MessageView → List ℕ)
       → IsMade (λ texts. ReportsThen text (option_map (source_with texts) labels) texts.flows) old new (Err fault)
 

@@ -1,9 +1,6 @@
-use Rattle.std.specs.Prelude.{◌≡◌, ◌≤◌, ◌<◌, ◌||◌, ℕ, List, [], Option, Some, Result, Ok, Err, Bool, true, false, IfSome}
+use Rattle.std.specs.Prelude.{◌≡◌, ◌≤◌, ◌<◌, ◌||◌, ◌++◌, ⊤, ℕ, List, [], Option, Some, Result, Ok, Err, Bool, true, false}
 use Rattle.std.specs.Option.{option_map_or}
-use Rattle.std.specs.Io.KnownBytes.{Appends, Consumes}
-use Rattle.flow_io.specs.declared.devices.LastCall.{LastCall}
-use Rattle.flow_io.specs.declared.devices.LastCall.TheVariants.{Flush}
-use Rattle.flow_io.specs.Devices.{StopsWriting}
+use Rattle.flow_io.specs.Devices.{InputView, MayFollow, OutputView, ReadsInput, StopsWriting, Writes, has_ended}
 use Rattle.ipfix_read.specs.Messages.{StopsReading}
 use Rattle.ipfix_read.specs.declared.fault.ReadFault.{ReadFault}
 use Rattle.flowlabel.specs.BytesFault.{role_of}
@@ -11,7 +8,7 @@ use Rattle.flowlabel.specs.ByFile.{ByFile, Role, at, each, turn}
 use Rattle.flowlabel.specs.declared.by_file.Role.TheVariants as roles
 use Rattle.flowlabel.specs.Headline.{IsHeadline}
 use Rattle.flowlabel.specs.Output.{BytesFault, Faulty, IsOutput, NoMemory as OutOfMemory, Outcome, OutputFault, Unread}
-use Rattle.flowlabel.specs.Request.{Command, Request, Text, with_texts}
+use Rattle.flowlabel.specs.Request.{Command, Text, with_texts}
 pub use Rattle.flowlabel.specs.declared.inputs.Inputs.{Inputs}
 pub use Rattle.flowlabel.specs.declared.inputs.Source.{Source}
 pub use Rattle.flowlabel.specs.declared.fault.RunFault.{RunFault}
@@ -31,57 +28,75 @@ IsNamed names (Unread role) (CannotRead file) = file.now ≡ at role names
 IsNamed names (Faulty fault) (File file other) = (file.now ≡ at (role_of fault) names) × (other ≡ fault)
 IsNamed names fault run = ⊥
 
-module _ {R : Type 0} where
-  abbrev pub source_failed : (R → Bool) → Option (Source R) → Bool
-  source_failed failed file = option_map_or (λ source. failed source.reader) file false
+-- the text of an input may be this one: the bytes that reads have returned, and then none after the end, otherwise any
+abbrev pub MayHave : InputView → Text → Type 0
+MayHave input text = (rest : List ℕ) × MayFollow (has_ended input) rest × (text ≡ input.returned ++ rest)
 
-  abbrev pub any_failed : (R → Bool) → ByFile (Option (Source R)) → Bool
-  any_failed failed files = source_failed failed files.map || (source_failed failed files.list
-      || (source_failed failed files.certificate || source_failed failed files.flows))
+-- the name of a file; one that isn't there has an empty name
+abbrev pub name_in : {R : Type 0} → Option (Source R) → Text
+name_in file = option_map_or (λ source. source.name.now) file []
 
-  -- the name of a file; one that isn't there has an empty name
-  abbrev pub name_in : Option (Source R) → Text
-  name_in file = option_map_or (λ source. source.name.now) file []
+-- the files that are read after this one are untouched
+abbrev pub AreKeptBehind : {R : Type 0} → Role → ByFile (Option (Source R)) → ByFile (Option (Source R)) → Type 0
+AreKeptBehind role old new = (later : Role) → turn role < turn later → at later new ≡ at later old
 
-  -- the bytes that a reader has left, where it reports them; a file that isn't there has none
-  abbrev pub bytes_of : (R → Option (List ℕ)) → Option (Source R) → Option (List ℕ)
-  bytes_of left file = option_map_or (λ source. left source.reader) file (Some [])
+-- The function is what contracts see of a reader.
+module _ {R : Type 0} (input : R → InputView) where
+  -- what contracts see of a file; one that isn't there has no bytes
+  abbrev pub view_of : Option (Source R) → InputView
+  view_of file = option_map_or (λ source. input source.reader) file (record { failed = false; returned = []; stopped = true; left = Some [] })
 
-  -- these are the texts of the files, as far as their readers report them
-  abbrev pub AreTexts : (R → Option (List ℕ)) → ByFile (Option (Source R)) → ByFile Text → Type 0
-  AreTexts left files texts = (role : Role) → IfSome (bytes_of left (at role files)) (λ bytes. at role texts ≡ bytes)
+  abbrev pub any_failed : ByFile (Option (Source R)) → Bool
+  any_failed files = (view_of files.map).failed || ((view_of files.list).failed || ((view_of files.certificate).failed || (view_of files.flows).failed))
 
-  -- the files that are read after this one are untouched
-  abbrev pub AreKeptBehind : Role → ByFile (Option (Source R)) → ByFile (Option (Source R)) → Type 0
-  AreKeptBehind role old new = (later : Role) → turn role < turn later → at later new ≡ at later old
+  -- nothing of the files is read yet
+  abbrev pub AreUnread : ByFile (Option (Source R)) → Type 0
+  AreUnread files = (role : Role) → (view_of (at role files)).returned ≡ []
 
-  -- A fault of a command, by the outcomes that it may have. A fault of a file's bytes is the outcome. It is a fault of a
-  -- reader exactly if one failed. Then no earlier file has a fault, and of a File the reader gave whole messages without a
-  -- fault and the beginning of one that isn't complete.
-  abbrev pub IsFaultOf : (R → Option (List ℕ)) → (R → Bool) → (Outcome → Type 0) → ByFile (Option (Source R)) → ByFile (Option (Source R)) → OutputFault → Type 0
-  IsFaultOf left failed Is old new OutOfMemory = any_failed failed new ≡ false
-  IsFaultOf left failed Is old new (Unread role) =
-      (source_failed failed (at role new) ≡ true) × AreKeptBehind role old new
-      × ((fault : BytesFault) → Is (Err fault) → turn role ≤ turn (role_of fault))
-      × (role ≡ roles.Flows → (given : List ℕ) × (stop : ReadFault) × StopsReading given stop × Consumes (bytes_of left old.flows) (bytes_of left new.flows) given)
-  IsFaultOf left failed Is old new (Faulty fault) = Is (Err fault) × AreKeptBehind (role_of fault) old new × (any_failed failed new ≡ false)
+  -- the files may have these texts
+  abbrev pub AreTexts : ByFile (Option (Source R)) → ByFile Text → Type 0
+  AreTexts files texts = (role : Role) → MayHave (view_of (at role files)) (at role texts)
 
--- What a run of a request does, if neither a reader nor the writer has failed before.
-module _ {R W : Type 0} (left : R → Option (List ℕ)) (failed : R → Bool) (taken : W → Option (List ℕ)) (last : W → LastCall) (stuck : W → Bool) where
-  -- The writer took exactly the output over the texts, for which the headline holds, and was flushed. After a write
-  -- fault it has a prefix of the output, or all of it if the flush failed. Any other fault comes before it is called. A
-  -- fault of a device comes exactly from a device that failed.
-  abbrev pub IsResult : Request → ByFile (Option (Source R)) → ByFile (Option (Source R)) → W → W → Result (Unit {0}) RunFault → Type 0
-  IsResult request old new writer writer' (Ok done) =
-      (out : Text) × IsOutput request (Ok out) × IsHeadline request out × Appends (taken writer) (taken writer') out × (last writer' ≡ Flush)
-      × (any_failed failed new ≡ false) × (stuck writer' ≡ false)
-  IsResult request old new writer writer' (Err CannotWrite) =
-      (out : Text) × IsOutput request (Ok out) × StopsWriting taken last writer writer' out × (any_failed failed new ≡ false) × (stuck writer' ≡ true)
-  IsResult request old new writer writer' (Err fault) =
-      (made : OutputFault) × IsNamed (each name_in old) made fault × IsFaultOf left failed (IsOutput request) old new made × (writer' ≡ writer)
+  -- reads have returned more of the files
+  abbrev pub AreReadOn : ByFile (Option (Source R)) → ByFile (Option (Source R)) → Type 0
+  AreReadOn old new = (role : Role) → ReadsInput (view_of (at role old)) (view_of (at role new)) (λ _. ⊤)
 
+  -- the text that a reader reports is one that its file may have
+  abbrev pub AreReported : ByFile (Option (Source R)) → ByFile (Option (Source R)) → Type 0
+  AreReported old new = (role : Role) (text : Text) → (view_of (at role old)).left ≡ Some text → MayHave (view_of (at role new)) text
+
+  -- A fault of a command, by the outcomes that it may have over the texts of the files. A fault of a file's bytes is the
+  -- outcome over all texts that the files may have. It is a fault of a reader exactly if one failed. Then no earlier file
+  -- has a fault, and of a File the reader returned whole messages without a fault and the beginning of one that isn't
+  -- complete.
+  abbrev pub IsFaultOf : (ByFile Text → Outcome → Type 0) → ByFile (Option (Source R)) → ByFile (Option (Source R)) → OutputFault → Type 0
+  IsFaultOf Is old new OutOfMemory = any_failed new ≡ false
+  IsFaultOf Is old new (Unread role) =
+      ((view_of (at role new)).failed ≡ true) × AreKeptBehind role old new
+      × ((texts : ByFile Text) → AreTexts new texts → (fault : BytesFault) → Is texts (Err fault) → turn role ≤ turn (role_of fault))
+      × (role ≡ roles.Flows → (stop : ReadFault) × StopsReading (view_of new.flows).returned stop)
+  IsFaultOf Is old new (Faulty fault) =
+      ((texts : ByFile Text) → AreTexts new texts → Is texts (Err fault)) × AreKeptBehind (role_of fault) old new × (any_failed new ≡ false)
+
+-- What a run of a command does, if nothing of its files is read before, and neither a reader nor the writer has failed.
+-- The functions are what contracts see of a reader and of a writer.
+module _ {R W : Type 0} (input : R → InputView) (output : W → OutputView) where
+  -- The writer took exactly the output over each text that the files may have, for which the headline holds, and was
+  -- flushed. After a write fault it has a prefix of the output, or all of it if the flush failed. Any other fault comes
+  -- before it is called. A fault of a device comes exactly from a device that failed.
+  abbrev pub EndsAs : Command → ByFile (Option (Source R)) → ByFile (Option (Source R)) → W → W → Result (Unit {0}) RunFault → Type 0
+  EndsAs command old new writer writer' (Ok done) =
+      (out : Text) × ((texts : ByFile Text) → AreTexts input new texts → IsOutput (with_texts texts command) (Ok out) × IsHeadline (with_texts texts command) out)
+      × Writes (output writer) (output writer') out × (any_failed input new ≡ false)
+  EndsAs command old new writer writer' (Err CannotWrite) =
+      (out : Text) × ((texts : ByFile Text) → AreTexts input new texts → IsOutput (with_texts texts command) (Ok out))
+      × StopsWriting (output writer) (output writer') out × (any_failed input new ≡ false)
+  EndsAs command old new writer writer' (Err fault) =
+      (made : OutputFault) × IsNamed (each name_in old) made fault
+      × IsFaultOf input (λ texts. IsOutput (with_texts texts command)) old new made × (writer' ≡ writer)
+
+  -- What a run does, and that a text which a reader reports is among those that its file may have: then the output is the
+  -- one over this text.
   pub record IsRunOf (command : Command) (old new : ByFile (Option (Source R))) (writer writer' : W) (result : Result (Unit {0}) RunFault) : Type 0 where
-    -- the texts of the files
-    pub texts : ByFile Text
-    pub given : AreTexts left old texts
-    pub ends : IsResult (with_texts texts command) old new writer writer' result
+    pub ends : EndsAs command old new writer writer' result
+    pub reported : AreReported input old new

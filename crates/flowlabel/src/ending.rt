@@ -18,10 +18,10 @@ pub fn end<O: Output, E: Output>(
     output: &mut O,
     error: &mut E,
 ) -> u8
-    requires output { (text : List ℕ) → outcome.now ≡ Err (Usage (usage.Help text)) → O.failed output.old ≡ false }
-    requires error { E.failed error.old ≡ false }
+    requires output { (text : List ℕ) → outcome.now ≡ Err (Usage (usage.Help text)) → (O.output output.old).failed ≡ false }
+    requires error { (E.output error.old).failed ≡ false }
     ensures status { result ≡ exit_status_of outcome.now }
-    ensures told { IsTold O.bytes_taken O.last_call O.failed E.bytes_taken E.last_call E.failed outcome.now output.old output.new
+    ensures told { IsTold O.output E.output outcome.now output.old output.new
         error.old error.new }
 {
     let _ = match outcome {

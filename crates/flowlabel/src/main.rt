@@ -67,8 +67,8 @@ fn execute<'a, S: AsStr, O: Opener, W: Output>(
     output: &mut W,
     hashing: KeyHashing,
 ) -> Result<(), RunFault<'a>>
-    requires { W.failed output.old ≡ false }
-    ensures { IsEndOf (O.answers opener.now) O.Reader.bytes_left O.Reader.failed W.bytes_taken W.last_call W.failed
+    requires { (W.output output.old).failed ≡ false }
+    ensures { IsEndOf (O.answers opener.now) O.Reader.input W.output
         (map S.text words.entry.now) output.old output.new result }
 {
     let command = match parse(alloc, words) {
@@ -90,10 +90,9 @@ fn program<O: Opener, W: Output, E: Output>(
     error: &mut E,
     hashing: KeyHashing,
 ) -> u8
-    requires output { W.failed output.old ≡ false }
-    requires error { E.failed error.old ≡ false }
-    ensures { IsProgram (O.answers opener.now) O.Reader.bytes_left O.Reader.failed W.bytes_taken W.last_call W.failed
-        E.bytes_taken E.last_call E.failed
+    requires output { (W.output output.old).failed ≡ false }
+    requires error { (E.output error.old).failed ≡ false }
+    ensures { IsProgram (O.answers opener.now) O.Reader.input W.output E.output
         (result_map_both (λ args. map string_bytes (into_iter_items args)) (λ kind. kind) words) output.old output.new error.old error.new result }
 {
     let list;

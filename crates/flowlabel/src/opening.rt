@@ -1,17 +1,19 @@
 //! Opens the files that a command line names.
-ghost use Rattle.std.specs.Prelude.{◌≡◌, false, IfErr, IfOk, IfSome, List, Option, ℕ, option_map};
+ghost use Rattle.std.specs.Prelude.{◌≡◌, [], false, IfErr, IfOk, IfSome, List, Option, ℕ, option_map};
 ghost use Rattle.flowlabel.specs.Opening.{AreOpened, CannotOpenFirst, CannotOpenNamed, IsOpened};
 ghost use Rattle.flowlabel.specs.Request.{names_of};
-ghost use Rattle.flowlabel.specs.Run.{any_failed, source_failed};
+ghost use Rattle.flowlabel.specs.Run.{AreUnread, any_failed, view_of};
 
 use crate::by_file::ByFile;
 use crate::fault::RunFault;
 use crate::inputs::Source;
-use crate::usage::UsageFault;
 use flow_io::{Input, Watched};
 use std::alloc::{AllocError, Global};
 use std::fs::File;
 use std::io::BufReader;
+
+// The number of bytes that a reader asks the system for at a time.
+const READ_AHEAD: usize = 65_536;
 
 /// Opens files by their names.
 pub trait Opener {
@@ -23,7 +25,8 @@ pub trait Opener {
     /// Opens the file with this name, and reads nothing of it. Returns `None` if the file can't be opened.
     fn open(&self, alloc: Global, name: &str) -> Result<Option<Self::Reader>, AllocError>
         ensures answer { IfOk result (answers self.now name.now) }
-        ensures fresh { IfOk result (λ opened. IfSome opened (λ reader. Self.Reader.failed reader ≡ false)) };
+        ensures fresh { IfOk result (λ opened. IfSome opened (λ reader. (Self.Reader.input reader).failed ≡ false)) }
+        ensures unread { IfOk result (λ opened. IfSome opened (λ reader. (Self.Reader.input reader).returned ≡ [])) };
 }
 
 // Opens the files of the system. No contract says which files these are.
@@ -40,7 +43,7 @@ impl Opener for HostRuntime {
         let Ok(file) = File::open(self, name) else {
             return Ok(None);
         };
-        let Ok(reader) = BufReader::new(alloc, file) else {
+        let Ok(reader) = BufReader::with_capacity(alloc, READ_AHEAD, file) else {
             return Err(AllocError);
         };
         Ok(Some(Watched::new(reader)))
@@ -53,7 +56,8 @@ fn open_source<'a, O: Opener>(
     name: Option<&'a str>,
 ) -> Result<Option<Source<'a, O::Reader>>, RunFault<'a>>
     ensures opened { IfOk result (IsOpened (O.answers opener.now) (option_map (λ s. s.now) name.entry)) }
-    ensures fresh { IfOk result (λ source. source_failed O.Reader.failed source ≡ false) }
+    ensures fresh { IfOk result (λ source. (view_of O.Reader.input source).failed ≡ false) }
+    ensures unread { IfOk result (λ source. (view_of O.Reader.input source).returned ≡ []) }
     ensures err { IfErr result (CannotOpenNamed (O.answers opener.now) (option_map (λ s. s.now) name.entry)) }
 {
     let Some(name) = name else {
@@ -62,7 +66,7 @@ fn open_source<'a, O: Opener>(
     match opener.open(alloc, name) {
         Ok(Some(reader)) => Ok(Some(Source { name, reader })),
         Ok(None) => Err(RunFault::CannotOpen(name)),
-        Err(_) => Err(RunFault::Usage(UsageFault::NoMemory)),
+        Err(_) => Err(RunFault::NoMemory),
     }
 }
 
@@ -77,7 +81,8 @@ pub fn open_all<'a, O: Opener>(
     names: ByFile<Option<&'a str>>,
 ) -> Result<ByFile<Option<Source<'a, O::Reader>>>, RunFault<'a>>
     ensures opened { IfOk result (AreOpened (O.answers opener.now) (names_of names.entry)) }
-    ensures fresh { IfOk result (λ files. any_failed O.Reader.failed files ≡ false) }
+    ensures fresh { IfOk result (λ files. any_failed O.Reader.input files ≡ false) }
+    ensures unread { IfOk result (AreUnread O.Reader.input) }
     ensures err { IfErr result (CannotOpenFirst (O.answers opener.now) (names_of names.entry)) }
 {
     Ok(ByFile {

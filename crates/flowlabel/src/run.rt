@@ -2,7 +2,7 @@ ghost use Rattle.std.specs.Prelude.{◌≡◌, false};
 ghost use Rattle.flowlabel.specs.Output.{IsOutput};
 ghost use Rattle.flowlabel.specs.Reports.{IsMade};
 ghost use Rattle.flowlabel.specs.Request.{with_texts};
-ghost use Rattle.flowlabel.specs.Run.{any_failed, IsRunOf};
+ghost use Rattle.flowlabel.specs.Run.{AreUnread, any_failed, IsRunOf};
 
 use crate::by_file::{ByFile, Role};
 use crate::command::Command;
@@ -37,8 +37,9 @@ fn output<R: Input>(
     files: &mut ByFile<Option<Source<'_, R>>>,
     hashing: KeyHashing,
 ) -> Result<Vec<u8>, OutputFault>
-    requires { any_failed R.failed files.old ≡ false }
-    ensures { IsMade R.bytes_left R.failed (λ texts. IsOutput (with_texts texts command.now)) files.old files.new result }
+    requires unread { AreUnread R.input files.old }
+    requires works { any_failed R.input files.old ≡ false }
+    ensures { IsMade R.input (λ texts. IsOutput (with_texts texts command.now)) files.old files.new result }
 {
     match command {
         Command::Label { labels, addr } => {
@@ -89,9 +90,10 @@ pub fn run<'a, R: Input, W: Output>(
     inputs: &mut Inputs<'a, R>,
     writer: &mut W,
 ) -> Result<(), RunFault<'a>>
-    requires readers { any_failed R.failed inputs.old.files ≡ false }
-    requires writer { W.failed writer.old ≡ false }
-    ensures { IsRunOf R.bytes_left R.failed W.bytes_taken W.last_call W.failed command.now inputs.old.files inputs.new.files writer.old
+    requires unread { AreUnread R.input inputs.old.files }
+    requires readers { any_failed R.input inputs.old.files ≡ false }
+    requires writer { (W.output writer.old).failed ≡ false }
+    ensures { IsRunOf R.input W.output command.now inputs.old.files inputs.new.files writer.old
         writer.new result }
 {
     // Provides the law that each output keeps the headline.

@@ -1,5 +1,5 @@
 -- Headers, whatever bytes follow them, and headers whose following bytes are known.
-use Rattle.std.proofs.Common.{◌≡◌, false, ℕ, ◌<◌, ◌≤◌, List, ◌++◌, length, Option, Some, None, inl, inr, refl, sym, ap, ◌∙◌, arith, ◌+◌, take, length-take, ◌-◌, Ok, Err, subst, length-append, [], unwrap_or}
+use Rattle.std.proofs.Common.{◌≡◌, false, ℕ, ◌<◌, ◌≤◌, List, ◌++◌, length, Some, None, inl, inr, refl, sym, ap, ◌∙◌, arith, ◌+◌, take, length-take, ◌-◌, Ok, Err, subst, length-append, Bool, true}
 use Rattle.std.proofs.lemmas.Grind.{common_steps}
 use Rattle.std.proofs.lemmas.Bool.Decides.{nat_tests}
 use Rattle.std.proofs.lemmas.Bool.{lt-ltb, le-ltb}
@@ -12,9 +12,9 @@ use Rattle.ipfix_read.specs.Set.{written_length}
 use Rattle.ipfix_read.proofs.Sets.{front_number, front_length}
 use lib.Seq.{take-append-add, take-append-le, take-append_seam}
 use borrow.Rule.Slice.PartMut.{put_mid, post_of}
-use Rattle.std.specs.Io.KnownBytes.{Consumes, IsAtEnd}
-use Rattle.std.proofs.KnownBytes.{Consumes-trans}
-use Rattle.ipfix_read.specs.Messages.{Gathers, ReadsInput}
+use Rattle.flow_io.specs.Devices.{InputView, MayFollow, ReadsInput, Gives}
+use Rattle.flow_io.proofs.Moving.{gives_more}
+use Rattle.ipfix_read.specs.Messages.{Gathers}
 
 -- ---- numbers at the start, whatever follows
 
@@ -100,9 +100,8 @@ two_parts size xs ys zs sixteen all =
 -- ---- the reader returned nothing, too little, or a header with a fault
 
 -- nothing follows at the end of the input
-pub none_follow : (bytes : List ℕ) (n : Option (List ℕ)) → IsAtEnd n → bytes ++ unwrap_or n [] ≡ bytes
-none_follow bytes None end = append-nil bytes
-none_follow bytes (Some left) end = ap (λ (l : List ℕ). bytes ++ l) end ∙ append-nil bytes
+pub none_follow : (bytes rest : List ℕ) (ended : Bool) → ended ≡ true → MayFollow ended rest → bytes ++ rest ≡ bytes
+none_follow bytes rest ended end follows = ap (λ (l : List ℕ). bytes ++ l) (follows end) ∙ append-nil bytes
 
 -- the fault and the length that a header at the start gives
 same_fault : (count : ℕ) (xs ys more : List ℕ) → length ys ≡ 16 → own_fault count (ys ++ more) ≡ own_fault count (head_of xs ys)
@@ -112,39 +111,38 @@ same_length : (xs ys more : List ℕ) → length ys ≡ 16 → written_length (y
 same_length xs ys more sixteen = written_ahead ys more (omega (arith, sixteen)) ∙ ap (λ (l : List ℕ). written_length l) (sym (head_is xs ys sixteen))
 
 -- the first read
-module _ (o n : Option (List ℕ)) (count head : ℕ) (ys : List ℕ) (given : Consumes o n (take head ys)) where
+module _ (o n : InputView) (count head : ℕ) (ys : List ℕ) (given : Gives o n (take head ys)) where
   module _ (xs : List ℕ) (sixteen : length ys ≡ 16) (whole : 16 ≤ head) where
-    all_given : Consumes o n ys
-    all_given = subst (λ (l : List ℕ). Consumes o n l) (take_all head ys (omega (arith, sixteen, whole))) given
+    all_given : Gives o n ys
+    all_given = subst (λ (l : List ℕ). Gives o n l) (take_all head ys (omega (arith, sixteen, whole))) given
 
-    pub faulty_header : (kind : ReadFaultKind) → is_of_calls kind ≡ false → own_fault count (head_of xs ys) ≡ Some kind → ReadsInput o n (Gathers count (Err kind))
-    faulty_header kind calls own =
-        let left = unwrap_or n [] in
-        (ys, all_given, inr (calls, omega (arith, sixteen), header_own count (ys ++ left) kind (omega (arith, sixteen, length-append ys left)) (same_fault count xs ys left sixteen ∙ own)))
+    pub faulty_header : (ended : Bool) (kind : ReadFaultKind) → is_of_calls kind ≡ false → own_fault count (head_of xs ys) ≡ Some kind → ReadsInput o n (Gathers count (Err kind) ended)
+    faulty_header ended kind calls own =
+        (ys, all_given, inr (calls, omega (arith, sixteen), λ rest _. header_own count (ys ++ rest) kind (omega (arith, sixteen, length-append ys rest)) (same_fault count xs ys rest sixteen ∙ own)))
 
     -- both reads
-    module _ (size : ℕ) (m : Option (List ℕ)) (own : own_fault count (head_of xs ys) ≡ None) (written : size ≡ written_length (head_of xs ys)) where
+    module _ (size : ℕ) (m : InputView) (ended : Bool) (own : own_fault count (head_of xs ys) ≡ None) (written : size ≡ written_length (head_of xs ys)) where
       cut_off : (more : List ℕ) → 16 + length more < size → header_fault count (ys ++ more) ≡ Some TruncatedMessage
       cut_off more short =
           let long : length (ys ++ more) ≡ 16 + length more = omega (arith, sixteen, length-append ys more) in
           header_cut count (ys ++ more) (omega (arith, long)) (same_fault count xs ys more sixteen ∙ own) (omega (arith, same_length xs ys more sixteen, written, long, short))
 
-      pub unread_rest : (zs : List ℕ) → size ≡ 16 + length zs → ReadsInput n m (λ taken left. length taken < length zs) → ReadsInput o m (Gathers count (Err Unread))
-      unread_rest zs all r = (ys ++ r.0, Consumes-trans o n m ys r.0 all_given r.1, inl (refl, inr (cut_off r.0 (omega (arith, r.2, all)))))
+      pub unread_rest : (zs : List ℕ) → size ≡ 16 + length zs → ReadsInput n m (λ taken. length taken < length zs) → ReadsInput o m (Gathers count (Err Unread) ended)
+      unread_rest zs all r = (ys ++ r.0, gives_more all_given r.1, inl (refl, inr (cut_off r.0 (omega (arith, r.2, all)))))
 
-      module _ (got : ℕ) (zs : List ℕ) (then : Consumes n m (take got zs)) where
-        pub short_message : got ≤ length zs → 16 + got < size → IsAtEnd m → ReadsInput o m (Gathers count (Err TruncatedMessage))
+      module _ (got : ℕ) (zs : List ℕ) (then : Gives n m (take got zs)) where
+        pub short_message : got ≤ length zs → 16 + got < size → ended ≡ true → ReadsInput o m (Gathers count (Err TruncatedMessage) ended)
         short_message within short end =
             let more = take got zs in (
               ys ++ more,
-              Consumes-trans o n m ys more all_given then,
-              inr (refl, omega (arith, sixteen, length-append ys more), ap (λ (l : List ℕ). header_fault count l) (none_follow (ys ++ more) m end) ∙ cut_off more (omega (arith, length-take-le got zs within, short))),
+              gives_more all_given then,
+              inr (refl, omega (arith, sixteen, length-append ys more), λ rest follows. ap (λ (l : List ℕ). header_fault count l) (none_follow (ys ++ more) rest ended end follows) ∙ cut_off more (omega (arith, length-take-le got zs within, short))),
             )
 
-        pub gathered : size ≡ 16 + length zs → size ≤ 16 + got → ReadsInput o m (Gathers count (Ok (Some (take size (both_in size xs ys zs)))))
+        pub gathered : size ≡ 16 + length zs → size ≤ 16 + got → ReadsInput o m (Gathers count (Ok (Some (take size (both_in size xs ys zs)))) ended)
         gathered all most = (
           ys ++ zs,
-          Consumes-trans o n m ys zs all_given (subst (λ (l : List ℕ). Consumes n m l) (take_all got zs (omega (arith, all, most))) then),
+          gives_more all_given (subst (λ (l : List ℕ). Gives n m l) (take_all got zs (omega (arith, all, most))) then),
           two_parts size xs ys zs sixteen all,
         )
 

@@ -1,6 +1,6 @@
-use Rattle.std.specs.Prelude.{◌≡◌, ℕ, ◌+◌, ◌<◌, List, [], ◌++◌, length, None, ◌⊎◌, Bool, false, ◌∷◌, Option, Some, Result, Ok, Err, IfSome, unwrap_or, ◌==◌}
+use Rattle.std.specs.Prelude.{◌≡◌, ℕ, ◌+◌, ◌<◌, List, [], ◌++◌, length, None, ◌⊎◌, Bool, true, false, ◌∷◌, Option, Some, Result, Ok, Err, ◌==◌}
 use Rattle.std.specs.List.{flat_map}
-use Rattle.std.specs.Io.KnownBytes.{Consumes}
+use Rattle.flow_io.specs.Devices.{InputView, MayFollow, ReadsInput, Gives, has_ended}
 use Rattle.ipfix_templates.specs.declared.event.TemplateEvent.{TemplateEvent}
 use Rattle.ipfix_templates.specs.Reading.{items_from}
 use Rattle.ipfix_templates.specs.declared.table.TemplateTable.{TemplateTable}
@@ -41,12 +41,7 @@ StopsAfter size (Err fault) stop = ((fault.kind ≡ TruncatedHeader) ⊎ (fault.
 abbrev pub StopsReading : List ℕ → ReadFault → Type 0
 StopsReading bytes stop = StopsAfter (length bytes) (file_reading bytes) stop
 
--- The messages of a File, one call after another. A reader may report the bytes that it will still return.
-
--- Bytes were taken from a reader. If it reports its bytes, they are those between the earlier and the later report. The
--- property holds of the taken bytes and the bytes left in the reader, where a reader without a report has none left.
-abbrev pub ReadsInput : Option (List ℕ) → Option (List ℕ) → (List ℕ → List ℕ → Type 0) → Type 0
-ReadsInput given gives P = (taken : List ℕ) × Consumes given gives taken × P taken (unwrap_or gives [])
+-- The messages of a File, one call after another.
 
 -- the state between two calls: the table of templates, the offset and the number of messages from which a File is read
 -- on, and whether there may be more messages
@@ -60,54 +55,53 @@ pub record ProgressView : Type 0 where
 abbrev pub IsAtStart : ProgressView → Type 0
 IsAtStart p = (template_at p.table ≡ no_templates) × (p.offset ≡ 0) × (p.count ≡ 0) × (p.state ≡ Going)
 
--- The result of a call in the state Going, and the state after the call, by the bytes that the call took and the bytes
--- left. A message consists of the taken bytes, whatever bytes follow them. If there are no bytes, there is no message. A
--- fault is the first one of the File, in this message, or that an allocation failed. It is the fault of a failed reader
--- only if the taken bytes are the beginning of a message and have no fault so far.
-abbrev pub AnswersNext : ProgressView → Result (Option MessageView) ReadFault → ProgressView → List ℕ → List ℕ → Type 0
-AnswersNext old (Ok (Some m)) new taken left =
+-- The result of a call in the state Going, and the state after the call, by the bytes that the call took, and whether it
+-- found the end of the input. A message consists of the taken bytes, whatever bytes follow them. There is no message if
+-- there was no byte before the end. A fault is the first one of the File, in this message, whatever bytes may follow, or
+-- that an allocation failed. It is the fault of a failed reader only if the taken bytes are the beginning of a message
+-- and have no fault so far.
+abbrev pub AnswersNext : ProgressView → Result (Option MessageView) ReadFault → ProgressView → Bool → List ℕ → Type 0
+AnswersNext old (Ok (Some m)) new ended taken =
     ((rest : List ℕ) → message_next (template_at old.table) old.count old.offset (taken ++ rest) ≡ Ok (m, rest))
     × (template_at new.table ≡ in_force (template_at old.table) (events_of_message m)) × (new.offset ≡ old.offset + length taken) × (new.count ≡ old.count + 1) × (new.state ≡ Going)
-AnswersNext old (Ok None) new taken left = (taken ++ left ≡ []) × (new.state ≡ Ended)
-AnswersNext old (Err fault) new taken left =
+AnswersNext old (Ok None) new ended taken = (taken ≡ []) × (ended ≡ true) × (new.state ≡ Ended)
+AnswersNext old (Err fault) new ended taken =
     (new.state ≡ Failed)
     × ((fault ≡ out_of_memory)
     ⊎ (((fault ≡ read_fault old.offset) × IsIncomplete old.count taken)
     ⊎ ((is_of_calls fault.kind ≡ false) × (0 < length taken)
-    × (message_next (template_at old.table) old.count old.offset (taken ++ left) ≡ Err fault))))
+    × ((rest : List ℕ) → MayFollow ended rest → message_next (template_at old.table) old.count old.offset (taken ++ rest) ≡ Err fault))))
 
 -- whether a result is that the reader failed
 abbrev pub is_read_fault : {A : Type 0} → Result A ReadFault → Bool
 is_read_fault (Ok _) = false
 is_read_fault (Err fault) = is_of_reader fault.kind
 
--- the message after this many messages has the taken bytes; there are no bytes; or this is the fault of the header, or
--- of a reader that failed before it
-abbrev pub Gathers : ℕ → Result (Option (List ℕ)) ReadFaultKind → List ℕ → List ℕ → Type 0
-Gathers count (Ok (Some front)) taken left = front ≡ taken
-Gathers count (Ok None) taken left = taken ++ left ≡ []
-Gathers count (Err kind) taken left =
+-- the message after this many messages has the taken bytes; there is no byte before the end; or this is the fault of the
+-- header, or of a reader that failed before it
+abbrev pub Gathers : ℕ → Result (Option (List ℕ)) ReadFaultKind → Bool → List ℕ → Type 0
+Gathers count (Ok (Some front)) ended taken = front ≡ taken
+Gathers count (Ok None) ended taken = (taken ≡ []) × (ended ≡ true)
+Gathers count (Err kind) ended taken =
     ((kind ≡ Unread) × IsIncomplete count taken)
-    ⊎ ((is_of_calls kind ≡ false) × (0 < length taken) × (header_fault count (taken ++ left) ≡ Some kind))
+    ⊎ ((is_of_calls kind ≡ false) × (0 < length taken) × ((rest : List ℕ) → MayFollow ended rest → header_fault count (taken ++ rest) ≡ Some kind))
 
--- The bytes taken from a reader so far are these messages. The first report of the reader is `given`. The state between
--- two calls is the one after these messages, and the last report is the reader's now.
-pub record IsReadTo (given : Option (List ℕ)) (messages : List MessageView) (p : ProgressView) (now : Option (List ℕ)) : Type 0 where
+-- The bytes that a reader has returned since `start` are these messages. The state between two calls is the one after
+-- these messages.
+pub record IsReadTo (start : InputView) (messages : List MessageView) (p : ProgressView) (now : InputView) : Type 0 where
   pub taken : List ℕ
-  pub consumed : Consumes given now taken
+  pub consumed : Gives start now taken
   pub read : (rest : List ℕ) → file_reading (taken ++ rest) ≡ messages_from messages p.offset rest
   pub table : template_at p.table ≡ in_force no_templates (events_of_messages messages)
   pub counted : p.count ≡ length messages
   pub placed : p.offset ≡ length taken
 
--- The meaning of a result for the File that is read: its messages begin with those so far and one more; it consists of
--- the messages so far; or the fault is its first one, unless it is that of a failed allocation, or of a reader that
--- failed before a fault. If the reader reports its bytes, they are the File.
-abbrev pub JoinsFile : Option (List ℕ) → List MessageView → Result (Option MessageView) ReadFault → ProgressView → Option (List ℕ) → Type 0
-JoinsFile given messages (Ok (Some m)) new gives = IsReadTo given (messages ++ m ∷ []) new gives
-JoinsFile given messages (Ok None) new gives =
-    (bytes : List ℕ) × IfSome given (λ all. bytes ≡ all) × (file_reading bytes ≡ Ok messages)
-JoinsFile given messages (Err fault) new gives =
-    (fault ≡ out_of_memory)
-    ⊎ (((taken : List ℕ) × Consumes given gives taken × StopsReading taken fault)
-    ⊎ ((is_of_calls fault.kind ≡ false) × (bytes : List ℕ) × IfSome given (λ all. bytes ≡ all) × (file_reading bytes ≡ Err fault)))
+-- The meaning of a result for the bytes of the File: their messages begin with those so far and one more; the end was
+-- found, and the bytes returned are the messages so far; or the fault is their first one, whatever bytes may follow, unless
+-- it is that of a failed allocation, or of a reader that failed before a fault.
+abbrev pub JoinsFile : InputView → List MessageView → Result (Option MessageView) ReadFault → ProgressView → InputView → Type 0
+JoinsFile start messages (Ok (Some m)) new now = IsReadTo start (messages ++ m ∷ []) new now
+JoinsFile start messages (Ok None) new now = ReadsInput start now (λ bytes. (has_ended now ≡ true) × (file_reading bytes ≡ Ok messages))
+JoinsFile start messages (Err fault) new now = ReadsInput start now (λ bytes. (fault ≡ out_of_memory)
+    ⊎ (StopsReading bytes fault
+    ⊎ ((is_of_calls fault.kind ≡ false) × ((rest : List ℕ) → MayFollow (has_ended now) rest → file_reading (bytes ++ rest) ≡ Err fault))))

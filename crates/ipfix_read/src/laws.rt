@@ -6,9 +6,9 @@ pub fn first_message_and_rest()
     ensures { FirstMessageAndRest }
 {}
 
-/// Calls for messages join to the whole File, whether or not the reader reports its bytes. Before any call nothing is
-/// read. If some messages are read so far, the next call returns one more of them, or that there are no more, or the
-/// first fault of the whole File, or that the reader failed before it.
+/// Calls for messages join to the whole File. Before any call nothing is read. If some messages are read so far, the
+/// next call returns one more of them, or that there are no more, or the first fault of the whole File, or that the
+/// reader failed before it.
 pub fn calls_join_file()
     ensures start { CallsStart }
     ensures join { CallsJoinFile }

@@ -1,10 +1,10 @@
 //! Reading a File message by message.
-ghost use Rattle.std.specs.Prelude.{◌≡◌, ◌<◌, ◌≤◌, ◌+◌, ℕ, List, Option, Ok, Err, None, true, false, IfErr, IfOk, IfSome, MatchResult, OnErr, OnOk, OnSome, length, option_map, take, vec_len};
-ghost use Rattle.std.specs.Io.KnownBytes.{Consumes, IsAtEnd};
+ghost use Rattle.std.specs.Prelude.{◌≡◌, ◌<◌, ◌≤◌, ◌+◌, ℕ, Ok, Err, None, true, false, IfErr, IfOk, IfSome, MatchResult, OnErr, OnOk, OnSome, length, option_map, take, vec_len};
+ghost use Rattle.flow_io.specs.Devices.{InputView, ReadsInput, Gives, has_ended};
 ghost use Rattle.std.specs.Result.{result_map_both};
 ghost use Rattle.ipfix_read.specs.Fault.{failed_before, is_of_reader};
 ghost use Rattle.ipfix_read.specs.Message.{HasHeader};
-ghost use Rattle.ipfix_read.specs.Messages.{Going, Ended, Failed, AnswersNext, Gathers, ProgressView, ReadsInput, IsAtStart, is_read_fault};
+ghost use Rattle.ipfix_read.specs.Messages.{Going, Ended, Failed, AnswersNext, Gathers, ProgressView, IsAtStart, is_read_fault};
 ghost use Rattle.ipfix_read.specs.declared.fault.ReadFaultKind.TheVariants.{ReadFault as Unread};
 
 use crate::fault::{ReadFault, ReadFaultKind};
@@ -37,12 +37,12 @@ impl Buffer {
 fn fill<R: Input>(reader: &mut R, bytes: &mut [u8]) -> Result<usize, ReadFaultKind>
     ensures within { IfOk result (λ count. count ≤ length bytes.new) }
     ensures given { IfOk result (λ count.
-        Consumes (R.bytes_left reader.old) (R.bytes_left reader.new) (take count bytes.new)) }
-    ensures short { OnErr result (ReadsInput (R.bytes_left reader.old) (R.bytes_left reader.new)
-        (λ taken left. length taken < length bytes.new)) }
-    ensures end { IfOk result (λ count. count < length bytes.new → IsAtEnd (R.bytes_left reader.new)) }
-    ensures ok { OnOk result (R.failed reader.new ≡ R.failed reader.old) }
-    ensures err { IfErr result (λ kind. (kind ≡ Unread) × (R.failed reader.new ≡ true)) }
+        Gives (R.input reader.old) (R.input reader.new) (take count bytes.new)) }
+    ensures short { OnErr result (ReadsInput (R.input reader.old) (R.input reader.new)
+        (λ taken. length taken < length bytes.new)) }
+    ensures end { IfOk result (λ count. count < length bytes.new → has_ended (R.input reader.new) ≡ true) }
+    ensures ok { OnOk result ((R.input reader.new).failed ≡ (R.input reader.old).failed) }
+    ensures err { IfErr result (λ kind. (kind ≡ Unread) × ((R.input reader.new).failed ≡ true)) }
 {
     let mut filled = 0;
     while filled < bytes.len() {
@@ -65,12 +65,12 @@ fn gather<'b, R: Input>(
     buffer: &'b mut [u8],
 ) -> Result<Option<&'b [u8]>, ReadFaultKind>
     requires { length buffer.old ≡ 65535 }
-    ensures gathers { ReadsInput (R.bytes_left reader.old) (R.bytes_left reader.new)
-        (Gathers count (result_map_both (option_map (λ bytes. bytes.now)) (λ kind. kind) result)) }
+    ensures gathers { ReadsInput (R.input reader.old) (R.input reader.new)
+        (Gathers count (result_map_both (option_map (λ bytes. bytes.now)) (λ kind. kind) result) (has_ended (R.input reader.new))) }
     ensures whole { IfOk result (λ next. IfSome next (λ bytes. HasHeader bytes.now)) }
     ensures counted { IfOk result (λ next. OnSome next (count < 4294967295)) }
-    ensures device { R.failed reader.old ≡ false → MatchResult result (λ _. R.failed reader.new ≡ false)
-        (λ kind. R.failed reader.new ≡ is_of_reader kind) }
+    ensures device { (R.input reader.old).failed ≡ false → MatchResult result
+        (λ _. (R.input reader.new).failed ≡ false) (λ kind. (R.input reader.new).failed ≡ is_of_reader kind) }
 {
     match fill(reader, &mut buffer[..HEADER_LENGTH])? {
         0 => return Ok(None),
@@ -148,8 +148,8 @@ impl Progress {
         reader: &mut R,
         buffer: &'b mut Buffer,
     ) -> Result<Option<Message<'b>>, ReadFault>
-        ensures going { self.old.state ≡ Going → ReadsInput (R.bytes_left reader.old) (R.bytes_left reader.new)
-            (AnswersNext self.old result self.new) }
+        ensures going { self.old.state ≡ Going → ReadsInput (R.input reader.old) (R.input reader.new)
+            (AnswersNext self.old result self.new (has_ended (R.input reader.new))) }
         ensures ended { self.old.state ≡ Ended
             → (result ≡ Ok None) × (self.new ≡ self.old) × (reader.new ≡ reader.old) }
         ensures failed { self.old.state ≡ Failed
@@ -158,7 +158,7 @@ impl Progress {
         // `counted` says less than `going`, in a form that is simpler to use.
         ensures counted { IfOk result (λ next. OnSome next ((self.new.count ≡ self.old.count + 1)
             × (self.new.count ≤ 4294967295) × (self.new.state ≡ Going))) }
-        ensures device { R.failed reader.old ≡ false → R.failed reader.new ≡ is_read_fault result }
+        ensures device { (R.input reader.old).failed ≡ false → (R.input reader.new).failed ≡ is_read_fault result }
     {
         match self.state {
             State::Going => {}
@@ -229,8 +229,8 @@ impl<'r, R: Input> Messages<'r, R, Progress, Buffer> {
     ///
     /// The errors are those of `Progress::next`.
     pub fn next_message(&mut self) -> Result<Option<Message<'_>>, ReadFault>
-        ensures going { self.old.progress.state ≡ Going → (new : ProgressView) × (gives : Option (List ℕ))
-            × ReadsInput (R.bytes_left self.old.reader.now) gives (AnswersNext self.old.progress result new) }
+        ensures going { self.old.progress.state ≡ Going → (new : ProgressView) × (then : InputView)
+            × ReadsInput (R.input self.old.reader.now) then (AnswersNext self.old.progress result new (has_ended then)) }
         ensures ended { self.old.progress.state ≡ Ended → result ≡ Ok None }
         ensures failed { self.old.progress.state ≡ Failed → result ≡ Err failed_before }
     {

@@ -7,7 +7,7 @@ ghost use Rattle.flowlabel.specs.declared.bytes_fault.BytesFault.TheVariants.{Ce
 ghost use Rattle.flowlabel.specs.Output.{Checks, IsOutput, Returns, Then};
 ghost use Rattle.flowlabel.specs.Reports.{IsMade};
 ghost use Rattle.flowlabel.specs.Request.{check};
-ghost use Rattle.flowlabel.specs.Run.{any_failed};
+ghost use Rattle.flowlabel.specs.Run.{AreUnread, any_failed};
 
 use crate::by_file::{ByFile, Role};
 use crate::bytes_fault::BytesFault;
@@ -43,8 +43,9 @@ pub fn output<R: Input>(
     files: &mut ByFile<Option<Source<'_, R>>>,
     hashing: KeyHashing,
 ) -> Result<Vec<u8>, OutputFault>
-    requires { any_failed R.failed files.old ≡ false }
-    ensures { IsMade R.bytes_left R.failed (λ texts. IsOutput (check texts.map texts.list texts.certificate)) files.old files.new
+    requires unread { AreUnread R.input files.old }
+    requires works { any_failed R.input files.old ≡ false }
+    ensures { IsMade R.input (λ texts. IsOutput (check texts.map texts.list texts.certificate)) files.old files.new
         result }
 {
     let text = read(alloc, Role::Map, files)?;

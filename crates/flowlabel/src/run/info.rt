@@ -3,7 +3,7 @@ ghost use Rattle.std.specs.Prelude.{◌≡◌, false};
 ghost use Rattle.flowlabel.specs.Output.{IsOutput};
 ghost use Rattle.flowlabel.specs.Reports.{IsMade};
 ghost use Rattle.flowlabel.specs.Request.{info};
-ghost use Rattle.flowlabel.specs.Run.{any_failed};
+ghost use Rattle.flowlabel.specs.Run.{AreUnread, any_failed};
 
 use crate::by_file::ByFile;
 use crate::inputs::Source;
@@ -37,8 +37,9 @@ pub fn output<R: Input>(
     alloc: Global,
     files: &mut ByFile<Option<Source<'_, R>>>,
 ) -> Result<Vec<u8>, OutputFault>
-    requires { any_failed R.failed files.old ≡ false }
-    ensures { IsMade R.bytes_left R.failed (λ texts. IsOutput (info texts.flows)) files.old files.new result }
+    requires unread { AreUnread R.input files.old }
+    requires works { any_failed R.input files.old ≡ false }
+    ensures { IsMade R.input (λ texts. IsOutput (info texts.flows)) files.old files.new result }
 {
     let mut counts = Counts::new();
     take_messages(alloc, &mut files.flows, &InfoReport, &mut counts)?;

@@ -3,7 +3,7 @@ ghost use Rattle.std.specs.Prelude.{◌≡◌, IfOk, false, option_map};
 ghost use Rattle.label_lookup.specs.Labelling.{labelling_of_stretches};
 ghost use Rattle.flowlabel.specs.Reports.{AreLabels, AreLabelsOf, labelling_read};
 ghost use Rattle.flowlabel.specs.Request.{source_by};
-ghost use Rattle.flowlabel.specs.Run.{any_failed};
+ghost use Rattle.flowlabel.specs.Run.{AreUnread, any_failed};
 
 use crate::by_file::ByFile;
 use crate::command::LabelFile;
@@ -39,8 +39,9 @@ impl LabelsRead {
         files: &mut ByFile<Option<Source<'_, R>>>,
         hashing: KeyHashing,
     ) -> Result<LabelsRead, OutputFault>
-        requires { any_failed R.failed files.old ≡ false }
-        ensures { AreLabels R.bytes_left R.failed labels.entry files.old files.new result }
+        requires unread { AreUnread R.input files.old }
+        requires works { any_failed R.input files.old ≡ false }
+        ensures { AreLabels R.input labels.entry files.old files.new result }
     {
         let Some(labels) = labels else {
             return Ok(LabelsRead::None);

@@ -1,5 +1,6 @@
 //! Reads a file whole, and decodes a text. A text is given away once it is decoded.
 ghost use Rattle.std.specs.Prelude.{◌≡◌, Err, Ok, false};
+ghost use Rattle.flow_io.specs.Devices.{ReadsInput, has_ended};
 ghost use Rattle.pmap_text.specs.MapText.{map_of};
 ghost use Rattle.pmap_text.specs.PrefixList.{list_of};
 ghost use Rattle.pmap_text.specs.Reading.{list_reading, map_reading};
@@ -8,7 +9,7 @@ ghost use Rattle.pmap_cert.specs.FormatReading.{format_reading};
 ghost use Rattle.flowlabel.specs.declared.bytes_fault.BytesFault.TheVariants.{Certificate as InCertificate, List as InList, Map as InMap};
 ghost use Rattle.flowlabel.specs.Output.{Decodes};
 ghost use Rattle.flowlabel.specs.Reports.{IsReadOf, IsWhole};
-ghost use Rattle.flowlabel.specs.Run.{any_failed, bytes_of, is_unread, source_failed};
+ghost use Rattle.flowlabel.specs.Run.{any_failed, is_unread, view_of};
 
 use crate::by_file::{ByFile, Role};
 use crate::bytes_fault::BytesFault;
@@ -24,9 +25,10 @@ fn text_of<R: Input>(
     role: Role,
     source: &mut Option<Source<'_, R>>,
 ) -> Result<Vec<u8>, OutputFault>
-    requires { source_failed R.failed source.old ≡ false }
-    ensures whole { IsWhole role (bytes_of R.bytes_left source.old) result }
-    ensures failed { source_failed R.failed source.new ≡ is_unread result }
+    requires { (view_of R.input source.old).failed ≡ false }
+    ensures whole { ReadsInput (view_of R.input source.old) (view_of R.input source.new)
+        (IsWhole role (has_ended (view_of R.input source.new)) result) }
+    ensures failed { (view_of R.input source.new).failed ≡ is_unread result }
 {
     match source {
         Some(source) => read_whole(alloc, &mut source.reader).map_err(|stop| match stop {
@@ -43,8 +45,8 @@ pub fn read<R: Input>(
     role: Role,
     files: &mut ByFile<Option<Source<'_, R>>>,
 ) -> Result<Vec<u8>, OutputFault>
-    requires { any_failed R.failed files.old ≡ false }
-    ensures { IsReadOf R.bytes_left R.failed role files.old files.new result }
+    requires { any_failed R.input files.old ≡ false }
+    ensures { IsReadOf R.input role files.old files.new result }
 {
     match role {
         Role::Map => text_of(alloc, role, &mut files.map),

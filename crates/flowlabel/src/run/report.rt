@@ -2,7 +2,7 @@
 ghost use Rattle.std.specs.Prelude.{◌≡◌, ◌<◌, ◌++◌, ◌∷◌, [], List, OnOk, false, length};
 ghost use Rattle.ipfix_read.specs.Message.{MessageView};
 ghost use Rattle.flowlabel.specs.Reports.{IsFaultOfCall, TakesFile};
-ghost use Rattle.flowlabel.specs.Run.{bytes_of, is_unread, source_failed};
+ghost use Rattle.flowlabel.specs.Run.{is_unread, view_of};
 
 use crate::by_file::Role;
 use crate::bytes_fault::BytesFault;
@@ -57,10 +57,10 @@ fn take_from_reader<R: Input, P: Report>(
     report: &P,
     taken: &mut P::Taken,
 ) -> Result<(), OutputFault>
-    requires reader { R.failed reader.old ≡ false }
+    requires reader { (R.input reader.old).failed ≡ false }
     requires none { P.is_of report.now [] taken.old }
-    ensures taken { TakesFile (P.is_of report.now) (R.bytes_left reader.old) (R.bytes_left reader.new) taken.new result }
-    ensures failed { R.failed reader.new ≡ is_unread result }
+    ensures taken { TakesFile (P.is_of report.now) (R.input reader.old) (R.input reader.new) taken.new result }
+    ensures failed { (R.input reader.new).failed ≡ is_unread result }
 {
     // Provides the law that the calls so far and the next one read the whole File.
     ipfix_read::calls_join_file();
@@ -86,11 +86,10 @@ pub fn take_messages<R: Input, P: Report>(
     report: &P,
     taken: &mut P::Taken,
 ) -> Result<(), OutputFault>
-    requires reader { source_failed R.failed flows.old ≡ false }
+    requires reader { (view_of R.input flows.old).failed ≡ false }
     requires none { P.is_of report.now [] taken.old }
-    ensures taken { TakesFile (P.is_of report.now) (bytes_of R.bytes_left flows.old) (bytes_of R.bytes_left flows.new)
-        taken.new result }
-    ensures failed { source_failed R.failed flows.new ≡ is_unread result }
+    ensures taken { TakesFile (P.is_of report.now) (view_of R.input flows.old) (view_of R.input flows.new) taken.new result }
+    ensures failed { (view_of R.input flows.new).failed ≡ is_unread result }
 {
     match flows {
         Some(source) => take_from_reader(alloc, &mut source.reader, report, taken),

@@ -4,7 +4,7 @@ ghost use Rattle.pmap_print.specs.Reports.{label_texts};
 ghost use Rattle.flowlabel.specs.Output.{IsOutput, row_labels};
 ghost use Rattle.flowlabel.specs.Reports.{IsMade, labelling_found};
 ghost use Rattle.flowlabel.specs.Request.{rows, source_with};
-ghost use Rattle.flowlabel.specs.Run.{any_failed};
+ghost use Rattle.flowlabel.specs.Run.{AreUnread, any_failed};
 
 use crate::by_file::ByFile;
 use crate::command::LabelFile;
@@ -64,8 +64,9 @@ pub fn output<R: Input>(
     columns: bool,
     hashing: KeyHashing,
 ) -> Result<Vec<u8>, OutputFault>
-    requires { any_failed R.failed files.old ≡ false }
-    ensures { IsMade R.bytes_left R.failed
+    requires unread { AreUnread R.input files.old }
+    requires works { any_failed R.input files.old ≡ false }
+    ensures { IsMade R.input
         (λ texts. IsOutput (rows (option_map (source_with texts) labels.entry) filter.now columns texts.flows))
         files.old files.new result }
 {

@@ -3,7 +3,7 @@ ghost use Rattle.std.specs.Prelude.{◌≡◌, false, option_map};
 ghost use Rattle.flowlabel.specs.Output.{IsOutput};
 ghost use Rattle.flowlabel.specs.Reports.{IsMade};
 ghost use Rattle.flowlabel.specs.Request.{source_with, uniq};
-ghost use Rattle.flowlabel.specs.Run.{any_failed};
+ghost use Rattle.flowlabel.specs.Run.{AreUnread, any_failed};
 
 use crate::by_file::ByFile;
 use crate::command::LabelFile;
@@ -55,8 +55,9 @@ pub fn output<R: Input>(
     columns: bool,
     hashing: KeyHashing,
 ) -> Result<Vec<u8>, OutputFault>
-    requires { any_failed R.failed files.old ≡ false }
-    ensures { IsMade R.bytes_left R.failed
+    requires unread { AreUnread R.input files.old }
+    requires works { any_failed R.input files.old ≡ false }
+    ensures { IsMade R.input
         (λ texts. IsOutput (uniq keys.now (option_map (source_with texts) labels.entry) filter.now sorted columns texts.flows))
         files.old files.new result }
 {

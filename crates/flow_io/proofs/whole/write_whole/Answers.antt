@@ -1,7 +1,7 @@
 -- The writer took the bytes that are gone from `rest`.
 use Rattle.std.proofs.Common.{◌≡◌, ◌<◌, ℕ, ◌-◌, List, ◌++◌, arith, length, take, drop, sym, ap, ◌∙◌, append_assoc, take-append-drop}
 use Rattle.std.proofs.lemmas.List.{take_rest}
-use Rattle.std.proofs.KnownBytes.{Appends-trans}
+use Rattle.flow_io.proofs.Moving.{takes_more}
 use Rattle.flow_io.proofs.whole.write_whole.Goals as goal
 
 -- the first n bytes of the rest move to the front
@@ -15,4 +15,4 @@ loop-rest-preserved g c =
     let rest = c.loop-rest.rest.now in
     let count = c.in-Ok.count in
     let some : 0 < count = omega arith in
-    (front ++ take count rest, moves_front _ front rest count split, Appends-trans _ _ _ _ _ appended c.in-Ok.ensures.taken, c.in-Ok.ensures.fails ∙ grind (arith, some, sound))
+    (front ++ take count rest, moves_front _ front rest count split, takes_more appended c.in-Ok.ensures.taken, c.in-Ok.ensures.fails ∙ grind (arith, some, sound))

@@ -1,10 +1,10 @@
-use Rattle.std.proofs.Common.{arith}
+use Rattle.std.proofs.Common.{ℕ, List, arith, subst, sym}
 use Rattle.prefix_keys.specs.Text.{AddressOf}
 use Rattle.flowlabel.specs.declared.by_file.Role.TheVariants as role
 use Rattle.flowlabel.specs.Output.{IsOutput, Prints, Returns, label_text}
-use Rattle.flowlabel.specs.Request.{cat, label, role_in}
+use Rattle.flowlabel.specs.Request.{cat, label, recert, role_in, shrink, source_with}
 use Rattle.flowlabel.proofs.Outcomes.{PrintsRuns}
-use Rattle.flowlabel.proofs.MadeLemmas.{certificate_first, early, labels_first, of_source, texts_of, unread_made, whole_made}
+use Rattle.flowlabel.proofs.MadeLemmas.{certificate_first, early, labels_first, of_source, unread_made, whole_made}
 use Rattle.flowlabel.proofs.run.output.Goals as goal
 
 pub returns-in_err-text-in-Label : goal.returns-in_err-text-in-Label
@@ -12,7 +12,7 @@ returns-in_err-text-in-Label g c =
     let labels = c.in-Label.labels in
     let address : AddressOf = (c.in-Label.addr.version, c.in-Label.addr.value) in
     rw c.in-Label.is
-    (unread_made c.requires _ (role_in labels) c.from_residual.result c.from_residual.ensures.1 (early labels)
+    (unread_made c.requires.works (λ texts. IsOutput (label (source_with texts labels) address)) (role_in labels) c.from_residual.result c.from_residual.ensures.1 (early labels)
     (λ texts fault. labels_first (λ l. Prints (label_text address l)) labels texts fault (λ l is. cc)) (rw c.role.ensures at c.in_err-text-in-Label.ensures))
 
 pub returns-in_ok-text-in-Label : goal.returns-in_ok-text-in-Label
@@ -20,47 +20,49 @@ returns-in_ok-text-in-Label g c =
     let labels = c.in-Label.labels in
     let address : AddressOf = (c.in-Label.addr.version, c.in-Label.addr.value) in
     rw c.in-Label.is
-    (whole_made c.requires _ (role_in labels) c.output.result
+    (whole_made c.requires.works (λ texts. IsOutput (label (source_with texts labels) address)) (role_in labels) c.output.result (λ q _. c.requires.unread q)
     (λ texts fault. labels_first (λ l. Prints (label_text address l)) labels texts fault (λ l is. cc)) (rw c.role.ensures at c.in_ok-text-in-Label.ensures)
-    (of_source (λ source flows. Returns (IsOutput (label source address)) c.output.result) labels _ (texts_of g.R.Input.bytes_left c.read.new.files) c.output.ensures))
+    (λ texts same. of_source (λ source flows. Returns (IsOutput (label source address)) c.output.result) labels _ texts same c.output.ensures))
 
 pub returns-in_err-read-in-Cat : goal.returns-in_err-read-in-Cat
 returns-in_err-read-in-Cat g c =
     let labels = c.in-Cat.labels in
     rw c.in-Cat.is
-    (unread_made c.requires _ (role_in labels) c.from_residual-in_err-read-in-Cat.result c.from_residual-in_err-read-in-Cat.ensures.1 (early labels)
+    (unread_made c.requires.works (λ texts. IsOutput (cat (source_with texts labels))) (role_in labels) c.from_residual-in_err-read-in-Cat.result c.from_residual-in_err-read-in-Cat.ensures.1 (early labels)
     (λ texts fault. labels_first PrintsRuns labels texts fault (λ l (out, runs, is). cc)) (rw c.role-in-Cat.ensures at c.in_err-read-in-Cat.ensures))
 
 pub returns-in_ok-read-in-Cat : goal.returns-in_ok-read-in-Cat
 returns-in_ok-read-in-Cat g c =
     let labels = c.in-Cat.labels in
     rw c.in-Cat.is
-    (whole_made c.requires _ (role_in labels) c.output-in-Cat.result
+    (whole_made c.requires.works (λ texts. IsOutput (cat (source_with texts labels))) (role_in labels) c.output-in-Cat.result (λ q _. c.requires.unread q)
     (λ texts fault. labels_first PrintsRuns labels texts fault (λ l (out, runs, is). cc)) (rw c.role-in-Cat.ensures at c.in_ok-read-in-Cat.ensures)
-    (of_source (λ source flows. Returns (IsOutput (cat source)) c.output-in-Cat.result) labels _ (texts_of g.R.Input.bytes_left c.read-in-Cat.new.files) c.output-in-Cat.ensures))
+    (λ texts same. of_source (λ source flows. Returns (IsOutput (cat source)) c.output-in-Cat.result) labels _ texts same c.output-in-Cat.ensures))
 
 pub returns-in_err-read-in-Shrink : goal.returns-in_err-read-in-Shrink
 returns-in_err-read-in-Shrink g c =
     rw c.in-Shrink.is
-    (unread_made c.requires _ role.Map c.from_residual-in_err-read-in-Shrink.result c.from_residual-in_err-read-in-Shrink.ensures.1 (omega arith)
+    (unread_made c.requires.works (λ texts. IsOutput (shrink texts.map c.in-Shrink.printed)) role.Map c.from_residual-in_err-read-in-Shrink.result c.from_residual-in_err-read-in-Shrink.ensures.1 (omega arith)
     (λ texts fault is. omega arith) c.in_err-read-in-Shrink.ensures)
 
 pub returns-in_ok-read-in-Shrink : goal.returns-in_ok-read-in-Shrink
 returns-in_ok-read-in-Shrink g c =
     rw c.in-Shrink.is
-    (whole_made c.requires _ role.Map c.output-in-Shrink.result (λ texts fault is. omega arith) c.in_ok-read-in-Shrink.ensures c.output-in-Shrink.ensures)
+    (whole_made c.requires.works (λ texts. IsOutput (shrink texts.map c.in-Shrink.printed)) role.Map c.output-in-Shrink.result (λ q _. c.requires.unread q) (λ texts fault is. omega arith) c.in_ok-read-in-Shrink.ensures
+    (λ texts same. subst (λ (t : List ℕ). Returns (IsOutput (shrink t c.in-Shrink.printed)) c.output-in-Shrink.result) (sym same) c.output-in-Shrink.ensures))
 
 pub returns-in_err-read-in-Recert : goal.returns-in_err-read-in-Recert
 returns-in_err-read-in-Recert g c =
     rw c.in-Recert.is
-    (unread_made c.requires _ role.Certificate c.from_residual-in_err-read-in-Recert.result c.from_residual-in_err-read-in-Recert.ensures.1 (omega arith)
+    (unread_made c.requires.works (λ texts. IsOutput (recert texts.certificate)) role.Certificate c.from_residual-in_err-read-in-Recert.result c.from_residual-in_err-read-in-Recert.ensures.1 (omega arith)
     (λ texts fault. certificate_first texts.certificate fault) c.in_err-read-in-Recert.ensures)
 
 pub returns-in_ok-read-in-Recert : goal.returns-in_ok-read-in-Recert
 returns-in_ok-read-in-Recert g c =
     rw c.in-Recert.is
-    (whole_made c.requires _ role.Certificate c.output-in-Recert.result (λ texts fault. certificate_first texts.certificate fault)
-    c.in_ok-read-in-Recert.ensures c.output-in-Recert.ensures)
+    (whole_made c.requires.works (λ texts. IsOutput (recert texts.certificate)) role.Certificate c.output-in-Recert.result (λ q _. c.requires.unread q) (λ texts fault. certificate_first texts.certificate fault)
+    c.in_ok-read-in-Recert.ensures
+    (λ texts same. subst (λ (t : List ℕ). Returns (IsOutput (recert t)) c.output-in-Recert.result) (sym same) c.output-in-Recert.ensures))
 
 pub returns-in-Rows : goal.returns-in-Rows
 returns-in-Rows g c = rw c.in-Rows.is c.output-in-Rows.ensures

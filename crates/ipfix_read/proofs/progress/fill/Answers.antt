@@ -1,6 +1,6 @@
-use Rattle.std.proofs.Common.{rules, ◌-◌, ◌≤◌, ℕ, List, length, take, subst, sym}
-use Rattle.std.specs.Io.KnownBytes.{Consumes}
-use Rattle.std.proofs.KnownBytes.{Consumes-trans}
+use Rattle.std.proofs.Common.{rules, ◌-◌, ◌≤◌, ℕ, List, length, subst, sym}
+use Rattle.flow_io.specs.Devices.{Gives}
+use Rattle.flow_io.proofs.Moving.{gives_more}
 use Rattle.ipfix_read.proofs.Gathering.{take_filled}
 use Rattle.ipfix_read.proofs.progress.fill.Goals as goal
 
@@ -11,7 +11,7 @@ loop-filled-preserved g c =
     let front = take_filled a (length xs - a) n xs ys c.loop-filled.invariant.within most in
     record {
       within = search rules;
-      given = subst (λ (bs : List ℕ). Consumes (g.R.Input.bytes_left c.args.reader.now) (g.R.Input.bytes_left c.read.new.self) bs) (sym front)
-          (Consumes-trans _ _ _ (take a xs) (take n ys) c.loop-filled.invariant.given c.in-Ok.ensures.given.0);
+      given = subst (λ (bs : List ℕ). Gives (g.R.Input.input c.args.reader.now) (g.R.Input.input c.read.new.self) bs) (sym front)
+          (gives_more c.loop-filled.invariant.given c.in-Ok.ensures.read);
       same = search rules;
     }

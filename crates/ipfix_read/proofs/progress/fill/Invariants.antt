@@ -1,12 +1,12 @@
 use Rattle.std.proofs.Common.{◌≡◌, ◌-◌, ◌≤◌, length, take}
-use Rattle.std.specs.Io.KnownBytes.{Consumes}
+use Rattle.flow_io.specs.Devices.{Gives}
 use Rattle.ipfix_read.proofs.progress.fill.Given as goal
 
 abbrev pub invariant-loop-filled : goal.invariant-loop-filled
 invariant-loop-filled g l = record {
   within : l.filled ≤ length l.bytes;
-  given : Consumes (g.R.Input.bytes_left l.initial.reader) (g.R.Input.bytes_left l.reader) (take l.filled l.bytes);
-  same : g.R.Input.failed l.reader ≡ g.R.Input.failed l.initial.reader;
+  given : Gives (g.R.Input.input l.initial.reader) (g.R.Input.input l.reader) (take l.filled l.bytes);
+  same : (g.R.Input.input l.reader).failed ≡ (g.R.Input.input l.initial.reader).failed;
 }
 
 abbrev pub decreases-loop-filled : goal.decreases-loop-filled

@@ -1,5 +1,6 @@
 use Rattle.std.proofs.Common.{rules, ◌∙◌, sym, arith, length-take}
 use Rattle.std.proofs.lemmas.Result.{err_from_is_err_and}
+use Rattle.flow_io.specs.Devices.{has_ended}
 use Rattle.ipfix_read.proofs.Gathering.{own_sound, head_of, unread_rest, faulty_header, short_message, gathered, holds_message}
 use Rattle.ipfix_read.proofs.Readings.{not_of_reader}
 use Rattle.ipfix_read.proofs.progress.gather.Goals as goal
@@ -7,13 +8,13 @@ use Rattle.ipfix_read.proofs.progress.gather.Goals as goal
 pub returns-then-branch-size-clause-gathers : goal.returns-then-branch-size-clause-gathers
 returns-then-branch-size-clause-gathers g c =
     short_message _ _ c.args.count _ c.fill.new.bytes c.in_ok-fill.ensures.given c.args.buffer.now (omega (arith, length-take 16 c.args.buffer.now)) (omega arith)
-    c.in_ok-size.size _ c.in_ok-size.ensures.ok c.in_ok-size.ensures.whole _ c.fill-2.new.bytes c.in_ok-fill-2.ensures.given
+    c.in_ok-size.size _ _ c.in_ok-size.ensures.ok c.in_ok-size.ensures.whole _ c.fill-2.new.bytes c.in_ok-fill-2.ensures.given
     c.in_ok-fill-2.ensures.within (omega arith) (c.in_ok-fill-2.ensures.end (omega arith))
 
 pub returns-clause-gathers : goal.returns-clause-gathers
 returns-clause-gathers g c =
     gathered _ _ c.args.count _ c.fill.new.bytes c.in_ok-fill.ensures.given c.args.buffer.now (omega (arith, length-take 16 c.args.buffer.now)) (omega arith)
-    c.in_ok-size.size _ c.in_ok-size.ensures.ok c.in_ok-size.ensures.whole _ c.fill-2.new.bytes c.in_ok-fill-2.ensures.given (search rules) (omega arith)
+    c.in_ok-size.size _ (has_ended (g.R.Input.input c.fill-2.new.reader)) c.in_ok-size.ensures.ok c.in_ok-size.ensures.whole _ c.fill-2.new.bytes c.in_ok-fill-2.ensures.given (search rules) (omega arith)
 
 pub returns-clause-whole : goal.returns-clause-whole
 returns-clause-whole g c =
@@ -28,7 +29,7 @@ returns-in_err-fill-2 g c =
     let failed = c.in_err-fill-2.ensures.err in
     rw (p.1, p.2, failed.0) (record {
       gathers = unread_rest _ _ c.args.count _ c.fill.new.bytes c.in_ok-fill.ensures.given c.args.buffer.now (omega (arith, length-take 16 c.args.buffer.now)) (omega arith)
-          c.in_ok-size.size _ c.in_ok-size.ensures.ok c.in_ok-size.ensures.whole c.fill-2.new.bytes (search rules) c.in_err-fill-2.ensures.short;
+          c.in_ok-size.size _ _ c.in_ok-size.ensures.ok c.in_ok-size.ensures.whole c.fill-2.new.bytes (search rules) c.in_err-fill-2.ensures.short;
       whole = tt;
       counted = tt;
       device = λ none. failed.1;
@@ -39,7 +40,7 @@ returns-in_err-size g c =
     let p = err_from_is_err_and c.from_residual-in_err-size.result c.from_residual-in_err-size.ensures.1 in
     let found = c.in_err-size.ensures.fault in
     rw (p.1, p.2) (record {
-      gathers = faulty_header _ _ c.args.count _ c.fill.new.bytes c.in_ok-fill.ensures.given c.args.buffer.now (omega (arith, length-take 16 c.args.buffer.now)) (omega arith) c.in_err-size.field-0.0 found.1 found.0;
+      gathers = faulty_header _ _ c.args.count _ c.fill.new.bytes c.in_ok-fill.ensures.given c.args.buffer.now (omega (arith, length-take 16 c.args.buffer.now)) (omega arith) _ c.in_err-size.field-0.0 found.1 found.0;
       whole = tt;
       counted = tt;
       device = λ none. c.in_ok-fill.ensures.ok ∙ none ∙ sym (not_of_reader c.in_err-size.field-0.0 found.1);

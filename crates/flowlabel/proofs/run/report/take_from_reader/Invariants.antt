@@ -7,8 +7,8 @@ use Rattle.flowlabel.proofs.run.report.take_from_reader.Given as goal
 abbrev pub invariant-loop-message : goal.invariant-loop-message
 invariant-loop-message g l = record {
   going : l.progress.state ≡ Going;
-  works : g.R.Input.failed l.reader ≡ false;
-  held : Held (g.P.Report.is_of l.report) (g.R.Input.bytes_left l.fn.reader) (g.R.Input.bytes_left l.reader) l.progress l.taken;
+  works : (g.R.Input.input l.reader).failed ≡ false;
+  held : Held (g.P.Report.is_of l.report) (g.R.Input.input l.fn.reader) (g.R.Input.input l.reader) l.progress l.taken;
 }
 
 abbrev pub decreases-loop-message : goal.decreases-loop-message

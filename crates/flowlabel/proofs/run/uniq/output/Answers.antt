@@ -1,20 +1,19 @@
-use Rattle.std.proofs.Common.{◌≡◌, ◌∙◌, Option, ap, arith, false}
+use Rattle.std.proofs.Common.{◌≡◌, ◌∙◌, Option, ap, arith}
 use Rattle.std.specs.Prelude.{option_map}
 use Rattle.flow_filter.specs.Condition.{Condition}
 use Rattle.flow_uniq.specs.Groups.{record_count, shown_groups}
 use Rattle.label_lookup.specs.Labelling.{Labelling}
 use Rattle.pmap_print.specs.Reports.{groups_text}
-use Rattle.flowlabel.specs.declared.by_file.Role.TheVariants as role
 use Rattle.flowlabel.specs.Output.{IsOutput}
 use Rattle.flowlabel.proofs.Outcomes.{report_of_groups}
 use Rattle.flowlabel.specs.Reports.{HasGroups, IsAfter, IsMade, labelling_found, labelling_read}
 use Rattle.flowlabel.specs.Request.{source_with, uniq}
-use Rattle.flowlabel.proofs.MadeLemmas.{found_is, handed_on, memory_made, one_tells, report_done, report_fault}
+use Rattle.flowlabel.proofs.MadeLemmas.{found_is, handed_on, report_done, report_fault, report_memory}
 use Rattle.flowlabel.proofs.run.uniq.output.Goals as goal
 
 pub returns-in_err-read : goal.returns-in_err-read
 returns-in_err-read g c =
-    handed_on (IsMade g.R.Input.bytes_left g.R.Input.failed (λ texts. IsOutput (uniq c.args.keys.now (option_map (source_with texts) c.args.labels) c.args.filter.now c.args.sorted c.args.columns texts.flows)) c.args.files.now c.of_files.new.files)
+    handed_on (IsMade g.R.Input.input (λ texts. IsOutput (uniq c.args.keys.now (option_map (source_with texts) c.args.labels) c.args.filter.now c.args.sorted c.args.columns texts.flows)) c.args.files.now c.of_files.new.files)
     c.from_residual.result c.in_err-read.field-0.0 c.from_residual.ensures.1
     (c.in_err-read.ensures (report_of_groups c.args.keys.now c.args.filter.now c.args.sorted c.args.columns))
 
@@ -33,29 +32,25 @@ take_messages-requires-clause-none g c =
 
 pub returns-in_err-take_messages : goal.returns-in_err-take_messages
 returns-in_err-take_messages g c =
-    let (texts, given, reads, same, still) = c.in_ok-read.ensures in
-    report_fault c.requires (report_of_groups c.args.keys.now c.args.filter.now c.args.sorted c.args.columns) c.args.labels c.of_files.new.files
-    (labelling_read c.in_ok-read.read) texts given reads same still c.take_messages.new.flows
+    report_fault g.R.Input.input (report_of_groups c.args.keys.now c.args.filter.now c.args.sorted c.args.columns) c.in_ok-read.ensures c.requires.unread c.take_messages.new.flows
     (IsAfter (HasGroups c.args.keys.now c.args.filter.now (labelling_found c.as_ref-labels.result))) c.take_messages.new.taken
     c.in_err-take_messages.field-0.0 c.from_residual-in_err-take_messages.result c.from_residual-in_err-take_messages.ensures.1
     c.in_err-take_messages.ensures.taken c.in_err-take_messages.ensures.failed
 
 pub returns-in_err-print_groups : goal.returns-in_err-print_groups
 returns-in_err-print_groups g c =
-    let (texts, given, reads, same, still) = c.in_ok-read.ensures in
-    memory_made _ _ _ c.from_residual-in_err-print_groups.result c.from_residual-in_err-print_groups.ensures.1
-    (◌∙◌ {c = false} (one_tells g.R.Input.failed c.of_files.new.files still role.Flows c.take_messages.new.flows) c.in_ok-take_messages.ensures.failed)
+    report_memory g.R.Input.input (report_of_groups c.args.keys.now c.args.filter.now c.args.sorted c.args.columns) c.in_ok-read.ensures c.requires.unread c.take_messages.new.flows
+    (IsAfter (HasGroups c.args.keys.now c.args.filter.now (labelling_found c.as_ref-labels.result))) c.take_messages.new.taken
+    (λ texts. IsOutput (uniq c.args.keys.now (option_map (source_with texts) c.args.labels) c.args.filter.now c.args.sorted c.args.columns texts.flows))
+    c.from_residual-in_err-print_groups.result c.from_residual-in_err-print_groups.ensures.1 c.in_ok-take_messages.ensures.taken c.in_ok-take_messages.ensures.failed
 
 pub returns : goal.returns
 returns g c =
-    let mid = c.of_files.new.files in
     let condition : Condition = c.args.filter.now in
     let labels : Option Labelling = labelling_read c.in_ok-read.read in
     let found : Option Labelling = labelling_found c.as_ref-labels.result in
     let is : found ≡ labels = found_is c.as_ref-labels.result c.in_ok-index.index labels c.as_ref-labels.ensures.value c.in_ok-index.ensures in
-    let (texts, given, reads, same, still) = c.in_ok-read.ensures in
-    report_done c.requires (report_of_groups c.args.keys.now c.args.filter.now c.args.sorted c.args.columns)
-    c.args.labels mid labels texts given reads same still c.take_messages.new.flows
+    report_done g.R.Input.input (report_of_groups c.args.keys.now c.args.filter.now c.args.sorted c.args.columns) c.in_ok-read.ensures c.requires.unread c.take_messages.new.flows
     (IsAfter (HasGroups c.args.keys.now c.args.filter.now (labelling_found c.as_ref-labels.result))) c.take_messages.new.taken c.in_ok-print_groups.field-0
     c.in_ok-take_messages.ensures.taken c.in_ok-take_messages.ensures.failed
     (λ messages has. c.in_ok-print_groups.ensures ∙ (λ j. groups_text (has.rows.fields j) (shown_groups c.args.sorted (has.rows.groups j)) c.args.columns)

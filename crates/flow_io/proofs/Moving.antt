@@ -1,0 +1,19 @@
+-- Bytes that readers return and writers take, one call after another.
+use Rattle.std.proofs.Common.{ℕ, List, [], ◌++◌, sym, ap, ◌∙◌, append_assoc, append-nil}
+use Rattle.std.proofs.KnownBytes.{Appends-trans, Consumes-nil, Consumes-trans}
+use Rattle.flow_io.specs.Devices.{InputView, OutputView, Gives, Takes}
+
+pub gives_none : (a : InputView) → Gives a a []
+gives_none a = record { returned = sym (append-nil a.returned); left = Consumes-nil a.left }
+
+pub gives_more : {a b c : InputView} {front more : List ℕ} → Gives a b front → Gives b c more → Gives a c (front ++ more)
+gives_more {a} {b} {c} {front} {more} first second = record {
+  returned = second.returned ∙ ap (λ l. l ++ more) first.returned ∙ append_assoc a.returned front more;
+  left = Consumes-trans a.left b.left c.left front more first.left second.left;
+}
+
+pub takes_more : {a b c : OutputView} {front more : List ℕ} → Takes a b front → Takes b c more → Takes a c (front ++ more)
+takes_more {a} {b} {c} {front} {more} first second = record {
+  taken = second.taken ∙ ap (λ l. l ++ more) first.taken ∙ append_assoc a.taken front more;
+  contents = Appends-trans a.contents b.contents c.contents front more first.contents second.contents;
+}
