@@ -11,8 +11,8 @@ complete -c flowlabel -n "not $of $commands" -a info -d 'Print the counts of an 
 complete -c flowlabel -n "not $of $commands" -a rows -d 'Print the flows of an IPFIX File'
 complete -c flowlabel -n "not $of $commands" -a uniq -d 'Print the sums of the flows of an IPFIX File'
 complete -c flowlabel -n "not $of $commands" -a cat -d 'Print the ranges of a map or a list'
-complete -c flowlabel -n "not $of $commands" -a shrink -d 'Print the shortest list that labels as a map does'
-complete -c flowlabel -n "not $of $commands" -a check -d 'Check by a certificate that a list is a shortest one for a map'
+complete -c flowlabel -n "not $of $commands" -a shrink -d "Print a map's shortest prefix list"
+complete -c flowlabel -n "not $of $commands" -a check -d 'Verify that a list is minimal'
 complete -c flowlabel -n "not $of $commands" -a recert -d 'Print a certificate in compact form'
 
 complete -c flowlabel -n "$of label rows uniq cat shrink check" -l pmap -r -F -d 'The prefix map'

@@ -234,7 +234,7 @@ fn cat<'a>(alloc: Global) -> Result<Command<'a>, AllocError>
 fn shrink<'a>(alloc: Global) -> Result<Command<'a>, AllocError>
     ensures { IfOk result (IsCommand (leaf (codes "shrink") shrink_rules)) }
 {
-    let about = "Print the shortest list that labels as a map does";
+    let about = "Print a map's shortest prefix list";
     let usage = "flowlabel shrink --pmap FILE [--certificate [--compact]]";
     let example = example!(
         "the list of a map",
@@ -252,7 +252,7 @@ fn shrink<'a>(alloc: Global) -> Result<Command<'a>, AllocError>
 fn check<'a>(alloc: Global) -> Result<Command<'a>, AllocError>
     ensures { IfOk result (IsCommand (leaf (codes "check") check_rules)) }
 {
-    let about = "Check by a certificate that a list is a shortest one for a map";
+    let about = "Verify that a list is minimal";
     let usage = "flowlabel check --pmap FILE --list FILE --cert FILE";
     let example = example!(
         "whether list.txt is a shortest list",
