@@ -1,2 +1,3 @@
 pub mod Devices
 pub mod Memory
+pub mod Ahead

@@ -20,19 +20,23 @@
 //! the same bytes. A slice or a `Vec` reports its bytes. A file does not, as no contract says what the system reads or
 //! writes.
 //!
-//! `Watched` wraps any reader or writer of std, and notes the bytes in a `Record`, which takes no memory. `MemoryInput`
-//! and `MemoryOutput` are for tests. `read_whole` and `write_whole` move all bytes, and return a fault if and only if
-//! their reader or writer failed. Only `read_whole` allocates.
+//! `Watched` wraps any reader or writer of std, and notes the bytes in a `Record`, which takes no memory. `ReadAhead`
+//! wraps an `Input`, and asks it for 64 KB at a time. `MemoryInput` and `MemoryOutput` are for tests. `read_whole` and
+//! `write_whole` move all bytes, and return a fault if and only if their reader or writer failed. Only `read_whole` and
+//! `ReadAhead::new` allocate.
 #![tactic(auto)]
 
+mod ahead;
 mod devices;
 mod memory;
+mod read_ahead;
 mod record;
 mod watch;
 mod whole;
 
 pub use devices::{DeviceFault, Input, LastCall, Output};
 pub use memory::{MemoryInput, MemoryOutput};
+pub use read_ahead::ReadAhead;
 pub use record::Record;
 pub use watch::Watched;
 pub use whole::{ReadStop, read_whole, write_whole};

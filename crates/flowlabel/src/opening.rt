@@ -7,13 +7,9 @@ ghost use Rattle.flowlabel.specs.Run.{AreUnread, any_failed, view_of};
 use crate::by_file::ByFile;
 use crate::fault::RunFault;
 use crate::inputs::Source;
-use flow_io::{Input, Watched};
+use flow_io::{Input, ReadAhead, Watched};
 use std::alloc::{AllocError, Global};
 use std::fs::File;
-use std::io::BufReader;
-
-// The number of bytes that a reader asks the system for at a time.
-const READ_AHEAD: usize = 65_536;
 
 /// Opens files by their names.
 pub trait Opener {
@@ -31,7 +27,7 @@ pub trait Opener {
 
 // Opens the files of the system. No contract says which files these are.
 impl Opener for HostRuntime {
-    type Reader = Watched<BufReader<File>>;
+    type Reader = ReadAhead<Watched<File>>;
 
     ghost answers = { λ _ _ _. Unit {0} };
 
@@ -39,14 +35,11 @@ impl Opener for HostRuntime {
         &self,
         alloc: Global,
         name: &str,
-    ) -> Result<Option<Watched<BufReader<File>>>, AllocError> {
+    ) -> Result<Option<ReadAhead<Watched<File>>>, AllocError> {
         let Ok(file) = File::open(self, name) else {
             return Ok(None);
         };
-        let Ok(reader) = BufReader::with_capacity(alloc, READ_AHEAD, file) else {
-            return Err(AllocError);
-        };
-        Ok(Some(Watched::new(reader)))
+        Ok(Some(ReadAhead::new(alloc, Watched::new(file))?))
     }
 }
 

@@ -1,0 +1,63 @@
+//! Reading ahead.
+ghost use Rattle.std.specs.Prelude.{◌≡◌, ◌≤◌, ◌++◌, ℕ, List, [], IfOk, false, length, true};
+ghost use Rattle.flow_io.specs.Ahead.{bytes_in, input_ahead};
+ghost use Rattle.flow_io.specs.Devices.{FailsOnErr, GivesCount, finds_end, has_ended};
+
+use crate::ahead::Ahead;
+use crate::devices::{DeviceFault, Input};
+use crate::record::Record;
+use std::alloc::{AllocError, Global};
+
+/// A reader that asks another one for 64 KB at a time, and returns its bytes in order.
+#[derive(Drop)]
+pub struct ReadAhead<R> {
+    inner: R,
+    ahead: Ahead,
+    ended: bool,
+    returned: Record,
+}
+
+impl<R> ReadAhead<R> {
+    /// Wraps `inner`. Nothing is read ahead yet.
+    pub fn new(alloc: Global, inner: R) -> Result<Self, AllocError>
+    where
+        R: Drop,
+        ensures inner { IfOk result (λ reader. reader.inner ≡ inner) }
+        ensures fresh { IfOk result (λ reader. (reader.ended ≡ false) × (reader.returned.bytes ≡ []) × (bytes_in reader.ahead ≡ [])) }
+    {
+        Ok(ReadAhead {
+            ahead: Ahead::new(alloc)?,
+            inner,
+            ended: false,
+            returned: Record::new(),
+        })
+    }
+}
+
+impl<R: Input> Input for ReadAhead<R> {
+    ghost input = { input_ahead R.input };
+
+    fn read(&mut self, buffer: &mut [u8]) -> Result<usize, DeviceFault>
+        ensures within { IfOk result (λ count. count ≤ length buffer.new) }
+        ensures read { GivesCount (input_ahead R.input self.old) (input_ahead R.input self.new) result buffer.new }
+        ensures end { has_ended (input_ahead R.input self.new) ≡ finds_end result buffer.new }
+        ensures fails { FailsOnErr (R.input self.old.inner).failed (R.input self.new.inner).failed result }
+
+        // What the inner reader has returned is what this one has, and then the bytes that are ahead. At the end there
+        // are none.
+        ensures same { (front : List ℕ) → (R.input self.old.inner).returned ≡ front ++ (self.old.returned.bytes ++ bytes_in self.old.ahead)
+            → (R.input self.new.inner).returned ≡ front ++ (self.new.returned.bytes ++ bytes_in self.new.ahead) }
+        ensures all { finds_end result buffer.new ≡ true → (bytes_in self.new.ahead ≡ []) × (has_ended (R.input self.new.inner) ≡ true) }
+    {
+        self.ended = false;
+        self.ahead.fill(&mut self.inner)?;
+        let count = self.ahead.take(buffer);
+        self.ended = count == 0 && !buffer.is_empty();
+        self.returned.note(&buffer[..count]);
+        Ok(count)
+    }
+
+    fn failed(&self) -> bool {
+        self.inner.failed()
+    }
+}
