@@ -33,5 +33,6 @@ pub mod BlockHalves
 pub mod Windows
 pub mod Ends
 pub mod Settling
+pub mod Decided
 pub mod Runs
 pub mod Covered

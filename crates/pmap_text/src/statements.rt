@@ -1,4 +1,4 @@
-ghost use Rattle.std.specs.Prelude.{◌≡◌, ◌<◌, ◌++◌, ◌∷◌, [], Some, length, slice_get, OnErr, OnOk};
+ghost use Rattle.std.specs.Prelude.{◌≡◌, ◌<◌, ◌++◌, ◌∷◌, [], Some, length, slice_get, IfOk, OnErr, OnOk};
 ghost use Rattle.prefix_keys.specs.declared.version.Version.TheVariants.{V4};
 ghost use Rattle.pmap_text.specs.Packed.{narrow_statement, wide_statement};
 
@@ -120,6 +120,17 @@ impl Statements {
         } else {
             unpack_wide(self.wide[place - self.narrow.len()])
         }
+    }
+
+    /// Returns the mappings in order, unpacked.
+    pub fn to_vec(&self, alloc: Global) -> Result<Vec<Statement>, AllocError>
+        ensures { IfOk result (λ all. all.items ≡ self.now) }
+    {
+        let mut all = Vec::with_capacity(alloc, self.len())?;
+        for place in 0..self.len() {
+            all.push(self.at(place))?;
+        }
+        Ok(all)
     }
 
     /// Appends a mapping. If an allocation fails, the list is unchanged.

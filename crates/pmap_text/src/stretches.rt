@@ -1,7 +1,7 @@
 ghost use Rattle.std.specs.Prelude.{◌≡◌, ℕ, ◌+◌, ◌-◌, ◌*◌, ◌^◌, ◌<◌, ◌≤◌, ◌++◌, ◌∷◌, [], List, None, Some, All, IfOk, OnOk, length};
 ghost use Rattle.std.specs.Option.{ForSome};
 ghost use Rattle.prefix_keys.specs.Block.{width_of};
-ghost use Rattle.pmap_text.specs.Stretches.{label_kept, AreLabelsBelow, AreStretches, HasEveryAddress, HoldsAddress, first_at, label_at, label_held, label_seen, last_at, text_held, text_won};
+ghost use Rattle.pmap_text.specs.Stretches.{label_kept, AreLabelsBelow, AreStretches, HasEveryAddress, HoldsAddress, count_begun, first_at, label_at, label_held, label_seen, last_at, text_held, text_won};
 ghost use Rattle.pmap_text.specs.ListModel.{list_label};
 ghost use Rattle.pmap_text.specs.MapModel.{map_label};
 ghost use Rattle.pmap_text.specs.MapText.{map_of};
@@ -315,5 +315,28 @@ impl Stretches {
             }
         }
         low
+    }
+
+    /// Returns the index of the stretch that has the address. The search begins at the index `near` and takes few steps
+    /// if the stretch is there or soon after; without `near` the result is the same.
+    #[inline(always)]
+    pub fn find_near(&self, near: usize, address: u128) -> usize
+        requires { address < 2 ^ width_of self.now.version }
+        ensures holds { HoldsAddress self.now address result }
+        ensures index { result ≡ count_begun self.now.firsts address - 1 }
+    {
+        let end = self.len() - 1;
+        let start = near.min(end);
+        if address < self.first(start) {
+            return self.find(0, start, address);
+        }
+        let mut low = start;
+        let mut high = start;
+        // Each step looks at twice as many stretches as the one before.
+        while self.last(high) < address {
+            low = high + 1;
+            high = end.min(high.saturating_add(low - start));
+        }
+        self.find(low, high, address)
     }
 }
