@@ -4,12 +4,13 @@ use Rattle.std.specs.Option.{option_or}
 use Rattle.std.proofs.lemmas.Option.{none-some, same_Some}
 use Rattle.pmap_text.specs.ListModel.{Prefix}
 use Rattle.pmap_text.specs.MapModel.{Label, MapModel}
-use Rattle.pmap_text.specs.Stretches.{StretchesModel}
-use Rattle.pmap_text.specs.Windows.{AreHalvesOf, number_at}
-use Rattle.pmap_text.specs.declared.window.Window.{Window}
+use Rattle.prefix_keys.specs.Block.{block_number, width_of}
+use Rattle.prefix_keys.specs.declared.block.Block.{Block}
+use Rattle.pmap_text.specs.PrefixList.{number_of_block}
+use Rattle.pmap_cert.specs.Paths.{path_number}
 use Rattle.pmap_cert.specs.Compacting.{line_count}
 use Rattle.pmap_cert.specs.CertificateModel.{CertificateModel, ChainNode, InnerNode, LeafNode, Tree, claim_of, chosen_half, side_half}
-use Rattle.cert_check.specs.Inner.{IsHalf}
+use Rattle.cert_check.specs.Inner.{IsHalf, sides_fault}
 use Rattle.cert_check.specs.Checking.{bits_fault, fault_of_number, first_fault, is_same_version, leaf_fault, node_fault, BoundNotMet, Certificate, Check, CheckFault, CostTooHigh, LeafNotUniform, ListDiffers, NoMemory, SetTooSmall, VersionDiffers}
 use Rattle.pmap_cert.specs.declared.fault.CertFault.{CertFault}
 use Rattle.pmap_text.specs.ListModel.{ListModel}
@@ -23,27 +24,48 @@ pub or-or : {X : Type 0} (a b c : Option X) → option_or (option_or a b) c ≡ 
 or-or None b c = refl
 or-or (Some x) b c = refl
 
-pub low-half : {s : StretchesModel} {w low high : Window} → AreHalvesOf s w low high → IsHalf s w low (2 * number_at s w)
-low-half are = record { len = are.low_len; number = are.low_number }
-
-pub high-half : {s : StretchesModel} {w low high : Window} → AreHalvesOf s w low high → IsHalf s w high (2 * number_at s w + 1)
-high-half are = record { len = are.high_len; number = are.high_number }
+pub half-by : (whole half : Block) (q : ℕ) → half.version ≡ whole.version → half.len ≡ whole.len + 1 → block_number (width_of whole.version) (whole.len + 1) half.value ≡ q
+    → IsHalf whole half q
+half-by whole half q version len is = record { version = version; len = len; number = (λ i. block_number (width_of (version i)) (len i) half.value) ∙ is }
 
 -- a function of the length and the number of a half
-pub half-is : {X : Type 0} (s : StretchesModel) (w half : Window) (q : ℕ) → IsHalf s w half q → (f : ℕ → ℕ → X) → f half.len (number_at s half) ≡ f (suc w.len) q
-half-is s w half q h f =
-    let len : half.len ≡ suc w.len = omega (arith, h.len) in
+pub half-is : {X : Type 0} (whole half : Block) (q : ℕ) → IsHalf whole half q → (f : ℕ → ℕ → X) → f half.len (number_of_block half) ≡ f (suc whole.len) q
+half-is whole half q h f =
+    let len : half.len ≡ suc whole.len = omega (arith, h.len) in
     λ i. f (len i) (h.number i)
 
--- the first fault along bits, by that along all but the first bit
-pub path-step : (m : MapModel) (ps : List Prefix) (x : Label) (k : ℕ) (end : ℕ → ℕ → Option CheckFault) (s : StretchesModel) (w chosen beside : Window) (bit : Bool) (bits rest : List Bool)
-    → bits ≡ bit ∷ rest → IsHalf s w chosen (chosen_half bit (number_at s w)) → IsHalf s w beside (side_half bit (number_at s w))
-    → bits_fault m ps x k end bits w.len (number_at s w)
-    ≡ option_or (bits_fault m ps x k end rest chosen.len (number_at s chosen)) (option_map (fault_of_number k) (leaf_fault m ps beside.len (number_at s beside) x))
-path-step m ps x k end s w chosen beside bit bits rest is on off =
-    ap (λ (xs : List Bool). bits_fault m ps x k end xs w.len (number_at s w)) is
-    ∙ (λ i. option_or (sym (half-is s w chosen (chosen_half bit (number_at s w)) on (bits_fault m ps x k end rest)) i)
-    (option_map (fault_of_number k) (sym (half-is s w beside (side_half bit (number_at s w)) off (λ n q. leaf_fault m ps n q x)) i)))
+-- the fault of the blocks beside a path, by those beside the rest of it after its first bit
+pub sides-step : (m : MapModel) (ps : List Prefix) (x : Label) (whole chosen beside : Block) (bit : Bool) (bits rest : List Bool) → bits ≡ bit ∷ rest
+    → IsHalf whole chosen (chosen_half bit (number_of_block whole)) → IsHalf whole beside (side_half bit (number_of_block whole))
+    → sides_fault m ps x bits whole.len (number_of_block whole)
+    ≡ option_or (sides_fault m ps x rest chosen.len (number_of_block chosen)) (leaf_fault m ps beside.len (number_of_block beside) x)
+sides-step m ps x whole chosen beside bit bits rest is on off =
+    let q = number_of_block whole in
+    ap (λ (xs : List Bool). sides_fault m ps x xs whole.len q) is
+    ∙ (λ i. option_or (sym (half-is whole chosen (chosen_half bit q) on (sides_fault m ps x rest)) i)
+    (sym (half-is whole beside (side_half bit q) off (λ n t. leaf_fault m ps n t x)) i))
+
+pub or-some : {X : Type 0} (a b : Option X) → (a ≡ None → ⊥) → option_or a b ≡ a
+or-some None b some = absurd (some refl)
+or-some (Some x) b some = refl
+
+map-or : {X Y : Type 0} (f : X → Y) (a b : Option X) → option_map f (option_or a b) ≡ option_or (option_map f a) (option_map f b)
+map-or f None b = refl
+map-or f (Some x) b = refl
+
+-- the first fault along bits is that of the end, or otherwise that of the blocks beside the path
+pub bits-sides : (m : MapModel) (ps : List Prefix) (x : Label) (k : ℕ) (end : ℕ → ℕ → Option CheckFault) (bits : List Bool) (n q : ℕ)
+    → bits_fault m ps x k end bits n q
+    ≡ option_or (end (n + length bits) (path_number bits q)) (option_map (fault_of_number k) (sides_fault m ps x bits n q))
+bits-sides m ps x k end [] n q = ap (λ (i : ℕ). end i q) {y = n + 0} (omega arith) ∙ sym (or-none (end (n + 0) q))
+bits-sides m ps x k end (bit ∷ bits) n q =
+    let t = chosen_half bit q in
+    let rest = sides_fault m ps x bits (suc n) t in
+    let own = leaf_fault m ps (suc n) (side_half bit q) x in
+    let count : suc n + length bits ≡ n + length (bit ∷ bits) = omega arith in
+    ap (λ (o : Option CheckFault). option_or o (option_map (fault_of_number k) own)) (bits-sides m ps x k end bits (suc n) t)
+    ∙ or-or (end (suc n + length bits) (path_number bits t)) (option_map (fault_of_number k) rest) (option_map (fault_of_number k) own)
+    ∙ (λ i. option_or (end (count i) (path_number bits t)) (sym (map-or (fault_of_number k) rest own) i))
 
 -- the fault, if there is one, isn't that an allocation failed
 abbrev pub IsNodeFault : Option CheckFault → Type 0

@@ -1,21 +1,24 @@
 -- The results of a walk over a tree, by those over the trees below it.
 use Rattle.std.proofs.Math.Seq.{drop-append_seam, take-append_seam}
 use Rattle.std.proofs.lemmas.List.{append-nil, append_assoc, length-append, length-drop, length-take-le, take-append-drop}
-use Rattle.std.proofs.Common.{◌≡◌, ◌∙◌, ℕ, drop, take, suc, ◌+◌, ◌-◌, ◌*◌, ◌≤◌, Bool, List, [], ◌∷◌, ◌++◌, length, Option, Result, Ok, Err, option_map, refl, sym, ap, arith}
+use Rattle.std.proofs.Common.{◌≡◌, ◌∙◌, ℕ, drop, take, suc, ◌+◌, ◌-◌, ◌*◌, ◌≤◌, Bool, List, [], ◌++◌, length, Option, Ok, option_map, refl, sym, ap, arith}
 use Rattle.std.specs.Option.{option_or}
+use Rattle.prefix_keys.specs.declared.block.Block.{Block}
+use Rattle.pmap_text.specs.MapModel.{MapModel}
+use Rattle.pmap_text.specs.ListModel.{Prefix}
 use Rattle.pmap_text.specs.MapText.{map_of, text_at}
-use Rattle.pmap_text.specs.PrefixList.{list_of}
+use Rattle.pmap_text.specs.PrefixList.{list_of, number_of_block}
 use Rattle.pmap_text.specs.Reading.{◌>>=◌}
-use Rattle.pmap_text.specs.Windows.{AreHalvesOf, number_at}
 use Rattle.pmap_text.specs.declared.label.LabelId.{LabelId}
 use Rattle.pmap_cert.specs.Compacting.{line_count}
 use Rattle.pmap_cert.specs.CertificateText.{IsAscending}
-use Rattle.pmap_cert.specs.CertificateModel.{ChainNode, InnerNode, Claim, Tree, chain_claim, claim_of, chosen_half, side_half, exact_claim}
+use Rattle.pmap_cert.specs.CertificateModel.{ChainNode, InnerNode, Claim, Tree, chain_claim, claim_of, exact_claim}
 use Rattle.pmap_cert.specs.FormatReading.{Place}
+use Rattle.pmap_cert.specs.Paths.{LeadsTo}
 use Rattle.pmap_cert.specs.declared.fault.CertFault.{CertFault}
-use Rattle.cert_check.specs.Checking.{claim_fault, fault_of_number, leaf_fault, node_fault, told, CheckFault, CheckFaultKind}
-use Rattle.cert_check.specs.Inner.{IsAfter, IsAnswer, IsHalf, IsPassed, IsUnread, Part, Read, Sources, Walk, chain_reading, claim_with, fault_of_node, fault_of_path, fault_with, halves_reading, reading_at}
-use Rattle.cert_check.proofs.Nodes.{half-is, high-half, low-half, or-or, path-step}
+use Rattle.cert_check.specs.Checking.{bits_fault, claim_fault, fault_of_number, node_fault, told, CheckFault, CheckFaultKind}
+use Rattle.cert_check.specs.Inner.{IsAfter, IsHalf, IsPassed, IsUnread, Read, Sources, Walk, chain_reading, claim_with, fault_of_node, fault_with, halves_reading, reading_at, sides_fault}
+use Rattle.cert_check.proofs.Nodes.{bits-sides, half-is, or-or}
 use Rattle.cert_check.proofs.Sets.{numbers}
 
 -- the sets with one more, cut at its beginning
@@ -27,13 +30,13 @@ held-at old set new from is at = (
 )
 
 -- An inner node whose claim has this cost and the numbers of these labels, at this place after its line.
-module _ (s : Sources) (p low high : Part) (are : AreHalvesOf s.stretches p.window low.window high.window) (cost : ℕ) (own : List LabelId) (place : Place)
+module _ (s : Sources) (b low high : Block) (low_half : IsHalf b low (2 * number_of_block b)) (high_half : IsHalf b high (2 * number_of_block b + 1)) (cost : ℕ) (own : List LabelId) (place : Place)
     (number next : ℕ) (after : IsAfter number next) where
   abbrev n : ℕ
-  n = p.window.len
+  n = b.len
 
   abbrev q : ℕ
-  q = number_at s.stretches p.window
+  q = number_of_block b
 
   abbrev claim : Claim
   claim = claim_with s.frame.labels.now cost (numbers own)
@@ -47,26 +50,26 @@ module _ (s : Sources) (p low high : Part) (are : AreHalvesOf s.stretches p.wind
   abbrev lower_then : Read → Read
   lower_then r = r >>= (λ lower. upper_then lower.0 (reading_at s (n + 1) lower.1))
 
-  lower-at : reading_at s (n + 1) place ≡ reading_at s low.window.len place
-  lower-at = ap (λ (m : ℕ). reading_at s m place) (sym are.low_len)
+  lower-at : reading_at s (n + 1) place ≡ reading_at s low.len place
+  lower-at = ap (λ (m : ℕ). reading_at s m place) (sym low_half.len)
 
-  pub lower-unread : (f : CertFault) → IsUnread (reading_at s low.window.len place) f → IsUnread (halves_reading s n claim place) f
+  pub lower-unread : (f : CertFault) → IsUnread (reading_at s low.len place) f → IsUnread (halves_reading s n claim place) f
   lower-unread f unread = (λ some. ap lower_then (lower-at ∙ unread.0 some), unread.1)
 
   module _ (sets : List LabelId) (before : Option CheckFault) (middle : Walk) (low_cost : ℕ)
-      (lower : IsPassed s (reading_at s low.window.len place) (fault_of_node s low) next 0 sets before middle low_cost) where
-    behind : halves_reading s n claim place ≡ upper_then lower.tree (reading_at s high.window.len middle.lines)
-    behind = ap lower_then (lower-at ∙ lower.read) ∙ ap (λ (m : ℕ). upper_then lower.tree (reading_at s m middle.lines)) (sym are.high_len)
+      (lower : IsPassed s (reading_at s low.len place) (fault_of_node s low) next sets before middle low_cost) where
+    behind : halves_reading s n claim place ≡ upper_then lower.tree (reading_at s high.len middle.lines)
+    behind = ap lower_then (lower-at ∙ lower.read) ∙ ap (λ (m : ℕ). upper_then lower.tree (reading_at s m middle.lines)) (sym high_half.len)
 
-    pub upper-unread : (f : CertFault) → IsUnread (reading_at s high.window.len middle.lines) f → IsUnread (halves_reading s n claim place) f
+    pub upper-unread : (f : CertFault) → IsUnread (reading_at s high.len middle.lines) f → IsUnread (halves_reading s n claim place) f
     upper-unread f unread = (λ some. behind ∙ ap (upper_then lower.tree) (unread.0 some), unread.1)
 
     pub halves-passed : (old : List LabelId) (last new : Walk) (high_cost : ℕ) (o : Option CheckFaultKind)
-        (upper : IsPassed s (reading_at s high.window.len middle.lines) (fault_of_node s high) middle.number 0 middle.sets.items middle.fault last high_cost)
+        (upper : IsPassed s (reading_at s high.len middle.lines) (fault_of_node s high) middle.number middle.sets.items middle.fault last high_cost)
         → IsAscending (length s.frame.labels.now) 0 (numbers own)
         → o ≡ claim_fault claim (exact_claim (claim_with s.frame.labels.now low_cost (numbers lower.set)) (claim_with s.frame.labels.now high_cost (numbers upper.set)))
         → new.lines ≡ last.lines → new.number ≡ last.number → new.sets.items ≡ old ++ own → new.fault ≡ option_or last.fault (fault_with number o)
-        → IsPassed s (halves_reading s n claim place) (fault_of_node s p) number 0 old before new cost
+        → IsPassed s (halves_reading s n claim place) (fault_of_node s b) number old before new cost
     halves-passed old last new high_cost o upper ascending fault lines numbered sets noted = record {
       tree = InnerNode claim lower.tree upper.tree;
       set = own;
@@ -77,101 +80,81 @@ module _ (s : Sources) (p low high : Part) (are : AreHalvesOf s.stretches p.wind
       fault = λ k told_is.
           let j = k + 1 + line_count lower.tree in
           let first = lower.fault (k + 1) (after k told_is) in
-          let same : j ≡ (k + 1) + (0 + line_count lower.tree) = omega arith in
-          let second = upper.fault j (ap told same ∙ sym first.1) in
-          let count : j + (0 + line_count upper.tree) ≡ k + (0 + (1 + line_count lower.tree + line_count upper.tree)) = omega arith in
+          let second = upper.fault j (sym first.1) in
+          let count : j + line_count upper.tree ≡ k + (1 + line_count lower.tree + line_count upper.tree) = omega arith in
           let exact = exact_claim (claim_of lower.tree) (claim_of upper.tree) in
           let is : o ≡ claim_fault claim exact = fault ∙ sym (λ i. claim_fault claim (exact_claim (lower.claim i) (upper.claim i))) in
           let own_fault = option_map (fault_of_number k) (claim_fault claim exact) in (
             noted ∙ (λ i. option_or (second.0 i) (fault_with (sym told_is i) (is i)))
-                ∙ (λ i. option_or (option_or (first.0 i) (half-is s.stretches p.window high.window (2 * q + 1) (high-half are) (faults upper.tree j) i)) own_fault)
+                ∙ (λ i. option_or (option_or (first.0 i) (half-is b high (2 * q + 1) high_half (faults upper.tree j) i)) own_fault)
                 ∙ or-or (option_or before (fault_of_node s low lower.tree (k + 1))) (faults upper.tree j (suc n) (2 * q + 1)) own_fault
                 ∙ or-or before (fault_of_node s low lower.tree (k + 1)) (option_or (faults upper.tree j (suc n) (2 * q + 1)) own_fault)
-                ∙ (λ i. option_or before (option_or (half-is s.stretches p.window low.window (2 * q) (low-half are) (faults lower.tree (k + 1)) i)
+                ∙ (λ i. option_or before (option_or (half-is b low (2 * q) low_half (faults lower.tree (k + 1)) i)
                 (option_or (faults upper.tree j (suc n) (2 * q + 1)) own_fault))),
             numbered ∙ second.1 ∙ ap told count,
           );
     }
 
--- A chain whose claim has this cost and the numbers of these labels, at this place after its line: what is below it has
--- been passed.
-pub below-passed : (s : Sources) (p : Part) (cost : ℕ) (own : List LabelId) (bits : List Bool) (side : ℕ) (place : Place) (number : ℕ)
-    (sets old : List LabelId) (before : Option CheckFault) (last new : Walk) (end_cost : ℕ) (o : Option CheckFaultKind)
-    (below : IsPassed s (reading_at s (p.window.len + length bits) place) (fault_of_path s p side bits) number 1 sets before last end_cost)
-    → IsAscending (length s.frame.labels.now) 0 (numbers own)
-    → o ≡ claim_fault (claim_with s.frame.labels.now cost (numbers own)) (chain_claim (length bits) (text_at s.frame.labels.now side) (claim_with s.frame.labels.now end_cost (numbers below.set)))
-    → new.lines ≡ last.lines → new.number ≡ last.number → new.sets.items ≡ old ++ own → new.fault ≡ option_or last.fault (fault_with number o)
-    → IsPassed s (chain_reading s p.window.len (claim_with s.frame.labels.now cost (numbers own)) bits side place) (fault_of_node s p) number 0 old before new cost
-below-passed s p cost own bits side place number sets old before last new end_cost o below ascending fault lines numbered items noted =
-    let claim = claim_with s.frame.labels.now cost (numbers own) in
-    let text = text_at s.frame.labels.now side in
-    record {
-      tree = ChainNode claim bits text below.tree;
-      set = own;
-      read = ap (λ (r : Read). r >>= (λ end. Ok (ChainNode claim bits text end.0, end.1))) below.read
-          ∙ ap (λ (l : Place). Ok (ChainNode claim bits text below.tree, l)) (sym lines);
-      claim = refl;
-      ascending = ascending;
-      sets = items;
-      fault = λ k told_is.
-          let there = below.fault k told_is in
-          let count : k + (1 + line_count below.tree) ≡ k + (0 + (1 + line_count below.tree)) = omega arith in
-          let is : o ≡ claim_fault claim (chain_claim (length bits) text (claim_of below.tree)) = fault ∙ sym (λ i. claim_fault claim (chain_claim (length bits) text (below.claim i))) in (
-            noted ∙ (λ i. option_or (there.0 i) (fault_with (sym told_is i) (is i))) ∙ or-or before (fault_of_path s p side bits below.tree k) _,
-            numbered ∙ there.1 ∙ ap told count,
-          );
-    }
+-- A chain whose claim has this cost and the numbers of these labels, at this place after its line. The node at its end
+-- was passed, then the fault of the blocks beside its path was noted, and then that of its claim.
+module _ (s : Sources) (b end : Block) (cost : ℕ) (own : List LabelId) (bits : List Bool) (side : ℕ) (path : LeadsTo b end bits) (place : Place)
+    (number next : ℕ) (after : IsAfter number next) where
+  abbrev claim' : Claim
+  claim' = claim_with s.frame.labels.now cost (numbers own)
 
--- The node at the end of a path: its result is that of the path if the blocks beside the path have no fault.
-pub end-answer : (s : Sources) (p end : Part) (side : ℕ) (bits : List Bool) (place : Place) (number next : ℕ) (after : IsAfter number next)
-    (old : List LabelId) (before : Option CheckFault) (new : Walk) (result : Result ℕ CertFault) → end.window.len ≡ p.window.len + length bits
-    → ((tree : Tree) (k : ℕ) → fault_of_path s p side bits tree k ≡ fault_of_node s end tree (k + 1))
-    → IsAnswer s (reading_at s end.window.len place) (fault_of_node s end) next 0 old before new result
-    → IsAnswer s (reading_at s (p.window.len + length bits) place) (fault_of_path s p side bits) number 1 old before new result
-end-answer s p end side bits place number next after old before new (Ok cost) len is answer = record {
-  tree = answer.tree;
-  set = answer.set;
-  read = ap (λ (m : ℕ). reading_at s m place) (sym len) ∙ answer.read;
-  claim = answer.claim;
-  ascending = answer.ascending;
-  sets = answer.sets;
-  fault = λ k told_is.
-      let there = answer.fault (k + 1) (after k told_is) in
-      let count : (k + 1) + (0 + line_count answer.tree) ≡ k + (1 + line_count answer.tree) = omega arith in
-      (there.0 ∙ ap (option_or before) (sym (is answer.tree k)), there.1 ∙ ap told count);
-}
-end-answer s p end side bits place number next after old before new (Err f) len is answer =
-    (λ some. ap (λ (m : ℕ). reading_at s m place) (sym len) ∙ answer.0 some, answer.1)
+  abbrev text : List ℕ
+  text = text_at s.frame.labels.now side
 
--- The rest of a path after its first bit.
-module _ (s : Sources) (p chosen beside : Part) (side : ℕ) (bit : Bool) (bits rest : List Bool) (is : bits ≡ bit ∷ rest) (place : Place) (number : ℕ)
-    (on : IsHalf s.stretches p.window chosen.window (chosen_half bit (number_at s.stretches p.window)))
-    (off : IsHalf s.stretches p.window beside.window (side_half bit (number_at s.stretches p.window))) where
-  rest-at : reading_at s (p.window.len + length bits) place ≡ reading_at s (chosen.window.len + length rest) place
-  rest-at = ap (λ (m : ℕ). reading_at s m place) (omega (arith, on.len, ap (λ (xs : List Bool). length xs) is))
+  abbrev m : MapModel
+  m = map_of s.map.now
 
-  pub rest-unread : (f : CertFault) → IsUnread (reading_at s (chosen.window.len + length rest) place) f → IsUnread (reading_at s (p.window.len + length bits) place) f
-  rest-unread f unread = (λ some. rest-at ∙ unread.0 some, unread.1)
+  abbrev ps : List Prefix
+  ps = (list_of s.list.now).prefixes
 
-  pub rest-passed : (old : List LabelId) (before : Option CheckFault) (last new : Walk) (cost : ℕ) (o : Option CheckFaultKind)
-      → IsPassed s (reading_at s (chosen.window.len + length rest) place) (fault_of_path s chosen side rest) number 1 old before last cost
-      → o ≡ leaf_fault (map_of s.map.now) (list_of s.list.now).prefixes beside.window.len (number_at s.stretches beside.window) (text_at s.frame.labels.now side)
-      → new.lines ≡ last.lines → new.number ≡ last.number → new.sets.items ≡ last.sets.items → new.fault ≡ option_or last.fault (fault_with number o)
-      → IsPassed s (reading_at s (p.window.len + length bits) place) (fault_of_path s p side bits) number 1 old before new cost
-  rest-passed old before last new cost o passed fault lines numbered items noted = record {
-    tree = passed.tree;
-    set = passed.set;
-    read = rest-at ∙ passed.read ∙ ap (λ (l : Place). Ok (passed.tree, l)) (sym lines);
-    claim = passed.claim;
-    ascending = passed.ascending;
-    sets = items ∙ passed.sets;
+  abbrev then_chain : Read → Read
+  then_chain r = r >>= (λ below. Ok (ChainNode claim' bits text below.0, below.1))
+
+  end-at : reading_at s (b.len + length bits) place ≡ reading_at s end.len place
+  end-at = ap (λ (m : ℕ). reading_at s m place) (sym path.len)
+
+  pub end-unread : (f : CertFault) → IsUnread (reading_at s end.len place) f → IsUnread (chain_reading s b.len claim' bits side place) f
+  end-unread f unread = (λ some. ap then_chain (end-at ∙ unread.0 some), unread.1)
+
+  -- the faults along the bits of the chain, with those of its end
+  along : (tree : Tree) (k : ℕ)
+      → bits_fault m ps text k (node_fault m ps tree (k + 1)) bits b.len (number_of_block b)
+      ≡ option_or (fault_of_node s end tree (k + 1)) (option_map (fault_of_number k) (sides_fault m ps text bits b.len (number_of_block b)))
+  along tree k =
+      bits-sides m ps text k (node_fault m ps tree (k + 1)) bits b.len (number_of_block b)
+      ∙ (λ i. option_or (node_fault m ps tree (k + 1) (sym path.len i) (sym path.number i)) (option_map (fault_of_number k) (sides_fault m ps text bits b.len (number_of_block b))))
+
+  pub chain-passed : (sets old : List LabelId) (before : Option CheckFault) (last new : Walk) (end_cost : ℕ) (beside o : Option CheckFaultKind)
+      (below : IsPassed s (reading_at s end.len place) (fault_of_node s end) next sets before last end_cost)
+      → IsAscending (length s.frame.labels.now) 0 (numbers own)
+      → beside ≡ sides_fault m ps text bits b.len (number_of_block b)
+      → o ≡ claim_fault claim' (chain_claim (length bits) text (claim_with s.frame.labels.now end_cost (numbers below.set)))
+      → new.lines ≡ last.lines → new.number ≡ last.number → new.sets.items ≡ old ++ own
+      → new.fault ≡ option_or (option_or last.fault (fault_with number beside)) (fault_with number o)
+      → IsPassed s (chain_reading s b.len claim' bits side place) (fault_of_node s b) number old before new cost
+  chain-passed sets old before last new end_cost beside o below ascending sides fault lines numbered items noted = record {
+    tree = ChainNode claim' bits text below.tree;
+    set = own;
+    read = ap then_chain (end-at ∙ below.read) ∙ ap (λ (l : Place). Ok (ChainNode claim' bits text below.tree, l)) (sym lines);
+    claim = refl;
+    ascending = ascending;
+    sets = items;
     fault = λ k told_is.
-        let there = passed.fault k told_is in (
-          noted ∙ (λ i. option_or (there.0 i) (fault_with (sym told_is i) (fault i))) ∙ or-or before (fault_of_path s chosen side rest passed.tree k) _
-              ∙ ap (option_or before)
-              (sym (path-step (map_of s.map.now) (list_of s.list.now).prefixes (text_at s.frame.labels.now side) k (node_fault (map_of s.map.now) (list_of s.list.now).prefixes passed.tree (k + 1))
-              s.stretches p.window chosen.window beside.window bit bits rest is on off)),
-          numbered ∙ there.1,
+        let there = below.fault (k + 1) (after k told_is) in
+        let count : (k + 1) + line_count below.tree ≡ k + (1 + line_count below.tree) = omega arith in
+        let is : o ≡ claim_fault claim' (chain_claim (length bits) text (claim_of below.tree)) = fault ∙ sym (λ i. claim_fault claim' (chain_claim (length bits) text (below.claim i))) in
+        let at_end = fault_of_node s end below.tree (k + 1) in
+        let at_sides = option_map (fault_of_number k) (sides_fault m ps text bits b.len (number_of_block b)) in
+        let at_claim = option_map (fault_of_number k) (claim_fault claim' (chain_claim (length bits) text (claim_of below.tree))) in (
+          noted ∙ (λ i. option_or (option_or (there.0 i) (fault_with (sym told_is i) (sides i))) (fault_with (sym told_is i) (is i)))
+              ∙ ap (λ (f : Option CheckFault). option_or f at_claim) (or-or before at_end at_sides)
+              ∙ or-or before (option_or at_end at_sides) at_claim
+              ∙ ap (λ (f : Option CheckFault). option_or before (option_or f at_claim)) (sym (along below.tree k)),
+          numbered ∙ there.1 ∙ ap told count,
         );
   }
 

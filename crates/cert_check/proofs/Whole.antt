@@ -1,98 +1,107 @@
--- The root of a certificate, with the whole map and the whole list.
+-- The root of a certificate.
 use Rattle.std.specs.Option.{option_or}
-use Rattle.std.proofs.Common.{◌≡◌, ◌∙◌, ℕ, ◌+◌, ◌-◌, ◌^◌, ◌<◌, List, Option, None, Some, Result, Err, Ok, cond, true, length, nat_lt, refl, sym, ap, subst, arith}
-use Rattle.std.specs.List.Sorted.{IsNonDecreasingBy, IsPermutation}
-use Rattle.std.proofs.lemmas.Bool.{and_from}
-use Rattle.std.proofs.lemmas.List.Sorted.{Contains-permutation, IsPermutation-sym}
-use Rattle.std.proofs.lemmas.Map.Keys.{IsDistinct-IsPermutation}
-use Rattle.pmap_text.specs.ListEntries.{rank_of, same_block}
-use Rattle.pmap_text.proofs.Filed.{flips}
-use Rattle.pmap_text.proofs.ListBlocks.{ranks_ascend}
-use Rattle.std.proofs.lemmas.List.{length-map}
+use Rattle.std.proofs.Common.{◌&&◌, Bool, false, ◌≡◌, ◌∙◌, ℕ, ◌+◌, ◌-◌, ◌^◌, List, Option, None, Some, Result, Err, Ok, cond, true, length, nat_lt, sym, ap, arith}
 use Rattle.std.proofs.Math.Nat.{zero-div}
-use Rattle.std.proofs.lemmas.Option.{none-some}
+use Rattle.std.proofs.lemmas.Bool.{and_from}
+use Rattle.std.proofs.lemmas.List.{length-map}
 use Rattle.prefix_keys.specs.Block.{block_number, width_of}
+use Rattle.prefix_keys.specs.declared.block.Block.{Block}
 use Rattle.prefix_keys.specs.declared.version.Version.{Version}
-use Rattle.pmap_text.specs.Stretches.{StretchesModel}
-use Rattle.pmap_text.specs.Windows.{number_at}
-use Rattle.pmap_text.specs.declared.entry.Entry.{Entry}
-use Rattle.pmap_text.specs.declared.prefix_list.PrefixList.{PrefixList}
-use Rattle.pmap_text.specs.declared.window.Window.{Window}
-use Rattle.pmap_text.proofs.Blocks.{block_number-zero}
-use Rattle.pmap_cert.specs.CertificateModel.{Claim, Tree, claim_of}
+use Rattle.pmap_text.specs.ListModel.{ListModel}
+use Rattle.pmap_text.specs.MapModel.{Label, MapModel}
 use Rattle.pmap_text.specs.MapText.{map_of}
-use Rattle.pmap_text.specs.PrefixList.{list_of, prefix_of}
-use Rattle.cert_check.specs.Inner.{IsListPart, IsPassed, IsRootChecked, IsUnread, Part, Sources, Walk, certificate_with, fault_of_node, reading_at, root_reading}
+use Rattle.pmap_text.specs.PrefixList.{list_of, number_of_block, prefix_of}
+use Rattle.pmap_text.specs.Reading.{◌>>=◌}
+use Rattle.pmap_text.specs.declared.label.LabelId.{LabelId}
+use Rattle.pmap_text.specs.declared.map_text.MapText.{MapText}
+use Rattle.pmap_text.specs.declared.prefix_list.PrefixList.{PrefixList}
+use Rattle.pmap_cert.specs.CertificateModel.{CertificateModel, Tree, claim_of}
 use Rattle.pmap_cert.specs.FormatReading.{Place, ended_by, fault_at, is_ended}
 use Rattle.pmap_cert.specs.Inner.{node_due_at, reading_from}
 use Rattle.pmap_cert.specs.declared.fault.CertFault.{CertFault}
 use Rattle.pmap_cert.specs.declared.fault.CertFaultKind.TheVariants.{NodesLeft}
 use Rattle.pmap_cert.specs.declared.format.Format.{Format}
-use Rattle.pmap_text.specs.MapModel.{Label}
-use Rattle.pmap_cert.specs.declared.node_line.Frame.{Frame}
-use Rattle.pmap_text.specs.Reading.{◌>>=◌}
-use Rattle.pmap_text.specs.declared.label.LabelId.{LabelId}
-use Rattle.cert_check.specs.Checking.{fault_of_number, node_fault, BoundNotMet, CheckFault, VersionDiffers}
-use Rattle.cert_check.proofs.Accepted.{same_version-from}
-use Rattle.cert_check.proofs.Within.{entry-version}
+use Rattle.cert_check.specs.Checking.{fault_of_number, first_fault, is_same_version, node_fault, BoundNotMet, CheckFault, VersionDiffers}
+use Rattle.cert_check.specs.Inner.{AreSources, IsPassed, IsRootChecked, IsUnread, Read, Sources, Walk, certificate_with, fault_of_node, reading_at}
+use Rattle.cert_check.proofs.Accepted.{same_version-from, same_version-own}
 
-whole-number : (s : StretchesModel) (w : Window) → w.first ≡ 0 → number_at s w ≡ 0
-whole-number s w first = ap (block_number (width_of s.version) w.len) first ∙ zero-div (2 ^ (width_of s.version - w.len))
+whole-number : (b : Block) → b.value ≡ 0 → number_of_block b ≡ 0
+whole-number b first = ap (block_number (width_of b.version) b.len) first ∙ zero-div (2 ^ (width_of b.version - b.len))
 
--- the whole list has all of its entries, in order
-root-list : (l : PrefixList) (sorted : List Entry) → IsPermutation l.entries sorted → IsNonDecreasingBy (λ e. rank_of e.block) sorted → IsListPart l 0 0 0 sorted None
-root-list l sorted moved rising = record {
-  within = record {
-    ascending = ranks_ascend sorted (IsDistinct-IsPermutation same_block flips l.entries sorted moved l.blocks_distinct) rising;
-    inside = λ e has.
-        let listed = Contains-permutation sorted l.entries e (IsPermutation-sym l.entries sorted moved) has in
-        let below = subst (λ (v : Version). e.block.value < 2 ^ width_of v) (entry-version l 0 0 e listed) e.block.in_range in
-        (listed, record { long = omega arith; number = block_number-zero (width_of l.version) e.block.value below });
-    every = λ e has lies. Contains-permutation l.entries sorted e moved has;
-  };
-  above = record { known = λ id is. absurd (none-some id is); text = refl };
-}
+-- the first fault of the nodes, or otherwise that of too many entries
+abbrev pub bound : Option CheckFault → Bool → Option CheckFault
+bound nodes many = option_or nodes (cond many (Some (fault_of_number 0 BoundNotMet)) None)
 
-pub root-part : (l : PrefixList) (s : StretchesModel) (w : Window) → w.first ≡ 0 → w.len ≡ 0 → (sorted : List Entry) → IsPermutation l.entries sorted
-    → IsNonDecreasingBy (λ e. rank_of e.block) sorted → IsListPart l w.len (number_at s w) w.len sorted None
-root-part l s w first len sorted moved rising =
-    subst (λ (n : ℕ). IsListPart l n (number_at s w) n sorted None) (sym len)
-    (subst (λ (q : ℕ). IsListPart l 0 q 0 sorted None) (sym (whole-number s w first)) (root-list l sorted moved rising))
-
-root-from : (frame : Frame) (n : ℕ) → n ≡ 0 → (place : Place) → root_reading frame place ≡ node_due_at frame.format frame.width frame.labels.now (frame.width - n) place
-root-from frame n none place = ap (λ (room : ℕ). node_due_at frame.format frame.width frame.labels.now room place) (omega (arith, none))
-
-pub root-unread : (frame : Frame) (n : ℕ) → n ≡ 0 → (place : Place) (f : CertFault) → IsUnread (node_due_at frame.format frame.width frame.labels.now (frame.width - n) place) f
-    → IsUnread (root_reading frame place) f
-root-unread frame n none place f unread = (λ some. root-from frame n none place ∙ unread.0 some, unread.1)
+pub root-unread : (s : Sources) (n : ℕ) → n ≡ 0 → (place : Place) (f : CertFault) → IsUnread (reading_at s n place) f → IsUnread (reading_at s 0 place) f
+root-unread s n none place f unread = (λ some. ap (λ (m : ℕ). reading_at s m place) (sym none) ∙ unread.0 some, unread.1)
 
 -- the first fault of the certificate with a root that was checked for the whole address space
-pub root-checked : (s : Sources) (p : Part) (version : Version) (place : Place) (number cost : ℕ) (old : List LabelId) (before : Option CheckFault) (last new : Walk)
-    → p.window.first ≡ 0 → p.window.len ≡ 0 → number ≡ 1 → before ≡ None → s.list.now.version ≡ s.map.now.version → version ≡ s.map.now.version
-    → IsPassed s (reading_at s p.window.len place) (fault_of_node s p) number 0 old before last cost
-    → new.lines ≡ last.lines → new.fault ≡ option_or last.fault (cond (nat_lt (cost + 1) (length s.list.now.entries)) (Some (fault_of_number 0 BoundNotMet)) None)
-    → IsRootChecked s.map.now s.list.now s.frame version place new
-root-checked s p version place number cost old before last new first len one none list_version cert_version passed lines noted =
+pub root-checked : (s : Sources) (are : AreSources s) (b : Block) (place : Place) (number cost : ℕ) (old : List LabelId) (before : Option CheckFault) (last new : Walk)
+    → b.value ≡ 0 → b.len ≡ 0 → number ≡ 1 → before ≡ None
+    → IsPassed s (reading_at s b.len place) (fault_of_node s b) number old before last cost
+    → new.lines ≡ last.lines → new.fault ≡ bound last.fault (nat_lt (cost + 1) (length s.list.now.entries))
+    → IsRootChecked s place new
+root-checked s are b place number cost old before last new first len one none passed lines noted =
     let m = map_of s.map.now in
     let l = list_of s.list.now in
     let nodes = node_fault m l.prefixes passed.tree 1 0 0 in
-    let bound = λ (cost : ℕ) (count : ℕ). cond (nat_lt (cost + 1) count) (Some (fault_of_number 0 BoundNotMet)) None in
-    let versions = and_from _ _ (same_version-from l.version m.version list_version) (same_version-from version m.version cert_version) in
+    let versions = and_from _ _ (same_version-from l.version m.version are.list_version) (same_version-own m.version) in
     record {
       tree = passed.tree;
-      read = root-from s.frame p.window.len len place ∙ passed.read ∙ ap (λ (l : Place). Ok (passed.tree, l)) (sym lines);
+      read = ap (λ (n : ℕ). reading_at s n place) (sym len) ∙ passed.read ∙ ap (λ (l : Place). Ok (passed.tree, l)) (sym lines);
       fault = noted
-          ∙ (λ i. option_or (((passed.fault 1 (sym one)).0 ∙ ap (λ o. option_or o (fault_of_node s p passed.tree 1)) none) i)
-          (bound (ap (λ (c : Claim). c.cost) (sym passed.claim) i) (sym (length-map s.list.now.entries (prefix_of s.list.now.labels)) i)))
-          ∙ (λ i. option_or (node_fault m l.prefixes passed.tree 1 (len i) (whole-number s.stretches p.window first i)) (bound (claim_of passed.tree).cost (length l.prefixes)))
-          ∙ sym (ap (λ b. cond b (option_or nodes (bound (claim_of passed.tree).cost (length l.prefixes))) (Some (fault_of_number 0 VersionDiffers))) versions);
+          ∙ (λ i. bound (((passed.fault 1 (sym one)).0 ∙ ap (λ o. option_or o (fault_of_node s b passed.tree 1)) none) i)
+          (nat_lt ((sym passed.claim i).cost + 1) (sym (length-map s.list.now.entries (prefix_of s.list.now.labels)) i)))
+          ∙ (λ i. bound (node_fault m l.prefixes passed.tree 1 (len i) (whole-number b first i)) (nat_lt ((claim_of passed.tree).cost + 1) (length l.prefixes)))
+          ∙ sym (ap (λ c. cond c (bound nodes (nat_lt ((claim_of passed.tree).cost + 1) (length l.prefixes))) (Some (fault_of_number 0 VersionDiffers))) versions);
     }
 
 -- a text whose root was read is read as the certificate with that root if nothing follows
-pub read-as : (format : Format) (width : ℕ) (table : List Label) (version : Version) (place after : Place) (tree : Tree) → width ≡ width_of version
-    → node_due_at format width table width place ≡ Ok (tree, after) → is_ended after.pieces ≡ true
-    → reading_from format version table place ≡ Ok (certificate_with format version table tree)
-read-as format width table version place after tree is read ended =
-    ap (λ (r : Result (Tree × Place) CertFault). r >>= (λ root. ended_by (certificate_with format version table root.0) root.1))
-    ((λ i. node_due_at format (sym is i) table (sym is i) place) ∙ read)
-    ∙ ap (λ b. cond b (Ok (certificate_with format version table tree)) (Err (fault_at after NodesLeft))) ended
+module _ (s : Sources) (are : AreSources s) (format : Format) (table : List Label) (version : Version) (format_is : s.frame.format ≡ format) (table_is : s.frame.labels.now ≡ table)
+    (version_is : version ≡ s.map.now.version) (place : Place) where
+  abbrev then_ended : Read → Result CertificateModel CertFault
+  then_ended r = r >>= (λ root. ended_by (certificate_with format version table root.0) root.1)
+
+  from-root : reading_from format version table place ≡ then_ended (reading_at s 0 place)
+  from-root =
+      let width : width_of version ≡ s.frame.width = ap width_of version_is ∙ sym are.width in
+      let room : width_of version ≡ s.frame.width - 0 = omega (arith, width) in
+      λ i. then_ended (node_due_at (sym format_is i) (width i) (sym table_is i) (room i) place)
+
+  -- its first fault is that of the walk
+  pub read-as : (m : MapText) (l : PrefixList) → s.map.now ≡ m → s.list.now ≡ l → (new : Walk) (root : IsRootChecked s place new) → is_ended new.lines.pieces ≡ true
+      → (reading_from format version table place ≡ Ok (certificate_with format version table root.tree))
+      × (first_fault (map_of m) (list_of l) (certificate_with format version table root.tree) ≡ new.fault)
+  read-as m l map_is list_is new root ended = (
+    from-root ∙ ap then_ended root.read
+        ∙ ap (λ (b : Bool). cond b (Ok (certificate_with format version table root.tree)) (Err (fault_at new.lines NodesLeft))) ended,
+    (λ i. first_fault (map_of (sym map_is i)) (list_of (sym list_is i)) (certificate_with (sym format_is i) (version_is i) (sym table_is i) root.tree)) ∙ sym root.fault,
+  )
+
+  pub read-left : (after : Place) (tree : Tree) → reading_at s 0 place ≡ Ok (tree, after) → is_ended after.pieces ≡ false
+      → reading_from format version table place ≡ Err (fault_at after NodesLeft)
+  read-left after tree read left =
+      from-root ∙ ap then_ended read
+      ∙ ap (λ (b : Bool). cond b (Ok (certificate_with format version table tree)) (Err (fault_at after NodesLeft))) left
+
+  pub read-fault : (f : CertFault) → reading_at s 0 place ≡ Err f → reading_from format version table place ≡ Err f
+  read-fault f unread = from-root ∙ ap then_ended unread
+
+-- a certificate that is read after a head has the head's version
+read-version : (format : Format) (version : Version) (table : List Label) (k : CertificateModel) (r : Read)
+    → (r >>= (λ root. ended_by (certificate_with format version table root.0) root.1)) ≡ Ok k → k.version ≡ version
+read-version format version table k (Err f) e = absurd (let h : Err f ≡ Ok k = e in cc)
+read-version format version table k (Ok root) e = by (is_ended (root.1).pieces) e
+  where
+    by : (b : Bool) → cond b (Ok (certificate_with format version table root.0)) (Err (fault_at root.1 NodesLeft)) ≡ Ok k → k.version ≡ version
+    by true e = let h : Ok (certificate_with format version table root.0) ≡ Ok k = e in cc
+    by false e = absurd (let h : Err (fault_at root.1 NodesLeft) ≡ Ok k = e in cc)
+
+-- versions that differ are the first fault
+pub version-fault : (m : MapModel) (l : ListModel) (format : Format) (version : Version) (table : List Label) (place : Place) (k : CertificateModel)
+    → reading_from format version table place ≡ Ok k → (is_same_version l.version m.version && is_same_version version m.version) ≡ false
+    → first_fault m l k ≡ Some (fault_of_number 0 VersionDiffers)
+version-fault m l format version table place k read differ =
+    let same = read-version format version table k (node_due_at format (width_of version) table (width_of version) place) read in
+    ap (λ (b : Bool). cond b (bound (node_fault m l.prefixes k.root 1 0 0) (nat_lt ((claim_of k.root).cost + 1) (length l.prefixes))) (Some (fault_of_number 0 VersionDiffers)))
+    (ap (λ (v : Version). is_same_version l.version m.version && is_same_version v m.version) same ∙ differ)

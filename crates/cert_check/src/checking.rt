@@ -1,62 +1,47 @@
 //! The check of a certificate and of its text.
-ghost use Rattle.std.specs.Prelude.{◌≡◌, ◌≢◌, Some, None, Ok, length, IfErr, IfOk, OnOk};
+ghost use Rattle.std.specs.Prelude.{◌≡◌, ◌≢◌, ◌&&◌, Some, None, Ok, length, IfErr, IfOk, IsTrue, OnOk};
 ghost use Rattle.pmap_text.specs.ListModel.{IsEquivalent};
 ghost use Rattle.pmap_text.specs.MapText.{map_of};
 ghost use Rattle.pmap_text.specs.PrefixList.{list_of};
 ghost use Rattle.pmap_cert.specs.Acceptance.{IsAccepted, IsLeast};
 ghost use Rattle.pmap_cert.specs.Certificate.{certificate_of};
 ghost use Rattle.pmap_cert.specs.FormatReading.{format_reading};
-ghost use Rattle.cert_check.specs.Checking.{IsTextOutcome, first_fault, text_fault, NoMemory};
-ghost use Rattle.cert_check.specs.Inner.{IsRootChecked, IsUnread, root_reading};
+ghost use Rattle.cert_check.specs.Checking.{IsTextOutcome, first_fault, is_same_version, text_fault, NoMemory};
+ghost use Rattle.cert_check.specs.Inner.{AreSources, IsRootChecked, IsUnread, reading_at};
 ghost use Rattle.pmap_cert.specs.CertificateModel.{CertificateModel};
-ghost use Rattle.prefix_keys.specs.Block.{width_of};
 
 use crate::fault::{CheckFault, CheckFaultKind, TextFault};
-use crate::labels::numbers_in;
 use crate::laws::no_fault_is_acceptance;
-use crate::part::Part;
 use crate::sources::Sources;
 use crate::walk::{Walk, check_node};
 use pmap_cert::{
-    CertFault, CertFaultKind, Certificate, Frame, Head, acceptance_is_enough, read_head, skip_node,
-    text_of_format_is_read_or_has_a_fault, write_cert,
+    CertFault, CertFaultKind, Certificate, Frame, Head, acceptance_is_enough,
+    read_cert_with_hashing, read_head, text_of_format_is_read_or_has_a_fault, write_cert,
 };
-use pmap_text::{KeyHashing, MapText, PrefixList, Stretches, Window, in_order, sorted_or};
-use prefix_keys::Version;
+use pmap_text::{KeyHashing, MapText, PrefixList};
+use prefix_keys::{Version, whole_space};
 use std::alloc::Global;
 
-// Checks the nodes of a certificate of this version, and keeps its first fault.
-fn check_root(
-    alloc: Global,
-    map: &MapText,
-    list: &PrefixList,
-    version: Version,
-    frame: &Frame,
-    walk: &mut Walk,
-) -> Result<(), CertFault>
-    requires width { frame.now.width ≡ width_of version }
+// Returns whether the map, the list and a certificate of this version are of one version.
+fn are_one_version(map: &MapText, list: &PrefixList, version: Version) -> bool
+    ensures value { result ≡ (is_same_version list.now.version map.now.version
+        && is_same_version version map.now.version) }
+    ensures list { IsTrue result → list.now.version ≡ map.now.version }
+    ensures certificate { IsTrue result → version ≡ map.now.version }
+{
+    list.version == map.version && version == map.version
+}
+
+// Checks the nodes of a certificate, and keeps its first fault.
+fn check_root(sources: &Sources, walk: &mut Walk) -> Result<(), CertFault>
+    requires sources { AreSources sources.now }
     requires number { walk.old.number ≡ 1 }
     requires fault { walk.old.fault ≡ None }
-    ensures ok { OnOk result (IsRootChecked map.now list.now frame.now version walk.old.lines walk.new) }
-    ensures err { IfErr result (IsUnread (root_reading frame.now walk.old.lines)) }
+    ensures ok { OnOk result (IsRootChecked sources.now walk.old.lines walk.new) }
+    ensures err { IfErr result (IsUnread (reading_at sources.now 0 walk.old.lines)) }
 {
-    if list.version != map.version || version != map.version {
-        walk.note(Some(CheckFaultKind::VersionDiffers), 0);
-        return skip_node(&mut walk.lines, &mut walk.kept, frame, frame.width);
-    }
-    let sources = Sources {
-        map,
-        list,
-        frame: *frame,
-        stretches: Stretches::of_map(alloc, map)?,
-        map_numbers: numbers_in(alloc, &map.labels, frame.labels)?,
-        list_numbers: numbers_in(alloc, &list.labels, frame.labels)?,
-    };
-    let sorted = in_order(alloc, &list.entries)?;
-    let entries = sorted_or(&sorted, &list.entries).to_vec(alloc)?;
-    let space = Part::new(Window::whole(&sources.stretches), entries.as_slice(), None);
-    let cost = check_node(&sources, walk, &space)?;
-    if list.entries.len() as u64 > u64::from(cost) + 1 {
+    let cost = check_node(sources, walk, &whole_space(sources.map.version))?;
+    if sources.list.entries.len() as u64 > u64::from(cost) + 1 {
         walk.note(Some(CheckFaultKind::BoundNotMet), 0);
     }
     Ok(())
@@ -90,8 +75,19 @@ pub fn check_text(
         width: version.width(),
         labels: &labels,
     };
+    if !are_one_version(map, list, version) {
+        // A fault of the text comes first. A certificate that is read has a text.
+        let certificate = read_cert_with_hashing(alloc, text, hashing)?;
+        let _root = certificate.root();
+        text_of_format_is_read_or_has_a_fault();
+        return Err(TextFault::Check(CheckFault {
+            kind: CheckFaultKind::VersionDiffers,
+            node: 0,
+        }));
+    }
+    let sources = Sources::new(alloc, map, list, frame)?;
     let mut walk = Walk::new(alloc, nodes);
-    check_root(alloc, map, list, version, &frame, &mut walk)?;
+    check_root(&sources, &mut walk)?;
     if !walk.lines.is_ended() {
         return Err(TextFault::Certificate(walk.lines.fault(CertFaultKind::NodesLeft)));
     }

@@ -1,5 +1,6 @@
 ghost use Rattle.std.specs.Prelude.{◌≡◌};
 ghost use Rattle.cert_check.specs.declared.fault.CheckFaultKind.TheVariants.{NoMemory};
+ghost use Rattle.pmap_cert.specs.declared.fault.CertFaultKind.TheVariants.{NoMemory as NoMemoryForText};
 ghost use Rattle.cert_check.specs.declared.fault.TextFault.TheVariants.{Certificate};
 
 use pmap_cert::CertFault;
@@ -57,5 +58,13 @@ impl From<CertFault> for TextFault {
 
     fn from(fault: CertFault) -> TextFault {
         TextFault::Certificate(fault)
+    }
+}
+
+impl From<AllocError> for TextFault {
+    ghost from_gives = { λ _ text. text ≡ Certificate (record { kind = NoMemoryForText; line = 0 }) };
+
+    fn from(error: AllocError) -> TextFault {
+        TextFault::Certificate(CertFault::from(error))
     }
 }

@@ -26,7 +26,7 @@ mod claims;
 mod fault;
 mod labels;
 mod laws;
-mod part;
+mod source;
 mod sources;
 mod walk;
 

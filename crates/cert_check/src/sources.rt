@@ -1,47 +1,186 @@
-ghost use Rattle.std.specs.Prelude.{◌≡◌, ◌<◌, length};
-ghost use Rattle.std.specs.Option.{ForSome};
-ghost use Rattle.pmap_text.specs.MapText.{text_at};
-ghost use Rattle.cert_check.specs.Checking.{is_label_of};
-ghost use Rattle.cert_check.specs.Inner.{AreSources, text_of};
-ghost use Rattle.pmap_text.specs.Stretches.{label_at};
+//! What a certificate is checked against.
+ghost use Rattle.std.specs.Prelude.{◌≡◌, ◌^◌, ◌+◌, ◌<◌, ◌≤◌, IfOk, IfSome, IsNone, IsTrue, length};
+ghost use Rattle.prefix_keys.specs.Block.{last_of, width_of};
+ghost use Rattle.prefix_keys.specs.declared.block.Block.{Block};
+ghost use Rattle.pmap_text.specs.MapText.{map_of, text_at};
+ghost use Rattle.pmap_text.specs.PrefixList.{list_of, number_of_block as number_of};
+ghost use Rattle.pmap_cert.specs.CertificateModel.{chosen_half, side_half};
+ghost use Rattle.pmap_cert.specs.Packed.{bits_in};
+ghost use Rattle.pmap_cert.specs.Paths.{LeadsTo};
+ghost use Rattle.cert_check.specs.Checking.{leaf_fault as leaf_fault_of};
+ghost use Rattle.cert_check.specs.Inner.{AreSources, IsClear, IsHalf, sides_fault as sides_fault_of};
 
-use crate::labels::is_label;
-use pmap_cert::Frame;
+use crate::fault::CheckFaultKind;
+use crate::source::Source;
+use pmap_cert::{Frame, Path};
 use pmap_text::{LabelId, MapText, PrefixList, Stretches};
+use prefix_keys::Block;
+use std::alloc::{AllocError, Global};
 
-/// The input of a check: a map and a list of one version, the limits of the certificate's node lines, and the map's
-/// stretches. The labels of the map and of the list are known by their numbers in the certificate's table, so texts are
-/// compared only once.
+/// The input of a check: a map and a list of one version with their stretches, and the limits of the certificate's node
+/// lines.
 #[derive(Drop)]
 pub struct Sources<'a> {
     pub map: &'a MapText,
     pub list: &'a PrefixList,
     pub frame: Frame<'a>,
-    pub stretches: Stretches,
-    pub map_numbers: Vec<Option<LabelId>>,
-    pub list_numbers: Vec<Option<LabelId>>,
+    pub of_map: Source,
+    pub of_list: Source,
 }
 
-impl Sources<'_> {
-    /// Returns whether the stretch with the index has the certificate's label `id`.
-    pub fn is_of_map(&self, index: usize, id: LabelId) -> bool
-        requires sources { AreSources self.now }
-        requires index { index < length self.now.stretches.firsts }
-        requires known { id.0 < length self.now.frame.labels.now }
-        ensures { result ≡ is_label_of (text_of self.now.map.now.labels (label_at self.now.stretches index))
-            (text_at self.now.frame.labels.now id.0) }
+/// The stretches of the map and of the list that were found last. The next ones are most often these or the ones after
+/// them. They don't affect any result.
+#[derive(Clone, Copy)]
+pub struct Near {
+    pub map: usize,
+    pub list: usize,
+}
+
+// Returns the half of the block that the bit chooses, and the other half. Returns `None` if the block is one address.
+fn halves_by(block: &Block, bit: bool) -> Option<(Block, Block)>
+    ensures some { IsNone result → block.now.len ≡ width_of block.now.version }
+    ensures chosen { IfSome result (λ x. IsHalf block.now x.0 (chosen_half bit (number_of block.now))) }
+    ensures beside { IfSome result (λ x. IsHalf block.now x.1 (side_half bit (number_of block.now))) }
+{
+    let (low, high) = block.halves()?;
+    if bit {
+        Some((high, low))
+    } else {
+        Some((low, high))
+    }
+}
+
+impl<'a> Sources<'a> {
+    /// Returns the sources for a certificate of the version of the map and the list.
+    pub fn new(
+        alloc: Global,
+        map: &'a MapText,
+        list: &'a PrefixList,
+        frame: Frame<'a>,
+    ) -> Result<Sources<'a>, AllocError>
+        requires version { list.now.version ≡ map.now.version }
+        requires width { frame.width ≡ width_of map.now.version }
+        ensures sources { IfOk result AreSources }
+        ensures map { IfOk result (λ s. s.map ≡ map.entry) }
+        ensures list { IfOk result (λ s. s.list ≡ list.entry) }
+        ensures frame { IfOk result (λ s. s.frame ≡ frame.entry) }
     {
-        is_label(self.map_numbers.as_slice(), self.stretches.label(index), id)
+        let of_map = Stretches::of_map(alloc, map)?;
+        let of_list = Stretches::of_list(alloc, list)?;
+        Ok(Sources {
+            map,
+            list,
+            frame,
+            of_map: Source::new(alloc, of_map, &map.labels, frame.labels)?,
+            of_list: Source::new(alloc, of_list, &list.labels, frame.labels)?,
+        })
     }
 
-    /// Returns whether `own`, a label of the list, is the certificate's label `id`.
-    pub fn is_of_list(&self, own: Option<LabelId>, id: LabelId) -> bool
+    /// Returns the fault of a leaf in the block with the certificate's label `id`, if any.
+    pub fn leaf_fault(&self, near: &mut Near, block: &Block, id: LabelId) -> Option<CheckFaultKind>
         requires sources { AreSources self.now }
-        requires own { ForSome own (λ label. label.0 < length self.now.list.now.labels) }
+        requires version { block.now.version ≡ self.now.map.now.version }
         requires known { id.0 < length self.now.frame.labels.now }
-        ensures { result ≡ is_label_of (text_of self.now.list.now.labels own)
-            (text_at self.now.frame.labels.now id.0) }
+        ensures { result ≡ leaf_fault_of (map_of self.now.map.now) (list_of self.now.list.now).prefixes block.now.len
+            (number_of block.now) (text_at self.now.frame.labels.now id.0) }
     {
-        is_label(self.list_numbers.as_slice(), own, id)
+        let (first, last) = (block.value, block.high().value);
+        if !self.of_map.has_label(&mut near.map, first, last, id) {
+            return Some(CheckFaultKind::LeafNotUniform);
+        }
+        if !self.of_list.has_label(&mut near.list, first, last, id) {
+            return Some(CheckFaultKind::ListDiffers);
+        }
+        None
+    }
+
+    // Returns `true` only if no block between the addresses has a fault as a leaf with the certificate's label `id`.
+    fn is_clear(&self, near: &mut Near, first: u128, last: u128, id: LabelId) -> bool
+        requires sources { AreSources self.now }
+        requires within { first < 2 ^ width_of self.now.map.now.version }
+        requires known { id.0 < length self.now.frame.labels.now }
+        ensures { IsTrue result → IsClear self.now first (last + 1) (text_at self.now.frame.labels.now id.0) }
+    {
+        self.of_map.has_label(&mut near.map, first, last, id)
+            && self.of_list.has_label(&mut near.list, first, last, id)
+    }
+
+    /// Returns `true` only if no block inside `block` and before `end` has a fault as a leaf with the label `side`.
+    pub fn is_clear_before(
+        &self,
+        near: &mut Near,
+        block: &Block,
+        end: &Block,
+        side: LabelId,
+    ) -> bool
+        requires sources { AreSources self.now }
+        requires version { block.now.version ≡ self.now.map.now.version }
+        requires known { side.0 < length self.now.frame.labels.now }
+        ensures { IsTrue result → IsClear self.now block.now.value end.now.value
+            (text_at self.now.frame.labels.now side.0) }
+    {
+        end.value <= block.value || self.is_clear(near, block.value, end.value - 1, side)
+    }
+
+    // Returns `true` only if no block inside `block` and after `end` has a fault as a leaf with the label `side`.
+    fn is_clear_after(&self, near: &mut Near, block: &Block, end: &Block, side: LabelId) -> bool
+        requires sources { AreSources self.now }
+        requires version { block.now.version ≡ self.now.map.now.version }
+        requires known { side.0 < length self.now.frame.labels.now }
+        ensures { let W = width_of block.now.version in IsTrue result →
+            IsClear self.now (last_of (width_of end.now.version) end.now.len (number_of end.now) + 1)
+            (last_of W block.now.len (number_of block.now) + 1) (text_at self.now.frame.labels.now side.0) }
+    {
+        let (last, whole) = (end.high().value, block.high().value);
+        whole <= last || self.is_clear(near, last + 1, whole, side)
+    }
+
+    // Returns the fault of the blocks beside the path from the block, from the deepest up, as leaves with the label.
+    fn sides_fault(
+        &self,
+        near: &mut Near,
+        block: &Block,
+        path: &Path,
+        side: LabelId,
+    ) -> Option<CheckFaultKind>
+        requires sources { AreSources self.now }
+        requires version { block.now.version ≡ self.now.map.now.version }
+        requires known { side.0 < length self.now.frame.labels.now }
+        requires room { block.now.len + path.now.count ≤ width_of block.now.version }
+        ensures { result ≡ sides_fault_of (map_of self.now.map.now) (list_of self.now.list.now).prefixes
+            (text_at self.now.frame.labels.now side.0) (bits_in path.now) block.now.len (number_of block.now) }
+    {
+        let (bit, rest) = path.split_first()?;
+        let (chosen, beside) = halves_by(block, bit)?;
+        match self.sides_fault(near, &chosen, &rest, side) {
+            None => self.leaf_fault(near, &beside, side),
+            fault => fault,
+        }
+    }
+
+    /// Returns the fault of the blocks beside the path from the block to its end, from the deepest up, as leaves with
+    /// the label `side`. One look at the addresses after the end is enough if those before it are clear.
+    pub fn path_fault(
+        &self,
+        near: &mut Near,
+        block: &Block,
+        path: &Path,
+        side: LabelId,
+        is_clear_before: bool,
+    ) -> Option<CheckFaultKind>
+        requires sources { AreSources self.now }
+        requires version { block.now.version ≡ self.now.map.now.version }
+        requires known { side.0 < length self.now.frame.labels.now }
+        requires room { block.now.len + path.now.count ≤ width_of block.now.version }
+        requires before { (end : Block) → LeadsTo block.now end (bits_in path.now) → IsTrue is_clear_before →
+            IsClear self.now block.now.value end.value (text_at self.now.frame.labels.now side.0) }
+        ensures { result ≡ sides_fault_of (map_of self.now.map.now) (list_of self.now.list.now).prefixes
+            (text_at self.now.frame.labels.now side.0) (bits_in path.now) block.now.len (number_of block.now) }
+    {
+        if is_clear_before && self.is_clear_after(near, block, &path.end(block), side) {
+            None
+        } else {
+            self.sides_fault(near, block, path, side)
+        }
     }
 }

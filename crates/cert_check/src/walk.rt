@@ -1,26 +1,30 @@
 //! The walk over the nodes of a certificate's text, which reads and checks each of them.
-ghost use Rattle.std.specs.Prelude.{◌≡◌, ◌+◌, ◌++◌, ◌<◌, None, IfOk, OnOk, length, take};
+ghost use Rattle.std.specs.Prelude.{◌≡◌, ◌+◌, ◌*◌, ◌++◌, ◌<◌, None, IfOk, OnOk, length, take};
 ghost use Rattle.std.specs.Option.{option_or};
+ghost use Rattle.prefix_keys.specs.declared.block.Block.{Block};
+ghost use Rattle.pmap_text.specs.PrefixList.{number_of_block as number_of};
 ghost use Rattle.pmap_cert.specs.Packed.{bits_in};
-ghost use Rattle.cert_check.specs.Inner.{AreSources, FitsPath, IsAfter, IsAnswer, IsHeld, IsPart, chain_reading, fault_of_node, fault_of_path, fault_with, halves_reading, held_claim, reading_at};
+ghost use Rattle.cert_check.specs.Inner.{AreSources, FitsPath, IsAfter, IsAnswer, IsHalf, IsHeld, chain_reading, fault_of_node, fault_with, halves_reading, held_claim, reading_at};
 
 use crate::claims::{chain_fault, claim_fault};
 use crate::fault::{CheckFault, CheckFaultKind};
-use crate::part::Part;
-use crate::sources::Sources;
+use crate::sources::{Near, Sources};
 use pmap_cert::{CertFault, CertFaultKind, Claim, Frame, Kept, Lines, Node, Path};
 use pmap_text::LabelId;
+use prefix_keys::Block;
 use std::alloc::{AllocError, Global};
 use std::slice;
 
 /// The rest of a certificate's text, with its last node line, the number of the next node, from 1, the sets of the
-/// nodes whose claims are still to be compared, in the order of their lines, and the first fault of the nodes so far.
+/// nodes whose claims are still to be compared, in the order of their lines, the stretches that were found last, and the
+/// first fault of the nodes so far.
 #[derive(Drop)]
 pub struct Walk<'a> {
     pub lines: Lines<'a>,
     pub kept: Kept,
     number: u64,
     sets: Vec<LabelId>,
+    near: Near,
     pub fault: Option<CheckFault>,
 }
 
@@ -36,6 +40,7 @@ impl<'a> Walk<'a> {
             kept: Kept::new(alloc),
             number: 1,
             sets: Vec::new(alloc),
+            near: Near { map: 0, list: 0 },
             fault: None,
         }
     }
@@ -82,39 +87,39 @@ fn next_number(number: u64) -> u64
     number.saturating_add(1)
 }
 
-/// Reads the next node and those below it, and checks them for the part's block. Adds the set that the node claims to
-/// the walk's, and returns the cost.
+/// Reads the next node and those below it, and checks them for the block. Adds the set that the node claims to the
+/// walk's, and returns the cost.
 #[cycle(nodes)]
-pub fn check_node(sources: &Sources, walk: &mut Walk, part: &Part) -> Result<u32, CertFault>
+pub fn check_node(sources: &Sources, walk: &mut Walk, block: &Block) -> Result<u32, CertFault>
     requires sources { AreSources sources.now }
-    requires part { IsPart sources.now part.now }
-    ensures { IsAnswer sources.now (reading_at sources.now part.now.window.len walk.old.lines)
-        (fault_of_node sources.now part.now) walk.old.number 0 walk.old.sets.items walk.old.fault walk.new result }
+    requires version { block.now.version ≡ sources.now.map.now.version }
+    ensures { IsAnswer sources.now (reading_at sources.now block.now.len walk.old.lines)
+        (fault_of_node sources.now block.now) walk.old.number walk.old.sets.items walk.old.fault walk.new result }
 {
     let deepest = walk.lines.fault(CertFaultKind::TooDeep);
     let number = walk.number;
-    let room = sources.frame.width - part.window.len;
     walk.number = next_number(number);
     match walk.lines.next_node(&mut walk.kept, &sources.frame)? {
         Node::Leaf(id) => {
             walk.sets.extend_from_slice(slice::from_ref(&id))?;
-            walk.note(part.leaf_fault(sources, id), number);
+            let fault = sources.leaf_fault(&mut walk.near, block, id);
+            walk.note(fault, number);
             Ok(0)
         }
         Node::Inner(claim) => {
-            if room == 0 {
+            let Some((low, high)) = block.halves() else {
                 return Err(deepest);
-            }
+            };
             let held = hold(&mut walk.sets, claim)?;
-            check_inner(sources, walk, part, number, held)
+            check_inner(sources, walk, &low, &high, number, held)
         }
         Node::Chain { claim, path, side } => {
-            if path.len() > room {
+            if path.len() > sources.frame.width - block.len {
                 return Err(deepest);
             }
             let path = *path;
             let held = hold(&mut walk.sets, claim)?;
-            check_chain(sources, walk, part, number, held, &path, side)
+            check_chain(sources, walk, block, number, held, &path, side)
         }
     }
 }
@@ -124,25 +129,26 @@ pub fn check_node(sources: &Sources, walk: &mut Walk, part: &Part) -> Result<u32
 fn check_inner(
     sources: &Sources,
     walk: &mut Walk,
-    part: &Part,
+    low: &Block,
+    high: &Block,
     number: u64,
     held: Held,
 ) -> Result<u32, CertFault>
     requires sources { AreSources sources.now }
-    requires part { IsPart sources.now part.now }
-    requires room { part.now.window.len < sources.now.frame.width }
+    requires low { low.now.version ≡ sources.now.map.now.version }
+    requires high { high.now.version ≡ sources.now.map.now.version }
+    requires len { high.now.len ≡ low.now.len }
     requires number { IsAfter number walk.old.number }
     requires held { IsHeld sources.now held walk.old.sets.items }
-    ensures { IsAnswer sources.now
-        (halves_reading sources.now part.now.window.len (held_claim sources.now held walk.old.sets.items) walk.old.lines)
-        (fault_of_node sources.now part.now) number 0 (take held.from walk.old.sets.items) walk.old.fault
-        walk.new result }
+    ensures { (whole : Block) → IsHalf whole low.now (2 * number_of whole) →
+        IsHalf whole high.now (2 * number_of whole + 1) → IsAnswer sources.now
+        (halves_reading sources.now whole.len (held_claim sources.now held walk.old.sets.items) walk.old.lines)
+        (fault_of_node sources.now whole) number (take held.from walk.old.sets.items) walk.old.fault walk.new result }
 {
-    let (low, high) = part.halves(sources);
     let lower = walk.sets.len();
-    let lower_cost = check_node(sources, walk, &low)?;
+    let lower_cost = check_node(sources, walk, low)?;
     let upper = walk.sets.len();
-    let upper_cost = check_node(sources, walk, &high)?;
+    let upper_cost = check_node(sources, walk, high)?;
     let sets = walk.sets.as_slice();
     let fault = claim_fault(
         sources.frame.labels,
@@ -164,77 +170,51 @@ fn check_inner(
     Ok(held.cost)
 }
 
-// Checks what is below a chain with these bits and this side label, and then its claim.
+// Checks the node at the end of a chain with these bits and this side label, then the blocks beside its path, and then
+// its claim.
 #[cycle(nodes)]
 fn check_chain(
     sources: &Sources,
     walk: &mut Walk,
-    part: &Part,
+    block: &Block,
     number: u64,
     held: Held,
     path: &Path,
     side: LabelId,
 ) -> Result<u32, CertFault>
     requires sources { AreSources sources.now }
-    requires part { IsPart sources.now part.now }
-    requires fits { FitsPath sources.now part.now side.0 (bits_in path.now) }
+    requires version { block.now.version ≡ sources.now.map.now.version }
+    requires fits { FitsPath sources.now block.now side.0 (bits_in path.now) }
     requires some { 0 < length (bits_in path.now) }
     requires number { IsAfter number walk.old.number }
     requires held { IsHeld sources.now held walk.old.sets.items }
     ensures { IsAnswer sources.now
-        (chain_reading sources.now part.now.window.len (held_claim sources.now held walk.old.sets.items)
+        (chain_reading sources.now block.now.len (held_claim sources.now held walk.old.sets.items)
         (bits_in path.now) side.0 walk.old.lines)
-        (fault_of_node sources.now part.now) number 0 (take held.from walk.old.sets.items) walk.old.fault
+        (fault_of_node sources.now block.now) number (take held.from walk.old.sets.items) walk.old.fault
         walk.new result }
 {
-    let end = walk.sets.len();
-    let end_cost = check_path(sources, walk, part, number, path, side)?;
+    let end = path.end(block);
+    let is_clear_before = sources.is_clear_before(&mut walk.near, block, &end, side);
+    let start = walk.sets.len();
+    let end_cost = check_node(sources, walk, &end)?;
+    let beside = sources.path_fault(&mut walk.near, block, path, side, is_clear_before);
+    walk.note(beside, number);
     let sets = walk.sets.as_slice();
     let fault = chain_fault(
         sources.frame.labels,
         Claim {
             cost: held.cost,
-            set: &sets[held.from..end],
+            set: &sets[held.from..start],
         },
         Claim {
             cost: end_cost,
-            set: &sets[end..],
+            set: &sets[start..],
         },
         path,
         side,
     );
-    walk.sets.truncate(end);
+    walk.sets.truncate(start);
     walk.note(fault, number);
     Ok(held.cost)
-}
-
-// Checks the rest of a chain's path from the part's block on: the node at its end, and then the blocks beside the path
-// from the deepest up, unless one look clears them.
-#[cycle(nodes)]
-fn check_path(
-    sources: &Sources,
-    walk: &mut Walk,
-    part: &Part,
-    number: u64,
-    path: &Path,
-    side: LabelId,
-) -> Result<u32, CertFault>
-    requires sources { AreSources sources.now }
-    requires part { IsPart sources.now part.now }
-    requires fits { FitsPath sources.now part.now side.0 (bits_in path.now) }
-    requires number { IsAfter number walk.old.number }
-    ensures { IsAnswer sources.now
-        (reading_at sources.now (part.now.window.len + length (bits_in path.now)) walk.old.lines)
-        (fault_of_path sources.now part.now side.0 (bits_in path.now)) number 1 walk.old.sets.items walk.old.fault walk.new result }
-{
-    let Some((bit, rest)) = path.split_first() else {
-        return check_node(sources, walk, part);
-    };
-    if let Some(end) = part.clear_end(sources, path, side) {
-        return check_node(sources, walk, &end);
-    }
-    let (chosen, beside) = part.step(sources, bit);
-    let cost = check_path(sources, walk, &chosen, number, &rest, side)?;
-    walk.note(beside.leaf_fault(sources, side), number);
-    Ok(cost)
 }

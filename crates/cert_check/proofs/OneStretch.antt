@@ -1,0 +1,205 @@
+-- Blocks that a map settles and a list decides with a label: those with all addresses in one stretch with the label.
+use Rattle.std.proofs.Common.{◌≡◌, ◌∙◌, ℕ, suc, ◌+◌, ◌-◌, ◌^◌, ◌<◌, ◌≤◌, ◌&&◌, inl, inr, Bool, true, false, cond, not, nat_le, List, Option, Some, None, IsSome, length, option_and_then, option_map, slice_get, mul-div_cancel, pow_pos, refl, sym, ap, subst, arith}
+use Rattle.std.specs.List.{list_any}
+use Rattle.std.specs.Option.{ForSome}
+use Rattle.std.proofs.lemmas.Bool.{and_from, and_parts, cases_lt, le-leb, leb-true, lt-leb}
+use Rattle.std.proofs.lemmas.List.Folds.{list_any_at}
+use Rattle.std.proofs.lemmas.List.{length-map}
+use Rattle.prefix_keys.specs.Block.{first_of, last_of, width_of}
+use Rattle.prefix_keys.specs.declared.block.Block.{Block}
+use Rattle.prefix_keys.specs.declared.version.Version.{Version}
+use Rattle.prefix_keys.proofs.Quotients.{whole}
+use Rattle.pmap_text.specs.Label.{number_of}
+use Rattle.pmap_text.specs.ListModel.{Prefix, label_below, lies_inside}
+use Rattle.pmap_text.specs.MapModel.{Label, MapModel, last_such, meets, settled_by, settled_label}
+use Rattle.pmap_text.specs.declared.statement.Statement.{Statement}
+use Rattle.pmap_text.specs.MapText.{map_of, text_at}
+use Rattle.pmap_text.specs.PrefixList.{AreShortestFirst, list_of, number_of_block}
+use Rattle.pmap_text.specs.Settled.{IsMapOf, Settles}
+use Rattle.pmap_text.specs.Stretches.{AreLabelsBelow, AreStretches, HasEveryAddress, HoldsAddress, StretchesModel, count_begun, label_at, last_at, mappings_of}
+use Rattle.pmap_text.specs.declared.label.LabelId.{LabelId}
+use Rattle.pmap_text.specs.declared.map_text.MapText.{MapText}
+use Rattle.pmap_text.specs.declared.prefix_list.PrefixList.{PrefixList}
+use Rattle.pmap_text.proofs.Decided.{held_seen, held_settles, split_has_inside, split_unsettled}
+use Rattle.pmap_text.proofs.ListPainted.{list_blocks}
+use Rattle.pmap_text.proofs.Longest.{AreBlocks, known_seen, label_seen, none_inside}
+use Rattle.pmap_text.proofs.Orders.{known_text}
+use Rattle.pmap_text.proofs.Painted.{IsSeen}
+use Rattle.pmap_text.proofs.Ranges.{held_fits, held_index, holder}
+use Rattle.pmap_text.proofs.Settling.{map_is, stretch_labelled}
+use Rattle.pmap_text.proofs.Windows.{block_some}
+use Rattle.cert_check.specs.Checking.{is_decided, is_label_of, leaf_fault, CheckFaultKind, LeafNotUniform, ListDiffers}
+use Rattle.cert_check.specs.Inner.{AreSources, IsClear, IsSource, Source, Sources, has_one_label, text_of}
+use Rattle.cert_check.proofs.Lists.{any-filtered}
+
+-- whether the stretch i has the addresses up to the last and has the label x
+abbrev is_in : List Label → StretchesModel → ℕ → ℕ → Label → Bool
+is_in from s i last x = nat_le last (last_at s i) && is_label_of (text_of from (label_at s i)) x
+
+in-within : (from : List Label) (s : StretchesModel) (i last : ℕ) (x : Label) → last ≤ last_at s i → is_in from s i last x ≡ is_label_of (text_of from (label_at s i)) x
+in-within from s i last x le = ap (λ (b : Bool). b && is_label_of (text_of from (label_at s i)) x) (le-leb last (last_at s i) le)
+
+in-beyond : (from : List Label) (s : StretchesModel) (i last : ℕ) (x : Label) → last_at s i < last → is_in from s i last x ≡ false
+in-beyond from s i last x less = ap (λ (b : Bool). b && is_label_of (text_of from (label_at s i)) x) (lt-leb last (last_at s i) less)
+
+settled-text : (m : MapModel) (n q : ℕ) (label : Option LabelId) → IsSome label → Settles m label n q → settled_label m n q ≡ text_of m.table label
+settled-text m n q None some h = absurd cc
+settled-text m n q (Some id) some h = h.1
+
+-- A map settles a block with the label of the stretch that has all of its addresses.
+module _ (m : MapText) (s : StretchesModel) (version : s.version ≡ m.version) (are : AreStretches m.statements (Some m.default) s) (n q : ℕ) (x : Label) where
+  abbrev is_settled_in : ℕ → Bool
+  is_settled_in W =
+      is_label_of (settled_by W n q (text_at m.labels m.default.0) (last_such (meets W n q) (mappings_of m.labels m.statements))) x
+
+  settled-here : last_of (width_of s.version) n q < 2 ^ width_of s.version
+      → is_settled_in (width_of s.version) ≡ has_one_label m.labels s (first_of (width_of s.version) n q) (last_of (width_of s.version) n q) x
+  settled-here fits =
+      let W = width_of s.version in
+      let first = first_of W n q in
+      let last = last_of W n q in
+      let i = count_begun s.firsts first - 1 in
+      let starts : HoldsAddress s first i = holder s are.every first (omega (arith, block_some W n q, fits)) in
+      let m' : MapModel = record { version = s.version; name = None; fallback = text_at m.labels m.default.0; mappings = mappings_of m.labels m.statements; table = m.labels } in
+      let is : IsMapOf W m.statements (Some m.default) m' =
+      let whole = map_is m in record { width = refl; mappings = refl; known = whole.known; fallback = whole.fallback } in
+      elim (cases_lt (last_at s i) last) [
+        | inl beyond ↦
+            ap (λ (o : Option Label). is_label_of o x) (split_unsettled s m.statements (Some m.default) are n q i starts beyond fits m.labels (text_at m.labels m.default.0))
+            ∙ sym (in-beyond m.labels s i last x beyond)
+        | inr within ↦
+            ap (λ (o : Option Label). is_label_of o x)
+            (settled-text m' n q (label_at s i) (stretch_labelled W m.statements (Some m.default) _ _ _ (are.each i starts.index) refl)
+            (held_settles s m.statements (Some m.default) are n q i starts within m' is))
+            ∙ sym (in-within m.labels s i last x within)
+      ]
+
+  pub map-settles : last_of (width_of m.version) n q < 2 ^ width_of m.version
+      → is_label_of (settled_label (map_of m) n q) x ≡ has_one_label m.labels s (first_of (width_of m.version) n q) (last_of (width_of m.version) n q) x
+  map-settles =
+      subst (λ (v : Version). last_of (width_of v) n q < 2 ^ width_of v
+      → is_settled_in (width_of v) ≡ has_one_label m.labels s (first_of (width_of v) n q) (last_of (width_of v) n q) x) version settled-here
+
+seen-text : (table : List Label) (label : Option LabelId) → ForSome (option_map (λ id. id.0) label) (λ id. id < length table)
+    → option_and_then (slice_get table) (option_map (λ id. id.0) label) ≡ text_of table label
+seen-text table None known = refl
+seen-text table (Some id) known = known_text table id.0 (known id.0 refl)
+
+-- A list decides a block with the label of the stretch that has all of its addresses.
+module _ (l : PrefixList) (s : StretchesModel) (version : s.version ≡ l.version) (ss : List Statement) (first : AreShortestFirst l.entries ss) (are : AreStretches ss None s)
+    (n q : ℕ) (x : Label) where
+  abbrev ps : List Prefix
+  ps = (list_of l).prefixes
+
+  decided-here : n ≤ width_of s.version → last_of (width_of s.version) n q < 2 ^ width_of s.version
+      → is_decided (width_of s.version) ps n q x ≡ has_one_label l.labels s (first_of (width_of s.version) n q) (last_of (width_of s.version) n q) x
+  decided-here short fits =
+      let W = width_of s.version in
+      let start = first_of W n q in
+      let last = last_of W n q in
+      let i = count_begun s.firsts start - 1 in
+      let starts : HoldsAddress s start i = holder s are.every start (omega (arith, block_some W n q, fits)) in
+      let blocks : AreBlocks W ps = subst (λ (v : Version). AreBlocks (width_of v) ps) (sym version) (list_blocks l) in
+      let decides = λ (inside : Bool) (label : Option Label). not inside && is_label_of label x in
+      elim (cases_lt (last_at s i) last) [
+        | inl beyond ↦
+            let found = split_has_inside l s version ss first are n q i starts short beyond fits in
+            let some : list_any (lies_inside W n q) ps ≡ true = list_any_at (lies_inside W n q) ps found.listed.0 found.one found.listed.1 (ap (lies_inside W n q) found.listed.2 ∙ found.inside) in
+            ap (λ (b : Bool). decides b (label_below W ps (suc n) start)) some ∙ sym (in-beyond l.labels s i last x beyond)
+        | inr within ↦
+            let label = option_map (λ (id : LabelId). id.0) (label_at s i) in
+            let is : IsSeen W l.labels ps n q label = held_seen l s version ss first are n q i starts within in
+            let none : list_any (lies_inside W n q) ps ≡ false =
+            sym (any-filtered (lies_inside W n q) ps) ∙ ap (list_any (lies_inside W n q)) (none_inside W l.labels ps n q label blocks is) in
+            let same : label_below W ps (suc n) start ≡ text_of l.labels (label_at s i) =
+            label_seen W l.labels ps n q start (suc n) label blocks (sym (mul-div_cancel q (pow_pos (W - n)))) (λ bits most fits'. omega (arith, most)) is
+            ∙ seen-text l.labels (label_at s i) (known_seen W l.labels ps n q label is) in
+            (λ j. decides (none j) (same j)) ∙ sym (in-within l.labels s i last x within)
+      ]
+
+  pub list-decides : (v : Version) → s.version ≡ v → n ≤ width_of v → last_of (width_of v) n q < 2 ^ width_of v
+      → is_decided (width_of v) ps n q x ≡ has_one_label l.labels s (first_of (width_of v) n q) (last_of (width_of v) n q) x
+  list-decides v same =
+      subst (λ (v : Version). n ≤ width_of v → last_of (width_of v) n q < 2 ^ width_of v
+      → is_decided (width_of v) ps n q x ≡ has_one_label l.labels s (first_of (width_of v) n q) (last_of (width_of v) n q) x) same decided-here
+
+-- A range within one that has one label has it too.
+module _ (from : List Label) (s : StretchesModel) (every : HasEveryAddress s) (first last : ℕ) (x : Label) (fits : first < 2 ^ width_of s.version) (is : has_one_label from s first last x ≡ true) where
+  abbrev i : ℕ
+  i = count_begun s.firsts first - 1
+
+  parts : (nat_le last (last_at s i) ≡ true) × (is_label_of (text_of from (label_at s i)) x ≡ true)
+  parts = and_parts (nat_le last (last_at s i)) (is_label_of (text_of from (label_at s i)) x) is
+
+  most : last ≤ last_at s i
+  most = leb-true last (last_at s i) parts.0
+
+  starts : HoldsAddress s first i
+  starts = holder s every first fits
+
+  pub label-fits : first ≤ last → last < 2 ^ width_of s.version
+  label-fits some = held_fits s every last i (record { index = starts.index; from = omega (arith, starts.from, some); to = most })
+
+  pub narrower-label : (low high : ℕ) → first ≤ low → low ≤ high → high ≤ last → has_one_label from s low high x ≡ true
+  narrower-label low high ge some le =
+      let same = held_index s every low i (record { index = starts.index; from = omega (arith, starts.from, ge); to = omega (arith, most, some, le) }) in
+      subst (λ (k : ℕ). is_in from s k high x ≡ true) (sym same)
+      (and_from (nat_le high (last_at s i)) (is_label_of (text_of from (label_at s i)) x) (le-leb high (last_at s i) (omega (arith, most, le))) parts.1)
+
+-- the numbers of a source's labels
+pub known-numbers : (from to : List Label) (s : Source) → IsSource from to s → AreLabelsBelow (length s.numbers.items) s.stretches
+known-numbers from to s is =
+    let count : length from ≡ length s.numbers.items =
+    sym (length-map from (number_of to)) ∙ ap (λ (ns : List (Option ℕ)). length ns) (sym is.numbers.each) ∙ length-map s.numbers.items (option_map (λ (id : LabelId). id.0)) in
+    subst (λ (n : ℕ). AreLabelsBelow n s.stretches) count is.known
+
+-- The fault of a leaf, by the stretches of the map and of the list.
+module _ (s : Sources) (are : AreSources s) (x : Label) where
+  abbrev W : ℕ
+  W = width_of s.map.now.version
+
+  abbrev of_map : ℕ → ℕ → Bool
+  of_map first last = has_one_label s.map.now.labels s.of_map.stretches first last x
+
+  abbrev of_list : ℕ → ℕ → Bool
+  of_list first last = has_one_label s.list.now.labels s.of_list.stretches first last x
+
+  abbrev pub fault_by : Bool → Bool → Option CheckFaultKind
+  fault_by settled decided = cond settled (cond decided None (Some ListDiffers)) (Some LeafNotUniform)
+
+  pub leaf-is : (n q : ℕ) → n ≤ W → last_of W n q < 2 ^ W
+      → leaf_fault (map_of s.map.now) (list_of s.list.now).prefixes n q x
+      ≡ fault_by (of_map (first_of W n q) (last_of W n q)) (of_list (first_of W n q) (last_of W n q))
+  leaf-is n q short fits = λ i.
+      fault_by (map-settles s.map.now s.of_map.stretches are.map_width are.map_stretches n q x fits i)
+      (list-decides s.list.now s.of_list.stretches are.list_width are.list_stretches.0 are.list_stretches.1 are.list_stretches.2 n q x
+      s.map.now.version (are.list_width ∙ are.list_version) short fits i)
+
+  -- at a block of the version
+  pub leaf-at : (b : Block) → b.version ≡ s.map.now.version → (last : ℕ) → last ≡ last_of (width_of b.version) b.len (number_of_block b) → last < 2 ^ width_of b.version
+      → leaf_fault (map_of s.map.now) (list_of s.list.now).prefixes b.len (number_of_block b) x ≡ fault_by (of_map b.value last) (of_list b.value last)
+  leaf-at b version last last_is fits =
+      let first_is : first_of (width_of b.version) b.len (number_of_block b) ≡ b.value =
+      whole b.value (2 ^ (width_of b.version - b.len)) (pow_pos (width_of b.version - b.len)) b.no_host_bit in
+      let first_is' = subst (λ (v : Version). first_of (width_of v) b.len (number_of_block b) ≡ b.value) version first_is in
+      let last_is' = subst (λ (v : Version). last ≡ last_of (width_of v) b.len (number_of_block b)) version last_is in
+      let fits' = subst (λ (v : Version). last < 2 ^ width_of v) version fits in
+      leaf-is b.len (number_of_block b) (subst (λ (v : Version). b.len ≤ width_of v) version b.len_in_range) (omega (arith, last_is', fits'))
+      ∙ (λ i. fault_by (of_map (first_is' i) (sym last_is' i)) (of_list (first_is' i) (sym last_is' i)))
+
+  -- no block in a range that has the label in both has a fault
+  pub range-clear : (first last : ℕ) → first < 2 ^ W → of_map first last ≡ true → of_list first last ≡ true → IsClear s first (last + 1) x
+  range-clear first last fits in_map in_list n q short from to =
+      let some = block_some W n q in
+      let every = are.list_stretches.2.every in
+      let fits_map = subst (λ (v : Version). first < 2 ^ width_of v) (sym are.map_width) fits in
+      let fits_list = subst (λ (v : Version). first < 2 ^ width_of v) (sym (are.list_width ∙ are.list_version)) fits in
+      let ends = subst (λ (v : Version). last < 2 ^ width_of v) are.map_width
+      (label-fits s.map.now.labels s.of_map.stretches are.map_stretches.every first last x fits_map in_map (omega (arith, some, from, to))) in
+      leaf-is n q short (omega (arith, ends, to))
+      ∙ (λ i. fault_by (narrower-label s.map.now.labels s.of_map.stretches are.map_stretches.every first last x fits_map in_map (first_of W n q) (last_of W n q) from some (omega (arith, to)) i)
+      (narrower-label s.list.now.labels s.of_list.stretches every first last x fits_list in_list (first_of W n q) (last_of W n q) from some (omega (arith, to)) i))
+
+  -- nor in an empty range
+  pub empty-clear : (first stop : ℕ) → stop ≤ first → IsClear s first stop x
+  empty-clear first stop none n q short from to = let some = block_some W n q in absurd (omega (arith, none, some, from, to))

@@ -1,0 +1,30 @@
+use Rattle.std.proofs.Common.{Option, ap, sym, ◌∙◌}
+use Rattle.std.specs.Option.{option_or}
+use Rattle.pmap_text.specs.MapText.{map_of, text_at}
+use Rattle.pmap_text.specs.PrefixList.{list_of, number_of_block}
+use Rattle.pmap_cert.specs.Packed.{bits_in}
+use Rattle.cert_check.specs.Checking.{CheckFaultKind, leaf_fault}
+use Rattle.cert_check.proofs.Nodes.{or-some, sides-step}
+use Rattle.cert_check.proofs.sources.Sources.+sides_fault.Goals as goal
+
+pub returns-in-None : goal.returns-in-None
+returns-in-None t c =
+    let s = c.args.self.now in
+    let m = map_of s.map.now in
+    let ps = (list_of s.list.now).prefixes in
+    let x = text_at s.frame.labels.now c.args.side.0 in
+    let next = c.in_ok-chosen in
+    c.leaf_fault.ensures
+    ∙ sym (sides-step m ps x c.args.block.now next.chosen next.beside c.in_ok-bit.bit (bits_in c.args.path.now) (bits_in c.in_ok-bit.rest) c.in_ok-bit.ensures.bits next.ensures.chosen next.ensures.beside
+    ∙ ap (λ (o : Option CheckFaultKind). option_or o (leaf_fault m ps next.beside.len (number_of_block next.beside) x)) (sym c.sides_fault.ensures ∙ c.in-None.is))
+
+pub returns-in_default : goal.returns-in_default
+returns-in_default t c =
+    let s = c.args.self.now in
+    let m = map_of s.map.now in
+    let ps = (list_of s.list.now).prefixes in
+    let x = text_at s.frame.labels.now c.args.side.0 in
+    let next = c.in_ok-chosen in
+    sym (sides-step m ps x c.args.block.now next.chosen next.beside c.in_ok-bit.bit (bits_in c.args.path.now) (bits_in c.in_ok-bit.rest) c.in_ok-bit.ensures.bits next.ensures.chosen next.ensures.beside
+    ∙ ap (λ (o : Option CheckFaultKind). option_or o (leaf_fault m ps next.beside.len (number_of_block next.beside) x)) (sym c.sides_fault.ensures)
+    ∙ or-some c.sides_fault.result (leaf_fault m ps next.beside.len (number_of_block next.beside) x) c.in_default.not-None)

@@ -1,0 +1,12 @@
+use Rattle.std.proofs.Common.{sym, ◌∙◌}
+use Rattle.pmap_text.specs.MapText.{text_at}
+use Rattle.cert_check.proofs.OneStretch.{range-clear}
+use Rattle.cert_check.proofs.sources.Sources.is_clear.Goals as goal
+
+pub returns-then-has_label : goal.returns-then-has_label
+returns-then-has_label c = λ both.
+    let s = c.args.self.now in
+    let are = c.requires.sources in
+    range-clear s are (text_at s.frame.labels.now c.args.id.0) c.args.first c.args.last c.requires.within
+    (sym (c.has_label.ensures s.map.now.labels s.frame.labels.now are.of_map c.requires.known) ∙ c.if-has_label.true)
+    (sym (c.has_label-then-has_label.ensures s.list.now.labels s.frame.labels.now are.of_list c.requires.known) ∙ both)

@@ -1,0 +1,53 @@
+//! A map or a list that a certificate is checked against.
+ghost use Rattle.std.specs.Prelude.{◌≡◌, ◌^◌, ◌<◌, List, IfOk, length};
+ghost use Rattle.prefix_keys.specs.Block.{width_of};
+ghost use Rattle.pmap_text.specs.MapModel.{Label};
+ghost use Rattle.pmap_text.specs.MapText.{text_at};
+ghost use Rattle.pmap_text.specs.Stretches.{AreLabelsBelow};
+ghost use Rattle.cert_check.specs.Inner.{IsSource, has_one_label};
+
+use crate::labels::{is_label, numbers_in};
+use pmap_text::{LabelId, Labels, Stretches};
+use std::alloc::{AllocError, Global};
+
+/// The stretches of a map or a list, and the number of each of its labels in the certificate's table, so that texts are
+/// compared only once.
+#[derive(Drop)]
+pub struct Source {
+    pub stretches: Stretches,
+    pub numbers: Vec<Option<LabelId>>,
+}
+
+impl Source {
+    /// Returns the source with these stretches, whose labels are in the table `labels`.
+    pub fn new(
+        alloc: Global,
+        stretches: Stretches,
+        labels: &Labels,
+        table: &Labels,
+    ) -> Result<Source, AllocError>
+        requires { AreLabelsBelow (length labels.now) stretches }
+        ensures source { IfOk result (IsSource labels.now table.now) }
+        ensures stretches { IfOk result (λ s. s.stretches ≡ stretches) }
+    {
+        Ok(Source {
+            stretches,
+            numbers: numbers_in(alloc, labels, table)?,
+        })
+    }
+
+    /// Returns whether one stretch has all addresses from `first` to `last`, and has the certificate's label `id`. The
+    /// search for it begins at `near`, which is then the stretch with the first address.
+    #[inline(always)]
+    pub fn has_label(&self, near: &mut usize, first: u128, last: u128, id: LabelId) -> bool
+        requires known { AreLabelsBelow (length self.now.numbers.items) self.now.stretches }
+        requires within { first < 2 ^ width_of self.now.stretches.version }
+        ensures { (from to : List Label) → IsSource from to self.now → id.0 < length to →
+            result ≡ has_one_label from self.now.stretches first last (text_at to id.0) }
+    {
+        let index = self.stretches.find_near(*near, first);
+        *near = index;
+        last <= self.stretches.last(index)
+            && is_label(self.numbers.as_slice(), self.stretches.label(index), id)
+    }
+}
