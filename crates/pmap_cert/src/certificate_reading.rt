@@ -4,7 +4,6 @@ ghost use Rattle.pmap_text.specs.Label.{has_label, is_label as is_label_text};
 ghost use Rattle.pmap_cert.specs.Certificate.{ReturnsCertificate, certificate_of};
 ghost use Rattle.pmap_cert.specs.Format.{IsNodeOf, format_number};
 ghost use Rattle.pmap_cert.specs.FormatReading.{format_reading, is_ended, labels_at, line_due_at, new_label, line_value, BadLabelTable, BadNode, NoMemory, NodesMissing};
-ghost use Rattle.pmap_cert.specs.CertificateModel.{Tree};
 ghost use Rattle.pmap_cert.specs.Node.{HasChainForm, tree_of};
 ghost use Rattle.pmap_cert.specs.Inner.{IsReadNode, node_due_at, reading_from};
 
@@ -95,42 +94,6 @@ fn read_node(
             }
             nodes.push(Node::Chain { claim, path, side })?;
             read_node(nodes, kept, frame, room - deep, lines)?;
-            Ok(())
-        }
-    }
-}
-
-/// Reads the next node, with at most `room` levels below it, and moves `lines` past it and the nodes below it.
-pub fn skip_node(
-    lines: &mut Lines,
-    kept: &mut Kept,
-    frame: &Frame,
-    room: u32,
-) -> Result<(), CertFault>
-    ensures ok { OnOk result ((tree : Tree)
-        × (node_due_at frame.now.format frame.now.width frame.now.labels.now room lines.old ≡ Ok (tree, lines.new))) }
-    ensures err { IfErr result (λ fault. fault.kind ≢ NoMemory →
-        node_due_at frame.now.format frame.now.width frame.now.labels.now room lines.old ≡ Err fault) }
-    ensures memory { IfErr result (λ fault. fault.kind ≡ NoMemory → fault.line ≡ 0) }
-{
-    let deepest = lines.fault(CertFaultKind::TooDeep);
-    let node = lines.next_node(kept, frame)?;
-    match node {
-        Node::Leaf(_) => Ok(()),
-        Node::Inner(claim) => {
-            if room == 0 {
-                return Err(deepest);
-            }
-            skip_node(lines, kept, frame, room - 1)?;
-            skip_node(lines, kept, frame, room - 1)?;
-            Ok(())
-        }
-        Node::Chain { claim, path, side } => {
-            let deep = path.len();
-            if deep > room {
-                return Err(deepest);
-            }
-            skip_node(lines, kept, frame, room - deep)?;
             Ok(())
         }
     }

@@ -41,7 +41,7 @@ mod root;
 mod writing;
 
 pub use certificate::Certificate;
-pub use certificate_reading::{Head, read_cert, read_cert_with_hashing, read_head, skip_node};
+pub use certificate_reading::{Head, read_cert, read_cert_with_hashing, read_head};
 pub use chain_laws::{
     chain_claim_is_bit_by_bit, compact_gives_back_equal, compact_has_a_text,
     compact_has_no_more_lines, compact_keeps_acceptance, compact_opens_to_the_same,
