@@ -94,7 +94,7 @@ IsCut-append W from middle to (x ∷ xs) ys front back =
 ends : (W n q P : ℕ) → 0 < P → 2 ^ (W - suc n) ≡ P → 2 ^ (W - n) ≡ P * 2 → last_of W (suc n) (2 * q + 1) ≡ last_of W n q
 ends W n q P positive half whole = rw (half, whole) (omega arith)
 
-meet : (W n q P : ℕ) → 0 < P → 2 ^ (W - n) ≡ P → last_of W n (2 * q) + 1 ≡ first_of W n (2 * q + 1)
+pub meet : (W n q P : ℕ) → 0 < P → 2 ^ (W - n) ≡ P → last_of W n (2 * q) + 1 ≡ first_of W n (2 * q + 1)
 meet W n q P positive whole = rw whole (omega arith)
 
 abbrev pub CutsBlock : ℕ → ℕ → ℕ → List LeafModel → Type 0
@@ -116,7 +116,7 @@ module _ (s : StretchesModel) (every : HasEveryAddress s) where
     abbrev q : ℕ
     q = number_at s w
 
-    first_held : count_begun s.firsts (first_of W w.len q) - 1 ≡ w.from
+    pub first_held : count_begun s.firsts (first_of W w.len q) - 1 ≡ w.from
     first_held = ap (λ (a : ℕ). count_begun s.firsts a - 1) (sym is.block.first_is) ∙ held_index s every w.first w.from is.start
 
     last_held : count_begun s.firsts (last_of W w.len q) - 1 ≡ w.to
@@ -147,13 +147,13 @@ module _ (s : StretchesModel) (every : HasEveryAddress s) where
         let last = is.block.last_is in
         has_halves W w.len q is.within (omega arith)
 
-  abbrev whole : Window
+  abbrev pub whole : Window
   whole = record { first = 0; last = last_at s (length s.firsts - 1); len = 0; from = 0; to = length s.firsts - 1 }
 
-  whole_is : IsWindow s whole
+  pub whole_is : IsWindow s whole
   whole_is = let some = every.some in whole_window s every whole refl refl refl (omega arith) refl
 
-  whole_number : number_at s whole ≡ 0
+  pub whole_number : number_at s whole ≡ 0
   whole_number = zero-div (2 ^ (W - 0))
 
   -- what holds of each leaf, and of a divided block if it holds of both halves, holds of every block

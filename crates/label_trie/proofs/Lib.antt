@@ -1,5 +1,6 @@
 pub mod Lookup
 pub mod Leaves
+pub mod Sublists
 pub mod Nodes
-pub mod ListBuilt
 pub mod Places
+pub mod ListBuilt

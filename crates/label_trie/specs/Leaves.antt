@@ -1,11 +1,10 @@
-use Rattle.std.specs.Prelude.{◌≡◌, ℕ, zero, suc, ◌+◌, ◌-◌, ◌*◌, ◌==◌, Bool, List, [], ◌∷◌, ◌++◌, Option, option_map, length, map, ◌^◌, ◌<◌, if◌then◌else◌}
+use Rattle.std.specs.Prelude.{ℕ, zero, suc, ◌+◌, ◌-◌, ◌*◌, ◌==◌, Bool, List, [], ◌∷◌, ◌++◌, Option, option_map, if◌then◌else◌}
 use Rattle.prefix_keys.specs.Block.{first_of, last_of, width_of}
-use Rattle.prefix_keys.specs.declared.block.Block.{Block}
 use Rattle.pmap_text.specs.Stretches.{StretchesModel, count_begun, label_held}
 use Rattle.pmap_text.specs.declared.label.LabelId.{LabelId}
-use Rattle.pmap_text.specs.Windows.{IsWindow, number_at}
+use Rattle.pmap_text.specs.Windows.{number_at}
 use Rattle.pmap_text.specs.declared.window.Window.{Window}
-use Rattle.label_trie.specs.TrieModel.{LeafModel, NodeModel, number_of}
+use Rattle.label_trie.specs.TrieModel.{LeafModel}
 
 -- How stretches divide a block: into halves, until one stretch has all addresses of each piece.
 
@@ -27,44 +26,5 @@ leaves_in s zero n q = leaf_in s n q ∷ []
 leaves_in s (suc h) n q =
     if in_one s n q then leaf_in s n q ∷ [] else leaves_in s h (suc n) (2 * q) ++ leaves_in s h (suc n) (2 * q + 1)
 
-abbrev pub leaves_at : StretchesModel → Block → List LeafModel
-leaves_at s block = leaves_in s (width_of block.version - block.len) block.len (number_of block)
-
-abbrev pub node_in : StretchesModel → ℕ → ℕ → ℕ → NodeModel
-node_in s h n q = record { bits = n; number = q; leaves = leaves_in s h n q }
-
--- the nodes of that block: itself, those of its lower half, and those of its upper half
-abbrev pub nodes_in : StretchesModel → ℕ → ℕ → ℕ → List NodeModel
-nodes_in s zero n q = node_in s zero n q ∷ []
-nodes_in s (suc h) n q = node_in s (suc h) n q
-    ∷ (if in_one s n q then [] else nodes_in s h (suc n) (2 * q) ++ nodes_in s h (suc n) (2 * q + 1))
-
-abbrev pub nodes_of : StretchesModel → Window → List NodeModel
-nodes_of s w = nodes_in s (width_of s.version - w.len) w.len (number_at s w)
-
--- the nodes of the whole address space
-abbrev pub all_nodes : StretchesModel → List NodeModel
-all_nodes s = nodes_in s (width_of s.version) 0 0
-
--- the number of nodes at and below a node
-abbrev pub size_of : NodeModel → ℕ
-size_of node = 2 * length node.leaves - 1
-
--- The sizes of all nodes, in the order of their numbers. There are fewer than 2^32.
-pub record AreSizes (s : StretchesModel) (sizes : List ℕ) : Type 0 where
-  pub are : sizes ≡ map size_of (all_nodes s)
-  pub few : length (all_nodes s) < 2 ^ 32
-
--- the nodes from this number on begin with these
-pub record IsAt (nodes : List NodeModel) (number : ℕ) (own : List NodeModel) : Type 0 where
-  pub before : List NodeModel
-  pub after : List NodeModel
-  pub all : nodes ≡ before ++ own ++ after
-  pub at : length before ≡ number
-
--- the window has the block's addresses
-pub record IsPlace (s : StretchesModel) (block : Block) (w : Window) : Type 0 where
-  pub window : IsWindow s w
-  pub version : block.version ≡ s.version
-  pub len : block.len ≡ w.len
-  pub value : block.value ≡ w.first
+abbrev pub leaves_of : StretchesModel → Window → List LeafModel
+leaves_of s w = leaves_in s (width_of s.version - w.len) w.len (number_at s w)

@@ -1,23 +1,21 @@
 ghost use Rattle.std.specs.Prelude.{◌≡◌, ◌+◌};
 ghost use Rattle.prefix_keys.specs.Block.{first_of, last_of, width_of};
-ghost use Rattle.pmap_text.specs.Windows.{IsWindow};
 ghost use Rattle.label_trie.specs.TrieModel.{IsCut, IsNode, number_of};
-ghost use Rattle.label_trie.specs.Leaves.{AreSizes, IsAt, all_nodes, leaves_at, nodes_of};
+ghost use Rattle.label_trie.specs.Nodes.{IsPlace, leaves_at};
 
-use pmap_text::{LabelId, Stretches, Window};
-use prefix_keys::{Addr, Block, block_of};
+use crate::node::TrieNode;
+use crate::trie::Trie;
+use pmap_text::LabelId;
+use prefix_keys::Block;
 use std::marker::Model;
 
 /// A cursor at a node of a trie: a divided block or a leaf. A walk starts at `Trie::root`, or at any node with
 /// `Trie::node`.
 #[derive(Drop)]
 pub struct Cursor<'a> {
-    stretches: &'a Stretches,
-    sizes: &'a [u32],
+    trie: &'a Trie,
     number: u32,
     block: Block,
-    // The block with the stretches at its ends.
-    window: Window,
 }
 
 impl<'a> Model for Cursor<'a> {
@@ -25,17 +23,16 @@ impl<'a> Model for Cursor<'a> {
 
     ghost Value = { CursorModel };
 
-    ghost use Rattle.label_trie.specs.Leaves.{AreSizes, IsAt, IsPlace, all_nodes, leaves_at, nodes_of};
+    ghost use Rattle.label_trie.specs.Nodes.{IsPlace, leaves_at};
 
     ghost view = { λ c. record {
       block = c.block;
-      leaves = leaves_at c.stretches.now c.block;
+      leaves = leaves_at c.trie.now.nodes c.number;
       number = c.number;
-      nodes = all_nodes c.stretches.now;
+      nodes = c.trie.now.nodes;
     } };
 
-    ghost invariant = { λ c. IsPlace c.stretches.now c.block c.window × AreSizes c.stretches.now c.sizes.now
-        × IsAt (all_nodes c.stretches.now) c.number (nodes_of c.stretches.now c.window) };
+    ghost invariant = { λ c. IsPlace c.trie.now c.number c.block };
 }
 
 /// The parts of a node: a leaf's label, or cursors at the lower and the higher half of the block.
@@ -46,34 +43,17 @@ pub enum Parts<'a> {
 }
 
 /// Returns a cursor at the node with this number, which is for this block.
-pub fn cursor_at<'a>(
-    stretches: &'a Stretches,
-    sizes: &'a [u32],
-    number: u32,
-    window: Window,
-) -> Cursor<'a>
-    requires window { IsWindow stretches.now window }
-    requires sizes { AreSizes stretches.now sizes.now }
-    requires node { IsAt (all_nodes stretches.now) number (nodes_of stretches.now window) }
-    ensures version { result.block.version ≡ stretches.now.version }
-    ensures len { result.block.len ≡ window.len }
-    ensures value { result.block.value ≡ window.first }
-    ensures leaves { result.leaves ≡ leaves_at stretches.now result.block }
+pub fn cursor_at<'a>(trie: &'a Trie, number: u32, block: Block) -> Cursor<'a>
+    requires { IsPlace trie.now number block }
+    ensures block { result.block ≡ block }
+    ensures leaves { result.leaves ≡ leaves_at trie.now.nodes number }
     ensures number { result.number ≡ number }
-    ensures nodes { result.nodes ≡ all_nodes stretches.now }
+    ensures nodes { result.nodes ≡ trie.now.nodes }
 {
-    // Provides the law that the stretches cover every address.
-    let _count = stretches.len();
-    let addr = Addr {
-        version: stretches.version(),
-        value: window.first,
-    };
     Cursor {
-        stretches,
-        sizes,
+        trie,
         number,
-        block: block_of(addr, window.len),
-        window,
+        block,
     }
 }
 
@@ -85,8 +65,6 @@ impl Cursor<'_> {
             let number = number_of result in
             IsCut W (first_of W result.len number) (last_of W result.len number + 1) self.now.leaves }
     {
-        // Provides the law that the stretches cover every address.
-        let _count = self.stretches.len();
         self.block
     }
 
@@ -96,8 +74,6 @@ impl Cursor<'_> {
         ensures value { result ≡ self.now.number }
         ensures node { IsNode self.now }
     {
-        // Provides the law that the stretches cover every address.
-        let _count = self.stretches.len();
         self.number
     }
 }
@@ -109,17 +85,18 @@ impl<'a> Cursor<'a> {
     pub fn parts(&self) -> Parts<'a>
         ensures { ArePartsOf self.now result }
     {
-        // Provides the law that the stretches cover every address.
-        let _count = self.stretches.len();
-        if self.window.from == self.window.to {
-            return Parts::Leaf(self.stretches.label(self.window.from));
+        match self.trie.stored(self.number) {
+            TrieNode::Labelled(id) => Parts::Leaf(Some(id)),
+            TrieNode::Unlabelled => Parts::Leaf(None),
+            TrieNode::Inner(upper) => {
+                let Some((low, high)) = self.block.halves() else {
+                    unreachable!()
+                };
+                Parts::Inner(
+                    cursor_at(self.trie, self.number + 1, low),
+                    cursor_at(self.trie, upper, high),
+                )
+            }
         }
-        let (low, high) = self.window.halves(self.stretches);
-        let low_number = self.number + 1;
-        let high_number = low_number + self.sizes[low_number as usize];
-        Parts::Inner(
-            cursor_at(self.stretches, self.sizes, low_number, low),
-            cursor_at(self.stretches, self.sizes, high_number, high),
-        )
     }
 }

@@ -19,14 +19,15 @@
 //! these leaves, and in the trie of a map no block on the path is settled. The number of nodes is at most one, plus
 //! four times the width for each statement of a map, or twice the width for each entry of a list. Contracts see a trie
 //! as the list of its leaves and the list of its nodes. The numbers of nodes begin with 0 at the root, and the halves
-//! of a block have greater numbers than the block. A trie stores its stretches, among which a cursor finds the halves
-//! of its block, and for each node the number of nodes at and below it.
+//! of a block have greater numbers than the block. A trie stores its nodes in one vector.
 #![tactic(auto)]
 
 mod cursor;
 mod leaf;
+mod node;
 mod trie;
 
 pub use cursor::{Cursor, Parts};
 pub use leaf::Leaf;
+pub use node::TrieNode;
 pub use trie::Trie;

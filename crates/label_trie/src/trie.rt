@@ -5,13 +5,17 @@ ghost use Rattle.pmap_text.specs.PrefixList.{list_of};
 ghost use Rattle.pmap_text.specs.MapModel.{map_label};
 ghost use Rattle.pmap_text.specs.MapText.{map_of};
 ghost use Rattle.pmap_text.specs.Windows.{IsWindow};
-ghost use Rattle.label_trie.specs.Leaves.{leaves_in, nodes_of, size_of};
-ghost use Rattle.label_trie.specs.TrieModel.{model_of, IsCut, IsDecidedLeaf, IsSettledLeaf, IsUndivided, label_in};
+ghost use Rattle.label_trie.specs.Leaves.{leaves_in, leaves_of};
+ghost use Rattle.label_trie.specs.Nodes.{stored_of};
+ghost use Rattle.label_trie.specs.Parts.{IsMet, IsRoot};
+ghost use Rattle.label_trie.specs.Stored.{IsNodeAt, IsStoredAs};
+ghost use Rattle.label_trie.specs.TrieModel.{model_of, IsCut, IsDecidedLeaf, IsNode, IsSettledLeaf, IsUndivided, label_in};
 
 use crate::cursor::{Cursor, Parts, cursor_at};
 use crate::leaf::Leaf;
+use crate::node::TrieNode;
 use pmap_text::{LabelId, MapText, PrefixList, Stretches, Window};
-use prefix_keys::Addr;
+use prefix_keys::{Addr, Version, whole_space};
 use std::alloc::{AllocError, Global};
 use std::marker::Model;
 
@@ -19,11 +23,9 @@ use std::marker::Model;
 /// leaf has the number of a label or none.
 #[derive(Drop)]
 pub struct Trie {
-    // A block is a leaf if one stretch has all its addresses, and otherwise divided.
-    stretches: Stretches,
-    // For each node, the number of nodes at and below it. A node comes before those of its lower half, and these come
-    // before those of its upper half.
-    sizes: Vec<u32>,
+    version: Version,
+    // A node comes before those of its lower half, and these come before those of its upper half.
+    nodes: Vec<TrieNode>,
 }
 
 impl Model for Trie {
@@ -32,15 +34,11 @@ impl Model for Trie {
 
     ghost Value = { TrieModel };
 
-    ghost use Rattle.label_trie.specs.Leaves.{AreSizes, all_nodes, leaves_in};
+    ghost use Rattle.label_trie.specs.Nodes.{AreStored, trie_in};
 
-    ghost view = { λ t. record {
-      version = t.stretches.version;
-      leaves = leaves_in t.stretches (width_of t.stretches.version) 0 0;
-      nodes = all_nodes t.stretches;
-    } };
+    ghost view = { λ t. trie_in t.version t.nodes.items };
 
-    ghost invariant = { λ t. AreSizes t.stretches t.sizes.items };
+    ghost invariant = { λ t. AreStored (trie_in t.version t.nodes.items) t.nodes.items };
 }
 
 impl Trie {
@@ -56,7 +54,7 @@ impl Trie {
             ≤ 2 + 4 * width_of map.now.version * length map.now.statements) }
     {
         let stretches = Stretches::of_map(alloc, map)?;
-        let trie = trie_of(alloc, stretches)?;
+        let trie = trie_of(alloc, &stretches)?;
         Ok(trie)
     }
 
@@ -73,26 +71,51 @@ impl Trie {
             ≤ 2 + 2 * width_of list.now.version * length list.now.entries) }
     {
         let stretches = Stretches::of_list(alloc, list)?;
-        let trie = trie_of(alloc, stretches)?;
+        let trie = trie_of(alloc, &stretches)?;
         Ok(trie)
     }
 
-    /// Returns the number of the label at `addr`, which must be of the trie's version.
+    /// Returns the number of the label at `addr`, which must be of the trie's version. Takes at most one step for each bit
+    /// of the address.
     pub fn label_at(&self, addr: Addr) -> Option<LabelId>
         requires { addr.version ≡ self.now.version }
         ensures { option_map (λ id. id.0) result ≡ label_in self.now addr.value }
     {
-        let last = self.stretches.len() - 1;
-        self.stretches
-            .label(self.stretches.find(0, last, addr.value))
+        let mut number = 0;
+        let mut bits = self.version.width();
+        loop {
+            match self.stored(number) {
+                TrieNode::Labelled(id) => return Some(id),
+                TrieNode::Unlabelled => return None,
+                TrieNode::Inner(upper) => {
+                    bits -= 1;
+                    number = if (addr.value >> bits) % 2 == 0 {
+                        number + 1
+                    } else {
+                        upper
+                    };
+                }
+            }
+        }
     }
 
-    /// Returns the number of nodes: the leaves, and the divided blocks, one fewer than the leaves.
+    /// Returns the node with this number, which must be below `node_count`, as it is stored. In contrast to
+    /// [`node`](Trie::node), it takes one step.
+    pub fn stored(&self, number: u32) -> TrieNode
+        requires { number < length self.now.nodes }
+        ensures { IsStoredAs self.now number result }
+    {
+        self.nodes[number as usize]
+    }
+
+    /// Returns the number of nodes: the leaves, and the divided blocks, one fewer than the leaves. The node with the
+    /// number 0 is the root.
     pub fn node_count(&self) -> u32
         ensures leaves { result + 1 ≡ 2 * length self.now.leaves }
         ensures nodes { result ≡ length self.now.nodes }
+        ensures root { IsNodeAt self.now 0 (record { bits = 0; number = 0; leaves = self.now.leaves }) }
     {
-        self.sizes.len() as u32
+        self.nodes.len() as u32
     }
 
     /// Returns the leaves in ascending order of their blocks.
@@ -107,28 +130,21 @@ impl Trie {
 
     /// Returns a cursor at the node of the whole address space.
     pub fn root(&self) -> Cursor
-        ensures version { result.block.version ≡ self.now.version }
-        ensures value { result.block.value ≡ 0 }
-        ensures len { result.block.len ≡ 0 }
-        ensures leaves { result.leaves ≡ self.now.leaves }
-        ensures number { result.number ≡ 0 }
-        ensures nodes { result.nodes ≡ self.now.nodes }
+        ensures { IsRoot self.now result }
     {
-        cursor_at(
-            &self.stretches,
-            self.sizes.as_slice(),
-            0,
-            Window::whole(&self.stretches),
-        )
+        cursor_at(self, 0, whole_space(self.version))
     }
 
-    /// Returns a cursor at the node with this number, which must be below `node_count`. The cursor descends from the
-    /// root, one step for each bit of the block's length.
+    /// Returns a cursor at the node with this number, which must be below `node_count`. So a walk from the root meets
+    /// the nodes with the numbers from 0 below `node_count`, each once. The call descends from the root, one step for
+    /// each bit of the block's length.
     pub fn node(&self, number: u32) -> Cursor
         requires { number < length self.now.nodes }
         ensures version { result.block.version ≡ self.now.version }
         ensures number { result.number ≡ number }
         ensures nodes { result.nodes ≡ self.now.nodes }
+        ensures node { IsNode result }
+        ensures met { IsMet self.now result }
     {
         // Provides the law that the nodes are twice the leaves, less one.
         let _count = self.node_count();
@@ -144,34 +160,49 @@ impl Trie {
 }
 
 // Returns the trie with these stretches.
-fn trie_of(alloc: Global, stretches: Stretches) -> Result<Trie, AllocError>
-    requires { 2 * length (leaves_in stretches (width_of stretches.version) 0 0) < 2 ^ 32 }
-    ensures version { IfOk result (λ t. t.version ≡ stretches.version) }
-    ensures leaves { IfOk result (λ t. t.leaves ≡ leaves_in stretches (width_of stretches.version) 0 0) }
-{
-    let mut sizes = Vec::new(alloc);
-    push_sizes(&mut sizes, &stretches, Window::whole(&stretches))?;
-    Ok(Trie { stretches, sizes })
-}
-
-// Appends the sizes of the nodes at and below the node for a block. If an allocation fails, some of them may have been
-// appended.
-fn push_sizes(sizes: &mut Vec<u32>, stretches: &Stretches, window: Window) -> Result<(), AllocError>
-    requires window { IsWindow stretches.now window }
-    requires few { length (nodes_of stretches.now window) < 2 ^ 32 }
-    ensures { OnOk result (sizes.new.items ≡ sizes.old.items ++ map size_of (nodes_of stretches.now window)) }
+fn trie_of(alloc: Global, stretches: &Stretches) -> Result<Trie, AllocError>
+    requires { 2 * length (leaves_in stretches.now (width_of stretches.now.version) 0 0) < 2 ^ 32 }
+    ensures version { IfOk result (λ t. t.version ≡ stretches.now.version) }
+    ensures leaves { IfOk result (λ t. t.leaves ≡ leaves_in stretches.now (width_of stretches.now.version) 0 0) }
 {
     // Provides the law that the stretches cover every address.
     let _count = stretches.len();
-    let number = sizes.len();
-    sizes.push(1)?;
-    if window.from < window.to {
-        let (low, high) = window.halves(stretches);
-        push_sizes(sizes, stretches, low)?;
-        push_sizes(sizes, stretches, high)?;
-        sizes[number] = (sizes.len() - number) as u32;
+    let mut nodes = Vec::new(alloc);
+    push_nodes(&mut nodes, stretches, Window::whole(stretches))?;
+    Ok(Trie {
+        version: stretches.version(),
+        nodes,
+    })
+}
+
+// Appends the node for a block and those below it. If an allocation fails, some of them may have been appended.
+fn push_nodes(
+    nodes: &mut Vec<TrieNode>,
+    stretches: &Stretches,
+    window: Window,
+) -> Result<(), AllocError>
+    requires window { IsWindow stretches.now window }
+    requires few { length nodes.old.items + 2 * length (leaves_of stretches.now window) < 2 ^ 32 }
+    ensures { OnOk result (nodes.new.items ≡ nodes.old.items
+        ++ stored_of stretches.now window (length nodes.old.items)) }
+{
+    // Provides the law that the stretches cover every address.
+    let _count = stretches.len();
+    if window.from == window.to {
+        let leaf = match stretches.label(window.from) {
+            Some(id) => TrieNode::Labelled(id),
+            None => TrieNode::Unlabelled,
+        };
+        nodes.push(leaf)?;
+        return Ok(());
     }
-    Ok(())
+    let (low, high) = window.halves(stretches);
+    let number = nodes.len();
+    // The number of the upper half is known after the nodes of the lower half.
+    nodes.push(TrieNode::Inner(0))?;
+    push_nodes(nodes, stretches, low)?;
+    nodes[number] = TrieNode::Inner(nodes.len() as u32);
+    push_nodes(nodes, stretches, high)
 }
 
 // Appends the leaves at and below the node. If an allocation fails, some of them may have been appended.
