@@ -1,73 +1,86 @@
--- What a node of a trie adds to the lines of the certificate that is built.
-use Rattle.std.proofs.Common.{◌≡◌, ℕ, suc, ◌+◌, ◌-◌, ◌*◌, ◌^◌, ◌<◌, ◌∙◌, List, [], ◌∷◌, ◌++◌, All, Some, length, reverse, sym, ap, subst, arith, length-append}
+-- The lines of the certificate that is built from a trie, from the last node to the first.
+use Rattle.std.proofs.Common.{◌≡◌, ℕ, suc, ◌+◌, ◌-◌, ◌*◌, ◌^◌, ◌<◌, ◌≤◌, ◌∙◌, inl, inr, List, [], ◌∷◌, ◌++◌, All, IsSome, None, Some, length, reverse, slice_get, take, refl, sym, ap, subst, arith, length-append, true≢false}
+use Rattle.std.proofs.Math.Seq.{take-length}
+use Rattle.std.proofs.lemmas.Bool.{cases_eq}
+use Rattle.std.proofs.lemmas.List.{length-take-le, take-append-le}
 use Rattle.std.proofs.lemmas.List.Elements.{All-head}
-use Rattle.std.proofs.lemmas.Option.{same_Some}
+use Rattle.std.proofs.lemmas.Option.{same_Some, slice_get_within}
 use Rattle.prefix_keys.specs.Block.{width_of}
 use Rattle.pmap_text.specs.MapModel.{IsSettled}
 use Rattle.pmap_text.specs.MapText.{text_at}
-use Rattle.pmap_text.specs.declared.label.LabelId.{LabelId}
-use Rattle.pmap_cert.specs.FormatReading.{DueLine, LeafLine}
-use Rattle.pmap_cert.specs.Node.{Inner, Leaf, Node, cost_of, lines_of, set_of}
-use Rattle.label_trie.specs.Parts.{IsDivided}
-use Rattle.label_trie.specs.TrieModel.{CursorModel, IsSettledLeaf, IsUndivided, LeafModel, TrieModel, model_of, number_of}
 use Rattle.pmap_text.proofs.Finds.{All-left, All-right}
-use Rattle.label_trie.proofs.Places.{whole_number}
-use Rattle.pmap_minimise.specs.Built.{AddsInner, AreHalves, IsClaimed}
+use Rattle.pmap_cert.specs.FormatReading.{DueLine, InnerLine, LeafLine}
+use Rattle.pmap_cert.specs.CertificateText.{IsAscending}
+use Rattle.pmap_cert.specs.Node.{Inner, Leaf, Node, cost_of, lines_of, set_of}
+use Rattle.label_trie.specs.Stored.{IsInnerAt, IsLeafAt, IsNodeAt}
+use Rattle.label_trie.specs.TrieModel.{IsSettledLeaf, IsUndivided, LeafModel, NodeModel, TrieModel}
+use Rattle.pmap_minimise.specs.Built.{AddsInner, AreHalves}
 use Rattle.pmap_minimise.specs.Numbers.{IsCertified, IsMapNode, IsSound}
 use Rattle.pmap_minimise.proofs.BuiltNodes.{HasClaimOf, are-halves, earlier-claim, halves-exact, inner-lines, last-claim, reversed-lines}
 use Rattle.pmap_minimise.proofs.Joined.{joined-in, joined-sound, moved}
 use Rattle.pmap_minimise.proofs.Texts.{exact-ascending, exact-cost}
 
-pub leaf-claimed : (c : CursorModel) (id : LabelId) (old new : List DueLine) → id.0 < 2 ^ 32 → c.leaves ≡ model_of (record { block = c.block; label = Some id }) ∷ []
-    → new ≡ old ++ LeafLine id.0 ∷ [] → IsClaimed c old new
-leaf-claimed c id old new fits leaves own = record {
-  node = Leaf id.0;
-  certified = subst (λ (l : List LeafModel). IsCertified c.block.len (number_of c.block) (width_of c.block.version - c.block.len) l (Leaf id.0)) (sym leaves) (record {
+-- the lines of the certificate's node for a trie's node were added, among addresses of W bits
+pub record IsClaimed (W : ℕ) (place : NodeModel) (old new : List DueLine) : Type 0 where
+  pub node : Node
+  pub certified : IsCertified place.bits place.number (W - place.bits) place.leaves node
+  pub ascending : IsAscending (2 ^ 32) 0 (set_of node)
+  pub lines_are : new ≡ old ++ reverse (lines_of node)
+
+leaf-claimed : (W : ℕ) (leaf : LeafModel) (id : ℕ) (old new : List DueLine) → id < 2 ^ 32 → leaf.label ≡ Some id → new ≡ old ++ LeafLine id ∷ []
+    → IsClaimed W (record { bits = leaf.bits; number = leaf.number; leaves = leaf ∷ [] }) old new
+leaf-claimed W leaf id old new fits label_is lines = record {
+  node = Leaf id;
+  certified = record {
     each = λ m ok settled undivided.
         let own = All-head (IsSettledLeaf m) leaf [] settled in
-        let same = sym (same_Some id.0 own.id own.is) in
+        let same = same_Some own.id id (sym own.is ∙ label_is) in
         record { stands = subst (λ (k : ℕ). IsSettled m leaf.bits leaf.number (text_at m.table k)) same own.settled; form = (subst (λ (k : ℕ). k < length m.table) same own.known, tt) };
     sound = tt;
     cost = omega arith;
-  });
+  };
   ascending = (omega arith, fits, tt);
-  lines_are = own;
+  lines_are = lines;
 }
-  where
-    leaf : LeafModel
-    leaf = model_of (record { block = c.block; label = Some id })
 
 -- a node whose halves were added, the higher one first
-module _ (c low high : CursorModel) (old middle after : List DueLine) (divided : IsDivided c low high) (few : length c.leaves < 2 ^ 32)
-    (above : IsClaimed high old middle) (below : IsClaimed low middle after) where
+module _ (t : TrieModel) (number upper : ℕ) (inner : IsInnerAt t number upper) (few : length t.leaves < 2 ^ 32) (old middle after : List DueLine)
+    (above : IsClaimed (width_of t.version) inner.high old middle) (below : IsClaimed (width_of t.version) inner.low middle after) where
+  abbrev W : ℕ
+  W = width_of t.version
+
+  abbrev c : NodeModel
+  c = inner.whole
+
   low-claim : HasClaimOf after (length after - 1) below.node
   low-claim = last-claim middle after below.node below.lines_are
 
   high-claim : HasClaimOf after (length middle - 1) above.node
   high-claim = earlier-claim old middle after above.node below.node above.lines_are below.lines_are
 
-  count : length c.leaves ≡ length low.leaves + length high.leaves
-  count = ap length divided.leaves ∙ length-append low.leaves high.leaves
+  count : length c.leaves ≡ length inner.low.leaves + length inner.high.leaves
+  count = ap length inner.leaves ∙ length-append inner.low.leaves inner.high.leaves
+
+  some-leaves : length c.leaves ≤ length t.leaves
+  some-leaves =
+      let at = inner.whole_at in
+      omega (arith, ap length at.among, length-append at.before (c.leaves ++ at.after), length-append c.leaves at.after)
 
   pub halves-claims : AreHalves after (length middle - 1)
   halves-claims =
       let a = below.certified.cost in
       let b = above.certified.cost in
-      are-halves after (length middle - 1) below.node above.node low-claim high-claim below.ascending above.ascending (omega (arith, count, few))
+      are-halves after (length middle - 1) below.node above.node low-claim high-claim below.ascending above.ascending (omega (arith, count, some-leaves, few))
 
-  pub halves-claimed : (new : List DueLine) → AddsInner (length middle - 1) after new → IsClaimed c old new
+  pub halves-claimed : (new : List DueLine) → AddsInner (length middle - 1) after new → IsClaimed W c old new
   halves-claimed new adds =
-      let W : ℕ = width_of c.block.version in
-      let room : ℕ = W - low.block.len in
-      let inside = low.block.len_in_range in
-      let len = divided.low_half.len in
-      let len' = divided.high_half.len in
-      let width : width_of low.block.version ≡ W = ap width_of divided.low_half.version in
-      let width' : width_of high.block.version ≡ W = ap width_of divided.high_half.version in
-      let all : suc room ≡ W - c.block.len = omega arith in
-      let low_room : width_of low.block.version - low.block.len ≡ room = omega arith in
-      let high_room : width_of high.block.version - high.block.len ≡ room = omega arith in
-      let low_number : number_of low.block ≡ 2 * number_of c.block = omega (arith, divided.low_half.number) in
+      let room : ℕ = W - inner.low.bits in
+      let within = inner.low_at.within in
+      let len = inner.low_bits in
+      let all : suc room ≡ W - c.bits = omega arith in
+      let high_room : W - inner.high.bits ≡ room = omega (arith, inner.high_bits) in
+      let low_len : inner.low.bits ≡ suc c.bits = omega (arith, len) in
+      let high_len : inner.high.bits ≡ suc c.bits = omega (arith, inner.high_bits) in
       let exact = halves-exact after (length middle - 1) below.node above.node adds.cost adds.set low-claim high-claim adds.exact in
       let node = Inner adds.cost adds.set below.node above.node in
       let cheap : adds.cost < length c.leaves =
@@ -77,24 +90,145 @@ module _ (c low high : CursorModel) (old middle after : List DueLine) (divided :
         node = node;
         certified = record {
           each = λ m ok settled undivided.
-              let settled' = subst (λ (l : List LeafModel). All (IsSettledLeaf m) l) divided.leaves settled in
-              let undivided' = subst (λ (l : List LeafModel). All (IsUndivided m) l) divided.leaves undivided in
-              subst (λ (h : ℕ). IsMapNode m c.block.len (number_of c.block) h node) all
-              (joined-in m c.block.len (number_of c.block) room below.node above.node adds.cost adds.set ok (divided.unsettled m undivided)
-              (moved m _ _ _ _ _ _ below.node (omega arith) low_number low_room (below.certified.each m ok (All-left (IsSettledLeaf m) low.leaves high.leaves settled') (All-left (IsUndivided m) low.leaves high.leaves undivided')))
-              (moved m _ _ _ _ _ _ above.node (omega arith) divided.high_half.number high_room (above.certified.each m ok (All-right (IsSettledLeaf m) low.leaves high.leaves settled') (All-right (IsUndivided m) low.leaves high.leaves undivided'))) exact (omega (arith, cheap, few)));
+              let settled' = subst (λ (l : List LeafModel). All (IsSettledLeaf m) l) inner.leaves settled in
+              let undivided' = subst (λ (l : List LeafModel). All (IsUndivided m) l) inner.leaves undivided in
+              let low = inner.low.leaves in
+              let high = inner.high.leaves in
+              subst (λ (h : ℕ). IsMapNode m c.bits c.number h node) all
+              (joined-in m c.bits c.number room below.node above.node adds.cost adds.set ok (inner.unsettled m undivided)
+              (moved m _ _ _ _ _ _ below.node low_len inner.low_number refl (below.certified.each m ok (All-left (IsSettledLeaf m) low high settled') (All-left (IsUndivided m) low high undivided')))
+              (moved m _ _ _ _ _ _ above.node high_len inner.high_number high_room (above.certified.each m ok (All-right (IsSettledLeaf m) low high settled') (All-right (IsUndivided m) low high undivided'))) exact (omega (arith, cheap, some-leaves, few)));
           sound = subst (IsSound node) all
-              (joined-sound room below.node above.node adds.cost adds.set (subst (IsSound below.node) low_room below.certified.sound) (subst (IsSound above.node) high_room above.certified.sound) exact);
+              (joined-sound room below.node above.node adds.cost adds.set below.certified.sound (subst (IsSound above.node) high_room above.certified.sound) exact);
           cost = cheap;
         };
         ascending = exact-ascending (2 ^ 32) (cost_of below.node) (cost_of above.node) (set_of below.node) (set_of above.node) adds.cost adds.set below.ascending above.ascending exact;
         lines_are = inner-lines old middle after new adds.cost adds.set below.node above.node above.lines_are below.lines_are adds.lines_are;
       }
 
--- what is added for the whole address space is the certificate
-pub root-claimed : (t : TrieModel) (c : CursorModel) (old new : List DueLine) (root : Node) → c.block.version ≡ t.version → c.block.value ≡ 0 → c.block.len ≡ 0 → c.leaves ≡ t.leaves → old ≡ []
-    → IsClaimed c old new → ((node : Node) → reverse new ≡ lines_of node → root ≡ node) → IsCertified 0 0 (width_of t.version) t.leaves root
-root-claimed t c old new root version start len leaves none claimed root_is =
-    let room : width_of c.block.version - c.block.len ≡ width_of t.version = omega (arith, len, ap width_of version) in
-    subst (IsCertified 0 0 (width_of t.version) t.leaves) (sym (root_is claimed.node (reversed-lines old new claimed.node none claimed.lines_are)))
-    (rw (whole_number c.block start, room, len, leaves) at claimed.certified)
+-- The node with the number k has its lines among these. They follow those of the nodes with greater numbers that are not
+-- below it.
+pub record IsClaimedAt (t : TrieModel) (lines : List DueLine) (k : ℕ) (place : NodeModel) : Type 0 where
+  pub from : ℕ
+  pub to : ℕ
+  pub claimed : IsClaimed (width_of t.version) place (take from lines) (take to lines)
+  pub from_is : from + 2 * length place.leaves + k ≡ length t.nodes + 1
+  pub to_is : to + k ≡ length t.nodes
+
+-- The lines are those of the nodes from the number n on. The leaves can be counted in 32 bits.
+pub record AreClaimed (t : TrieModel) (n : ℕ) (lines : List DueLine) : Type 0 where
+  pub few : length t.leaves < 2 ^ 32
+  pub count : length lines + n ≡ length t.nodes
+  pub each : (k : ℕ) (place : NodeModel) → n ≤ k → slice_get t.nodes k ≡ Some place → IsClaimedAt t lines k place
+
+-- at the end no node is left
+pub none-claimed : (t : TrieModel) (lines : List DueLine) → length t.leaves < 2 ^ 32 → lines ≡ [] → AreClaimed t (length t.nodes) lines
+none-claimed t lines few none = record {
+  few = few;
+  count = omega (arith, ap length none);
+  each = λ k place from there. absurd (omega (arith, from, slice_get_within t.nodes k place there));
+}
+
+-- all lines of a list
+whole : (lines : List DueLine) (n : ℕ) → n ≡ length lines → take n lines ≡ lines
+whole lines n is = ap (λ (k : ℕ). take k lines) is ∙ take-length lines
+
+-- one more line, that of the node before those that have theirs
+module _ (t : TrieModel) (number : ℕ) (lines : List DueLine) (some : 0 < number) (are : AreClaimed t number lines) where
+  abbrev n : ℕ
+  n = number - 1
+
+  more-claimed : (new : List DueLine) (line : DueLine) (place : NodeModel) (from : ℕ) → new ≡ lines ++ line ∷ [] → slice_get t.nodes n ≡ Some place
+      → IsClaimed (width_of t.version) place (take from lines) new → from + 2 * length place.leaves + n ≡ length t.nodes + 1 → AreClaimed t n new
+  more-claimed new line place from is there claimed from_is =
+      let longer : length new ≡ length lines + 1 = ap length is ∙ length-append lines (line ∷ []) in
+      let kept : (i : ℕ) → i ≤ length lines → take i lines ≡ take i new = λ i most. sym (ap (take i) is ∙ take-append-le i lines (line ∷ []) most) in
+      let some_leaves = claimed.certified.cost in
+      let all = are.count in
+      record {
+        few = are.few;
+        count = omega (arith, are.count, longer);
+        each = λ k other beyond at. elim (cases_eq n k) [
+          | inl same ↦
+              let own : IsClaimedAt t new n place = record {
+                from = from;
+                to = length new;
+                claimed = subst (λ (l : List DueLine). IsClaimed (width_of t.version) place l (take (length new) new)) (kept from (omega arith))
+                    (subst (IsClaimed (width_of t.version) place (take from lines)) (sym (whole new (length new) refl)) claimed);
+                from_is = from_is;
+                to_is = omega (arith, are.count, longer);
+              } in
+              subst (λ (i : ℕ). IsClaimedAt t new i other) same (subst (IsClaimedAt t new n) (same_Some _ _ (sym there ∙ ap (slice_get t.nodes) same ∙ at)) own)
+          | inr later ↦
+              let older = are.each k other (omega (arith, beyond, later)) at in
+              let leaves = older.claimed.certified.cost in
+              record {
+                from = older.from;
+                to = older.to;
+                claimed = subst (λ (l : List DueLine). IsClaimed (width_of t.version) other l (take older.to new)) (kept older.from (omega (arith, older.from_is, are.count, beyond, later)))
+                    (subst (IsClaimed (width_of t.version) other (take older.from lines)) (kept older.to (omega (arith, older.to_is, are.count, beyond, later))) older.claimed);
+                from_is = older.from_is;
+                to_is = older.to_is;
+              }
+        ];
+      }
+
+  pub leaf-added : (id : ℕ) (new : List DueLine) → id < 2 ^ 32 → IsLeafAt t n (Some id) → new ≡ lines ++ LeafLine id ∷ [] → AreClaimed t n new
+  leaf-added id new fits leaf is =
+      more-claimed new (LeafLine id) _ (length lines) is leaf.at.there
+      (leaf-claimed (width_of t.version) leaf.leaf id _ new fits leaf.label_is (is ∙ ap (λ (l : List DueLine). l ++ LeafLine id ∷ []) (sym (whole lines (length lines) refl)))) (omega (arith, are.count))
+
+  module _ (upper : ℕ) (inner : IsInnerAt t n upper) where
+    below : IsClaimedAt t lines (n + 1) inner.low
+    below = are.each (n + 1) inner.low (omega arith) inner.low_at.there
+
+    above : IsClaimedAt t lines upper inner.high
+    above = are.each upper inner.high (let some_leaves = below.claimed.certified.cost in omega (arith, inner.upper_is)) inner.high_at.there
+
+    -- the lines of the lower half are the last ones, and follow those of the upper half
+    lower : IsClaimed (width_of t.version) inner.low (take above.to lines) lines
+    lower =
+        let seam : below.from ≡ above.to = omega (arith, below.from_is, above.to_is, inner.upper_is) in
+        subst (λ (i : ℕ). IsClaimed (width_of t.version) inner.low (take i lines) lines) seam
+        (subst (IsClaimed (width_of t.version) inner.low (take below.from lines)) (whole lines below.to (omega (arith, below.to_is, are.count))) below.claimed)
+
+    line_is : (line : ℕ) → line + 1 + upper ≡ length t.nodes → length (take above.to lines) - 1 ≡ line
+    line_is line is =
+        let some_leaves = below.claimed.certified.cost in
+        let most : above.to ≤ length lines = omega (arith, above.to_is, are.count, inner.upper_is) in
+        omega (arith, length-take-le above.to lines most, above.to_is, is)
+
+    pub upper-below : upper < length t.nodes
+    upper-below = slice_get_within t.nodes upper inner.high inner.high_at.there
+
+    pub inner-halves : (line : ℕ) → line + 1 + upper ≡ length t.nodes → AreHalves lines line
+    inner-halves line is =
+        subst (AreHalves lines) (line_is line is) (halves-claims t n upper inner are.few (take above.from lines) (take above.to lines) lines above.claimed lower)
+
+    pub inner-added : (line : ℕ) (new : List DueLine) → line + 1 + upper ≡ length t.nodes → AddsInner line lines new → AreClaimed t n new
+    inner-added line new is adds =
+        more-claimed new (InnerLine adds.cost adds.set) inner.whole above.from adds.lines_are inner.whole_at.there
+        (halves-claimed t n upper inner are.few (take above.from lines) (take above.to lines) lines above.claimed lower new
+        (subst (λ (k : ℕ). AddsInner k lines new) (sym (line_is line is)) adds))
+        (omega (arith, above.from_is, inner.upper_is, ap length inner.leaves, length-append inner.low.leaves inner.high.leaves))
+
+-- a leaf of a trie whose leaves have labels has one
+pub unlabelled : (t : TrieModel) (n : ℕ) → All (λ leaf. IsSome leaf.label) t.leaves → IsLeafAt t n None → ⊥
+unlabelled t n all is =
+    let own = is.at in
+    let rest = All-right (λ (leaf : LeafModel). IsSome leaf.label) own.before ((is.leaf ∷ []) ++ own.after) (rw own.among at all) in
+    let some = All-head (λ (leaf : LeafModel). IsSome leaf.label) is.leaf own.after rest in
+    true≢false (sym (rw is.label_is at some))
+
+-- the lines of all nodes are the certificate's
+pub root-claimed : (t : TrieModel) (lines : List DueLine) → IsNodeAt t 0 (record { bits = 0; number = 0; leaves = t.leaves }) → length t.nodes + 1 ≡ 2 * length t.leaves
+    → AreClaimed t 0 lines → (node : Node) × (reverse lines ≡ lines_of node) × IsCertified 0 0 (width_of t.version) t.leaves node
+root-claimed t lines place twice are =
+    let here = are.each 0 _ (omega arith) place.there in
+    let first : here.from ≡ 0 = omega (arith, here.from_is, twice) in
+    let last = whole lines here.to (omega (arith, here.to_is, are.count)) in
+    let room : width_of t.version - 0 ≡ width_of t.version = omega arith in (
+      here.claimed.node,
+      reversed-lines (take here.from lines) lines here.claimed.node (ap (λ (i : ℕ). take i lines) first) (sym last ∙ here.claimed.lines_are),
+      subst (λ (h : ℕ). IsCertified 0 0 h t.leaves here.claimed.node) room here.claimed.certified,
+    )

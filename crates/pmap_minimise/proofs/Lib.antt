@@ -9,7 +9,7 @@ pub mod Paths
 pub mod MadeNodes
 pub mod BuiltNodes
 pub mod ChainEntries
-pub mod NodeEntries
+pub mod Reading
 pub mod OpenedTexts
 pub mod RunEnds
 pub mod Claimed

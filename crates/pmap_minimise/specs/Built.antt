@@ -4,12 +4,11 @@ use Rattle.pmap_text.specs.Label.{IsLabelTable}
 use Rattle.pmap_text.specs.MapModel.{MapModel}
 use Rattle.pmap_text.specs.Stretches.{StretchesModel}
 use Rattle.pmap_text.specs.declared.window.Window.{Window}
-use Rattle.label_trie.specs.TrieModel.{CursorModel, number_of}
 use Rattle.pmap_cert.specs.CertificateText.{IsAscending}
 use Rattle.pmap_cert.specs.FormatReading.{DueLine, InnerLine, LeafLine}
 use Rattle.pmap_cert.specs.Inner.{IsCompactNode}
 use Rattle.pmap_cert.specs.Node.{Node, cost_of, lines_of, node_of, set_of}
-use Rattle.pmap_minimise.specs.Numbers.{IsCertified, IsExact, IsMapNode, IsSound}
+use Rattle.pmap_minimise.specs.Numbers.{IsExact, IsMapNode, IsSound}
 use Rattle.pmap_minimise.specs.Opened.{Opens}
 use Rattle.pmap_minimise.specs.Runs.{IsMade}
 
@@ -36,13 +35,6 @@ pub record AddsInner (upper : ℕ) (old new : List DueLine) : Type 0 where
   pub set : List ℕ
   pub exact : IsExact (last_node old) (node_at old upper) cost set
   pub lines_are : new ≡ old ++ InnerLine cost set ∷ []
-
--- the lines of the certificate's node for the cursor's block were added
-pub record IsClaimed (c : CursorModel) (old new : List DueLine) : Type 0 where
-  pub node : Node
-  pub certified : IsCertified c.block.len (number_of c.block) (width_of c.block.version - c.block.len) c.leaves node
-  pub ascending : IsAscending (2 ^ 32) 0 (set_of node)
-  pub lines_are : new ≡ old ++ reverse (lines_of node)
 
 -- the lines of the block's node, compacted, were added
 pub record IsBuilt (s : StretchesModel) (a : Window) (old new : List DueLine) : Type 0 where
