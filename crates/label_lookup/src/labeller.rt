@@ -1,5 +1,6 @@
-ghost use Rattle.std.specs.Prelude.{◌≡◌, ℕ, List, Option, option_map};
+ghost use Rattle.std.specs.Prelude.{◌≡◌, ℕ, IfSome, IsTrue, List, Option, option_map};
 ghost use Rattle.prefix_keys.specs.declared.version.Version.{Version as VersionOf};
+ghost use Rattle.pmap_text.specs.Label.{is_label};
 
 use prefix_keys::{Addr, Version};
 
@@ -15,8 +16,10 @@ pub trait Labeller {
     fn version(&self) -> Version
         ensures { result ≡ version_of self.now };
 
-    /// Returns the label of an address, which must be of the labeller's version.
+    /// Returns the label of an address, which must be of the labeller's version. A label has 1 to 255 bytes, none of
+    /// which is 0.
     fn label_of(&self, addr: Addr) -> Option<&[u8]>
         requires { addr.version ≡ version_of self.now }
-        ensures { option_map (λ t. t.now) result ≡ label self.now addr.value };
+        ensures value { option_map (λ t. t.now) result ≡ label self.now addr.value }
+        ensures label { IfSome result (λ t. IsTrue (is_label t.now)) };
 }

@@ -1,5 +1,6 @@
 //! The label of a row's address.
-ghost use Rattle.std.specs.Prelude.{◌≡◌, option_map};
+ghost use Rattle.std.specs.Prelude.{◌≡◌, IfSome, IsTrue, option_map};
+ghost use Rattle.pmap_text.specs.Label.{is_label};
 ghost use Rattle.label_lookup.specs.Labelling.{label_by, label_where, labelling_by, labelling_lent};
 
 use crate::labeller::Labeller;
@@ -9,8 +10,9 @@ use prefix_keys::{Addr, convert};
 /// converted, or has no label there.
 #[inline(always)]
 pub fn label_row<L: Labeller>(labeller: &L, addr: Addr) -> Option<&[u8]>
-    ensures { option_map (λ t. t.now) result
+    ensures value { option_map (λ t. t.now) result
         ≡ label_by (labelling_by L.version_of L.label labeller.now) (addr.version, addr.value) }
+    ensures label { IfSome result (λ t. IsTrue (is_label t.now)) }
 {
     labeller.label_of(convert(addr, labeller.version())?)
 }
@@ -18,8 +20,9 @@ pub fn label_row<L: Labeller>(labeller: &L, addr: Addr) -> Option<&[u8]>
 /// Returns the label of a row's address like [`label_row`], or `None` if there is no labeller.
 #[inline(always)]
 pub fn label_row_under<L: Labeller>(labeller: Option<&L>, addr: Addr) -> Option<&[u8]>
-    ensures { option_map (λ t. t.now) result
+    ensures value { option_map (λ t. t.now) result
         ≡ label_where (labelling_lent L.version_of L.label labeller.entry) (addr.version, addr.value) }
+    ensures label { IfSome result (λ t. IsTrue (is_label t.now)) }
 {
     label_row(labeller?, addr)
 }

@@ -24,5 +24,5 @@ returns-in-Some g c =
     let is = ap (option_map (λ (a : Addr). (a.version, a.value))) (sym c.in-Some.is) ∙ c.convert.ensures.value ∙ ap (λ (v : Version). converted v address) c.version.ensures in
     IfOk-weaker c.line.result _ _
     (λ out printed. printed ∙ ap (λ (l : Option Label). unwrap_or l [] ++ 10 ∷ [])
-    (c.label_of.ensures ∙ at_place _ (g.L.Labeller.label c.args.labels.now) address c.in-Some.place is (c.in-Some.ensures.version ∙ c.version.ensures)))
+    (c.label_of.ensures.value ∙ at_place _ (g.L.Labeller.label c.args.labels.now) address c.in-Some.place is (c.in-Some.ensures.version ∙ c.version.ensures)))
     c.line.ensures

@@ -7,8 +7,8 @@ use Rattle.label_lookup.specs.Labelling.{IsLongest}
 use Rattle.label_lookup.proofs.Scanning.{longest_label, none_label}
 use Rattle.label_lookup.proofs.list_scan.ListScanLabeller.label_of.Goals as goal
 
-pub returns : goal.returns
-returns c =
+pub returns-clause-value : goal.returns-clause-value
+returns-clause-value c =
     let l = c.self.inside.list.now in
     let version = c.requires ∙ sym (ap (λ (t : ListModel). t.version) c.self.view_is) in
     let longest : IsLongest l.entries c.args.addr (Some c.in_ok-entry.entry) = c.in_ok-entry.ensures in
@@ -18,8 +18,8 @@ returns c =
     ∙ sym (longest_label l c.args.addr version c.in_ok-entry.entry longest)
     ∙ ap (λ (t : ListModel). list_label t c.args.addr.value) c.self.view_is
 
-pub returns-in_err-entry : goal.returns-in_err-entry
-returns-in_err-entry c =
+pub returns-in_err-entry-clause-value : goal.returns-in_err-entry-clause-value
+returns-in_err-entry-clause-value c =
     let l = c.self.inside.list.now in
     let version = c.requires ∙ sym (ap (λ (t : ListModel). t.version) c.self.view_is) in
     ap (option_map (λ t. t.now)) c.from_residual.ensures

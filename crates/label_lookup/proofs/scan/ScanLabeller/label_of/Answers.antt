@@ -4,8 +4,8 @@ use Rattle.pmap_text.specs.MapModel.{MapModel, map_label}
 use Rattle.label_lookup.proofs.Scanned.{IsLeft, by_default, covering, found, passed_over}
 use Rattle.label_lookup.proofs.scan.ScanLabeller.label_of.Goals as goal
 
-pub returns-then-covers : goal.returns-then-covers
-returns-then-covers c =
+pub returns-then-covers-clause-value : goal.returns-then-covers-clause-value
+returns-then-covers-clause-value c =
     let m = c.self.inside.map.now in
     let a = c.args.addr.value in
     let left = c.loop-left.left in
@@ -30,8 +30,8 @@ loop-left-preserved c =
     let covers = covering m a (left - 1) left next c.loop-left.invariant s is c.args.addr refl version c.covers.result c.covers.ensures in
     passed_over m a (left - 1) left next c.loop-left.invariant s is (covers ∙ c.if-covers.false)
 
-pub returns : goal.returns
-returns c =
+pub returns-clause-value : goal.returns-clause-value
+returns-clause-value c =
     let m = c.self.inside.map.now in
     let a = c.args.addr.value in
     let none = subst (IsLeft m a) (omega (arith, c.loop-left-test.false)) c.loop-left.invariant in

@@ -37,8 +37,8 @@ find-index-requires-clause-below c =
     read_ends c.self.inside.stretches c.len-count.ensures.every c.self.inside.tops.items c.self.invariant c.args.addr.value
     (fits_version _ _ _ same c.args.addr.in_range) c.width.result _ _ (c.width.ensures ∙ ap width_of same) c.index-from.ensures c.index-to.ensures
 
-pub returns : goal.returns
-returns c =
+pub returns-clause-value : goal.returns-clause-value
+returns-clause-value c =
     let m : StretchModel = record { table = c.self.inside.labels.now; stretches = c.self.inside.stretches } in
     let same = same_version c.args.self.now m c.args.addr.version c.self.view_is c.requires in
     c.text.ensures.value
@@ -46,8 +46,8 @@ returns c =
     ∙ label_found m c.len-count.ensures.every c.args.addr.value c.find-index.result c.find-index.ensures.holds (fits_version _ _ _ same c.args.addr.in_range)
     ∙ ap (λ (x : StretchModel). (labelling x.stretches.version (text_held x.table x.stretches)).label c.args.addr.value) c.self.view_is
 
-pub returns-in_err-id : goal.returns-in_err-id
-returns-in_err-id c =
+pub returns-in_err-id-clause-value : goal.returns-in_err-id-clause-value
+returns-in_err-id-clause-value c =
     let m : StretchModel = record { table = c.self.inside.labels.now; stretches = c.self.inside.stretches } in
     let same = same_version c.args.self.now m c.args.addr.version c.self.view_is c.requires in
     ap (option_map (λ t. t.now)) c.from_residual.ensures
