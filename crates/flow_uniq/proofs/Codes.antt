@@ -6,7 +6,7 @@ use Rattle.std.specs.Bool.{Decides}
 use Rattle.std.specs.Str.{bytes_eq}
 use Rattle.prefix_keys.specs.declared.version.Version.TheVariants.{V4, V6}
 use Rattle.flow_uniq.specs.Key.{Key, KeyPartModel, AddressPart, NumberPart, LabelPart, part_numbers, same_key}
-use Rattle.flow_uniq.specs.Inner.{AreSmall, key_code, same_code}
+use Rattle.flow_uniq.specs.Codes.{AreSmall, key_code, same_code}
 use Rattle.flow_uniq.proofs.Cutting.{same_from_codes}
 
 -- the part with these numbers

@@ -1,15 +1,19 @@
 -- The bytes that are written for a key are read back as this key.
-use Rattle.std.proofs.Common.{◌≡◌, ℕ, zero, suc, ◌+◌, ◌*◌, ◌/◌, ◌%◌, ◌^◌, ◌<◌, ◌≤◌, ◌==◌, Bool, true, false, if◌then◌else◌, List, [], ◌∷◌, ◌++◌, length, take, drop, nat_lt, get_or, map, Option, Some, None, refl, sym, ap, subst, ◌∙◌, arith}
+use Rattle.std.proofs.Common.{◌≡◌, ℕ, zero, suc, ◌+◌, ◌*◌, ◌/◌, ◌%◌, ◌^◌, ◌<◌, ◌≤◌, ◌==◌, Bool, true, false, not, cond, if◌then◌else◌, true≢false, List, [], ◌∷◌, ◌++◌, length, take, drop, nat_lt, get_or, map, Option, Some, None, unwrap_or, refl, sym, ap, subst, ◌∙◌, arith}
 use Rattle.std.proofs.lemmas.List.{append_assoc, drop_all, drop-append-le, length-append, length-drop, take_all, take-append-le}
+use Rattle.std.proofs.lemmas.Bool.{and_parts, ne_eqb}
 use Rattle.std.proofs.lemmas.Bool.Decides.{nat_tests}
 use Rattle.std.proofs.lemmas.Grind.{common_steps}
 use Rattle.std.proofs.lemmas.Nat.{from_be_bytes-to_be_bytes_2, from_be_bytes-to_be_bytes_4, from_be_bytes-to_be_bytes_8}
+use Rattle.std.proofs.lemmas.Option.{none-some}
+use Rattle.std.specs.List.{AllByRecursion, list_all, position_or_len}
 use Rattle.std.specs.Option.{option_map_or}
-use Rattle.std.specs.Prelude.{IfSome, option_and_then, option_map}
+use Rattle.std.specs.Prelude.{IfSome, IsTrue, nat_le, option_and_then, option_map, position}
 use Rattle.std.specs.Int.{w16, w32, w64, from_be_bytes, to_be_bytes}
 use Rattle.prefix_keys.specs.declared.version.Version.TheVariants.{V4, V6}
+use Rattle.pmap_text.specs.Label.{is_label, is_label_byte}
 use Rattle.flow_uniq.specs.Key.{KeyField, Key, KeyPartModel, AddressPart, NumberPart, LabelPart}
-use Rattle.flow_uniq.specs.Inner.{AreSmall, IsCode, IsSmall, first_part, front_bytes, key_code, key_in, part_code, parts_in}
+use Rattle.flow_uniq.specs.Codes.{AreSmall, IsCode, IsSmall, first_part, front_bytes, front_label, key_code, key_in, part_code, parts_in}
 
 not_less : (a b : ℕ) → b ≤ a → nat_lt a b ≡ false
 not_less a b h = grind (arith, nat_tests)
@@ -25,18 +29,49 @@ drop-front n xs r e = drop-append-le n xs r (omega (arith, e)) ∙ ap (λ (l : L
 front_bytes-back : (n : ℕ) (xs r : List ℕ) → length xs ≡ n → front_bytes n (xs ++ r) ≡ Some (xs, r)
 front_bytes-back n xs r e = rw (not_less (length (xs ++ r)) n (omega (arith, e, length-append xs r)), take-front n xs r e, drop-front n xs r e) refl
 
+-- no byte is 0
+abbrev pub LacksZero : List ℕ → Type 0
+LacksZero bytes = AllByRecursion (λ b. 0 < b) bytes
+
+lacks_zero : (bytes : List ℕ) → list_all is_label_byte bytes ≡ true → LacksZero bytes
+lacks_zero [] h = tt
+lacks_zero (zero ∷ bytes) h = absurd (true≢false (sym h))
+lacks_zero (suc b ∷ bytes) h = (omega arith, lacks_zero bytes (and_parts (is_label_byte (suc b)) (list_all is_label_byte bytes) h).1)
+
+pub label-lacks_zero : (text : List ℕ) → IsTrue (is_label text) → LacksZero text
+label-lacks_zero text is =
+    lacks_zero text (and_parts _ _ (and_parts (nat_le (length text) 255) _ (and_parts (nat_le 1 (length text)) _ is).1).1).0
+
+before_zero : (text r : List ℕ) → LacksZero text → position_or_len (λ b. b == 0) (text ++ 0 ∷ r) ≡ length text
+before_zero [] r lacks = refl
+before_zero (b ∷ text) r lacks =
+    (λ i. cond (not (ne_eqb b 0 (λ e. omega (arith, lacks.0, e)) i)) (1 + position_or_len (λ b. b == 0) (text ++ 0 ∷ r)) 0)
+    ∙ omega (arith, before_zero text r lacks.1)
+
+zero_at : (text r : List ℕ) → LacksZero text → position (λ b. b == 0) (text ++ 0 ∷ r) ≡ Some (length text)
+zero_at text r lacks =
+    rw (before_zero text r lacks, length-append text (0 ∷ r)) (grind (arith, nat_tests))
+
+-- a label that was written is read back
+front_label-back : (label : Option (List ℕ)) (r : List ℕ) → IsSmall (LabelPart label) → front_label ((unwrap_or label [] ++ 0 ∷ []) ++ r) ≡ Some (label, r)
+front_label-back None r h = ap (option_map (λ count. (if count == 0 then None else Some (take count (0 ∷ r)), drop (count + 1) (0 ∷ r)))) (zero_at [] r tt)
+front_label-back (Some []) r h = absurd (true≢false (sym h))
+front_label-back (Some (b ∷ t)) r h =
+    let text : List ℕ = b ∷ t in
+    let code : List ℕ = (text ++ 0 ∷ []) ++ r in
+    let at : position (λ b. b == 0) code ≡ Some (length text) =
+    ap (position (λ b. b == 0)) (append_assoc text (0 ∷ []) r) ∙ zero_at text r (label-lacks_zero text h) in
+    let front : take (length text) code ≡ text = ap (take (length text)) (append_assoc text (0 ∷ []) r) ∙ take-front (length text) text (0 ∷ r) refl in
+    let back : drop (length text + 1) code ≡ r = drop-front (length text + 1) (text ++ 0 ∷ []) r (length-append text (0 ∷ [])) in
+    ap (option_map (λ count. (if count == 0 then None else Some (take count code), drop (count + 1) code))) at
+    ∙ (λ i. Some (if ne_eqb (length text) 0 (λ e. omega (arith, e)) i then None else Some (front i), back i))
+
 -- a part that was written is read back, and the bytes after it remain
 first_part-back : (p : KeyPartModel) (r : List ℕ) → IsSmall p → first_part (part_code p ++ r) ≡ Some (p, r)
 first_part-back (NumberPart n) r h =
     ap (option_map (λ c. (NumberPart (from_be_bytes w16 c.0), c.1))) (front_bytes-back 2 (to_be_bytes w16 n) r refl)
     ∙ ap (λ (m : ℕ). Some (NumberPart m, r)) (from_be_bytes-to_be_bytes_2 n h)
-first_part-back (LabelPart None) r h = refl
-first_part-back (LabelPart (Some t)) r h =
-    ap (λ (l : List ℕ). first_part (2 ∷ l)) (append_assoc (to_be_bytes w64 (length t)) t r)
-    ∙ ap (option_and_then (λ len. option_map (λ c. (LabelPart (Some c.0), c.1)) (front_bytes (from_be_bytes w64 len.0) len.1)))
-    (front_bytes-back 8 (to_be_bytes w64 (length t)) (t ++ r) refl)
-    ∙ ap (λ (n : ℕ). option_map (λ c. (LabelPart (Some c.0), c.1)) (front_bytes n (t ++ r))) (from_be_bytes-to_be_bytes_8 (length t) h)
-    ∙ ap (option_map (λ c. (LabelPart (Some c.0), c.1))) (front_bytes-back (length t) t r refl)
+first_part-back (LabelPart label) r h = ap (option_map (λ c. (LabelPart c.0, c.1))) (front_label-back label r h)
 first_part-back (AddressPart (V4, v)) r h =
     ap (option_map (λ c. (AddressPart (V4, from_be_bytes w32 c.0), c.1))) (front_bytes-back 4 (to_be_bytes w32 v) r refl)
     ∙ ap (λ (m : ℕ). Some (AddressPart (V4, m), r)) (from_be_bytes-to_be_bytes_4 v h)
@@ -45,7 +80,7 @@ first_part-back (AddressPart (V6, v)) r h =
     let low : List ℕ = to_be_bytes w64 (v % 2 ^ 64) in
     let value : from_be_bytes w64 high * 2 ^ 64 + from_be_bytes w64 low ≡ v =
     omega (arith, from_be_bytes-to_be_bytes_8 (v / 2 ^ 64) (omega (arith, h)), from_be_bytes-to_be_bytes_8 (v % 2 ^ 64) (omega arith)) in
-    ap (λ (l : List ℕ). first_part (6 ∷ l)) (append_assoc high low r)
+    ap (λ (l : List ℕ). first_part (1 ∷ l)) (append_assoc high low r)
     ∙ ap (option_and_then (λ c. option_map (λ d. (AddressPart (V6, from_be_bytes w64 c.0 * 2 ^ 64 + from_be_bytes w64 d.0), d.1)) (front_bytes 8 c.1)))
     (front_bytes-back 8 high (low ++ r) refl)
     ∙ ap (option_map (λ d. (AddressPart (V6, from_be_bytes w64 high * 2 ^ 64 + from_be_bytes w64 d.0), d.1))) (front_bytes-back 8 low r refl)
@@ -53,8 +88,7 @@ first_part-back (AddressPart (V6, v)) r h =
 
 one_byte : (p : KeyPartModel) → 1 ≤ length (part_code p)
 one_byte (NumberPart n) = omega arith
-one_byte (LabelPart None) = omega arith
-one_byte (LabelPart (Some t)) = omega arith
+one_byte (LabelPart label) = omega arith
 one_byte (AddressPart (V4, v)) = omega arith
 one_byte (AddressPart (V6, v)) = omega arith
 
@@ -77,6 +111,22 @@ key_in-code k h = parts_in-code k (length (key_code k)) h (no_fewer_bytes k)
 pub same_from_codes : (a b : Key) → AreSmall a → AreSmall b → key_code a ≡ key_code b → a ≡ b
 same_from_codes a b small_a small_b e = sym (key_in-code a small_a) ∙ ap key_in e ∙ key_in-code b small_b
 
+-- the bytes of a small key encode it
+code_of : (k : Key) → AreSmall k → IsCode (key_code k)
+code_of k h = record { small = subst AreSmall (sym (key_in-code k h)) h; same = ap key_code (sym (key_in-code k h)) }
+
+-- the first part is small, and the bytes after it encode the other parts
+rest_of_key : (k : Key) → AreSmall k → (code : List ℕ) → code ≡ key_code k → (p : KeyPartModel) (rest : List ℕ) → first_part code ≡ Some (p, rest)
+    → IsSmall p × IsCode rest
+rest_of_key [] h code e p rest f = absurd (none-some (p, rest) (ap first_part (sym e) ∙ f))
+rest_of_key (q ∷ k) h code e p rest f =
+    let both : Some (p, rest) ≡ Some (q, key_code k) = sym f ∙ ap first_part e ∙ first_part-back q (key_code k) h.0 in
+    let same : (p, rest) ≡ (q, key_code k) = ap (λ o. unwrap_or o (p, rest)) both in
+    (subst IsSmall (sym (ap (λ c. c.0) same)) h.0, subst IsCode (sym (ap (λ c. c.1) same)) (code_of k h.1))
+
+pub rest_code : (code : List ℕ) (p : KeyPartModel) (rest : List ℕ) → IsCode code → first_part code ≡ Some (p, rest) → IsSmall p × IsCode rest
+rest_code code p rest is f = rest_of_key (key_in code) is.small code is.same p rest f
+
 -- the rest is shorter than the bytes
 abbrev Within : ℕ → Option (KeyPartModel × List ℕ) → Type 0
 Within n part = IfSome part (λ c. length c.1 ≤ n)
@@ -89,10 +139,21 @@ module _ (code : List ℕ) where
       → Within (length code) (option_and_then (λ a. option_map (λ c. (f a.0 c.0, c.1)) (front_bytes (g a.0) a.1)) (front_bytes n code))
   rest_of_two n g f = grind (arith, nat_tests, length-drop n code, length-drop {A = ℕ})
 
+  abbrev label_part : Option (List ℕ) × List ℕ → KeyPartModel × List ℕ
+  label_part c = (LabelPart c.0, c.1)
+
+  rest_of_label : Within (length code) (option_map label_part (front_label code))
+  rest_of_label = by (nat_lt (position_or_len (λ b. b == 0) code) (length code)) (position_or_len (λ b. b == 0) code)
+    where
+      by : (b : Bool) (n : ℕ) → Within (length code) (option_map label_part
+          (option_map (λ (count : ℕ). (if count == 0 then None else Some (take count code), drop (count + 1) code)) (cond b (Some n) None)))
+      by true n = omega (arith, length-drop (n + 1) code)
+      by false n = tt
+
 rest_shorter : (kind : ℕ) (code : List ℕ) → Within (length code) (first_part (kind ∷ code))
 rest_shorter kind code =
-    by _ _ (kind == 0) (rest_of_one code 2 _) (by _ _ (kind == 1) (omega arith) (by _ _ (kind == 2) (rest_of_two code 8 _ _)
-    (by _ _ (kind == 4) (rest_of_one code 4 _) (rest_of_two code 8 _ _))))
+    by _ _ (kind == 0) (rest_of_one code 4 _) (by _ _ (kind == 1) (rest_of_two code 8 _ _)
+    (by _ _ (kind == 2) (rest_of_one code 2 _) (rest_of_label code)))
   where
     by : (x y : Option (KeyPartModel × List ℕ)) (b : Bool) → Within (length code) x → Within (length code) y → Within (length code) (if b then x else y)
     by x y true h k = h

@@ -15,7 +15,8 @@ use Rattle.indexmap.proofs.RemoveLemmas.{own_first}
 use Rattle.indexmap.specs.IndexMap.{insert_entry, set_value_at}
 use Rattle.flow_rows.specs.Elements.{RowView}
 use Rattle.flow_uniq.specs.Groups.{Totals, GroupModel, KeyedRow, groups_of_keyed, record_count}
-use Rattle.flow_uniq.specs.Inner.{AreSmall, HasRow, IsBounded, IsKept, kept_groups, key_code, none, same_code, with_row}
+use Rattle.flow_uniq.specs.Codes.{AreSmall, key_code, same_code}
+use Rattle.flow_uniq.specs.Inner.{HasRow, IsBounded, IsKept, kept_groups, none, with_row}
 use Rattle.flow_uniq.specs.Key.{Key, same_key}
 use Rattle.flow_uniq.proofs.Codes.{same_code-small}
 use Rattle.flow_uniq.proofs.Grouping.{entered, fresh, grown, groups-push}

@@ -1,6 +1,7 @@
 pub mod Sorting
 pub mod Codes
 pub mod Cutting
+pub mod CodeOrder
 pub mod Grouping
 pub mod Entering
 pub mod Reading

@@ -1,4 +1,5 @@
 pub mod Key
 pub mod Groups
+pub mod Codes
 pub mod Inner
 pub mod Laws

@@ -1,16 +1,15 @@
-//! Keys as bytes: the bytes that are written for the key of a row are read back as this key, part by part.
-ghost use Rattle.std.specs.Prelude.{◌≡◌, ◌++◌, ◌∷◌, ◌<◌, ◌^◌, ◌↔◌, [], IfNone, IfOk, IfSome, IsTrue, OnOk, length, option_map};
-ghost use Rattle.std.specs.Cmp.Lexicographic.{slice_cmp};
-ghost use Rattle.std.specs.Ordering.{nat_cmp};
+//! Keys as bytes, which are in the order of the keys. The bytes that are written for the key of a row are read back as
+//! this key, part by part.
+ghost use Rattle.std.specs.Prelude.{◌≡◌, ◌++◌, ◌∷◌, ◌↔◌, [], IfNone, IfOk, IfSome, IsTrue, OnOk, option_copied, option_map};
 ghost use Rattle.label_lookup.specs.Labelling.{label_where, labelling_lent};
-ghost use Rattle.flow_uniq.specs.Key.{AddressPart, Key as Parts, key_of, key_part, part_numbers};
+ghost use Rattle.flow_uniq.specs.Key.{AddressPart, Key as Parts, key_of, key_part};
+ghost use Rattle.flow_uniq.specs.Codes.{AreSmall, IsCode, IsCode-prop, IsSmall, first_part, front_label, key_code, key_in, part_code, part_model};
 ghost use Rattle.flow_uniq.specs.Groups.{key_order};
-ghost use Rattle.flow_uniq.specs.Inner.{AreSmall, IsCode, IsSmall, first_part, key_code, key_in, key_model, part_code, part_model};
 
 use crate::field::KeyField;
 use flow_rows::Row;
 use label_lookup::{Labeller, label_row_under};
-use prefix_keys::{Addr, Version};
+use prefix_keys::{Addr, Version, find_byte};
 use smallvec::SmallVec;
 use std::alloc::{AllocError, Global};
 use std::cmp::Ordering;
@@ -33,7 +32,17 @@ pub enum KeyPart<'a> {
 #[derive(Clone, Copy)]
 pub struct Key<'a> {
     code: &'a [u8],
+    ghost is_code: { IsCode code.now } by { IsCode-prop code.now },
 }
+
+// The kinds of parts, which are the first bytes of their codes.
+const IPV4: u8 = 0;
+
+const IPV6: u8 = 1;
+
+const NUMBER: u8 = 2;
+
+const LABEL: u8 = 3;
 
 /// A key as bytes, which are hashed and compared in one piece. Most keys have few bytes, which are stored inline.
 #[derive(Drop)]
@@ -46,7 +55,7 @@ impl Model for Code {
 
     ghost Value = { Key };
 
-    ghost use Rattle.flow_uniq.specs.Inner.{IsCode, key_in};
+    ghost use Rattle.flow_uniq.specs.Codes.{IsCode, key_in};
 
     ghost view = { λ c. key_in c.bytes.items };
 
@@ -57,7 +66,7 @@ impl PartialEq for Code {
     ghost use Rattle.std.specs.Cmp.Lexicographic.{nat_list_eq_equiv};
     ghost use Rattle.std.specs.Cmp.{partial_equiv_from_equiv};
     ghost use Rattle.std.proofs.lemmas.Cmp.{on_equiv};
-    ghost use Rattle.flow_uniq.specs.Inner.{key_code, same_code};
+    ghost use Rattle.flow_uniq.specs.Codes.{key_code, same_code};
 
     ghost eq = { same_code };
 
@@ -71,7 +80,7 @@ impl PartialEq for Code {
 impl Eq for Code {
     ghost use Rattle.std.specs.Cmp.Lexicographic.{nat_list_eq_equiv};
     ghost use Rattle.std.proofs.lemmas.Cmp.{on_equiv};
-    ghost use Rattle.flow_uniq.specs.Inner.{key_code};
+    ghost use Rattle.flow_uniq.specs.Codes.{key_code};
 
     ghost laws = { on_equiv key_code nat_list_eq_equiv };
 }
@@ -80,7 +89,7 @@ impl Hash for Code {
     ghost use Rattle.std.specs.Prelude.{ℕ, List, ◌∷◌, []};
     ghost use Rattle.std.proofs.Common.{ap};
     ghost use Rattle.std.specs.Cmp.Lexicographic.{bytes_decides};
-    ghost use Rattle.flow_uniq.specs.Inner.{key_code};
+    ghost use Rattle.flow_uniq.specs.Codes.{key_code};
 
     ghost hash_input = { λ key. key_code key ∷ [] };
 
@@ -93,8 +102,9 @@ impl Hash for Code {
 
 // Returns the part for this field of the row.
 fn part_of<'a, L: Labeller>(field: KeyField, row: &Row<'_>, labeller: Option<&'a L>) -> KeyPart<'a>
-    ensures { let label = label_where (labelling_lent L.version_of L.label labeller.entry) in
+    ensures value { let label = label_where (labelling_lent L.version_of L.label labeller.entry) in
         part_model result ≡ key_part label row.now field }
+    ensures small { IsSmall (part_model result) }
 {
     match field {
         KeyField::SourceAddress => KeyPart::Address(row.src()),
@@ -115,10 +125,10 @@ fn append_address(out: &mut Vec<u8>, addr: Addr) -> Result<(), AllocError>
     match addr.version {
         Version::V4 => {
             let [a, b, c, d] = (addr.value as u32).to_be_bytes();
-            out.extend_from_slice(&[4, a, b, c, d])?;
+            out.extend_from_slice(&[IPV4, a, b, c, d])?;
         }
         Version::V6 => {
-            out.push(6)?;
+            out.push(IPV6)?;
             let (high, low) = (addr.value >> 64, addr.value % (1 << 64));
             out.extend_from_slice(&(high as u64).to_be_bytes())?;
             out.extend_from_slice(&(low as u64).to_be_bytes())?;
@@ -131,20 +141,18 @@ fn append_address(out: &mut Vec<u8>, addr: Addr) -> Result<(), AllocError>
 // caller, so that no part is copied.
 #[inline(always)]
 fn append_part(out: &mut Vec<u8>, part: KeyPart<'_>) -> Result<(), AllocError>
-    ensures bytes { OnOk result (out.new.items ≡ out.old.items ++ part_code (part_model part.entry)) }
-    ensures small { OnOk result (IsSmall (part_model part.entry)) }
+    ensures { OnOk result (out.new.items ≡ out.old.items ++ part_code (part_model part.entry)) }
 {
     match part {
         KeyPart::Address(addr) => append_address(out, addr)?,
         KeyPart::Number(number) => {
             let [high, low] = number.to_be_bytes();
-            out.extend_from_slice(&[0, high, low])?;
+            out.extend_from_slice(&[NUMBER, high, low])?;
         }
-        KeyPart::Label(None) => out.push(1)?,
-        KeyPart::Label(Some(text)) => {
-            out.push(2)?;
-            out.extend_from_slice(&(text.len() as u64).to_be_bytes())?;
-            out.extend_from_slice(text)?;
+        KeyPart::Label(label) => {
+            out.push(LABEL)?;
+            out.extend_from_slice(label.unwrap_or(b""))?;
+            out.push(0)?;
         }
     }
     Ok(())
@@ -188,38 +196,52 @@ impl Code {
     }
 }
 
+// Returns the label before the first 0, which is empty if there is none, and the bytes after that 0. Returns `None` if
+// there is no 0.
+fn front_label(code: &[u8]) -> Option<(Option<&[u8]>, &[u8])>
+    ensures { option_map (λ r. (option_copied r.0, r.1.now)) result ≡ front_label code.now }
+{
+    let count = find_byte(code, 0)?;
+    let label = if count == 0 {
+        None
+    } else {
+        Some(&code[..count])
+    };
+    Some((label, &code[count + 1..]))
+}
+
 // Returns the part at the start of the bytes, and the bytes after it, or `None` if there are too few.
 fn first_part(code: &[u8]) -> Option<(KeyPart<'_>, &[u8])>
     ensures { option_map (λ r. (part_model r.0, r.1.now)) result ≡ first_part code.now }
 {
     let (kind, code) = code.split_first()?;
     match *kind {
-        0 => {
-            let (number, rest) = code.split_first_chunk()?;
-            Some((KeyPart::Number(u16::from_be_bytes(*number)), rest))
-        }
-        1 => Some((KeyPart::Label(None), code)),
-        2 => {
-            let (len, code) = code.split_first_chunk()?;
-            let (text, rest) = code.split_at_checked(u64::from_be_bytes(*len) as usize)?;
-            Some((KeyPart::Label(Some(text)), rest))
-        }
-        4 => {
+        IPV4 => {
             let (value, rest) = code.split_first_chunk()?;
             let (version, value) = (Version::V4, u128::from(u32::from_be_bytes(*value)));
             Some((KeyPart::Address(Addr { version, value }), rest))
         }
-        _ => {
+        IPV6 => {
             let (high, code) = code.split_first_chunk()?;
             let (low, rest) = code.split_first_chunk()?;
             let (high, low) = (u64::from_be_bytes(*high), u64::from_be_bytes(*low));
             let (version, value) = (Version::V6, (u128::from(high) << 64) + u128::from(low));
             Some((KeyPart::Address(Addr { version, value }), rest))
         }
+        NUMBER => {
+            let (number, rest) = code.split_first_chunk()?;
+            Some((KeyPart::Number(u16::from_be_bytes(*number)), rest))
+        }
+        _ => {
+            let (label, rest) = front_label(code)?;
+            Some((KeyPart::Label(label), rest))
+        }
     }
 }
 
 impl<'a> Key<'a> {
+    ghost use Rattle.flow_uniq.specs.Inner.{key_model};
+
     /// Returns the key with this code.
     pub(crate) fn of_code(code: &'a Code) -> Key<'a>
         ensures { key_model result ≡ code.now }
@@ -229,9 +251,11 @@ impl<'a> Key<'a> {
         }
     }
 
-    /// Returns the first part and the key of the other parts, or `None` if there is no part.
+    /// Returns the first part and the key of the other parts, or `None` if there is no part. A label in the part has 1
+    /// to 255 bytes.
     pub fn split_first(self) -> Option<(KeyPart<'a>, Key<'a>)>
         ensures some { IfSome result (λ r. key_model self.entry ≡ part_model r.0 ∷ key_model r.1) }
+        ensures small { IfSome result (λ r. IsSmall (part_model r.0)) }
         ensures none { IfNone result (key_model self.entry ≡ []) }
     {
         let (part, code) = first_part(self.code)?;
@@ -239,39 +263,16 @@ impl<'a> Key<'a> {
     }
 }
 
-// Compares two parts: addresses are before numbers, and numbers before labels. IPv4 addresses are before those of IPv6,
-// and no label is before any label. Otherwise addresses and numbers compare by value, and labels by their bytes.
-fn compare_parts(a: KeyPart<'_>, b: KeyPart<'_>) -> Ordering
-    ensures { result ≡ slice_cmp nat_cmp (part_numbers (part_model a.entry)) (part_numbers (part_model b.entry)) }
-{
-    match (a, b) {
-        (KeyPart::Address(a), KeyPart::Address(b)) => {
-            let versions = a.version.width().cmp(&b.version.width());
-            versions.then(a.value.cmp(&b.value))
-        }
-        (KeyPart::Number(a), KeyPart::Number(b)) => a.cmp(&b),
-        (KeyPart::Label(a), KeyPart::Label(b)) => a.cmp(&b),
-        (KeyPart::Address(_), _) | (_, KeyPart::Label(_)) => Ordering::Less,
-        _ => Ordering::Greater,
-    }
-}
-
-/// Compares two keys by their parts from the left.
+/// Compares two keys by their parts from the left. Addresses are before numbers, and numbers before labels. IPv4
+/// addresses are before those of IPv6, and no label is before any label. Otherwise addresses and numbers compare by
+/// value, and labels by their bytes. The codes of keys compare in the same way.
 pub fn compare_keys(a: Key<'_>, b: Key<'_>) -> Ordering
-    ensures { result ≡ key_order (key_model a.entry) (key_model b.entry) }
+    ensures { result ≡ key_order (key_in a.entry.code.now) (key_in b.entry.code.now) }
 {
-    match (a.split_first(), b.split_first()) {
-        (None, None) => Ordering::Equal,
-        (None, Some(_)) => Ordering::Less,
-        (Some(_), None) => Ordering::Greater,
-        (Some((x, xs)), Some((y, ys))) => match compare_parts(x, y) {
-            Ordering::Equal => compare_keys(xs, ys),
-            order => order,
-        },
-    }
+    a.code.cmp(b.code)
 }
 
-/// Keys whose parts fit in their bytes are equal if and only if their codes are equal.
+/// Keys with numbers that fit in their bytes and well-formed labels are equal if and only if their codes are equal.
 pub fn equal_codes_are_equal_keys()
     ensures { (a b : Parts) → AreSmall a → AreSmall b → (key_code a ≡ key_code b) ↔ (a ≡ b) }
 {}

@@ -2,7 +2,8 @@ ghost use Rattle.std.specs.Prelude.{All, ◌≡◌, ◌++◌, ℕ, ◌∷◌, []
 ghost use Rattle.label_lookup.specs.Labelling.{label_where, labelling_lent};
 ghost use Rattle.flow_uniq.specs.Groups.{AreOfNoRows, KeyedRow, groups_of_keyed, record_count, sorted_groups};
 ghost use Rattle.flow_uniq.specs.Key.{key_of};
-ghost use Rattle.flow_uniq.specs.Inner.{HasRow, IsCode, IsKept, group_model, kept_groups, key_in};
+ghost use Rattle.flow_uniq.specs.Codes.{IsCode, key_in};
+ghost use Rattle.flow_uniq.specs.Inner.{HasRow, IsKept, group_model, kept_groups};
 
 use crate::codec::{Code, Key, compare_keys, write_key};
 use crate::field::KeyField;
@@ -82,13 +83,13 @@ impl Model for Groups {
     ghost invariant = { λ g. All (IsKept (length g.fields.items)) g.totals.entries };
 }
 
-// Returns the index in `recent` for a key with these bytes.
+// Returns the index in `recent` for a key with these bytes. The last byte of a label's code is always 0.
 #[inline(always)]
 fn recent_index(key: &[u8]) -> usize
     ensures { result < 4096 }
 {
     match key {
-        [.., a, b] => (usize::from(*a) * 31 + usize::from(*b)) % RECENT,
+        [.., a, b, c] => (usize::from(*a) * 961 + usize::from(*b) * 31 + usize::from(*c)) % RECENT,
         _ => 0,
     }
 }

@@ -1,7 +1,8 @@
 //! The printed text of groups.
 ghost use Rattle.std.specs.Prelude.{◌≡◌, [], ◌∷◌, ◌++◌, IfOk, OnOk, map, option_map, slice_get, true};
 ghost use Rattle.std.specs.Option.{option_map_or};
-ghost use Rattle.flow_uniq.specs.Inner.{group_model, part_model};
+ghost use Rattle.flow_uniq.specs.Codes.{part_model};
+ghost use Rattle.flow_uniq.specs.Inner.{group_model};
 ghost use Rattle.flow_uniq.specs.Groups.{shown_groups};
 ghost use Rattle.pmap_print.specs.Table.{sizes, line_text};
 ghost use Rattle.pmap_print.specs.Reports.{group_fields, group_titles, groups_text, part_text, total_fields};

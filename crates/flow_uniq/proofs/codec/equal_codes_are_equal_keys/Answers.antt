@@ -1,5 +1,5 @@
 use Rattle.std.proofs.Common.{ap}
-use Rattle.flow_uniq.specs.Inner.{key_code}
+use Rattle.flow_uniq.specs.Codes.{key_code}
 use Rattle.flow_uniq.proofs.Cutting.{same_from_codes}
 use Rattle.flow_uniq.proofs.codec.equal_codes_are_equal_keys.Goals as goal
 

@@ -2,7 +2,7 @@
 use Rattle.std.proofs.Common.{◌≡◌, take}
 use Rattle.label_lookup.specs.Labelling.{label_where, labelling_lent}
 use Rattle.flow_uniq.specs.Key.{key_of}
-use Rattle.flow_uniq.specs.Inner.{AreSmall, key_code}
+use Rattle.flow_uniq.specs.Codes.{AreSmall, key_code}
 use Rattle.flow_uniq.proofs.codec.write_key.Given as goal
 
 abbrev pub invariant-loop-field : goal.invariant-loop-field

@@ -1,6 +1,7 @@
 use Rattle.std.proofs.Common.{option_map, unwrap_or, ap, arith, rules, subst, sym, ◌∙◌}
 use Rattle.std.specs.Map.Iter.{deref_pair}
-use Rattle.flow_uniq.specs.Inner.{IsBounded, key_in, none, same_code, with_row}
+use Rattle.flow_uniq.specs.Codes.{key_in, same_code}
+use Rattle.flow_uniq.specs.Inner.{IsBounded, none, with_row}
 use Rattle.flow_uniq.proofs.Entering.{found, row_at, value_at}
 use Rattle.flow_uniq.proofs.groups.add_at.Goals as goal
 

@@ -1,7 +1,8 @@
 use Rattle.std.proofs.Common.{◌≡◌, All, unwrap_or, ap, arith, rules, subst, sym, ◌∙◌}
 use Rattle.indexmap.specs.IndexMap.{get}
 use Rattle.flow_uniq.specs.Groups.{Totals, record_count}
-use Rattle.flow_uniq.specs.Inner.{IsBounded, IsKept, kept_groups, key_in, none, same_code}
+use Rattle.flow_uniq.specs.Codes.{key_in, same_code}
+use Rattle.flow_uniq.specs.Inner.{IsBounded, IsKept, kept_groups, none}
 use Rattle.flow_uniq.proofs.Entering.{found, row_in, row_later}
 use Rattle.flow_uniq.proofs.groups.add_row.Goals as goal
 

@@ -3,7 +3,8 @@ use Rattle.std.specs.Prelude.{decimal}
 use Rattle.std.proofs.lemmas.Bool.{both_ways}
 use Rattle.std.proofs.lemmas.List.{length-append}
 use Rattle.flow_uniq.specs.Key.{Key}
-use Rattle.flow_uniq.specs.Inner.{key_model, part_model}
+use Rattle.flow_uniq.specs.Codes.{part_model}
+use Rattle.flow_uniq.specs.Inner.{key_model}
 use Rattle.pmap_print.specs.Table.{sizes, line_text}
 use Rattle.pmap_print.specs.Reports.{part_text, total_fields}
 use Rattle.pmap_print.proofs.GroupText.{field_more, size_more}

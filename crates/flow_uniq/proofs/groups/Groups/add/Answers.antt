@@ -3,7 +3,8 @@ use Rattle.std.proofs.lemmas.List.{length-map}
 use Rattle.label_lookup.specs.Labelling.{label_where, labelling_lent}
 use Rattle.flow_uniq.specs.Key.{KeyField, key_of, key_part}
 use Rattle.flow_uniq.specs.Groups.{GroupsModel, record_count}
-use Rattle.flow_uniq.specs.Inner.{HasRow, key_in}
+use Rattle.flow_uniq.specs.Codes.{key_in}
+use Rattle.flow_uniq.specs.Inner.{HasRow}
 use Rattle.flow_uniq.proofs.Entering.{after_row, then_groups}
 use Rattle.flow_uniq.proofs.groups.Groups.add.Goals as goal
 
