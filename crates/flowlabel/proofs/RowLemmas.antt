@@ -7,7 +7,7 @@ use Rattle.std.proofs.lemmas.List.{append-nil, map-append}
 use Rattle.std.proofs.lemmas.List.Elements.{filter-append}
 use Rattle.flow_rows.specs.Elements.{RowView}
 use Rattle.flow_filter.specs.Condition.{Condition, passing, row_passes}
-use Rattle.pmap_print.specs.declared.rows.RowLabels.{RowLabels}
+use Rattle.pmap_print.specs.declared.row_labels.RowLabels.{RowLabels}
 use Rattle.flow_uniq.specs.Groups.{GroupsModel, groups_of}
 use Rattle.flow_uniq.specs.declared.field.KeyField.{KeyField}
 use Rattle.pmap_print.specs.declared.table.Table.{Table}

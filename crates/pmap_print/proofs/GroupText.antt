@@ -1,20 +1,36 @@
 -- Lines that are printed field by field.
-use Rattle.std.proofs.lemmas.Grind.{common_steps}
-use Rattle.std.proofs.Common.{arith, ℕ, ◌≡◌, ◌∙◌, List, [], ◌∷◌, ◌++◌, ap, append_assoc}
-use Rattle.std.specs.List.{join_with_byte}
-use Rattle.pmap_print.specs.Table.{Line, Text, line_text}
+use Rattle.std.proofs.Common.{Bool, true, false, ◌≡◌, ◌∙◌, [], ◌∷◌, ◌++◌, ap, append_assoc, refl, sym}
+use Rattle.std.proofs.lemmas.List.{append-nil}
+use Rattle.std.specs.List.{flat_map, join_with_byte}
+use Rattle.pmap_print.specs.Table.{Length, Line, Mark, Text, header_text, marked, marked_line, sized}
 
--- a line of two fields or more is its first field, a `|`, and the line of the others
-line_more : (p : Text) (ps : Line) (x : Text) (rest : Line) → line_text (p ∷ (ps ++ x ∷ rest)) ≡ p ++ 124 ∷ line_text (ps ++ x ∷ rest)
-line_more p [] x rest = append_assoc p (124 ∷ join_with_byte 124 (x ∷ rest)) (10 ∷ [])
-line_more p (q ∷ qs) x rest = append_assoc p (124 ∷ join_with_byte 124 (q ∷ (qs ++ x ∷ rest))) (10 ∷ [])
+same_marks : (mark : Mark) (line : Line) → marked_line mark mark line ≡ flat_map (marked mark) line
+same_marks mark [] = refl
+same_marks mark (f ∷ fs) = refl
 
 -- one more field of a line is printed
-pub field_more : (out new all : Text) (p : Text) (ps : Line) (x : Text) (rest : Line)
-    → out ++ line_text (p ∷ (ps ++ x ∷ rest)) ≡ all → new ≡ out ++ (p ++ 124 ∷ []) → new ++ line_text (ps ++ x ∷ rest) ≡ all
-field_more out new all p ps x rest so_far is =
-    let one : line_text (p ∷ (ps ++ x ∷ rest)) ≡ p ++ 124 ∷ line_text (ps ++ x ∷ rest) = line_more p ps x rest in grind (arith, common_steps)
+pub field_more : (out new all : Text) (before mark : Mark) (p : Text) (ps : Line) → out ++ marked_line before mark (p ∷ ps) ≡ all
+    → new ≡ out ++ marked before p → new ++ marked_line mark mark ps ≡ all
+field_more out new all before mark p ps so_far is =
+    (λ i. is i ++ same_marks mark ps i) ∙ append_assoc out (marked before p) (flat_map (marked mark) ps) ∙ so_far
 
--- the length of one more field is noted
-pub size_more : (lengths new all ns : List ℕ) (n : ℕ) → lengths ++ n ∷ ns ≡ all → new ≡ lengths ++ n ∷ [] → new ++ ns ≡ all
-size_more lengths new all ns n so_far is = ap (λ (l : List ℕ). l ++ ns) is ∙ append_assoc lengths (n ∷ []) ns ∙ so_far
+-- the name of a column that others follow
+abbrev pub header_name : Bool → Text → Text
+header_name true name = sized (name ∷ [])
+header_name false name = name ++ 124 ∷ []
+
+-- one more name of a header is printed
+pub name_more : (out new all : Text) (columns : Bool) (p : Text) (ps : Line) (q : Text) (rest : Line) → out ++ header_text columns (p ∷ (ps ++ q ∷ rest)) ≡ all
+    → new ≡ out ++ header_name columns p → new ++ header_text columns (ps ++ q ∷ rest) ≡ all
+name_more out new all true p ps q rest so_far is =
+    ap (λ (l : Text). l ++ sized (ps ++ q ∷ rest)) is ∙ append_assoc out (header_name true p) (sized (ps ++ q ∷ rest))
+    ∙ ap (λ (l : Text). out ++ (l ++ sized (ps ++ q ∷ rest))) (append-nil (marked Length p)) ∙ so_far
+name_more out new all false p ps q rest so_far is =
+    ap (λ (l : Text). l ++ join_with_byte 124 (ps ++ q ∷ rest)) is
+    ∙ append_assoc out (p ++ 124 ∷ []) (join_with_byte 124 (ps ++ q ∷ rest))
+    ∙ ap (λ (l : Text). out ++ l) (append_assoc p (124 ∷ []) (join_with_byte 124 (ps ++ q ∷ rest)) ∙ sym (joined p ps q rest))
+    ∙ so_far
+  where
+    joined : (p : Text) (ps : Line) (q : Text) (rest : Line) → join_with_byte 124 (p ∷ (ps ++ q ∷ rest)) ≡ p ++ 124 ∷ join_with_byte 124 (ps ++ q ∷ rest)
+    joined p [] q rest = refl
+    joined p (o ∷ ps) q rest = refl

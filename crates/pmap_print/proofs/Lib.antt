@@ -10,7 +10,7 @@ pub mod MinimalLists
 pub mod GroupLines
 pub mod GroupText
 pub mod Spreading
-pub mod NotedLines
+pub mod WideLines
 pub mod PaddedLines
 pub mod Placed
 pub mod TableLines

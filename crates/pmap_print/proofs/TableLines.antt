@@ -1,32 +1,127 @@
 -- One more line of a table.
-use Rattle.std.proofs.Common.{arith, ℕ, Bool, true, ◌≡◌, ◌∙◌, List, [], ◌∷◌, ◌++◌, Option, Some, None, is_some, option_map, unwrap_or, length, ap, sym, subst, refl}
-use Rattle.std.specs.List.{flat_map}
+use Rattle.std.proofs.Common.{arith, ℕ, Bool, false, true, true≢false, ◌≡◌, ◌<◌, ◌∙◌, List, [], ◌∷◌, ◌++◌, Option, Some, None, cond, is_some, option_map, unwrap_or, drop, length, ap, sym, refl, subst, append_assoc}
+use Rattle.std.specs.List.{flat_map, join_with_byte}
 use Rattle.std.specs.Option.{ForSome}
-use Rattle.std.proofs.lemmas.Grind.{common_steps}
+use Rattle.std.proofs.lemmas.Grind.{flat_map-append}
+use Rattle.std.proofs.lemmas.List.{append-nil, drop_at}
 use Rattle.flow_rows.specs.Elements.{RowView}
 use Rattle.pmap_print.specs.Reports.{RowLabels, column_count, label_texts, row_line}
-use Rattle.pmap_print.specs.Table.{Columns, Table, IsNoted, IsTable, Line, Text, line_text}
+use Rattle.pmap_print.specs.Table.{AreWide, Columns, End, IsTable, Length, Line, Mark, Table, Text, has_columns, header_text, line_text, marked, marked_line, sized}
 
-text_added : (old new : Text) (lines : List Line) (line : Line) → old ≡ flat_map line_text lines → new ≡ old ++ line_text line
-    → new ≡ flat_map line_text (lines ++ line ∷ [])
-text_added old new lines line so_far text = grind (arith, common_steps)
+-- the marks of a line that is not the first of a table, with columns or without: of its first field, and of the others
+abbrev pub first_mark : Bool → Mark
+first_mark columns = cond columns Length (End 10)
 
-pub line_printed : (count : ℕ) (lines : List Line) (line : Line) (old new : Table) → IsTable count lines old
-    → new.text ≡ old.text ++ line_text line → ForSome new.columns (IsNoted count (lines ++ line ∷ []))
-    → IsTable count (lines ++ line ∷ []) new
-line_printed count lines line old new is text noted = record {
-  text = text_added old.text new.text lines line is.text text;
-  noted = noted;
-}
+abbrev pub other_mark : Bool → Mark
+other_mark columns = cond columns Length (End 124)
+
+joined : (f : Text) (fs : Line) → f ++ flat_map (marked (End 124)) fs ≡ join_with_byte 124 (f ∷ fs)
+joined f [] = append-nil f
+joined f (g ∷ fs) = ap (λ (t : Text). f ++ 124 ∷ t) (joined g fs)
+
+pub all_sized : (line : Line) → marked_line Length Length line ≡ sized line
+all_sized [] = refl
+all_sized (f ∷ fs) = refl
+
+plain_added : (old new : Text) (lines : List Line) (line : Line) → 0 < length line → old ++ 10 ∷ [] ≡ flat_map line_text lines
+    → new ≡ old ++ marked_line (End 10) (End 124) line → new ++ 10 ∷ [] ≡ flat_map line_text (lines ++ line ∷ [])
+plain_added old new lines [] some so_far text = absurd (omega (arith, some))
+plain_added old new lines (f ∷ fs) some so_far text =
+    let fields : Text = join_with_byte 124 (f ∷ fs) in
+    ap (λ (l : Text). l ++ 10 ∷ []) (text ∙ ap (λ (l : Text). old ++ 10 ∷ l) (joined f fs))
+    ∙ append_assoc old (10 ∷ fields) (10 ∷ [])
+    ∙ sym (append_assoc old (10 ∷ []) (fields ++ 10 ∷ []))
+    ∙ ap (λ (l : Text). l ++ line_text (f ∷ fs)) so_far
+    ∙ sym (flat_map-append line_text lines ((f ∷ fs) ∷ []) ∙ ap (λ (l : Text). flat_map line_text lines ++ l) (append-nil (line_text (f ∷ fs))))
+
+sized_added : (old new : Text) (lines : List Line) (line : Line) → old ≡ flat_map sized lines → new ≡ old ++ sized line
+    → new ≡ flat_map sized (lines ++ line ∷ [])
+sized_added old new lines line so_far text =
+    text ∙ ap (λ (l : Text). l ++ sized line) so_far
+    ∙ sym (flat_map-append sized lines (line ∷ []) ∙ ap (λ (l : Text). flat_map sized lines ++ l) (append-nil (sized line)))
+
+none_here : (o : Option Columns) (c : Columns) → o ≡ Some c → is_some o ≡ false → ⊥
+none_here o c e f = true≢false (sym (ap is_some e) ∙ f)
+
+pub line_printed : (count : ℕ) (lines : List Line) (line : Line) (old new : Table) → IsTable count lines old → 0 < length line
+    → has_columns new ≡ has_columns old → new.text ≡ old.text ++ marked_line (first_mark (has_columns old)) (other_mark (has_columns old)) line
+    → (has_columns old ≡ true → ForSome new.columns (AreWide count (lines ++ line ∷ []))) → IsTable count (lines ++ line ∷ []) new
+line_printed count lines line old new is some same text wide = by old.columns refl
+  where
+    by : (o : Option Columns) → old.columns ≡ o → IsTable count (lines ++ line ∷ []) new
+    by None e = record {
+      plain = λ _. plain_added old.text new.text lines line some (is.plain e)
+          (text ∙ ap (λ (o : Option Columns). old.text ++ marked_line (first_mark (is_some o)) (other_mark (is_some o)) line) e);
+      padded = λ c f. absurd (none_here new.columns c f (same ∙ ap is_some e));
+    }
+    by (Some c) e = record {
+      plain = λ f. absurd (none_here old.columns c e (sym same ∙ ap is_some f));
+      padded = λ d f. (
+        sized_added old.text new.text lines line (is.padded c e).0
+            (text ∙ ap (λ (o : Option Columns). old.text ++ marked_line (first_mark (is_some o)) (other_mark (is_some o)) line) e
+            ∙ ap (λ (l : Text). old.text ++ l) (all_sized line)),
+        wide (ap is_some e) d f,
+      );
+    }
+
+-- the header is printed in an empty table
+module _ (count : ℕ) (line : Line) (widths : Option Columns) (text : Text) (columns : Bool) (wide : ForSome widths (AreWide count []))
+    (all : length line ≡ count) (has : is_some widths ≡ columns) (text_is : text ≡ header_text columns line) where
+  sized_header : (c : Columns) → widths ≡ Some c → text ≡ sized line
+  sized_header c e = text_is ∙ ap (λ b. header_text b line) (sym has ∙ ap is_some e)
+
+  pub header_fits : ForSome widths (λ c. (fields : Line) × (text ≡ sized fields) × (length fields ≡ length c.widths.items))
+  header_fits = λ c e. (line, sized_header c e, all ∙ sym (wide c e).columns)
+
+  pub header_printed : (new : Table) → new.text ≡ text → has_columns new ≡ is_some widths
+      → ((n : ℕ) (ls : List Line) (fields : Line) → ForSome widths (AreWide n ls) → text ≡ sized fields → length fields ≡ n
+      → ForSome new.columns (AreWide n (ls ++ fields ∷ []))) → IsTable count (line ∷ []) new
+  header_printed new same kept more = by widths refl
+    where
+      by : (o : Option Columns) → widths ≡ o → IsTable count (line ∷ []) new
+      by None e = record {
+        plain = λ _.
+            ap (λ (l : Text). l ++ 10 ∷ []) (same ∙ text_is ∙ ap (λ b. header_text b line) (sym has ∙ ap is_some e)) ∙ sym (append-nil (line_text line));
+        padded = λ c f. absurd (none_here new.columns c f (kept ∙ ap is_some e));
+      }
+      by (Some c) e = record {
+        plain = λ f. absurd (none_here widths c e (sym kept ∙ ap is_some f));
+        padded = λ d f. (same ∙ sized_header c e ∙ sym (append-nil (sized line)), more count [] line wide (sized_header c e) all d f);
+      }
+
+-- the sized fields of a line are printed at the end of a table
+module _ (count : ℕ) (lines : List Line) (line : Line) (old : Table) (text : Text) (begin : ℕ) (is : IsTable count lines old)
+    (all : length line ≡ count) (at : begin ≡ length old.text) (text_is : text ≡ old.text ++ marked_line Length Length line) where
+  pub sized_end : drop begin text ≡ sized line
+  sized_end = ap (drop begin) (text_is ∙ ap (λ (l : Text). old.text ++ l) (all_sized line)) ∙ drop_at old.text (sized line) begin (sym at)
+
+  pub fits_columns : ForSome old.columns (λ c. (fields : Line) × (drop begin text ≡ sized fields) × (length fields ≡ length c.widths.items))
+  fits_columns = λ c e. (line, sized_end, all ∙ sym (is.padded c e).1.columns)
+
+  -- the columns are widened for it
+  pub sized_printed : (new : Table) → 0 < length line → has_columns old ≡ true → new.text ≡ text → has_columns new ≡ has_columns old
+      → ((n : ℕ) (ls : List Line) (fields : Line) → ForSome old.columns (AreWide n ls) → drop begin text ≡ sized fields → length fields ≡ n
+      → ForSome new.columns (AreWide n (ls ++ fields ∷ []))) → IsTable count (lines ++ line ∷ []) new
+  sized_printed new some has same kept wide =
+      line_printed count lines line old new is some kept
+      (same ∙ text_is ∙ ap (λ b. old.text ++ marked_line (first_mark b) (other_mark b) line) (sym has))
+      (λ _. wide count lines line (λ c e. (is.padded c e).1) sized_end all)
+
+-- a line is printed at the end of a table without columns
+pub plain_printed : (count : ℕ) (lines : List Line) (line : Line) (old new : Table) → IsTable count lines old → 0 < length line → has_columns old ≡ false
+    → has_columns new ≡ has_columns old → new.text ≡ old.text ++ marked_line (End 10) (End 124) line → IsTable count (lines ++ line ∷ []) new
+plain_printed count lines line old new is some none kept text =
+    line_printed count lines line old new is some kept (text ∙ ap (λ b. old.text ++ marked_line (first_mark b) (other_mark b) line) (sym none))
+    (λ has. absurd (true≢false (sym has ∙ none)))
 
 pub length-row_line : (row : RowView) (labels : Option RowLabels) → length (row_line row (option_map label_texts labels)) ≡ column_count (is_some labels)
 length-row_line row None = refl
 length-row_line row (Some labels) = refl
 
--- a property of the columns may be shown from what holds if there are columns
-pub noted-if : (P : Columns → Type 0) (F : Type 0) (columns : Option Columns) (flag : Bool) → is_some columns ≡ flag → (flag ≡ true → F) → (F → ForSome columns P)
-    → ForSome columns P
-noted-if P F columns flag same has given = λ x e. given (has (sym same ∙ ap is_some e)) x e
+pub has_fields : (row : RowView) (labels : Option RowLabels) → 0 < length (row_line row (option_map label_texts labels))
+has_fields row None = omega arith
+has_fields row (Some labels) = omega arith
 
-pub some-noted : (P : Columns → Type 0) (c : Columns) → P c → ForSome (Some c) P
-some-noted P c holds = λ x e. subst P (ap (λ o. unwrap_or o c) e) holds
+-- a property of the columns that are there
+pub some-columns : (P : Columns → Type 0) (c : Columns) → P c → ForSome (Some c) P
+some-columns P c holds = λ x e. subst P (ap (λ o. unwrap_or o c) e) holds

@@ -7,7 +7,7 @@ use Rattle.flow_uniq.specs.declared.groups.Totals.{Totals}
 use Rattle.flow_uniq.specs.declared.field.KeyField.{KeyField}
 use Rattle.flow_uniq.specs.Key.{field_name, KeyPartModel, AddressPart, NumberPart, LabelPart}
 use Rattle.flow_uniq.specs.Groups.{GroupModel}
-pub use Rattle.pmap_print.specs.declared.rows.RowLabels.{RowLabels}
+pub use Rattle.pmap_print.specs.declared.row_labels.RowLabels.{RowLabels}
 use Rattle.pmap_print.specs.Table.{Text, Line, table_text}
 
 -- The printed text of flow rows.

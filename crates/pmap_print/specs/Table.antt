@@ -1,8 +1,10 @@
-use Rattle.std.specs.Prelude.{ℕ, ◌-◌, max, List, [], ◌∷◌, ◌++◌, length, map, fold, replicate, slice_index_or, Bool, if◌then◌else◌, ◌≡◌, ◌+◌, ◌<◌, ◌≤◌, ◌^◌, ◌%◌, All, drop, filter, is_some, nat_le, slice_index}
+use Rattle.std.specs.Prelude.{ℕ, ◌-◌, ◌*◌, max, min, sum, List, [], ◌∷◌, ◌++◌, length, map, fold, replicate, slice_index_or, Bool, if◌then◌else◌, ◌≡◌, ◌+◌, ◌<◌, ◌≤◌, ◌^◌, All, drop, is_some, slice_index, take}
 use Rattle.std.specs.List.{enumerate_from, flat_map, join_with_byte}
-use Rattle.std.specs.Option.{ForSome}
+use Rattle.std.specs.Option.{ForNone, ForSome}
 pub use Rattle.pmap_print.specs.declared.columns.Columns.{Columns}
 pub use Rattle.pmap_print.specs.declared.table.Table.{Table}
+pub use Rattle.pmap_print.specs.declared.mark.Mark.{Mark}
+pub use Rattle.pmap_print.specs.declared.mark.Mark.TheVariants.{End, Length}
 
 -- Tables: lines of fields with `|` between them.
 
@@ -34,31 +36,36 @@ filled_line width fields = map (λ e. filled (width e.0) e.1) (enumerate_from 0 
 abbrev pub table_text : Bool → List Line → Text
 table_text columns lines = flat_map line_text (if columns then map (filled_line (column_width lines)) lines else lines)
 
--- How the lengths of a table's fields are noted, and its fields moved to columns.
+-- How a table is built: each of its fields follows a byte, which is the field's length if the table will be padded.
 
--- the lengths of the fields of a line, each with the byte that ends it
-abbrev pub sizes : Line → List ℕ
-sizes fields = map (λ f. length f + 1) fields
+-- the byte before a field of this length
+abbrev pub mark_byte : Mark → ℕ → ℕ
+mark_byte (End byte) len = byte
+mark_byte Length len = len
 
--- whether a length doesn't fit in the byte that notes it, and that byte
-abbrev pub is_long : ℕ → Bool
-is_long n = nat_le 255 n
+abbrev pub marked : Mark → Text → Text
+marked mark field = mark_byte mark (length field) ∷ field
 
-abbrev pub noted : ℕ → ℕ
-noted n = if is_long n then 255 else n
+-- the fields of a line, the first of them after a mark of its own
+abbrev pub marked_line : Mark → Mark → Line → Text
+marked_line first mark [] = []
+marked_line first mark (field ∷ fields) = marked first field ++ flat_map (marked mark) fields
 
--- the bytes and the long lengths note these lengths
-pub record AreNoted (lengths : List ℕ) (short long : List ℕ) : Type 0 where
-  pub bytes : short ≡ map noted lengths
-  pub others : long ≡ filter is_long lengths
+-- fields that each follow the byte of their length
+abbrev pub sized : Line → Text
+sized fields = flat_map (marked Length) fields
 
--- the columns note these lines, each of `count` fields
-pub record IsNoted (count : ℕ) (lines : List Line) (c : Columns) : Type 0 where
+-- the header of a table, with columns or without
+abbrev pub header_text : Bool → Line → Text
+header_text columns names = if columns then sized names else join_with_byte 124 names
+
+-- the columns are as wide as the fields of these lines, each of `count` fields, and the byte that ends a field
+pub record AreWide (count : ℕ) (lines : List Line) (c : Columns) : Type 0 where
   pub some : 0 < count
   pub even : All (λ line. length line ≡ count) lines
   pub columns : length c.widths.items ≡ count
-  pub lengths : AreNoted (flat_map sizes lines) c.short.items c.long.items
   pub widths : (k : ℕ) → k < count → slice_index c.widths.items k ≡ column_width lines k + 1
+  pub counted : c.lines ≡ min (length lines) (2 ^ 64 - 1)
 
 -- whether the lines of a table are padded to columns
 abbrev pub has_columns : Table → Bool
@@ -66,22 +73,44 @@ has_columns t = is_some t.columns
 
 -- the table has these lines, each of `count` fields
 pub record IsTable (count : ℕ) (lines : List Line) (t : Table) : Type 0 where
-  pub text : t.text ≡ flat_map line_text lines
-  pub noted : ForSome t.columns (IsNoted count lines)
+  pub plain : ForNone t.columns (t.text ++ 10 ∷ [] ≡ flat_map line_text lines)
+  pub padded : ForSome t.columns (λ c. (t.text ≡ flat_map sized lines) × AreWide count lines c)
 
--- texts one after the other and, with the first at an index, with each filled to the width of its column
-abbrev pub joined : List Text → Text
-joined texts = flat_map (λ text. text) texts
+-- a line fits in columns that are this wide
+abbrev pub Fits : List ℕ → Line → Type 0
+Fits [] [] = Unit {0}
+Fits (width ∷ widths) (field ∷ fields) = (length field < width) × Fits widths fields
+Fits _ _ = ⊥
 
-abbrev pub spread : List ℕ → ℕ → List Text → Text
-spread widths index [] = []
-spread widths index (text ∷ texts) = filled (slice_index widths (index % length widths)) text ++ spread widths (index + 1) texts
+-- a line whose fields are filled to columns that are this wide
+abbrev pub spread_line : List ℕ → Line → Line
+spread_line (width ∷ widths) (field ∷ fields) = filled (width - 1) field ∷ spread_line widths fields
+spread_line _ _ = []
 
--- the text ends with texts whose lengths are noted, and the texts filled to their columns are as long as the text
-pub record CanSpread (texts : List Text) (c : Columns) (from : ℕ) (text : Text) : Type 0 where
-  pub some : 0 < length c.widths.items
-  pub lengths : AreNoted (map length texts) c.short.items c.long.items
-  pub small : length text < 2 ^ 64
+-- From an offset on, a text has the sized fields of a line that fits, and then more. The line, spread from another offset
+-- on, ends before the other text.
+pub record CanSpread (widths : List ℕ) (fields : Line) (more : Text) (from to : ℕ) (text : Text) : Type 0 where
+  pub some : 0 < length widths
+  pub fits : Fits widths fields
+  pub back : drop from text ≡ sized fields ++ more
   pub within : from ≤ length text
-  pub back : drop from text ≡ joined texts
-  pub fills : length (spread c.widths.items 0 texts) ≡ length text
+  pub small : length text < 2 ^ 64
+  pub room : to + sum widths ≤ from + length (sized fields)
+
+-- the line is spread
+pub record IsSpread (widths : List ℕ) (fields : Line) (more : Text) (to : ℕ) (text new : Text) (from_now to_now : ℕ) : Type 0 where
+  pub back : drop from_now new ≡ more
+  pub within : from_now ≤ length new
+  pub front : take to_now new ≡ take to text ++ line_text (spread_line widths fields)
+  pub size : to_now ≡ to + sum widths
+  pub same : length new ≡ length text
+
+-- From an offset on, a text has the sized fields of lines that fit, and as a whole it has the length of the spread lines.
+pub record CanSpreadLines (lines : List Line) (c : Columns) (from : ℕ) (text : Text) : Type 0 where
+  pub some : 0 < length c.widths.items
+  pub count : c.lines ≡ length lines
+  pub fit : All (Fits c.widths.items) lines
+  pub back : drop from text ≡ flat_map sized lines
+  pub within : from ≤ length text
+  pub small : length text < 2 ^ 64
+  pub fills : length text ≡ sum c.widths.items * length lines

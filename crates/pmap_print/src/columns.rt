@@ -1,35 +1,9 @@
 //! The widths of a table's columns, and the padding of its fields.
-ghost use Rattle.std.specs.Prelude.{◌≡◌, ℕ, ◌+◌, ◌-◌, ◌*◌, ◌/◌, ◌%◌, ◌^◌, ◌<◌, ◌≤◌, List, [], ◌∷◌, ◌++◌, IfOk, OnOk, drop, filter, length, map, min, replicate, sum, take, true};
+ghost use Rattle.std.specs.Prelude.{◌≡◌, ℕ, ◌+◌, ◌-◌, ◌*◌, ◌^◌, ◌<◌, ◌≤◌, List, [], ◌∷◌, ◌++◌, IfOk, OnOk, drop, length, map, min, replicate, sum, take, true};
 ghost use Rattle.std.specs.List.{flat_map};
-ghost use Rattle.pmap_print.specs.Table.{AreNoted, CanSpread, IsNoted, is_long, noted, sizes, spread, Line, Text, line_text, table_text};
+ghost use Rattle.pmap_print.specs.Table.{AreWide, CanSpread, CanSpreadLines, IsSpread, Line, Text, line_text, sized, spread_line, table_text};
 
 use std::alloc::{AllocError, Global};
-
-// The least length that doesn't fit in `short`, and the mark for all such lengths there.
-const LONG: usize = 255;
-
-/// The lengths in bytes of the fields of a table's lines. Each includes the byte that ends the field.
-#[derive(Drop)]
-pub struct Columns {
-    // The length of each field, or `LONG` if the length is at least that.
-    short: Vec<u8>,
-    // The lengths that are at least `LONG`, in order.
-    long: Vec<usize>,
-    // The greatest length in each column.
-    widths: Vec<usize>,
-}
-
-// Returns the length that `byte` notes, and the long lengths of the fields after it.
-#[inline(always)]
-fn first_length(byte: u8, long: &[usize]) -> (usize, &[usize])
-    ensures { (n : ℕ) → (ns : List ℕ) → byte ≡ noted n → long.now ≡ filter is_long (n ∷ ns)
-        → (result.0 ≡ n) × (result.1.now ≡ filter is_long ns) }
-{
-    match long.split_first() {
-        Some((first, others)) if usize::from(byte) == LONG => (*first, others),
-        _ => (usize::from(byte), long),
-    }
-}
 
 // Writes `spaces` spaces at `to`, followed by the `N` bytes of the text at `from`. The number of bytes that are written
 // is constant, which is faster. Bytes between the written text and `from` may be overwritten.
@@ -70,91 +44,93 @@ fn move_left(text: &mut [u8], from: usize, count: usize, to: usize, spaces: usiz
     }
 }
 
+// Moves the fields of a line, which begin at `from`, to their columns, which begin at `to`. Each field follows the byte
+// of its length. Its copy is followed by the byte that ends a field. Returns the ends of both.
+#[inline(always)]
+fn spread(text: &mut [u8], from: usize, to: usize, widths: &[usize]) -> (usize, usize)
+    requires { (fields : Line) × (more : Text) × CanSpread widths.now fields more from to text.old }
+    ensures { (fields : Line) → (more : Text) → CanSpread widths.now fields more from to text.old
+        → IsSpread widths.now fields more to text.old text.new result.0 result.1 }
+{
+    let mut from = from;
+    let mut to = to;
+    for i in 0..widths.len() {
+        let length = usize::from(text[from]);
+        let spaces = widths[i] - length - 1;
+        move_left(text, from + 1, length, to, spaces);
+        from += length + 1;
+        to += spaces + length + 1;
+        text[to - 1] = if i + 1 < widths.len() { b'|' } else { b'\n' };
+    }
+    (from, to)
+}
+
+/// The widths of the columns of a table, and the number of its lines.
+#[derive(Drop)]
+pub struct Columns {
+    // The length of the longest field in each column, with the byte that ends it.
+    widths: Vec<usize>,
+    // The number of lines, or `usize::MAX` if that is less.
+    lines: usize,
+}
+
 impl Columns {
-    /// Returns the lengths of no lines, with `count` columns.
+    /// Returns the widths of `count` columns of no lines.
     pub fn new(alloc: Global, count: usize) -> Result<Columns, AllocError>
         requires { 0 < count }
-        ensures { IfOk result (IsNoted count []) }
+        ensures { IfOk result (AreWide count []) }
     {
-        Ok(Columns {
-            short: Vec::new(alloc),
-            long: Vec::new(alloc),
-            // An empty field still has the byte that ends it.
-            widths: vec![in alloc; 1usize; count]?,
-        })
+        let widths = vec![in alloc; 1usize; count]?;
+        Ok(Columns { widths, lines: 0 })
     }
 
+    /// Widens the columns for one more line, whose fields each follow the byte of their length.
     #[inline(always)]
-    fn note_length(&mut self, size: usize) -> Result<(), AllocError>
-        ensures widths { self.new.widths ≡ self.old.widths }
-        ensures noted { OnOk result ((lengths : List ℕ) → AreNoted lengths self.old.short.items self.old.long.items
-            → AreNoted (lengths ++ size ∷ []) self.new.short.items self.new.long.items) }
+    pub fn add_line(&mut self, line: &[u8])
+        requires { (fields : Line) × (line.now ≡ sized fields) × (length fields ≡ length self.old.widths.items) }
+        ensures { (count : ℕ) → (lines : List Line) → (fields : Line) → AreWide count lines self.old
+            → line.now ≡ sized fields → length fields ≡ count → AreWide count (lines ++ fields ∷ []) self.new }
     {
-        if size < LONG {
-            self.short.push(size as u8)?;
-        } else {
-            self.short.push(LONG as u8)?;
-            self.long.push(size)?;
+        let mut rest = line;
+        for i in 0..self.widths.len() {
+            let size = usize::from(rest[0]) + 1;
+            self.widths[i] = self.widths[i].max(size);
+            rest = &rest[size..];
         }
-        Ok(())
-    }
-
-    /// Notes the lengths of the fields of a line. If an allocation fails, some of them may have been noted.
-    #[inline(always)]
-    pub fn note(&mut self, lengths: &[usize]) -> Result<(), AllocError>
-        requires { length lengths.now ≤ length self.old.widths.items }
-        ensures { OnOk result ((count : ℕ) → (lines : List Line) → (line : Line) → IsNoted count lines self.old
-            → length line ≡ count → lengths.now ≡ sizes line → IsNoted count (lines ++ line ∷ []) self.new) }
-    {
-        for (i, length) in lengths.iter().enumerate() {
-            self.note_length(*length)?;
-            self.widths[i] = self.widths[i].max(*length);
-        }
-        Ok(())
+        self.lines = self.lines.saturating_add(1);
     }
 
     // Returns the length of the padded lines, or `usize::MAX` if that is less.
     fn spread_length(&self) -> usize
-        requires { 0 < length self.now.widths.items }
-        ensures { result ≡ min (sum self.now.widths.items
-            * (length self.now.short.items / length self.now.widths.items)) (2 ^ 64 - 1) }
+        ensures { result ≡ min (sum self.now.widths.items * self.now.lines) (2 ^ 64 - 1) }
     {
         let mut line: usize = 0;
         for width in self.widths.as_slice() {
             line = line.saturating_add(*width);
         }
-        line.saturating_mul(self.short.len() / self.widths.len())
+        line.saturating_mul(self.lines)
     }
 
-    // Moves the fields, which begin at `from`, to their columns, from the first to the last.
-    fn spread(&self, text: &mut [u8], from: usize)
-        requires { (texts : List Text) × CanSpread texts self.now from text.old }
-        ensures { (texts : List Text) → CanSpread texts self.now from text.old
-            → text.new ≡ spread self.now.widths.items 0 texts }
+    // Moves the lines, which begin at `from`, to their columns, from the first to the last.
+    fn spread_lines(&self, text: &mut [u8], from: usize)
+        requires { (lines : List Line) × CanSpreadLines lines self.now from text.old }
+        ensures { (lines : List Line) → CanSpreadLines lines self.now from text.old
+            → text.new ≡ flat_map line_text (map (spread_line self.now.widths.items) lines) }
     {
         let mut from = from;
         let mut to = 0;
-        let mut column = 0;
-        let mut long = self.long.as_slice();
-        for byte in self.short.as_slice() {
-            let (length, others) = first_length(*byte, long);
-            let spaces = self.widths[column].saturating_sub(length);
-            // After the last column is the first one of the line below.
-            let next = column + 1;
-            column = if next == self.widths.len() { 0 } else { next };
-            move_left(text, from, length, to, spaces);
-            from += length;
-            to += spaces + length;
-            long = others;
+        for _line in 0..self.lines {
+            (from, to) = spread(text, from, to, self.widths.as_slice());
         }
     }
 
-    /// Pads the fields of the lines to the widths of their columns. If an allocation fails, the text is unchanged.
+    /// Pads the fields of the lines to the widths of their columns. Afterwards, a line feed follows the last field of
+    /// each line, and a `|` each other field. If an allocation fails, the text is unchanged.
     pub fn pad(&self, text: &mut Vec<u8>) -> Result<(), AllocError>
-        requires { (count : ℕ) × (lines : List Line) × IsNoted count lines self.now
-            × (text.old.items ≡ flat_map line_text lines) }
-        ensures { (count : ℕ) → (lines : List Line) → IsNoted count lines self.now
-            → text.old.items ≡ flat_map line_text lines → OnOk result (text.new.items ≡ table_text true lines) }
+        requires { (count : ℕ) × (lines : List Line) × AreWide count lines self.now
+            × (text.old.items ≡ flat_map sized lines) }
+        ensures { (count : ℕ) → (lines : List Line) → AreWide count lines self.now
+            → text.old.items ≡ flat_map sized lines → OnOk result (text.new.items ≡ table_text true lines) }
     {
         let plain = text.len();
         // No `Vec` has `usize::MAX` bytes, so this fails if the length doesn't fit in a `usize`.
@@ -164,7 +140,7 @@ impl Columns {
         let from = size - plain;
         let padded = text.as_mut_slice();
         padded.copy_within(0..plain, from);
-        self.spread(padded, from);
+        self.spread_lines(padded, from);
         Ok(())
     }
 }

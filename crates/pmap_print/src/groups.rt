@@ -1,91 +1,69 @@
 //! The printed text of groups.
-ghost use Rattle.std.specs.Prelude.{◌≡◌, [], ◌∷◌, ◌++◌, IfOk, OnOk, map, option_map, slice_get, true};
+ghost use Rattle.std.specs.Prelude.{◌≡◌, ◌++◌, ◌∷◌, [], ℕ, List, IfOk, OnOk, length, map, option_map, slice_get};
 ghost use Rattle.std.specs.Option.{option_map_or};
-ghost use Rattle.flow_uniq.specs.Codes.{part_model};
+ghost use Rattle.flow_uniq.specs.Codes.{IsSmall, part_model};
 ghost use Rattle.flow_uniq.specs.Inner.{group_model};
 ghost use Rattle.flow_uniq.specs.Groups.{shown_groups};
-ghost use Rattle.pmap_print.specs.Table.{sizes, line_text};
-ghost use Rattle.pmap_print.specs.Reports.{group_fields, group_titles, groups_text, part_text, total_fields};
+ghost use Rattle.pmap_print.specs.Table.{has_columns, header_text, IsTable, Line, marked, marked_line};
+ghost use Rattle.pmap_print.specs.Reports.{group_fields, group_titles, groups_text, part_text};
 
+use crate::mark::Mark;
 use crate::table::Table;
 use crate::text::Text;
-use flow_uniq::{Group, Groups, KeyField, KeyPart, Totals};
+use flow_uniq::{Group, Groups, KeyField, KeyPart};
 use std::alloc::{AllocError, Global};
-
-// Appends the text of a part of a key. The text of a missing label is empty.
-fn print_part(out: &mut Text, part: KeyPart<'_>) -> Result<(), AllocError>
-    ensures { OnOk result (out.new ≡ out.old ++ (part_text (part_model part.entry) ++ 124 ∷ [])) }
-{
-    match part {
-        KeyPart::Address(addr) => out.push_address(addr, b'|'),
-        KeyPart::Number(number) => out.push_number(u64::from(number), b'|'),
-        KeyPart::Label(label) => out.push_bytes(label.unwrap_or(b""), b'|'),
-    }
-}
 
 // The number of columns of a group's totals.
 const TOTALS: usize = 3;
 
-// Appends the header of groups by these fields. Replaces `lengths` by the length of each field with the byte that ends
-// it. If an allocation fails, a part of the header may have been appended.
-fn print_title(
-    out: &mut Text,
-    lengths: &mut Vec<usize>,
-    fields: &[KeyField],
-) -> Result<(), AllocError>
-    ensures text { OnOk result (out.new ≡ out.old ++ line_text (group_titles fields.now)) }
-    ensures lengths { OnOk result (lengths.new.items ≡ sizes (group_titles fields.now)) }
+// Appends the header of groups by these fields. In a table with columns, the names of the columns each follow the byte
+// of their length.
+fn print_title(out: &mut Text, fields: &[KeyField], columns: bool) -> Result<(), AllocError>
+    ensures { OnOk result (out.new ≡ out.old ++ header_text columns (group_titles fields.now)) }
 {
-    lengths.clear();
     for field in fields {
-        let name = field.name();
-        out.push_bytes(name.as_bytes(), b'|')?;
-        lengths.push(name.len() + 1)?;
-    }
-    out.push_bytes(b"records|packets|bytes", b'\n')?;
-    lengths.extend_from_slice(&[8usize, 8, 6])?;
-    Ok(())
-}
-
-// Appends the totals of a group and the end of its line. Returns their lengths, each with the byte that ends it.
-fn print_totals(out: &mut Text, totals: &Totals) -> Result<[usize; TOTALS], AllocError>
-    ensures text { OnOk result (out.new ≡ out.old ++ line_text (total_fields totals.now)) }
-    ensures lengths { IfOk result (λ lengths. lengths ≡ sizes (total_fields totals.now)) }
-{
-    let begin = out.len();
-    out.push_number(totals.records, b'|')?;
-    let packets = out.len();
-    out.push_total(totals.packets, b'|')?;
-    let octets = out.len();
-    out.push_total(totals.octets, b'\n')?;
-    Ok([packets - begin, octets - packets, out.len() - octets])
-}
-
-// Appends the line of a group. If `noted`, replaces `lengths` by the length of each field with the byte that ends it.
-fn print_group(
-    out: &mut Text,
-    lengths: &mut Vec<usize>,
-    group: &Group<'_>,
-    noted: bool,
-) -> Result<(), AllocError>
-    ensures text { OnOk result (out.new ≡ out.old ++ line_text (group_fields (group_model group.now))) }
-    ensures lengths { OnOk result (noted ≡ true → lengths.new.items ≡ sizes (group_fields (group_model group.now))) }
-{
-    lengths.clear();
-    let mut rest = group.key;
-    while let Some((part, behind)) = rest.split_first() {
-        let begin = out.len();
-        print_part(out, part)?;
-        if noted {
-            lengths.push(out.len() - begin)?;
+        let name = field.name().as_bytes();
+        if columns {
+            out.push_field(Mark::Length, name)?;
+        } else {
+            out.push_bytes(name)?;
+            out.push_bytes(b"|")?;
         }
-        rest = behind;
     }
-    let totals = print_totals(out, &group.totals)?;
-    if noted {
-        lengths.extend_from_slice(&totals)?;
+    let names: &[u8] = if columns {
+        b"\x07records\x07packets\x05bytes"
+    } else {
+        b"records|packets|bytes"
+    };
+    out.push_bytes(names)
+}
+
+// Appends a mark and the text of a part of a key. The text of a missing label is empty.
+fn print_part(out: &mut Text, mark: Mark, part: KeyPart<'_>) -> Result<(), AllocError>
+    requires { IsSmall (part_model part) }
+    ensures { OnOk result (out.new ≡ out.old ++ marked mark (part_text (part_model part.entry))) }
+{
+    match part {
+        KeyPart::Address(addr) => out.push_address(mark, addr),
+        KeyPart::Number(number) => out.push_number(mark, u64::from(number)),
+        KeyPart::Label(label) => out.push_field(mark, label.unwrap_or(b"")),
     }
-    Ok(())
+}
+
+// Appends the line of a group, whose first field follows the mark `first` and each other field the mark `mark`.
+fn print_group(out: &mut Text, group: &Group<'_>, first: Mark, mark: Mark) -> Result<(), AllocError>
+    ensures { OnOk result (out.new ≡ out.old ++ marked_line first mark (group_fields (group_model group.now))) }
+{
+    let mut before = first;
+    let mut rest = group.key;
+    while let Some((part, others)) = rest.split_first() {
+        print_part(out, before, part)?;
+        before = mark;
+        rest = others;
+    }
+    out.push_number(before, group.totals.records)?;
+    out.push_total(mark, group.totals.packets)?;
+    out.push_total(mark, group.totals.octets)
 }
 
 // Returns the group at an index: of the sorted groups, if they are given, otherwise in the order of the first rows.
@@ -100,6 +78,27 @@ fn group_at<'a>(
     match sorted {
         Some(sorted) => sorted.get(index).copied(),
         None => groups.group(index),
+    }
+}
+
+impl Table {
+    // Adds the line of a group, whose key has as many parts as the table has columns before those of the totals. If an
+    // allocation fails, the table may end with a part of the line.
+    fn add_group(&mut self, group: &Group<'_>) -> Result<(), AllocError>
+        requires { (count : ℕ) × (lines : List Line) × IsTable count lines self.old
+            × (length (group_fields (group_model group.now)) ≡ count) }
+        ensures columns { has_columns self.new ≡ has_columns self.old }
+        ensures line { OnOk result ((count : ℕ) → (lines : List Line) → IsTable count lines self.old
+            → length (group_fields (group_model group.now)) ≡ count
+            → IsTable count (lines ++ group_fields (group_model group.now) ∷ []) self.new) }
+    {
+        if self.columns.is_none() {
+            return print_group(&mut self.text, group, Mark::End(b'\n'), Mark::End(b'|'));
+        }
+        let begin = self.text.len();
+        print_group(&mut self.text, group, Mark::Length, Mark::Length)?;
+        self.end_line(begin);
+        Ok(())
     }
 }
 
@@ -119,16 +118,14 @@ pub fn print_groups(
     ensures { IfOk result (λ out. out.items
         ≡ groups_text groups.now.fields (shown_groups sorted groups.now.groups) columns) }
 {
-    let mut lengths = Vec::new(alloc);
     let fields = groups.fields();
     let mut table = Table::new(alloc, fields.len() + TOTALS, columns)?;
-    print_title(&mut table.text, &mut lengths, fields)?;
-    table.note(lengths.as_slice())?;
+    print_title(&mut table.text, fields, columns)?;
+    table.end_line(0);
     let listed = if sorted { Some(groups.sorted()?) } else { None };
     for index in 0..groups.group_count() {
         if let Some(group) = group_at(groups, &listed, index) {
-            print_group(&mut table.text, &mut lengths, &group, columns)?;
-            table.note(lengths.as_slice())?;
+            table.add_group(&group)?;
         }
     }
     table.into_text()

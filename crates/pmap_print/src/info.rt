@@ -3,6 +3,7 @@ ghost use Rattle.std.specs.Prelude.{◌≡◌, ◌++◌, IfOk, OnOk};
 ghost use Rattle.flow_rows.specs.Counts.{numbers_of};
 ghost use Rattle.pmap_print.specs.Reports.{count_text, info_text};
 
+use crate::mark::Mark;
 use crate::text::Text;
 use flow_rows::Counts;
 use std::alloc::{AllocError, Global};
@@ -11,8 +12,9 @@ use std::alloc::{AllocError, Global};
 fn print_count(out: &mut Text, name: &[u8], number: u64) -> Result<(), AllocError>
     ensures { OnOk result (out.new ≡ out.old ++ count_text name.now number) }
 {
-    out.push_bytes(name, b' ')?;
-    out.push_number(number, b'\n')
+    out.push_bytes(name)?;
+    out.push_number(Mark::End(b' '), number)?;
+    out.push_bytes(b"\n")
 }
 
 /// Returns the text of counts: a line for each, with its name and its number.

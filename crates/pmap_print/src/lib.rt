@@ -23,6 +23,8 @@ mod groups;
 mod info;
 mod laws;
 mod list;
+mod mark;
+mod row_labels;
 mod rows;
 mod runs;
 mod table;
@@ -35,6 +37,7 @@ pub use laws::{
     printed_order_is_one,
 };
 pub use list::print_list;
-pub use rows::{RowLabels, print_rows};
+pub use row_labels::RowLabels;
+pub use rows::print_rows;
 pub use runs::print_runs;
 pub use table::Table;

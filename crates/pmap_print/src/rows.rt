@@ -1,114 +1,112 @@
 //! The printed text of flow rows.
-ghost use Rattle.std.specs.Prelude.{◌≡◌, ℕ, ◌+◌, ◌<◌, ◌≤◌, List, [], ◌∷◌, ◌++◌, IfOk, OnOk, drop, is_some, length, map, option_map, take};
+ghost use Rattle.std.specs.Prelude.{◌≡◌, ℕ, ◌+◌, ◌<◌, ◌≤◌, List, [], ◌∷◌, ◌++◌, IfOk, OnOk, drop, is_some, length, option_map};
 ghost use Rattle.std.specs.Fmt.{decimal};
-ghost use Rattle.std.specs.List.{join_with_byte};
 ghost use Rattle.std.specs.Option.{ForSome};
-ghost use Rattle.pmap_print.specs.Table.{has_columns, IsTable, sizes, Line, line_text};
+ghost use Rattle.prefix_keys.specs.Print.{address_text};
+ghost use Rattle.pmap_print.specs.Table.{has_columns, header_text, IsTable, Line, marked, marked_line};
 ghost use Rattle.pmap_print.specs.Reports.{column_count, labels_at, given_labels, label_texts, row_fields, row_line, rows_text, title_line};
 
+use crate::mark::Mark;
+use crate::row_labels::RowLabels;
 use crate::table::Table;
 use crate::text::Text;
 use flow_rows::Row;
 use itoa::write_digits;
-use prefix_keys::write_addr;
+use prefix_keys::{Addr, write_addr};
 use std::alloc::{AllocError, Global};
-
-/// The labels of a row's source and destination address. An address without a label has `None`.
-#[derive(Clone, Copy)]
-pub struct RowLabels<'a> {
-    /// The label of the source.
-    pub src: Option<&'a [u8]>,
-    /// The label of the destination.
-    pub dst: Option<&'a [u8]>,
-}
 
 // The number of columns of rows, without labels and with them.
 const COLUMNS: usize = 10;
 
 const WITH_LABELS: usize = 12;
 
-// The addresses of a row, the `|` between them, its eight numbers, each after a `|`, and the byte after them take at
-// most this many bytes.
+// The fields of a row without labels, each after its mark, take at most this many bytes.
 const LINE: usize = 250;
 
-// The lengths of the fields of the header, each with the byte that ends it.
-const TITLE_LENGTHS: [usize; WITH_LABELS] = [4, 4, 6, 6, 6, 6, 8, 6, 6, 6, 10, 10];
-
-// Writes a `|` and a number so that the number ends at `end`, and returns the index of the `|`.
+// Writes a mark and a number so that the number ends at `end`, and returns the index of the mark.
 #[inline(always)]
-fn write_number(number: u64, buf: &mut [u8], end: usize) -> usize
+fn write_number(number: u64, line: &mut [u8], end: usize, mark: Mark) -> usize
     requires room { 21 ≤ end }
-    requires within { end ≤ length buf.old }
-    ensures size { result + (length (decimal number) + 1) ≡ end }
+    requires within { end ≤ length line.old }
+    ensures size { result < end }
     ensures room { end ≤ result + 21 }
-    ensures written { drop result buf.new ≡ 124 ∷ decimal number ++ drop end buf.old }
+    ensures written { drop result line.new ≡ marked mark (decimal number) ++ drop end line.old }
 {
-    let at = write_digits(number, buf, end) - 1;
-    buf[at] = b'|';
-    at
+    let start = write_digits(number, line, end);
+    line[start - 1] = mark.of(end - start);
+    start - 1
 }
 
-// Appends the fields of a row with `|` between, and then a byte. Returns the lengths of the fields, each with the byte
-// after it, and 0 for each label.
+// Writes a mark and an address so that the address ends at `end`, and returns the index of the mark.
 #[inline(always)]
-fn print_fields(out: &mut Text, row: &Row<'_>, last: u8) -> Result<[usize; WITH_LABELS], AllocError>
-    ensures text { OnOk result (out.new
-        ≡ out.old ++ (join_with_byte 124 (row_fields row.now) ++ last ∷ [])) }
-    ensures lengths { IfOk result (λ lengths. lengths ≡ sizes (row_fields row.now) ++ 0 ∷ 0 ∷ []) }
+fn write_address(addr: Addr, line: &mut [u8], end: usize, mark: Mark) -> usize
+    requires room { 41 ≤ end }
+    requires within { end ≤ length line.old }
+    ensures size { result < end }
+    ensures room { end ≤ result + 41 }
+    ensures written { drop result line.new
+        ≡ marked mark (address_text addr.version addr.value) ++ drop end line.old }
 {
-    let mut line = [last; LINE];
-    let last_at = LINE - 1;
-    let end = write_number(row.end_ms(), &mut line, last_at);
-    let start = write_number(row.start_ms(), &mut line, end);
-    let octets = write_number(row.octets(), &mut line, start);
-    let packets = write_number(row.packets(), &mut line, octets);
-    let flags = write_number(u64::from(row.flags()), &mut line, packets);
-    let protocol = write_number(u64::from(row.protocol()), &mut line, flags);
-    let dport = write_number(u64::from(row.dport()), &mut line, protocol);
-    let sport = write_number(u64::from(row.sport()), &mut line, dport);
-    let dst = write_addr(row.dst(), &mut line, sport) - 1;
-    line[dst] = b'|';
-    let src = write_addr(row.src(), &mut line, dst);
-    out.push_front(&line[src..], LINE - src)?;
-    Ok([
-        dst - src + 1,
-        sport - dst,
-        dport - sport,
-        protocol - dport,
-        flags - protocol,
-        packets - flags,
-        octets - packets,
-        start - octets,
-        end - start,
-        last_at - end,
-        0,
-        0,
-    ])
+    let start = write_addr(addr, line, end);
+    line[start - 1] = mark.of(end - start);
+    start - 1
 }
 
-// Appends the line of a row, with its labels if they are given. The field of a missing label is empty. Returns the
-// lengths of the fields, each with the byte that ends it.
+// Appends the fields of a row without labels, the first after the mark `first` and each other one after `mark`.
+#[inline(always)]
+fn print_fields(out: &mut Text, row: &Row<'_>, first: Mark, mark: Mark) -> Result<(), AllocError>
+    ensures { OnOk result (out.new ≡ out.old ++ marked_line first mark (row_fields row.now)) }
+{
+    let mut line = [0; LINE];
+    let end = write_number(row.end_ms(), &mut line, LINE, mark);
+    let start = write_number(row.start_ms(), &mut line, end, mark);
+    let octets = write_number(row.octets(), &mut line, start, mark);
+    let packets = write_number(row.packets(), &mut line, octets, mark);
+    let flags = write_number(u64::from(row.flags()), &mut line, packets, mark);
+    let protocol = write_number(u64::from(row.protocol()), &mut line, flags, mark);
+    let dport = write_number(u64::from(row.dport()), &mut line, protocol, mark);
+    let sport = write_number(u64::from(row.sport()), &mut line, dport, mark);
+    let dst = write_address(row.dst(), &mut line, sport, mark);
+    let src = write_address(row.src(), &mut line, dst, first);
+    out.push_front(&line[src..], LINE - src)
+}
+
+// Appends the line of a row, with its labels if they are given. The field of a missing label is empty.
 #[inline(always)]
 fn print_row(
     out: &mut Text,
     row: &Row<'_>,
     labels: Option<RowLabels<'_>>,
-) -> Result<[usize; WITH_LABELS], AllocError>
-    ensures text { OnOk result (out.new
-        ≡ out.old ++ line_text (row_line row.now (option_map label_texts labels.entry))) }
-    ensures lengths { IfOk result (λ lengths. take (column_count (is_some labels.entry)) lengths
-        ≡ sizes (row_line row.now (option_map label_texts labels.entry))) }
+    first: Mark,
+    mark: Mark,
+) -> Result<(), AllocError>
+    ensures { OnOk result (out.new
+        ≡ out.old ++ marked_line first mark (row_line row.now (option_map label_texts labels.entry))) }
 {
-    let Some(labels) = labels else {
-        return print_fields(out, row, b'\n');
+    print_fields(out, row, first, mark)?;
+    if let Some(labels) = labels {
+        out.push_field(mark, labels.src.unwrap_or(b""))?;
+        out.push_field(mark, labels.dst.unwrap_or(b""))?;
+    }
+    Ok(())
+}
+
+// Appends the header of rows. In a table with columns, the names of the columns each follow the byte of their length.
+fn print_title(out: &mut Text, labelled: bool, columns: bool) -> Result<(), AllocError>
+    ensures { OnOk result (out.new ≡ out.old ++ header_text columns (title_line labelled)) }
+{
+    let names: &[u8] = if columns {
+        b"\x03sip\x03dip\x05sport\x05dport\x05proto\x05flags\x07packets\x05bytes\x05stime\x05etime"
+    } else {
+        b"sip|dip|sport|dport|proto|flags|packets|bytes|stime|etime"
     };
-    let mut lengths = print_fields(out, row, b'|')?;
-    let (src, dst) = (labels.src.unwrap_or(b""), labels.dst.unwrap_or(b""));
-    out.push_bytes(src, b'|')?;
-    out.push_bytes(dst, b'\n')?;
-    lengths[COLUMNS] = src.len() + 1;
-    lengths[COLUMNS + 1] = dst.len() + 1;
-    Ok(lengths)
+    out.push_bytes(names)?;
+    let names: &[u8] = match (labelled, columns) {
+        (true, true) => b"\x09src-label\x09dst-label",
+        (true, false) => b"|src-label|dst-label",
+        (false, _) => b"",
+    };
+    out.push_bytes(names)
 }
 
 impl Table {
@@ -123,14 +121,9 @@ impl Table {
         ensures columns { IfOk result (λ t. has_columns t ≡ columns) }
     {
         let count = if labelled { WITH_LABELS } else { COLUMNS };
-        let last = if labelled { b'|' } else { b'\n' };
         let mut table = Table::new(alloc, count, columns)?;
-        let title = b"sip|dip|sport|dport|proto|flags|packets|bytes|stime|etime";
-        table.text.push_bytes(title, last)?;
-        if labelled {
-            table.text.push_bytes(b"src-label|dst-label", b'\n')?;
-        }
-        table.note(&TITLE_LENGTHS[..count])?;
+        print_title(&mut table.text, labelled, columns)?;
+        table.end_line(0);
         Ok(table)
     }
 
@@ -152,16 +145,19 @@ impl Table {
             (lines ++ row_line row.now (option_map label_texts labels.entry) ∷ []) self.new) }
     {
         if self.columns.is_none() {
-            print_row(&mut self.text, row, labels)?;
-            return Ok(());
+            // Constant marks are faster.
+            return print_row(
+                &mut self.text,
+                row,
+                labels,
+                Mark::End(b'\n'),
+                Mark::End(b'|'),
+            );
         }
-        let lengths = print_row(&mut self.text, row, labels)?;
-        let count = if labels.is_some() {
-            WITH_LABELS
-        } else {
-            COLUMNS
-        };
-        self.note(&lengths[..count])
+        let begin = self.text.len();
+        print_row(&mut self.text, row, labels, Mark::Length, Mark::Length)?;
+        self.end_line(begin);
+        Ok(())
     }
 }
 

@@ -1,14 +1,16 @@
-ghost use Rattle.std.specs.Prelude.{◌≡◌, ◌<◌, ◌≤◌, ◌++◌, IfOk, OnOk, length};
+ghost use Rattle.std.specs.Prelude.{◌≡◌, ◌<◌, ◌≤◌, ◌++◌, ◌∷◌, [], IfOk, OnOk, length};
 ghost use Rattle.pmap_text.specs.Stretches.{AreLabelsBelow, text_held};
 ghost use Rattle.pmap_print.specs.Runs.{IsRunsText, run_between, run_text, run_titles};
 ghost use Rattle.pmap_print.specs.Table.{line_text};
 
+use crate::mark::Mark;
 use crate::text::Text;
 use pmap_text::{Labels, Stretches};
 use prefix_keys::Addr;
 use std::alloc::{AllocError, Global};
 
 // Appends the line of a run from the stretch `begin` to the stretch `end`: its first and last address, and the label.
+// The line follows a line feed.
 fn print_run(
     out: &mut Text,
     stretches: &Stretches,
@@ -18,32 +20,28 @@ fn print_run(
 ) -> Result<(), AllocError>
     requires order { begin ≤ end }
     requires within { end < length stretches.now.firsts }
-    ensures { OnOk result (out.new
-        ≡ out.old ++ run_text stretches.now.version (run_between labels.now stretches.now begin end)) }
+    ensures { OnOk result (out.new ++ 10 ∷ [] ≡ (out.old ++ 10 ∷ [])
+        ++ run_text stretches.now.version (run_between labels.now stretches.now begin end)) }
 {
     // Provides the law that the stretches cover every address of the version.
     let _count = stretches.len();
     let version = stretches.version();
     let (low, high) = (stretches.first(begin), stretches.last(end));
-    out.push_address(
-        Addr {
-            version,
-            value: low,
-        },
-        b'|',
-    )?;
-    out.push_address(
-        Addr {
-            version,
-            value: high,
-        },
-        b'|',
-    )?;
+    let low = Addr {
+        version,
+        value: low,
+    };
+    let high = Addr {
+        version,
+        value: high,
+    };
+    out.push_address(Mark::End(b'\n'), low)?;
+    out.push_address(Mark::End(b'|'), high)?;
     let text = match stretches.label(end) {
         Some(label) => labels.text(label).unwrap_or(b""),
         None => b"",
     };
-    out.push_bytes(text, b'\n')
+    out.push_field(Mark::End(b'|'), text)
 }
 
 /// Returns the text of the runs of stretches: a header, and a line for each maximal range of consecutive addresses with
@@ -59,7 +57,7 @@ pub fn print_runs(
     // Provides the law that no two texts of the table are equal.
     let _count = labels.len();
     let mut out = Text::new(alloc);
-    out.push_bytes(b"low|high|label", b'\n')?;
+    out.push_bytes(b"low|high|label")?;
     let count = stretches.len();
     let mut begin = 0;
     for index in 0..count {
@@ -68,5 +66,6 @@ pub fn print_runs(
             begin = index + 1;
         }
     }
+    out.push_bytes(b"\n")?;
     Ok(out.into_bytes())
 }

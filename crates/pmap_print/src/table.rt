@@ -1,7 +1,7 @@
 //! The text of a table, line by line.
-ghost use Rattle.std.specs.Prelude.{◌≡◌, ℕ, ◌<◌, ◌≤◌, List, [], ◌∷◌, ◌++◌, IfOk, OnOk, length};
+ghost use Rattle.std.specs.Prelude.{◌≡◌, ℕ, ◌<◌, ◌≤◌, List, [], ◌∷◌, ◌++◌, IfOk, drop, length};
 ghost use Rattle.std.specs.Option.{ForSome};
-ghost use Rattle.pmap_print.specs.Table.{has_columns, IsNoted, IsTable, sizes, Line, table_text};
+ghost use Rattle.pmap_print.specs.Table.{has_columns, AreWide, IsTable, Line, sized, table_text};
 
 use crate::columns::Columns;
 use crate::text::Text;
@@ -10,9 +10,10 @@ use std::alloc::{AllocError, Global};
 /// A table that is built line by line. Its fields are padded to columns, or are not.
 #[derive(Drop)]
 pub struct Table {
-    // The lines, without padding.
+    // The fields of the lines. If they are to be padded, each field follows the byte of its length. Otherwise each
+    // field but the first of the table follows the byte that ends the field before.
     pub(crate) text: Text,
-    // The lengths of the fields, if they are to be padded.
+    // The widths of the columns, if the fields are to be padded.
     pub(crate) columns: Option<Columns>,
 }
 
@@ -20,34 +21,36 @@ impl Table {
     // Returns a table of no lines, with `count` columns.
     pub(crate) fn new(alloc: Global, count: usize, columns: bool) -> Result<Table, AllocError>
         requires { 0 < count }
-        ensures none { IfOk result (IsTable count []) }
+        ensures text { IfOk result (λ t. t.text ≡ []) }
+        ensures wide { IfOk result (λ t. ForSome t.columns (AreWide count [])) }
         ensures columns { IfOk result (λ t. has_columns t ≡ columns) }
     {
-        let noted = if columns {
+        let widths = if columns {
             Some(Columns::new(alloc, count)?)
         } else {
             None
         };
         Ok(Table {
             text: Text::new(alloc),
-            columns: noted,
+            columns: widths,
         })
     }
 
-    // Notes the lengths of the fields of a line, each with the byte that ends it.
+    // Widens the columns for the line that begins at `begin`.
     #[inline(always)]
-    pub(crate) fn note(&mut self, lengths: &[usize]) -> Result<(), AllocError>
-        requires { ForSome self.old.columns (λ c. length lengths.now ≤ length c.widths.items) }
+    pub(crate) fn end_line(&mut self, begin: usize)
+        requires begin { begin ≤ length self.old.text }
+        requires line { ForSome self.old.columns (λ c. (fields : Line)
+            × (drop begin self.old.text ≡ sized fields) × (length fields ≡ length c.widths.items)) }
         ensures text { self.new.text ≡ self.old.text }
         ensures columns { has_columns self.new ≡ has_columns self.old }
-        ensures noted { OnOk result ((count : ℕ) → (lines : List Line) → (line : Line)
-            → ForSome self.old.columns (IsNoted count lines) → length line ≡ count → lengths.now ≡ sizes line
-            → ForSome self.new.columns (IsNoted count (lines ++ line ∷ []))) }
+        ensures wide { (count : ℕ) → (lines : List Line) → (fields : Line)
+            → ForSome self.old.columns (AreWide count lines) → drop begin self.old.text ≡ sized fields
+            → length fields ≡ count → ForSome self.new.columns (AreWide count (lines ++ fields ∷ [])) }
     {
         if let Some(columns) = &mut self.columns {
-            columns.note(lengths)?;
+            columns.add_line(self.text.since(begin));
         }
-        Ok(())
     }
 
     /// Returns the text of the table, padded if the table has columns.
@@ -60,8 +63,9 @@ impl Table {
             → IfOk result (λ out. out.items ≡ table_text (has_columns self) lines) }
     {
         let mut text = self.text.into_bytes();
-        if let Some(columns) = &self.columns {
-            columns.pad(&mut text)?;
+        match &self.columns {
+            Some(columns) => columns.pad(&mut text)?,
+            None => text.push(b'\n')?,
         }
         Ok(text)
     }

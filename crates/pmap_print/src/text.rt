@@ -1,13 +1,15 @@
 //! A text that is written field by field.
-ghost use Rattle.std.specs.Prelude.{◌≡◌, ◌≤◌, ◌∷◌, ◌++◌, [], OnOk, decimal, length, take};
+ghost use Rattle.std.specs.Prelude.{◌≡◌, ◌≤◌, ◌++◌, [], OnOk, decimal, drop, length, take};
 ghost use Rattle.prefix_keys.specs.Print.{address_text};
+ghost use Rattle.pmap_print.specs.Table.{marked};
 
+use crate::mark::Mark;
 use itoa::{Buffer, write_digits};
 use prefix_keys::{Addr, write_addr};
 use std::alloc::{AllocError, Global};
 use std::marker::Model;
 
-// The maximum length of a number below 2^64 and of an address, each with the byte after it, rounded up.
+// The maximum length of a number below 2^64 and of an address, each with the byte before it, rounded up.
 const NUMBER: usize = 24;
 
 const ADDRESS: usize = 48;
@@ -15,7 +17,7 @@ const ADDRESS: usize = 48;
 // The number of bytes by which the room grows at least.
 const STEP: usize = 1536;
 
-/// A text to which fields are appended, each with the byte that ends it.
+/// A text to which fields are appended, each after a mark.
 #[derive(Drop)]
 pub struct Text {
     // The text, and room for more.
@@ -66,45 +68,63 @@ impl Text {
         Ok(())
     }
 
-    /// Appends bytes, and then the byte `last`.
+    /// Returns the text from an offset on.
     #[inline(always)]
-    pub fn push_bytes(&mut self, bytes: &[u8], last: u8) -> Result<(), AllocError>
-        ensures { OnOk result (self.new ≡ self.old ++ (bytes.now ++ last ∷ [])) }
+    pub fn since(&self, begin: usize) -> &[u8]
+        requires { begin ≤ length self.now }
+        ensures { result.now ≡ drop begin self.now }
     {
-        self.push_front(bytes, bytes.len())?;
-        self.push_front(&[last], 1)
+        &self.bytes[begin..self.len]
     }
 
-    /// Appends a number in decimal, and then the byte `last`.
+    /// Appends bytes.
     #[inline(always)]
-    pub fn push_number(&mut self, number: u64, last: u8) -> Result<(), AllocError>
-        ensures { OnOk result (self.new ≡ self.old ++ (decimal number ++ last ∷ [])) }
+    pub fn push_bytes(&mut self, bytes: &[u8]) -> Result<(), AllocError>
+        ensures { OnOk result (self.new ≡ self.old ++ bytes.now) }
+    {
+        self.push_front(bytes, bytes.len())
+    }
+
+    /// Appends a mark and a field.
+    #[inline(always)]
+    pub fn push_field(&mut self, mark: Mark, field: &[u8]) -> Result<(), AllocError>
+        requires { length field.now ≤ 255 }
+        ensures { OnOk result (self.new ≡ self.old ++ marked mark field.now) }
+    {
+        self.push_front(&[mark.of(field.len())], 1)?;
+        self.push_front(field, field.len())
+    }
+
+    /// Appends a mark and a number in decimal.
+    #[inline(always)]
+    pub fn push_number(&mut self, mark: Mark, number: u64) -> Result<(), AllocError>
+        ensures { OnOk result (self.new ≡ self.old ++ marked mark (decimal number)) }
     {
         let mut field = [0; 2 * NUMBER];
-        field[NUMBER - 1] = last;
-        let start = write_digits(number, &mut field, NUMBER - 1);
+        let start = write_digits(number, &mut field, NUMBER) - 1;
+        field[start] = mark.of(NUMBER - start - 1);
         self.push_front(&field[start..start + NUMBER], NUMBER - start)
     }
 
-    /// Appends a number of up to 128 bits in decimal, and then the byte `last`.
+    /// Appends a mark and a number of up to 128 bits in decimal.
     #[inline(always)]
-    pub fn push_total(&mut self, number: u128, last: u8) -> Result<(), AllocError>
-        ensures { OnOk result (self.new ≡ self.old ++ (decimal number ++ last ∷ [])) }
+    pub fn push_total(&mut self, mark: Mark, number: u128) -> Result<(), AllocError>
+        ensures { OnOk result (self.new ≡ self.old ++ marked mark (decimal number)) }
     {
         if number < 1 << 64 {
-            return self.push_number(number as u64, last);
+            return self.push_number(mark, number as u64);
         }
-        self.push_bytes(Buffer::new().format(number).as_bytes(), last)
+        self.push_field(mark, Buffer::new().format(number).as_bytes())
     }
 
-    /// Appends an address, and then the byte `last`.
+    /// Appends a mark and an address.
     #[inline(always)]
-    pub fn push_address(&mut self, addr: Addr, last: u8) -> Result<(), AllocError>
-        ensures { OnOk result (self.new ≡ self.old ++ (address_text addr.version addr.value ++ last ∷ [])) }
+    pub fn push_address(&mut self, mark: Mark, addr: Addr) -> Result<(), AllocError>
+        ensures { OnOk result (self.new ≡ self.old ++ marked mark (address_text addr.version addr.value)) }
     {
         let mut field = [0; 2 * ADDRESS];
-        field[ADDRESS - 1] = last;
-        let start = write_addr(addr, &mut field, ADDRESS - 1);
+        let start = write_addr(addr, &mut field, ADDRESS) - 1;
+        field[start] = mark.of(ADDRESS - start - 1);
         self.push_front(&field[start..start + ADDRESS], ADDRESS - start)
     }
 

@@ -1,16 +1,13 @@
 -- The parts so far are printed, and the other parts and the totals follow.
-use Rattle.std.proofs.Common.{◌≡◌, ◌++◌, length, map, true}
+use Rattle.std.proofs.Common.{◌≡◌, ◌++◌, length, map}
 use Rattle.flow_uniq.specs.Inner.{group_model, key_model}
-use Rattle.pmap_print.specs.Table.{sizes, line_text}
+use Rattle.pmap_print.specs.Table.{marked_line}
 use Rattle.pmap_print.specs.Reports.{group_fields, part_text, total_fields}
 use Rattle.pmap_print.proofs.groups.print_group.Given as goal
 
 abbrev pub invariant-loop-part : goal.invariant-loop-part
-invariant-loop-part l = record {
-  text : l.out ++ line_text (map part_text (key_model l.rest) ++ total_fields l.group.totals)
-      ≡ l.initial.out ++ line_text (group_fields (group_model l.group));
-  lengths : l.noted ≡ true → l.lengths.items ++ sizes (map part_text (key_model l.rest)) ≡ sizes (map part_text (key_model l.group.key));
-}
+invariant-loop-part l = l.out ++ marked_line l.before l.mark (map part_text (key_model l.rest) ++ total_fields l.group.totals)
+    ≡ l.initial.out ++ marked_line l.fn.first l.mark (group_fields (group_model l.group))
 
 abbrev pub decreases-loop-part : goal.decreases-loop-part
 decreases-loop-part l = length (key_model l.rest)

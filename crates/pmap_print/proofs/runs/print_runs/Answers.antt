@@ -1,11 +1,12 @@
-use Rattle.std.proofs.Common.{◌≡◌, ◌≢◌, ◌==◌, ℕ, ◌+◌, ◌<◌, ◌∙◌, ◌++◌, Bool, true, not, None, Option, Some, ap, arith, length, refl, subst, sym}
+use Rattle.std.proofs.Common.{◌≡◌, ◌≢◌, ◌==◌, ℕ, ◌+◌, ◌<◌, ◌∙◌, [], ◌∷◌, ◌++◌, Bool, true, not, None, Option, Some, ap, arith, length, refl, subst, sym}
+use Rattle.std.specs.List.{join_with_byte}
 use Rattle.std.specs.Option.{option_eq}
 use Rattle.std.proofs.lemmas.Bool.{both_ways, eq-eqb}
 use Rattle.pmap_text.specs.declared.label.LabelId.{LabelId}
 use Rattle.pmap_text.specs.Stretches.{StretchesModel, label_at, text_held}
 use Rattle.pmap_text.proofs.Joined.{same-label}
 use Rattle.pmap_print.specs.Runs.{IsRunsText, run_titles}
-use Rattle.pmap_print.specs.Table.{Text, line_text}
+use Rattle.pmap_print.specs.Table.{Text}
 use Rattle.pmap_print.proofs.Stretches.{all_printed, none_printed, run_ends, run_goes_on}
 use Rattle.pmap_print.proofs.runs.print_runs.Goals as goal
 use Rattle.pmap_print.proofs.runs.print_runs.Goals.{then-index-count+in_ok-print_run, then-index-count-via-then-index-count, then-index-count-via-else-index-count+then-ne, else-index-count+else-ne}
@@ -21,8 +22,8 @@ other-label x y r is e same =
     both_ways r (is ∙ ap not equal) e
 
 pub loop-index-init : goal.loop-index-init
-loop-index-init c = none_printed c.args.labels.now c.args.stretches.now c.len-count-2.ensures.every c.push_bytes.new.self
-    (c.in_ok-push_bytes.ensures ∙ ap (λ (l : Text). l ++ line_text run_titles) c.new-out.ensures)
+loop-index-init c = none_printed c.args.labels.now c.args.stretches.now c.len-count-2.ensures.every (c.push_bytes.new.self ++ 10 ∷ [])
+    (ap (λ (l : Text). l ++ 10 ∷ []) (c.in_ok-push_bytes.ensures ∙ ap (λ (l : Text). l ++ join_with_byte 124 run_titles) c.new-out.ensures))
 
 pub loop-index-preserved : goal.loop-index-preserved
 loop-index-preserved c =
@@ -39,19 +40,19 @@ loop-index-preserved c =
                 other-label _ _ v.ne.result v.ne.ensures v.if-ne.true (v.label.ensures ∙ same ∙ sym v.label-else-index-count.ensures)
           ] in
           rw (out, begin)
-          (run_ends c.args.labels.now s c.len-count-2.ensures.every c.loop-index.begin i within c.loop-index.out c.loop-index.invariant
-          w.print_run.new.out c.len-count.ensures.table c.requires other w.in_ok-print_run.ensures)
+          (run_ends c.args.labels.now s c.len-count-2.ensures.every c.loop-index.begin i within (c.loop-index.out ++ 10 ∷ []) c.loop-index.invariant
+          (w.print_run.new.out ++ 10 ∷ []) c.len-count.ensures.table c.requires other w.in_ok-print_run.ensures)
       | else-index-count+else-ne w ↦
           let out = w.out-is in
           let begin = w.begin-is in
           rw (out, begin)
-          (run_goes_on c.args.labels.now s c.len-count-2.ensures.every c.loop-index.begin i within c.loop-index.out c.loop-index.invariant
+          (run_goes_on c.args.labels.now s c.len-count-2.ensures.every c.loop-index.begin i within (c.loop-index.out ++ 10 ∷ []) c.loop-index.invariant
           (omega (arith, w.if-index-count.false, c.len-count-2.ensures.value))
           (sym w.label.ensures ∙ same-label _ _ w.ne.result w.ne.ensures w.if-ne.false ∙ w.label-else-index-count.ensures))
     ]
 
 pub returns : goal.returns
 returns c =
-    subst (IsRunsText c.args.stretches.now.version (text_held c.args.labels.now c.args.stretches.now)) (sym c.into_bytes.ensures)
-    (all_printed c.args.labels.now c.args.stretches.now c.len-count-2.ensures.every c.loop-index.begin c.loop-index.index c.loop-index.out
+    subst (IsRunsText c.args.stretches.now.version (text_held c.args.labels.now c.args.stretches.now)) (sym (c.into_bytes.ensures ∙ c.in_ok-push_bytes-2.ensures))
+    (all_printed c.args.labels.now c.args.stretches.now c.len-count-2.ensures.every c.loop-index.begin c.loop-index.index (c.loop-index.out ++ 10 ∷ [])
     c.loop-index.invariant (omega (arith, c.loop-index-test.false, c.len-count-2.ensures.value)))

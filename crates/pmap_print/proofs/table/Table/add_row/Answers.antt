@@ -1,22 +1,28 @@
-use Rattle.std.proofs.Common.{◌≡◌, ◌∙◌, ap, is_some, option_map, take}
+use Rattle.std.proofs.Common.{ap, not, ◌≡◌, ◌∙◌, false, is_some, option_map, refl}
 use Rattle.std.proofs.lemmas.Result.{on_ok_weaker}
-use Rattle.pmap_print.specs.Table.{Line}
+use Rattle.pmap_print.specs.Table.{Line, has_columns}
 use Rattle.pmap_print.specs.Reports.{column_count, label_texts, row_line}
-use Rattle.pmap_print.proofs.TableLines.{length-row_line, line_printed}
+use Rattle.pmap_print.proofs.TableLines.{fits_columns, has_fields, length-row_line, plain_printed, sized_printed}
 use Rattle.pmap_print.proofs.table.Table.add_row.Goals as goal
-use Rattle.pmap_print.proofs.table.Table.add_row.Goals.{then-is_some, else-is_some}
 
-pub returns-clause-line : goal.returns-clause-line
-returns-clause-line c =
+pub returns-then-is_none-clause-line : goal.returns-then-is_none-clause-line
+returns-then-is_none-clause-line c =
     let labels = c.args.labels in
     let line : Line = row_line c.args.row.now (option_map label_texts labels) in
-    let count : c.if-is_some.count ≡ column_count (is_some labels) = elim c.if-is_some.branch [
-      | then-is_some w ↦ w.count-is ∙ ap column_count w.if-is_some.ensures
-      | else-is_some w ↦ w.count-is ∙ ap column_count w.if-is_some.ensures
-    ] in
-    on_ok_weaker c.note.result
-    (λ noted lines is. line_printed (column_count (is_some labels)) lines line c.args.self.now c.note.new.self is
-    (c.note.ensures.text ∙ c.in_ok-lengths.ensures.text)
-    (noted (column_count (is_some labels)) lines line is.noted (length-row_line c.args.row.now labels)
-    (ap (λ n. take n c.in_ok-lengths.lengths) count ∙ c.in_ok-lengths.ensures.lengths)))
-    c.note.ensures.noted
+    let none : has_columns c.args.self.now ≡ false = c.is_none.ensures ∙ ap not c.if-is_none.true in
+    on_ok_weaker c.print_row.result
+    (λ text lines is. plain_printed (column_count (is_some labels)) lines line c.args.self.now _ is (has_fields c.args.row.now labels) none refl text)
+    c.print_row.ensures
+
+pub end_line-requires-clause-line : goal.end_line-requires-clause-line
+end_line-requires-clause-line c =
+    fits_columns (column_count (is_some c.args.labels)) c.requires.0 (row_line c.args.row.now (option_map label_texts c.args.labels)) c.args.self.now
+    c.print_row-2.new.out c.len-begin.result c.requires.1 (length-row_line c.args.row.now c.args.labels) c.len-begin.ensures c.in_ok-print_row.ensures
+
+pub returns-clause-line : goal.returns-clause-line
+returns-clause-line c = λ lines is.
+    let labels = c.args.labels in
+    sized_printed (column_count (is_some labels)) lines (row_line c.args.row.now (option_map label_texts labels)) c.args.self.now c.print_row-2.new.out
+    c.len-begin.result is (length-row_line c.args.row.now labels) c.len-begin.ensures c.in_ok-print_row.ensures c.end_line.new.self
+    (has_fields c.args.row.now labels) (c.is_none.ensures ∙ ap not c.if-is_none.false) c.end_line.ensures.text
+    c.end_line.ensures.columns c.end_line.ensures.wide
