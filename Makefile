@@ -52,6 +52,7 @@ scripts:
 	tests/lint
 	tests/many
 	tests/package
+	tests/report
 	tests/routes
 	tests/table
 
