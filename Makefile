@@ -49,11 +49,11 @@ examples:
 scripts:
 	tests/capture
 	tests/country
+	tests/fib
 	tests/lint
 	tests/many
 	tests/package
 	tests/report
-	tests/routes
 	tests/table
 
 definitions:
