@@ -49,10 +49,12 @@ examples:
 scripts:
 	tests/capture
 	tests/country
+	tests/endings
 	tests/fib
 	tests/lint
 	tests/many
 	tests/package
+	tests/pictures
 	tests/report
 	tests/table
 
