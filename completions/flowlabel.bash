@@ -24,9 +24,43 @@ _flowlabel_fields() {
     done
 }
 
+# A word without its quotes and backslashes.
+_flowlabel_plain() {
+    local word=${1//[\"\']/}
+    word=${word//\\/}
+    printf '%s' "${word/#\~\//$HOME/}"
+}
+
+# The labels of the map or the list that is on the line.
+_flowlabel_labels() {
+    local index option='' file=''
+    for ((index = 2; index < ${#COMP_WORDS[@]} - 1; index++)); do
+        case ${COMP_WORDS[index]} in
+        --pmap | --list)
+            option=${COMP_WORDS[index]} file=${COMP_WORDS[index + 1]}
+            [[ $file != = ]] || file=${COMP_WORDS[index + 2]}
+            ;;
+        esac
+    done
+    [[ -z $option ]] || "$(_flowlabel_plain "${COMP_WORDS[0]}")" cat "$option" "$(_flowlabel_plain "$file")" 2>/dev/null |
+        sed 1d | cut -d '|' -f 3- | LC_ALL=C sort -u | grep .
+}
+
+# Completes a label, which may have blanks.
+_flowlabel_label() {
+    local label begun
+    begun=$(_flowlabel_plain "$1")
+    while read -r label; do
+        [[ $label != "$begun"* ]] || COMPREPLY+=("$label")
+    done < <(_flowlabel_labels)
+}
+
 _flowlabel() {
     local word=${COMP_WORDS[COMP_CWORD]} before=${COMP_WORDS[COMP_CWORD - 1]} command=${COMP_WORDS[1]}
     COMPREPLY=()
+    # In --OPTION=WORD the = is a word of its own.
+    [[ $before != = ]] || before=${COMP_WORDS[COMP_CWORD - 2]}
+    [[ $word != = ]] || word=
     if ((COMP_CWORD == 1)); then
         mapfile -t COMPREPLY < <(compgen -W 'label info rows uniq cat shrink check recert --help --version' -- "$word")
         return
@@ -34,7 +68,8 @@ _flowlabel() {
     case $before in
     --fields) mapfile -t COMPREPLY < <(compgen -W "$(_flowlabel_fields "$word")" -- "$word") ;;
     --pmap | --list | --cert) mapfile -t COMPREPLY < <(compgen -f -- "$word") ;;
-    --protocol | --sport | --dport | --saddress | --daddress | --packets | --bytes | --*-label) ;;
+    --protocol | --sport | --dport | --saddress | --daddress | --packets | --bytes) ;;
+    --src-label | --dst-label | --any-label) _flowlabel_label "$word" ;;
     *)
         case $word in
         -*) mapfile -t COMPREPLY < <(compgen -W "$(_flowlabel_options "$command")" -- "$word") ;;

@@ -1,5 +1,19 @@
 # Completion of flowlabel for fish. `make install` copies it to where fish finds it.
 
+# The labels of the map or the list that is on the line.
+function __flowlabel_labels
+    set -l words (commandline -op)
+    for number in (seq (count $words))
+        switch $words[$number]
+            case --pmap --list
+                set -l file (string replace -r '^~/' "$HOME/" -- $words[(math $number + 1)])
+                $words[1] cat $words[$number] $file 2>/dev/null | sed 1d | cut -d '|' -f 3- | sort -u
+            case '--pmap=*' '--list=*'
+                $words[1] cat $words[$number] 2>/dev/null | sed 1d | cut -d '|' -f 3- | sort -u
+        end
+    end
+end
+
 set -l commands label info rows uniq cat shrink check recert
 set -l of __fish_seen_subcommand_from
 
@@ -28,9 +42,12 @@ complete -c flowlabel -n "$of rows uniq" -l saddress -x -d 'Flows from these add
 complete -c flowlabel -n "$of rows uniq" -l daddress -x -d 'Flows to these addresses'
 complete -c flowlabel -n "$of rows uniq" -l packets -x -d 'Flows with this many packets, such as 5, 5- or 5-9'
 complete -c flowlabel -n "$of rows uniq" -l bytes -x -d 'Flows with this many bytes'
-complete -c flowlabel -n "$of rows uniq" -l src-label -x -d 'Flows whose source has this label'
-complete -c flowlabel -n "$of rows uniq" -l dst-label -x -d 'Flows whose destination has this label'
-complete -c flowlabel -n "$of rows uniq" -l any-label -x -d 'Flows whose source or destination has this label'
+complete -c flowlabel -n "$of rows uniq" -l src-label -x -d 'Flows whose source has this label' \
+    -a '(__flowlabel_labels)'
+complete -c flowlabel -n "$of rows uniq" -l dst-label -x -d 'Flows whose destination has this label' \
+    -a '(__flowlabel_labels)'
+complete -c flowlabel -n "$of rows uniq" -l any-label -x -d 'Flows whose source or destination has this label' \
+    -a '(__flowlabel_labels)'
 complete -c flowlabel -n "$of rows uniq" -l columns -d 'Pad the fields to columns'
 
 complete -c flowlabel -n "$of uniq" -l sort-output -d 'Print the sums in the order of their keys'
