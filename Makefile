@@ -8,8 +8,8 @@
 # Whatever needs a missing package is skipped.
 # make definitions: changes of definitions, each of which must break an example of crates/definition_examples or a law.
 # make bench: the speed of the program.
-# make install, make uninstall: the proved program with its manual pages, completions, pages and examples, below DESTDIR
-# and PREFIX.
+# make install, make uninstall: the proved program with its manual pages, completions, scripts, pages and examples, below
+# DESTDIR and PREFIX.
 # make package: these in out/flowlabel-VERSION-x86_64-linux.tar.gz and out/flowlabel_VERSION_amd64.deb.
 .PHONY: test examples scripts definitions bench install uninstall package
 
@@ -20,7 +20,8 @@ INSTALL = install
 program = crates/flowlabel/out/flowlabel
 to = "$(DESTDIR)$(PREFIX)"
 pages = share/doc/flowlabel
-files = bin/flowlabel share/man/man1/flowlabel.1 share/man/man5/flowlabel-formats.5 \
+files = bin/flowlabel share/man/man1/flowlabel.1 share/man/man1/flowlabel-scripts.1 \
+	share/man/man5/flowlabel-formats.5 \
 	share/bash-completion/completions/flowlabel share/zsh/site-functions/_flowlabel \
 	share/fish/vendor_completions.d/flowlabel.fish
 
@@ -68,19 +69,20 @@ bench:
 # install a program that is built.
 install:
 	bin/flowlabel --help >/dev/null
-	$(INSTALL) -d $(patsubst %,$(to)/%,$(dir $(files)) $(pages)/examples)
+	$(INSTALL) -d $(patsubst %,$(to)/%,$(dir $(files)) $(pages)/examples share/flowlabel)
 	$(INSTALL) -m 755 $(program) $(to)/bin/flowlabel
 	$(INSTALL) -m 644 man/flowlabel.1 $(to)/share/man/man1/flowlabel.1
+	$(INSTALL) -m 644 man/flowlabel-scripts.1 $(to)/share/man/man1/flowlabel-scripts.1
 	$(INSTALL) -m 644 man/flowlabel-formats.5 $(to)/share/man/man5/flowlabel-formats.5
 	$(INSTALL) -m 644 completions/flowlabel.bash $(to)/share/bash-completion/completions/flowlabel
 	$(INSTALL) -m 644 completions/_flowlabel $(to)/share/zsh/site-functions/_flowlabel
 	$(INSTALL) -m 644 completions/flowlabel.fish $(to)/share/fish/vendor_completions.d/flowlabel.fish
-
-	bin/pages $(to)/$(pages)
+	bin/pages $(to)
 
 uninstall:
+	find $(to)/bin $(to)/share/man/man1 -lname '*/share/flowlabel/*' -delete -o -lname flowlabel-scripts.1 -delete
 	rm -f $(patsubst %,$(to)/%,$(files))
-	rm -rf $(to)/$(pages)
+	rm -rf $(to)/$(pages) $(to)/share/flowlabel
 
 package:
 	bin/package
