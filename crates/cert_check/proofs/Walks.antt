@@ -1,7 +1,7 @@
 -- The results of a walk over a tree, by those over the trees below it.
 use Rattle.std.proofs.Math.Seq.{drop-append_seam, take-append_seam}
 use Rattle.std.proofs.lemmas.List.{append-nil, append_assoc, length-append, length-drop, length-take-le, take-append-drop}
-use Rattle.std.proofs.Common.{◌≡◌, ◌∙◌, ℕ, drop, take, suc, ◌+◌, ◌-◌, ◌*◌, ◌≤◌, Bool, List, [], ◌++◌, length, Option, Ok, option_map, refl, sym, ap, arith}
+use Rattle.std.proofs.Common.{◌≡◌, ◌∙◌, ℕ, drop, take, suc, ◌+◌, ◌-◌, ◌*◌, ◌≤◌, Bool, List, [], ◌++◌, length, Option, Ok, option_map, refl, sym, ap, subst, arith}
 use Rattle.std.specs.Option.{option_or}
 use Rattle.prefix_keys.specs.declared.block.Block.{Block}
 use Rattle.pmap_text.specs.MapModel.{MapModel}
@@ -14,10 +14,11 @@ use Rattle.pmap_cert.specs.Compacting.{line_count}
 use Rattle.pmap_cert.specs.CertificateText.{IsAscending}
 use Rattle.pmap_cert.specs.CertificateModel.{ChainNode, InnerNode, Claim, Tree, chain_claim, claim_of, exact_claim}
 use Rattle.pmap_cert.specs.FormatReading.{Place}
+use Rattle.pmap_cert.specs.NodeSource.{place_in}
 use Rattle.pmap_cert.specs.Paths.{LeadsTo}
 use Rattle.pmap_cert.specs.declared.fault.CertFault.{CertFault}
 use Rattle.cert_check.specs.Checking.{bits_fault, claim_fault, fault_of_number, node_fault, told, CheckFault, CheckFaultKind}
-use Rattle.cert_check.specs.Inner.{IsAfter, IsHalf, IsPassed, IsUnread, Read, Sources, Walk, chain_reading, claim_with, fault_of_node, fault_with, halves_reading, reading_at, sides_fault}
+use Rattle.cert_check.specs.Inner.{CanBeRead, IsAfter, IsHalf, IsPassed, IsUnread, Read, Sources, Walk, chain_reading, claim_with, fault_of_node, fault_with, halves_reading, reading_at, sides_fault}
 use Rattle.cert_check.proofs.Nodes.{bits-sides, half-is, or-or}
 use Rattle.cert_check.proofs.Sets.{numbers}
 
@@ -58,22 +59,23 @@ module _ (s : Sources) (b low high : Block) (low_half : IsHalf b low (2 * number
 
   module _ (sets : List LabelId) (before : Option CheckFault) (middle : Walk) (low_cost : ℕ)
       (lower : IsPassed s (reading_at s low.len place) (fault_of_node s low) next sets before middle low_cost) where
-    behind : halves_reading s n claim place ≡ upper_then lower.tree (reading_at s high.len middle.lines)
-    behind = ap lower_then (lower-at ∙ lower.read) ∙ ap (λ (m : ℕ). upper_then lower.tree (reading_at s m middle.lines)) (sym high_half.len)
+    behind : halves_reading s n claim place ≡ upper_then lower.tree (reading_at s high.len (place_in middle.nodes))
+    behind = ap lower_then (lower-at ∙ lower.read) ∙ ap (λ (m : ℕ). upper_then lower.tree (reading_at s m (place_in middle.nodes))) (sym high_half.len)
 
-    pub upper-unread : (f : CertFault) → IsUnread (reading_at s high.len middle.lines) f → IsUnread (halves_reading s n claim place) f
+    pub upper-unread : (f : CertFault) → IsUnread (reading_at s high.len (place_in middle.nodes)) f → IsUnread (halves_reading s n claim place) f
     upper-unread f unread = (λ some. behind ∙ ap (upper_then lower.tree) (unread.0 some), unread.1)
 
     pub halves-passed : (old : List LabelId) (last new : Walk) (high_cost : ℕ) (o : Option CheckFaultKind)
-        (upper : IsPassed s (reading_at s high.len middle.lines) (fault_of_node s high) middle.number middle.sets.items middle.fault last high_cost)
+        (upper : IsPassed s (reading_at s high.len (place_in middle.nodes)) (fault_of_node s high) middle.number middle.sets.items middle.fault last high_cost)
         → IsAscending (length s.frame.labels.now) 0 (numbers own)
         → o ≡ claim_fault claim (exact_claim (claim_with s.frame.labels.now low_cost (numbers lower.set)) (claim_with s.frame.labels.now high_cost (numbers upper.set)))
-        → new.lines ≡ last.lines → new.number ≡ last.number → new.sets.items ≡ old ++ own → new.fault ≡ option_or last.fault (fault_with number o)
+        → new.nodes ≡ last.nodes → new.number ≡ last.number → new.sets.items ≡ old ++ own → new.fault ≡ option_or last.fault (fault_with number o)
         → IsPassed s (halves_reading s n claim place) (fault_of_node s b) number old before new cost
-    halves-passed old last new high_cost o upper ascending fault lines numbered sets noted = record {
+    halves-passed old last new high_cost o upper ascending fault nodes numbered sets noted = record {
       tree = InnerNode claim lower.tree upper.tree;
       set = own;
-      read = behind ∙ ap (upper_then lower.tree) upper.read ∙ ap (λ (l : Place). Ok (InnerNode claim lower.tree upper.tree, l)) (sym lines);
+      nodes = subst (CanBeRead s) (sym nodes) upper.nodes;
+      read = behind ∙ ap (upper_then lower.tree) upper.read ∙ ap (λ (l : Place). Ok (InnerNode claim lower.tree upper.tree, l)) (sym (ap place_in nodes));
       claim = refl;
       ascending = ascending;
       sets = sets;
@@ -133,13 +135,14 @@ module _ (s : Sources) (b end : Block) (cost : ℕ) (own : List LabelId) (bits :
       → IsAscending (length s.frame.labels.now) 0 (numbers own)
       → beside ≡ sides_fault m ps text bits b.len (number_of_block b)
       → o ≡ claim_fault claim' (chain_claim (length bits) text (claim_with s.frame.labels.now end_cost (numbers below.set)))
-      → new.lines ≡ last.lines → new.number ≡ last.number → new.sets.items ≡ old ++ own
+      → new.nodes ≡ last.nodes → new.number ≡ last.number → new.sets.items ≡ old ++ own
       → new.fault ≡ option_or (option_or last.fault (fault_with number beside)) (fault_with number o)
       → IsPassed s (chain_reading s b.len claim' bits side place) (fault_of_node s b) number old before new cost
-  chain-passed sets old before last new end_cost beside o below ascending sides fault lines numbered items noted = record {
+  chain-passed sets old before last new end_cost beside o below ascending sides fault nodes numbered items noted = record {
     tree = ChainNode claim' bits text below.tree;
     set = own;
-    read = ap then_chain (end-at ∙ below.read) ∙ ap (λ (l : Place). Ok (ChainNode claim' bits text below.tree, l)) (sym lines);
+    nodes = subst (CanBeRead s) (sym nodes) below.nodes;
+    read = ap then_chain (end-at ∙ below.read) ∙ ap (λ (l : Place). Ok (ChainNode claim' bits text below.tree, l)) (sym (ap place_in nodes));
     claim = refl;
     ascending = ascending;
     sets = items;

@@ -1,6 +1,6 @@
 -- The root of a certificate.
 use Rattle.std.specs.Option.{option_or}
-use Rattle.std.proofs.Common.{◌&&◌, Bool, false, ◌≡◌, ◌∙◌, ℕ, ◌+◌, ◌-◌, ◌^◌, List, Option, None, Some, Result, Err, Ok, cond, true, length, nat_lt, sym, ap, arith}
+use Rattle.std.proofs.Common.{◌&&◌, Bool, false, ◌≡◌, ◌∙◌, ℕ, ◌+◌, ◌-◌, ◌^◌, List, Option, None, Some, Result, Err, Ok, cond, true, length, nat_lt, refl, sym, ap, arith}
 use Rattle.std.proofs.Math.Nat.{zero-div}
 use Rattle.std.proofs.lemmas.Bool.{and_from}
 use Rattle.std.proofs.lemmas.List.{length-map}
@@ -18,6 +18,8 @@ use Rattle.pmap_text.specs.declared.prefix_list.PrefixList.{PrefixList}
 use Rattle.pmap_cert.specs.CertificateModel.{CertificateModel, Tree, claim_of}
 use Rattle.pmap_cert.specs.FormatReading.{Place, ended_by, fault_at, is_ended}
 use Rattle.pmap_cert.specs.Inner.{node_due_at, reading_from}
+use Rattle.pmap_cert.specs.NodeSource.{place_in}
+use Rattle.pmap_cert.proofs.Tables.{ok_is}
 use Rattle.pmap_cert.specs.declared.fault.CertFault.{CertFault}
 use Rattle.pmap_cert.specs.declared.fault.CertFaultKind.TheVariants.{NodesLeft}
 use Rattle.pmap_cert.specs.declared.format.Format.{Format}
@@ -39,16 +41,16 @@ root-unread s n none place f unread = (λ some. ap (λ (m : ℕ). reading_at s m
 pub root-checked : (s : Sources) (are : AreSources s) (b : Block) (place : Place) (number cost : ℕ) (old : List LabelId) (before : Option CheckFault) (last new : Walk)
     → b.value ≡ 0 → b.len ≡ 0 → number ≡ 1 → before ≡ None
     → IsPassed s (reading_at s b.len place) (fault_of_node s b) number old before last cost
-    → new.lines ≡ last.lines → new.fault ≡ bound last.fault (nat_lt (cost + 1) (length s.list.now.entries))
+    → new.nodes ≡ last.nodes → new.fault ≡ bound last.fault (nat_lt (cost + 1) (length s.list.now.entries))
     → IsRootChecked s place new
-root-checked s are b place number cost old before last new first len one none passed lines noted =
+root-checked s are b place number cost old before last new first len one none passed nodes_same noted =
     let m = map_of s.map.now in
     let l = list_of s.list.now in
     let nodes = node_fault m l.prefixes passed.tree 1 0 0 in
     let versions = and_from _ _ (same_version-from l.version m.version are.list_version) (same_version-own m.version) in
     record {
       tree = passed.tree;
-      read = ap (λ (n : ℕ). reading_at s n place) (sym len) ∙ passed.read ∙ ap (λ (l : Place). Ok (passed.tree, l)) (sym lines);
+      read = ap (λ (n : ℕ). reading_at s n place) (sym len) ∙ passed.read ∙ ap (λ (l : Place). Ok (passed.tree, l)) (sym (ap place_in nodes_same));
       fault = noted
           ∙ (λ i. bound (((passed.fault 1 (sym one)).0 ∙ ap (λ o. option_or o (fault_of_node s b passed.tree 1)) none) i)
           (nat_lt ((sym passed.claim i).cost + 1) (sym (length-map s.list.now.entries (prefix_of s.list.now.labels)) i)))
@@ -62,21 +64,35 @@ module _ (s : Sources) (are : AreSources s) (format : Format) (table : List Labe
   abbrev then_ended : Read → Result CertificateModel CertFault
   then_ended r = r >>= (λ root. ended_by (certificate_with format version table root.0) root.1)
 
-  from-root : reading_from format version table place ≡ then_ended (reading_at s 0 place)
-  from-root =
+  at-root : node_due_at format (width_of version) table (width_of version) place ≡ reading_at s 0 place
+  at-root =
       let width : width_of version ≡ s.frame.width = ap width_of version_is ∙ sym are.width in
       let room : width_of version ≡ s.frame.width - 0 = omega (arith, width) in
-      λ i. then_ended (node_due_at (sym format_is i) (width i) (sym table_is i) (room i) place)
+      λ i. node_due_at (sym format_is i) (width i) (sym table_is i) (room i) place
+
+  from-root : reading_from format version table place ≡ then_ended (reading_at s 0 place)
+  from-root = ap then_ended at-root
 
   -- its first fault is that of the walk
-  pub read-as : (m : MapText) (l : PrefixList) → s.map.now ≡ m → s.list.now ≡ l → (new : Walk) (root : IsRootChecked s place new) → is_ended new.lines.pieces ≡ true
-      → (reading_from format version table place ≡ Ok (certificate_with format version table root.tree))
-      × (first_fault (map_of m) (list_of l) (certificate_with format version table root.tree) ≡ new.fault)
-  read-as m l map_is list_is new root ended = (
-    from-root ∙ ap then_ended root.read
-        ∙ ap (λ (b : Bool). cond b (Ok (certificate_with format version table root.tree)) (Err (fault_at new.lines NodesLeft))) ended,
-    (λ i. first_fault (map_of (sym map_is i)) (list_of (sym list_is i)) (certificate_with (sym format_is i) (version_is i) (sym table_is i) root.tree)) ∙ sym root.fault,
-  )
+  module _ (m : MapText) (l : PrefixList) (map_is : s.map.now ≡ m) (list_is : s.list.now ≡ l) (new : Walk) (root : IsRootChecked s place new) where
+    fault-of : (tree : Tree) → root.tree ≡ tree → first_fault (map_of m) (list_of l) (certificate_with format version table tree) ≡ new.fault
+    fault-of tree is =
+        (λ i. first_fault (map_of (sym map_is i)) (list_of (sym list_is i)) (certificate_with (sym format_is i) (version_is i) (sym table_is i) (sym is i))) ∙ sym root.fault
+
+    pub read-as : is_ended (place_in new.nodes).pieces ≡ true
+        → (reading_from format version table place ≡ Ok (certificate_with format version table root.tree))
+        × (first_fault (map_of m) (list_of l) (certificate_with format version table root.tree) ≡ new.fault)
+    read-as ended = (
+      from-root ∙ ap then_ended root.read
+          ∙ ap (λ (b : Bool). cond b (Ok (certificate_with format version table root.tree)) (Err (fault_at (place_in new.nodes) NodesLeft))) ended,
+      fault-of root.tree refl,
+    )
+
+    -- it is that of the certificate that was given, if its nodes are read from the place
+    pub given-as : (tree : Tree) (after : Place) → node_due_at format (width_of version) table (width_of version) place ≡ Ok (tree, after)
+        → first_fault (map_of m) (list_of l) (certificate_with format version table tree) ≡ new.fault
+    given-as tree after read =
+        fault-of tree (ap (λ (x : Tree × Place). x.0) (ok_is (root.tree, place_in new.nodes) (tree, after) (sym root.read ∙ sym at-root ∙ read)))
 
   pub read-left : (after : Place) (tree : Tree) → reading_at s 0 place ≡ Ok (tree, after) → is_ended after.pieces ≡ false
       → reading_from format version table place ≡ Err (fault_at after NodesLeft)

@@ -22,6 +22,8 @@ use Rattle.pmap_cert.specs.declared.fault.CertFault.{CertFault}
 use Rattle.pmap_cert.specs.declared.node.Claim.{Claim as Claimed}
 use Rattle.pmap_cert.specs.declared.fault.CertFaultKind.TheVariants.{NoMemory as NoMemoryForText}
 use Rattle.pmap_cert.specs.Inner.{node_due_at}
+use Rattle.pmap_cert.specs.NodeSource.{HasFittingLines, place_in}
+use Rattle.pmap_cert.specs.declared.node_source.NodeSource.{NodeSource}
 use Rattle.pmap_text.specs.Reading.{◌>>=◌}
 use Rattle.cert_check.specs.Checking.{is_label_of, first_fault, leaf_fault, node_fault, told, CheckFault, CheckFaultKind}
 pub use Rattle.cert_check.specs.declared.source.Source.{Source}
@@ -132,12 +134,17 @@ pub record FitsPath (s : Sources) (b : Block) (side : ℕ) (bits : List Bool) : 
 abbrev pub fault_with : ℕ → Option CheckFaultKind → Option CheckFault
 fault_with number = option_map (λ kind. record { kind = kind; node = number })
 
+-- the lines of the nodes that are left fit the certificate
+abbrev pub CanBeRead : Sources → NodeSource → Type 0
+CanBeRead s = HasFittingLines (format_number s.frame.format) s.frame.width (length s.frame.labels.now)
+
 -- A tree was read, whose node has this number. The walk has its claimed set after the old ones, and its first fault
 -- unless one came before.
 pub record IsPassed (s : Sources) (reading : Read) (fault_at : Tree → ℕ → Option CheckFault) (number : ℕ) (old : List LabelId) (before : Option CheckFault) (new : Walk) (cost : ℕ) : Type 0 where
   pub tree : Tree
   pub set : List LabelId
-  pub read : reading ≡ Ok (tree, new.lines)
+  pub nodes : CanBeRead s new.nodes
+  pub read : reading ≡ Ok (tree, place_in new.nodes)
   pub claim : claim_of tree ≡ claim_with s.frame.labels.now cost (map (λ i. i.0) set)
   pub ascending : IsAscending (length s.frame.labels.now) 0 (map (λ i. i.0) set)
   pub sets : new.sets.items ≡ old ++ set
@@ -159,6 +166,6 @@ certificate_with format version table root = record { format = format_number for
 -- the root was read, and the walk has the first fault of its certificate
 pub record IsRootChecked (s : Sources) (place : Place) (new : Walk) : Type 0 where
   pub tree : Tree
-  pub read : reading_at s 0 place ≡ Ok (tree, new.lines)
+  pub read : reading_at s 0 place ≡ Ok (tree, place_in new.nodes)
   pub fault : new.fault
       ≡ first_fault (map_of s.map.now) (list_of s.list.now) (certificate_with s.frame.format s.map.now.version s.frame.labels.now tree)

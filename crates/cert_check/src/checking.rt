@@ -6,8 +6,9 @@ ghost use Rattle.pmap_text.specs.PrefixList.{list_of};
 ghost use Rattle.pmap_cert.specs.Acceptance.{IsAccepted, IsLeast};
 ghost use Rattle.pmap_cert.specs.Certificate.{certificate_of};
 ghost use Rattle.pmap_cert.specs.FormatReading.{format_reading};
+ghost use Rattle.pmap_cert.specs.NodeSource.{place_in};
 ghost use Rattle.cert_check.specs.Checking.{IsTextOutcome, first_fault, is_same_version, text_fault, NoMemory};
-ghost use Rattle.cert_check.specs.Inner.{AreSources, IsRootChecked, IsUnread, reading_at};
+ghost use Rattle.cert_check.specs.Inner.{AreSources, CanBeRead, IsRootChecked, IsUnread, reading_at};
 ghost use Rattle.pmap_cert.specs.CertificateModel.{CertificateModel};
 
 use crate::fault::{CheckFault, CheckFaultKind, TextFault};
@@ -15,12 +16,12 @@ use crate::laws::no_fault_is_acceptance;
 use crate::sources::Sources;
 use crate::walk::{Walk, check_node};
 use pmap_cert::{
-    CertFault, CertFaultKind, Certificate, Frame, Head, acceptance_is_enough,
+    CertFault, CertFaultKind, Certificate, Frame, Head, NodeSource, acceptance_is_enough,
     read_cert_with_hashing, read_head, text_of_format_is_read_or_has_a_fault, write_cert,
 };
 use pmap_text::{KeyHashing, MapText, PrefixList};
 use prefix_keys::{Version, whole_space};
-use std::alloc::Global;
+use std::alloc::{AllocError, Global};
 
 // Returns whether the map, the list and a certificate of this version are of one version.
 fn are_one_version(map: &MapText, list: &PrefixList, version: Version) -> bool
@@ -35,10 +36,11 @@ fn are_one_version(map: &MapText, list: &PrefixList, version: Version) -> bool
 // Checks the nodes of a certificate, and keeps its first fault.
 fn check_root(sources: &Sources, walk: &mut Walk) -> Result<(), CertFault>
     requires sources { AreSources sources.now }
+    requires nodes { CanBeRead sources.now walk.old.nodes }
     requires number { walk.old.number ≡ 1 }
     requires fault { walk.old.fault ≡ None }
-    ensures ok { OnOk result (IsRootChecked sources.now walk.old.lines walk.new) }
-    ensures err { IfErr result (IsUnread (reading_at sources.now 0 walk.old.lines)) }
+    ensures ok { OnOk result (IsRootChecked sources.now (place_in walk.old.nodes) walk.new) }
+    ensures err { IfErr result (IsUnread (reading_at sources.now 0 (place_in walk.old.nodes))) }
 {
     let cost = check_node(sources, walk, &whole_space(sources.map.version))?;
     if sources.list.entries.len() as u64 > u64::from(cost) + 1 {
@@ -86,10 +88,10 @@ pub fn check_text(
         }));
     }
     let sources = Sources::new(alloc, map, list, frame)?;
-    let mut walk = Walk::new(alloc, nodes);
+    let mut walk = Walk::new(alloc, NodeSource::Text(nodes));
     check_root(&sources, &mut walk)?;
-    if !walk.lines.is_ended() {
-        return Err(TextFault::Certificate(walk.lines.fault(CertFaultKind::NodesLeft)));
+    if !walk.nodes.is_ended() {
+        return Err(TextFault::Certificate(walk.nodes.fault(CertFaultKind::NodesLeft)));
     }
     if let Some(fault) = walk.fault {
         return Err(TextFault::Check(fault));
@@ -140,20 +142,29 @@ pub fn check(
         first_fault (map_of map.now) (list_of list.now) (certificate_of certificate.now) ≡ Some fault) }
     ensures memory { IfErr result (λ fault. fault.kind ≡ NoMemory → fault.node ≡ 0) }
 {
-    let text = write_cert(alloc, certificate)?;
-    // Provides these laws: a certificate has a text and is read from it, and is accepted if it has no fault.
-    let _root = certificate.root();
-    text_of_format_is_read_or_has_a_fault();
-    no_fault_is_acceptance();
-    match check_text(alloc, map, list, text.as_slice(), KeyHashing::known()) {
-        Ok(count) => Ok(count),
-        Err(TextFault::Check(fault)) => Err(fault),
-        Err(TextFault::Certificate(fault)) => match fault.kind {
-            CertFaultKind::NoMemory => Err(CheckFault {
-                kind: CheckFaultKind::NoMemory,
-                node: 0,
-            }),
-            _ => unreachable!(),
-        },
+    if !are_one_version(map, list, certificate.version) {
+        return Err(CheckFault {
+            kind: CheckFaultKind::VersionDiffers,
+            node: 0,
+        });
     }
+    let frame = Frame {
+        format: certificate.format,
+        width: certificate.version.width(),
+        labels: &certificate.labels,
+    };
+    let sources = Sources::new(alloc, map, list, frame)?;
+    let mut walk = Walk::new(alloc, certificate.nodes());
+    let Ok(()) = check_root(&sources, &mut walk) else {
+        // The lines of a certificate are well formed, so only a failed allocation ends the walk early.
+        return Err(CheckFault::from(AllocError));
+    };
+    if let Some(fault) = walk.fault {
+        return Err(fault);
+    }
+    // Provides these laws: a certificate has a text, is accepted if it has no fault, and acceptance is enough.
+    let _root = certificate.root();
+    no_fault_is_acceptance();
+    acceptance_is_enough();
+    Ok(list.entries.len() as u64)
 }

@@ -1,26 +1,27 @@
-//! The walk over the nodes of a certificate's text, which reads and checks each of them.
+//! The walk over the nodes of a certificate or of its text, which reads and checks each of them.
 ghost use Rattle.std.specs.Prelude.{◌≡◌, ◌+◌, ◌*◌, ◌++◌, ◌<◌, None, IfOk, OnOk, length, take};
 ghost use Rattle.std.specs.Option.{option_or};
 ghost use Rattle.prefix_keys.specs.declared.block.Block.{Block};
 ghost use Rattle.pmap_text.specs.PrefixList.{number_of_block as number_of};
+ghost use Rattle.pmap_cert.specs.NodeSource.{place_in};
 ghost use Rattle.pmap_cert.specs.Packed.{bits_in};
-ghost use Rattle.cert_check.specs.Inner.{AreSources, FitsPath, IsAfter, IsAnswer, IsHalf, IsHeld, chain_reading, fault_of_node, fault_with, halves_reading, held_claim, reading_at};
+ghost use Rattle.cert_check.specs.Inner.{AreSources, CanBeRead, FitsPath, IsAfter, IsAnswer, IsHalf, IsHeld, chain_reading, fault_of_node, fault_with, halves_reading, held_claim, reading_at};
 
 use crate::claims::{chain_fault, claim_fault};
 use crate::fault::{CheckFault, CheckFaultKind};
 use crate::sources::{Near, Sources};
-use pmap_cert::{CertFault, CertFaultKind, Claim, Frame, Kept, Lines, Node, Path};
+use pmap_cert::{CertFault, CertFaultKind, Claim, Frame, Kept, Node, NodeSource, Path};
 use pmap_text::LabelId;
 use prefix_keys::Block;
 use std::alloc::{AllocError, Global};
 use std::slice;
 
-/// The rest of a certificate's text, with its last node line, the number of the next node, from 1, the sets of the
+/// The rest of a certificate's nodes, with the last one that was read from a text, the number of the next node, from 1, the sets of the
 /// nodes whose claims are still to be compared, in the order of their lines, the stretches that were found last, and the
 /// first fault of the nodes so far.
 #[derive(Drop)]
 pub struct Walk<'a> {
-    pub lines: Lines<'a>,
+    pub nodes: NodeSource<'a>,
     pub kept: Kept,
     number: u64,
     sets: Vec<LabelId>,
@@ -30,13 +31,13 @@ pub struct Walk<'a> {
 
 impl<'a> Walk<'a> {
     /// Constructs a walk at the first node.
-    pub fn new(alloc: Global, lines: Lines<'a>) -> Walk<'a>
-        ensures lines { result.lines ≡ lines.entry }
+    pub fn new(alloc: Global, nodes: NodeSource<'a>) -> Walk<'a>
+        ensures nodes { result.nodes ≡ nodes.entry }
         ensures number { result.number ≡ 1 }
         ensures fault { result.fault ≡ None }
     {
         Walk {
-            lines,
+            nodes,
             kept: Kept::new(alloc),
             number: 1,
             sets: Vec::new(alloc),
@@ -92,14 +93,15 @@ fn next_number(number: u64) -> u64
 #[cycle(nodes)]
 pub fn check_node(sources: &Sources, walk: &mut Walk, block: &Block) -> Result<u32, CertFault>
     requires sources { AreSources sources.now }
+    requires nodes { CanBeRead sources.now walk.old.nodes }
     requires version { block.now.version ≡ sources.now.map.now.version }
-    ensures { IsAnswer sources.now (reading_at sources.now block.now.len walk.old.lines)
+    ensures { IsAnswer sources.now (reading_at sources.now block.now.len (place_in walk.old.nodes))
         (fault_of_node sources.now block.now) walk.old.number walk.old.sets.items walk.old.fault walk.new result }
 {
-    let deepest = walk.lines.fault(CertFaultKind::TooDeep);
+    let deepest = walk.nodes.fault(CertFaultKind::TooDeep);
     let number = walk.number;
     walk.number = next_number(number);
-    match walk.lines.next_node(&mut walk.kept, &sources.frame)? {
+    match walk.nodes.next_node(&mut walk.kept, &sources.frame)? {
         Node::Leaf(id) => {
             walk.sets.extend_from_slice(slice::from_ref(&id))?;
             let fault = sources.leaf_fault(&mut walk.near, block, id);
@@ -135,6 +137,7 @@ fn check_inner(
     held: Held,
 ) -> Result<u32, CertFault>
     requires sources { AreSources sources.now }
+    requires nodes { CanBeRead sources.now walk.old.nodes }
     requires low { low.now.version ≡ sources.now.map.now.version }
     requires high { high.now.version ≡ sources.now.map.now.version }
     requires len { high.now.len ≡ low.now.len }
@@ -142,7 +145,7 @@ fn check_inner(
     requires held { IsHeld sources.now held walk.old.sets.items }
     ensures { (whole : Block) → IsHalf whole low.now (2 * number_of whole) →
         IsHalf whole high.now (2 * number_of whole + 1) → IsAnswer sources.now
-        (halves_reading sources.now whole.len (held_claim sources.now held walk.old.sets.items) walk.old.lines)
+        (halves_reading sources.now whole.len (held_claim sources.now held walk.old.sets.items) (place_in walk.old.nodes))
         (fault_of_node sources.now whole) number (take held.from walk.old.sets.items) walk.old.fault walk.new result }
 {
     let lower = walk.sets.len();
@@ -183,6 +186,7 @@ fn check_chain(
     side: LabelId,
 ) -> Result<u32, CertFault>
     requires sources { AreSources sources.now }
+    requires nodes { CanBeRead sources.now walk.old.nodes }
     requires version { block.now.version ≡ sources.now.map.now.version }
     requires fits { FitsPath sources.now block.now side.0 (bits_in path.now) }
     requires some { 0 < length (bits_in path.now) }
@@ -190,7 +194,7 @@ fn check_chain(
     requires held { IsHeld sources.now held walk.old.sets.items }
     ensures { IsAnswer sources.now
         (chain_reading sources.now block.now.len (held_claim sources.now held walk.old.sets.items)
-        (bits_in path.now) side.0 walk.old.lines)
+        (bits_in path.now) side.0 (place_in walk.old.nodes))
         (fault_of_node sources.now block.now) number (take held.from walk.old.sets.items) walk.old.fault
         walk.new result }
 {

@@ -36,3 +36,4 @@ pub mod FormatTrees
 pub mod FormatWhole
 pub mod CompactNodes
 pub mod CompactPlaces
+pub mod GivenLines

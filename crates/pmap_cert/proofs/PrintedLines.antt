@@ -162,7 +162,7 @@ FitsLine format most count (ChainLine cost bits side numbers) =
     (format ≡ 2) × (cost < 2 ^ 32) × (0 < length bits) × (length bits ≤ most) × (side < count) × IsAscending count 0 numbers
 
 module _ (format most count : ℕ) where
-  abbrev Passes : DueLine → Type 0
+  abbrev pub Passes : DueLine → Type 0
   Passes line = fits_line format most count line ≡ true
 
   pub fits-line : (line : DueLine) → FitsLine format most count line → Passes line

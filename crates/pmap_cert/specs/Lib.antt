@@ -9,3 +9,4 @@ pub mod Paths
 pub mod Format
 pub mod Certificate
 pub mod Inner
+pub mod NodeSource

@@ -1,4 +1,4 @@
-ghost use Rattle.std.specs.Prelude.{◌≡◌, ◌<◌, ◌++◌, ◌∷◌, [], IfOk, OnErr, OnOk, length, map, reverse, slice_index_or};
+ghost use Rattle.std.specs.Prelude.{◌≡◌, ◌+◌, ◌<◌, ◌≤◌, ◌++◌, ◌∷◌, [], IfOk, OnErr, OnOk, length, map, reverse, slice_index_or};
 ghost use Rattle.pmap_cert.specs.FormatReading.{ChainLine, LeafLine};
 ghost use Rattle.pmap_cert.specs.Node.{cost_of, node_of, set_of};
 ghost use Rattle.pmap_cert.specs.Packed.{HasSetAt, IsGrown, IsLine, IsMore, bits_in, line_of, set_at, store_of};
@@ -172,6 +172,16 @@ impl Nodes {
         ensures { result ≡ length self.now }
     {
         self.lines.len()
+    }
+
+    /// Returns the number, from 1, of the line that follows this many lines.
+    pub fn line_after(&self, count: usize) -> u64
+        requires { count ≤ length self.now }
+        ensures { result ≡ count + 1 }
+    {
+        // Provides the bound on the number of nodes.
+        let _count = self.lines.as_slice().len();
+        count as u64 + 1
     }
 
     /// Adds the line of a node. The lines of an inner node's lower half must follow, then those of its upper half, and

@@ -9,6 +9,7 @@ use Rattle.pmap_text.specs.declared.label.LabelId.{LabelId}
 use Rattle.pmap_cert.specs.CertificateModel.{Claim, InnerNode, LeafNode, chain_claim, exact_claim}
 use Rattle.pmap_cert.specs.Format.{format_number}
 use Rattle.pmap_cert.specs.FormatReading.{ChainLine, InnerLine, LeafLine, nodes_at}
+use Rattle.pmap_cert.specs.NodeSource.{place_in}
 use Rattle.pmap_cert.specs.Packed.{bits_in}
 use Rattle.pmap_cert.specs.CertificateText.{IsAscending}
 use Rattle.pmap_cert.proofs.FormatTrees.{line_due-found}
@@ -27,7 +28,7 @@ check_node-returns-in_err-id t c =
     let frame = s.frame in
     let p = err_from_is_err_and c.from_residual.result c.from_residual.ensures.1 in
     rw (p.1, p.2) (
-      λ some. node-fault (due_in frame.format frame.width frame.labels.now) frame.labels.now c.args.walk.now.lines c.args.walk.now.lines (frame.width - c.args.block.now.len)
+      λ some. node-fault (due_in frame.format frame.width frame.labels.now) frame.labels.now (place_in c.args.walk.now.nodes) (place_in c.args.walk.now.nodes) (frame.width - c.args.block.now.len)
           c.in_err-id.field-0.0 (c.in_err-id.ensures.err some),
       c.in_err-id.ensures.memory,
     )
@@ -38,8 +39,8 @@ check_node-returns-in_default t c =
     let width = c.requires.sources.width ∙ sym (ap width_of c.requires.version) in
     let room : frame.width - c.args.block.now.len ≡ 0 = omega (arith, width, (c.in_default.ensures.full).0 refl) in
     rw c.fault-deepest.ensures (
-      λ _. ap (λ (n : ℕ). nodes_at (due_in frame.format frame.width frame.labels.now) frame.labels.now n 0 c.args.walk.now.lines) room
-          ∙ node-deep (due_in frame.format frame.width frame.labels.now) frame.labels.now c.args.walk.now.lines c.next_node.new.self c.in-Inner.claim.cost (numbers c.in-Inner.claim.set.now)
+      λ _. ap (λ (n : ℕ). nodes_at (due_in frame.format frame.width frame.labels.now) frame.labels.now n 0 (place_in c.args.walk.now.nodes)) room
+          ∙ node-deep (due_in frame.format frame.width frame.labels.now) frame.labels.now (place_in c.args.walk.now.nodes) (place_in c.next_node.new.self) c.in-Inner.claim.cost (numbers c.in-Inner.claim.set.now)
           (rw c.in-Inner.is at c.in_ok-id.ensures.ok),
       λ e. cc,
     )
@@ -47,8 +48,8 @@ check_node-returns-in_default t c =
 pub check_node-check_inner-requires : goal.check_node-check_inner-requires
 check_node-check_inner-requires t c =
     let frame = c.args.sources.now.frame in
-    let said = line_due-found (format_number frame.format) frame.width (length frame.labels.now) c.args.walk.now.lines
-    (InnerLine c.in-Inner.claim.cost (numbers c.in-Inner.claim.set.now), c.next_node.new.self) (rw c.in-Inner.is at c.in_ok-id.ensures.ok) in
+    let said = line_due-found (format_number frame.format) frame.width (length frame.labels.now) (place_in c.args.walk.now.nodes)
+    (InnerLine c.in-Inner.claim.cost (numbers c.in-Inner.claim.set.now), (place_in c.next_node.new.self)) (rw c.in-Inner.is at c.in_ok-id.ensures.ok) in
     let at = held-at c.args.walk.now.sets.items c.in-Inner.claim.set.now c.hold.new.sets.items c.in_ok-held-in-Inner.held.from c.in_ok-held-in-Inner.ensures.sets c.in_ok-held-in-Inner.ensures.from in
     let held : IsHeld c.args.sources.now c.in_ok-held-in-Inner.held c.hold.new.sets.items =
     record { within = at.2; ascending = subst (λ (ids : List LabelId). IsAscending (length frame.labels.now) 0 (numbers ids)) (sym at.1) said.1.1 } in
@@ -69,13 +70,13 @@ check_node-returns-in_ok-held-in-Inner t c =
     let some : n < frame.width = omega (arith, width, c.in-Some.ensures.lens, low.len_in_range, ap width_of c.in-Some.ensures.versions.0) in
     let less : frame.width - n - 1 ≡ frame.width - (n + 1) = omega arith in
     let held = held-at c.args.walk.now.sets.items c.in-Inner.claim.set.now c.hold.new.sets.items c.in_ok-held-in-Inner.held.from c.in_ok-held-in-Inner.ensures.sets c.in_ok-held-in-Inner.ensures.from in
-    let is : reading_at s n c.args.walk.now.lines ≡ halves_reading s n claim c.next_node.new.self =
-    deeper due table c.args.walk.now.lines c.next_node.new.self c.in-Inner.claim.cost numbers' (rw c.in-Inner.is at c.in_ok-id.ensures.ok) (frame.width - n) (omega (arith, some))
-    ∙ ap (λ (m : ℕ). nodes_at due table m 0 c.next_node.new.self >>= (λ lower. nodes_at due table m 0 lower.1 >>= (λ upper.
+    let is : reading_at s n (place_in c.args.walk.now.nodes) ≡ halves_reading s n claim (place_in c.next_node.new.self) =
+    deeper due table (place_in c.args.walk.now.nodes) (place_in c.next_node.new.self) c.in-Inner.claim.cost numbers' (rw c.in-Inner.is at c.in_ok-id.ensures.ok) (frame.width - n) (omega (arith, some))
+    ∙ ap (λ (m : ℕ). nodes_at due table m 0 (place_in c.next_node.new.self) >>= (λ lower. nodes_at due table m 0 lower.1 >>= (λ upper.
     Ok (InnerNode claim lower.0 upper.0, upper.1)))) less in
     subst (λ (r : Read). IsAnswer s r (fault_of_node s c.args.block.now) c.args.walk.now.number c.args.walk.now.sets.items c.args.walk.now.fault c.check_inner.new.walk c.check_inner.result)
     (sym is)
-    (subst (λ (x : Claim × List LabelId). IsAnswer s (halves_reading s n x.0 c.next_node.new.self) (fault_of_node s c.args.block.now) c.args.walk.now.number x.1 c.args.walk.now.fault c.check_inner.new.walk c.check_inner.result)
+    (subst (λ (x : Claim × List LabelId). IsAnswer s (halves_reading s n x.0 (place_in c.next_node.new.self)) (fault_of_node s c.args.block.now) c.args.walk.now.number x.1 c.args.walk.now.fault c.check_inner.new.walk c.check_inner.result)
     (λ i. (claim_with table (c.in_ok-held-in-Inner.ensures.cost i) (numbers (held.1 i)), held.0 i)) (c.check_inner.ensures c.args.block.now
     (half-by c.args.block.now low _ c.in-Some.ensures.versions.0 c.in-Some.ensures.lens.0 c.in-Some.ensures.lower_number)
     (half-by c.args.block.now high _ c.in-Some.ensures.versions.1 c.in-Some.ensures.lens.1 c.in-Some.ensures.upper_number)))
@@ -91,8 +92,8 @@ pub check_node-check_chain-requires : goal.check_node-check_chain-requires
 check_node-check_chain-requires t c =
     let frame = c.args.sources.now.frame in
     let bits : List Bool = bits_in c.in-Chain.path.now in
-    let said = line_due-found (format_number frame.format) frame.width (length frame.labels.now) c.args.walk.now.lines
-    (ChainLine c.in-Chain.claim.cost bits c.in-Chain.side.0 (numbers c.in-Chain.claim.set.now), c.next_node.new.self) (rw c.in-Chain.is at c.in_ok-id.ensures.ok) in
+    let said = line_due-found (format_number frame.format) frame.width (length frame.labels.now) (place_in c.args.walk.now.nodes)
+    (ChainLine c.in-Chain.claim.cost bits c.in-Chain.side.0 (numbers c.in-Chain.claim.set.now), (place_in c.next_node.new.self)) (rw c.in-Chain.is at c.in_ok-id.ensures.ok) in
     let at = held-at c.args.walk.now.sets.items c.in-Chain.claim.set.now c.hold-in-Chain.new.sets.items c.in_ok-held-in-Chain.held.from c.in_ok-held-in-Chain.ensures.sets c.in_ok-held-in-Chain.ensures.from in
     let held : IsHeld c.args.sources.now c.in_ok-held-in-Chain.held c.hold-in-Chain.new.sets.items =
     record { within = at.2; ascending = subst (λ (ids : List LabelId). IsAscending (length frame.labels.now) 0 (numbers ids)) (sym at.1) said.1.5 } in
@@ -111,13 +112,13 @@ check_node-returns-in_ok-held-in-Chain t c =
     let claim = claim_with table c.in-Chain.claim.cost numbers' in
     let less : frame.width - n - c.len.result ≡ frame.width - (n + length bits) = omega (arith, c.len.ensures) in
     let held = held-at c.args.walk.now.sets.items c.in-Chain.claim.set.now c.hold-in-Chain.new.sets.items c.in_ok-held-in-Chain.held.from c.in_ok-held-in-Chain.ensures.sets c.in_ok-held-in-Chain.ensures.from in
-    let is : reading_at s n c.args.walk.now.lines ≡ chain_reading s n claim bits c.in-Chain.side.0 c.next_node.new.self =
-    chain-below frame.format frame.width table c.args.walk.now.lines c.next_node.new.self c.in-Chain.claim.cost bits c.in-Chain.side.0 numbers' (rw c.in-Chain.is at c.in_ok-id.ensures.ok)
-    (frame.width - n) c.len.result c.len.ensures (omega (arith, c.if-len-sources.false)) (reading_at s (n + length bits) c.next_node.new.self)
-    (ap (λ (m : ℕ). nodes_at (due_in frame.format frame.width table) table m 0 c.next_node.new.self) less) in
+    let is : reading_at s n (place_in c.args.walk.now.nodes) ≡ chain_reading s n claim bits c.in-Chain.side.0 (place_in c.next_node.new.self) =
+    chain-below frame.format frame.width table (place_in c.args.walk.now.nodes) (place_in c.next_node.new.self) c.in-Chain.claim.cost bits c.in-Chain.side.0 numbers' (rw c.in-Chain.is at c.in_ok-id.ensures.ok)
+    (frame.width - n) c.len.result c.len.ensures (omega (arith, c.if-len-sources.false)) (reading_at s (n + length bits) (place_in c.next_node.new.self))
+    (ap (λ (m : ℕ). nodes_at (due_in frame.format frame.width table) table m 0 (place_in c.next_node.new.self)) less) in
     subst (λ (r : Read). IsAnswer s r (fault_of_node s c.args.block.now) c.args.walk.now.number c.args.walk.now.sets.items c.args.walk.now.fault c.check_chain.new.walk c.check_chain.result)
     (sym is)
-    (subst (λ (x : Claim × List LabelId). IsAnswer s (chain_reading s n x.0 bits c.in-Chain.side.0 c.next_node.new.self) (fault_of_node s c.args.block.now) c.args.walk.now.number x.1 c.args.walk.now.fault c.check_chain.new.walk c.check_chain.result)
+    (subst (λ (x : Claim × List LabelId). IsAnswer s (chain_reading s n x.0 bits c.in-Chain.side.0 (place_in c.next_node.new.self)) (fault_of_node s c.args.block.now) c.args.walk.now.number x.1 c.args.walk.now.fault c.check_chain.new.walk c.check_chain.result)
     (λ i. (claim_with table (c.in_ok-held-in-Chain.ensures.cost i) (numbers (held.1 i)), held.0 i)) c.check_chain.ensures)
 
 pub check_node-returns-in_ok-extend_from_slice-in-Leaf : goal.check_node-returns-in_ok-extend_from_slice-in-Leaf
@@ -128,12 +129,13 @@ check_node-returns-in_ok-extend_from_slice-in-Leaf t c =
     let id = c.in-Leaf.id in
     let walk = c.args.walk.now in
     let due = rw c.in-Leaf.is at c.in_ok-id.ensures.ok in
-    let said = line_due-found (format_number frame.format) frame.width (length frame.labels.now) walk.lines (LeafLine id.0, c.next_node.new.self) due in
+    let said = line_due-found (format_number frame.format) frame.width (length frame.labels.now) (place_in walk.nodes) (LeafLine id.0, (place_in c.next_node.new.self)) due in
     rw c.note.ensures
     (record {
       tree = LeafNode (text_at frame.labels.now id.0);
       set = id ∷ [];
-      read = node-leaf (due_in frame.format frame.width frame.labels.now) frame.labels.now walk.lines c.next_node.new.self (frame.width - p.len) id.0 due;
+      nodes = c.in_ok-id.ensures.fits;
+      read = node-leaf (due_in frame.format frame.width frame.labels.now) frame.labels.now (place_in walk.nodes) (place_in c.next_node.new.self) (frame.width - p.len) id.0 due;
       claim = refl;
       ascending = (omega arith, said.1, tt);
       sets = c.in_ok-extend_from_slice-in-Leaf.ensures.items ∙ ap (λ (ids : List LabelId). walk.sets.items ++ ids) c.from_ref.ensures.value;
@@ -144,14 +146,14 @@ pub check_node-leaf_fault-fault-requires-clause-known : goal.check_node-leaf_fau
 check_node-leaf_fault-fault-requires-clause-known t c =
     let frame = c.args.sources.now.frame in
     let due = rw c.in-Leaf.is at c.in_ok-id.ensures.ok in
-    (line_due-found (format_number frame.format) frame.width (length frame.labels.now) c.args.walk.now.lines (LeafLine c.in-Leaf.id.0, c.next_node.new.self) due).1
+    (line_due-found (format_number frame.format) frame.width (length frame.labels.now) (place_in c.args.walk.now.nodes) (LeafLine c.in-Leaf.id.0, (place_in c.next_node.new.self)) due).1
 
 pub check_inner-returns-in_err-lower_cost : goal.check_inner-returns-in_err-lower_cost
 check_inner-returns-in_err-lower_cost t c =
     let walk = c.args.walk.now in
     let e = err_from_is_err_and c.from_residual.result c.from_residual.ensures.1 in
     λ whole low high. rw (e.1, e.2)
-    (lower-unread c.args.sources.now whole c.args.low.now c.args.high.now low high c.args.held.cost (drop c.args.held.from walk.sets.items) walk.lines c.args.number walk.number c.requires.number
+    (lower-unread c.args.sources.now whole c.args.low.now c.args.high.now low high c.args.held.cost (drop c.args.held.from walk.sets.items) (place_in walk.nodes) c.args.number walk.number c.requires.number
     c.in_err-lower_cost.field-0.0 c.in_err-lower_cost.ensures)
 
 pub check_inner-returns-in_err-upper_cost : goal.check_inner-returns-in_err-upper_cost
@@ -159,7 +161,7 @@ check_inner-returns-in_err-upper_cost t c =
     let walk = c.args.walk.now in
     let e = err_from_is_err_and c.from_residual-in_err-upper_cost.result c.from_residual-in_err-upper_cost.ensures.1 in
     λ whole low high. rw (e.1, e.2)
-    (upper-unread c.args.sources.now whole c.args.low.now c.args.high.now low high c.args.held.cost (drop c.args.held.from walk.sets.items) walk.lines c.args.number walk.number c.requires.number
+    (upper-unread c.args.sources.now whole c.args.low.now c.args.high.now low high c.args.held.cost (drop c.args.held.from walk.sets.items) (place_in walk.nodes) c.args.number walk.number c.requires.number
     walk.sets.items walk.fault c.check_node.new.walk c.in_ok-lower_cost.lower_cost c.in_ok-lower_cost.ensures c.in_err-upper_cost.field-0.0 c.in_err-upper_cost.ensures)
 
 pub check_inner-returns : goal.check_inner-returns
@@ -176,7 +178,7 @@ check_inner-returns t c =
     let second = low-piece _ _ _ _ _ _ _ _ c.requires.held.within lower.sets upper.sets low_at up_at in
     let third = up-piece _ _ _ _ _ _ _ _ c.requires.held.within lower.sets upper.sets low_at up_at in
     λ whole low high. rw c.note.ensures
-    (halves-passed s whole c.args.low.now c.args.high.now low high c.args.held.cost own walk.lines c.args.number walk.number c.requires.number
+    (halves-passed s whole c.args.low.now c.args.high.now low high c.args.held.cost own (place_in walk.nodes) c.args.number walk.number c.requires.number
     walk.sets.items walk.fault c.check_node.new.walk c.in_ok-lower_cost.lower_cost lower (take c.args.held.from walk.sets.items) c.check_node-2.new.walk _ c.in_ok-upper_cost.upper_cost c.claim_fault-fault.result
     upper c.requires.held.ascending
     (rw c.as_slice-sets.ensures.value at c.claim_fault-fault.ensures
@@ -201,7 +203,7 @@ check_chain-returns-in_err-end_cost t c =
     let walk = c.args.walk.now in
     let e = err_from_is_err_and c.from_residual.result c.from_residual.ensures.1 in
     rw (e.1, e.2)
-    (end-unread c.args.sources.now c.args.block.now c.end-end.result c.args.held.cost (drop c.args.held.from walk.sets.items) (bits_in c.args.path.now) c.args.side.0 c.end-end.ensures walk.lines c.args.number walk.number c.requires.number
+    (end-unread c.args.sources.now c.args.block.now c.end-end.result c.args.held.cost (drop c.args.held.from walk.sets.items) (bits_in c.args.path.now) c.args.side.0 c.end-end.ensures (place_in walk.nodes) c.args.number walk.number c.requires.number
     c.in_err-end_cost.field-0.0 c.in_err-end_cost.ensures)
 
 pub check_chain-returns : goal.check_chain-returns
@@ -218,7 +220,7 @@ check_chain-returns t c =
     let first = own-piece _ _ _ _ _ _ _ (length last.sets.items) c.requires.held.within below.sets none at refl in
     let second = low-piece _ _ _ _ _ _ _ (length last.sets.items) c.requires.held.within below.sets none at refl in
     rw (c.note-2.ensures, c.note.ensures)
-    (chain-passed s c.args.block.now c.end-end.result c.args.held.cost own bits c.args.side.0 c.end-end.ensures walk.lines c.args.number walk.number c.requires.number
+    (chain-passed s c.args.block.now c.end-end.result c.args.held.cost own bits c.args.side.0 c.end-end.ensures (place_in walk.nodes) c.args.number walk.number c.requires.number
     walk.sets.items (take c.args.held.from walk.sets.items) walk.fault last _ c.in_ok-end_cost.end_cost c.path_fault-beside.result c.chain_fault-fault.result below c.requires.held.ascending
     c.path_fault-beside.ensures
     (rw (c.as_slice-sets.ensures.value, c.note.ensures) at c.chain_fault-fault.ensures

@@ -1,0 +1,84 @@
+ghost use Rattle.std.specs.Prelude.{◌≡◌, ◌≢◌, Err, IfErr, IfOk, Ok, length};
+ghost use Rattle.pmap_cert.specs.Format.{format_number};
+ghost use Rattle.pmap_cert.specs.FormatReading.{fault_at, is_ended, line_due_at, NoMemory};
+ghost use Rattle.pmap_cert.specs.NodeSource.{HasFittingLines, place_in};
+ghost use Rattle.pmap_cert.specs.Packed.{line_of};
+
+use crate::fault::{CertFault, CertFaultKind};
+use crate::lines::Lines;
+use crate::node::Node;
+use crate::node_line::{Frame, Kept};
+use crate::nodes_from::NodesFrom;
+
+/// The nodes of a certificate that are still to be read, in the order of their lines: the rest of its text, or of the
+/// certificate.
+#[derive(Drop)]
+pub enum NodeSource<'a> {
+    Text(Lines<'a>),
+    Nodes(NodesFrom<'a>),
+}
+
+impl<'a> NodeSource<'a> {
+    /// Reads the next node and moves past it. `kept` gets the set and the bits of a node that is read from a text.
+    #[inline(always)]
+    pub fn next_node<'s>(
+        &mut self,
+        kept: &'s mut Kept,
+        frame: &Frame,
+    ) -> Result<Node<'s>, CertFault>
+    where
+        'a: 's,
+        requires { HasFittingLines (format_number frame.now.format) frame.now.width (length frame.now.labels.now)
+            self.old }
+        ensures ok { IfOk result (λ node. line_due_at (format_number frame.now.format) frame.now.width
+            (length frame.now.labels.now) (place_in self.old) ≡ Ok (line_of node, place_in self.new)) }
+        ensures err { IfErr result (λ fault. fault.kind ≢ NoMemory → line_due_at (format_number frame.now.format)
+            frame.now.width (length frame.now.labels.now) (place_in self.old) ≡ Err fault) }
+        ensures memory { IfErr result (λ fault. fault.kind ≡ NoMemory → fault.line ≡ 0) }
+        ensures fits { HasFittingLines (format_number frame.now.format) frame.now.width (length frame.now.labels.now)
+            self.new }
+    {
+        match self {
+            NodeSource::Text(lines) => lines.next_node(kept, frame),
+            NodeSource::Nodes(rest) => {
+                // Provides the law that a table has at most 65536 labels.
+                let _count = frame.labels.len();
+                let NodesFrom { nodes, number } = *rest;
+                if number >= nodes.len() {
+                    return Err(CertFault {
+                        kind: CertFaultKind::NodesMissing,
+                        line: nodes.line_after(number),
+                    });
+                }
+                *rest = NodesFrom {
+                    nodes,
+                    number: number + 1,
+                };
+                Ok(nodes.node(number))
+            }
+        }
+    }
+
+    /// Returns whether no node and nothing else is left.
+    pub fn is_ended(&self) -> bool
+        ensures { result ≡ is_ended (place_in self.now).pieces }
+    {
+        match self {
+            NodeSource::Text(lines) => lines.is_ended(),
+            NodeSource::Nodes(rest) => rest.number >= rest.nodes.len(),
+        }
+    }
+
+    /// Returns a fault of this kind in the next line.
+    pub fn fault(&self, kind: CertFaultKind) -> CertFault
+        ensures { result ≡ fault_at (place_in self.now) kind }
+    {
+        match self {
+            NodeSource::Text(lines) => lines.fault(kind),
+            NodeSource::Nodes(rest) => CertFault {
+                kind,
+                line: rest.nodes.line_after(rest.number),
+            },
+        }
+    }
+}
