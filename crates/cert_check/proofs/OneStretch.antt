@@ -199,7 +199,3 @@ module _ (s : Sources) (are : AreSources s) (x : Label) where
       leaf-is n q short (omega (arith, ends, to))
       ∙ (λ i. fault_by (narrower-label s.map.now.labels s.of_map.stretches are.map_stretches.every first last x fits_map in_map (first_of W n q) (last_of W n q) from some (omega (arith, to)) i)
       (narrower-label s.list.now.labels s.of_list.stretches every first last x fits_list in_list (first_of W n q) (last_of W n q) from some (omega (arith, to)) i))
-
-  -- nor in an empty range
-  pub empty-clear : (first stop : ℕ) → stop ≤ first → IsClear s first stop x
-  empty-clear first stop none n q short from to = let some = block_some W n q in absurd (omega (arith, none, some, from, to))

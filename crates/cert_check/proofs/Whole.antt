@@ -94,15 +94,6 @@ module _ (s : Sources) (are : AreSources s) (format : Format) (table : List Labe
     given-as tree after read =
         fault-of tree (ap (λ (x : Tree × Place). x.0) (ok_is (root.tree, place_in new.nodes) (tree, after) (sym root.read ∙ sym at-root ∙ read)))
 
-  pub read-left : (after : Place) (tree : Tree) → reading_at s 0 place ≡ Ok (tree, after) → is_ended after.pieces ≡ false
-      → reading_from format version table place ≡ Err (fault_at after NodesLeft)
-  read-left after tree read left =
-      from-root ∙ ap then_ended read
-      ∙ ap (λ (b : Bool). cond b (Ok (certificate_with format version table tree)) (Err (fault_at after NodesLeft))) left
-
-  pub read-fault : (f : CertFault) → reading_at s 0 place ≡ Err f → reading_from format version table place ≡ Err f
-  read-fault f unread = from-root ∙ ap then_ended unread
-
 -- a certificate that is read after a head has the head's version
 read-version : (format : Format) (version : Version) (table : List Label) (k : CertificateModel) (r : Read)
     → (r >>= (λ root. ended_by (certificate_with format version table root.0) root.1)) ≡ Ok k → k.version ≡ version

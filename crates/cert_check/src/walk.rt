@@ -16,9 +16,9 @@ use prefix_keys::Block;
 use std::alloc::{AllocError, Global};
 use std::slice;
 
-/// The rest of a certificate's nodes, with the last one that was read from a text, the number of the next node, from 1, the sets of the
-/// nodes whose claims are still to be compared, in the order of their lines, the stretches that were found last, and the
-/// first fault of the nodes so far.
+/// The rest of a certificate's nodes, with the last one that was read from a text, the number of the next node, from 1,
+/// the sets of the nodes whose claims are still to be compared, in the order of their lines, the stretches that were
+/// found last, and the first fault of the nodes so far.
 #[derive(Drop)]
 pub struct Walk<'a> {
     pub nodes: NodeSource<'a>,
@@ -145,8 +145,9 @@ fn check_inner(
     requires held { IsHeld sources.now held walk.old.sets.items }
     ensures { (whole : Block) → IsHalf whole low.now (2 * number_of whole) →
         IsHalf whole high.now (2 * number_of whole + 1) → IsAnswer sources.now
-        (halves_reading sources.now whole.len (held_claim sources.now held walk.old.sets.items) (place_in walk.old.nodes))
-        (fault_of_node sources.now whole) number (take held.from walk.old.sets.items) walk.old.fault walk.new result }
+        (halves_reading sources.now whole.len (held_claim sources.now held walk.old.sets.items)
+        (place_in walk.old.nodes)) (fault_of_node sources.now whole) number (take held.from walk.old.sets.items)
+        walk.old.fault walk.new result }
 {
     let lower = walk.sets.len();
     let lower_cost = check_node(sources, walk, low)?;
