@@ -1,19 +1,28 @@
-//! Worked examples: what a request prints for given texts, by the definition of its output.
+//! Worked examples: what a request prints for given texts, by the definition of its output, and what a user sees of
+//! whole runs.
 //!
 //! The functions do nothing. Each clause is a claim that the prover computes. The texts are small, and what they give
 //! is worked out by hand from the rules of docs/FORMATS.md.
 #![tactic(auto, unfolding(crate::specs::Examples::opened))]
 
-ghost use Rattle.std.specs.Prelude.{◌++◌, ◌∷◌, [], Err, None, Ok, Some, codes, false};
+ghost use Rattle.std.specs.Prelude.{◌≡◌, ◌++◌, ◌∷◌, [], Err, None, Ok, Some, codes, false, take, true};
 ghost use Rattle.prefix_keys.specs.declared.version.Version.TheVariants.{V4, V6};
 ghost use Rattle.pmap_text.specs.declared.fault.MapFaultKind.TheVariants.{BadLength, BadMode, BadStatement, DuplicateBlock, LabelConflict, LowAboveHigh, MissingLabel, NotAList, WrongVersion};
 ghost use Rattle.pmap_cert.specs.declared.fault.CertFaultKind.TheVariants.{BadHeader, BadLabelTable, BadNode, NodesLeft, NodesMissing};
 ghost use Rattle.cert_check.specs.declared.fault.CheckFaultKind.TheVariants.{BoundNotMet, CostTooHigh, LeafNotUniform, ListDiffers, SetTooSmall, VersionDiffers};
 ghost use Rattle.flowlabel.specs.declared.bytes_fault.BytesFault.TheVariants.{Certificate, Check, Flows, List, Map};
-ghost use Rattle.flowlabel.specs.Examples.{halves_certificate, halves_map, head, quarters_list, quarters_map, quarters_nodes};
+ghost use Rattle.flowlabel.specs.Examples.{Shows, StandardError, StandardOutput, address, empty, halves_certificate, halves_map, head, named, one_flow, quarters_list, quarters_map, quarters_nodes, seen};
 ghost use Rattle.flowlabel.specs.Output.{IsOutput};
-ghost use Rattle.flowlabel.specs.Request.{FromList, FromMap, check, info, label, recert, rows, uniq};
-ghost use Rattle.flow_uniq.specs.declared.field.KeyField.TheVariants.{SourceAddress};
+ghost use Rattle.flowlabel.specs.Run.{CannotOpen, CannotRead, CannotWrite, MayHave, NoMemory, Usage};
+ghost use Rattle.flowlabel.specs.declared.command.Command.TheVariants as command;
+ghost use Rattle.flowlabel.specs.declared.command.LabelFile.TheVariants as labels;
+ghost use Rattle.flowlabel.specs.declared.command.Shrunk.TheVariants as shrunk;
+ghost use Rattle.flowlabel.specs.declared.usage.UsageFault.TheVariants as usage;
+ghost use Rattle.flow_filter.specs.declared.fault.FilterFaultKind.TheVariants.{BadNumberList};
+ghost use Rattle.flow_filter.specs.declared.option.FilterOption.TheVariants.{SourcePort};
+ghost use Rattle.flow_uniq.specs.declared.fault.KeyFault.TheVariants.{BadField};
+ghost use Rattle.flowlabel.specs.Request.{FromList, FromMap, Text, check, info, label, recert, rows, uniq};
+ghost use Rattle.flow_uniq.specs.declared.field.KeyField.TheVariants.{SourceAddress, SourceLabel};
 ghost use Rattle.ipfix_read.specs.declared.fault.ReadFaultKind.TheVariants.{BadVersion, TruncatedHeader};
 
 pub fn label_prints_a_line()
@@ -81,4 +90,59 @@ pub fn a_file_has_a_first_fault()
     ensures version { IsOutput (info (codes "mode ipv4\n10.0.0.0/8 A\n")) (Err (Flows (record { kind = BadVersion; offset = 0 }))) }
     ensures after_a_message { IsOutput (rows None [] false (0 ∷ 10 ∷ 0 ∷ 16 ∷ codes "export time!" ++ 0 ∷ 9 ∷ [])) (Err (Flows (record { kind = TruncatedHeader; offset = 16 }))) }
     ensures map_before_flows { IsOutput (rows (Some (FromMap (codes "x\n"))) [] false (0 ∷ [])) (Err (Map (record { kind = BadStatement; line = 1 }))) }
+{}
+
+/// FORMATS.md has the flow under "Records of both directions", and the list and the certificate under "Certificates".
+pub fn a_run_prints_its_output()
+    ensures label { Shows (command.Label (labels.Map (named (codes "map.txt"))) address) (record empty { map = codes "10.0.0.0/8 A\n" }) (0, StandardOutput, codes "A\n") }
+    ensures of_list { Shows (command.Label (labels.List (named (codes "list.txt"))) address) (record empty { list = codes "11.0.0.0/8 A\n" }) (0, StandardOutput, codes "\n") }
+    ensures info { Shows (command.Info (named (codes "day.ipfix"))) (record empty { flows = one_flow }) (0, StandardOutput, codes "messages 1\ntemplates 1\noptions-templates 0\nwithdrawals 0\ndata-sets 1\nskipped-sets 0\nrecords 1\noptions-records 0\nrows 1\n") }
+    ensures rows { Shows (command.Rows None [] false (named (codes "day.ipfix"))) (record empty { flows = one_flow })
+        (0, StandardOutput, codes "sip|dip|sport|dport|proto|flags|packets|bytes|stime|etime\n10.0.0.0|198.51.100.228|1804|443|6|27|5|546|1700000067030|1700000067362\n") }
+    ensures uniq { Shows (command.Uniq (SourceLabel ∷ []) (Some (labels.Map (named (codes "map.txt")))) [] false false (named (codes "day.ipfix"))) (record empty { map = codes "10.0.0.0/8 A\n"; flows = one_flow })
+        (0, StandardOutput, codes "src-label|records|packets|bytes\nA|1|5|546\n") }
+    ensures check { Shows (command.Check (named (codes "map.txt")) (named (codes "list.txt")) (named (codes "cert.txt"))) (record empty { map = quarters_map; list = quarters_list; certificate = head ++ codes "n 2 0\n" ++ quarters_nodes }) (0, StandardOutput, codes "minimal 3\n") }
+    ensures recert { Shows (command.Recert (named (codes "cert.txt"))) (record empty { certificate = codes "flowlabel-cert 1 ipv4 2\nA\nB\nn 1 0\nl 0\nn 1 0 1\nl 0\nl 1\n" }) (0, StandardOutput, codes "flowlabel-cert 2 ipv4 2\nA\nB\nc 1 11 0 0\nl 1\n") }
+{}
+
+/// FORMATS.md has the map and the certificate under "Certificates", and the compact form under "Chains".
+pub fn a_run_shrinks_a_map()
+    ensures list { Shows (command.Shrink (named (codes "map.txt")) shrunk.List) (record empty { map = quarters_map }) (0, StandardOutput, codes "mode ipv4\n0.0.0.0/0 A\n64.0.0.0/2 B\n192.0.0.0/2 C\n") }
+    ensures certificate { Shows (command.Shrink (named (codes "map.txt")) shrunk.Certificate) (record empty { map = quarters_map }) (0, StandardOutput, head ++ codes "n 2 0\n" ++ quarters_nodes) }
+    ensures compact { Shows (command.Shrink (named (codes "map.txt")) shrunk.Compact) (record empty { map = codes "192.0.0.0/2 B\n" }) (0, StandardOutput, codes "flowlabel-cert 2 ipv4 2\nB\nUNKNOWN\nc 1 11 1 1\nl 0\n") }
+{}
+
+/// The addresses of the ranges are those of RFC 4632, section 3.1.
+pub fn a_run_prints_ranges()
+    ensures cat { Shows (command.Cat (labels.Map (named (codes "map.txt")))) (record empty { map = halves_map }) (0, StandardOutput, codes "low|high|label\n0.0.0.0|127.255.255.255|A\n128.0.0.0|255.255.255.255|B\n") }
+{}
+
+pub fn a_run_reports_the_fault_of_a_file()
+    ensures map { Shows (command.Label (labels.Map (named (codes "map.txt"))) address) (record empty { map = codes "10.0.0.0/36 A\n" }) (1, StandardError, codes "flowlabel: map.txt: M3 BadLength at 1\n") }
+    ensures list { Shows (command.Cat (labels.List (named (codes "list.txt")))) (record empty { list = codes "default x\n" }) (1, StandardError, codes "flowlabel: list.txt: M13 NotAList at 1\n") }
+    ensures flows { Shows (command.Info (named (codes "day.ipfix"))) (record empty { flows = take 105 one_flow }) (1, StandardError, codes "flowlabel: day.ipfix: F4 TruncatedMessage at 0\n") }
+    ensures certificate { Shows (command.Recert (named (codes "cert.txt"))) empty (1, StandardError, codes "flowlabel: cert.txt: C1 BadHeader at 1\n") }
+    ensures check { Shows (command.Check (named (codes "map.txt")) (named (codes "list.txt")) (named (codes "cert.txt"))) (record empty { map = quarters_map; list = quarters_list; certificate = head ++ codes "n 3 0\n" ++ quarters_nodes }) (1, StandardError, codes "flowlabel: cert.txt: K5 CostTooHigh at 1\n") }
+    ensures before_the_flows { Shows (command.Rows (Some (labels.Map (named (codes "map.txt")))) [] false (named (codes "day.ipfix"))) (record empty { map = codes "x\n"; flows = 0 ∷ [] }) (1, StandardError, codes "flowlabel: map.txt: M1 BadStatement at 1\n") }
+{}
+
+/// FORMATS.md, "Exit status" and the table of faults.
+pub fn a_run_reports_any_other_fault()
+    ensures usage { seen (Err (Usage usage.MapMissing)) ≡ (2, StandardError, codes "flowlabel: usage: P2 MapMissing\n") }
+    ensures of_clap { seen (Err (Usage (usage.Refused (codes "error: unexpected argument\n")))) ≡ (2, StandardError, codes "error: unexpected argument\n") }
+    ensures filter { seen (Err (Usage (usage.Filter (record { option = SourcePort; kind = BadNumberList })))) ≡ (2, StandardError, codes "flowlabel: usage: --sport L1 BadNumberList\n") }
+    ensures key { seen (Err (Usage (usage.Key BadField))) ≡ (2, StandardError, codes "flowlabel: usage: --fields U1 BadField\n") }
+    ensures help { seen (Err (Usage (usage.Help (codes "Usage: flowlabel\n")))) ≡ (0, StandardOutput, codes "Usage: flowlabel\n") }
+    ensures no_memory_for_words { seen (Err (Usage usage.NoMemory)) ≡ (3, StandardError, codes "flowlabel: out of memory\n") }
+    ensures no_memory { seen (Err NoMemory) ≡ (3, StandardError, codes "flowlabel: out of memory\n") }
+    ensures cannot_open { seen (Err (CannotOpen (named (codes "day.ipfix")))) ≡ (4, StandardError, codes "flowlabel: day.ipfix: cannot open\n") }
+    ensures cannot_read { seen (Err (CannotRead (named (codes "day.ipfix")))) ≡ (4, StandardError, codes "flowlabel: day.ipfix: cannot read\n") }
+    ensures cannot_write { seen (Err CannotWrite) ≡ (4, StandardError, codes "flowlabel: output: cannot write\n") }
+{}
+
+/// A file that was read to its end has the bytes that were read. Any bytes may follow those of another file.
+pub fn a_file_may_have_a_text()
+    ensures whole { (text : Text) → MayHave (record { failed = false; returned = codes "mode ipv4\n"; stopped = true; left = None }) text → text ≡ codes "mode ipv4\n" }
+    ensures begun { (rest : Text) → MayHave (record { failed = false; returned = codes "mode ipv4\n"; stopped = false; left = None }) (codes "mode ipv4\n" ++ rest) }
+    ensures not_at_its_end { (rest : Text) → MayHave (record { failed = false; returned = codes "mode ipv4\n"; stopped = true; left = Some (codes "x") }) (codes "mode ipv4\n" ++ rest) }
 {}
