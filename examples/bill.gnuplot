@@ -16,7 +16,8 @@ if (system("cat " . file . " 2>/dev/null | head -n 1 | tr '|' '\\n' | grep -cx '
 # Sums of an unknown time, whose minute is 0, have no bar.
 kept = exists("minutes") ? "^[^|]*T" : "^"
 count = int(system("sed 1d <" . file . " | grep -c '" . kept . "'"))
-# A label may have bars, quotes and backslashes, which gnuplot reads as escapes. A header with blanks has padded columns.
+# gnuplot takes bars, quotes and backslashes of a label for something else, so they become escapes. If the header has
+# blanks, its columns are padded.
 literally = '< awk -F "|" ''NR == 1 { all = NF; padded = / / } NR > 1 && $0 !~ /' . kept . '/ { next }' \
     . ' padded { gsub(/^ +/, ""); gsub(/\| +/, "|") } { gsub(/\\/, "\\134"); gsub(/"/, "\\042")' . "\n" \
     . ' while (NF > all && sub(/\|/, "\\174")) { } print }'' <' . file
