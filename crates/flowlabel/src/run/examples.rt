@@ -105,11 +105,12 @@ pub fn a_run_prints_its_output()
     ensures recert { Shows (command.Recert (named (codes "cert.txt"))) (record empty { certificate = codes "flowlabel-cert 1 ipv4 2\nA\nB\nn 1 0\nl 0\nn 1 0 1\nl 0\nl 1\n" }) (0, StandardOutput, codes "flowlabel-cert 2 ipv4 2\nA\nB\nc 1 11 0 0\nl 1\n") }
 {}
 
-/// FORMATS.md has the map and the certificate under "Certificates", and the compact form under "Chains".
+/// FORMATS.md has the map, the list and the certificate under "Certificates". No path of it has two inner nodes, so the
+/// compact certificate differs only in its format ("Chains").
 pub fn a_run_shrinks_a_map()
     ensures list { Shows (command.Shrink (named (codes "map.txt")) shrunk.List) (record empty { map = quarters_map }) (0, StandardOutput, codes "mode ipv4\n0.0.0.0/0 A\n64.0.0.0/2 B\n192.0.0.0/2 C\n") }
     ensures certificate { Shows (command.Shrink (named (codes "map.txt")) shrunk.Certificate) (record empty { map = quarters_map }) (0, StandardOutput, head ++ codes "n 2 0\n" ++ quarters_nodes) }
-    ensures compact { Shows (command.Shrink (named (codes "map.txt")) shrunk.Compact) (record empty { map = codes "192.0.0.0/2 B\n" }) (0, StandardOutput, codes "flowlabel-cert 2 ipv4 2\nB\nUNKNOWN\nc 1 11 1 1\nl 0\n") }
+    ensures compact { Shows (command.Shrink (named (codes "map.txt")) shrunk.Compact) (record empty { map = quarters_map }) (0, StandardOutput, codes "flowlabel-cert 2 ipv4 4\nA\nB\nC\nUNKNOWN\nn 2 0\n" ++ quarters_nodes) }
 {}
 
 /// The addresses of the ranges are those of RFC 4632, section 3.1.
