@@ -264,19 +264,19 @@ module _ (lines : List Line) (c : Columns) (from : ℕ) (text : Text) (can : Can
   abbrev line : Line
   line = get_or lines i []
 
-  abbrev others-behind : List Line
-  others-behind = drop (i + 1) lines
+  abbrev lines-after : List Line
+  lines-after = drop (i + 1) lines
 
-  lines-here : drop i lines ≡ line ∷ others-behind
+  lines-here : drop i lines ≡ line ∷ lines-after
   lines-here = drop_more lines i [] inside
 
-  pub can_line : CanSpread c.widths.items line (flat_map sized others-behind) from_now to_now now
+  pub can_line : CanSpread c.widths.items line (flat_map sized lines-after) from_now to_now now
   can_line =
-      let back : drop from_now now ≡ sized line ++ flat_map sized others-behind = is.back ∙ ap (flat_map sized) lines-here in
-      let few : length (flat_map sized others-behind) ≤ sum c.widths.items * length others-behind =
-      sized_lines-le c.widths.items others-behind (All-drop (Fits c.widths.items) (i + 1) lines can.fit) in
-      let whole : sum c.widths.items * length lines ≡ sum c.widths.items * i + sum c.widths.items + sum c.widths.items * length others-behind =
-      ap (λ n. sum c.widths.items * n) (omega (arith, inside, length-drop (i + 1) lines)) ∙ parts (sum c.widths.items) i (length others-behind) in
+      let back : drop from_now now ≡ sized line ++ flat_map sized lines-after = is.back ∙ ap (flat_map sized) lines-here in
+      let few : length (flat_map sized lines-after) ≤ sum c.widths.items * length lines-after =
+      sized_lines-le c.widths.items lines-after (All-drop (Fits c.widths.items) (i + 1) lines can.fit) in
+      let whole : sum c.widths.items * length lines ≡ sum c.widths.items * i + sum c.widths.items + sum c.widths.items * length lines-after =
+      ap (λ n. sum c.widths.items * n) (omega (arith, inside, length-drop (i + 1) lines)) ∙ parts (sum c.widths.items) i (length lines-after) in
       record {
         some = can.some;
         fits = can.fit i [] inside;
@@ -294,14 +294,14 @@ module _ (lines : List Line) (c : Columns) (from : ℕ) (text : Text) (can : Can
               is.within,
               ap length back,
               length-drop from_now now,
-              length-append (sized line) (flat_map sized others-behind),
+              length-append (sized line) (flat_map sized lines-after),
             );
       }
     where
       parts : (w n m : ℕ) → w * (n + 1 + m) ≡ w * n + w + w * m
       parts w n m = grind arith
 
-  pub line_spread : (new : Text) (from_next to_next : ℕ) → IsSpread c.widths.items line (flat_map sized others-behind) to_now now new from_next to_next
+  pub line_spread : (new : Text) (from_next to_next : ℕ) → IsSpread c.widths.items line (flat_map sized lines-after) to_now now new from_next to_next
       → AreSpreadTo lines c.widths.items text (i + 1) from_next to_next new
   line_spread new from_next to_next spread = record {
     back = spread.back;
