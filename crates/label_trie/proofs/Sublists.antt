@@ -1,5 +1,5 @@
 -- Lists within lists.
-use Rattle.std.proofs.Common.{◌≡◌, ◌∙◌, ℕ, ◌+◌, ◌≤◌, List, [], ◌∷◌, ◌++◌, Some, get_or, length, slice_get, refl, sym, ap, arith, length-append}
+use Rattle.std.proofs.Common.{◌≡◌, ◌∙◌, ℕ, ◌+◌, List, [], ◌∷◌, ◌++◌, Some, get_or, length, slice_get, refl, sym, ap, arith, length-append}
 use Rattle.std.proofs.lemmas.List.{append-nil, append_assoc}
 
 -- the items from this index on begin with these
@@ -36,9 +36,6 @@ module _ {X : Type 0} (all : List X) (index : ℕ) where
     all_is = here.all_is ∙ ap (λ (l : List X). here.before ++ l) (append_assoc xs ys here.after) ∙ sym (append_assoc here.before xs (ys ++ here.after));
     at = omega (arith, here.at, length-append here.before xs);
   }
-
-  pub at-within : (own : List X) → IsAt all index own → index + length own ≤ length all
-  at-within own here = omega (arith, ap length here.all_is, length-append here.before (own ++ here.after), length-append own here.after, here.at)
 
 head_there : {X : Type 0} (before : List X) (x : X) (rest : List X) → slice_get (before ++ x ∷ rest) (length before) ≡ Some x
 head_there [] x rest = refl

@@ -2,7 +2,7 @@ use Rattle.std.specs.Prelude.{◌≡◌, ℕ, zero, suc, ◌+◌, ◌<◌, ◌�
 use Rattle.pmap_cert.specs.CertificateText.{leaf_line, text_of_lines}
 use Rattle.pmap_cert.specs.Node.{Chain, Inner, Leaf, Node, cost_of, first_node, line_text, lines_of, set_of}
 use Rattle.pmap_cert.specs.Paths.{digit, path_to}
-use Rattle.pmap_minimise.specs.Numbers.{IsSound, has_number}
+use Rattle.pmap_minimise.specs.Numbers.{has_number}
 
 -- A compact node and the node with each of its chains opened: a chain turns into the inner nodes of its run, each with
 -- its exact claim, and the leaves beside them.
@@ -62,13 +62,6 @@ pub record IsOpenedAt (nodes : List Node) : Type 0 where
   pub some : 0 < length nodes
   pub node : Node
   pub opens : Opens (first_node nodes) node
-
--- the first of the nodes opens to a sound one with at most this many levels below it
-pub record IsSoundAt (nodes : List Node) (room : ℕ) : Type 0 where
-  pub some : 0 < length nodes
-  pub node : Node
-  pub opens : Opens (first_node nodes) node
-  pub sound : IsSound node room
 
 abbrev pub node_text : Node → List ℕ
 node_text node = text_of_lines (map line_text (lines_of node))
