@@ -1,11 +1,11 @@
-ghost use Rattle.std.specs.Prelude.{◌≡◌, ◌≤◌, ◌<◌, ◌++◌, ◌-◌, ℕ, List, [], IfOk, OnOk, length, min, slice_range, take, true, vec_len};
+ghost use Rattle.std.specs.Prelude.{◌≡◌, ◌≤◌, ◌<◌, ◌++◌, ◌-◌, ℕ, List, [], IfOk, OnOk, length, min, nat_le, slice_range, take, true, vec_len};
 ghost use Rattle.flow_io.specs.Devices.{FailsOnErr, Gives, has_ended};
 
 use crate::devices::{DeviceFault, Input};
 use std::alloc::{AllocError, Global};
 
-// The number of bytes that a reader is asked for at a time.
-const CAPACITY: usize = 65_536;
+/// The number of bytes that a reader is asked for at a time.
+pub const CAPACITY: usize = 65_536;
 
 /// Bytes that were read ahead: those of the buffer from `start` to `end`.
 #[derive(Drop)]
@@ -29,6 +29,13 @@ impl Ahead {
             start: 0,
             end: 0,
         })
+    }
+
+    /// Returns `true` if there are no bytes.
+    pub fn is_empty(&self) -> bool
+        ensures { result ≡ nat_le self.now.end self.now.start }
+    {
+        self.end <= self.start
     }
 
     /// Moves the first bytes to the start of the slice, as many as there are and as fit, and returns their number.

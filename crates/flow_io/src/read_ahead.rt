@@ -3,7 +3,7 @@ ghost use Rattle.std.specs.Prelude.{◌≡◌, ◌≤◌, ◌++◌, ℕ, List, [
 ghost use Rattle.flow_io.specs.Ahead.{bytes_in, input_ahead};
 ghost use Rattle.flow_io.specs.Devices.{FailsOnErr, GivesCount, finds_end, has_ended};
 
-use crate::ahead::Ahead;
+use crate::ahead::{Ahead, CAPACITY};
 use crate::devices::{DeviceFault, Input};
 use crate::record::Record;
 use std::alloc::{AllocError, Global};
@@ -50,8 +50,13 @@ impl<R: Input> Input for ReadAhead<R> {
         ensures all { finds_end result buffer.new ≡ true → (bytes_in self.new.ahead ≡ []) × (has_ended (R.input self.new.inner) ≡ true) }
     {
         self.ended = false;
-        self.ahead.fill(&mut self.inner)?;
-        let count = self.ahead.take(buffer);
+        let count = if self.ahead.is_empty() && buffer.len() >= CAPACITY {
+            // The buffer has room for all that would be read ahead.
+            self.inner.read(buffer)?
+        } else {
+            self.ahead.fill(&mut self.inner)?;
+            self.ahead.take(buffer)
+        };
         self.ended = count == 0 && !buffer.is_empty();
         self.returned.note(&buffer[..count]);
         Ok(count)
