@@ -4,11 +4,12 @@ use Rattle.std.proofs.KnownBytes.{Appends-trans, Consumes-nil, Consumes-trans}
 use Rattle.flow_io.specs.Devices.{InputView, OutputView, Gives, Takes}
 
 pub gives_none : (a : InputView) → Gives a a []
-gives_none a = record { returned = sym (append-nil a.returned); left = Consumes-nil a.left }
+gives_none a = record { returned = sym (append-nil a.returned); fetched = λ same. same; left = Consumes-nil a.left }
 
 pub gives_more : {a b c : InputView} {front more : List ℕ} → Gives a b front → Gives b c more → Gives a c (front ++ more)
 gives_more {a} {b} {c} {front} {more} first second = record {
   returned = second.returned ∙ ap (λ l. l ++ more) first.returned ∙ append_assoc a.returned front more;
+  fetched = λ same. second.fetched (first.fetched same);
   left = Consumes-trans a.left b.left c.left front more first.left second.left;
 }
 

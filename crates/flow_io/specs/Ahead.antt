@@ -15,6 +15,8 @@ abbrev pub input_ahead : {R : Type 0} → (R → InputView) → ReadAhead R → 
 input_ahead input reader = record {
   failed = (input reader.inner).failed;
   returned = reader.returned.bytes;
+  fetched = (input reader.inner).returned;
+  ahead = bytes_in reader.ahead;
   stopped = reader.ended;
   left = prepend_known (bytes_in reader.ahead) (input reader.inner).left;
 }

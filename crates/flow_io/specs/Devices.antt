@@ -1,17 +1,25 @@
-use Rattle.std.specs.Prelude.{◌≡◌, ◌==◌, ◌&&◌, ◌||◌, ℕ, Bool, true, false, List, [], Option, Result, Ok, Err, length, take, ◌⊎◌, ◌++◌, nat_lt, unwrap_or}
+use Rattle.std.specs.Prelude.{◌≡◌, ◌==◌, ◌&&◌, ◌||◌, ◌+◌, ℕ, Bool, true, false, List, [], Option, Result, Ok, Err, length, take, ◌⊎◌, ◌++◌, nat_lt, unwrap_or}
 use Rattle.std.specs.Io.KnownBytes.{Appends, Consumes}
 pub use Rattle.flow_io.specs.declared.devices.LastCall.{LastCall}
 pub use Rattle.flow_io.specs.declared.devices.LastCall.TheVariants.{FailedFlush, Flush, Nothing, Write}
 use Rattle.flow_io.specs.declared.whole.ReadStop.{ReadStop}
 use Rattle.flow_io.specs.declared.whole.ReadStop.TheVariants.{ReadFault, NoMemory}
 
--- What contracts see of a reader: whether a read has failed, the bytes that reads have returned, whether the last read
--- returned no byte although there was room for one, and the bytes that are left, if the reader reports them.
+-- What contracts see of a reader: whether a read has failed, the bytes that reads have returned, the bytes that were
+-- fetched for them, those of them that are still ahead, whether the last read returned no byte although there was room
+-- for one, and the bytes that are left, if the reader reports them. A reader that doesn't read ahead fetches what it
+-- returns.
 pub record InputView : Type 0 where
   pub failed : Bool
   pub returned : List ℕ
+  pub fetched : List ℕ
+  pub ahead : List ℕ
   pub stopped : Bool
   pub left : Option (List ℕ)
+
+-- the bytes fetched are the ones that reads have returned, and then the ones ahead
+abbrev pub AreFetched : InputView → Type 0
+AreFetched input = input.fetched ≡ input.returned ++ input.ahead
 
 -- What contracts see of a writer: whether a call has failed, the last call, the bytes that writes have taken, and all
 -- bytes that the writer holds, if it reports them.
@@ -46,9 +54,11 @@ is_read_fault (Err NoMemory) = false
 
 -- Which bytes a reader returns.
 
--- reads return these bytes; of a reader that reports the bytes left they are the first ones
+-- reads return these bytes, which are among the bytes fetched; of a reader that reports the bytes left they are the first
+-- ones
 pub record Gives (old new : InputView) (bytes : List ℕ) : Type 0 where
   pub returned : new.returned ≡ old.returned ++ bytes
+  pub fetched : AreFetched old → AreFetched new
   pub left : Consumes old.left new.left bytes
 
 -- a read returns the `count` bytes at the start of the buffer if it returns `Ok count`, and none if it returns `Err`
@@ -65,9 +75,9 @@ abbrev pub finds_end : {E : Type 0} → Result ℕ E → List ℕ → Bool
 finds_end (Ok count) buffer = count == 0 && nat_lt 0 (length buffer)
 finds_end (Err _) buffer = false
 
--- the last read found the end of the input, and no byte is left, as far as the reader reports it
+-- the last read found the end of the input, and no byte is ahead, or left, as far as the reader reports it
 abbrev pub has_ended : InputView → Bool
-has_ended input = input.stopped && length (unwrap_or input.left []) == 0
+has_ended input = input.stopped && length input.ahead + length (unwrap_or input.left []) == 0
 
 -- these bytes may follow those that reads have returned: none after the end, otherwise any
 abbrev pub MayFollow : Bool → List ℕ → Type 0

@@ -1,4 +1,4 @@
-use Rattle.std.specs.Prelude.{Some, ℕ}
+use Rattle.std.specs.Prelude.{Some, ℕ, []}
 use Rattle.flow_io.specs.Devices.{InputView, OutputView}
 use Rattle.flow_io.specs.declared.memory.MemoryInput.{MemoryInput}
 use Rattle.flow_io.specs.declared.memory.MemoryOutput.{MemoryOutput}
@@ -6,7 +6,14 @@ use Rattle.flow_io.specs.declared.memory.MemoryOutput.{MemoryOutput}
 -- What contracts see of a reader and a writer in memory.
 
 abbrev pub input_in : MemoryInput → InputView
-input_in memory = record { failed = memory.failed; returned = memory.read.bytes; stopped = memory.ended; left = Some memory.left.now }
+input_in memory = record {
+  failed = memory.failed;
+  returned = memory.read.bytes;
+  fetched = memory.read.bytes;
+  ahead = [];
+  stopped = memory.ended;
+  left = Some memory.left.now;
+}
 
 abbrev pub output_in : {N : ℕ} → MemoryOutput N → OutputView
 output_in memory = record { failed = memory.failed; last_call = memory.last_call; taken = memory.taken.items; contents = Some memory.taken.items }

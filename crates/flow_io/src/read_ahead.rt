@@ -1,7 +1,6 @@
 //! Reading ahead.
-ghost use Rattle.std.specs.Prelude.{◌≡◌, ◌≤◌, ◌++◌, ℕ, List, [], IfOk, false, length, true};
+ghost use Rattle.std.specs.Prelude.{◌≡◌, [], IfOk, false};
 ghost use Rattle.flow_io.specs.Ahead.{bytes_in, input_ahead};
-ghost use Rattle.flow_io.specs.Devices.{FailsOnErr, GivesCount, finds_end, has_ended};
 
 use crate::ahead::{Ahead, CAPACITY};
 use crate::devices::{DeviceFault, Input};
@@ -37,18 +36,7 @@ impl<R> ReadAhead<R> {
 impl<R: Input> Input for ReadAhead<R> {
     ghost input = { input_ahead R.input };
 
-    fn read(&mut self, buffer: &mut [u8]) -> Result<usize, DeviceFault>
-        ensures within { IfOk result (λ count. count ≤ length buffer.new) }
-        ensures read { GivesCount (input_ahead R.input self.old) (input_ahead R.input self.new) result buffer.new }
-        ensures end { has_ended (input_ahead R.input self.new) ≡ finds_end result buffer.new }
-        ensures fails { FailsOnErr (R.input self.old.inner).failed (R.input self.new.inner).failed result }
-
-        // What the inner reader has returned is what this one has, and then the bytes that are ahead. At the end there
-        // are none.
-        ensures same { (front : List ℕ) → (R.input self.old.inner).returned ≡ front ++ (self.old.returned.bytes ++ bytes_in self.old.ahead)
-            → (R.input self.new.inner).returned ≡ front ++ (self.new.returned.bytes ++ bytes_in self.new.ahead) }
-        ensures all { finds_end result buffer.new ≡ true → (bytes_in self.new.ahead ≡ []) × (has_ended (R.input self.new.inner) ≡ true) }
-    {
+    fn read(&mut self, buffer: &mut [u8]) -> Result<usize, DeviceFault> {
         self.ended = false;
         let count = if self.ahead.is_empty() && buffer.len() >= CAPACITY {
             // The buffer has room for all that would be read ahead.

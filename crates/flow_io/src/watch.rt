@@ -43,6 +43,8 @@ impl<T: Read> Input for Watched<T> {
     ghost input = { λ watched. record {
       failed = watched.failed;
       returned = watched.read.bytes;
+      fetched = watched.read.bytes;
+      ahead = [];
       stopped = watched.ended;
       left = T.remaining watched.inner;
     } };

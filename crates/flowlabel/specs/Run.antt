@@ -1,6 +1,6 @@
 use Rattle.std.specs.Prelude.{◌≡◌, ◌≤◌, ◌<◌, ◌||◌, ◌++◌, ⊤, ℕ, List, [], Option, Some, Result, Ok, Err, Bool, true, false}
 use Rattle.std.specs.Option.{option_map_or}
-use Rattle.flow_io.specs.Devices.{InputView, MayFollow, OutputView, ReadsInput, StopsWriting, Writes, has_ended}
+use Rattle.flow_io.specs.Devices.{AreFetched, InputView, MayFollow, OutputView, ReadsInput, StopsWriting, Writes, has_ended}
 use Rattle.ipfix_read.specs.Messages.{StopsReading}
 use Rattle.ipfix_read.specs.declared.fault.ReadFault.{ReadFault}
 use Rattle.flowlabel.specs.BytesFault.{role_of}
@@ -44,7 +44,8 @@ AreKeptBehind role old new = (later : Role) → turn role < turn later → at la
 module _ {R : Type 0} (input : R → InputView) where
   -- what contracts see of a file; one that isn't there has no bytes
   abbrev pub view_of : Option (Source R) → InputView
-  view_of file = option_map_or (λ source. input source.reader) file (record { failed = false; returned = []; stopped = true; left = Some [] })
+  view_of file = option_map_or (λ source. input source.reader) file
+      (record { failed = false; returned = []; fetched = []; ahead = []; stopped = true; left = Some [] })
 
   abbrev pub any_failed : ByFile (Option (Source R)) → Bool
   any_failed files = (view_of files.map).failed || ((view_of files.list).failed || ((view_of files.certificate).failed || (view_of files.flows).failed))
@@ -52,6 +53,10 @@ module _ {R : Type 0} (input : R → InputView) where
   -- nothing of the files is read yet
   abbrev pub AreUnread : ByFile (Option (Source R)) → Type 0
   AreUnread files = (role : Role) → (view_of (at role files)).returned ≡ []
+
+  -- the bytes fetched of the files are the ones that reads have returned, and then the ones ahead
+  abbrev pub AreAllFetched : ByFile (Option (Source R)) → Type 0
+  AreAllFetched files = (role : Role) → AreFetched (view_of (at role files))
 
   -- the files may have these texts
   abbrev pub AreTexts : ByFile (Option (Source R)) → ByFile Text → Type 0
@@ -95,8 +100,9 @@ module _ {R W : Type 0} (input : R → InputView) (output : W → OutputView) wh
       (made : OutputFault) × IsNamed (each name_in old) made fault
       × IsFaultOf input (λ texts. IsOutput (with_texts texts command)) old new made × (writer' ≡ writer)
 
-  -- What a run does, and that a text which a reader reports is among those that its file may have: then the output is the
-  -- one over this text.
+  -- What a run does; that no other bytes were fetched; and that a text which a reader reports is among those that its file
+  -- may have: then the output is the one over this text.
   pub record IsRunOf (command : Command) (old new : ByFile (Option (Source R))) (writer writer' : W) (result : Result (Unit {0}) RunFault) : Type 0 where
     pub ends : EndsAs command old new writer writer' result
+    pub fetched : AreAllFetched input old → AreAllFetched input new
     pub reported : AreReported input old new

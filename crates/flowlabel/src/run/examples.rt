@@ -143,7 +143,7 @@ pub fn a_run_reports_any_other_fault()
 
 /// A file that was read to its end has the bytes that were read. Any bytes may follow those of another file.
 pub fn a_file_may_have_a_text()
-    ensures whole { (text : Text) → MayHave (record { failed = false; returned = codes "mode ipv4\n"; stopped = true; left = None }) text → text ≡ codes "mode ipv4\n" }
-    ensures begun { (rest : Text) → MayHave (record { failed = false; returned = codes "mode ipv4\n"; stopped = false; left = None }) (codes "mode ipv4\n" ++ rest) }
-    ensures not_at_its_end { (rest : Text) → MayHave (record { failed = false; returned = codes "mode ipv4\n"; stopped = true; left = Some (codes "x") }) (codes "mode ipv4\n" ++ rest) }
+    ensures whole { (text : Text) → MayHave (record { failed = false; returned = codes "mode ipv4\n"; fetched = codes "mode ipv4\n"; ahead = []; stopped = true; left = None }) text → text ≡ codes "mode ipv4\n" }
+    ensures begun { (rest : Text) → MayHave (record { failed = false; returned = codes "mode ipv4\n"; fetched = codes "mode ipv4\n"; ahead = []; stopped = false; left = None }) (codes "mode ipv4\n" ++ rest) }
+    ensures not_at_its_end { (rest : Text) → MayHave (record { failed = false; returned = codes "mode ipv4\n"; fetched = codes "mode ipv4\n"; ahead = []; stopped = true; left = Some (codes "x") }) (codes "mode ipv4\n" ++ rest) }
 {}

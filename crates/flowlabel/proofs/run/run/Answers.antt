@@ -3,13 +3,14 @@ use Rattle.flow_io.specs.Devices.{StopsWriting, Writes}
 use Rattle.flowlabel.specs.ByFile.{ByFile}
 use Rattle.flowlabel.specs.Request.{Text, with_texts}
 use Rattle.flowlabel.specs.Run.{IsNamed}
-use Rattle.flowlabel.proofs.MadeLemmas.{are_reported, run_fault}
+use Rattle.flowlabel.proofs.MadeLemmas.{are_fetched, are_reported, run_fault}
 use Rattle.flowlabel.proofs.run.run.Goals as goal
 
 pub returns-in-Err : goal.returns-in-Err
 returns-in-Err g c = record {
   ends = run_fault g.R.Input.input g.W.Output.output c.args.command.now c.args.inputs.now.files c.output.new.files c.args.writer.now c.in-Err.fault c.named.result
       (subst (λ (names : ByFile Text). IsNamed names c.in-Err.fault c.named.result) c.names-names.ensures c.named.ensures) c.in-Err.ensures.made;
+  fetched = are_fetched g.R.Input.input c.args.inputs.now.files c.output.new.files c.output.ensures.read;
   reported = are_reported g.R.Input.input c.args.inputs.now.files c.output.new.files c.requires.unread c.output.ensures.read;
 }
 
@@ -22,6 +23,7 @@ returns-in-Ok-write_whole g c =
         subst (λ (bytes : List ℕ). Writes (g.W.Output.output c.args.writer.now) (g.W.Output.output c.write_whole.new.writer) bytes) c.as_slice.ensures.value c.in-Ok-write_whole.ensures.whole,
         works,
       );
+      fetched = are_fetched g.R.Input.input c.args.inputs.now.files c.output.new.files c.output.ensures.read;
       reported = are_reported g.R.Input.input c.args.inputs.now.files c.output.new.files c.requires.unread c.output.ensures.read;
     }
 
@@ -34,5 +36,6 @@ returns g c =
         subst (λ (bytes : List ℕ). StopsWriting (g.W.Output.output c.args.writer.now) (g.W.Output.output c.write_whole.new.writer) bytes) c.as_slice.ensures.value c.in-Err-write_whole.ensures.stopped,
         works,
       );
+      fetched = are_fetched g.R.Input.input c.args.inputs.now.files c.output.new.files c.output.ensures.read;
       reported = are_reported g.R.Input.input c.args.inputs.now.files c.output.new.files c.requires.unread c.output.ensures.read;
     }

@@ -1,7 +1,12 @@
-use Rattle.std.proofs.Common.{◌≡◌, ◌+◌, ◌≤◌, Option, subst}
+use Rattle.std.proofs.Common.{◌≡◌, ◌+◌, ◌≤◌, Option, [], subst}
 use Rattle.std.specs.Prelude.{OnSome}
 use Rattle.ipfix_read.specs.Message.{MessageView}
 use Rattle.ipfix_read.specs.declared.progress.State.TheVariants.{Going}
+use Rattle.flow_io.proofs.Moving.{gives_none}
+use Rattle.flow_io.specs.Devices.{has_ended}
+use Rattle.flowlabel.specs.Output.{NoMemory}
+use Rattle.flowlabel.specs.Reports.{TakesMessages}
+use Rattle.flowlabel.proofs.MadeLemmas.{handed_on}
 use Rattle.flowlabel.proofs.TakenLemmas.{held_all, held_fault, held_more, held_stop}
 use Rattle.flowlabel.proofs.run.report.take_from_reader.Goals as goal
 
@@ -36,3 +41,11 @@ returns-in_err-take-clause-taken g c =
     held_stop (g.P.Report.is_of c.args.report.now) c.calls_join_file.ensures.join (g.R.Input.input c.args.reader.now) (g.R.Input.input c.loop-message.reader) (g.R.Input.input c.next.new.reader)
     c.loop-message.progress c.next.new.self c.loop-message.taken c.loop-message.invariant.held
     c.in-Some.message c.take.new.taken c.from_residual-in_err-take.result c.from_residual-in_err-take.ensures.1 (rw c.in-Some.is at (c.in-Ok.ensures.going c.loop-message.invariant.going))
+
+pub returns-in_err-buffer-clause-taken : goal.returns-in_err-buffer-clause-taken
+returns-in_err-buffer-clause-taken g c = (
+  [],
+  gives_none (g.R.Input.input c.args.reader.now),
+  handed_on (λ r. TakesMessages (g.P.Report.is_of c.args.report.now) c.args.taken.now (has_ended (g.R.Input.input c.args.reader.now)) r []) c.from_residual.result NoMemory
+      c.from_residual.ensures.1 tt,
+)
