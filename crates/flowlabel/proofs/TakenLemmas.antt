@@ -2,6 +2,7 @@
 use Rattle.std.proofs.Common.{◌≡◌, ◌<◌, ◌≤◌, ◌+◌, ◌⊎◌, inl, inr, ℕ, List, [], ◌∷◌, ◌++◌, Bool, Some, None, Result, Ok, Err, true, false, length, sym, ap, subst, arith}
 use Rattle.std.specs.Result.{IsErrAnd}
 use Rattle.flow_io.specs.Devices.{InputView, MayFollow, ReadsInput, has_ended}
+use Rattle.ipfix_templates.specs.InForce.{no_templates}
 use Rattle.ipfix_read.specs.Fault.{is_of_calls, is_of_reader, out_of_memory}
 use Rattle.ipfix_read.specs.Messages.{AnswersNext, IsReadTo, ProgressView, StopsAfter, StopsReading, file_reading}
 use Rattle.ipfix_read.specs.Laws.{CallsJoinFile}
@@ -27,7 +28,7 @@ stopped size (Err fault) stop is = ap (λ (f : ReadFault). is_of_reader f.kind) 
 -- the state of a report is that after the messages that are read so far
 module _ {T : Type 0} (is_of : List MessageView → T → Type 0) where
   abbrev pub Held : InputView → InputView → ProgressView → T → Type 0
-  Held start now p taken = (messages : List MessageView) × is_of messages taken × IsReadTo start messages p now
+  Held start now p taken = (messages : List MessageView) × is_of messages taken × IsReadTo no_templates 0 0 start messages p now
 
   -- a fault of the bytes read so far
   fault_taken : (ended : Bool) (taken : T) (fault : ReadFault) (made : OutputFault) (bytes : List ℕ) → IsFaultOfCall fault made
@@ -43,7 +44,7 @@ module _ {T : Type 0} (is_of : List MessageView → T → Type 0) where
       let wrong : is_want_of_memory (InFlows fault) ≡ true = ap (λ (f : ReadFault). is_want_of_memory (InFlows f)) memory in
       let other : is_want_of_memory (InFlows fault) ≡ false = is.1 in cc
   fault_taken ended taken fault (Faulty made) bytes (works, is) (inr (inl stops)) =
-      let wrong : is_of_reader fault.kind ≡ true = stopped (length bytes) (file_reading bytes) fault stops in cc
+      let wrong : is_of_reader fault.kind ≡ true = stopped _ (file_reading bytes) fault stops in cc
   fault_taken ended taken fault (Faulty made) bytes (works, is) (inr (inr (calls, has))) =
       subst (λ m. TakesMessages is_of taken ended (Err (Faulty m)) bytes) (sym is.0) has
 
@@ -56,22 +57,22 @@ module _ {T : Type 0} (is_of : List MessageView → T → Type 0) where
     held_more m taken' answers counted most next = (
       held.0 ++ m ∷ [],
       next held.0 (omega (arith, held.2.counted, counted, most)) held.1,
-      joins start now new held.0 p p' (Ok (Some m)) held.2 answers,
+      joins _ _ _ start now new held.0 p p' (Ok (Some m)) held.2 answers,
     )
 
     -- an allocation failed after the next message
     pub held_stop : (m : MessageView) (taken' : T) (result : Result (Unit {0}) OutputFault) → IsErrAnd result (λ fault. fault ≡ NoMemory)
         → ReadsInput now new (AnswersNext p (Ok (Some m)) p' (has_ended new)) → TakesFile is_of start new taken' result
     held_stop m taken' result none answers =
-        let read = joins start now new held.0 p p' (Ok (Some m)) held.2 answers in
+        let read = joins _ _ _ start now new held.0 p p' (Ok (Some m)) held.2 answers in
         handed_on (TakesFile is_of start new taken') result NoMemory none (read.taken, read.consumed, tt)
 
     pub held_all : ReadsInput now new (AnswersNext p (Ok None) p' (has_ended new)) → TakesFile is_of start new taken (Ok tt)
     held_all answers =
-        let (bytes, gives, (end, whole)) = joins start now new held.0 p p' (Ok None) held.2 answers in (bytes, gives, (held.0, held.1, end, whole))
+        let (bytes, gives, (end, whole)) = joins _ _ _ start now new held.0 p p' (Ok None) held.2 answers in (bytes, gives, (held.0, held.1, end, whole))
 
     pub held_fault : (fault : ReadFault) (made : OutputFault) → IsFaultOfCall fault made → ReadsInput now new (AnswersNext p (Err fault) p' (has_ended new))
         → TakesFile is_of start new taken (Err made)
     held_fault fault made is answers =
-        let (bytes, gives, joined) = joins start now new held.0 p p' (Err fault) held.2 answers in
+        let (bytes, gives, joined) = joins _ _ _ start now new held.0 p p' (Err fault) held.2 answers in
         (bytes, gives, fault_taken (has_ended new) taken fault made bytes is joined)

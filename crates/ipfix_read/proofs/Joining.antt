@@ -5,10 +5,12 @@ use Rattle.flow_io.proofs.Moving.{gives_more, gives_none}
 use Rattle.std.specs.Result.{result_map_both}
 use Rattle.std.proofs.lemmas.List.{length_push}
 use Rattle.ipfix_read.specs.Message.{ReadFault, ReadFaultKind, MessageView, HasHeader, events_of_message, message_next, whole_reading}
-use Rattle.ipfix_read.specs.Messages.{Going, Ended, Failed, ProgressView, AnswersNext, Gathers, IsIncomplete, file_reading, messages_from}
+use Rattle.ipfix_read.specs.Messages.{Going, Ended, Failed, ProgressView, AnswersNext, Gathers, messages_from}
 use Rattle.ipfix_read.specs.Set.{ReadsUnder}
 use Rattle.ipfix_templates.specs.declared.table.TemplateTable.{TemplateTable}
-use Rattle.ipfix_templates.specs.InForce.{in_force, no_templates, template_at}
+use Rattle.ipfix_templates.specs.InForce.{in_force, template_at}
+use Rattle.ipfix_templates.specs.Reading.{after_items}
+use Rattle.ipfix_templates.proofs.Reading.{no_items}
 use Rattle.ipfix_read.specs.Laws.{CallsJoinFile, CallsStart}
 use Rattle.ipfix_read.proofs.Sets.{in_force_more, none_in_force}
 use Rattle.ipfix_read.proofs.Readings.{front_read, message_cut, messages_end, messages_fault, messages_more, stops_after}
@@ -68,44 +70,40 @@ module _ {view old : ProgressView} (same : view ≡ old) (o n : InputView) (ende
 -- ---- calls for messages join to the whole File
 
 pub calls_start : CallsStart
-calls_start input p start = record {
+calls_start templates count offset input p at = record {
   taken = [];
   consumed = gives_none input;
-  read = λ rest. ap (λ n. messages_from [] n rest) (sym start.1);
-  table = start.0 ∙ sym (none_in_force no_templates);
-  counted = start.2;
-  placed = start.1;
+  read = λ rest. no_items _ ∙ (λ i. after_items [] (messages_from (sym at.0 i) (sym at.1 i) (sym at.2 i) rest));
+  table = at.0 ∙ sym (none_in_force templates);
+  counted = omega (arith, at.1);
+  placed = omega (arith, at.2);
 }
 
 pub calls_join_file : CallsJoinFile
-calls_join_file start now then messages old new (Ok (Some m)) so_far (taken, returned, a) = record {
+calls_join_file templates count offset start now then messages old new (Ok (Some m)) so_far (taken, returned, a) = record {
   taken = so_far.taken ++ taken;
   consumed = gives_more so_far.consumed returned;
   read = λ rest.
-      ap file_reading (append_assoc so_far.taken taken rest) ∙ so_far.read (taken ++ rest)
-      ∙ messages_more messages _ so_far.table _ so_far.counted old.offset (taken ++ rest) m rest new.offset (a.0 rest)
+      ap (messages_from templates count offset) (append_assoc so_far.taken taken rest)
+      ∙ messages_more _ messages _ _ old.offset (taken ++ rest) (so_far.read (taken ++ rest)) m rest _ _ new.offset (a.0 rest) a.1 a.3
       (omega (arith, a.2, length-append taken rest));
-  table = a.1 ∙ ap (λ templates. in_force templates (events_of_message m)) so_far.table ∙ in_force_more events_of_message no_templates messages m;
+  table = a.1 ∙ ap (λ now. in_force now (events_of_message m)) so_far.table ∙ in_force_more events_of_message templates messages m;
   counted = omega (arith, a.3, so_far.counted, length_push messages m);
   placed = omega (arith, a.2, so_far.placed, length-append so_far.taken taken);
 }
-calls_join_file start now then messages old new (Ok None) so_far (taken, returned, a) =
-    (so_far.taken ++ taken, gives_more so_far.consumed returned, (a.1, so_far.read taken ∙ messages_end messages old.offset taken a.0))
-calls_join_file start now then messages old new (Err fault) so_far (taken, returned, a) = (
+calls_join_file templates count offset start now then messages old new (Ok None) so_far (taken, returned, a) =
+    (so_far.taken ++ taken, gives_more so_far.consumed returned, (a.1, messages_end _ messages _ _ old.offset taken (so_far.read taken) a.0))
+calls_join_file templates count offset start now then messages old new (Err fault) so_far (taken, returned, a) = (
   so_far.taken ++ taken,
   gives_more so_far.consumed returned,
   elim a.1 [
     | inl memory ↦ inl memory
-    | inr (inl unread) ↦
-        let size = length (so_far.taken ++ taken) in
-        let incomplete = subst (λ (n : ℕ). IsIncomplete n taken) so_far.counted unread.1 in
-        let stops = stops_after messages old.offset size taken fault incomplete (omega (arith, so_far.placed, length-append so_far.taken taken)) unread.0 in
-        inr (inl (rw (so_far.read taken) stops))
+    | inr (inl unread) ↦ inr (inl (stops_after _ messages _ _ old.offset _ taken fault (so_far.read taken) unread.1 (omega (arith, so_far.placed, length-append so_far.taken taken)) unread.0))
     | inr (inr found) ↦ inr (inr (
       found.0,
       λ rest follows.
-          ap file_reading (append_assoc so_far.taken taken rest) ∙ so_far.read (taken ++ rest)
-          ∙ messages_fault messages _ so_far.table _ so_far.counted old.offset (taken ++ rest) fault (omega (arith, found.1, length-append taken rest)) (found.2 rest follows),
+          ap (messages_from templates count offset) (append_assoc so_far.taken taken rest)
+          ∙ messages_fault _ messages _ _ old.offset (taken ++ rest) (so_far.read (taken ++ rest)) fault (omega (arith, found.1, length-append taken rest)) (found.2 rest follows),
     ))
   ],
 )

@@ -1,16 +1,17 @@
 -- A message, and consecutive messages.
-use Rattle.std.proofs.Common.{◌≡◌, ◌∙◌, false, ℕ, ◌+◌, ◌-◌, ◌<◌, eqb, List, [], ◌∷◌, ◌++◌, length, take, drop, Some, None, Result, Ok, Err, inl, inr, refl, sym, subst, ap, arith, length-drop}
+use Rattle.std.proofs.Common.{◌≡◌, ◌∙◌, false, ℕ, ◌+◌, ◌-◌, ◌<◌, eqb, List, [], ◌∷◌, ◌++◌, length, take, drop, Some, None, Result, Ok, Err, inl, inr, refl, sym, ap, ap₂, arith, length-drop}
 use Rattle.std.specs.Prelude.{◌==◌}
 use Rattle.std.specs.Result.{result_map_both}
 use Rattle.std.proofs.lemmas.Bool.Decides.{nat_tests}
 use Rattle.std.proofs.lemmas.Grind.{common_steps}
 use Rattle.std.proofs.lemmas.List.{take_at, drop_at}
 use Rattle.byteorder.specs.Endian.{big_number}
-use Rattle.ipfix_templates.specs.InForce.{InForce, in_force, no_templates}
-use Rattle.ipfix_templates.proofs.Reading.{at_fault, at_item}
+use Rattle.ipfix_templates.specs.InForce.{InForce, in_force}
+use Rattle.ipfix_templates.specs.Reading.{after_items}
+use Rattle.ipfix_templates.proofs.Reading.{at_end, at_fault, at_item, first_and_rest}
 use Rattle.ipfix_read.specs.Set.{Set, sets_reading, written_length}
-use Rattle.ipfix_read.specs.Message.{ReadFault, ReadFaultKind, MessageView, HasHeader, header_fault, message_next, whole_reading}
-use Rattle.ipfix_read.specs.Messages.{IsIncomplete, StopsAfter, events_of_messages, messages_from}
+use Rattle.ipfix_read.specs.Message.{ReadFault, ReadFaultKind, MessageView, HasHeader, events_of_message, header_fault, message_next, whole_reading}
+use Rattle.ipfix_read.specs.Messages.{IsIncomplete, StopsAfter, messages_from}
 use Rattle.ipfix_read.specs.Fault.{is_of_calls, is_of_reader, read_fault}
 use Rattle.ipfix_read.specs.declared.fault.ReadFaultKind.TheVariants.{ReadFault as Unread}
 use Rattle.ipfix_read.specs.Laws.{FirstMessageAndRest}
@@ -68,42 +69,45 @@ front_read templates count offset front rest counted header =
 
 -- ---- consecutive messages
 
-abbrev after_messages : List MessageView → InForce
-after_messages messages = in_force no_templates (events_of_messages messages)
+abbrev Before : Type 0
+Before = InForce × ℕ
 
--- under the templates in force after these messages, and with their number
-module _ (messages : List MessageView) (now : InForce) (is : now ≡ after_messages messages) (count : ℕ) (counted : count ≡ length messages) (offset : ℕ) (rest : List ℕ) where
-  abbrev Next : List MessageView → ℕ → List ℕ → Result (MessageView × List ℕ) ReadFault
-  Next earlier = message_next (after_messages earlier) (length earlier)
+abbrev Next : Before → ℕ → List ℕ → Result (MessageView × List ℕ) ReadFault
+Next before = message_next before.0 before.1
 
-  smaller : (earlier : List MessageView) (place : ℕ) (bytes : List ℕ) (m : MessageView) (after : List ℕ) → eqb (length bytes) 0 ≡ false → Next earlier place bytes ≡ Ok (m, after) → length after < length bytes
-  smaller earlier place bytes m after some e = message_smaller (after_messages earlier) (length earlier) place bytes m after e
+abbrev With : Before → MessageView → Before
+With before m = (in_force before.0 (events_of_message m), before.1 + 1)
 
-  there : (read : Result (MessageView × List ℕ) ReadFault) → message_next now count offset rest ≡ read → Next messages offset rest ≡ read
-  there read e = subst (λ (t : InForce). message_next t (length messages) offset rest ≡ read) is (subst (λ (n : ℕ). message_next now n offset rest ≡ read) counted e)
+smaller : (before : Before) (offset : ℕ) (bytes : List ℕ) (m : MessageView) (after : List ℕ) → eqb (length bytes) 0 ≡ false → Next before offset bytes ≡ Ok (m, after) → length after < length bytes
+smaller before offset bytes m after some e = message_smaller before.0 before.1 offset bytes m after e
 
-  some_left : 0 < length rest → eqb (length rest) 0 ≡ false
-  some_left some = grind (arith, nat_tests, common_steps)
+some_left : (bytes : List ℕ) → 0 < length bytes → eqb (length bytes) 0 ≡ false
+some_left bytes some = grind (arith, nat_tests, common_steps)
 
-  pub messages_more : (m : MessageView) (after : List ℕ) (later : ℕ) → message_next now count offset rest ≡ Ok (m, after) → later ≡ offset + (length rest - length after)
-      → messages_from messages offset rest ≡ messages_from (messages ++ m ∷ []) later after
-  messages_more m after later read =
-      at_item (λ bytes. length bytes == 0) Next refl smaller messages offset rest m after later (some_left (omega (arith, message_smaller now count offset rest m after read))) (there _ read)
+pub first_message_and_rest : FirstMessageAndRest
+first_message_and_rest templates count offset bytes after m read =
+    first_and_rest (λ rest. length rest == 0) Next With refl smaller (templates, count) offset bytes m after (some_left bytes (omega (arith, message_smaller templates count offset bytes m after read))) read
 
-  pub messages_fault : (fault : ReadFault) → 0 < length rest → message_next now count offset rest ≡ Err fault → messages_from messages offset rest ≡ Err fault
-  messages_fault fault some read = at_fault (λ bytes. length bytes == 0) Next refl smaller messages offset rest fault (some_left some) (there _ read)
+-- reading has come to these bytes, after some messages of the whole
+module _ (whole : Result (List MessageView) ReadFault) (messages : List MessageView) (now : InForce) (count offset : ℕ) (rest : List ℕ) (so_far : whole ≡ after_items messages (messages_from now count offset rest)) where
+  pub messages_more : (m : MessageView) (after : List ℕ) (new : InForce) (more later : ℕ) → message_next now count offset rest ≡ Ok (m, after) → new ≡ in_force now (events_of_message m)
+      → more ≡ count + 1 → later ≡ offset + (length rest - length after) → whole ≡ after_items (messages ++ m ∷ []) (messages_from new more later after)
+  messages_more m after new more later read is counted e =
+      at_item (λ rest. length rest == 0) Next With refl smaller whole messages (now, count) offset rest so_far m after later (some_left rest (omega (arith, message_smaller now count offset rest m after read))) read e
+      ∙ ap₂ (λ (t : InForce) (n : ℕ). after_items (messages ++ m ∷ []) (messages_from t n later after)) (sym is) (sym counted)
 
-pub messages_end : (messages : List MessageView) (offset : ℕ) (rest : List ℕ) → rest ≡ [] → messages_from messages offset rest ≡ Ok messages
-messages_end messages offset rest none = ap (messages_from messages offset) none
+  pub messages_fault : (fault : ReadFault) → 0 < length rest → message_next now count offset rest ≡ Err fault → whole ≡ Err fault
+  messages_fault fault some read = at_fault (λ rest. length rest == 0) Next With refl smaller whole messages (now, count) offset rest so_far fault (some_left rest some) read
 
-pub first_and_rest : FirstMessageAndRest
-first_and_rest messages offset bytes after m read = messages_more messages _ refl _ refl offset bytes m after _ read refl
+  pub messages_end : rest ≡ [] → whole ≡ Ok messages
+  messages_end none = at_end (λ rest. length rest == 0) Next With refl smaller whole messages (now, count) offset rest so_far (ap (λ (l : List ℕ). length l == 0) none)
 
 -- a reader that failed within a message, or before it
-pub stops_after : (messages : List MessageView) (offset size : ℕ) (taken : List ℕ) (stop : ReadFault) → IsIncomplete (length messages) taken → size ≡ offset + length taken → stop ≡ read_fault offset
-    → StopsAfter size (messages_from messages offset taken) stop
-stops_after messages offset size [] stop incomplete sized is = is ∙ ap read_fault (omega (arith, sized))
-stops_after messages offset size (x ∷ xs) stop (inl short) sized is =
-    rw (messages_fault messages _ refl _ refl offset (x ∷ xs) _ (omega arith) (message_cut _ (length messages) offset (x ∷ xs) _ short)) (inl refl, is)
-stops_after messages offset size (x ∷ xs) stop (inr cut) sized is =
-    rw (messages_fault messages _ refl _ refl offset (x ∷ xs) _ (omega arith) (message_cut _ (length messages) offset (x ∷ xs) _ cut)) (inr refl, is)
+pub stops_after : (whole : Result (List MessageView) ReadFault) (messages : List MessageView) (now : InForce) (count offset size : ℕ) (taken : List ℕ) (stop : ReadFault)
+    → whole ≡ after_items messages (messages_from now count offset taken) → IsIncomplete count taken → size ≡ offset + length taken → stop ≡ read_fault offset → StopsAfter size whole stop
+stops_after whole messages now count offset size [] stop so_far incomplete sized is =
+    rw (messages_end whole messages now count offset [] so_far refl) (is ∙ ap read_fault (omega (arith, sized)))
+stops_after whole messages now count offset size (x ∷ xs) stop so_far (inl short) sized is =
+    rw (messages_fault whole messages now count offset (x ∷ xs) so_far _ (omega arith) (message_cut now count offset (x ∷ xs) _ short)) (inl refl, is)
+stops_after whole messages now count offset size (x ∷ xs) stop so_far (inr cut) sized is =
+    rw (messages_fault whole messages now count offset (x ∷ xs) so_far _ (omega arith) (message_cut now count offset (x ∷ xs) _ cut)) (inr refl, is)

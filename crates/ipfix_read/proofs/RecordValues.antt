@@ -1,5 +1,5 @@
 -- The values at the start of bytes, and the bytes that they take.
-use Rattle.std.proofs.Common.{◌≡◌, ℕ, ◌+◌, ◌-◌, ◌<◌, ◌≤◌, Bool, true, false, cond, ltb, eqb, List, [], ◌∷◌, ◌++◌, length, take, drop, Option, Some, None, Result, Ok, Err, inl, inr, refl, sym, ap, subst, ◌∙◌, append_assoc, length-append, length-drop, drop-drop, arith, zero, suc, ◌*◌, ◌/◌, All, map}
+use Rattle.std.proofs.Common.{◌≡◌, ℕ, ◌+◌, ◌-◌, ◌<◌, ◌≤◌, Bool, true, false, cond, ltb, eqb, List, [], ◌∷◌, ◌++◌, length, take, drop, Option, Some, None, Ok, Err, inl, inr, refl, sym, ap, subst, ◌∙◌, append_assoc, length-append, length-drop, drop-drop, arith, zero, suc, ◌*◌, ◌/◌, All, map}
 use Rattle.std.specs.Prelude.{ok_or, option_and_then, option_map, ◌||◌}
 use Rattle.std.proofs.lemmas.Bool.{cases_lt, le-ltb}
 use Rattle.std.proofs.lemmas.Bool.Decides.{nat_tests}
@@ -8,10 +8,10 @@ use Rattle.byteorder.specs.Endian.{big_number}
 use Rattle.ipfix_templates.specs.declared.field.Field.{Field}
 use Rattle.ipfix_templates.specs.Field.{is_variable, least_length}
 use Rattle.ipfix_templates.specs.Runs.{runs_behind, last_run_behind}
-use Rattle.ipfix_templates.specs.Reading.{items_from}
+use Rattle.ipfix_templates.specs.Reading.{after_items}
 use Rattle.ipfix_read.specs.Value.{FieldValueView, bytes_at, variable_at, value_at, values_at, whole_values}
 use Rattle.ipfix_templates.proofs.Choice.{gave, some_is, mapped}
-use Rattle.ipfix_templates.proofs.Reading.{at_end, at_fault, at_item}
+use Rattle.ipfix_templates.proofs.Reading.{at_end, at_fault, at_item, no_items}
 use Rattle.std.proofs.lemmas.List.Sums.{sum_by-cons}
 use Rattle.ipfix_templates.specs.declared.template.Template.{Template}
 use Rattle.ipfix_read.specs.declared.fault.ReadFault.{ReadFault}
@@ -161,9 +161,9 @@ nothing_ends least = grind (arith, nat_tests, common_steps)
 some_bytes : (least many : ℕ) → (eqb least 0 || ltb many least) ≡ false → 0 < least
 some_bytes least many e = grind (arith, nat_tests, common_steps)
 
-record_smaller : (t : Template) (records : List Record) (offset : ℕ) (bytes : List ℕ) (r : Record) (after : List ℕ) → is_padding t bytes ≡ false → record_next t offset bytes ≡ Ok (r, after)
+record_smaller : (t : Template) (before : Unit {0}) (offset : ℕ) (bytes : List ℕ) (r : Record) (after : List ℕ) → is_padding t bytes ≡ false → record_next t offset bytes ≡ Ok (r, after)
     → length after < length bytes
-record_smaller t records offset bytes r after more e =
+record_smaller t before offset bytes r after more e =
     let some = some_bytes (least_length t.fields) (length bytes) more in
     elim (values_at t.fields bytes) as (λ o. values_at t.fields bytes ≡ o
     → ok_or {T = Record × List ℕ} {E = ReadFault} (option_map (λ v. (record { kind = t.kind; fields = v.0 }, v.1)) o) (record { kind = BadRecord; offset = offset }) ≡ Ok (r, after)
@@ -171,9 +171,6 @@ record_smaller t records offset bytes r after more e =
       | None ↦ λ is wrong. absurd (cc)
       | Some x ↦ λ is read. let shorter = values_shorter t.fields bytes x is in grind arith
     ] refl e
-
-abbrev pub records_from : Template → List Record → ℕ → List ℕ → Result (List Record) ReadFault
-records_from t = items_from (is_padding t) (λ records. record_next t)
 
 -- ---- records that are stored as their bytes, their fields and their number
 
@@ -219,7 +216,7 @@ pub record HasRead (t : Template) (offset : ℕ) (bytes : List ℕ) (count : ℕ
   pub within : count + length rest ≤ length bytes
   pub counted : length (whole_records t.kind t.fields count bytes) ≡ count
   pub more : (n : ℕ) → whole_records t.kind t.fields (count + n) bytes ≡ whole_records t.kind t.fields count bytes ++ whole_records t.kind t.fields n rest
-  pub read : data_set_reading t offset bytes ≡ records_from t (whole_records t.kind t.fields count bytes) (offset + (length bytes - length rest)) rest
+  pub read : data_set_reading t offset bytes ≡ after_items (whole_records t.kind t.fields count bytes) (data_set_reading t (offset + (length bytes - length rest)) rest)
 
 module _ (t : Template) (offset : ℕ) (bytes : List ℕ) where
   abbrev Whole : ℕ → List ℕ → List Record
@@ -236,7 +233,7 @@ module _ (t : Template) (offset : ℕ) (bytes : List ℕ) where
         within = omega arith;
         counted = ap length none;
         more = λ n. let same : 0 + n ≡ n = omega arith in ap (λ (k : ℕ). Whole k bytes) same ∙ ap (λ (rs : List Record). rs ++ Whole n bytes) (sym none);
-        read = λ i. records_from t (sym none i) (sym start i) bytes;
+        read = no_items _ ∙ (λ i. after_items (sym none i) (data_set_reading t (sym start i) bytes));
       }
 
   pub one_read : (count later : ℕ) (rest : List ℕ) (x : List FieldValueView × List ℕ) → Read count rest → HasRoom t rest → values_at t.fields rest ≡ Some x → later ≡ count + 1
@@ -256,17 +253,17 @@ module _ (t : Template) (offset : ℕ) (bytes : List ℕ) where
             let same : later + n ≡ count + suc n = omega (arith, next) in
             ap (λ (k : ℕ). Whole k bytes) same ∙ so_far.more (suc n) ∙ ap (λ (rs : List Record). before ++ rs) (first n)
             ∙ sym (append_assoc before (r ∷ []) (Whole n x.1)) ∙ ap (λ (rs : List Record). rs ++ Whole n x.1) (sym all);
-        read = so_far.read
-            ∙ at_item (is_padding t) (λ records. record_next t) (nothing_ends (least_length t.fields)) (record_smaller t) before _ rest r x.1 (offset + (length bytes - length x.1))
+        read =
+            at_item (is_padding t) (λ _. record_next t) (λ _ _. tt) (nothing_ends (least_length t.fields)) (record_smaller t) _ before (tt {0}) _ rest so_far.read r x.1 (offset + (length bytes - length x.1))
             (goes (least_length t.fields) (length rest) room.0 room.1) (rw here refl) (omega (arith, so_far.within, shorter))
-            ∙ ap (λ (rs : List Record). records_from t rs (offset + (length bytes - length x.1)) x.1) (sym all);
+            ∙ ap (λ (rs : List Record). after_items rs (data_set_reading t (offset + (length bytes - length x.1)) x.1)) (sym all);
       }
 
   -- the records before the padding are all
   pub packed : (count : ℕ) (rest : List ℕ) → Read count rest → is_padding t rest ≡ true → ArePacked t offset bytes count
   packed count rest so_far end = (
     so_far.counted,
-    so_far.read ∙ at_end (is_padding t) (λ records. record_next t) (nothing_ends (least_length t.fields)) (record_smaller t) (Whole count bytes) _ rest end,
+    at_end (is_padding t) (λ _. record_next t) (λ _ _. tt) (nothing_ends (least_length t.fields)) (record_smaller t) _ (Whole count bytes) (tt {0}) _ rest so_far.read end,
   )
 
   -- a record that extends beyond the end
@@ -274,8 +271,7 @@ module _ (t : Template) (offset : ℕ) (bytes : List ℕ) where
       → data_set_reading t offset bytes ≡ Err (record { kind = BadRecord; offset = offset + (length bytes - length rest) })
   cut_off count rest so_far room none =
       let gone : record_at t rest ≡ None = ap (option_map (λ v. (record { kind = t.kind; fields = v.0 }, v.1))) none in
-      so_far.read
-      ∙ at_fault (is_padding t) (λ records. record_next t) (nothing_ends (least_length t.fields)) (record_smaller t) (Whole count bytes) _ rest _
+      at_fault (is_padding t) (λ _. record_next t) (λ _ _. tt) (nothing_ends (least_length t.fields)) (record_smaller t) _ (Whole count bytes) (tt {0}) _ rest so_far.read _
       (goes (least_length t.fields) (length rest) room.0 room.1) (rw gone refl)
 
 -- ---- without variable fields

@@ -1,5 +1,5 @@
 -- The content of a set, and consecutive sets.
-use Rattle.std.proofs.Common.{◌≡◌, ℕ, ◌+◌, ◌<◌, List, [], ◌∷◌, ◌++◌, length, get_or, take, sym, ap, ◌∙◌, ◌-◌, ◌≤◌, true, false, eqb, drop, refl, subst, inl, inr, arith, length-drop, Result, Ok, Err}
+use Rattle.std.proofs.Common.{◌≡◌, ℕ, ◌+◌, ◌<◌, List, [], ◌∷◌, ◌++◌, length, get_or, take, sym, ap, ◌∙◌, ◌-◌, ◌≤◌, true, false, eqb, drop, refl, inl, inr, arith, length-drop, Result, Ok, Err}
 use Rattle.std.specs.Prelude.{◌==◌, flat_map}
 use Rattle.std.specs.Result.{result_map_both}
 use Rattle.std.proofs.lemmas.Bool.{le-ltb}
@@ -8,12 +8,12 @@ use Rattle.std.proofs.lemmas.Grind.{common_steps}
 use Rattle.std.proofs.lemmas.List.{flat_map_more, map_push, take_more, take_all, get_or-take, get_or-drop}
 use Rattle.std.proofs.lemmas.List.Sums.{fold-append, sum_by-append, sum_by-cons}
 use Rattle.byteorder.specs.Endian.{big_number}
-use Rattle.ipfix_templates.specs.Reading.{IsFault, items_from}
+use Rattle.ipfix_templates.specs.Reading.{IsFault, after_items}
 use Rattle.ipfix_templates.specs.declared.event.TemplateEvent.{TemplateEvent}
 use Rattle.ipfix_templates.specs.InForce.{InForce, after_event, in_force}
 use Rattle.ipfix_templates.proofs.Reading.{at_end, at_fault, at_item}
 use Rattle.ipfix_read.specs.Fault.{is_of_calls, out_of_memory}
-use Rattle.ipfix_read.specs.Set.{Set, in_domain, events_of_sets, content_reading, written_length, set_next}
+use Rattle.ipfix_read.specs.Set.{Set, in_domain, events_of_set, content_reading, sets_reading, written_length, set_next}
 use Rattle.ipfix_read.specs.Message.{ReadFault, set_size, message_size}
 
 -- the templates in force after more events, and after those of one more item
@@ -87,29 +87,28 @@ set_smaller templates domain offset bytes set after e = let rest = length-drop (
 
 -- ---- several sets
 
-abbrev pub sets_from : InForce → ℕ → List Set → ℕ → List ℕ → Result (List Set) ReadFault
-sets_from templates domain = items_from (λ rest. length rest == 0) (λ sets. set_next (in_force templates (events_of_sets domain sets)) domain)
+-- reading has come to these bytes, after some sets of the whole
+module _ (domain : ℕ) (whole : Result (List Set) ReadFault) (sets : List Set) (now : InForce) (offset : ℕ) (rest : List ℕ) (so_far : whole ≡ after_items sets (sets_reading now domain offset rest)) where
+  abbrev Next : InForce → ℕ → List ℕ → Result (Set × List ℕ) ReadFault
+  Next before = set_next before domain
 
--- under the templates in force after these sets
-module _ (templates : InForce) (domain : ℕ) (sets : List Set) (now : InForce) (is : now ≡ in_force templates (events_of_sets domain sets)) (offset : ℕ) (rest : List ℕ) where
-  abbrev Next : List Set → ℕ → List ℕ → Result (Set × List ℕ) ReadFault
-  Next earlier = set_next (in_force templates (events_of_sets domain earlier)) domain
+  abbrev With : InForce → Set → InForce
+  With before set = in_force before (events_of_set domain set)
 
-  smaller : (earlier : List Set) (place : ℕ) (bytes : List ℕ) (set : Set) (after : List ℕ) → eqb (length bytes) 0 ≡ false → Next earlier place bytes ≡ Ok (set, after) → length after < length bytes
-  smaller earlier place bytes set after some e = set_smaller (in_force templates (events_of_sets domain earlier)) domain place bytes set after e
+  smaller : (before : InForce) (place : ℕ) (bytes : List ℕ) (set : Set) (after : List ℕ) → eqb (length bytes) 0 ≡ false → Next before place bytes ≡ Ok (set, after) → length after < length bytes
+  smaller before place bytes set after some e = set_smaller before domain place bytes set after e
 
-  there : (read : Result (Set × List ℕ) ReadFault) → set_next now domain offset rest ≡ read → Next sets offset rest ≡ read
-  there read = subst (λ (t : InForce). set_next t domain offset rest ≡ read) is
+  pub sets_more : (set : Set) (after : List ℕ) (later : ℕ) (new : InForce) → eqb (length rest) 0 ≡ false → set_next now domain offset rest ≡ Ok (set, after) → later ≡ offset + (length rest - length after)
+      → new ≡ in_force now (events_of_set domain set) → whole ≡ after_items (sets ++ set ∷ []) (sets_reading new domain later after)
+  sets_more set after later new some read e is =
+      at_item (λ rest. length rest == 0) Next With refl smaller whole sets now offset rest so_far set after later some read e
+      ∙ ap (λ (t : InForce). after_items (sets ++ set ∷ []) (sets_reading t domain later after)) (sym is)
 
-  pub sets_more : (set : Set) (after : List ℕ) (later : ℕ) → eqb (length rest) 0 ≡ false → set_next now domain offset rest ≡ Ok (set, after) → later ≡ offset + (length rest - length after)
-      → sets_from templates domain sets offset rest ≡ sets_from templates domain (sets ++ set ∷ []) later after
-  sets_more set after later some read = at_item (λ rest. length rest == 0) Next refl smaller sets offset rest set after later some (there _ read)
+  pub sets_fault : (fault : ReadFault) → eqb (length rest) 0 ≡ false → set_next now domain offset rest ≡ Err fault → whole ≡ Err fault
+  sets_fault = at_fault (λ rest. length rest == 0) Next With refl smaller whole sets now offset rest so_far
 
-  pub sets_fault : (fault : ReadFault) → eqb (length rest) 0 ≡ false → set_next now domain offset rest ≡ Err fault → sets_from templates domain sets offset rest ≡ Err fault
-  sets_fault fault some read = at_fault (λ rest. length rest == 0) Next refl smaller sets offset rest fault some (there _ read)
-
-  pub sets_end : eqb (length rest) 0 ≡ true → sets_from templates domain sets offset rest ≡ Ok sets
-  sets_end = at_end (λ rest. length rest == 0) Next refl smaller sets offset rest
+  pub sets_end : eqb (length rest) 0 ≡ true → whole ≡ Ok sets
+  sets_end = at_end (λ rest. length rest == 0) Next With refl smaller whole sets now offset rest so_far
 
 pub message_size_push : (sets : List Set) (set : Set) → message_size (sets ++ set ∷ []) ≡ message_size sets + set_size set
 message_size_push sets set = omega (arith, sum_by-append set_size sets (set ∷ []), sum_by-cons set_size set [])

@@ -2,9 +2,9 @@ use Rattle.std.specs.Prelude.{◌≡◌, ℕ, ◌+◌, ◌<◌, List, [], ◌++�
 use Rattle.std.specs.List.{flat_map}
 use Rattle.flow_io.specs.Devices.{InputView, MayFollow, ReadsInput, Gives, has_ended}
 use Rattle.ipfix_templates.specs.declared.event.TemplateEvent.{TemplateEvent}
-use Rattle.ipfix_templates.specs.Reading.{items_from}
+use Rattle.ipfix_templates.specs.Reading.{after_items, items_from}
 use Rattle.ipfix_templates.specs.declared.table.TemplateTable.{TemplateTable}
-use Rattle.ipfix_templates.specs.InForce.{in_force, no_templates, template_at}
+use Rattle.ipfix_templates.specs.InForce.{InForce, in_force, no_templates, template_at}
 use Rattle.ipfix_read.specs.Message.{ReadFault, MessageView, header_fault, message_next, events_of_message, ReadFaultKind}
 use Rattle.ipfix_read.specs.declared.fault.ReadFaultKind.TheVariants.{ReadFault as Unread}
 use Rattle.ipfix_read.specs.declared.progress.State.{State}
@@ -17,14 +17,16 @@ use Rattle.ipfix_read.specs.Fault.{out_of_memory, read_fault, is_of_calls, is_of
 abbrev pub events_of_messages : List MessageView → List (ℕ × TemplateEvent)
 events_of_messages messages = flat_map events_of_message messages
 
--- these messages and all that follow them, in the remaining bytes, which begin at this offset; or the first fault
-abbrev pub messages_from : List MessageView → ℕ → List ℕ → Result (List MessageView) ReadFault
-messages_from messages offset bytes =
-    items_from (λ rest. length rest == 0) (λ earlier. message_next (in_force no_templates (events_of_messages earlier)) (length earlier)) messages offset bytes
+-- The messages in bytes that begin at this offset, or the first fault; before them are `count` messages, after which these
+-- templates are in force.
+abbrev pub messages_from : InForce → ℕ → ℕ → List ℕ → Result (List MessageView) ReadFault
+messages_from templates count offset bytes =
+    items_from {S = InForce × ℕ} (λ rest. length rest == 0) (λ before. message_next before.0 before.1)
+    (λ before m. (in_force before.0 (events_of_message m), before.1 + 1)) (templates, count) offset bytes
 
 -- the messages of a File, or its first fault
 abbrev pub file_reading : List ℕ → Result (List MessageView) ReadFault
-file_reading bytes = messages_from [] 0 bytes
+file_reading bytes = messages_from no_templates 0 0 bytes
 
 -- the bytes are the beginning of a message that isn't complete, and have no fault so far: if they ended here, the
 -- message would be truncated
@@ -38,8 +40,12 @@ abbrev pub StopsAfter : ℕ → Result (List MessageView) ReadFault → ReadFaul
 StopsAfter size (Ok messages) stop = stop ≡ read_fault size
 StopsAfter size (Err fault) stop = ((fault.kind ≡ TruncatedHeader) ⊎ (fault.kind ≡ TruncatedMessage)) × (stop ≡ read_fault fault.offset)
 
+-- this is so of bytes that are read on, and of those of a whole File
+abbrev pub StopsFrom : InForce → ℕ → ℕ → List ℕ → ReadFault → Type 0
+StopsFrom templates count offset bytes stop = StopsAfter (offset + length bytes) (messages_from templates count offset bytes) stop
+
 abbrev pub StopsReading : List ℕ → ReadFault → Type 0
-StopsReading bytes stop = StopsAfter (length bytes) (file_reading bytes) stop
+StopsReading bytes stop = StopsFrom no_templates 0 0 bytes stop
 
 -- The messages of a File, one call after another.
 
@@ -51,9 +57,13 @@ pub record ProgressView : Type 0 where
   pub count : ℕ
   pub state : State
 
+-- messages may follow, under these templates in force, after this number of messages and at this offset
+abbrev pub IsAt : InForce → ℕ → ℕ → ProgressView → Type 0
+IsAt templates count offset p = (template_at p.table ≡ templates) × (p.count ≡ count) × (p.offset ≡ offset) × (p.state ≡ Going)
+
 -- at the beginning of a File
 abbrev pub IsAtStart : ProgressView → Type 0
-IsAtStart p = (template_at p.table ≡ no_templates) × (p.offset ≡ 0) × (p.count ≡ 0) × (p.state ≡ Going)
+IsAtStart p = IsAt no_templates 0 0 p
 
 -- The result of a call in the state Going, and the state after the call, by the bytes that the call took, and whether it
 -- found the end of the input. A message consists of the taken bytes, whatever bytes follow them. There is no message if
@@ -86,22 +96,24 @@ Gathers count (Err kind) ended taken =
     ((kind ≡ Unread) × IsIncomplete count taken)
     ⊎ ((is_of_calls kind ≡ false) × (0 < length taken) × ((rest : List ℕ) → MayFollow ended rest → header_fault count (taken ++ rest) ≡ Some kind))
 
--- The bytes that a reader has returned since `start` are these messages. The state between two calls is the one after
--- these messages.
-pub record IsReadTo (start : InputView) (messages : List MessageView) (p : ProgressView) (now : InputView) : Type 0 where
-  pub taken : List ℕ
-  pub consumed : Gives start now taken
-  pub read : (rest : List ℕ) → file_reading (taken ++ rest) ≡ messages_from messages p.offset rest
-  pub table : template_at p.table ≡ in_force no_templates (events_of_messages messages)
-  pub counted : p.count ≡ length messages
-  pub placed : p.offset ≡ length taken
+-- The calls of reading that began under these templates in force, after this number of messages and at this offset.
+module _ (templates : InForce) (count offset : ℕ) where
+  -- The bytes that a reader has returned since `start` are these messages. The state between two calls is the one after
+  -- these messages.
+  pub record IsReadTo (start : InputView) (messages : List MessageView) (p : ProgressView) (now : InputView) : Type 0 where
+    pub taken : List ℕ
+    pub consumed : Gives start now taken
+    pub read : (rest : List ℕ) → messages_from templates count offset (taken ++ rest) ≡ after_items messages (messages_from (template_at p.table) p.count p.offset rest)
+    pub table : template_at p.table ≡ in_force templates (events_of_messages messages)
+    pub counted : p.count ≡ count + length messages
+    pub placed : p.offset ≡ offset + length taken
 
--- The meaning of a result for the bytes of the File: their messages begin with those so far and one more; the end was
--- found, and the bytes returned are the messages so far; or the fault is their first one, whatever bytes may follow, unless
--- it is that of a failed allocation, or of a reader that failed before a fault.
-abbrev pub JoinsFile : InputView → List MessageView → Result (Option MessageView) ReadFault → ProgressView → InputView → Type 0
-JoinsFile start messages (Ok (Some m)) new now = IsReadTo start (messages ++ m ∷ []) new now
-JoinsFile start messages (Ok None) new now = ReadsInput start now (λ bytes. (has_ended now ≡ true) × (file_reading bytes ≡ Ok messages))
-JoinsFile start messages (Err fault) new now = ReadsInput start now (λ bytes. (fault ≡ out_of_memory)
-    ⊎ (StopsReading bytes fault
-    ⊎ ((is_of_calls fault.kind ≡ false) × ((rest : List ℕ) → MayFollow (has_ended now) rest → file_reading (bytes ++ rest) ≡ Err fault))))
+  -- The meaning of a result for the bytes: their messages begin with those so far and one more; the end was found, and the
+  -- bytes returned are the messages so far; or the fault is their first one, whatever bytes may follow, unless it is that of
+  -- a failed allocation, or of a reader that failed before a fault.
+  abbrev pub JoinsFile : InputView → List MessageView → Result (Option MessageView) ReadFault → ProgressView → InputView → Type 0
+  JoinsFile start messages (Ok (Some m)) new now = IsReadTo start (messages ++ m ∷ []) new now
+  JoinsFile start messages (Ok None) new now = ReadsInput start now (λ bytes. (has_ended now ≡ true) × (messages_from templates count offset bytes ≡ Ok messages))
+  JoinsFile start messages (Err fault) new now = ReadsInput start now (λ bytes. (fault ≡ out_of_memory)
+      ⊎ (StopsFrom templates count offset bytes fault
+      ⊎ ((is_of_calls fault.kind ≡ false) × ((rest : List ℕ) → MayFollow (has_ended now) rest → messages_from templates count offset (bytes ++ rest) ≡ Err fault))))

@@ -1,5 +1,5 @@
 -- The records of a data set (RFC 7011 section 3.4.3).
-use Rattle.std.specs.Prelude.{ℕ, Bool, List, [], length, Option, Result, ok_or, option_map, nat_lt, ◌==◌, ◌||◌}
+use Rattle.std.specs.Prelude.{ℕ, Bool, List, length, Option, Result, ok_or, option_map, nat_lt, ◌==◌, ◌||◌}
 use Rattle.ipfix_templates.specs.Field.{least_length}
 use Rattle.ipfix_templates.specs.Reading.{items_from}
 use Rattle.ipfix_templates.specs.declared.template.Template.{Template}
@@ -22,4 +22,4 @@ record_next t offset bytes = ok_or (record_at t bytes) (record { kind = BadRecor
 
 -- the records of a data set, given the bytes after its header, which begin at this offset; or the first fault
 abbrev pub data_set_reading : Template → ℕ → List ℕ → Result (List Record) ReadFault
-data_set_reading t offset bytes = items_from (is_padding t) (λ records. record_next t) [] offset bytes
+data_set_reading t offset bytes = items_from (is_padding t) (λ _. record_next t) (λ _ _. tt) (tt {0}) offset bytes

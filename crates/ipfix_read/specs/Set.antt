@@ -63,7 +63,7 @@ set_next templates domain offset bytes =
 -- the sets of a message, given the bytes after its header, which begin at this offset; or the first fault
 abbrev pub sets_reading : InForce → ℕ → ℕ → List ℕ → Result (List Set) ReadFault
 sets_reading templates domain offset bytes =
-    items_from (λ rest. length rest == 0) (λ sets. set_next (in_force templates (events_of_sets domain sets)) domain) [] offset bytes
+    items_from (λ rest. length rest == 0) (λ before. set_next before domain) (λ before set. in_force before (events_of_set domain set)) templates offset bytes
 
 -- the result of reading under a table, and the table after it, which the events of an item change
 abbrev pub ReadsUnder : {A : Type 0} → TemplateTable → TemplateTable → (A → List (ℕ × TemplateEvent)) → Result A ReadFault → Result A ReadFault → Type 0

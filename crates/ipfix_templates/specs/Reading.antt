@@ -12,21 +12,25 @@ pub use Rattle.ipfix_templates.specs.declared.fault.TemplateFaultKind.{TemplateF
 abbrev pub out_of_memory : TemplateFault
 out_of_memory = record { kind = NoMemory; offset = 0 }
 
--- Reading one item after another. `next` takes the items so far, and the remaining bytes with their offset. It reads the
--- item at the start of the bytes, and gives it with the bytes after it, or gives a fault. The items end at bytes that pass
--- the test `ends`.
-module _ {A F : Type 0} (ends : List ℕ → Bool) (next : List A → ℕ → List ℕ → Result (A × List ℕ) F) where
-  -- these items and at most `most` more, or the first fault
-  abbrev pub items_by : ℕ → List A → ℕ → List ℕ → Result (List A) F
-  items_by zero items offset bytes = Ok items
-  items_by (suc most) items offset bytes =
-      if ends bytes then Ok items
-      else result_flatten (result_map_both (λ x. items_by most (items ++ x.0 ∷ []) (offset + (length bytes - length x.1)) x.1) (λ fault. fault) (next items offset bytes))
+-- these items and then those of a reading, unless it is a fault
+abbrev pub after_items : {A F : Type 0} → List A → Result (List A) F → Result (List A) F
+after_items items reading = result_map_both (λ later. items ++ later) (λ fault. fault) reading
 
-  -- these items and all that follow them, or the first fault; an item has at least one byte, so there are at most as
-  -- many as bytes
-  abbrev pub items_from : List A → ℕ → List ℕ → Result (List A) F
-  items_from items offset bytes = items_by (length bytes) items offset bytes
+-- Reading one item after another. `next` takes what came before, and the remaining bytes with their offset. It reads the
+-- item at the start of the bytes, and gives it with the bytes after it, or gives a fault. `with_one` adds
+-- the item to what came before. The items end at bytes that pass the test `ends`.
+module _ {S A F : Type 0} (ends : List ℕ → Bool) (next : S → ℕ → List ℕ → Result (A × List ℕ) F) (with_one : S → A → S) where
+  -- at most `most` items, or the first fault
+  abbrev pub items_by : ℕ → S → ℕ → List ℕ → Result (List A) F
+  items_by zero before offset bytes = Ok []
+  items_by (suc most) before offset bytes =
+      if ends bytes then Ok []
+      else result_flatten (result_map_both
+      (λ x. after_items (x.0 ∷ []) (items_by most (with_one before x.0) (offset + (length bytes - length x.1)) x.1)) (λ fault. fault) (next before offset bytes))
+
+  -- all items, or the first fault; an item has at least one byte, so there are at most as many as bytes
+  abbrev pub items_from : S → ℕ → List ℕ → Result (List A) F
+  items_from before offset bytes = items_by (length bytes) before offset bytes
 
 -- a fault of reading: an allocation failed, or the bytes have this fault
 abbrev pub IsFault : {A F : Type 0} → F → Result A F → F → Type 0
@@ -81,4 +85,4 @@ template_next kind offset bytes = result_map_both (λ read. read) (λ fault. rec
 -- the records of a template set, given the bytes after its header, or the first fault; fewer bytes than a record has are
 -- padding
 abbrev pub template_set_reading : Kind → List ℕ → Result (List TemplateEvent) TemplateFault
-template_set_reading kind bytes = items_from (λ rest. nat_lt (length rest) 4) (λ events. template_next kind) [] 0 bytes
+template_set_reading kind bytes = items_from (λ rest. nat_lt (length rest) 4) (λ _. template_next kind) (λ _ _. tt) (tt {0}) 0 bytes

@@ -1,14 +1,16 @@
 use Rattle.std.proofs.Common.{ℕ, [], ap, sym, ◌∙◌, arith}
 use Rattle.std.proofs.lemmas.Result.{err_from_is_err_and}
 use Rattle.ipfix_templates.specs.InForce.{in_force, template_at}
-use Rattle.ipfix_read.specs.Set.{events_of_set}
-use Rattle.ipfix_read.proofs.Sets.{fault_kept, in_force_more, none_in_force, sets_end, sets_fault, sets_from, sets_more, message_size_push}
+use Rattle.ipfix_templates.specs.Reading.{after_items}
+use Rattle.ipfix_templates.proofs.Reading.{no_items}
+use Rattle.ipfix_read.specs.Set.{events_of_set, sets_reading}
+use Rattle.ipfix_read.proofs.Sets.{fault_kept, in_force_more, none_in_force, sets_end, sets_fault, sets_more, message_size_push}
 use Rattle.ipfix_read.proofs.set.read_sets.Goals as goal
 
 pub loop-rest-init : goal.loop-rest-init
 loop-rest-init c = rw c.new-sets.ensures (record {
   within = omega arith;
-  read = ap (λ (n : ℕ). sets_from (template_at c.args.table.now) c.args.domain [] n c.args.bytes.now) (omega arith);
+  read = no_items _ ∙ ap (λ (n : ℕ). after_items [] (sets_reading (template_at c.args.table.now) c.args.domain n c.args.bytes.now)) (omega arith);
   table = sym (none_in_force (template_at c.args.table.now));
 })
 
@@ -16,7 +18,7 @@ pub returns-in_err-set-clause-read : goal.returns-in_err-set-clause-read
 returns-in_err-set-clause-read c =
     let p = err_from_is_err_and c.from_residual.result c.from_residual.ensures.1 in
     rw (p.1, p.2) (fault_kept _ _ c.in_err-set.field-0.0 (λ found.
-    c.loop-rest.invariant.read ∙ sets_fault (template_at c.args.table.now) c.args.domain c.loop-rest.sets _ c.loop-rest.invariant.table _ c.loop-rest.rest.now _ (sym c.loop-rest-test.ensures) found)
+    sets_fault c.args.domain _ c.loop-rest.sets _ _ c.loop-rest.rest.now c.loop-rest.invariant.read _ (sym c.loop-rest-test.ensures) found)
     c.in_err-set.ensures.read)
 
 pub loop-rest-preserved : goal.loop-rest-preserved
@@ -24,13 +26,12 @@ loop-rest-preserved c =
     let is = c.in_ok-set.ensures.read in
     rw c.in_ok-push.ensures.ok (record {
       within = omega (arith, message_size_push c.loop-rest.sets c.in_ok-set.set, c.in_ok-set.ensures.size, c.loop-rest.invariant.within);
-      read = c.loop-rest.invariant.read
-          ∙ sets_more (template_at c.args.table.now) c.args.domain c.loop-rest.sets _ c.loop-rest.invariant.table _ c.loop-rest.rest.now c.in_ok-set.set c.in_ok-set.after.now _ (sym c.loop-rest-test.ensures) is.0
-          (omega (arith, c.in_ok-set.ensures.size, c.loop-rest.invariant.within));
+      read = sets_more c.args.domain _ c.loop-rest.sets _ _ c.loop-rest.rest.now c.loop-rest.invariant.read c.in_ok-set.set c.in_ok-set.after.now _ _ (sym c.loop-rest-test.ensures) is.0
+          (omega (arith, c.in_ok-set.ensures.size, c.loop-rest.invariant.within)) is.1;
       table = is.1 ∙ ap (λ templates. in_force templates (events_of_set c.args.domain c.in_ok-set.set)) c.loop-rest.invariant.table
           ∙ in_force_more (events_of_set c.args.domain) (template_at c.args.table.now) c.loop-rest.sets c.in_ok-set.set;
     })
 
 pub returns-clause-read : goal.returns-clause-read
 returns-clause-read c =
-    (c.loop-rest.invariant.read ∙ sets_end (template_at c.args.table.now) c.args.domain c.loop-rest.sets _ c.loop-rest.invariant.table _ c.loop-rest.rest.now (sym c.loop-rest-test.ensures), c.loop-rest.invariant.table)
+    (sets_end c.args.domain _ c.loop-rest.sets _ _ c.loop-rest.rest.now c.loop-rest.invariant.read (sym c.loop-rest-test.ensures), c.loop-rest.invariant.table)

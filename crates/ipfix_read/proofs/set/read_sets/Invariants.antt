@@ -2,14 +2,14 @@ use Rattle.std.proofs.Common.{◌≡◌, ◌+◌, ◌-◌, ◌≤◌, length}
 use Rattle.ipfix_templates.specs.InForce.{in_force, template_at}
 use Rattle.ipfix_read.specs.Set.{events_of_sets, sets_reading}
 use Rattle.ipfix_read.specs.Message.{message_size}
-use Rattle.ipfix_read.proofs.Sets.{sets_from}
+use Rattle.ipfix_templates.specs.Reading.{after_items}
 use Rattle.ipfix_read.proofs.set.read_sets.Given as goal
 
 abbrev pub invariant-loop-rest : goal.invariant-loop-rest
 invariant-loop-rest l = record {
   within : message_size l.sets + length l.rest ≤ length l.bytes;
   read : sets_reading (template_at l.initial.table) l.domain l.base l.bytes
-      ≡ sets_from (template_at l.initial.table) l.domain l.sets (l.base + (length l.bytes - length l.rest)) l.rest;
+      ≡ after_items l.sets (sets_reading (template_at l.table) l.domain (l.base + (length l.bytes - length l.rest)) l.rest);
   table : template_at l.table ≡ in_force (template_at l.initial.table) (events_of_sets l.domain l.sets);
 }
 

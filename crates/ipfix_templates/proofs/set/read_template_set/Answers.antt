@@ -1,10 +1,12 @@
 use Rattle.std.proofs.Common.{ℕ, ◌-◌, [], length, ap, arith, ◌∙◌}
 use Rattle.std.proofs.lemmas.List.{length_push}
+use Rattle.ipfix_templates.specs.Reading.{after_items}
+use Rattle.ipfix_templates.proofs.Reading.{no_items}
 use Rattle.ipfix_templates.proofs.Records.{event_more, events_end, events_from, record_shorter}
 use Rattle.ipfix_templates.proofs.set.read_template_set.Goals as goal
 
 pub loop-rest-init : goal.loop-rest-init
-loop-rest-init c = rw c.new-events.ensures (record { fits = omega arith; read = ap (λ (n : ℕ). events_from c.args.kind [] n c.args.bytes.now) (omega arith) })
+loop-rest-init c = rw c.new-events.ensures (record { fits = omega arith; read = no_items _ ∙ ap (λ (n : ℕ). after_items [] (events_from c.args.kind n c.args.bytes.now)) (omega arith) })
 
 pub loop-rest-smaller : goal.loop-rest-smaller
 loop-rest-smaller c = omega (arith, record_shorter c.args.kind c.loop-rest.rest.now (c.in-Ok.read.0, c.in-Ok.read.1.now) c.loop-rest-test.true c.in-Ok.ensures.ok)
@@ -14,10 +16,9 @@ loop-rest-preserved c =
     let less = record_shorter c.args.kind c.loop-rest.rest.now (c.in-Ok.read.0, c.in-Ok.read.1.now) c.loop-rest-test.true c.in-Ok.ensures.ok in
     rw c.in_ok-push.ensures.ok (record {
       fits = omega (arith, less, c.loop-rest.invariant.fits, length_push c.loop-rest.events c.in-Ok.read.0);
-      read = c.loop-rest.invariant.read
-          ∙ event_more c.args.kind c.loop-rest.events (length c.args.bytes.now - length c.loop-rest.rest.now) c.loop-rest.rest.now c.in-Ok.read.0 c.in-Ok.read.1.now _ c.loop-rest-test.true c.in-Ok.ensures.ok
+      read = event_more c.args.kind _ c.loop-rest.events (length c.args.bytes.now - length c.loop-rest.rest.now) c.loop-rest.rest.now c.loop-rest.invariant.read c.in-Ok.read.0 c.in-Ok.read.1.now _ c.loop-rest-test.true c.in-Ok.ensures.ok
           (omega (arith, less, c.loop-rest.invariant.fits));
     })
 
 pub returns-clause-ok : goal.returns-clause-ok
-returns-clause-ok c = c.loop-rest.invariant.read ∙ events_end c.args.kind c.loop-rest.events _ c.loop-rest.rest.now (c.loop-rest-test.false)
+returns-clause-ok c = events_end c.args.kind _ c.loop-rest.events _ c.loop-rest.rest.now c.loop-rest.invariant.read c.loop-rest-test.false
