@@ -37,7 +37,6 @@ abbrev pub template_fault_name : TemplateFaultKind → List ℕ
 template_fault_name template.Truncated = codes "F6 BadTemplate X1"
 template_fault_name template.BadTemplateId = codes "F6 BadTemplate X2"
 template_fault_name template.BadScope = codes "F6 BadTemplate X3"
-template_fault_name template.NoMemory = codes "F6 BadTemplate X4"
 
 abbrev pub flows_fault_name : ReadFaultKind → List ℕ
 flows_fault_name flows.TruncatedHeader = codes "F1 TruncatedHeader"
@@ -92,7 +91,6 @@ is_map_want k = false
 
 abbrev pub is_flows_want : ReadFaultKind → Bool
 is_flows_want flows.NoMemory = true
-is_flows_want (flows.BadTemplate template.NoMemory) = true
 is_flows_want k = false
 
 abbrev pub is_certificate_want : CertFaultKind → Bool

@@ -43,11 +43,7 @@ impl BytesFault {
         match self {
             BytesFault::Map(fault) => fault.kind == MapFaultKind::NoMemory,
             BytesFault::List(fault) => fault.kind == MapFaultKind::NoMemory,
-            BytesFault::Flows(fault) => match fault.kind {
-                ReadFaultKind::NoMemory => true,
-                ReadFaultKind::BadTemplate(kind) => kind == TemplateFaultKind::NoMemory,
-                _ => false,
-            },
+            BytesFault::Flows(fault) => fault.kind == ReadFaultKind::NoMemory,
             BytesFault::Certificate(fault) => fault.kind == CertFaultKind::NoMemory,
             BytesFault::Check(fault) => fault.kind == CheckFaultKind::NoMemory,
         }
@@ -107,7 +103,6 @@ fn template_fault_name(kind: TemplateFaultKind) -> &'static str
         TemplateFaultKind::Truncated => "F6 BadTemplate X1",
         TemplateFaultKind::BadTemplateId => "F6 BadTemplate X2",
         TemplateFaultKind::BadScope => "F6 BadTemplate X3",
-        TemplateFaultKind::NoMemory => "F6 BadTemplate X4",
     }
 }
 

@@ -8,11 +8,11 @@ use Rattle.std.proofs.lemmas.Grind.{common_steps}
 use Rattle.std.proofs.lemmas.List.{flat_map_more, map_push, take_more, take_all, get_or-take, get_or-drop}
 use Rattle.std.proofs.lemmas.List.Sums.{fold-append, sum_by-append, sum_by-cons}
 use Rattle.byteorder.specs.Endian.{big_number}
-use Rattle.ipfix_templates.specs.Reading.{IsFault, after_items}
+use Rattle.ipfix_templates.specs.Reading.{after_items}
 use Rattle.ipfix_templates.specs.declared.event.TemplateEvent.{TemplateEvent}
 use Rattle.ipfix_templates.specs.InForce.{InForce, after_event, in_force}
 use Rattle.ipfix_templates.proofs.Reading.{at_end, at_fault, at_item}
-use Rattle.ipfix_read.specs.Fault.{is_of_calls, out_of_memory}
+use Rattle.ipfix_read.specs.Fault.{Reads}
 use Rattle.ipfix_read.specs.Set.{Set, in_domain, events_of_set, content_reading, sets_reading, written_length, set_next}
 use Rattle.ipfix_read.specs.Message.{ReadFault, set_size, message_size}
 
@@ -39,7 +39,7 @@ one_in_force before domain events i d lt =
 
 -- a fault of a part is one of the whole
 pub fault_kept : {A B : Type 0} (part : Result A ReadFault) (whole : Result B ReadFault) (fault : ReadFault) → (part ≡ Err fault → whole ≡ Err fault)
-    → (is_of_calls fault.kind ≡ false) × IsFault out_of_memory part fault → (is_of_calls fault.kind ≡ false) × IsFault out_of_memory whole fault
+    → Reads part (Err fault) → Reads whole (Err fault)
 fault_kept part whole fault step (calls, inl memory) = (calls, inl memory)
 fault_kept part whole fault step (calls, inr found) = (calls, inr (step found))
 

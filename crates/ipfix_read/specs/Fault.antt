@@ -1,6 +1,5 @@
 -- Faults that don't concern the bytes: an allocation failed, a reader failed, or an earlier call failed.
-use Rattle.std.specs.Prelude.{◌≡◌, ℕ, Bool, true, false, Result, Ok, Err}
-use Rattle.ipfix_templates.specs.Reading.{IsFault}
+use Rattle.std.specs.Prelude.{◌≡◌, ◌⊎◌, ℕ, Bool, true, false, Result, Ok, Err}
 use Rattle.ipfix_read.specs.declared.fault.ReadFault.{ReadFault}
 use Rattle.ipfix_read.specs.declared.fault.ReadFaultKind.{ReadFaultKind}
 pub use Rattle.ipfix_read.specs.declared.fault.ReadFaultKind.TheVariants.{BadMessageLength, BadRecord, BadSetLength, BadTemplate, BadVersion, Failed, NoMemory, TooManyMessages, TruncatedHeader, TruncatedMessage}
@@ -32,4 +31,4 @@ is_of_calls kind = false
 -- The result of reading: what the bytes have, or that an allocation failed. No fault is one of calls.
 abbrev pub Reads : {A : Type 0} → Result A ReadFault → Result A ReadFault → Type 0
 Reads reading (Ok item) = reading ≡ Ok item
-Reads reading (Err fault) = (is_of_calls fault.kind ≡ false) × IsFault out_of_memory reading fault
+Reads reading (Err fault) = (is_of_calls fault.kind ≡ false) × ((fault ≡ out_of_memory) ⊎ (reading ≡ Err fault))

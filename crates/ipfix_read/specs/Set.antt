@@ -5,7 +5,7 @@ use Rattle.std.specs.Option.{option_map_or}
 use Rattle.std.specs.Result.{result_map_both}
 use Rattle.byteorder.specs.Endian.{big_number}
 use Rattle.ipfix_templates.specs.declared.event.TemplateEvent.{TemplateEvent}
-use Rattle.ipfix_templates.specs.declared.fault.TemplateFault.{TemplateFault}
+use Rattle.ipfix_templates.specs.declared.fault.TemplateFaultKind.{TemplateFaultKind}
 use Rattle.ipfix_templates.specs.declared.kind.Kind.{Kind}
 use Rattle.ipfix_templates.specs.declared.kind.Kind.TheVariants.{Flow, Options}
 use Rattle.ipfix_templates.specs.Template.{set_id}
@@ -35,8 +35,8 @@ abbrev pub template_kind : ℕ → Option Kind
 template_kind id = if id == set_id Flow then Some Flow else (if id == set_id Options then Some Options else None)
 
 -- the fault of a template set as a fault of the File; the set's records begin at this offset
-abbrev pub in_file : ℕ → TemplateFault → ReadFault
-in_file base fault = record { kind = BadTemplate fault.kind; offset = base + fault.offset }
+abbrev pub in_file : ℕ → TemplateFaultKind × ℕ → ReadFault
+in_file base fault = record { kind = BadTemplate fault.0; offset = base + fault.1 }
 
 -- The content of a set with this ID, under the templates in force, or the first fault. Its bytes begin at this offset. It
 -- consists of templates, or of records under the template in force. It is skipped if its ID has no meaning or no template

@@ -8,7 +8,7 @@ use crate::fault::{ReadFault, ReadFaultKind};
 use crate::record::{RecordList, read_data_set};
 use byteorder::{BigEndian, ByteOrder};
 use ipfix_templates::{
-    Items, Kind, TemplateEvent, TemplateEvents, TemplateFaultKind, TemplateTable, read_template_set,
+    Items, Kind, TemplateEvent, TemplateEvents, TemplateFault, TemplateTable, read_template_set,
 };
 use std::alloc::{AllocError, Global};
 
@@ -88,9 +88,9 @@ fn read_content<'a>(
     };
     let events = match read_template_set(alloc, bytes, kind) {
         Ok(events) => events,
-        Err(fault) if fault.kind == TemplateFaultKind::NoMemory => return Err(AllocError.into()),
-        Err(fault) => {
-            return Err(ReadFaultKind::BadTemplate(fault.kind).at(base + fault.offset));
+        Err(TemplateFault::NoMemory) => return Err(AllocError.into()),
+        Err(TemplateFault::Malformed(kind, offset)) => {
+            return Err(ReadFaultKind::BadTemplate(kind).at(base + offset));
         }
     };
     apply_events(table, domain, &events)?;

@@ -1,15 +1,14 @@
 -- Reading one item after another, as a loop does.
 use Rattle.std.proofs.Common.{◌≡◌, false, ℕ, suc, ◌+◌, ◌-◌, ◌<◌, ◌≤◌, List, [], ◌∷◌, ◌++◌, length, Option, Some, None, refl, ap, append_assoc, arith, zero, drop, Result, Ok, Err, length-drop}
 use Rattle.std.specs.Prelude.{nat_lt, option_and_then}
-use Rattle.std.specs.Result.{result_map_both}
 use Rattle.ipfix_templates.specs.Template.{Field, Kind, Flow, Options}
-use Rattle.ipfix_templates.specs.Reading.{field_at, fields_at, defined_by, definition_at, template_record_at, template_next, after_items, items_from, TemplateFault, TemplateFaultKind}
+use Rattle.ipfix_templates.specs.Reading.{field_at, fields_at, defined_by, definition_at, template_record_at, template_next, after_items, at_offset, items_from, IsFaultOf, Malformed, NoMemory, TemplateFault, TemplateFaultKind}
 use Rattle.std.proofs.lemmas.Grind.{common_steps}
 use Rattle.std.proofs.lemmas.Bool.{ltb-false, lt-ltb, le-ltb}
 use Rattle.byteorder.specs.Endian.{big_number}
 use Rattle.ipfix_templates.specs.declared.event.TemplateEvent.{TemplateEvent}
 use Rattle.ipfix_templates.proofs.Choice.{gave, some_is, ok_is}
-use Rattle.ipfix_templates.proofs.Reading.{at_end, at_item}
+use Rattle.ipfix_templates.proofs.Reading.{at_end, at_fault, at_item}
 
 -- the fields that were read before, and those that are still to be read
 abbrev pub behind : List Field → Option (List Field × List ℕ) → Option (List Field × List ℕ)
@@ -70,11 +69,10 @@ record_shorter kind bytes x long e =
 
 -- ---- consecutive records
 
-abbrev pub events_from : Kind → ℕ → List ℕ → Result (List TemplateEvent) TemplateFault
+abbrev pub events_from : Kind → ℕ → List ℕ → Result (List TemplateEvent) (TemplateFaultKind × ℕ)
 events_from kind offset bytes = items_from (λ rest. nat_lt (length rest) 4) (λ _. template_next kind) (λ _ _. tt) (tt {0}) offset bytes
 
-record_is : (offset : ℕ) (read : Result (TemplateEvent × List ℕ) TemplateFaultKind) (x : TemplateEvent × List ℕ)
-    → result_map_both {D = TemplateFault} (λ read. read) (λ fault. record { kind = fault; offset = offset }) read ≡ Ok x → read ≡ Ok x
+record_is : (offset : ℕ) (read : Result (TemplateEvent × List ℕ) TemplateFaultKind) (x : TemplateEvent × List ℕ) → at_offset offset read ≡ Ok x → read ≡ Ok x
 record_is offset (Ok y) x e = cc
 record_is offset (Err fault) x e = absurd (cc)
 
@@ -83,11 +81,15 @@ event_smaller : (kind : Kind) (before : Unit {0}) (offset : ℕ) (bytes : List �
 event_smaller kind before offset bytes event after long e =
     omega (arith, record_shorter kind bytes (event, after) (ltb-false (length bytes) 4 long) (record_is offset (template_record_at kind bytes) (event, after) e))
 
-module _ (kind : Kind) (whole : Result (List TemplateEvent) TemplateFault) (events : List TemplateEvent) (offset : ℕ) (rest : List ℕ) (so_far : whole ≡ after_items events (events_from kind offset rest)) where
+module _ (kind : Kind) (whole : Result (List TemplateEvent) (TemplateFaultKind × ℕ)) (events : List TemplateEvent) (offset : ℕ) (rest : List ℕ) (so_far : whole ≡ after_items events (events_from kind offset rest)) where
   pub event_more : (event : TemplateEvent) (after : List ℕ) (later : ℕ) → 4 ≤ length rest → template_record_at kind rest ≡ Ok (event, after) → later ≡ offset + (length rest - length after)
       → whole ≡ after_items (events ++ event ∷ []) (events_from kind later after)
   event_more event after later long read =
       at_item (λ rest. nat_lt (length rest) 4) (λ _. template_next kind) (λ _ _. tt) refl (event_smaller kind) whole events (tt {0}) offset rest so_far event after later (le-ltb (length rest) 4 long) (rw read refl)
+
+  pub event_fault : (fault : TemplateFault) → 4 ≤ length rest → IsFaultOf (template_next kind offset rest) fault → IsFaultOf whole fault
+  event_fault (Malformed fault at) long is = at_fault (λ rest. nat_lt (length rest) 4) (λ _. template_next kind) (λ _ _. tt) refl (event_smaller kind) whole events (tt {0}) offset rest so_far (fault, at) (le-ltb (length rest) 4 long) is
+  event_fault NoMemory long is = tt
 
   pub events_end : length rest < 4 → whole ≡ Ok events
   events_end few = at_end (λ rest. nat_lt (length rest) 4) (λ _. template_next kind) (λ _ _. tt) refl (event_smaller kind) whole events (tt {0}) offset rest so_far (lt-ltb (length rest) 4 few)

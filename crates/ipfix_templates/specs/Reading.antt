@@ -1,16 +1,13 @@
-use Rattle.std.specs.Prelude.{◌≡◌, ◌⊎◌, List, [], ◌∷◌, ◌++◌, ℕ, zero, suc, ◌+◌, ◌-◌, Bool, length, drop, Option, Some, None, Result, Ok, Err, ok_or, option_and_then, option_map, nat_lt, ◌==◌, ◌&&◌, ◌||◌, if◌then◌else◌}
+use Rattle.std.specs.Prelude.{◌≡◌, List, [], ◌∷◌, ◌++◌, ℕ, zero, suc, ◌+◌, ◌-◌, Bool, length, drop, Option, Some, None, Result, Ok, Err, ok_or, option_and_then, option_map, nat_lt, ◌==◌, ◌&&◌, ◌||◌, if◌then◌else◌}
 use Rattle.std.specs.Result.{result_flatten, result_map_both}
 use Rattle.byteorder.specs.Endian.{big_number}
 pub use Rattle.ipfix_templates.specs.declared.fault.TemplateFault.{TemplateFault}
-pub use Rattle.ipfix_templates.specs.declared.fault.TemplateFaultKind.TheVariants.{BadScope, BadTemplateId, NoMemory, Truncated}
+pub use Rattle.ipfix_templates.specs.declared.fault.TemplateFault.TheVariants.{Malformed, NoMemory}
+pub use Rattle.ipfix_templates.specs.declared.fault.TemplateFaultKind.TheVariants.{BadScope, BadTemplateId, Truncated}
 use Rattle.ipfix_templates.specs.Template.{Field, Kind, Flow, Options, set_id}
 use Rattle.ipfix_templates.specs.declared.event.TemplateEvent.{TemplateEvent}
 use Rattle.ipfix_templates.specs.declared.event.TemplateEvent.TheVariants.{Define, Withdraw, WithdrawAll}
 pub use Rattle.ipfix_templates.specs.declared.fault.TemplateFaultKind.{TemplateFaultKind}
-
--- the fault that an allocation failed, which has no position
-abbrev pub out_of_memory : TemplateFault
-out_of_memory = record { kind = NoMemory; offset = 0 }
 
 -- these items and then those of a reading, unless it is a fault
 abbrev pub after_items : {A F : Type 0} → List A → Result (List A) F → Result (List A) F
@@ -31,10 +28,6 @@ module _ {S A F : Type 0} (ends : List ℕ → Bool) (next : S → ℕ → List 
   -- all items, or the first fault; an item has at least one byte, so there are at most as many as bytes
   abbrev pub items_from : S → ℕ → List ℕ → Result (List A) F
   items_from before offset bytes = items_by (length bytes) before offset bytes
-
--- a fault of reading: an allocation failed, or the bytes have this fault
-abbrev pub IsFault : {A F : Type 0} → F → Result A F → F → Type 0
-IsFault memory reading fault = (fault ≡ memory) ⊎ (reading ≡ Err fault)
 
 -- Consecutive template records (RFC 7011 sections 3.2 and 3.4).
 
@@ -78,11 +71,25 @@ template_record_at kind bytes =
     else (if count == 0 then Ok (Withdraw id, drop 4 bytes)
     else definition_at kind id count (drop 4 bytes)))
 
--- the template record at the start of bytes at this offset, and the bytes after it, or its fault
-abbrev pub template_next : Kind → ℕ → List ℕ → Result (TemplateEvent × List ℕ) TemplateFault
-template_next kind offset bytes = result_map_both (λ read. read) (λ fault. record { kind = fault; offset = offset }) (template_record_at kind bytes)
+-- the result of reading the template record at this offset
+abbrev pub at_offset : {A : Type 0} → ℕ → Result A TemplateFaultKind → Result A (TemplateFaultKind × ℕ)
+at_offset offset read = result_map_both (λ item. item) (λ kind. (kind, offset)) read
 
--- the records of a template set, given the bytes after its header, or the first fault; fewer bytes than a record has are
--- padding
-abbrev pub template_set_reading : Kind → List ℕ → Result (List TemplateEvent) TemplateFault
+-- the template record at the start of bytes at this offset, and the bytes after it, or its fault
+abbrev pub template_next : Kind → ℕ → List ℕ → Result (TemplateEvent × List ℕ) (TemplateFaultKind × ℕ)
+template_next kind offset bytes = at_offset offset (template_record_at kind bytes)
+
+-- the records of a template set, given the bytes after its header, or the first fault with its offset; fewer bytes than a
+-- record has are padding
+abbrev pub template_set_reading : Kind → List ℕ → Result (List TemplateEvent) (TemplateFaultKind × ℕ)
 template_set_reading kind bytes = items_from (λ rest. nat_lt (length rest) 4) (λ _. template_next kind) (λ _ _. tt) (tt {0}) 0 bytes
+
+-- the fault is that of the reading, or that an allocation failed
+abbrev pub IsFaultOf : {A : Type 0} → Result A (TemplateFaultKind × ℕ) → TemplateFault → Type 0
+IsFaultOf reading (Malformed kind offset) = reading ≡ Err (kind, offset)
+IsFaultOf reading NoMemory = Unit {0}
+
+-- the offset of a fault, and 0 if an allocation failed
+abbrev pub offset_of : TemplateFault → ℕ
+offset_of (Malformed kind offset) = offset
+offset_of NoMemory = 0

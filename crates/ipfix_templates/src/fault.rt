@@ -1,5 +1,5 @@
 ghost use Rattle.std.specs.Prelude.{◌≡◌};
-ghost use Rattle.ipfix_templates.specs.Reading.{out_of_memory};
+ghost use Rattle.ipfix_templates.specs.Reading.{Malformed, NoMemory};
 
 use std::alloc::AllocError;
 use thiserror::Error;
@@ -13,28 +13,32 @@ pub enum TemplateFaultKind {
     BadTemplateId,
     /// An options template has no scope field, or more scope fields than fields (RFC 7011 section 3.4.2.2).
     BadScope,
+}
+
+impl TemplateFaultKind {
+    /// Returns the fault of this kind of the template record at an offset.
+    pub(crate) fn at(self, offset: u64) -> TemplateFault
+        ensures { result ≡ Malformed self offset }
+    {
+        TemplateFault::Malformed(self, offset)
+    }
+}
+
+/// The reason why a template set could not be read.
+#[derive(Clone, Copy, Debug, PartialEq, Eq, Error)]
+pub enum TemplateFault {
+    /// The first malformed template record: its fault, and its offset in bytes from the end of the set's header.
+    #[error("{0:?} at {1}")]
+    Malformed(TemplateFaultKind, u64),
     /// An allocation failed.
+    #[error("out of memory")]
     NoMemory,
 }
 
-/// The first fault of a template set.
-#[derive(Clone, Copy, Debug, PartialEq, Eq, Error)]
-#[error("{kind:?} at {offset}")]
-pub struct TemplateFault {
-    /// The kind of the fault.
-    pub kind: TemplateFaultKind,
-    /// The offset in bytes of the template record, from the end of the set's header. The offset is 0 if an allocation
-    /// failed.
-    pub offset: u64,
-}
-
 impl From<AllocError> for TemplateFault {
-    ghost from_gives = { λ _ fault. fault ≡ out_of_memory };
+    ghost from_gives = { λ _ fault. fault ≡ NoMemory };
 
     fn from(_error: AllocError) -> TemplateFault {
-        TemplateFault {
-            kind: TemplateFaultKind::NoMemory,
-            offset: 0,
-        }
+        TemplateFault::NoMemory
     }
 }

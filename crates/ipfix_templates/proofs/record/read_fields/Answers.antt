@@ -1,17 +1,17 @@
-use Rattle.std.proofs.Common.{◌≡◌, [], ◌∷◌, ◌++◌, ◌+◌, ◌-◌, rules, arith, inr, refl, sym, ◌∙◌}
+use Rattle.std.proofs.Common.{◌≡◌, [], ◌∷◌, ◌++◌, ◌+◌, ◌-◌, rules, arith, sym, ◌∙◌}
 use Rattle.std.proofs.lemmas.Grind.{common_steps}
 use Rattle.std.proofs.lemmas.List.{append-nil}
 use Rattle.ipfix_templates.specs.Reading.{fields_at}
 use Rattle.ipfix_templates.proofs.Records.{behind, regroup, next_field, no_field, all_fields}
 use Rattle.ipfix_templates.proofs.record.read_fields.Goals as goal
 
-pub returns-in_default-clause-fault : goal.returns-in_default-clause-fault
-returns-in_default-clause-fault c = inr (refl, sym (rw (no_field c.args.count c.loop.counter c.loop.rest.now c.loop-test.true (search rules)) at c.loop.invariant.read))
+pub returns-in_default-clause-read : goal.returns-in_default-clause-read
+returns-in_default-clause-read c = rw (no_field c.args.count c.loop.counter c.loop.rest.now c.loop-test.true (search rules)) at c.loop.invariant.read
 
-pub returns-clause-ok : goal.returns-clause-ok
-returns-clause-ok c =
+pub returns-clause-read : goal.returns-clause-read
+returns-clause-read c =
     let fields : c.in_ok-fields.fields ≡ c.loop.fields.items = search rules in
-    rw fields (sym (rw (all_fields c.args.count c.loop.counter c.loop.rest.now c.loop-test.false, append-nil c.loop.fields.items) at c.loop.invariant.read))
+    rw fields (rw (all_fields c.args.count c.loop.counter c.loop.rest.now c.loop-test.false, append-nil c.loop.fields.items) at c.loop.invariant.read)
 
 pub loop-preserved : goal.loop-preserved
 loop-preserved c = record {

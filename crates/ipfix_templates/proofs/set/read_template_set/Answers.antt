@@ -9,14 +9,14 @@ pub loop-rest-init : goal.loop-rest-init
 loop-rest-init c = rw c.new-events.ensures (record { fits = omega arith; read = no_items _ ∙ ap (λ (n : ℕ). after_items [] (events_from c.args.kind n c.args.bytes.now)) (omega arith) })
 
 pub loop-rest-smaller : goal.loop-rest-smaller
-loop-rest-smaller c = omega (arith, record_shorter c.args.kind c.loop-rest.rest.now (c.in-Ok.read.0, c.in-Ok.read.1.now) c.loop-rest-test.true c.in-Ok.ensures.ok)
+loop-rest-smaller c = omega (arith, record_shorter c.args.kind c.loop-rest.rest.now (c.in_ok-event.event, c.in_ok-event.after.now) c.loop-rest-test.true c.in_ok-event.ensures.ok)
 
 pub loop-rest-preserved : goal.loop-rest-preserved
 loop-rest-preserved c =
-    let less = record_shorter c.args.kind c.loop-rest.rest.now (c.in-Ok.read.0, c.in-Ok.read.1.now) c.loop-rest-test.true c.in-Ok.ensures.ok in
+    let less = record_shorter c.args.kind c.loop-rest.rest.now (c.in_ok-event.event, c.in_ok-event.after.now) c.loop-rest-test.true c.in_ok-event.ensures.ok in
     rw c.in_ok-push.ensures.ok (record {
-      fits = omega (arith, less, c.loop-rest.invariant.fits, length_push c.loop-rest.events c.in-Ok.read.0);
-      read = event_more c.args.kind _ c.loop-rest.events (length c.args.bytes.now - length c.loop-rest.rest.now) c.loop-rest.rest.now c.loop-rest.invariant.read c.in-Ok.read.0 c.in-Ok.read.1.now _ c.loop-rest-test.true c.in-Ok.ensures.ok
+      fits = omega (arith, less, c.loop-rest.invariant.fits, length_push c.loop-rest.events c.in_ok-event.event);
+      read = event_more c.args.kind _ c.loop-rest.events (length c.args.bytes.now - length c.loop-rest.rest.now) c.loop-rest.rest.now c.loop-rest.invariant.read c.in_ok-event.event c.in_ok-event.after.now _ c.loop-rest-test.true c.in_ok-event.ensures.ok
           (omega (arith, less, c.loop-rest.invariant.fits));
     })
 
