@@ -3,42 +3,32 @@ use Rattle.std.proofs.Common.{◌≡◌, ◌∙◌, ◌&&◌, ◌++◌, Bool, tr
 use Rattle.std.proofs.lemmas.List.Folds.{list_all-append}
 use Rattle.label_lookup.specs.Labelling.{Labelling, label_where}
 use Rattle.flow_rows.specs.Elements.{RowView}
-use Rattle.flow_filter.specs.Condition.{Condition, Part, meets, passing, row_passes}
+use Rattle.flow_filter.specs.Condition.{Condition, meets, passing, row_passes}
 use Rattle.flow_filter.specs.Laws.{rows_left}
 
-module _ (one other : Condition) (labels : Option Labelling) where
-  pub passing-together : (rows : List RowView) → passing (one ++ other) labels rows ≡ passing other labels (passing one labels rows)
-  passing-together [] = refl
-  passing-together (row ∷ rows) =
-      ap (λ b. cond b (row ∷ passing (one ++ other) labels rows) (passing (one ++ other) labels rows))
-      (list_all-append (meets (label_where labels) row) one other)
-      ∙ by (row_passes one (label_where labels) row) (passing-together rows)
+-- the rows that pass a test which is two others together
+module _ (both one other : RowView → Bool) (is : (row : RowView) → both row ≡ (one row && other row)) where
+  in_turn : (rows : List RowView) → filter both rows ≡ filter other (filter one rows)
+  in_turn [] = refl
+  in_turn (row ∷ rows) = ap (λ b. cond b (row ∷ filter both rows) (filter both rows)) (is row) ∙ by (one row) (in_turn rows)
     where
-      by : (b : Bool) → passing (one ++ other) labels rows ≡ passing other labels (passing one labels rows)
-          → cond (b && row_passes other (label_where labels) row) (row ∷ passing (one ++ other) labels rows) (passing (one ++ other) labels rows)
-          ≡ passing other labels (cond b (row ∷ passing one labels rows) (passing one labels rows))
-      by true ih = ap (λ (l : List RowView). cond (row_passes other (label_where labels) row) (row ∷ l) l) ih
+      by : (b : Bool) → filter both rows ≡ filter other (filter one rows)
+          → cond (b && other row) (row ∷ filter both rows) (filter both rows) ≡ filter other (cond b (row ∷ filter one rows) (filter one rows))
+      by true ih = ap (λ (l : List RowView). cond (other row) (row ∷ l) l) ih
       by false ih = ih
 
 module _ (labels : Option Labelling) where
+  pub passing-together : (one other : Condition) (rows : List RowView) → passing (one ++ other) labels rows ≡ passing other labels (passing one labels rows)
+  passing-together one other =
+      in_turn (row_passes (one ++ other) (label_where labels)) (row_passes one (label_where labels)) (row_passes other (label_where labels))
+      (λ row. list_all-append (meets (label_where labels) row) one other)
+
   all-rows : (rows : List RowView) → passing [] labels rows ≡ rows
   all-rows [] = refl
   all-rows (row ∷ rows) = ap (λ (l : List RowView). row ∷ l) (all-rows rows)
 
-  -- the rows that meet one option
-  one-option : (part : Part) (rows : List RowView)
-      → passing (part ∷ []) labels rows ≡ filter (λ row. meets (label_where labels) row part) rows
-  one-option part [] = refl
-  one-option part (row ∷ rows) = by (meets (label_where labels) row part) (one-option part rows)
-    where
-      by : (b : Bool) → passing (part ∷ []) labels rows ≡ filter (λ r. meets (label_where labels) r part) rows
-          → cond (b && true) (row ∷ passing (part ∷ []) labels rows) (passing (part ∷ []) labels rows)
-          ≡ cond b (row ∷ filter (λ r. meets (label_where labels) r part) rows) (filter (λ r. meets (label_where labels) r part) rows)
-      by true ih = ap (λ (l : List RowView). row ∷ l) ih
-      by false ih = ih
-
   pub passing-left : (condition : Condition) (rows : List RowView) → passing condition labels rows ≡ rows_left condition labels rows
   passing-left [] rows = all-rows rows
   passing-left (part ∷ rest) rows =
-      passing-together (part ∷ []) rest labels rows ∙ ap (passing rest labels) (one-option part rows)
+      in_turn (row_passes (part ∷ rest) (label_where labels)) (λ row. meets (label_where labels) row part) (row_passes rest (label_where labels)) (λ row. refl) rows
       ∙ passing-left rest (filter (λ row. meets (label_where labels) row part) rows)

@@ -19,7 +19,7 @@ pub use Rattle.flow_filter.specs.declared.ranges.Range.{Range}
 abbrev pub covers : BlockOf → AddressOf → Bool
 covers (version, value, len) address =
     let block = block_number (width_of version) len in
-    option_map_or (λ place. block place.1 == block value) (converted version address) false
+    option_map_or (λ found. block found.1 == block value) (converted version address) false
 
 -- the number is between the range's low end and its high end, both included
 abbrev pub in_range : ℕ → Range → Bool

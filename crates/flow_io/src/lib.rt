@@ -22,7 +22,7 @@
 //!
 //! `Watched` wraps any reader or writer of std, and notes the bytes in a `Record`, which takes no memory. `ReadAhead`
 //! wraps an `Input`, and asks it for 64 KB at a time. `MemoryInput` and `MemoryOutput` are for tests. `read_whole` and
-//! `write_whole` move all bytes, and return a fault if and only if their reader or writer failed. Only `read_whole` and
+//! `write_whole` move all bytes, `fill` fills a slice, and they return a fault if and only if their reader or writer failed. Only `read_whole` and
 //! `ReadAhead::new` allocate.
 #![tactic(auto)]
 
@@ -39,4 +39,4 @@ pub use memory::{MemoryInput, MemoryOutput};
 pub use read_ahead::ReadAhead;
 pub use record::Record;
 pub use watch::Watched;
-pub use whole::{ReadStop, read_whole, write_whole};
+pub use whole::{ReadStop, fill, read_whole, write_whole};

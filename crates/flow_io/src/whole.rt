@@ -1,5 +1,5 @@
 //! Reading and writing all bytes.
-ghost use Rattle.std.specs.Prelude.{◌≡◌, ⊤, false, true, IfErr, IfOk, OnErr, OnOk};
+ghost use Rattle.std.specs.Prelude.{◌≡◌, ◌<◌, ◌≤◌, ⊤, false, true, length, take, IfOk, OnErr, OnOk};
 ghost use Rattle.flow_io.specs.Devices.{ReadsInput, Gives, StopsWriting, Writes, has_ended, is_read_fault};
 
 use crate::devices::{DeviceFault, Input, Output};
@@ -42,6 +42,31 @@ pub fn read_whole<R: Input>(alloc: Global, reader: &mut R) -> Result<Vec<u8>, Re
         text.extend_from_slice(&chunk[..count])
             .map_err(|_| ReadStop::NoMemory)?;
     }
+}
+
+/// Fills the slice, and returns the number of bytes read. It is less than the length of the slice only at the end of
+/// the input. Each read requests the bytes that are still missing, and no more. If a read fails, the slice isn't full.
+pub fn fill<R: Input>(reader: &mut R, bytes: &mut [u8]) -> Result<usize, DeviceFault>
+    ensures within { IfOk result (λ count. count ≤ length bytes.new) }
+    ensures given { IfOk result (λ count.
+        Gives (R.input reader.old) (R.input reader.new) (take count bytes.new)) }
+    ensures short { OnErr result (ReadsInput (R.input reader.old) (R.input reader.new)
+        (λ taken. length taken < length bytes.new)) }
+    ensures end { IfOk result (λ count. count < length bytes.new → has_ended (R.input reader.new) ≡ true) }
+    ensures ok { OnOk result ((R.input reader.new).failed ≡ (R.input reader.old).failed) }
+    ensures err { OnErr result ((R.input reader.new).failed ≡ true) }
+{
+    let mut filled = 0;
+    while filled < bytes.len() {
+        let Ok(more) = reader.read(&mut bytes[filled..]) else {
+            return Err(DeviceFault);
+        };
+        if more == 0 {
+            return Ok(filled);
+        }
+        filled += more;
+    }
+    Ok(filled)
 }
 
 /// Writes all the bytes, and flushes the writer last. If a write fails, the writer has taken a prefix of them. If the

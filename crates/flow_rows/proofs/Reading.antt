@@ -9,7 +9,7 @@ use Rattle.ipfix_templates.specs.declared.field.Field.{Field as FieldView}
 use Rattle.ipfix_templates.specs.Field.{is_variable}
 use Rattle.ipfix_templates.specs.declared.layout.Place.{Place}
 use Rattle.ipfix_templates.specs.Layout.{place}
-use Rattle.ipfix_templates.specs.Runs.{runs_behind}
+use Rattle.ipfix_templates.specs.Runs.{runs_from}
 use Rattle.ipfix_read.specs.Value.{FieldValueView, bytes_at, value_at, values_at, variable_at}
 use Rattle.flow_rows.specs.Elements.{big_endian, element}
 use Rattle.flow_rows.specs.Inner.{behind_values, bytes_there, number_there}
@@ -88,14 +88,14 @@ element-passed direction number v vs unusable = rw unusable refl
 module _ (direction : Option ℕ) (number : ℕ) (bytes : List ℕ) where
   -- the number at a place, given the runs before it and those after them
   abbrev said_at : List ℕ → ℕ → ℕ → List FieldView → ℕ
-  said_at front skips offset fields = number_there (place direction number skips offset fields) (front ++ runs_behind offset fields) bytes
+  said_at front skips offset fields = number_there (place direction number skips offset fields) (front ++ runs_from offset fields) bytes
 
   said_behind : (fields : List FieldView) (front gap rest : List ℕ) (skips offset : ℕ) (x : List FieldValueView × List ℕ)
       → skips ≡ length front → offset ≡ length gap → behind_values front bytes ≡ Some (gap ++ rest) → values_at fields rest ≡ Some x
       → said_at front skips offset fields ≡ unwrap_or (element direction x.0 number) 0
   unfolding values_at
   said_behind [] front gap rest skips offset x skips_are offset_is behind read =
-      none_there (record { offset = 0; skips = 0; length = 0 }) (front ++ runs_behind offset []) bytes refl
+      none_there (record { offset = 0; skips = 0; length = 0 }) (front ++ runs_from offset []) bytes refl
       ∙ ap (λ (vs : List FieldValueView). unwrap_or (element direction vs number) 0) (ap (λ (y : List FieldValueView × List ℕ). y.0) (some_is ([], rest) x read))
   said_behind (f ∷ fs) front gap rest skips offset x skips_are offset_is behind read =
       let a = gave (value_at f rest) (λ v. option_and_then (λ vs. Some (record { field = f; value = v.0 } ∷ vs.0, vs.1)) (values_at fs v.1)) x read in
@@ -107,10 +107,10 @@ module _ (direction : Option ℕ) (number : ℕ) (bytes : List ℕ) where
         | true ↦ λ usable.
             let fixed : is_variable f ≡ false = has_other_length 65535 refl direction number f usable in
             let v = fixed_value f rest a.0 fixed a.1 in
-            let there : bytes_there (record { offset = length gap; skips = length front; length = length a.0.0 }) (front ++ runs_behind offset (f ∷ fs)) bytes ≡ Some a.0.0 =
-            found_there front (runs_behind offset (f ∷ fs)) bytes gap a.0.0 a.0.1 (behind ∙ ap (λ (r : List ℕ). Some (gap ++ r)) v.1) in
+            let there : bytes_there (record { offset = length gap; skips = length front; length = length a.0.0 }) (front ++ runs_from offset (f ∷ fs)) bytes ≡ Some a.0.0 =
+            found_there front (runs_from offset (f ∷ fs)) bytes gap a.0.0 a.0.1 (behind ∙ ap (λ (r : List ℕ). Some (gap ++ r)) v.1) in
             rw usable
-            ((λ i. number_there (record { offset = offset_is i; skips = skips_are i; length = sym v.0 i }) (front ++ runs_behind offset (f ∷ fs)) bytes)
+            ((λ i. number_there (record { offset = offset_is i; skips = skips_are i; length = sym v.0 i }) (front ++ runs_from offset (f ∷ fs)) bytes)
             ∙ ap (λ (o : Option (List ℕ)). big_endian (unwrap_or o [])) there
             ∙ sym (ap (λ (o : Option ℕ). unwrap_or o 0) (element-used direction number first b.0.0 usable)) ∙ ap said are)
         | false ↦ λ unusable.
@@ -118,12 +118,12 @@ module _ (direction : Option ℕ) (number : ℕ) (bytes : List ℕ) where
             rw unusable
             (elim (is_variable f) as (λ c. is_variable f ≡ c
             → number_there (cond c (place direction number (skips + 1) 0 fs) (place direction number skips (offset + f.length) fs))
-            (front ++ cond c (offset ∷ runs_behind 0 fs) (runs_behind (offset + f.length) fs)) bytes
+            (front ++ cond c (offset ∷ runs_from 0 fs) (runs_from (offset + f.length) fs)) bytes
             ≡ said x.0) [
               | true ↦ λ variable.
                   let next : behind_values (front ++ offset ∷ []) bytes ≡ Some a.0.1 =
                   one_more_value front offset bytes gap rest a.0 behind (sym offset_is) (sym (variable_value f rest variable) ∙ a.1) in
-                  ap (λ (runs : List ℕ). number_there (place direction number (skips + 1) 0 fs) runs bytes) (sym (append_assoc front (offset ∷ []) (runs_behind 0 fs)))
+                  ap (λ (runs : List ℕ). number_there (place direction number (skips + 1) 0 fs) runs bytes) (sym (append_assoc front (offset ∷ []) (runs_from 0 fs)))
                   ∙ said_behind fs (front ++ offset ∷ []) [] a.0.1 (skips + 1) 0 b.0
                   (omega (arith, skips_are, length-append front (offset ∷ []))) refl next b.1
                   ∙ passed
@@ -187,6 +187,6 @@ within_record direction number offset (f ∷ fs) rest x read none =
 -- the number at the place of an element is that of the record's values
 pub said_there : (direction : Option ℕ) (number : ℕ) (fields : List FieldView) (bytes : List ℕ) (values : List FieldValueView) (rest : List ℕ)
     → values_at fields bytes ≡ Some (values, rest)
-    → number_there (place direction number 0 0 fields) (runs_behind 0 fields) bytes ≡ unwrap_or (element direction values number) 0
+    → number_there (place direction number 0 0 fields) (runs_from 0 fields) bytes ≡ unwrap_or (element direction values number) 0
 said_there direction number fields bytes values rest read =
     said_behind direction number bytes fields [] [] bytes 0 0 (values, rest) refl refl refl read

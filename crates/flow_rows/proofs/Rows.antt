@@ -15,7 +15,7 @@ use Rattle.ipfix_templates.specs.declared.layout.Place.{Place}
 use Rattle.ipfix_templates.specs.declared.layout.Places.{Places}
 use Rattle.ipfix_templates.specs.declared.layout.RowLayout.{RowLayout}
 use Rattle.ipfix_templates.specs.Layout.{first_places, is_there, layout_of, place, place_or, places_between, second_places}
-use Rattle.ipfix_templates.specs.Runs.{runs_behind}
+use Rattle.ipfix_templates.specs.Runs.{runs_from}
 use Rattle.ipfix_templates.specs.Template.{same_kind}
 use Rattle.ipfix_templates.specs.declared.kind.Kind.{Kind}
 use Rattle.ipfix_templates.specs.declared.kind.Kind.TheVariants.{Flow, Options}
@@ -217,7 +217,7 @@ module _ (fields : List FieldView) (bytes : List ℕ) (x : List FieldValueView �
 -- ---- a record whose fields and runs are these, with its bytes
 
 module _ (r : Record) (is_flow : r.kind ≡ Options → ⊥) (fields : List FieldView) (runs bytes : List ℕ) (same : fields ≡ fields_of r.fields)
-    (runs_are : runs ≡ runs_behind 0 fields) (read : (rest : List ℕ) × (values_at (fields_of r.fields) bytes ≡ Some (r.fields, rest))) where
+    (runs_are : runs ≡ runs_from 0 fields) (read : (rest : List ℕ) × (values_at (fields_of r.fields) bytes ≡ Some (r.fields, rest))) where
   abbrev num : Place → ℕ
   num p = number_there p runs bytes
 

@@ -65,18 +65,6 @@ header_whole count front after counted least version whole =
     header_none count (front ++ after) (omega (arith, long)) (own_ahead count front after (omega arith) ∙ own_none count front counted version (omega arith))
     (omega (arith, written_ahead front after (omega arith), long))
 
--- ---- the start of a slice after a read into the rest of it
-
-take_length : (a : ℕ) (xs : List ℕ) → a ≤ length xs → length (take a xs) ≡ a
-take_length a xs within = length-take a xs ∙ omega (arith, within)
-
--- after the first a bytes come the n bytes that were read
-pub take_filled : (a k n : ℕ) (xs ys : List ℕ) → a ≤ length xs → n ≤ length ys → take (a + n) (put_mid a k xs ys) ≡ take a xs ++ take n ys
-take_filled a k n xs ys within most =
-    let whole = put_mid a k xs ys in
-    let front = take a xs in
-    ap (λ (m : ℕ). take (m + n) whole) (sym (take_length a xs within)) ∙ take-append-add front (ys ++ post_of a k xs) n ∙ ap (λ (l : List ℕ). front ++ l) (take-append-le n ys (post_of a k xs) most)
-
 -- ---- the offsets of the two parts
 
 -- the header that was read

@@ -7,7 +7,7 @@ use Rattle.std.proofs.lemmas.Grind.{common_steps}
 use Rattle.byteorder.specs.Endian.{big_number}
 use Rattle.ipfix_templates.specs.declared.field.Field.{Field}
 use Rattle.ipfix_templates.specs.Field.{is_variable, least_length}
-use Rattle.ipfix_templates.specs.Runs.{runs_behind, last_run_behind}
+use Rattle.ipfix_templates.specs.Runs.{runs_from, last_run_from}
 use Rattle.ipfix_templates.specs.Reading.{after_items}
 use Rattle.ipfix_read.specs.Value.{FieldValueView, bytes_at, variable_at, value_at, values_at, whole_values}
 use Rattle.ipfix_templates.proofs.Choice.{gave, some_is, mapped}
@@ -50,9 +50,9 @@ whole_left fields bytes = elim (values_at fields bytes) as (λ o. values_at fiel
 ] refl
 
 -- the remaining bytes after runs of bytes, each followed by a variable value, and a last run
-abbrev pub behind_runs : List ℕ → ℕ → List ℕ → Option (List ℕ)
-behind_runs [] last bytes = option_map (λ f. f.1) (bytes_at last bytes)
-behind_runs (n ∷ ns) last bytes = option_and_then (λ f. option_and_then (λ v. behind_runs ns last v.1) (variable_at f.1)) (bytes_at n bytes)
+abbrev pub after_runs : List ℕ → ℕ → List ℕ → Option (List ℕ)
+after_runs [] last bytes = option_map (λ f. f.1) (bytes_at last bytes)
+after_runs (n ∷ ns) last bytes = option_and_then (λ f. option_and_then (λ v. after_runs ns last v.1) (variable_at f.1)) (bytes_at n bytes)
 
 then_alike : {A B : Type 0} (o : Option A) (f g : A → Option B) → ((x : A) → f x ≡ g x) → option_and_then f o ≡ option_and_then g o
 then_alike None f g alike = refl
@@ -89,26 +89,26 @@ both_first : (next : List ℕ → Option (List ℕ)) (a b : ℕ) (bytes : List �
 both_first next a b bytes = let shorter = length-drop a bytes in let later = drop-drop b a bytes in grind (arith, nat_tests, common_steps)
 
 -- the runs of fields lead to the bytes after the fields' values
-runs_behind_lem : (sum : ℕ) (fields : List Field) (bytes : List ℕ)
-    → behind_runs (runs_behind sum fields) (last_run_behind sum fields) bytes ≡ option_and_then (λ f. left (values_at fields f.1)) (bytes_at sum bytes)
+runs_from_lem : (sum : ℕ) (fields : List Field) (bytes : List ℕ)
+    → after_runs (runs_from sum fields) (last_run_from sum fields) bytes ≡ option_and_then (λ f. left (values_at fields f.1)) (bytes_at sum bytes)
 unfolding values_at
-runs_behind_lem sum [] bytes = then_left (bytes_at sum bytes)
-runs_behind_lem sum (field ∷ fields) bytes =
+runs_from_lem sum [] bytes = then_left (bytes_at sum bytes)
+runs_from_lem sum (field ∷ fields) bytes =
     elim (is_variable field) as (λ c. is_variable field ≡ c
-    → behind_runs (cond c (sum ∷ runs_behind 0 fields) (runs_behind (sum + field.length) fields)) (cond c (last_run_behind 0 fields) (last_run_behind (sum + field.length) fields)) bytes
+    → after_runs (cond c (sum ∷ runs_from 0 fields) (runs_from (sum + field.length) fields)) (cond c (last_run_from 0 fields) (last_run_from (sum + field.length) fields)) bytes
     ≡ option_and_then (λ f. left (values_at (field ∷ fields) f.1)) (bytes_at sum bytes)) [
       | true ↦ λ is. then_alike (bytes_at sum bytes) _ _ (λ f.
-          then_alike (variable_at f.1) _ _ (λ v. runs_behind_lem 0 fields v.1 ∙ no_bytes_first (λ bs. left (values_at fields bs)) v.1)
+          then_alike (variable_at f.1) _ _ (λ v. runs_from_lem 0 fields v.1 ∙ no_bytes_first (λ bs. left (values_at fields bs)) v.1)
           ∙ sym (left_cons field fields f.1 ∙ ap (λ (o : Option (List ℕ × List ℕ)). option_and_then (λ v. left (values_at fields v.1)) o) (variable_is field f.1 is)))
       | false ↦ λ is.
-          runs_behind_lem (sum + field.length) fields bytes
+          runs_from_lem (sum + field.length) fields bytes
           ∙ sym (both_first (λ bs. left (values_at fields bs)) sum field.length bytes)
           ∙ then_alike (bytes_at sum bytes) _ _ (λ f.
           sym (left_cons field fields f.1 ∙ ap (λ (o : Option (List ℕ × List ℕ)). option_and_then (λ v. left (values_at fields v.1)) o) (fixed_is field f.1 is)))
     ] refl
 
-pub runs_are : (fields : List Field) (bytes : List ℕ) → behind_runs (runs_behind 0 fields) (last_run_behind 0 fields) bytes ≡ left (values_at fields bytes)
-runs_are fields bytes = runs_behind_lem 0 fields bytes ∙ no_bytes_first (λ bs. left (values_at fields bs)) bytes
+pub runs_are : (fields : List Field) (bytes : List ℕ) → after_runs (runs_from 0 fields) (last_run_from 0 fields) bytes ≡ left (values_at fields bytes)
+runs_are fields bytes = runs_from_lem 0 fields bytes ∙ no_bytes_first (λ bs. left (values_at fields bs)) bytes
 
 -- ---- the bytes that a data record takes
 
@@ -276,27 +276,27 @@ module _ (t : Template) (offset : ℕ) (bytes : List ℕ) where
 
 -- ---- without variable fields
 
-no_runs_last : (sum : ℕ) (fields : List Field) → runs_behind sum fields ≡ [] → last_run_behind sum fields ≡ sum + least_length fields
+no_runs_last : (sum : ℕ) (fields : List Field) → runs_from sum fields ≡ [] → last_run_from sum fields ≡ sum + least_length fields
 no_runs_last sum [] e = omega arith
 no_runs_last sum (f ∷ fs) e =
     let rest = no_runs_last (sum + f.length) fs in let all = sum_by-cons least_field_length f fs in grind (arith, common_steps)
 
 -- the length of values of fixed lengths is the sum of these
-fixed_values : (fields : List Field) (bytes : List ℕ) → runs_behind 0 fields ≡ [] → least_length fields ≤ length bytes
+fixed_values : (fields : List Field) (bytes : List ℕ) → runs_from 0 fields ≡ [] → least_length fields ≤ length bytes
     → (x : List FieldValueView × List ℕ) × (values_at fields bytes ≡ Some x) × (x.1 ≡ drop (least_length fields) bytes)
 fixed_values fields bytes none enough =
-    let last : last_run_behind 0 fields ≡ least_length fields = omega (arith, no_runs_last 0 fields none) in
+    let last : last_run_from 0 fields ≡ least_length fields = omega (arith, no_runs_last 0 fields none) in
     let cut : bytes_at (least_length fields) bytes ≡ Some (take (least_length fields) bytes, drop (least_length fields) bytes) =
     ap (λ (c : Bool). cond c None (Some (take (least_length fields) bytes, drop (least_length fields) bytes))) (le-ltb (length bytes) (least_length fields) enough) in
-    let behind : left (values_at fields bytes) ≡ Some (drop (least_length fields) bytes) =
+    let following : left (values_at fields bytes) ≡ Some (drop (least_length fields) bytes) =
     sym (runs_are fields bytes)
-    ∙ ap (λ (rs : List ℕ). behind_runs rs (last_run_behind 0 fields) bytes) none
-    ∙ ap (λ (n : ℕ). behind_runs [] n bytes) last
+    ∙ ap (λ (rs : List ℕ). after_runs rs (last_run_from 0 fields) bytes) none
+    ∙ ap (λ (n : ℕ). after_runs [] n bytes) last
     ∙ ap (option_map (λ f. f.1)) cut in
-    mapped (values_at fields bytes) (λ x. x.1) (drop (least_length fields) bytes) behind
+    mapped (values_at fields bytes) (λ x. x.1) (drop (least_length fields) bytes) following
 
 -- as many records as fit
-pub fixed_read : (t : Template) (offset : ℕ) (bytes : List ℕ) (count : ℕ) → runs_behind 0 t.fields ≡ [] → 0 < least_length t.fields → count * least_length t.fields ≤ length bytes
+pub fixed_read : (t : Template) (offset : ℕ) (bytes : List ℕ) (count : ℕ) → runs_from 0 t.fields ≡ [] → 0 < least_length t.fields → count * least_length t.fields ≤ length bytes
     → HasRead t offset bytes count (drop (count * least_length t.fields) bytes)
 fixed_read t offset bytes zero none some room =
     let nothing : 0 ≡ 0 * least_length t.fields = omega arith in
@@ -307,8 +307,8 @@ fixed_read t offset bytes (suc count) none some room =
     let split : suc count * least ≡ count * least + least = suc-mul count least in
     let long : least ≤ length rest = omega (arith, room, split, length-drop (count * least) bytes) in
     let v = fixed_values t.fields rest none long in
-    let behind : v.0.1 ≡ drop (suc count * least) bytes = v.2 ∙ drop-drop least (count * least) bytes ∙ ap (λ (n : ℕ). drop n bytes) (omega (arith, split)) in
-    subst (λ (left : List ℕ). HasRead t offset bytes (suc count) left) behind
+    let following : v.0.1 ≡ drop (suc count * least) bytes = v.2 ∙ drop-drop least (count * least) bytes ∙ ap (λ (n : ℕ). drop n bytes) (omega (arith, split)) in
+    subst (λ (left : List ℕ). HasRead t offset bytes (suc count) left) following
     (one_read t offset bytes count (suc count) rest v.0 (fixed_read t offset bytes count none some (omega (arith, room, split))) (some, long) v.1 (omega arith))
 
 -- after as many records as fit, there is no room for one more

@@ -79,8 +79,8 @@ module _ (templates : InForce) (domain offset : ℕ) (bytes : List ℕ) where
       let there : content_reading templates domain (big_number 2 bytes) (offset + 4) (drop 4 (take (written_length bytes) bytes)) ≡ read =
       ap (λ (n : ℕ). content_reading templates domain n (offset + 4) (drop 4 (take (written_length bytes) bytes))) (sym id_is)
       ∙ ap (λ (xs : List ℕ). content_reading templates domain id (offset + 4) xs) content ∙ e in
-      let behind : after ≡ drop (written_length bytes) bytes = after_is ∙ ap (λ (n : ℕ). drop n bytes) is in
-      rw (le-ltb (length bytes) 4 long, le-ltb (written_length bytes) 4 (omega (arith, is, least)), le-ltb (length bytes) (written_length bytes) (omega (arith, is, within)), there, behind) refl
+      let following : after ≡ drop (written_length bytes) bytes = after_is ∙ ap (λ (n : ℕ). drop n bytes) is in
+      rw (le-ltb (length bytes) 4 long, le-ltb (written_length bytes) 4 (omega (arith, is, least)), le-ltb (length bytes) (written_length bytes) (omega (arith, is, within)), there, following) refl
 
 set_smaller : (templates : InForce) (domain offset : ℕ) (bytes : List ℕ) (set : Set) (after : List ℕ) → set_next templates domain offset bytes ≡ Ok (set, after) → length after < length bytes
 set_smaller templates domain offset bytes set after e = let rest = length-drop (written_length bytes) bytes in grind (arith, nat_tests, common_steps)
@@ -95,8 +95,8 @@ module _ (domain : ℕ) (whole : Result (List Set) ReadFault) (sets : List Set) 
   abbrev With : InForce → Set → InForce
   With before set = in_force before (events_of_set domain set)
 
-  smaller : (before : InForce) (place : ℕ) (bytes : List ℕ) (set : Set) (after : List ℕ) → eqb (length bytes) 0 ≡ false → Next before place bytes ≡ Ok (set, after) → length after < length bytes
-  smaller before place bytes set after some e = set_smaller before domain place bytes set after e
+  smaller : (before : InForce) (at : ℕ) (bytes : List ℕ) (set : Set) (after : List ℕ) → eqb (length bytes) 0 ≡ false → Next before at bytes ≡ Ok (set, after) → length after < length bytes
+  smaller before at bytes set after some e = set_smaller before domain at bytes set after e
 
   pub sets_more : (set : Set) (after : List ℕ) (later : ℕ) (new : InForce) → eqb (length rest) 0 ≡ false → set_next now domain offset rest ≡ Ok (set, after) → later ≡ offset + (length rest - length after)
       → new ≡ in_force now (events_of_set domain set) → whole ≡ after_items (sets ++ set ∷ []) (sets_reading new domain later after)

@@ -1,6 +1,8 @@
 ghost use Rattle.std.specs.Prelude.{◌≡◌};
 ghost use Rattle.ipfix_read.specs.Fault.{out_of_memory};
+ghost use Rattle.ipfix_read.specs.declared.fault.ReadFaultKind.TheVariants.{ReadFault as Unread};
 
+use flow_io::DeviceFault;
 use ipfix_templates::TemplateFaultKind;
 use std::alloc::AllocError;
 use thiserror::Error;
@@ -39,6 +41,14 @@ impl ReadFaultKind {
         ensures { result ≡ record { kind = self; offset = offset } }
     {
         ReadFault { kind: self, offset }
+    }
+}
+
+impl From<DeviceFault> for ReadFaultKind {
+    ghost from_gives = { λ _ kind. kind ≡ Unread };
+
+    fn from(_fault: DeviceFault) -> ReadFaultKind {
+        ReadFaultKind::ReadFault
     }
 }
 

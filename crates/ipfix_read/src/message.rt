@@ -54,7 +54,7 @@ impl<'a> Message<'a> {
 }
 
 /// The length of a message header in bytes.
-pub const HEADER_LENGTH: usize = 16;
+pub const MESSAGE_HEADER: usize = 16;
 
 // The version number of IPFIX.
 const VERSION: u16 = 10;
@@ -72,7 +72,7 @@ pub fn header_length(count: u32, header: &[u8]) -> Result<usize, ReadFaultKind>
     let size = usize::from(BigEndian::read_u16(&header[2..]));
     match (count, BigEndian::read_u16(header)) {
         (u32::MAX, _) => Err(ReadFaultKind::TooManyMessages),
-        (_, VERSION) if size < HEADER_LENGTH => Err(ReadFaultKind::BadMessageLength),
+        (_, VERSION) if size < MESSAGE_HEADER => Err(ReadFaultKind::BadMessageLength),
         (_, VERSION) => Ok(size),
         _ => Err(ReadFaultKind::BadVersion),
     }
@@ -92,7 +92,7 @@ pub fn whole_message<'a>(
         (whole_reading (template_at table.old) base bytes.now) result }
 {
     let domain = BigEndian::read_u32(&bytes[12..]);
-    let sets = read_sets(alloc, table, domain, &bytes[HEADER_LENGTH..], base + 16)?;
+    let sets = read_sets(alloc, table, domain, &bytes[MESSAGE_HEADER..], base + 16)?;
     Ok(Message {
         export_time: BigEndian::read_u32(&bytes[4..]),
         sequence: BigEndian::read_u32(&bytes[8..]),
@@ -118,7 +118,7 @@ fn read_message<'a>(
     ensures counted { OnOk result (count < 4294967295) }
     ensures shorter { IfOk result (λ read. length read.1.now < length bytes.now) }
 {
-    if bytes.len() < HEADER_LENGTH {
+    if bytes.len() < MESSAGE_HEADER {
         return Err(ReadFaultKind::TruncatedHeader.at(base));
     }
     let size = match header_length(count, bytes) {

@@ -5,11 +5,10 @@ ghost use Rattle.std.specs.Result.{result_map_both};
 ghost use Rattle.ipfix_read.specs.Fault.{failed_before, is_of_reader};
 ghost use Rattle.ipfix_read.specs.Message.{HasHeader};
 ghost use Rattle.ipfix_read.specs.Messages.{Going, Ended, Failed, AnswersNext, Gathers, ProgressView, IsAtStart, is_read_fault};
-ghost use Rattle.ipfix_read.specs.declared.fault.ReadFaultKind.TheVariants.{ReadFault as Unread};
 
 use crate::fault::{ReadFault, ReadFaultKind};
-use crate::message::{HEADER_LENGTH, Message, header_length, whole_message};
-use flow_io::Input;
+use crate::message::{MESSAGE_HEADER, Message, header_length, whole_message};
+use flow_io::{Input, fill};
 use ipfix_templates::TemplateTable;
 use std::alloc::{AllocError, Global};
 use std::marker::Model;
@@ -32,31 +31,6 @@ impl Buffer {
     }
 }
 
-// Fills the slice, and returns the number of bytes read. It is less than the length of the slice only at the end of
-// the input. Each read requests the bytes that are still missing, and no more. If a read fails, the slice isn't full.
-fn fill<R: Input>(reader: &mut R, bytes: &mut [u8]) -> Result<usize, ReadFaultKind>
-    ensures within { IfOk result (λ count. count ≤ length bytes.new) }
-    ensures given { IfOk result (λ count.
-        Gives (R.input reader.old) (R.input reader.new) (take count bytes.new)) }
-    ensures short { OnErr result (ReadsInput (R.input reader.old) (R.input reader.new)
-        (λ taken. length taken < length bytes.new)) }
-    ensures end { IfOk result (λ count. count < length bytes.new → has_ended (R.input reader.new) ≡ true) }
-    ensures ok { OnOk result ((R.input reader.new).failed ≡ (R.input reader.old).failed) }
-    ensures err { IfErr result (λ kind. (kind ≡ Unread) × ((R.input reader.new).failed ≡ true)) }
-{
-    let mut filled = 0;
-    while filled < bytes.len() {
-        let Ok(count) = reader.read(&mut bytes[filled..]) else {
-            return Err(ReadFaultKind::ReadFault);
-        };
-        if count == 0 {
-            return Ok(filled);
-        }
-        filled += count;
-    }
-    Ok(filled)
-}
-
 // Reads the next message, which follows `count` messages, to the start of a buffer, and returns its bytes: first its
 // header, then the rest of the length that the header gives. Returns `None` at the end of the input.
 fn gather<'b, R: Input>(
@@ -72,13 +46,13 @@ fn gather<'b, R: Input>(
     ensures device { (R.input reader.old).failed ≡ false → MatchResult result
         (λ _. (R.input reader.new).failed ≡ false) (λ kind. (R.input reader.new).failed ≡ is_of_reader kind) }
 {
-    match fill(reader, &mut buffer[..HEADER_LENGTH])? {
+    match fill(reader, &mut buffer[..MESSAGE_HEADER])? {
         0 => return Ok(None),
-        HEADER_LENGTH => {}
+        MESSAGE_HEADER => {}
         _ => return Err(ReadFaultKind::TruncatedHeader),
     }
-    let size = header_length(count, &buffer[..HEADER_LENGTH])?;
-    if fill(reader, &mut buffer[HEADER_LENGTH..size])? < size - HEADER_LENGTH {
+    let size = header_length(count, &buffer[..MESSAGE_HEADER])?;
+    if fill(reader, &mut buffer[MESSAGE_HEADER..size])? < size - MESSAGE_HEADER {
         return Err(ReadFaultKind::TruncatedMessage);
     }
     Ok(Some(&buffer[..size]))

@@ -24,7 +24,7 @@ pub enum Set<'a> {
 }
 
 // The length of a set header in bytes.
-const HEADER_LENGTH: usize = 4;
+const SET_HEADER: usize = 4;
 
 // The first of the set IDs that data sets have (RFC 7011 section 3.3.2).
 const FIRST_DATA_SET_ID: u16 = 256;
@@ -113,16 +113,16 @@ fn read_set<'a>(
     ensures size { IfOk result (λ read. set_size read.0 + length read.1.now < length bytes.now) }
 {
     let bad_length = ReadFaultKind::BadSetLength.at(base);
-    if bytes.len() < HEADER_LENGTH {
+    if bytes.len() < SET_HEADER {
         return Err(bad_length);
     }
     let length = usize::from(BigEndian::read_u16(&bytes[2..]));
-    if length < HEADER_LENGTH || bytes.len() < length {
+    if length < SET_HEADER || bytes.len() < length {
         return Err(bad_length);
     }
     let (front, after) = bytes.split_at(length);
     let id = BigEndian::read_u16(bytes);
-    let set = read_content(alloc, table, domain, id, &front[HEADER_LENGTH..], base + 4)?;
+    let set = read_content(alloc, table, domain, id, &front[SET_HEADER..], base + 4)?;
     Ok((set, after))
 }
 
@@ -143,8 +143,8 @@ pub fn read_sets<'a>(
     let mut sets = Items::new(alloc);
     let mut rest = bytes;
     while !rest.is_empty() {
-        let place = base + (bytes.len() - rest.len()) as u64;
-        let (set, after) = read_set(alloc, table, domain, rest, place)?;
+        let offset = base + (bytes.len() - rest.len()) as u64;
+        let (set, after) = read_set(alloc, table, domain, rest, offset)?;
         sets.push(set)?;
         rest = after;
     }

@@ -133,8 +133,8 @@ pub fn skip_values<'a>(fields: &Fields, bytes: &'a [u8]) -> Option<&'a [u8]>
 {
     let mut rest = bytes;
     for run in fields.runs() {
-        let (_fixed, behind) = rest.split_at_checked(*run as usize)?;
-        let (_value, after) = read_variable(behind)?;
+        let (_fixed, following) = rest.split_at_checked(*run as usize)?;
+        let (_value, after) = read_variable(following)?;
         rest = after;
     }
     let (_fixed, after) = rest.split_at_checked(fields.last_run() as usize)?;

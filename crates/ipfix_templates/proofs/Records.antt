@@ -11,10 +11,10 @@ use Rattle.ipfix_templates.proofs.Choice.{gave, some_is, ok_is}
 use Rattle.ipfix_templates.proofs.Reading.{at_end, at_fault, at_item}
 
 -- the fields that were read before, and those that are still to be read
-abbrev pub behind : List Field → Option (List Field × List ℕ) → Option (List Field × List ℕ)
-behind front read = option_and_then (λ x. Some (front ++ x.0, x.1)) read
+abbrev pub with_front : List Field → Option (List Field × List ℕ) → Option (List Field × List ℕ)
+with_front front read = option_and_then (λ x. Some (front ++ x.0, x.1)) read
 
-pub regroup : (front : List Field) (f : Field) (read : Option (List Field × List ℕ)) → behind front (option_and_then (λ x. Some (f ∷ x.0, x.1)) read) ≡ behind (front ++ f ∷ []) read
+pub regroup : (front : List Field) (f : Field) (read : Option (List Field × List ℕ)) → with_front front (option_and_then (λ x. Some (f ∷ x.0, x.1)) read) ≡ with_front (front ++ f ∷ []) read
 regroup front f None = refl
 regroup front f (Some x) = ap (λ (fs : List Field). Some (fs, x.1)) (simp append_assoc)
 

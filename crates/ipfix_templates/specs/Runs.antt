@@ -5,11 +5,11 @@ use Rattle.ipfix_templates.specs.Field.{FieldView, is_variable}
 
 -- for each variable field the sum of the fixed lengths since the variable field before it; `sum` is the sum for the
 -- fields before these
-abbrev pub runs_behind : ℕ → List FieldView → List ℕ
-runs_behind sum [] = []
-runs_behind sum (f ∷ fs) = if is_variable f then sum ∷ runs_behind 0 fs else runs_behind (sum + f.length) fs
+abbrev pub runs_from : ℕ → List FieldView → List ℕ
+runs_from sum [] = []
+runs_from sum (f ∷ fs) = if is_variable f then sum ∷ runs_from 0 fs else runs_from (sum + f.length) fs
 
 -- the sum of the fixed lengths after the last variable field; `sum` is the sum for the fields before these
-abbrev pub last_run_behind : ℕ → List FieldView → ℕ
-last_run_behind sum [] = sum
-last_run_behind sum (f ∷ fs) = if is_variable f then last_run_behind 0 fs else last_run_behind (sum + f.length) fs
+abbrev pub last_run_from : ℕ → List FieldView → ℕ
+last_run_from sum [] = sum
+last_run_from sum (f ∷ fs) = if is_variable f then last_run_from 0 fs else last_run_from (sum + f.length) fs

@@ -1,6 +1,6 @@
 ghost use Rattle.std.specs.Prelude.{◌≡◌, ◌≤◌, IfOk, length, option_map};
 ghost use Rattle.ipfix_templates.specs.Field.{least_length};
-ghost use Rattle.ipfix_templates.specs.Runs.{runs_behind, last_run_behind};
+ghost use Rattle.ipfix_templates.specs.Runs.{runs_from, last_run_from};
 ghost use Rattle.ipfix_templates.specs.Layout.{layout_of};
 
 use crate::field::Field;
@@ -29,7 +29,7 @@ impl Model for Fields {
     ghost use Rattle.std.specs.Prelude.{◌≡◌, ◌≤◌, List, length};
     ghost use Rattle.std.specs.Rc.{rc_value};
     ghost use Rattle.ipfix_templates.specs.Field.{FieldView, least_length};
-    ghost use Rattle.ipfix_templates.specs.Runs.{runs_behind, last_run_behind};
+    ghost use Rattle.ipfix_templates.specs.Runs.{runs_from, last_run_from};
     ghost use Rattle.ipfix_templates.specs.Layout.{layout_of};
 
     ghost Value = { List FieldView };
@@ -37,8 +37,8 @@ impl Model for Fields {
     ghost view = { λ a. (rc_value a.shared).items.items };
 
     ghost invariant = { λ a. let l = rc_value a.shared in
-        (length l.items.items ≤ 65535) × (l.runs.items ≡ runs_behind 0 l.items.items)
-        × (l.last_run ≡ last_run_behind 0 l.items.items) × (l.least ≡ least_length l.items.items)
+        (length l.items.items ≤ 65535) × (l.runs.items ≡ runs_from 0 l.items.items)
+        × (l.last_run ≡ last_run_from 0 l.items.items) × (l.least ≡ least_length l.items.items)
         × (l.rows ≡ layout_of l.items.items) };
 }
 
@@ -87,14 +87,14 @@ impl Fields {
     /// Returns for each variable field the sum of the fixed lengths since the variable field before it. A reader skips
     /// this number of bytes before each value of variable length.
     pub fn runs(&self) -> &[u32]
-        ensures { result.now ≡ runs_behind 0 self.now }
+        ensures { result.now ≡ runs_from 0 self.now }
     {
         self.shared.runs.as_slice()
     }
 
     /// Returns the sum of the fixed lengths after the last variable field.
     pub fn last_run(&self) -> u32
-        ensures { result ≡ last_run_behind 0 self.now }
+        ensures { result ≡ last_run_from 0 self.now }
     {
         self.shared.last_run
     }

@@ -17,6 +17,9 @@
 //! rely on this: the events are those of the bytes, record by record, or the fault is that of the first malformed
 //! record. A table that was changed by each event of a history in turn has at each domain and ID the template in force
 //! (`in_force`).
+//!
+//! A template's fields have a layout (`RowLayout`): the places of the numbers of flow rows in its records, determined
+//! once. Only records of flow templates have rows, so nobody asks for the layout of an options template.
 #![tactic(auto)]
 
 mod event;

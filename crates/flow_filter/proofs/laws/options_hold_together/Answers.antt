@@ -11,7 +11,7 @@ pub returns-clause-all : goal.returns-clause-all
 returns-clause-all c condition labels row each = list_all-from_AllPass (meets (label_where labels) row) condition each
 
 pub returns-clause-together : goal.returns-clause-together
-returns-clause-together c one other labels rows = passing-together one other labels rows
+returns-clause-together c one other labels rows = passing-together labels one other rows
 
 pub returns-clause-left : goal.returns-clause-left
 returns-clause-left c condition labels rows = passing-left labels condition rows

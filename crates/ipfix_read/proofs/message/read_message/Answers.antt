@@ -31,8 +31,8 @@ whole c =
 pub whole_message-requires-clause-header : goal.whole_message-requires-clause-header
 whole_message-requires-clause-header c = whole (goal.at.whole_message-requires-clause-header c).After-split_at
 
-pub returns-then-bytes-lt-HEADER_LENGTH-clause-read : goal.returns-then-bytes-lt-HEADER_LENGTH-clause-read
-returns-then-bytes-lt-HEADER_LENGTH-clause-read c =
+pub returns-then-bytes-lt-MESSAGE_HEADER-clause-read : goal.returns-then-bytes-lt-MESSAGE_HEADER-clause-read
+returns-then-bytes-lt-MESSAGE_HEADER-clause-read c =
     rw c.at.ensures (refl, inr (message_cut (template_at c.args.table.now) c.args.count c.args.base c.args.bytes.now _ (header_short c.args.count c.args.bytes.now (omega arith))))
 
 pub returns-in-Err-clause-read : goal.returns-in-Err-clause-read

@@ -26,13 +26,12 @@ returns-clause-counted g c = (own_sound c.args.count (head_of c.args.buffer.now 
 pub returns-in_err-fill-2 : goal.returns-in_err-fill-2
 returns-in_err-fill-2 g c =
     let p = err_from_is_err_and c.from_residual-in_err-fill-2.result c.from_residual-in_err-fill-2.ensures.1 in
-    let failed = c.in_err-fill-2.ensures.err in
-    rw (p.1, p.2, failed.0) (record {
+    rw (p.1, p.2) (record {
       gathers = unread_rest _ _ c.args.count _ c.fill.new.bytes c.in_ok-fill.ensures.given c.args.buffer.now (omega (arith, length-take 16 c.args.buffer.now)) (omega arith)
           c.in_ok-size.size _ _ c.in_ok-size.ensures.ok c.in_ok-size.ensures.whole c.fill-2.new.bytes (search rules) c.in_err-fill-2.ensures.short;
       whole = tt;
       counted = tt;
-      device = λ none. failed.1;
+      device = λ none. c.in_err-fill-2.ensures.err;
     })
 
 pub returns-in_err-size : goal.returns-in_err-size

@@ -2,7 +2,7 @@ use Rattle.std.proofs.Common.{◌≡◌, [], ◌∷◌, ◌++◌, ◌+◌, ◌-�
 use Rattle.std.proofs.lemmas.Grind.{common_steps}
 use Rattle.std.proofs.lemmas.List.{append-nil}
 use Rattle.ipfix_templates.specs.Reading.{fields_at}
-use Rattle.ipfix_templates.proofs.Records.{behind, regroup, next_field, no_field, all_fields}
+use Rattle.ipfix_templates.proofs.Records.{with_front, regroup, next_field, no_field, all_fields}
 use Rattle.ipfix_templates.proofs.record.read_fields.Goals as goal
 
 pub returns-in_default-clause-read : goal.returns-in_default-clause-read
@@ -18,7 +18,7 @@ loop-preserved c = record {
   read =
       let f = c.in-Some.field in let after = c.in-Some.after.now in
       let items : c.push.new.self.items ≡ c.loop.fields.items ++ f ∷ [] = search rules in
-      let read : behind c.push.new.self.items (fields_at (c.args.count - (c.loop.counter + 1)) after) ≡ fields_at c.args.count c.args.bytes.now =
+      let read : with_front c.push.new.self.items (fields_at (c.args.count - (c.loop.counter + 1)) after) ≡ fields_at c.args.count c.args.bytes.now =
       rw items (sym (regroup c.loop.fields.items f (fields_at (c.args.count - (c.loop.counter + 1)) after))
       ∙ (rw (next_field c.args.count c.loop.counter c.loop.rest.now f after c.loop-test.true (search rules)) at c.loop.invariant.read)) in
       search rules;

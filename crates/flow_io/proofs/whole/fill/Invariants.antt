@@ -1,6 +1,6 @@
 use Rattle.std.proofs.Common.{◌≡◌, ◌-◌, ◌≤◌, length, take}
 use Rattle.flow_io.specs.Devices.{Gives}
-use Rattle.ipfix_read.proofs.progress.fill.Given as goal
+use Rattle.flow_io.proofs.whole.fill.Given as goal
 
 abbrev pub invariant-loop-filled : goal.invariant-loop-filled
 invariant-loop-filled g l = record {
