@@ -1,5 +1,5 @@
 -- Headers, whatever bytes follow them, and headers whose following bytes are known.
-use Rattle.std.proofs.Common.{◌≡◌, false, ℕ, ◌<◌, ◌≤◌, List, ◌++◌, length, Some, None, inl, inr, refl, sym, ap, ◌∙◌, arith, ◌+◌, take, length-take, ◌-◌, Ok, Err, subst, length-append, Bool, true}
+use Rattle.std.proofs.Common.{◌≡◌, false, ℕ, ◌<◌, ◌≤◌, List, ◌++◌, length, Some, None, inl, inr, refl, sym, ap, ◌∙◌, arith, ◌+◌, take, ◌-◌, Ok, Err, subst, length-append, Bool, true}
 use Rattle.std.proofs.lemmas.Grind.{common_steps}
 use Rattle.std.proofs.lemmas.Bool.Decides.{nat_tests}
 use Rattle.std.proofs.lemmas.Bool.{lt-ltb, le-ltb}
@@ -10,7 +10,7 @@ use Rattle.ipfix_read.specs.declared.fault.ReadFaultKind.TheVariants.{TruncatedH
 use Rattle.ipfix_read.specs.Fault.{is_of_calls}
 use Rattle.ipfix_read.specs.Set.{written_length}
 use Rattle.ipfix_read.proofs.Sets.{front_number, front_length}
-use lib.Seq.{take-append-add, take-append-le, take-append_seam}
+use lib.Seq.{take-append-add, take-append_seam}
 use borrow.Rule.Slice.PartMut.{put_mid, post_of}
 use Rattle.flow_io.specs.Devices.{InputView, MayFollow, ReadsInput, Gives}
 use Rattle.flow_io.proofs.Moving.{gives_more}

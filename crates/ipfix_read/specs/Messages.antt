@@ -61,10 +61,6 @@ pub record ProgressView : Type 0 where
 abbrev pub IsAt : InForce → ℕ → ℕ → ProgressView → Type 0
 IsAt templates count offset p = (template_at p.table ≡ templates) × (p.count ≡ count) × (p.offset ≡ offset) × (p.state ≡ Going)
 
--- at the beginning of a File
-abbrev pub IsAtStart : ProgressView → Type 0
-IsAtStart p = IsAt no_templates 0 0 p
-
 -- The result of a call in the state Going, and the state after the call, by the bytes that the call took, and whether it
 -- found the end of the input. A message consists of the taken bytes, whatever bytes follow them. There is no message if
 -- there was no byte before the end. A fault is the first one of the File, in this message, whatever bytes may follow, or

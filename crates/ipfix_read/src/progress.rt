@@ -1,10 +1,11 @@
 //! Reading a File message by message.
-ghost use Rattle.std.specs.Prelude.{◌≡◌, ◌<◌, ◌≤◌, ◌+◌, ℕ, Ok, Err, None, true, false, IfErr, IfOk, IfSome, MatchResult, OnErr, OnOk, OnSome, length, option_map, take, vec_len};
-ghost use Rattle.flow_io.specs.Devices.{InputView, ReadsInput, Gives, has_ended};
+ghost use Rattle.std.specs.Prelude.{◌≡◌, ◌<◌, ◌≤◌, ◌+◌, Ok, Err, None, false, IfOk, IfSome, MatchResult, OnSome, length, option_map, vec_len};
+ghost use Rattle.flow_io.specs.Devices.{InputView, ReadsInput, has_ended};
 ghost use Rattle.std.specs.Result.{result_map_both};
+ghost use Rattle.ipfix_templates.specs.InForce.{no_templates};
 ghost use Rattle.ipfix_read.specs.Fault.{failed_before, is_of_reader};
 ghost use Rattle.ipfix_read.specs.Message.{HasHeader};
-ghost use Rattle.ipfix_read.specs.Messages.{Going, Ended, Failed, AnswersNext, Gathers, ProgressView, IsAtStart, is_read_fault};
+ghost use Rattle.ipfix_read.specs.Messages.{Going, Ended, Failed, AnswersNext, Gathers, ProgressView, IsAt, is_read_fault};
 
 use crate::fault::{ReadFault, ReadFaultKind};
 use crate::message::{MESSAGE_HEADER, Message, header_length, whole_message};
@@ -98,7 +99,7 @@ impl Model for Progress {
 impl Progress {
     /// Returns the state at the beginning of a File.
     pub fn new(alloc: Global) -> Self
-        ensures { IsAtStart result }
+        ensures { IsAt no_templates 0 0 result }
     {
         Progress {
             alloc,
@@ -187,7 +188,7 @@ impl<'r, R: Input> Messages<'r, R, Progress, Buffer> {
     pub fn new(alloc: Global, reader: &'r mut R) -> Result<Self, AllocError>
         ensures same_reference { IfOk result (λ m. m.reader.ghost_name ≡ reader.entry.ghost_name) }
         ensures reader { IfOk result (λ m. m.reader.now ≡ reader.old) }
-        ensures begins { IfOk result (λ m. IsAtStart m.progress) }
+        ensures begins { IfOk result (λ m. IsAt no_templates 0 0 m.progress) }
     {
         Ok(Messages {
             reader,

@@ -2,13 +2,13 @@
 use Rattle.std.proofs.Common.{◌≡◌, false, ℕ, suc, ◌+◌, ◌-◌, ◌<◌, ◌≤◌, List, [], ◌∷◌, ◌++◌, length, Option, Some, None, refl, ap, append_assoc, arith, zero, drop, Result, Ok, Err, length-drop}
 use Rattle.std.specs.Prelude.{nat_lt, option_and_then}
 use Rattle.ipfix_templates.specs.Template.{Field, Kind, Flow, Options}
-use Rattle.ipfix_templates.specs.Reading.{field_at, fields_at, defined_by, definition_at, template_record_at, template_next, after_items, at_offset, items_from, IsFaultOf, Malformed, NoMemory, TemplateFault, TemplateFaultKind}
+use Rattle.ipfix_templates.specs.Reading.{field_at, fields_at, defined_by, definition_at, template_record_at, template_next, after_items, at_offset, items_from, TemplateFaultKind}
 use Rattle.std.proofs.lemmas.Grind.{common_steps}
 use Rattle.std.proofs.lemmas.Bool.{ltb-false, lt-ltb, le-ltb}
 use Rattle.byteorder.specs.Endian.{big_number}
 use Rattle.ipfix_templates.specs.declared.event.TemplateEvent.{TemplateEvent}
 use Rattle.ipfix_templates.proofs.Choice.{gave, some_is, ok_is}
-use Rattle.ipfix_templates.proofs.Reading.{at_end, at_fault, at_item}
+use Rattle.ipfix_templates.proofs.Reading.{at_end, at_item}
 
 -- the fields that were read before, and those that are still to be read
 abbrev pub with_front : List Field → Option (List Field × List ℕ) → Option (List Field × List ℕ)
@@ -86,10 +86,6 @@ module _ (kind : Kind) (whole : Result (List TemplateEvent) (TemplateFaultKind �
       → whole ≡ after_items (events ++ event ∷ []) (events_from kind later after)
   event_more event after later long read =
       at_item (λ rest. nat_lt (length rest) 4) (λ _. template_next kind) (λ _ _. tt) refl (event_smaller kind) whole events (tt {0}) offset rest so_far event after later (le-ltb (length rest) 4 long) (rw read refl)
-
-  pub event_fault : (fault : TemplateFault) → 4 ≤ length rest → IsFaultOf (template_next kind offset rest) fault → IsFaultOf whole fault
-  event_fault (Malformed fault at) long is = at_fault (λ rest. nat_lt (length rest) 4) (λ _. template_next kind) (λ _ _. tt) refl (event_smaller kind) whole events (tt {0}) offset rest so_far (fault, at) (le-ltb (length rest) 4 long) is
-  event_fault NoMemory long is = tt
 
   pub events_end : length rest < 4 → whole ≡ Ok events
   events_end few = at_end (λ rest. nat_lt (length rest) 4) (λ _. template_next kind) (λ _ _. tt) refl (event_smaller kind) whole events (tt {0}) offset rest so_far (lt-ltb (length rest) 4 few)

@@ -1,4 +1,4 @@
-use Rattle.std.specs.Prelude.{◌≡◌, List, [], ◌∷◌, ◌++◌, ℕ, zero, suc, ◌+◌, ◌-◌, Bool, length, drop, Option, Some, None, Result, Ok, Err, ok_or, option_and_then, option_map, nat_lt, ◌==◌, ◌&&◌, ◌||◌, if◌then◌else◌}
+use Rattle.std.specs.Prelude.{◌≡◌, ◌≤◌, List, [], ◌∷◌, ◌++◌, ℕ, zero, suc, ◌+◌, ◌-◌, Bool, length, drop, Option, Some, None, Result, Ok, Err, ok_or, option_and_then, option_map, nat_lt, ◌==◌, ◌&&◌, ◌||◌, if◌then◌else◌}
 use Rattle.std.specs.Result.{result_flatten, result_map_both}
 use Rattle.byteorder.specs.Endian.{big_number}
 pub use Rattle.ipfix_templates.specs.declared.fault.TemplateFault.{TemplateFault}
@@ -84,12 +84,7 @@ template_next kind offset bytes = at_offset offset (template_record_at kind byte
 abbrev pub template_set_reading : Kind → List ℕ → Result (List TemplateEvent) (TemplateFaultKind × ℕ)
 template_set_reading kind bytes = items_from (λ rest. nat_lt (length rest) 4) (λ _. template_next kind) (λ _ _. tt) (tt {0}) 0 bytes
 
--- the fault is that of the reading, or that an allocation failed
-abbrev pub IsFaultOf : {A : Type 0} → Result A (TemplateFaultKind × ℕ) → TemplateFault → Type 0
-IsFaultOf reading (Malformed kind offset) = reading ≡ Err (kind, offset)
-IsFaultOf reading NoMemory = Unit {0}
-
--- the offset of a fault, and 0 if an allocation failed
-abbrev pub offset_of : TemplateFault → ℕ
-offset_of (Malformed kind offset) = offset
-offset_of NoMemory = 0
+-- the fault is that of the reading, at most at the limit, or that an allocation failed
+abbrev pub IsFaultOf : {A : Type 0} → ℕ → Result A (TemplateFaultKind × ℕ) → TemplateFault → Type 0
+IsFaultOf limit reading (Malformed kind offset) = (offset ≤ limit) × (reading ≡ Err (kind, offset))
+IsFaultOf limit reading NoMemory = Unit {0}

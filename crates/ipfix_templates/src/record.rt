@@ -79,7 +79,7 @@ fn read_definition(
     requires id { 256 ≤ id }
     requires some { 0 < count }
     ensures ok { IfOk result (λ x. definition_at kind id count bytes.now ≡ Ok (x.0, x.1.now)) }
-    ensures fault { IfErr result (IsFaultOf (at_offset offset (definition_at kind id count bytes.now))) }
+    ensures fault { IfErr result (IsFaultOf offset (at_offset offset (definition_at kind id count bytes.now))) }
 {
     let mut rest = bytes;
     let mut scope_count = 0;
@@ -116,7 +116,7 @@ pub fn read_record(
 ) -> Result<(TemplateEvent, &[u8]), TemplateFault>
     requires { 4 ≤ length bytes.now }
     ensures ok { IfOk result (λ x. template_record_at kind bytes.now ≡ Ok (x.0, x.1.now)) }
-    ensures fault { IfErr result (IsFaultOf (at_offset offset (template_record_at kind bytes.now))) }
+    ensures fault { IfErr result (IsFaultOf offset (at_offset offset (template_record_at kind bytes.now))) }
 {
     let id = BigEndian::read_u16(bytes);
     let count = BigEndian::read_u16(&bytes[2..]);
