@@ -5,8 +5,11 @@ use Rattle.clap.specs.declared.builder.arg.Arg.{Arg}
 use Rattle.clap.specs.declared.builder.command.Command.{Command}
 use Rattle.clap.specs.declared.builder.command.Command.TheViews.{out-Command}
 use Rattle.clap.specs.Words.{App, Rule, Text, app_of, new_app, new_rule, rule_of, with_rule, with_subcommand}
+use Rattle.flow_filter.specs.Options.{name_of}
+use Rattle.flow_filter.specs.declared.option.TheConstants.{ALL_OPTIONS}
 use Rattle.flowlabel.specs.declared.definition.Argument.{Argument}
 use Rattle.flowlabel.specs.declared.definition.Argument.TheVariants.{Flag, Needed, Optional, Word}
+use Rattle.flowlabel.specs.declared.definition.Subcommand.{Subcommand}
 
 -- The command line as clap reads its definition: each subcommand with its options and words.
 
@@ -33,6 +36,18 @@ rule_for (Word name value help) = word_rule name.now
 abbrev pub with_argument : App → Argument → App
 with_argument app argument = with_rule app (rule_for argument)
 
+abbrev pub with_app : App → App → App
+with_app app sub = with_subcommand app sub.top
+
+-- a subcommand in the program, and a program with it
+abbrev pub app_for : Subcommand → App
+app_for sub =
+    let begun = fold with_argument (new_app sub.name.now) sub.first.now in
+    fold with_argument (fold with_argument begun sub.second.now) sub.third.now
+
+abbrev pub with_sub : App → Subcommand → App
+with_sub app sub = with_app app (app_for sub)
+
 -- a command without subcommands, by its name and its arguments
 abbrev pub leaf : Text → List Rule → App
 leaf name = fold with_rule (new_app name)
@@ -42,28 +57,10 @@ abbrev pub source_rules : List Rule
 source_rules = option_rule (codes "pmap") ∷ option_rule (codes "list") ∷ []
 
 abbrev pub report_rules : List Rule
-report_rules = source_rules ++ map option_rule (
-    codes "protocol" ∷ codes "sport" ∷ codes "dport" ∷ codes "saddress" ∷ codes "daddress" ∷ codes "packets" ∷ codes "bytes"
-    ∷ codes "src-label" ∷ codes "dst-label" ∷ codes "any-label" ∷ [])
+report_rules = source_rules ++ map (λ o. option_rule (name_of o)) ALL_OPTIONS
 
 abbrev pub table_rules : List Rule
 table_rules = flag_rule (codes "columns") ∷ word_rule (codes "flows") ∷ []
-
--- the arguments of subcommands
-abbrev pub label_rules : List Rule
-label_rules = source_rules ++ word_rule (codes "address") ∷ []
-
-abbrev pub rows_rules : List Rule
-rows_rules = report_rules ++ table_rules
-
-abbrev pub uniq_rules : List Rule
-uniq_rules = needed_rule (codes "fields") ∷ report_rules ++ flag_rule (codes "sort-output") ∷ table_rules
-
-abbrev pub shrink_rules : List Rule
-shrink_rules = needed_rule (codes "pmap") ∷ flag_rule (codes "certificate") ∷ flag_rule (codes "compact") ∷ []
-
-abbrev pub check_rules : List Rule
-check_rules = needed_rule (codes "pmap") ∷ needed_rule (codes "list") ∷ needed_rule (codes "cert") ∷ []
 
 -- the program without its subcommands: it has a version, one of them is required, and `help` isn't one
 abbrev pub program : App
@@ -75,13 +72,16 @@ program = record (new_app (codes "flowlabel")) {
   };
 }
 
-abbrev pub with_app : App → App → App
-with_app app sub = with_subcommand app sub.top
-
+-- the program with its subcommands and their arguments
 unfoldable pub flowlabel_app : App
 flowlabel_app = fold with_app program (
-    leaf (codes "label") label_rules ∷ leaf (codes "info") (word_rule (codes "flows") ∷ []) ∷ leaf (codes "rows") rows_rules ∷ leaf (codes "uniq") uniq_rules
-    ∷ leaf (codes "cat") source_rules ∷ leaf (codes "shrink") shrink_rules ∷ leaf (codes "check") check_rules
+    leaf (codes "label") (source_rules ++ word_rule (codes "address") ∷ [])
+    ∷ leaf (codes "info") (word_rule (codes "flows") ∷ [])
+    ∷ leaf (codes "rows") (report_rules ++ table_rules)
+    ∷ leaf (codes "uniq") (needed_rule (codes "fields") ∷ report_rules ++ flag_rule (codes "sort-output") ∷ table_rules)
+    ∷ leaf (codes "cat") source_rules
+    ∷ leaf (codes "shrink") (needed_rule (codes "pmap") ∷ flag_rule (codes "certificate") ∷ flag_rule (codes "compact") ∷ [])
+    ∷ leaf (codes "check") (needed_rule (codes "pmap") ∷ needed_rule (codes "list") ∷ needed_rule (codes "cert") ∷ [])
     ∷ leaf (codes "recert") (needed_rule (codes "cert") ∷ []) ∷ [])
 
 -- clap reads the argument by this rule, and for its own command alone

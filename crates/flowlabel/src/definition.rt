@@ -1,9 +1,10 @@
-ghost use Rattle.std.specs.Prelude.{◌≡◌, ◌∷◌, [], IfOk, codes, true};
+ghost use Rattle.std.specs.Prelude.{◌≡◌, IfOk, true};
 ghost use Rattle.std.specs.List.{fold};
 ghost use Rattle.clap.specs.Words.{App, new_app};
 ghost use Rattle.clap.specs.declared.builder.command.Command.TheViews.{out-Command};
-ghost use Rattle.flowlabel.specs.Definition.{IsArgument, IsCommand, check_rules, flowlabel_app, label_rules, leaf, needed_rule, program, rows_rules, rule_for, shrink_rules, source_rules, uniq_rules, with_app, with_argument, word_rule};
+ghost use Rattle.flowlabel.specs.Definition.{IsArgument, IsCommand, app_for, flowlabel_app, program, rule_for, with_argument, with_sub};
 
+use Argument::{Flag, Needed, Optional, Word};
 use clap::{Arg, ArgAction, Command};
 use std::alloc::{AllocError, Global};
 
@@ -14,13 +15,35 @@ macro_rules! version {
     };
 }
 
+// The text of an example: what it prints, and its words after `flowlabel`.
 macro_rules! example {
-    ($what:literal, $line:literal) => {
-        concat!("Example, ", $what, ":\n  ", $line, "\n\nManuals: flowlabel(1), flowlabel-formats(5)")
+    ($what:literal, $($words:literal),+) => {
+        concat!("Example, ", $what, ":\n  flowlabel ", $($words,)+ "\n\nManuals: flowlabel(1), flowlabel-formats(5)")
     };
 }
 
-// An argument of a command: the text after its name, if there is any, and its texts for help.
+// A table of arguments: the kind and the texts of each.
+macro_rules! arguments {
+    ($($kind:ident $($text:literal)+;)*) => { [$($kind($($text),+)),*] };
+}
+
+// A table of subcommands: the name, what the subcommand does, its words, an example with its words, and its arguments.
+macro_rules! subcommands {
+    ($($name:literal $about:literal $words:literal; $what:literal $example:literal;
+        $first:expr, $second:expr, $third:expr;)*) => {
+        [$(Subcommand {
+            name: $name,
+            about: $about,
+            usage: concat!("flowlabel ", $name, " ", $words),
+            example: example!($what, $name, " ", $example),
+            first: $first,
+            second: $second,
+            third: $third,
+        }),*]
+    };
+}
+
+/// An argument of a command: the text after its name, if there is any, and its texts for help.
 #[derive(Clone, Copy)]
 pub enum Argument<'a> {
     // `--name VALUE`, with the heading and the text.
@@ -33,27 +56,117 @@ pub enum Argument<'a> {
     Word(&'a str, &'a str, &'a str),
 }
 
+/// A subcommand: its name, its texts for help, and its arguments, in three lists.
+#[derive(Clone, Copy)]
+pub struct Subcommand<'a> {
+    name: &'a str,
+    about: &'a str,
+    usage: &'a str,
+    example: &'a str,
+    first: &'a [Argument<'a>],
+    second: &'a [Argument<'a>],
+    third: &'a [Argument<'a>],
+}
+
+const SOURCES: [Argument<'static>; 2] = arguments! {
+    Optional "pmap" "FILE" "Labels" "The prefix map";
+    Optional "list" "FILE" "Labels" "The prefix list";
+};
+
+// The arguments of reports on Files that come first, and those that come last.
+const REPORT: [Argument<'static>; 12] = arguments! {
+    Optional "pmap" "FILE" "Labels" "The prefix map";
+    Optional "list" "FILE" "Labels" "The prefix list";
+    Optional "protocol" "NUMBERS" "Filters" "Flows of these protocols, such as 6,17 or 1-16";
+    Optional "sport" "NUMBERS" "Filters" "Flows from these ports";
+    Optional "dport" "NUMBERS" "Filters" "Flows to these ports";
+    Optional "saddress" "BLOCKS" "Filters" "Flows from these addresses: 10.0.0.1,2001:db8::/32";
+    Optional "daddress" "BLOCKS" "Filters" "Flows to these addresses";
+    Optional "packets" "RANGE" "Filters" "Flows with this many packets, such as 5, 5- or 5-9";
+    Optional "bytes" "RANGE" "Filters" "Flows with this many bytes";
+    Optional "src-label" "LABEL" "Filters" "Flows whose source has this label";
+    Optional "dst-label" "LABEL" "Filters" "Flows whose destination has this label";
+    Optional "any-label" "LABEL" "Filters" "Flows whose source or destination has this label";
+};
+
+const SORTED: [Argument<'static>; 3] = arguments! {
+    Flag "sort-output" "Print the sums in the order of their keys";
+    Flag "columns" "Pad the fields to columns";
+    Word "flows" "FILE" "The IPFIX File";
+};
+
+const TABLE: [Argument<'static>; 2] = arguments! {
+    Flag "columns" "Pad the fields to columns";
+    Word "flows" "FILE" "The IPFIX File";
+};
+
+const KEYS: [Argument<'static>; 1] = arguments! {
+    Needed "fields" "NAMES" "Keys"
+        "The fields to sum by, such as sip,dport: sip, dip,\nsport, dport, proto, flags, src-label, dst-label";
+};
+
+const SHRINK: [Argument<'static>; 3] = arguments! {
+    Needed "pmap" "FILE" "Files" "The prefix map";
+    Flag "certificate" "Print the certificate instead of the list";
+    Flag "compact" "Print the certificate in compact form";
+};
+
+const CHECK: [Argument<'static>; 3] = arguments! {
+    Needed "pmap" "FILE" "Files" "The prefix map";
+    Needed "list" "FILE" "Files" "The prefix list";
+    Needed "cert" "FILE" "Files" "The certificate";
+};
+
+const SUBCOMMANDS: [Subcommand<'static>; 8] = subcommands! {
+    "label" "Print the label of an address" "(--pmap FILE | --list FILE) ADDR";
+        "the label of one address" "--pmap customers.txt 10.2.3.4";
+        &SOURCES, &[Word("address", "ADDR", "The address to label")], &[];
+    "info" "Print the counts of an IPFIX File" "FILE";
+        "the numbers of messages, sets and records" "flows.ipfix";
+        &[Word("flows", "FILE", "The IPFIX File")], &[], &[];
+    "rows" "Print the flows of an IPFIX File" "[--pmap FILE | --list FILE] [OPTIONS] FILE";
+        "the flows from the customer Cedar to port 443"
+        "--pmap customers.txt --src-label Cedar --dport 443 flows.ipfix";
+        &REPORT, &TABLE, &[];
+    "uniq" "Print the sums of the flows of an IPFIX File"
+        "--fields NAMES [--pmap FILE | --list FILE] [OPTIONS] FILE";
+        "the sums by the customer that receives" "--fields dst-label --pmap customers.txt flows.ipfix";
+        &KEYS, &REPORT, &SORTED;
+    "cat" "Print the ranges of a map or a list" "(--pmap FILE | --list FILE)";
+        "the addresses of each label" "--pmap customers.txt";
+        &SOURCES, &[], &[];
+    "shrink" "Print a map's shortest prefix list" "--pmap FILE [--certificate [--compact]]";
+        "the list of a map" "--pmap customers.txt >list.txt";
+        &SHRINK, &[], &[];
+    "check" "Verify that a list is minimal" "--pmap FILE --list FILE --cert FILE";
+        "whether list.txt is a shortest list" "--pmap customers.txt --list list.txt --cert cert.txt";
+        &CHECK, &[], &[];
+    "recert" "Print a certificate in compact form" "--cert FILE";
+        "a shorter form of cert.txt" "--cert cert.txt >compact.txt";
+        &[Needed("cert", "FILE", "Files", "The certificate")], &[], &[];
+};
+
 fn argument_of<'a>(alloc: Global, argument: &Argument<'a>) -> Arg<'a>
     ensures { IsArgument (rule_for argument.now) result }
 {
     match *argument {
-        Argument::Optional(name, value, heading, help) => Arg::new(alloc, name)
+        Optional(name, value, heading, help) => Arg::new(alloc, name)
             .long(name)
             .value_name(value)
             .help_heading(heading)
             .help(help),
-        Argument::Needed(name, value, heading, help) => Arg::new(alloc, name)
+        Needed(name, value, heading, help) => Arg::new(alloc, name)
             .long(name)
             .value_name(value)
             .required(true)
             .help_heading(heading)
             .help(help),
-        Argument::Flag(name, help) => Arg::new(alloc, name)
+        Flag(name, help) => Arg::new(alloc, name)
             .long(name)
             .action(ArgAction::SetTrue)
             .help_heading("Output")
             .help(help),
-        Argument::Word(name, value, help) => Arg::new(alloc, name)
+        Word(name, value, help) => Arg::new(alloc, name)
             .value_name(value)
             .required(true)
             .help(help),
@@ -90,215 +203,39 @@ fn with_arguments<'a>(
     Ok(command)
 }
 
-fn command<'a>(
-    alloc: Global,
-    name: &'a str,
-    about: &'a str,
-    usage: &'a str,
-    example: &'a str,
-    arguments: &[Argument<'a>],
-) -> Result<Command<'a>, AllocError>
-    ensures { IfOk result (IsCommand (fold with_argument (new_app name.entry.now) arguments.now)) }
+// Returns the command of a subcommand.
+fn command_of<'a>(alloc: Global, sub: &Subcommand<'a>) -> Result<Command<'a>, AllocError>
+    ensures { IfOk result (IsCommand (app_for sub.now)) }
 {
-    let command = described(alloc, name, about, usage, example);
-    with_arguments(alloc, command, arguments)
-}
-
-const SOURCES: [Argument<'static>; 2] = [
-    Argument::Optional("pmap", "FILE", "Labels", "The prefix map"),
-    Argument::Optional("list", "FILE", "Labels", "The prefix list"),
-];
-
-fn label<'a>(alloc: Global) -> Result<Command<'a>, AllocError>
-    ensures { IfOk result (IsCommand (leaf (codes "label") label_rules)) }
-{
-    let about = "Print the label of an address";
-    let usage = "flowlabel label (--pmap FILE | --list FILE) ADDR";
-    let example = example!(
-        "the label of one address",
-        "flowlabel label --pmap customers.txt 10.2.3.4"
-    );
-    let sourced = command(alloc, "label", about, usage, example, &SOURCES)?;
-    let word = [Argument::Word("address", "ADDR", "The address to label")];
-    with_arguments(alloc, sourced, &word)
-}
-
-fn info<'a>(alloc: Global) -> Result<Command<'a>, AllocError>
-    ensures { IfOk result (IsCommand (leaf (codes "info") (word_rule (codes "flows") ∷ []))) }
-{
-    let about = "Print the counts of an IPFIX File";
-    let usage = "flowlabel info FILE";
-    let example = example!(
-        "the numbers of messages, sets and records",
-        "flowlabel info flows.ipfix"
-    );
-    let arguments = [Argument::Word("flows", "FILE", "The IPFIX File")];
-    command(alloc, "info", about, usage, example, &arguments)
-}
-
-// The arguments of reports on Files that come first, and those that come last.
-const REPORT: [Argument<'static>; 12] = [
-    Argument::Optional("pmap", "FILE", "Labels", "The prefix map"),
-    Argument::Optional("list", "FILE", "Labels", "The prefix list"),
-    Argument::Optional(
-        "protocol",
-        "NUMBERS",
-        "Filters",
-        "Flows of these protocols, such as 6,17 or 1-16",
-    ),
-    Argument::Optional("sport", "NUMBERS", "Filters", "Flows from these ports"),
-    Argument::Optional("dport", "NUMBERS", "Filters", "Flows to these ports"),
-    Argument::Optional(
-        "saddress",
-        "BLOCKS",
-        "Filters",
-        "Flows from these addresses: 10.0.0.1,2001:db8::/32",
-    ),
-    Argument::Optional("daddress", "BLOCKS", "Filters", "Flows to these addresses"),
-    Argument::Optional(
-        "packets",
-        "RANGE",
-        "Filters",
-        "Flows with this many packets, such as 5, 5- or 5-9",
-    ),
-    Argument::Optional("bytes", "RANGE", "Filters", "Flows with this many bytes"),
-    Argument::Optional(
-        "src-label",
-        "LABEL",
-        "Filters",
-        "Flows whose source has this label",
-    ),
-    Argument::Optional(
-        "dst-label",
-        "LABEL",
-        "Filters",
-        "Flows whose destination has this label",
-    ),
-    Argument::Optional(
-        "any-label",
-        "LABEL",
-        "Filters",
-        "Flows whose source or destination has this label",
-    ),
-];
-
-const TABLE: [Argument<'static>; 2] = [
-    Argument::Flag("columns", "Pad the fields to columns"),
-    Argument::Word("flows", "FILE", "The IPFIX File"),
-];
-
-fn rows<'a>(alloc: Global) -> Result<Command<'a>, AllocError>
-    ensures { IfOk result (IsCommand (leaf (codes "rows") rows_rules)) }
-{
-    let about = "Print the flows of an IPFIX File";
-    let usage = "flowlabel rows [--pmap FILE | --list FILE] [OPTIONS] FILE";
-    let example = example!(
-        "the flows from the customer Cedar to port 443",
-        "flowlabel rows --pmap customers.txt --src-label Cedar --dport 443 flows.ipfix"
-    );
-    let filtered = command(alloc, "rows", about, usage, example, &REPORT)?;
-    with_arguments(alloc, filtered, &TABLE)
-}
-
-fn uniq<'a>(alloc: Global) -> Result<Command<'a>, AllocError>
-    ensures { IfOk result (IsCommand (leaf (codes "uniq") uniq_rules)) }
-{
-    let about = "Print the sums of the flows of an IPFIX File";
-    let usage = "flowlabel uniq --fields NAMES [--pmap FILE | --list FILE] [OPTIONS] FILE";
-    let example = example!(
-        "the sums by the customer that receives",
-        "flowlabel uniq --fields dst-label --pmap customers.txt flows.ipfix"
-    );
-    let fields =
-        "The fields to sum by, such as sip,dport: sip, dip,\nsport, dport, proto, flags, src-label, dst-label";
-    let keys = [Argument::Needed("fields", "NAMES", "Keys", fields)];
-    let sorted = [Argument::Flag("sort-output", "Print the sums in the order of their keys")];
-    let grouped = command(alloc, "uniq", about, usage, example, &keys)?;
-    let filtered = with_arguments(alloc, grouped, &REPORT)?;
-    let ordered = with_arguments(alloc, filtered, &sorted)?;
-    with_arguments(alloc, ordered, &TABLE)
-}
-
-fn cat<'a>(alloc: Global) -> Result<Command<'a>, AllocError>
-    ensures { IfOk result (IsCommand (leaf (codes "cat") source_rules)) }
-{
-    let about = "Print the ranges of a map or a list";
-    let usage = "flowlabel cat (--pmap FILE | --list FILE)";
-    let example = example!(
-        "the addresses of each label",
-        "flowlabel cat --pmap customers.txt"
-    );
-    command(alloc, "cat", about, usage, example, &SOURCES)
-}
-
-fn shrink<'a>(alloc: Global) -> Result<Command<'a>, AllocError>
-    ensures { IfOk result (IsCommand (leaf (codes "shrink") shrink_rules)) }
-{
-    let about = "Print a map's shortest prefix list";
-    let usage = "flowlabel shrink --pmap FILE [--certificate [--compact]]";
-    let example = example!(
-        "the list of a map",
-        "flowlabel shrink --pmap customers.txt >list.txt"
-    );
-    let certificate = "Print the certificate instead of the list";
-    let arguments = [
-        Argument::Needed("pmap", "FILE", "Files", "The prefix map"),
-        Argument::Flag("certificate", certificate),
-        Argument::Flag("compact", "Print the certificate in compact form"),
-    ];
-    command(alloc, "shrink", about, usage, example, &arguments)
-}
-
-fn check<'a>(alloc: Global) -> Result<Command<'a>, AllocError>
-    ensures { IfOk result (IsCommand (leaf (codes "check") check_rules)) }
-{
-    let about = "Verify that a list is minimal";
-    let usage = "flowlabel check --pmap FILE --list FILE --cert FILE";
-    let example = example!(
-        "whether list.txt is a shortest list",
-        "flowlabel check --pmap customers.txt --list list.txt --cert cert.txt"
-    );
-    let arguments = [
-        Argument::Needed("pmap", "FILE", "Files", "The prefix map"),
-        Argument::Needed("list", "FILE", "Files", "The prefix list"),
-        Argument::Needed("cert", "FILE", "Files", "The certificate"),
-    ];
-    command(alloc, "check", about, usage, example, &arguments)
-}
-
-fn recert<'a>(alloc: Global) -> Result<Command<'a>, AllocError>
-    ensures { IfOk result (IsCommand (leaf (codes "recert") (needed_rule (codes "cert") ∷ []))) }
-{
-    let about = "Print a certificate in compact form";
-    let usage = "flowlabel recert --cert FILE";
-    let example = example!(
-        "a shorter form of cert.txt",
-        "flowlabel recert --cert cert.txt >compact.txt"
-    );
-    let arguments = [Argument::Needed("cert", "FILE", "Files", "The certificate")];
-    command(alloc, "recert", about, usage, example, &arguments)
+    let bare = described(alloc, sub.name, sub.about, sub.usage, sub.example);
+    let begun = with_arguments(alloc, bare, sub.first)?;
+    let most = with_arguments(alloc, begun, sub.second)?;
+    with_arguments(alloc, most, sub.third)
 }
 
 fn program<'a>(alloc: Global) -> Command<'a>
     ensures { IsCommand program result }
 {
     let about = "Label addresses by a prefix map, report on network flows, and shrink maps";
-    let example = example!("the options of one command", "flowlabel rows --help");
+    let example = example!("the options of one command", "rows --help");
     described(alloc, "flowlabel", about, "flowlabel COMMAND ...", example)
         .version(version!(""))
         .subcommand_required(true)
         .disable_help_subcommand(true)
 }
 
-// Adds a command to a program, unless an allocation failed.
-fn add<'a>(
-    program: Result<Command<'a>, AllocError>,
-    added: Result<Command<'a>, AllocError>,
+// Adds subcommands to a command.
+fn with_subcommands<'a>(
+    alloc: Global,
+    mut command: Command<'a>,
+    subcommands: &[Subcommand<'a>],
 ) -> Result<Command<'a>, AllocError>
-    ensures { (app sub : App) → IfOk program.entry (IsCommand app) → IfOk added.entry (IsCommand sub)
-        → IfOk result (IsCommand (with_app app sub)) }
+    ensures { (app : App) → IsCommand app command.entry → IfOk result (IsCommand (fold with_sub app subcommands.now)) }
 {
-    program?.subcommand(added?)
+    for sub in subcommands {
+        command = command.subcommand(command_of(alloc, sub)?)?;
+    }
+    Ok(command)
 }
 
 /// Returns the definition of the command line for clap: a program with one required level of subcommands.
@@ -306,8 +243,5 @@ pub fn definition<'a>(alloc: Global) -> Result<Command<'a>, AllocError>
     ensures app { IfOk result (IsCommand flowlabel_app) }
     ensures required { IfOk result (λ c. (out-Command c).subcommand_required ≡ true) }
 {
-    let two = add(add(Ok(program(alloc)), label(alloc)), info(alloc));
-    let four = add(add(two, rows(alloc)), uniq(alloc));
-    let six = add(add(four, cat(alloc)), shrink(alloc));
-    add(add(six, check(alloc)), recert(alloc))
+    with_subcommands(alloc, program(alloc), &SUBCOMMANDS)
 }

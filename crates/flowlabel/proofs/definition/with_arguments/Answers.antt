@@ -1,6 +1,5 @@
-use Rattle.std.proofs.Common.{◌≡◌, ◌∙◌, ap, arith, length, take}
-use Rattle.std.proofs.Math.Seq.{take-length}
-use Rattle.flowlabel.proofs.DefinitionLemmas.{one_more}
+use Rattle.flowlabel.specs.Definition.{with_argument}
+use Rattle.flowlabel.proofs.DefinitionLemmas.{all_taken, one_more}
 use Rattle.flowlabel.proofs.definition.with_arguments.Goals as goal
 
 pub loop-argument-preserved : goal.loop-argument-preserved
@@ -9,8 +8,4 @@ loop-argument-preserved c = λ app is.
     (c.loop-argument.invariant app is) c.argument_of.ensures c.in_ok-command.ensures
 
 pub returns : goal.returns
-returns c = λ app is.
-    let end : c.loop-argument.argument-index ≡ length c.args.arguments.now = omega arith in
-    let whole : take c.loop-argument.argument-index c.args.arguments.now ≡ c.args.arguments.now =
-    ap (λ k. take k c.args.arguments.now) end ∙ take-length c.args.arguments.now in
-    rw whole at (c.loop-argument.invariant app is)
+returns c = λ app is. all_taken with_argument app _ c.args.arguments.now c.loop-argument.argument-index c.loop-argument-test.false (c.loop-argument.invariant app is)

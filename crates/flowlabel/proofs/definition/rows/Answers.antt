@@ -1,4 +1,0 @@
-use Rattle.flowlabel.proofs.definition.rows.Goals as goal
-
-pub returns : goal.returns
-returns c = c.with_arguments.ensures _ c.in_ok-filtered.ensures
