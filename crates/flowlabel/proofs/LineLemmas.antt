@@ -13,11 +13,11 @@ use Rattle.flowlabel.specs.Answer.{Answer, Answers, HaveOneAnswer, LinesHaveAnsw
 
 pub one_answer : HaveOneAnswer
 one_answer words answer (Ok command) own is = ap (λ (o : Option Answer). unwrap_or o answer) (sym own.1 ∙ is.1)
-one_answer words answer (Err NoMemory) own is = tt
+one_answer words answer (Err NoMemory) own is = (tt, λ ne. absurd (ne refl))
 one_answer words answer (Err NotUtf8) own is = absurd is
 one_answer words answer (Err (Refused text)) own is = let bad : false ≡ true = rw own.0 at is in cc
 one_answer words answer (Err (Help text)) own is = let bad : false ≡ true = rw own.0 at is in cc
-one_answer words answer (Err fault) own is = ap (λ (o : Option Answer). unwrap_or o answer) (sym own.1 ∙ is.1)
+one_answer words answer (Err fault) own is = (tt, λ _. ap (λ (o : Option Answer). unwrap_or o answer) (sym own.1 ∙ is.1))
 
 not_short : (x : ℕ) (xs : Text) → (x == 45) ≡ false → short_of (x ∷ xs) ≡ None
 not_short x xs h = rw h refl

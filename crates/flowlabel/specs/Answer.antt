@@ -1,4 +1,4 @@
-use Rattle.std.specs.Prelude.{◌≡◌, ◌==◌, ◌&&◌, ◌||◌, Bool, not, true, false, List, [], ◌∷◌, Option, Some, None, Result, Ok, Err, codes, map, ok_or, option_and_then, option_map, unwrap_or, is_none, if◌then◌else◌}
+use Rattle.std.specs.Prelude.{◌≡◌, ◌≢◌, ◌==◌, ◌&&◌, ◌||◌, Bool, not, true, false, List, [], ◌∷◌, Option, Some, None, Result, Ok, Err, codes, map, ok_or, option_and_then, option_map, unwrap_or, is_none, if◌then◌else◌}
 use Rattle.std.specs.List.{list_any}
 use Rattle.std.specs.Result.{result_map_both}
 use Rattle.std.specs.Str.{bytes_eq}
@@ -145,11 +145,10 @@ abbrev pub IsOwnAnswer : {A : Type 0} → Result A UsageFault → Type 0
 IsOwnAnswer (Ok command) = Unit {0}
 IsOwnAnswer (Err fault) = IsOwnFault fault
 
--- the result is this answer, or out of memory
-abbrev pub IsUnlessMemory : Answer → Result Command UsageFault → Type 0
-IsUnlessMemory answer (Ok command) = answer ≡ Ok (request_of command)
-IsUnlessMemory answer (Err NoMemory) = Unit {0}
-IsUnlessMemory answer (Err fault) = answer ≡ Err fault
+-- the result is this answer, with the meaning of its value, or out of memory; it is neither a refusal of clap's nor help
+abbrev pub IsUnlessMemory : {A B : Type 0} → (A → B) → Result B UsageFault → Result A UsageFault → Type 0
+IsUnlessMemory meaning answer (Ok value) = answer ≡ Ok (meaning value)
+IsUnlessMemory meaning answer (Err fault) = IsOwnFault fault × (fault ≢ NoMemory → answer ≡ Err fault)
 
 -- whether a word is no option: it doesn't begin with a hyphen
 abbrev pub is_plain_word : Text → Bool
@@ -159,7 +158,7 @@ is_plain_word (x ∷ xs) = not (x == 45)
 -- a result that is what the words ask for is their answer, or out of memory
 abbrev pub HaveOneAnswer : Type 0
 HaveOneAnswer = (words : List Text) (answer : Answer) (result : Result Command UsageFault)
-    → Answers words answer → IsAnswer words result → IsUnlessMemory answer result
+    → Answers words answer → IsAnswer words result → IsUnlessMemory request_of answer result
 
 -- Three lines as examples: the answer to `label --pmap MAP ADDRESS` is its map and its address, `rows --columns FILE`
 -- asks for columns, and `shrink --pmap FILE --compact` lacks `--certificate`.

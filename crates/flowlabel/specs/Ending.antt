@@ -1,5 +1,6 @@
 use Rattle.std.specs.Prelude.{◌≡◌, ◌⊎◌, ℕ, List, MatchResult, Option, Result, Ok, Err}
 use Rattle.std.specs.Result.{IsErrAnd}
+use Rattle.std.specs.String.{string_bytes}
 use Rattle.std.specs.declared.io.ErrorKind.{ErrorKind as IoErrorKind}
 use Rattle.flow_io.specs.Devices.{InputView, OutputView, StopsWriting, Writes}
 use Rattle.flowlabel.specs.Answer.{Answers, IsFaultAt, words_fault_of}
@@ -33,7 +34,7 @@ IsWritten old new text = Writes old new text ⊎ StopsWriting old new text
 module _ {O E : Type 0} (output : O → OutputView) (error : E → OutputView) where
   abbrev pub IsTold : Result (Unit {0}) RunFault → O → O → E → E → Type 0
   IsTold (Ok done) out out' err err' = (out' ≡ out) × (err' ≡ err)
-  IsTold (Err (Usage (usage.Help text))) out out' err err' = IsWritten (output out) (output out') text × (err' ≡ err)
+  IsTold (Err (Usage (usage.Help text))) out out' err err' = IsWritten (output out) (output out') (string_bytes text) × (err' ≡ err)
   IsTold (Err fault) out out' err err' =
       (out' ≡ out) × (IsWritten (error err) (error err') (fault_text fault) ⊎ (err' ≡ err))
 

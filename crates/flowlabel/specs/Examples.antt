@@ -1,6 +1,7 @@
 use Rattle.std.specs.Prelude.{◌≡◌, ◌+◌, ◌*◌, ℕ, List, [], ◌∷◌, Option, Result, Ok, Err, codes, unwrap_or}
 use Rattle.std.specs.Borrow.{Bor}
 use Rattle.std.specs.Fmt.{digits}
+use Rattle.std.specs.String.{string_bytes}
 use lib.Dec.{lit<}
 use Rattle.prefix_keys.specs.Text.{hex_digit_value}
 use Rattle.prefix_keys.specs.declared.addr.Addr.{Addr}
@@ -61,7 +62,7 @@ pub data Stream : Type 0 where
 -- the exit status, and the text that is written to one of the streams, for the end of a run
 abbrev pub seen : Result Text RunFault → ℕ × Stream × Text
 seen (Ok out) = (exit_status_of (Ok out), StandardOutput, out)
-seen (Err (Usage (Help text))) = (exit_status_of {A = Text} (Err (Usage (Help text))), StandardOutput, text)
+seen (Err (Usage (Help text))) = (exit_status_of {A = Text} (Err (Usage (Help text))), StandardOutput, string_bytes text)
 seen (Err fault) = (exit_status_of {A = Text} (Err fault), StandardError, fault_text fault)
 
 -- a name of a file on the command line

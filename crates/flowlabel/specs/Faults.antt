@@ -1,4 +1,5 @@
-use Rattle.std.specs.Prelude.{ℕ, Bool, true, false, List, [], ◌++◌, Result, Ok, Err, codes, decimal, if◌then◌else◌}
+use Rattle.std.specs.Prelude.{ℕ, List, [], ◌++◌, Result, Ok, Err, codes, decimal}
+use Rattle.std.specs.String.{string_bytes}
 use Rattle.flow_filter.specs.declared.fault.FilterFaultKind.{FilterFaultKind}
 use Rattle.flow_filter.specs.declared.fault.FilterFaultKind.TheVariants as filters
 use Rattle.flow_filter.specs.Options.{name_of}
@@ -33,19 +34,8 @@ key_fault_text keys.BadField = codes "U1 BadField"
 key_fault_text keys.FieldRepeated = codes "U2 FieldRepeated"
 key_fault_text keys.NoMemory = codes "U3 NoMemory"
 
--- whether the fault is out of memory, by the kind of the fault
-abbrev pub is_filter_want : FilterFaultKind → Bool
-is_filter_want filters.NoMemory = true
-is_filter_want k = false
-
-abbrev pub is_usage_want : UsageFault → Bool
-is_usage_want (usage.Filter fault) = is_filter_want fault.kind
-is_usage_want (usage.Key keys.NoMemory) = true
-is_usage_want usage.NoMemory = true
-is_usage_want fault = false
-
 abbrev pub usage_fault_text : UsageFault → List ℕ
-usage_fault_text (usage.Refused text) = text
+usage_fault_text (usage.Refused text) = string_bytes text
 usage_fault_text usage.NotUtf8 = codes "flowlabel: usage: P1 NotUtf8\n"
 usage_fault_text (usage.Help text) = []
 usage_fault_text usage.MapTwice = codes "flowlabel: usage: P3 MapTwice\n"
@@ -58,7 +48,7 @@ usage_fault_text usage.CompactAlone = codes "flowlabel: usage: P6 CompactAlone\n
 usage_fault_text usage.NoMemory = out_of_memory
 
 abbrev pub fault_text : RunFault → List ℕ
-fault_text (Usage fault) = if is_usage_want fault then out_of_memory else usage_fault_text fault
+fault_text (Usage fault) = usage_fault_text fault
 fault_text (CannotOpen file) = codes "flowlabel: " ++ file.now ++ codes ": cannot open\n"
 fault_text (CannotRead file) = codes "flowlabel: " ++ file.now ++ codes ": cannot read\n"
 fault_text CannotWrite = codes "flowlabel: output: cannot write\n"
@@ -67,7 +57,8 @@ fault_text (File file fault) = place_text file.now (bytes_fault_name fault) (byt
 
 abbrev pub status_of : RunFault → ℕ
 status_of (Usage (usage.Help text)) = 0
-status_of (Usage fault) = if is_usage_want fault then 3 else 2
+status_of (Usage usage.NoMemory) = 3
+status_of (Usage fault) = 2
 status_of NoMemory = 3
 status_of (File file fault) = 1
 status_of fault = 4

@@ -1,5 +1,7 @@
 //! How the program ends.
-ghost use Rattle.std.specs.Prelude.{◌≡◌, Err, List, false, ℕ};
+ghost use Rattle.std.specs.Prelude.{◌≡◌, Err, false};
+ghost use Rattle.std.specs.declared.alloc.Global.{Global};
+ghost use Rattle.std.specs.declared.string.String.{String};
 ghost use Rattle.flowlabel.specs.Ending.{IsTold};
 ghost use Rattle.flowlabel.specs.Faults.{exit_status_of};
 ghost use Rattle.flowlabel.specs.Run.{Usage};
@@ -18,7 +20,7 @@ pub fn end<O: Output, E: Output>(
     output: &mut O,
     error: &mut E,
 ) -> u8
-    requires output { (text : List ℕ) → outcome.now ≡ Err (Usage (usage.Help text)) → (O.output output.old).failed ≡ false }
+    requires output { (text : String Global) → outcome.now ≡ Err (Usage (usage.Help text)) → (O.output output.old).failed ≡ false }
     requires error { (E.output error.old).failed ≡ false }
     ensures status { result ≡ exit_status_of outcome.now }
     ensures told { IsTold O.output E.output outcome.now output.old output.new

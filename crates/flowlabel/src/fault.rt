@@ -64,7 +64,7 @@ fn key_fault_name(fault: KeyFault) -> &'static str
 
 const OUT_OF_MEMORY: &str = "flowlabel: out of memory\n";
 
-// The line of a usage fault other than out of memory.
+// The line of a usage fault.
 fn usage_line(alloc: Global, fault: &UsageFault) -> Result<String, AllocError>
     ensures { IfOk result (λ line. string_bytes line ≡ usage_fault_text fault.now) }
 {
@@ -100,9 +100,6 @@ fn line_of(alloc: Global, fault: &RunFault<'_>) -> Result<String, AllocError>
     ensures { IfOk result (λ line. string_bytes line ≡ fault_text fault.now) }
 {
     match fault {
-        RunFault::Usage(fault) if fault.is_want_of_memory() => {
-            String::from_str(alloc, OUT_OF_MEMORY)
-        }
         RunFault::Usage(fault) => usage_line(alloc, fault),
         RunFault::CannotOpen(file) => format!(in alloc; "flowlabel: {file}: cannot open\n"),
         RunFault::CannotRead(file) => format!(in alloc; "flowlabel: {file}: cannot read\n"),
@@ -126,10 +123,9 @@ pub fn status(fault: &RunFault<'_>) -> u8
 {
     match fault {
         RunFault::Usage(UsageFault::Help(_)) => 0,
-        RunFault::Usage(fault) if fault.is_want_of_memory() => 3,
+        RunFault::Usage(UsageFault::NoMemory) | RunFault::NoMemory => 3,
         RunFault::Usage(_) => 2,
         RunFault::CannotOpen(_) | RunFault::CannotRead(_) | RunFault::CannotWrite => 4,
-        RunFault::NoMemory => 3,
         RunFault::File { .. } => 1,
     }
 }

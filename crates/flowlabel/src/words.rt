@@ -1,15 +1,14 @@
-ghost use Rattle.std.specs.Prelude.{◌≡◌, ◌≢◌, Err, IfErr, IfOk, Ok, map, option_map, true};
-ghost use Rattle.std.specs.Result.{result_map_both};
+ghost use Rattle.std.specs.Prelude.{◌≡◌, IfOk, map, option_map, true};
 ghost use Rattle.flow_filter.specs.Filters.{texts_of};
 ghost use Rattle.flow_filter.specs.Options.{name_of};
 ghost use Rattle.clap.specs.Words.{first_of, found_of, kind_of, rows_of, takes};
 ghost use Rattle.flowlabel.specs.Definition.{flowlabel_app};
 ghost use Rattle.flowlabel.specs.Request.{IsProper, Text, request_of, source_of};
-ghost use Rattle.flowlabel.specs.Answer.{HaveOneAnswer, IsAnswer, IsFaultOfKind, IsOwnAnswer, LinesHaveAnswers, address_in_rows, answer_of, answer_of_cat, answer_of_label, answer_of_rows, answer_of_shrink, text_in_rows, is_given, sources_in_rows, words_fault_of, condition_in_rows, answer_of_uniq, fields_in_rows, NoMemory};
+ghost use Rattle.flowlabel.specs.Answer.{HaveOneAnswer, IsAnswer, IsFaultOfKind, IsOwnAnswer, IsUnlessMemory, LinesHaveAnswers, address_in_rows, answer_of, answer_of_cat, answer_of_label, answer_of_rows, answer_of_shrink, text_in_rows, is_given, sources_in_rows, words_fault_of, condition_in_rows, answer_of_uniq, fields_in_rows};
 
 use crate::command::{Command, LabelFile, Shrunk};
 use crate::definition::definition;
-use crate::usage::{ClapText, UsageFault};
+use crate::usage::UsageFault;
 use clap::ArgMatches;
 use clap::error::ErrorKind;
 use flow_filter::{ALL_OPTIONS, Filter, FilterFaultKind, FilterWords};
@@ -28,13 +27,10 @@ fn fault_of_error(alloc: Global, error: &clap::Error) -> UsageFault
     }
     match format!(in alloc; "{error}") {
         Err(_) => UsageFault::NoMemory,
-        Ok(text) => {
-            let text = ClapText::new(text);
-            match kind {
-                ErrorKind::DisplayHelp | ErrorKind::DisplayVersion => UsageFault::Help(text),
-                _ => UsageFault::Refused(text),
-            }
-        }
+        Ok(text) => match kind {
+            ErrorKind::DisplayHelp | ErrorKind::DisplayVersion => UsageFault::Help(text),
+            _ => UsageFault::Refused(text),
+        },
     }
 }
 
@@ -53,7 +49,7 @@ fn address_in(entries: &ArgMatches<'_>) -> Option<Addr>
 }
 
 fn labels_in<'a>(entries: &ArgMatches<'a>) -> Result<Option<LabelFile<'a>>, UsageFault>
-    ensures { result_map_both (option_map source_of) (λ fault. fault) result ≡ sources_in_rows (rows_of (found_of entries.now)) }
+    ensures { IsUnlessMemory (option_map source_of) (sources_in_rows (rows_of (found_of entries.now))) result }
 {
     match (text_of(entries, "pmap"), text_of(entries, "list")) {
         (Some(_), Some(_)) => Err(UsageFault::MapTwice),
@@ -64,8 +60,7 @@ fn labels_in<'a>(entries: &ArgMatches<'a>) -> Result<Option<LabelFile<'a>>, Usag
 }
 
 fn label_command<'a>(entries: &ArgMatches<'a>) -> Result<Command<'a>, UsageFault>
-    ensures ok { IfOk result (λ command. answer_of_label (rows_of (found_of entries.now)) ≡ Ok (request_of command)) }
-    ensures err { IfErr result (λ fault. answer_of_label (rows_of (found_of entries.now)) ≡ Err fault) }
+    ensures { IsUnlessMemory request_of (answer_of_label (rows_of (found_of entries.now))) result }
 {
     let labels = labels_in(entries)?.ok_or(UsageFault::MapMissing)?;
     let addr = address_in(entries).ok_or(UsageFault::BadAddress)?;
@@ -95,8 +90,7 @@ fn filter_words_in<'a>(entries: &ArgMatches<'a>) -> FilterWords<'a>
 }
 
 fn filter_in<'a>(alloc: Global, entries: &ArgMatches<'a>) -> Result<Filter<'a>, UsageFault>
-    ensures ok { IfOk result (λ filter. condition_in_rows (rows_of (found_of entries.now)) ≡ Ok filter) }
-    ensures err { IfErr result (λ fault. fault ≢ NoMemory → condition_in_rows (rows_of (found_of entries.now)) ≡ Err fault) }
+    ensures { IsUnlessMemory (λ filter. filter) (condition_in_rows (rows_of (found_of entries.now))) result }
 {
     match Filter::read(alloc, &filter_words_in(entries)) {
         Ok(filter) => Ok(filter),
@@ -106,8 +100,7 @@ fn filter_in<'a>(alloc: Global, entries: &ArgMatches<'a>) -> Result<Filter<'a>, 
 }
 
 fn rows_command<'a>(alloc: Global, entries: &ArgMatches<'a>) -> Result<Command<'a>, UsageFault>
-    ensures ok { IfOk result (λ command. answer_of_rows (rows_of (found_of entries.now)) ≡ Ok (request_of command)) }
-    ensures err { IfErr result (λ fault. fault ≢ NoMemory → answer_of_rows (rows_of (found_of entries.now)) ≡ Err fault) }
+    ensures { IsUnlessMemory request_of (answer_of_rows (rows_of (found_of entries.now))) result }
 {
     let labels = labels_in(entries)?;
     let filter = filter_in(alloc, entries)?;
@@ -125,15 +118,13 @@ fn rows_command<'a>(alloc: Global, entries: &ArgMatches<'a>) -> Result<Command<'
 }
 
 fn keys_in(entries: &ArgMatches<'_>) -> Result<Keys, UsageFault>
-    ensures ok { IfOk result (λ keys. fields_in_rows (rows_of (found_of entries.now)) ≡ Ok keys) }
-    ensures err { IfErr result (λ fault. fault ≢ NoMemory → fields_in_rows (rows_of (found_of entries.now)) ≡ Err fault) }
+    ensures { IsUnlessMemory (λ keys. keys) (fields_in_rows (rows_of (found_of entries.now))) result }
 {
     Keys::read(needed_text(entries, "fields")).map_err(UsageFault::Key)
 }
 
 fn uniq_command<'a>(alloc: Global, entries: &ArgMatches<'a>) -> Result<Command<'a>, UsageFault>
-    ensures ok { IfOk result (λ command. answer_of_uniq (rows_of (found_of entries.now)) ≡ Ok (request_of command)) }
-    ensures err { IfErr result (λ fault. fault ≢ NoMemory → answer_of_uniq (rows_of (found_of entries.now)) ≡ Err fault) }
+    ensures { IsUnlessMemory request_of (answer_of_uniq (rows_of (found_of entries.now))) result }
 {
     let labels = labels_in(entries)?;
     let filter = filter_in(alloc, entries)?;
@@ -155,16 +146,14 @@ fn uniq_command<'a>(alloc: Global, entries: &ArgMatches<'a>) -> Result<Command<'
 }
 
 fn cat_command<'a>(entries: &ArgMatches<'a>) -> Result<Command<'a>, UsageFault>
-    ensures ok { IfOk result (λ command. answer_of_cat (rows_of (found_of entries.now)) ≡ Ok (request_of command)) }
-    ensures err { IfErr result (λ fault. answer_of_cat (rows_of (found_of entries.now)) ≡ Err fault) }
+    ensures { IsUnlessMemory request_of (answer_of_cat (rows_of (found_of entries.now))) result }
 {
     let labels = labels_in(entries)?.ok_or(UsageFault::MapMissing)?;
     Ok(Command::Cat { labels })
 }
 
 fn shrink_command<'a>(entries: &ArgMatches<'a>) -> Result<Command<'a>, UsageFault>
-    ensures ok { IfOk result (λ command. answer_of_shrink (rows_of (found_of entries.now)) ≡ Ok (request_of command)) }
-    ensures err { IfErr result (λ fault. answer_of_shrink (rows_of (found_of entries.now)) ≡ Err fault) }
+    ensures { IsUnlessMemory request_of (answer_of_shrink (rows_of (found_of entries.now))) result }
 {
     let map = needed_text(entries, "pmap");
     let certificate = is_given(entries, "certificate");
@@ -183,8 +172,7 @@ fn command_of<'a>(
     name: &str,
     entries: &ArgMatches<'a>,
 ) -> Result<Command<'a>, UsageFault>
-    ensures ok { IfOk result (λ command. answer_of (name.now, rows_of (found_of entries.now)) ≡ Ok (request_of command)) }
-    ensures err { IfErr result (λ fault. fault ≢ NoMemory → answer_of (name.now, rows_of (found_of entries.now)) ≡ Err fault) }
+    ensures { IsUnlessMemory request_of (answer_of (name.now, rows_of (found_of entries.now))) result }
 {
     if name == "info" {
         let flows = needed_text(entries, "flows");

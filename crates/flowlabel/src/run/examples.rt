@@ -6,6 +6,9 @@
 #![tactic(auto, unfolding(crate::specs::Examples::opened))]
 
 ghost use Rattle.std.specs.Prelude.{◌≡◌, ◌++◌, ◌∷◌, [], Err, None, Ok, Some, codes, false, take, true};
+ghost use Rattle.std.specs.String.{string_bytes};
+ghost use Rattle.std.specs.declared.alloc.Global.{Global};
+ghost use Rattle.std.specs.declared.string.String.{String};
 ghost use Rattle.prefix_keys.specs.declared.version.Version.TheVariants.{V4, V6};
 ghost use Rattle.pmap_text.specs.declared.fault.MapFaultKind.TheVariants.{BadLength, BadMode, BadStatement, DuplicateBlock, LabelConflict, LowAboveHigh, MissingLabel, NotAList, WrongVersion};
 ghost use Rattle.pmap_cert.specs.declared.fault.CertFaultKind.TheVariants.{BadHeader, BadLabelTable, BadNode, NodesLeft, NodesMissing};
@@ -130,10 +133,10 @@ pub fn a_run_reports_the_fault_of_a_file()
 /// FORMATS.md, "Exit status" and the table of faults.
 pub fn a_run_reports_any_other_fault()
     ensures usage { seen (Err (Usage usage.MapMissing)) ≡ (2, StandardError, codes "flowlabel: usage: P2 MapMissing\n") }
-    ensures of_clap { seen (Err (Usage (usage.Refused (codes "error: unexpected argument\n")))) ≡ (2, StandardError, codes "error: unexpected argument\n") }
+    ensures of_clap { (text : String Global) → seen (Err (Usage (usage.Refused text))) ≡ (2, StandardError, string_bytes text) }
     ensures filter { seen (Err (Usage (usage.Filter (record { option = SourcePort; kind = BadNumberList })))) ≡ (2, StandardError, codes "flowlabel: usage: --sport L1 BadNumberList\n") }
     ensures key { seen (Err (Usage (usage.Key BadField))) ≡ (2, StandardError, codes "flowlabel: usage: --fields U1 BadField\n") }
-    ensures help { seen (Err (Usage (usage.Help (codes "Usage: flowlabel\n")))) ≡ (0, StandardOutput, codes "Usage: flowlabel\n") }
+    ensures help { (text : String Global) → seen (Err (Usage (usage.Help text))) ≡ (0, StandardOutput, string_bytes text) }
     ensures no_memory_for_words { seen (Err (Usage usage.NoMemory)) ≡ (3, StandardError, codes "flowlabel: out of memory\n") }
     ensures no_memory { seen (Err NoMemory) ≡ (3, StandardError, codes "flowlabel: out of memory\n") }
     ensures cannot_open { seen (Err (CannotOpen (named (codes "day.ipfix")))) ≡ (4, StandardError, codes "flowlabel: day.ipfix: cannot open\n") }

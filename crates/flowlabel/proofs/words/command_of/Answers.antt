@@ -1,11 +1,11 @@
 use Rattle.std.proofs.Common.{◌∙◌, sym}
 use Rattle.flowlabel.proofs.words.command_of.Goals as goal
 
-pub returns-then-eq-2-clause-ok : goal.returns-then-eq-2-clause-ok
-returns-then-eq-2-clause-ok c = rw (sym c.eq.ensures ∙ c.if-eq.false, sym c.eq-2.ensures ∙ c.if-eq-2.true) c.rows_command.ensures.ok
+pub returns-then-eq-2 : goal.returns-then-eq-2
+returns-then-eq-2 c = rw (sym c.eq.ensures ∙ c.if-eq.false, sym c.eq-2.ensures ∙ c.if-eq-2.true) c.rows_command.ensures
 
-pub returns-clause-ok : goal.returns-clause-ok
-returns-clause-ok c =
+pub returns : goal.returns
+returns c =
     rw (
       sym c.eq.ensures ∙ c.if-eq.false,
       sym c.eq-2.ensures ∙ c.if-eq-2.false,
@@ -14,4 +14,4 @@ returns-clause-ok c =
       sym c.eq-5.ensures ∙ c.if-eq-5.false,
       sym c.eq-6.ensures ∙ c.if-eq-6.false,
       sym c.eq-7.ensures ∙ c.if-eq-7.false,
-    ) c.label_command.ensures.ok
+    ) c.label_command.ensures

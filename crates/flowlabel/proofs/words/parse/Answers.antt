@@ -2,7 +2,7 @@ use Rattle.std.proofs.Common.{◌∙◌, List, ap, sym, subst, map}
 use Rattle.std.specs.Prelude.{option_map}
 use Rattle.clap.specs.Words.{App, HasKind, Row, Text, fault_of, found_of, is_simple, is_simple_and_free, rows_of, subcommand_of, takes}
 use Rattle.flowlabel.specs.Answer.{answer_of}
-use Rattle.flowlabel.proofs.AnswerLemmas.{answers, fault_at, flowlabel_is_free, flowlabel_is_simple, answer_own, own, own_of_memory, subcommand_is, unless_memory}
+use Rattle.flowlabel.proofs.AnswerLemmas.{answers, fault_at, flowlabel_is_free, flowlabel_is_simple, own, own_of_memory, subcommand_is}
 use Rattle.flowlabel.proofs.RequestLemmas.{answer_is_proper}
 use Rattle.flowlabel.proofs.words.parse.Goals as goal
 
@@ -17,12 +17,12 @@ returns-in-Ok-clause-answer g c =
     let name = sym c.subcommand.ensures.name ∙ ap (option_map (λ p. p.0.now)) c.unwrap.ensures in
     let rows = sym c.subcommand.ensures.rows ∙ ap (option_map (λ p. rows_of (found_of p.1.now))) c.unwrap.ensures in
     let sub = subcommand_is c.in-Ok.matches _ _ name rows in
-    answers words _ _ none (sym found ∙ sub) (unless_memory _ c.command_of.result c.command_of.ensures.ok c.command_of.ensures.err)
+    answers words _ _ none (sym found ∙ sub) c.command_of.ensures
 
 pub returns-in-Ok-clause-taken : goal.returns-in-Ok-clause-taken
 returns-in-Ok-clause-taken g c =
     let found : Text × List Row = (c.unwrap.result.0.now, rows_of (found_of c.unwrap.result.1.now)) in
-    λ taken. own (answer_of found) _ (answer_own found) (unless_memory _ c.command_of.result c.command_of.ensures.ok c.command_of.ensures.err)
+    λ taken. own (answer_of found) _ c.command_of.ensures
 
 pub returns-in-Err-clause-answer : goal.returns-in-Err-clause-answer
 returns-in-Err-clause-answer g c =
