@@ -18,8 +18,8 @@
 //! record. A table that was changed by each event of a history in turn has at each domain and ID the template in force
 //! (`in_force`).
 //!
-//! A template's fields have a layout (`RowLayout`): the places of the numbers of flow rows in its records, determined
-//! once. Only records of flow templates have rows, so nobody asks for the layout of an options template.
+//! The fields of a template also have a layout (`RowLayout`): the places of a flow row's numbers in its records,
+//! determined once. Records of options templates have no rows, so their layout means nothing.
 #![tactic(auto)]
 
 mod event;
