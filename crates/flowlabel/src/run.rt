@@ -29,6 +29,7 @@ mod uniq;
 
 pub use laws::{one_output, output_keeps_headline, shrunk_list_is_least};
 use reading::read;
+use uniq::Grouping;
 
 // Returns the output of a command over its files, which are read here: the map, the list, the certificate, the flows.
 fn output<R: Input>(
@@ -60,9 +61,15 @@ fn output<R: Input>(
             sorted,
             columns,
             ..
-        } => uniq::output(
-            alloc, keys, *labels, files, filter, *sorted, *columns, hashing,
-        ),
+        } => {
+            let grouping = Grouping {
+                keys,
+                filter,
+                sorted: *sorted,
+                columns: *columns,
+            };
+            uniq::output(alloc, *labels, files, grouping, hashing)
+        }
         Command::Cat { labels } => {
             cat::output(alloc, *labels, read(alloc, labels.role(), files)?, hashing)
         }

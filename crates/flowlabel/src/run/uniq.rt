@@ -20,6 +20,19 @@ use pmap_print::print_groups;
 use pmap_text::KeyHashing;
 use std::alloc::{AllocError, Global};
 
+/// How rows are chosen, grouped and printed.
+#[derive(Clone, Copy)]
+pub struct Grouping<'a> {
+    /// The fields of the groups' keys.
+    pub keys: &'a Keys,
+    /// The condition that rows must meet.
+    pub filter: &'a Filter<'a>,
+    /// Whether the groups are sorted, or in the order of their first rows.
+    pub sorted: bool,
+    /// Whether the fields are padded to columns.
+    pub columns: bool,
+}
+
 #[derive(Clone, Copy)]
 struct UniqReport<'a> {
     keys: &'a Keys,
@@ -43,33 +56,30 @@ impl<'a> TakesRows for UniqReport<'a> {
     }
 }
 
-/// Returns the groups, by fields, of the rows of a File that pass a filter. They are sorted if `sorted`, otherwise in
-/// the order of their first rows, and padded to columns if `columns`.
+/// Returns the groups of the rows of a File that pass a filter.
 pub fn output<R: Input>(
     alloc: Global,
-    keys: &Keys,
     labels: Option<LabelFile<'_>>,
     files: &mut ByFile<Option<Source<'_, R>>>,
-    filter: &Filter<'_>,
-    sorted: bool,
-    columns: bool,
+    grouping: Grouping<'_>,
     hashing: KeyHashing,
 ) -> Result<Vec<u8>, OutputFault>
     requires unread { AreUnread R.input files.old }
     requires works { any_failed R.input files.old ≡ false }
     ensures { IsMade R.input
-        (λ texts. IsOutput (uniq keys.now (option_map (source_with texts) labels.entry) filter.now sorted columns texts.flows))
+        (λ texts. IsOutput (uniq grouping.entry.keys.now (option_map (source_with texts) labels.entry)
+        grouping.entry.filter.now grouping.entry.sorted grouping.entry.columns texts.flows))
         files.old files.new result }
 {
     let read = LabelsRead::of_files(alloc, labels, files, hashing)?;
     let index = read.index(alloc)?;
     let labels = index.as_ref();
-    let mut groups = Groups::with_hashing(alloc, keys, hashing)?;
+    let mut groups = Groups::with_hashing(alloc, grouping.keys, hashing)?;
     let report = UniqReport {
-        keys,
-        filter,
+        keys: grouping.keys,
+        filter: grouping.filter,
         labels,
     };
     take_messages(alloc, &mut files.flows, &report, &mut groups)?;
-    Ok(print_groups(alloc, &groups, sorted, columns)?)
+    Ok(print_groups(alloc, &groups, grouping.sorted, grouping.columns)?)
 }

@@ -13,9 +13,9 @@ use Rattle.flowlabel.proofs.run.uniq.output.Goals as goal
 
 pub returns-in_err-read : goal.returns-in_err-read
 returns-in_err-read g c =
-    handed_on (IsMade g.R.Input.input (λ texts. IsOutput (uniq c.args.keys.now (option_map (source_with texts) c.args.labels) c.args.filter.now c.args.sorted c.args.columns texts.flows)) c.args.files.now c.of_files.new.files)
+    handed_on (IsMade g.R.Input.input (λ texts. IsOutput (uniq c.args.grouping.keys.now (option_map (source_with texts) c.args.labels) c.args.grouping.filter.now c.args.grouping.sorted c.args.grouping.columns texts.flows)) c.args.files.now c.of_files.new.files)
     c.from_residual.result c.in_err-read.field-0.0 c.from_residual.ensures.1
-    (c.in_err-read.ensures (report_of_groups c.args.keys.now c.args.filter.now c.args.sorted c.args.columns))
+    (c.in_err-read.ensures (report_of_groups c.args.grouping.keys.now c.args.grouping.filter.now c.args.grouping.sorted c.args.grouping.columns))
 
 pub take_messages-requires-clause-none : goal.take_messages-requires-clause-none
 take_messages-requires-clause-none g c =
@@ -32,26 +32,26 @@ take_messages-requires-clause-none g c =
 
 pub returns-in_err-take_messages : goal.returns-in_err-take_messages
 returns-in_err-take_messages g c =
-    report_fault g.R.Input.input (report_of_groups c.args.keys.now c.args.filter.now c.args.sorted c.args.columns) c.in_ok-read.ensures c.requires.unread c.take_messages.new.flows
-    (IsAfter (HasGroups c.args.keys.now c.args.filter.now (labelling_found c.as_ref-labels.result))) c.take_messages.new.taken
+    report_fault g.R.Input.input (report_of_groups c.args.grouping.keys.now c.args.grouping.filter.now c.args.grouping.sorted c.args.grouping.columns) c.in_ok-read.ensures c.requires.unread c.take_messages.new.flows
+    (IsAfter (HasGroups c.args.grouping.keys.now c.args.grouping.filter.now (labelling_found c.as_ref-labels.result))) c.take_messages.new.taken
     c.in_err-take_messages.field-0.0 c.from_residual-in_err-take_messages.result c.from_residual-in_err-take_messages.ensures.1
     c.in_err-take_messages.ensures.taken c.in_err-take_messages.ensures.failed
 
 pub returns-in_err-print_groups : goal.returns-in_err-print_groups
 returns-in_err-print_groups g c =
-    report_memory g.R.Input.input (report_of_groups c.args.keys.now c.args.filter.now c.args.sorted c.args.columns) c.in_ok-read.ensures c.requires.unread c.take_messages.new.flows
-    (IsAfter (HasGroups c.args.keys.now c.args.filter.now (labelling_found c.as_ref-labels.result))) c.take_messages.new.taken
-    (λ texts. IsOutput (uniq c.args.keys.now (option_map (source_with texts) c.args.labels) c.args.filter.now c.args.sorted c.args.columns texts.flows))
+    report_memory g.R.Input.input (report_of_groups c.args.grouping.keys.now c.args.grouping.filter.now c.args.grouping.sorted c.args.grouping.columns) c.in_ok-read.ensures c.requires.unread c.take_messages.new.flows
+    (IsAfter (HasGroups c.args.grouping.keys.now c.args.grouping.filter.now (labelling_found c.as_ref-labels.result))) c.take_messages.new.taken
+    (λ texts. IsOutput (uniq c.args.grouping.keys.now (option_map (source_with texts) c.args.labels) c.args.grouping.filter.now c.args.grouping.sorted c.args.grouping.columns texts.flows))
     c.from_residual-in_err-print_groups.result c.from_residual-in_err-print_groups.ensures.1 c.in_ok-take_messages.ensures.taken c.in_ok-take_messages.ensures.failed
 
 pub returns : goal.returns
 returns g c =
-    let condition : Condition = c.args.filter.now in
+    let condition : Condition = c.args.grouping.filter.now in
     let labels : Option Labelling = labelling_read c.in_ok-read.read in
     let found : Option Labelling = labelling_found c.as_ref-labels.result in
     let is : found ≡ labels = found_is c.as_ref-labels.result c.in_ok-index.index labels c.as_ref-labels.ensures.value c.in_ok-index.ensures in
-    report_done g.R.Input.input (report_of_groups c.args.keys.now c.args.filter.now c.args.sorted c.args.columns) c.in_ok-read.ensures c.requires.unread c.take_messages.new.flows
-    (IsAfter (HasGroups c.args.keys.now c.args.filter.now (labelling_found c.as_ref-labels.result))) c.take_messages.new.taken c.in_ok-print_groups.field-0
+    report_done g.R.Input.input (report_of_groups c.args.grouping.keys.now c.args.grouping.filter.now c.args.grouping.sorted c.args.grouping.columns) c.in_ok-read.ensures c.requires.unread c.take_messages.new.flows
+    (IsAfter (HasGroups c.args.grouping.keys.now c.args.grouping.filter.now (labelling_found c.as_ref-labels.result))) c.take_messages.new.taken c.in_ok-print_groups.field-0
     c.in_ok-take_messages.ensures.taken c.in_ok-take_messages.ensures.failed
-    (λ messages has. c.in_ok-print_groups.ensures ∙ (λ j. groups_text (has.rows.fields j) (shown_groups c.args.sorted (has.rows.groups j)) c.args.columns)
-    ∙ ap (λ (l : Option Labelling). report_of_groups c.args.keys.now condition c.args.sorted c.args.columns l messages) is)
+    (λ messages has. c.in_ok-print_groups.ensures ∙ (λ j. groups_text (has.rows.fields j) (shown_groups c.args.grouping.sorted (has.rows.groups j)) c.args.grouping.columns)
+    ∙ ap (λ (l : Option Labelling). report_of_groups c.args.grouping.keys.now condition c.args.grouping.sorted c.args.grouping.columns l messages) is)
