@@ -1,18 +1,33 @@
 -- Rows that are given in several steps, and their number.
-use Rattle.std.proofs.Common.{◌≡◌, ◌≤◌, ◌+◌, ◌*◌, ℕ, List, [], ◌∷◌, ◌++◌, length, Option, Some, None, append_assoc, length-append, refl, subst, sym, arith}
+use Rattle.std.proofs.Common.{◌≡◌, ◌∙◌, ◌≤◌, ◌+◌, ◌*◌, ℕ, All, Bool, true, false, List, [], ◌∷◌, ◌++◌, length, Option, Some, None, append_assoc, ap, length-append, refl, subst, sym, arith}
+use Rattle.std.specs.Prelude.{◌==◌, option_and_then}
+use Rattle.std.specs.Bool.{then_some}
+use Rattle.std.specs.Borrow.{Bor}
 use Rattle.std.specs.List.{flat_map}
-use Rattle.std.specs.Option.{option_to_list}
+use Rattle.std.specs.Option.{IfSome, option_to_list}
+use Rattle.std.proofs.lemmas.Bool.{eqb-true, not-false}
 use Rattle.std.proofs.lemmas.Grind.{flat_map-append}
 use Rattle.std.proofs.lemmas.List.{append-nil}
 use Rattle.std.proofs.lemmas.List.Concat.{length-flat_map}
+use Rattle.std.proofs.lemmas.List.Elements.{All-head, All-tail}
 use Rattle.std.proofs.lemmas.List.Sums.{sum_by-le-sum_by}
 use Rattle.ipfix_templates.specs.declared.kind.Kind.{Kind}
+use Rattle.ipfix_templates.specs.declared.kind.Kind.TheVariants.{Flow, Options}
+use Rattle.ipfix_templates.specs.declared.layout.RowLayout.{RowLayout}
+use Rattle.ipfix_templates.specs.Layout.{is_there, layout_of}
+use Rattle.ipfix_templates.specs.Runs.{runs_behind}
+use Rattle.ipfix_templates.specs.Template.{same_kind}
+use Rattle.ipfix_templates.specs.declared.field.Field.{Field}
 use Rattle.ipfix_read.specs.Message.{message_size, set_size}
+use Rattle.ipfix_read.specs.Value.{values_at}
 use Rattle.ipfix_read.specs.declared.record.Record.{Record}
 use Rattle.ipfix_read.specs.declared.set.Set.{Set}
 use Rattle.ipfix_read.specs.declared.set.Set.TheVariants.{Templates, Values, Skipped}
 use Rattle.flow_rows.specs.Counts.{records_in, records_of, rows_of}
 use Rattle.flow_rows.specs.Elements.{RowView, first_row, rows_of_record, second_row}
+use Rattle.flow_rows.specs.Inner.{AreUsable, HaveLayout, number_there, row_at, second_at}
+use Rattle.flow_rows.proofs.Rows.{reverse_found, reverse_missing, row_found, usable}
+use Rattle.flow_rows.proofs.Usable.{fields_of}
 use Rattle.flow_rows.specs.Walk.{CanTake, Takes}
 
 module _ {T : Type 0} (has : List RowView → T → Type 0) where
@@ -33,6 +48,74 @@ module _ {T : Type 0} (has : List RowView → T → Type 0) where
 
   pub takes_none : (old : T) → Takes has [] old old
   takes_none old = λ rows few is. subst (λ (rs : List RowView). has rs old) (sym (append-nil rows)) is
+
+  pub takes_empty : (rows : List RowView) (old : T) → length rows ≡ 0 → Takes has rows old old
+  takes_empty [] old none = takes_none old
+  takes_empty (row ∷ rows) old none = absurd (omega (arith, none))
+
+-- flow records whose fields have a layout
+pub have_layout : (layout : RowLayout) (runs : List ℕ) (fields : List Field) (records : List Record) (kind : Kind) → Some layout ≡ layout_of fields
+    → runs ≡ runs_behind 0 fields → same_kind kind Flow ≡ true → All (λ r. r.kind ≡ kind) records → All (λ r. fields_of r.fields ≡ fields) records
+    → HaveLayout layout runs records
+have_layout layout runs fields records Flow layout_is runs_are is_flow kinds same =
+    record { fields = fields; layout_is = layout_is; runs_are = runs_are; flows = kinds; same = same }
+have_layout layout runs fields records Options layout_is runs_are is_flow kinds same = absurd (cc)
+
+-- the first of flow records with a layout, and its bytes
+module _ {layout : RowLayout} {runs : List ℕ} {all : List Record} (have : HaveLayout layout runs all) {r : Record} {records : List Record}
+    (is : all ≡ r ∷ records) (bytes : Bor (List ℕ)) (read : (rest : List ℕ) × (values_at (fields_of r.fields) bytes.now ≡ Some (r.fields, rest))) where
+  flows : All (λ r. r.kind ≡ Flow) (r ∷ records)
+  flows = subst (All (λ r. r.kind ≡ Flow)) is have.flows
+
+  alike : All (λ r. fields_of r.fields ≡ have.fields) (r ∷ records)
+  alike = subst (All (λ r. fields_of r.fields ≡ have.fields)) is have.same
+
+  is_flow : r.kind ≡ Options → ⊥
+  is_flow other = let flow : r.kind ≡ Flow = All-head (λ (x : Record). x.kind ≡ Flow) r records flows in cc
+
+  same : have.fields ≡ fields_of r.fields
+  same = sym (All-head (λ (x : Record). fields_of x.fields ≡ have.fields) r records alike)
+
+  both_usable : AreUsable (length bytes.now) layout.first × AreUsable (length bytes.now) layout.second
+  both_usable = usable r is_flow have.fields runs bytes.now same have.runs_are read layout have.layout_is
+
+  pub first_usable : AreUsable (length bytes.now) layout.first
+  first_usable = both_usable.0
+
+  -- whether or not its bytes are kept for its second row, the others have the layout
+  pub still_usable : (there : Bool) → HaveLayout layout runs records
+      × IfSome (then_some there bytes) (λ bytes. AreUsable (length bytes.now) layout.second)
+  still_usable there = (
+    record {
+      fields = have.fields;
+      layout_is = have.layout_is;
+      runs_are = have.runs_are;
+      flows = All-tail (λ (x : Record). x.kind ≡ Flow) r records flows;
+      same = All-tail (λ (x : Record). fields_of x.fields ≡ have.fields) r records alike;
+    },
+    kept there,
+  )
+    where
+      kept : (there : Bool) → IfSome (then_some there bytes) (λ bytes. AreUsable (length bytes.now) layout.second)
+      kept true = both_usable.1
+      kept false = tt
+
+  -- its first row, and its second one from its bytes, if they are kept where packets of the reverse direction are counted
+  pub rows_first : (there : Bool) → there ≡ is_there layout.second.packets
+      → flat_map rows_of_record all
+      ≡ row_at layout.first (λ place. number_there place runs bytes.now)
+      ∷ option_to_list (option_and_then (λ bytes. second_at layout runs bytes.now) (then_some there bytes)) ++ flat_map rows_of_record records
+  rows_first there counted = ap (flat_map rows_of_record) is ∙ λ i.
+      (option_to_list (sym (row_found r is_flow have.fields runs bytes.now same have.runs_are read layout have.layout_is) i)
+      ++ option_to_list (second there counted i)) ++ flat_map rows_of_record records
+    where
+      second : (there : Bool) → there ≡ is_there layout.second.packets
+          → second_row r ≡ option_and_then (λ bytes. second_at layout runs bytes.now) (then_some there bytes)
+      second true counted = sym (reverse_found r is_flow have.fields runs bytes.now same have.runs_are read layout have.layout_is)
+      second false counted =
+          sym
+          (reverse_missing r is_flow have.fields runs bytes.now same have.runs_are read layout have.layout_is
+          (eqb-true layout.second.packets.length 0 (not-false (layout.second.packets.length == 0) (sym counted))))
 
 -- ---- a message has at most twice as many rows as sets and records
 

@@ -1,8 +1,14 @@
-use Rattle.std.specs.Prelude.{◌≡◌, ℕ, ◌+◌, ◌≤◌, List, [], ◌∷◌, take, Bool, Option, Some, option_and_then, option_map, unwrap_or, if◌then◌else◌}
+use Rattle.std.specs.Prelude.{◌≡◌, ℕ, ◌+◌, ◌≤◌, ◌==◌, All, List, [], ◌∷◌, map, take, Bool, Option, Some, None, option_and_then, option_map, unwrap_or, if◌then◌else◌}
 use Rattle.prefix_keys.specs.declared.version.Version.{Version}
 use Rattle.prefix_keys.specs.declared.version.Version.TheVariants.{V4, V6}
+use Rattle.ipfix_templates.specs.declared.field.Field.{Field}
+use Rattle.ipfix_templates.specs.declared.kind.Kind.TheVariants.{Flow}
 use Rattle.ipfix_templates.specs.declared.layout.Place.{Place}
 use Rattle.ipfix_templates.specs.declared.layout.Places.{Places}
+use Rattle.ipfix_templates.specs.declared.layout.RowLayout.{RowLayout}
+use Rattle.ipfix_templates.specs.Layout.{layout_of}
+use Rattle.ipfix_templates.specs.Runs.{runs_behind}
+use Rattle.ipfix_read.specs.declared.record.Record.{Record}
 use Rattle.ipfix_read.specs.Value.{bytes_at, variable_at}
 use Rattle.flow_rows.specs.Elements.{RowView, big_endian}
 
@@ -62,3 +68,16 @@ pub record AreUsable (size : ℕ) (places : Places) : Type 0 where
   pub octets : IsWithin 8 size places.octets
   pub start_ms : IsWithin 8 size places.start_ms
   pub end_ms : IsWithin 8 size places.end_ms
+
+-- the second row of the bytes of a record with this layout, if packets are counted in that direction
+abbrev pub second_at : RowLayout → List ℕ → List ℕ → Option RowView
+second_at layout runs bytes =
+    let row = row_at layout.second (λ place. number_there place runs bytes) in if row.packets == 0 then None else Some row
+
+-- these are flow records, all with the same fields, which have this layout
+pub record HaveLayout (layout : RowLayout) (runs : List ℕ) (records : List Record) : Type 0 where
+  pub fields : List Field
+  pub layout_is : Some layout ≡ layout_of fields
+  pub runs_are : runs ≡ runs_behind 0 fields
+  pub flows : All (λ r. r.kind ≡ Flow) records
+  pub same : All (λ r. map (λ v. v.field) r.fields ≡ fields) records

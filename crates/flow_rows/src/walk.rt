@@ -6,9 +6,10 @@ ghost use Rattle.flow_rows.specs.Counts.{rows_of};
 ghost use Rattle.flow_rows.specs.Elements.{RowView, rows_of_record};
 ghost use Rattle.flow_rows.specs.Walk.{CanTake, Takes};
 
-use crate::record::{reverse_row_of, row_of};
+use crate::record::second_row;
 use crate::row::Row;
 use ipfix_read::{Message, RecordList, Set};
+use ipfix_templates::Kind;
 use std::alloc::AllocError;
 
 /// What takes rows, one after the other.
@@ -41,7 +42,7 @@ fn give_row<T: TakesRows>(
     }
 }
 
-// Gives the rows of records.
+// Gives the rows of the records of a set. Their fields show where the numbers of rows are, or that there are no rows.
 #[inline(always)]
 fn give_rows_of_records<T: TakesRows>(
     records: &RecordList<'_>,
@@ -51,9 +52,23 @@ fn give_rows_of_records<T: TakesRows>(
     requires { CanTake (T.has_taken taker.now) (2 * length records.now) taken.old }
     ensures { OnOk result (Takes (T.has_taken taker.now) (flat_map rows_of_record records.now) taken.old taken.new) }
 {
+    let fields = records.fields();
+    if !records.kind().is(Kind::Flow) {
+        return Ok(());
+    }
+    let Some(layout) = fields.row_layout() else {
+        return Ok(());
+    };
+    let runs = fields.runs();
+    let has_second = layout.second.packets.is_there();
     for source in records.iter() {
-        give_row(row_of(&source), taker, taken)?;
-        give_row(reverse_row_of(&source), taker, taken)?;
+        let bytes = source.fields.bytes();
+        taker.take_row(taken, &Row::new(&layout.first, runs, bytes))?;
+        give_row(
+            second_row(layout, runs, has_second.then_some(bytes)),
+            taker,
+            taken,
+        )?;
     }
     Ok(())
 }
