@@ -36,6 +36,7 @@ impl Totals {
     ghost use Rattle.flow_uniq.specs.Inner.{IsBounded, with_row};
 
     /// Adds a row to the totals.
+    #[inline(always)]
     pub fn add(&mut self, row: &Row<'_>)
         requires bounded { IsBounded self.old }
         requires few { self.old.records < 2 ^ 64 - 1 }

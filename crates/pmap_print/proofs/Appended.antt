@@ -1,9 +1,9 @@
 -- A field is written after a text.
-use Rattle.std.proofs.Common.{ℕ, ◌≡◌, ◌+◌, ◌≤◌, ◌<◌, ◌^◌, ◌∙◌, List, ◌∷◌, ◌++◌, length, take, drop, set, ap, arith, sym}
+use Rattle.std.proofs.Common.{ℕ, ◌≡◌, ◌+◌, ◌≤◌, ◌<◌, ◌^◌, ◌∙◌, List, ◌∷◌, ◌++◌, length, take, drop, ap, arith, sym}
 use Rattle.std.specs.Fmt.{decimal}
 use Rattle.std.proofs.Math.Seq.{take-append-add}
 use Rattle.std.proofs.lemmas.Fmt.{length-decimal-le}
-use Rattle.std.proofs.lemmas.List.{drop-set, length-take-le, take-append-le, take-take, take_all, take_at}
+use Rattle.std.proofs.lemmas.List.{length-take-le, take-append-le, take-take, take_all, take_at}
 
 pub short : (n : ℕ) → n < 2 ^ 64 → length (decimal n) ≤ 20
 short n fits = length-decimal-le 20 n (omega arith) (omega (arith, fits)) (omega (arith, fits))
@@ -22,10 +22,8 @@ pub kept : (buffer new more : List ℕ) (len size : ℕ) → new ≡ take size b
 kept buffer new more len size is within fits =
     ap (take len) (is ∙ ap (λ (l : List ℕ). l ++ more) (take_all size buffer fits)) ∙ take-append-le len buffer more within
 
--- a field that was written backward, and then the mark before it
-pub field_front : (buf text more : List ℕ) (at mark count n : ℕ) → at < length buf → drop (at + 1) buf ≡ text ++ more → n ≡ length text + 1 → n ≤ count
-    → take n (take count (drop at (set buf at mark))) ≡ mark ∷ text
-field_front buf text more at mark count n within written size few =
-    take-take n count (drop at (set buf at mark)) few
-    ∙ ap (take n) (drop-set buf at mark within ∙ ap (λ (l : List ℕ). mark ∷ l) written)
-    ∙ take_at (mark ∷ text) more n (omega (arith, size))
+-- a field that was written backward
+pub field_front : (buf field more : List ℕ) (start count n : ℕ) → drop start buf ≡ field ++ more → n ≡ length field → n ≤ count
+    → take n (take count (drop start buf)) ≡ field
+field_front buf field more start count n written size few =
+    take-take n count (drop start buf) few ∙ ap (take n) written ∙ take_at field more n (sym size)

@@ -1,19 +1,12 @@
 -- One more line of a table.
-use Rattle.std.proofs.Common.{arith, ℕ, Bool, false, true, true≢false, ◌≡◌, ◌<◌, ◌∙◌, List, [], ◌∷◌, ◌++◌, Option, Some, None, cond, is_some, option_map, unwrap_or, drop, length, ap, sym, refl, subst, append_assoc}
+use Rattle.std.proofs.Common.{arith, ℕ, Bool, false, true, true≢false, ◌≡◌, ◌<◌, ◌∙◌, List, [], ◌∷◌, ◌++◌, Option, Some, None, is_some, option_map, unwrap_or, drop, length, ap, sym, refl, subst, append_assoc}
 use Rattle.std.specs.List.{flat_map, join_with_byte}
 use Rattle.std.specs.Option.{ForSome}
 use Rattle.std.proofs.lemmas.Grind.{flat_map-append}
 use Rattle.std.proofs.lemmas.List.{append-nil, drop_at}
 use Rattle.flow_rows.specs.Elements.{RowView}
 use Rattle.pmap_print.specs.Reports.{RowLabels, column_count, label_texts, row_line}
-use Rattle.pmap_print.specs.Table.{AreWide, Columns, End, IsTable, Length, Line, Mark, Table, Text, has_columns, header_text, line_text, marked, marked_line, sized}
-
--- the marks of a line that is not the first of a table, with columns or without: of its first field, and of the others
-abbrev pub first_mark : Bool → Mark
-first_mark columns = cond columns Length (End 10)
-
-abbrev pub other_mark : Bool → Mark
-other_mark columns = cond columns Length (End 124)
+use Rattle.pmap_print.specs.Table.{AreWide, Columns, End, IsTable, Length, Line, Table, Text, added_line, has_columns, header_text, line_text, marked, marked_line, sized}
 
 joined : (f : Text) (fs : Line) → f ++ flat_map (marked (End 124)) fs ≡ join_with_byte 124 (f ∷ fs)
 joined f [] = append-nil f
@@ -43,27 +36,6 @@ sized_added old new lines line so_far text =
 none_here : (o : Option Columns) (c : Columns) → o ≡ Some c → is_some o ≡ false → ⊥
 none_here o c e f = true≢false (sym (ap is_some e) ∙ f)
 
-pub line_printed : (count : ℕ) (lines : List Line) (line : Line) (old new : Table) → IsTable count lines old → 0 < length line
-    → has_columns new ≡ has_columns old → new.text ≡ old.text ++ marked_line (first_mark (has_columns old)) (other_mark (has_columns old)) line
-    → (has_columns old ≡ true → ForSome new.columns (AreWide count (lines ++ line ∷ []))) → IsTable count (lines ++ line ∷ []) new
-line_printed count lines line old new is some same text wide = by old.columns refl
-  where
-    by : (o : Option Columns) → old.columns ≡ o → IsTable count (lines ++ line ∷ []) new
-    by None e = record {
-      plain = λ _. plain_added old.text new.text lines line some (is.plain e)
-          (text ∙ ap (λ (o : Option Columns). old.text ++ marked_line (first_mark (is_some o)) (other_mark (is_some o)) line) e);
-      padded = λ c f. absurd (none_here new.columns c f (same ∙ ap is_some e));
-    }
-    by (Some c) e = record {
-      plain = λ f. absurd (none_here old.columns c e (sym same ∙ ap is_some f));
-      padded = λ d f. (
-        sized_added old.text new.text lines line (is.padded c e).0
-            (text ∙ ap (λ (o : Option Columns). old.text ++ marked_line (first_mark (is_some o)) (other_mark (is_some o)) line) e
-            ∙ ap (λ (l : Text). old.text ++ l) (all_sized line)),
-        wide (ap is_some e) d f,
-      );
-    }
-
 -- the header is printed in an empty table
 module _ (count : ℕ) (line : Line) (widths : Option Columns) (text : Text) (columns : Bool) (wide : ForSome widths (AreWide count []))
     (all : length line ≡ count) (has : is_some widths ≡ columns) (text_is : text ≡ header_text columns line) where
@@ -89,30 +61,50 @@ module _ (count : ℕ) (line : Line) (widths : Option Columns) (text : Text) (co
         padded = λ d f. (same ∙ sized_header c e ∙ sym (append-nil (sized line)), more count [] line wide (sized_header c e) all d f);
       }
 
--- the sized fields of a line are printed at the end of a table
+-- a line is printed at the end of a table
 module _ (count : ℕ) (lines : List Line) (line : Line) (old : Table) (text : Text) (begin : ℕ) (is : IsTable count lines old)
-    (all : length line ≡ count) (at : begin ≡ length old.text) (text_is : text ≡ old.text ++ marked_line Length Length line) where
-  pub sized_end : drop begin text ≡ sized line
-  sized_end = ap (drop begin) (text_is ∙ ap (λ (l : Text). old.text ++ l) (all_sized line)) ∙ drop_at old.text (sized line) begin (sym at)
+    (all : length line ≡ count) (at : begin ≡ length old.text) (text_is : text ≡ old.text ++ added_line (has_columns old) line) where
+  sized_text : (c : Columns) → old.columns ≡ Some c → text ≡ old.text ++ sized line
+  sized_text c e =
+      text_is ∙ ap (λ (o : Option Columns). old.text ++ added_line (is_some o) line) e ∙ ap (λ (l : Text). old.text ++ l) (all_sized line)
+
+  sized_end : (c : Columns) → old.columns ≡ Some c → drop begin text ≡ sized line
+  sized_end c e = ap (drop begin) (sized_text c e) ∙ drop_at old.text (sized line) begin (sym at)
 
   pub fits_columns : ForSome old.columns (λ c. (fields : Line) × (drop begin text ≡ sized fields) × (length fields ≡ length c.widths.items))
-  fits_columns = λ c e. (line, sized_end, all ∙ sym (is.padded c e).1.columns)
+  fits_columns = λ c e. (line, sized_end c e, all ∙ sym (is.padded c e).1.columns)
 
-  -- the columns are widened for it
-  pub sized_printed : (new : Table) → 0 < length line → has_columns old ≡ true → new.text ≡ text → has_columns new ≡ has_columns old
+  -- the columns, if there are any, are widened for it
+  pub line_printed : (new : Table) → 0 < length line → new.text ≡ text → has_columns new ≡ has_columns old
       → ((n : ℕ) (ls : List Line) (fields : Line) → ForSome old.columns (AreWide n ls) → drop begin text ≡ sized fields → length fields ≡ n
       → ForSome new.columns (AreWide n (ls ++ fields ∷ []))) → IsTable count (lines ++ line ∷ []) new
-  sized_printed new some has same kept wide =
-      line_printed count lines line old new is some kept
-      (same ∙ text_is ∙ ap (λ b. old.text ++ marked_line (first_mark b) (other_mark b) line) (sym has))
-      (λ _. wide count lines line (λ c e. (is.padded c e).1) sized_end all)
+  line_printed new some same kept wide = by old.columns refl
+    where
+      by : (o : Option Columns) → old.columns ≡ o → IsTable count (lines ++ line ∷ []) new
+      by None e = record {
+        plain = λ _. plain_added old.text new.text lines line some (is.plain e)
+            (same ∙ text_is ∙ ap (λ (o : Option Columns). old.text ++ added_line (is_some o) line) e);
+        padded = λ c f. absurd (none_here new.columns c f (kept ∙ ap is_some e));
+      }
+      by (Some c) e = record {
+        plain = λ f. absurd (none_here old.columns c e (sym kept ∙ ap is_some f));
+        padded = λ d f. (
+          sized_added old.text new.text lines line (is.padded c e).0 (same ∙ sized_text c e),
+          wide count lines line (λ d e. (is.padded d e).1) (sized_end c e) all d f,
+        );
+      }
 
 -- a line is printed at the end of a table without columns
-pub plain_printed : (count : ℕ) (lines : List Line) (line : Line) (old new : Table) → IsTable count lines old → 0 < length line → has_columns old ≡ false
-    → has_columns new ≡ has_columns old → new.text ≡ old.text ++ marked_line (End 10) (End 124) line → IsTable count (lines ++ line ∷ []) new
-plain_printed count lines line old new is some none kept text =
-    line_printed count lines line old new is some kept (text ∙ ap (λ b. old.text ++ marked_line (first_mark b) (other_mark b) line) (sym none))
-    (λ has. absurd (true≢false (sym has ∙ none)))
+pub plain_printed : (count : ℕ) (lines : List Line) (line : Line) (old new : Table) → IsTable count lines old → 0 < length line
+    → has_columns old ≡ false → new.columns ≡ old.columns → new.text ≡ old.text ++ marked_line (End 10) (End 124) line → IsTable count (lines ++ line ∷ []) new
+plain_printed count lines line old new is some none kept text = by old.columns refl
+  where
+    by : (o : Option Columns) → old.columns ≡ o → IsTable count (lines ++ line ∷ []) new
+    by None e = record {
+      plain = λ _. plain_added old.text new.text lines line some (is.plain e) text;
+      padded = λ c f. absurd (none_here new.columns c f (ap is_some (kept ∙ e)));
+    }
+    by (Some c) e = absurd (none_here old.columns c e none)
 
 pub length-row_line : (row : RowView) (labels : Option RowLabels) → length (row_line row (option_map label_texts labels)) ≡ column_count (is_some labels)
 length-row_line row None = refl

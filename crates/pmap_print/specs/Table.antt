@@ -51,6 +51,14 @@ abbrev pub marked_line : Mark → Mark → Line → Text
 marked_line first mark [] = []
 marked_line first mark (field ∷ fields) = marked first field ++ flat_map (marked mark) fields
 
+-- a line that is not the first of a table, with columns or without
+abbrev pub added_line : Bool → Line → Text
+added_line columns line = if columns then marked_line Length Length line else marked_line (End 10) (End 124) line
+
+-- a text begins with another one
+abbrev pub BeginsWith : Text → Text → Type 0
+BeginsWith front text = take (length front) text ≡ front
+
 -- fields that each follow the byte of their length
 abbrev pub sized : Line → Text
 sized fields = flat_map (marked Length) fields

@@ -4,7 +4,7 @@ ghost use Rattle.std.specs.Option.{option_map_or};
 ghost use Rattle.flow_uniq.specs.Codes.{IsSmall, part_model};
 ghost use Rattle.flow_uniq.specs.Inner.{group_model};
 ghost use Rattle.flow_uniq.specs.Groups.{shown_groups};
-ghost use Rattle.pmap_print.specs.Table.{has_columns, header_text, IsTable, Line, marked, marked_line};
+ghost use Rattle.pmap_print.specs.Table.{added_line, has_columns, header_text, IsTable, Line, marked, marked_line};
 ghost use Rattle.pmap_print.specs.Reports.{group_fields, group_titles, groups_text, part_text};
 
 use crate::mark::Mark;
@@ -39,6 +39,7 @@ fn print_title(out: &mut Text, fields: &[KeyField], columns: bool) -> Result<(),
 }
 
 // Appends a mark and the text of a part of a key. The text of a missing label is empty.
+#[inline(always)]
 fn print_part(out: &mut Text, mark: Mark, part: KeyPart<'_>) -> Result<(), AllocError>
     requires { IsSmall (part_model part) }
     ensures { OnOk result (out.new ≡ out.old ++ marked mark (part_text (part_model part.entry))) }
@@ -50,8 +51,14 @@ fn print_part(out: &mut Text, mark: Mark, part: KeyPart<'_>) -> Result<(), Alloc
     }
 }
 
-// Appends the line of a group, whose first field follows the mark `first` and each other field the mark `mark`.
-fn print_group(out: &mut Text, group: &Group<'_>, first: Mark, mark: Mark) -> Result<(), AllocError>
+// Appends the fields of a group, the first after the mark `first` and each other one after `mark`.
+#[inline(always)]
+fn print_marked(
+    out: &mut Text,
+    group: &Group<'_>,
+    first: Mark,
+    mark: Mark,
+) -> Result<(), AllocError>
     ensures { OnOk result (out.new ≡ out.old ++ marked_line first mark (group_fields (group_model group.now))) }
 {
     let mut before = first;
@@ -64,6 +71,17 @@ fn print_group(out: &mut Text, group: &Group<'_>, first: Mark, mark: Mark) -> Re
     out.push_number(before, group.totals.records)?;
     out.push_total(mark, group.totals.packets)?;
     out.push_total(mark, group.totals.octets)
+}
+
+// Appends the line of a group to a table with columns or without. The marks are constant, which is faster.
+fn print_group(out: &mut Text, group: &Group<'_>, columns: bool) -> Result<(), AllocError>
+    ensures { OnOk result (out.new ≡ out.old ++ added_line columns (group_fields (group_model group.now))) }
+{
+    if columns {
+        print_marked(out, group, Mark::Length, Mark::Length)
+    } else {
+        print_marked(out, group, Mark::End(b'\n'), Mark::End(b'|'))
+    }
 }
 
 // Returns the group at an index: of the sorted groups, if they are given, otherwise in the order of the first rows.
@@ -92,11 +110,8 @@ impl Table {
             → length (group_fields (group_model group.now)) ≡ count
             → IsTable count (lines ++ group_fields (group_model group.now) ∷ []) self.new) }
     {
-        if self.columns.is_none() {
-            return print_group(&mut self.text, group, Mark::End(b'\n'), Mark::End(b'|'));
-        }
         let begin = self.text.len();
-        print_group(&mut self.text, group, Mark::Length, Mark::Length)?;
+        print_group(&mut self.text, group, self.columns.is_some())?;
         self.end_line(begin);
         Ok(())
     }

@@ -1,18 +1,17 @@
 //! The printed text of flow rows.
-ghost use Rattle.std.specs.Prelude.{◌≡◌, ℕ, ◌+◌, ◌<◌, ◌≤◌, List, [], ◌∷◌, ◌++◌, IfOk, OnOk, drop, is_some, length, option_map};
+ghost use Rattle.std.specs.Prelude.{◌≡◌, ℕ, ◌+◌, ◌<◌, ◌≤◌, List, [], ◌∷◌, ◌++◌, IfOk, OnErr, OnOk, is_some, length, option_map};
 ghost use Rattle.std.specs.Fmt.{decimal};
+ghost use Rattle.std.specs.List.{flat_map};
 ghost use Rattle.std.specs.Option.{ForSome};
 ghost use Rattle.prefix_keys.specs.Print.{address_text};
-ghost use Rattle.pmap_print.specs.Table.{has_columns, header_text, IsTable, Line, marked, marked_line};
-ghost use Rattle.pmap_print.specs.Reports.{column_count, labels_at, given_labels, label_texts, row_fields, row_line, rows_text, title_line};
+ghost use Rattle.pmap_print.specs.Table.{BeginsWith, has_columns, header_text, IsTable, Line, marked, marked_line};
+ghost use Rattle.pmap_print.specs.Reports.{column_count, labels_at, given_labels, label_fields, label_texts, row_fields, row_line, rows_text, title_line};
 
 use crate::mark::Mark;
 use crate::row_labels::RowLabels;
 use crate::table::Table;
-use crate::text::Text;
+use crate::text::{Text, write_address, write_number};
 use flow_rows::Row;
-use itoa::write_digits;
-use prefix_keys::{Addr, write_addr};
 use std::alloc::{AllocError, Global};
 
 // The number of columns of rows, without labels and with them.
@@ -21,57 +20,41 @@ const COLUMNS: usize = 10;
 const WITH_LABELS: usize = 12;
 
 // The fields of a row without labels, each after its mark, take at most this many bytes.
-const LINE: usize = 250;
-
-// Writes a mark and a number so that the number ends at `end`, and returns the index of the mark.
-#[inline(always)]
-fn write_number(number: u64, line: &mut [u8], end: usize, mark: Mark) -> usize
-    requires room { 21 ≤ end }
-    requires within { end ≤ length line.old }
-    ensures size { result < end }
-    ensures room { end ≤ result + 21 }
-    ensures written { drop result line.new ≡ marked mark (decimal number) ++ drop end line.old }
-{
-    let start = write_digits(number, line, end);
-    line[start - 1] = mark.of(end - start);
-    start - 1
-}
-
-// Writes a mark and an address so that the address ends at `end`, and returns the index of the mark.
-#[inline(always)]
-fn write_address(addr: Addr, line: &mut [u8], end: usize, mark: Mark) -> usize
-    requires room { 41 ≤ end }
-    requires within { end ≤ length line.old }
-    ensures size { result < end }
-    ensures room { end ≤ result + 41 }
-    ensures written { drop result line.new
-        ≡ marked mark (address_text addr.version addr.value) ++ drop end line.old }
-{
-    let start = write_addr(addr, line, end);
-    line[start - 1] = mark.of(end - start);
-    start - 1
-}
+const LINE: usize = 192;
 
 // Appends the fields of a row without labels, the first after the mark `first` and each other one after `mark`.
 #[inline(always)]
 fn print_fields(out: &mut Text, row: &Row<'_>, first: Mark, mark: Mark) -> Result<(), AllocError>
-    ensures { OnOk result (out.new ≡ out.old ++ marked_line first mark (row_fields row.now)) }
+    ensures ok { OnOk result (out.new ≡ out.old ++ marked_line first mark (row_fields row.now)) }
+    ensures err { OnErr result (out.new ≡ out.old) }
 {
     let mut line = [0; LINE];
-    let end = write_number(row.end_ms(), &mut line, LINE, mark);
-    let start = write_number(row.start_ms(), &mut line, end, mark);
-    let octets = write_number(row.octets(), &mut line, start, mark);
-    let packets = write_number(row.packets(), &mut line, octets, mark);
-    let flags = write_number(u64::from(row.flags()), &mut line, packets, mark);
-    let protocol = write_number(u64::from(row.protocol()), &mut line, flags, mark);
-    let dport = write_number(u64::from(row.dport()), &mut line, protocol, mark);
-    let sport = write_number(u64::from(row.sport()), &mut line, dport, mark);
-    let dst = write_address(row.dst(), &mut line, sport, mark);
-    let src = write_address(row.src(), &mut line, dst, first);
+    let end = write_number(mark, row.end_ms(), &mut line, LINE);
+    let start = write_number(mark, row.start_ms(), &mut line, end);
+    let octets = write_number(mark, row.octets(), &mut line, start);
+    let packets = write_number(mark, row.packets(), &mut line, octets);
+    let flags = write_number(mark, u64::from(row.flags()), &mut line, packets);
+    let protocol = write_number(mark, u64::from(row.protocol()), &mut line, flags);
+    let dport = write_number(mark, u64::from(row.dport()), &mut line, protocol);
+    let sport = write_number(mark, u64::from(row.sport()), &mut line, dport);
+    let dst = write_address(mark, row.dst(), &mut line, sport);
+    let src = write_address(first, row.src(), &mut line, dst);
     out.push_front(&line[src..], LINE - src)
 }
 
-// Appends the line of a row, with its labels if they are given. The field of a missing label is empty.
+// Appends the fields of the labels of a row, each after a mark. The field of a missing label is empty. If an allocation
+// fails, some of it may have been appended.
+#[inline(always)]
+fn print_labels(out: &mut Text, labels: RowLabels<'_>, mark: Mark) -> Result<(), AllocError>
+    ensures ok { OnOk result (out.new ≡ out.old ++ flat_map (marked mark) (label_fields (label_texts labels.entry))) }
+    ensures err { OnErr result (BeginsWith out.old out.new) }
+{
+    out.push_field(mark, labels.src.unwrap_or(b""))?;
+    out.push_field(mark, labels.dst.unwrap_or(b""))
+}
+
+// Appends the line of a row, with its labels if they are given: the first field after the mark `first`, and each other
+// one after `mark`.
 #[inline(always)]
 fn print_row(
     out: &mut Text,
@@ -80,15 +63,20 @@ fn print_row(
     first: Mark,
     mark: Mark,
 ) -> Result<(), AllocError>
-    ensures { OnOk result (out.new
+    ensures ok { OnOk result (out.new
         ≡ out.old ++ marked_line first mark (row_line row.now (option_map label_texts labels.entry))) }
+    ensures err { OnErr result (out.new ≡ out.old) }
 {
+    let Some(labels) = labels else {
+        return print_fields(out, row, first, mark);
+    };
+    let begin = out.len();
     print_fields(out, row, first, mark)?;
-    if let Some(labels) = labels {
-        out.push_field(mark, labels.src.unwrap_or(b""))?;
-        out.push_field(mark, labels.dst.unwrap_or(b""))?;
+    let printed = print_labels(out, labels, mark);
+    if printed.is_err() {
+        out.truncate(begin);
     }
-    Ok(())
+    printed
 }
 
 // Appends the header of rows. In a table with columns, the names of the columns each follow the byte of their length.
@@ -131,7 +119,7 @@ impl Table {
     /// empty.
     ///
     /// # Errors
-    /// If an allocation fails. The table may then end with a part of the line, and must not be used any more.
+    /// If an allocation fails. The table is then unchanged.
     #[inline(always)]
     pub fn add_row(
         &mut self,
@@ -143,6 +131,7 @@ impl Table {
         ensures line { OnOk result ((lines : List Line) → IsTable (column_count (is_some labels.entry)) lines self.old
             → IsTable (column_count (is_some labels.entry))
             (lines ++ row_line row.now (option_map label_texts labels.entry) ∷ []) self.new) }
+        ensures err { OnErr result (self.new ≡ self.old) }
     {
         if self.columns.is_none() {
             // Constant marks are faster.

@@ -1,7 +1,7 @@
 //! A text that is written field by field.
-ghost use Rattle.std.specs.Prelude.{◌≡◌, ◌≤◌, ◌++◌, [], OnOk, decimal, drop, length, take};
+ghost use Rattle.std.specs.Prelude.{◌≡◌, ◌+◌, ◌^◌, ◌<◌, ◌≤◌, ◌++◌, [], OnErr, OnOk, decimal, drop, length, take};
 ghost use Rattle.prefix_keys.specs.Print.{address_text};
-ghost use Rattle.pmap_print.specs.Table.{marked};
+ghost use Rattle.pmap_print.specs.Table.{BeginsWith, marked};
 
 use crate::mark::Mark;
 use itoa::{Buffer, write_digits};
@@ -16,6 +16,36 @@ const ADDRESS: usize = 48;
 
 // The number of bytes by which the room grows at least.
 const STEP: usize = 1536;
+
+/// Writes a mark and a number so that the number ends at `end`, and returns the index of the mark.
+#[inline(always)]
+pub fn write_number(mark: Mark, number: u64, line: &mut [u8], end: usize) -> usize
+    requires room { 21 ≤ end }
+    requires within { end ≤ length line.old }
+    ensures size { result + length (marked mark (decimal number)) ≡ end }
+    ensures room { end ≤ result + 21 }
+    ensures small { number < 2 ^ 16 → end ≤ result + 6 }
+    ensures written { drop result line.new ≡ marked mark (decimal number) ++ drop end line.old }
+{
+    let start = write_digits(number, line, end);
+    line[start - 1] = mark.of(end - start);
+    start - 1
+}
+
+/// Writes a mark and an address so that the address ends at `end`, and returns the index of the mark.
+#[inline(always)]
+pub fn write_address(mark: Mark, addr: Addr, line: &mut [u8], end: usize) -> usize
+    requires room { 41 ≤ end }
+    requires within { end ≤ length line.old }
+    ensures size { result + length (marked mark (address_text addr.version addr.value)) ≡ end }
+    ensures room { end ≤ result + 41 }
+    ensures written { drop result line.new
+        ≡ marked mark (address_text addr.version addr.value) ++ drop end line.old }
+{
+    let start = write_addr(addr, line, end);
+    line[start - 1] = mark.of(end - start);
+    start - 1
+}
 
 /// A text to which fields are appended, each after a mark.
 #[derive(Drop)]
@@ -57,7 +87,8 @@ impl Text {
     #[inline(always)]
     pub fn push_front(&mut self, given: &[u8], count: usize) -> Result<(), AllocError>
         requires { count ≤ length given.now }
-        ensures { OnOk result (self.new ≡ self.old ++ take count given.now) }
+        ensures ok { OnOk result (self.new ≡ self.old ++ take count given.now) }
+        ensures err { OnErr result (self.new ≡ self.old) }
     {
         let end = self.len + given.len();
         if end > self.bytes.len() {
@@ -77,6 +108,14 @@ impl Text {
         &self.bytes[begin..self.len]
     }
 
+    /// Shortens the text to its first `len` bytes.
+    pub fn truncate(&mut self, len: usize)
+        requires { len ≤ length self.old }
+        ensures { self.new ≡ take len self.old }
+    {
+        self.len = len;
+    }
+
     /// Appends bytes.
     #[inline(always)]
     pub fn push_bytes(&mut self, bytes: &[u8]) -> Result<(), AllocError>
@@ -85,11 +124,12 @@ impl Text {
         self.push_front(bytes, bytes.len())
     }
 
-    /// Appends a mark and a field.
+    /// Appends a mark and a field. If an allocation fails, the mark may have been appended.
     #[inline(always)]
     pub fn push_field(&mut self, mark: Mark, field: &[u8]) -> Result<(), AllocError>
         requires { length field.now ≤ 255 }
-        ensures { OnOk result (self.new ≡ self.old ++ marked mark field.now) }
+        ensures ok { OnOk result (self.new ≡ self.old ++ marked mark field.now) }
+        ensures err { OnErr result (BeginsWith self.old self.new) }
     {
         self.push_front(&[mark.of(field.len())], 1)?;
         self.push_front(field, field.len())
@@ -101,8 +141,7 @@ impl Text {
         ensures { OnOk result (self.new ≡ self.old ++ marked mark (decimal number)) }
     {
         let mut field = [0; 2 * NUMBER];
-        let start = write_digits(number, &mut field, NUMBER) - 1;
-        field[start] = mark.of(NUMBER - start - 1);
+        let start = write_number(mark, number, &mut field, NUMBER);
         self.push_front(&field[start..start + NUMBER], NUMBER - start)
     }
 
@@ -123,8 +162,7 @@ impl Text {
         ensures { OnOk result (self.new ≡ self.old ++ marked mark (address_text addr.version addr.value)) }
     {
         let mut field = [0; 2 * ADDRESS];
-        let start = write_addr(addr, &mut field, ADDRESS) - 1;
-        field[start] = mark.of(ADDRESS - start - 1);
+        let start = write_address(mark, addr, &mut field, ADDRESS);
         self.push_front(&field[start..start + ADDRESS], ADDRESS - start)
     }
 

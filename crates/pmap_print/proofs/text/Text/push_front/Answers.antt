@@ -5,8 +5,8 @@ use Rattle.pmap_print.proofs.Appended.{front_written, kept}
 use Rattle.pmap_print.proofs.text.Text.push_front.Goals as goal
 use Rattle.pmap_print.proofs.text.Text.push_front.Goals.{then-end-len+in_ok-resize, else-end-len}
 
-pub returns : goal.returns
-returns c =
+pub returns-clause-ok : goal.returns-clause-ok
+returns-clause-ok c =
     let len : ℕ = c.self.inside.len in
     let old : List ℕ = c.self.inside.bytes.items in
     let new : List ℕ = c.if-end-len.self-inside.bytes.items in

@@ -1,9 +1,10 @@
 use Rattle.std.proofs.Common.{ℕ, ◌≡◌, ◌+◌, ◌-◌, ◌∙◌, ◌∷◌, List, ap, arith, drop, length}
 use Rattle.std.specs.Fmt.{decimal}
+use Rattle.std.proofs.lemmas.Fmt.{length-decimal-le}
 use Rattle.std.proofs.lemmas.List.{drop-set}
 use Rattle.pmap_print.specs.Table.{mark_byte}
 use Rattle.pmap_print.proofs.Appended.{short}
-use Rattle.pmap_print.proofs.rows.write_number.Goals as goal
+use Rattle.pmap_print.proofs.text.write_number.Goals as goal
 
 pub write_digits-start-requires : goal.write_digits-start-requires
 write_digits-start-requires c = (omega (arith, short c.args.number (omega (arith, c.ranges.number.fits)), c.requires.room), c.requires.within)
@@ -17,8 +18,15 @@ overflow_sub-line c = omega (arith, short c.args.number (omega (arith, c.ranges.
 pub overflow_sub-result : goal.overflow_sub-result
 overflow_sub-result c = omega (arith, short c.args.number (omega (arith, c.ranges.number.fits)), c.write_digits-start.ensures.start, c.requires.room)
 
+pub returns-clause-size : goal.returns-clause-size
+returns-clause-size c = omega (arith, short c.args.number (omega (arith, c.ranges.number.fits)), c.write_digits-start.ensures.start, c.requires.room)
+
 pub returns-clause-room : goal.returns-clause-room
 returns-clause-room c = omega (arith, short c.args.number (omega (arith, c.ranges.number.fits)), c.write_digits-start.ensures.start)
+
+pub returns-clause-small : goal.returns-clause-small
+returns-clause-small c = λ small.
+    omega (arith, length-decimal-le 5 c.args.number (omega arith) (omega (arith, small)) (omega (arith, small)), c.write_digits-start.ensures.start)
 
 pub returns-clause-written : goal.returns-clause-written
 returns-clause-written c =

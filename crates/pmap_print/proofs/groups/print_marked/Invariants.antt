@@ -3,7 +3,7 @@ use Rattle.std.proofs.Common.{◌≡◌, ◌++◌, length, map}
 use Rattle.flow_uniq.specs.Inner.{group_model, key_model}
 use Rattle.pmap_print.specs.Table.{marked_line}
 use Rattle.pmap_print.specs.Reports.{group_fields, part_text, total_fields}
-use Rattle.pmap_print.proofs.groups.print_group.Given as goal
+use Rattle.pmap_print.proofs.groups.print_marked.Given as goal
 
 abbrev pub invariant-loop-part : goal.invariant-loop-part
 invariant-loop-part l = l.out ++ marked_line l.before l.mark (map part_text (key_model l.rest) ++ total_fields l.group.totals)
