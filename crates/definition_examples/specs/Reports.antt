@@ -9,7 +9,7 @@ use Rattle.flow_rows.specs.Elements.{RowView}
 use Rattle.flow_uniq.specs.Groups.{groups_of, shown_groups}
 use Rattle.flow_uniq.specs.Key.{keys_reading}
 use Rattle.flow_uniq.specs.declared.fault.KeyFault.{KeyFault}
-use Rattle.pmap_print.specs.List.{list_text}
+use Rattle.pmap_cert.specs.ListText.{list_text}
 use Rattle.pmap_print.specs.Reports.{groups_text, info_text, rows_text}
 
 -- What commands print of groups, rows, counts and lists.

@@ -1,19 +1,17 @@
--- Groups divide rows, and stay the same when they are sorted.
-use Rattle.std.proofs.Common.{◌≡◌, ℕ, ◌+◌, Bool, true, false, not, ◌||◌, cond, List, [], ◌∷◌, length, map, filter, true≢false, refl, sym, ap, subst, ◌∙◌, arith, if◌then◌else◌}
+-- Groups divide rows.
+use Rattle.std.proofs.Common.{◌≡◌, ℕ, ◌+◌, Bool, true, false, not, ◌||◌, cond, List, [], ◌∷◌, length, map, filter, true≢false, refl, sym, ap, subst, ◌∙◌, arith}
 use Rattle.std.specs.Prelude.{sum_by}
 use Rattle.std.specs.List.{AllByRecursion, IsDistinct, list_any}
-use Rattle.std.specs.List.Sorted.{IsPermutation}
 use Rattle.std.proofs.lemmas.Bool.{not-true}
 use Rattle.std.proofs.lemmas.List.{map-id}
 use Rattle.std.proofs.lemmas.List.Elements.{All-filter, All-from_recursion, All-weaker, filter_passes, recursion_from_All}
 use Rattle.std.proofs.lemmas.List.Filters.{length-filter_both, sum_by-filter_both}
 use Rattle.std.proofs.lemmas.List.Sums.{sum_by-cons}
-use Rattle.std.proofs.lemmas.List.Sorted.{IsPermutation-cons, IsPermutation-middle, IsPermutation-refl, IsPermutation-trans}
 use Rattle.std.proofs.lemmas.Map.Keys.{IsDistinct-head, IsDistinct-tail}
 use Rattle.std.proofs.lemmas.Simd.{map-map}
 use Rattle.flow_rows.specs.Elements.{RowView}
 use Rattle.flow_uniq.specs.Key.{Key, same_key}
-use Rattle.flow_uniq.specs.Groups.{GroupModel, KeyedRow, distinct_keys, groups_of_keyed, in_order, totals_of, with_in_order}
+use Rattle.flow_uniq.specs.Groups.{GroupModel, KeyedRow, distinct_keys, groups_of_keyed, totals_of}
 use Rattle.flow_uniq.proofs.Grouping.{rows_with, same_key-equiv, stands-distinct}
 
 -- The keys of groups are distinct.
@@ -158,26 +156,6 @@ module _ (f : RowView → ℕ) where
   groups-numbers =
       groups-sum (sum_by (λ r. f r.1)) refl
       (λ d. sum_by-filter_both (λ (r : KeyedRow). same_key d r.0) (λ r. not (same_key d r.0)) (λ r. refl) (λ (r : KeyedRow). f r.1))
-
--- A list in order is a permutation.
-
-module _ {X : Type 0} (lt : X → X → Bool) where
-  pub same-with_in_order : (x : X) (ys : List X) → IsPermutation (x ∷ ys) (with_in_order lt x ys)
-  same-with_in_order x [] = IsPermutation-refl (x ∷ [])
-  same-with_in_order x (y ∷ ys) = by (lt y x) (same-with_in_order x ys)
-    where
-      by : (b : Bool) → IsPermutation (x ∷ ys) (with_in_order lt x ys)
-          → IsPermutation (x ∷ y ∷ ys) (if b then y ∷ with_in_order lt x ys else x ∷ y ∷ ys)
-      by true ih =
-          IsPermutation-trans (x ∷ y ∷ ys) (y ∷ x ∷ ys) (y ∷ with_in_order lt x ys) (IsPermutation-middle (x ∷ []) y ys)
-          (IsPermutation-cons y (x ∷ ys) (with_in_order lt x ys) ih)
-      by false ih = IsPermutation-refl (x ∷ y ∷ ys)
-
-  pub same-in_order : (xs : List X) → IsPermutation xs (in_order lt xs)
-  same-in_order [] = IsPermutation-refl []
-  same-in_order (x ∷ xs) =
-      IsPermutation-trans (x ∷ xs) (x ∷ in_order lt xs) (in_order lt (x ∷ xs))
-      (IsPermutation-cons x xs (in_order lt xs) (same-in_order xs)) (same-with_in_order x (in_order lt xs))
 
 -- a sum over rows with keys is that over the rows
 pub sum_by-keyed : (key : RowView → Key) (f : RowView → ℕ) (rows : List RowView)

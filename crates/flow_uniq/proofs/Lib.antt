@@ -1,4 +1,3 @@
-pub mod Sorting
 pub mod Codes
 pub mod Cutting
 pub mod CodeOrder

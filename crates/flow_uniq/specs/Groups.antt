@@ -4,6 +4,7 @@ use Rattle.std.specs.Ordering.{is_lt, nat_cmp}
 use Rattle.std.specs.declared.cmp.Ordering.{Ordering}
 use Rattle.prefix_keys.specs.Text.{AddressOf}
 use Rattle.pmap_text.specs.MapModel.{Label}
+use Rattle.pmap_text.specs.Sorting.{in_order}
 use Rattle.flow_rows.specs.Elements.{RowView}
 use Rattle.flow_uniq.specs.Key.{KeyField, Key, key_of, same_key, part_numbers}
 pub use Rattle.flow_uniq.specs.declared.groups.Totals.{Totals}
@@ -61,17 +62,6 @@ pub record AreOfNoRows (asked : List KeyField) (g : GroupsModel) : Type 0 where
 -- keys compare by their parts from the left, and parts by their numbers
 abbrev pub key_order : Key → Key → Ordering
 key_order a b = slice_cmp (λ p q. slice_cmp nat_cmp (part_numbers p) (part_numbers q)) a b
-
-module _ {X : Type 0} (is_less : X → X → Bool) where
-  -- the list with x before the first element that isn't less than it
-  abbrev pub with_in_order : X → List X → List X
-  with_in_order x [] = x ∷ []
-  with_in_order x (y ∷ ys) = if is_less y x then y ∷ with_in_order x ys else x ∷ y ∷ ys
-
-  -- the list in order: no element is less than the one before it, and elements that tie keep their order
-  abbrev pub in_order : List X → List X
-  in_order [] = []
-  in_order (x ∷ xs) = with_in_order x (in_order xs)
 
 -- whether the group's key is before that of the other
 abbrev pub is_before : GroupModel → GroupModel → Bool

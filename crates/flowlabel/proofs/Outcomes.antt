@@ -18,7 +18,7 @@ use Rattle.flow_filter.specs.Condition.{Condition, passing}
 use Rattle.flow_uniq.specs.declared.field.KeyField.{KeyField}
 use Rattle.flow_uniq.specs.Groups.{groups_of, shown_groups}
 use Rattle.pmap_print.specs.Reports.{groups_text}
-use Rattle.pmap_print.specs.Runs.{IsRunsText}
+use Rattle.pmap_text.specs.RunsText.{IsRunsText}
 use Rattle.pmap_print.specs.Table.{table_text}
 use Rattle.label_lookup.specs.Labelling.{Labelling, label_where}
 use Rattle.flowlabel.specs.declared.bytes_fault.BytesFault.TheVariants.{Map as InMap, List as InList, Flows as InFlows, Certificate as InCertificate, Check as InCheck}

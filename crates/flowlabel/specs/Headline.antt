@@ -20,9 +20,9 @@ use Rattle.flow_filter.specs.Laws.{rows_left}
 use Rattle.flow_uniq.specs.Groups.{GroupModel, is_before}
 use Rattle.flow_uniq.specs.Laws.{DivideRows}
 use Rattle.flow_uniq.specs.declared.field.KeyField.{KeyField}
-use Rattle.pmap_print.specs.List.{list_text, IsWellFormed}
+use Rattle.pmap_cert.specs.ListText.{list_text, IsWellFormed}
 use Rattle.pmap_print.specs.Reports.{groups_text, info_text}
-use Rattle.pmap_print.specs.Runs.{runs_text}
+use Rattle.pmap_text.specs.RunsText.{runs_text}
 use Rattle.pmap_print.specs.Table.{table_text}
 use Rattle.flowlabel.specs.Output.{FlowsThen, IsOutput, LabelsThen, Outcome, Prints, labelled_row_lines, minimal_text, shrunk_text}
 use Rattle.flowlabel.specs.Request.{FromList, FromMap, LabelSource, Request, Text, cat, check, info, label, recert, rows, shrink, uniq}

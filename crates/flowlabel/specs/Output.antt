@@ -18,8 +18,8 @@ use Rattle.flow_rows.specs.Elements.{RowView}
 use Rattle.flow_filter.specs.Condition.{passing}
 use Rattle.flow_uniq.specs.Groups.{groups_of, shown_groups}
 use Rattle.pmap_print.specs.Reports.{groups_text, info_text, LabelTexts, row_lines}
-use Rattle.pmap_print.specs.List.{list_text}
-use Rattle.pmap_print.specs.Runs.{IsRunsText}
+use Rattle.pmap_cert.specs.ListText.{list_text}
+use Rattle.pmap_text.specs.RunsText.{IsRunsText}
 use Rattle.pmap_print.specs.Table.{Line, table_text}
 use Rattle.label_lookup.specs.Labelling.{Labelling, label_by, label_where, labelling_of_list, labelling_of_map}
 pub use Rattle.flowlabel.specs.declared.bytes_fault.BytesFault.{BytesFault}

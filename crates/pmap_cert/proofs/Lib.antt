@@ -37,3 +37,10 @@ pub mod FormatWhole
 pub mod CompactNodes
 pub mod CompactPlaces
 pub mod GivenLines
+pub mod EntryOrder
+pub mod WordLines
+pub mod LastMatch
+pub mod ReadLines
+pub mod ReadLists
+pub mod ReadAgain
+pub mod MinimalLists

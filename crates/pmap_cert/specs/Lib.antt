@@ -10,3 +10,4 @@ pub mod Format
 pub mod Certificate
 pub mod Inner
 pub mod NodeSource
+pub mod ListText

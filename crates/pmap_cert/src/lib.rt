@@ -16,7 +16,8 @@
 //!
 //! The minimiser and the checker may rely on these laws: an accepted certificate shows that its list is equivalent and
 //! that no equivalent list is shorter; each map has a minimal pair of a list and a certificate that is accepted; a
-//! map has at most one minimal pair; and a map read from a text has one whose certificate has a text. The type
+//! map has at most one minimal pair; a map read from a text has one whose certificate has a text; and the printed text
+//! of a list is read back, so that the certificate of a minimal pair is accepted for the list that is read. The type
 //! `Certificate` ensures that labels are in the table, that the numbers of each set ascend, that no node is deeper than
 //! an address has bits, and that format 1 has no chain. `write_cert` writes the one text of a certificate of either
 //! format. `read_cert` reads exactly these texts, and reports the first fault of any other. `compact` replaces runs of
@@ -33,6 +34,7 @@ mod format;
 mod header;
 mod laws;
 mod lines;
+mod list_laws;
 mod node;
 mod node_line;
 mod node_source;
@@ -59,6 +61,9 @@ pub use laws::{
     minimal_pair_is_accepted, minimal_pair_is_unique,
 };
 pub use lines::Lines;
+pub use list_laws::{
+    minimal_list_can_be_read_again, printed_list_is_read_back, printed_order_is_one,
+};
 pub use node::{Claim, Node};
 pub use node_line::{Frame, Kept};
 pub use node_source::NodeSource;

@@ -1,12 +1,4 @@
-pub mod Stretches
-pub mod Order
-pub mod WordLines
-pub mod LastMatch
-pub mod ReadLines
-pub mod ReadList
-pub mod Again
 pub mod Appended
-pub mod MinimalLists
 pub mod GroupLines
 pub mod GroupText
 pub mod Spreading

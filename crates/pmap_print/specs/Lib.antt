@@ -1,4 +1,2 @@
 pub mod Table
 pub mod Reports
-pub mod Runs
-pub mod List

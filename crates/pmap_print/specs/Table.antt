@@ -1,23 +1,13 @@
 use Rattle.std.specs.Prelude.{ℕ, ◌-◌, ◌*◌, max, min, sum, List, [], ◌∷◌, ◌++◌, length, map, fold, replicate, slice_index_or, Bool, if◌then◌else◌, ◌≡◌, ◌+◌, ◌<◌, ◌≤◌, ◌^◌, All, drop, is_some, slice_index, take}
 use Rattle.std.specs.List.{enumerate_from, flat_map, join_with_byte}
 use Rattle.std.specs.Option.{ForNone, ForSome}
+pub use Rattle.pmap_text.specs.RunsText.{Line, Text, line_text}
 pub use Rattle.pmap_print.specs.declared.columns.Columns.{Columns}
 pub use Rattle.pmap_print.specs.declared.table.Table.{Table}
 pub use Rattle.pmap_print.specs.declared.mark.Mark.{Mark}
 pub use Rattle.pmap_print.specs.declared.mark.Mark.TheVariants.{End, Length}
 
 -- Tables: lines of fields with `|` between them.
-
--- a field, and the fields of a line
-abbrev pub Text : Type 0
-Text = List ℕ
-
-abbrev pub Line : Type 0
-Line = List Text
-
--- the text of a line: its fields with `|` between them, and a line feed
-abbrev pub line_text : Line → Text
-line_text fields = join_with_byte 124 fields ++ 10 ∷ []
 
 -- the width of a column: the length of its longest field
 abbrev pub column_width : List Line → ℕ → ℕ

@@ -14,14 +14,12 @@
 //! columns, and a `Table` builds it row by row. `print_groups` returns the text of groups, `print_info` that of counts,
 //! `print_list` that of a prefix list, and `print_runs` that of the runs of stretches. The layer above may rely on
 //! this: the text is, byte for byte, what the definitions state for the printed value, and the only error is out of
-//! memory. By the laws, the printed text of a list is read back, and a minimal pair's certificate is accepted for the
-//! list that is read.
+//! memory.
 #![tactic(auto)]
 
 mod columns;
 mod groups;
 mod info;
-mod laws;
 mod list;
 mod mark;
 mod row_labels;
@@ -32,10 +30,6 @@ mod text;
 
 pub use groups::print_groups;
 pub use info::print_info;
-pub use laws::{
-    labelling_has_one_runs_text, minimal_list_can_be_read_again, printed_list_is_read_back,
-    printed_order_is_one,
-};
 pub use list::print_list;
 pub use row_labels::RowLabels;
 pub use rows::print_rows;

@@ -1,7 +1,6 @@
 ghost use Rattle.std.specs.Prelude.{◌≡◌, ◌<◌, ◌≤◌, ◌++◌, ◌∷◌, [], IfOk, OnOk, length};
 ghost use Rattle.pmap_text.specs.Stretches.{AreLabelsBelow, text_held};
-ghost use Rattle.pmap_print.specs.Runs.{IsRunsText, run_between, run_text, run_titles};
-ghost use Rattle.pmap_print.specs.Table.{line_text};
+ghost use Rattle.pmap_text.specs.RunsText.{IsRunsText, run_between, run_text};
 
 use crate::mark::Mark;
 use crate::text::Text;

@@ -36,3 +36,5 @@ pub mod Settling
 pub mod Decided
 pub mod Runs
 pub mod Covered
+pub mod Sorting
+pub mod StretchRuns

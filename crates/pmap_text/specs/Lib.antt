@@ -13,3 +13,5 @@ pub mod Starting
 pub mod Windows
 pub mod Settled
 pub mod Runs
+pub mod Sorting
+pub mod RunsText

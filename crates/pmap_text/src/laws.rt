@@ -6,10 +6,11 @@ ghost use Rattle.std.specs.List.{IsDistinct};
 ghost use Rattle.std.specs.List.Sorted.{IsPermutation};
 ghost use Rattle.prefix_keys.specs.Block.{block_number, first_of, last_of, width_of};
 ghost use Rattle.prefix_keys.specs.declared.version.Version.{Version};
-ghost use Rattle.pmap_text.specs.ListModel.{ListModel, Prefix, list_label, CoversAddress, HasSamePrefixes, IsLongestMatch, LabelsBlocksOnce, is_same_prefix};
+ghost use Rattle.pmap_text.specs.ListModel.{IsEquivalent, ListModel, Prefix, list_label, CoversAddress, HasSamePrefixes, IsLongestMatch, LabelsBlocksOnce, is_same_prefix};
 ghost use Rattle.pmap_text.specs.MapModel.{IsSettled, Label, MapModel, Mapping, map_label, settled_label};
 ghost use Rattle.pmap_text.specs.PrefixList.{list_of, PrefixList};
 ghost use Rattle.pmap_text.specs.Runs.{AreRunsOf, HasOneRun, Run};
+ghost use Rattle.pmap_text.specs.RunsText.{IsRunsText, Text};
 ghost use Rattle.pmap_text.specs.Stretches.{HaveAddresses, IsStretch};
 
 /// A settled block has its label at each of its addresses.
@@ -50,6 +51,19 @@ pub fn order_of_entries_is_free()
 {}
 
 /// The addresses of a version have exactly one list of runs, whatever their labels are. It depends on these labels
+
+/// The text of the runs of a labelling is unique, and labellings that agree on each address have the same text. So a
+/// list that labels each address as a map does has the map's text.
+pub fn labelling_has_one_runs_text()
+    ensures one { (v : Version) (f : ℕ → Option Label) (text other : Text) →
+        IsRunsText v f text → IsRunsText v f other → text ≡ other }
+    ensures alike { (v : Version) (f g : ℕ → Option Label) (text : Text) →
+        ((a : ℕ) → a < 2 ^ width_of v → f a ≡ g a) → IsRunsText v f text → IsRunsText v g text }
+    ensures equivalent { (l : ListModel) (m : MapModel) (text other : Text) → IsEquivalent l m →
+        IsRunsText l.version (list_label l) text →
+        IsRunsText m.version (λ a. Some (map_label m a)) other → text ≡ other }
+{}
+
 /// alone.
 pub fn labelling_has_its_runs()
     ensures exist { (v : Version) (f : ℕ → Option Label) → (runs : List Run) × AreRunsOf v f runs }

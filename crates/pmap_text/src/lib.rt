@@ -57,8 +57,9 @@ pub use hashing::{KeyHasher, KeyHashing};
 pub use label::{LabelId, is_label};
 pub use labels::Labels;
 pub use laws::{
-    block_is_settled_in_one_stretch, labelling_has_its_runs, longest_match_counts,
-    order_of_entries_is_free, runs_cover_each_address_once, settled_block_has_its_label,
+    block_is_settled_in_one_stretch, labelling_has_its_runs, labelling_has_one_runs_text,
+    longest_match_counts, order_of_entries_is_free, runs_cover_each_address_once,
+    settled_block_has_its_label,
 };
 pub use map_text::MapText;
 pub use name::Name;

@@ -5,8 +5,8 @@ ghost use Rattle.flowlabel.specs.Request.{cat, source_by};
 use crate::command::LabelFile;
 use crate::output_fault::OutputFault;
 use crate::run::reading::{list_in, map_in};
-use pmap_print::{labelling_has_one_runs_text, print_runs};
-use pmap_text::{KeyHashing, Stretches};
+use pmap_print::print_runs;
+use pmap_text::{KeyHashing, Stretches, labelling_has_one_runs_text};
 use std::alloc::Global;
 
 /// Returns the ranges of addresses with the same label under the text of a map or a list.

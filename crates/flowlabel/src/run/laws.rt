@@ -3,7 +3,7 @@ ghost use Rattle.pmap_text.specs.ListModel.{ListModel};
 ghost use Rattle.pmap_text.specs.MapModel.{MapModel};
 ghost use Rattle.pmap_text.specs.Reading.{label_limit, mapping_limit, map_reading};
 ghost use Rattle.pmap_cert.specs.CertificateModel.{CertificateModel};
-ghost use Rattle.pmap_print.specs.List.{labels_of};
+ghost use Rattle.pmap_cert.specs.ListText.{labels_of};
 ghost use Rattle.flowlabel.specs.Headline.{IsHeadline, IsShortest, StandsAgain};
 ghost use Rattle.flowlabel.specs.Output.{IsOutput, Outcome, shrunk_text};
 ghost use Rattle.flowlabel.specs.Request.{Request, Shrunk, Text, shrink};
@@ -15,13 +15,12 @@ use flow_uniq::{groups_divide_the_rows, sorted_groups_are_in_order};
 use pmap_cert::{
     acceptance_is_enough, compact_gives_back_equal, compact_has_a_text, compact_has_no_more_lines,
     compact_keeps_acceptance, map_text_has_a_minimal_pair, map_text_has_its_labels,
-    minimal_list_is_in_order, minimal_pair_is_accepted, minimal_pair_is_unique,
-    text_of_format_is_read_or_has_a_fault,
+    minimal_list_can_be_read_again, minimal_list_is_in_order, minimal_pair_is_accepted,
+    minimal_pair_is_unique, printed_list_is_read_back, text_of_format_is_read_or_has_a_fault,
 };
-use pmap_print::{
-    labelling_has_one_runs_text, minimal_list_can_be_read_again, printed_list_is_read_back,
+use pmap_text::{
+    labelling_has_its_runs, labelling_has_one_runs_text, runs_cover_each_address_once,
 };
-use pmap_text::{labelling_has_its_runs, runs_cover_each_address_once};
 
 /// A request has exactly one output over any texts of its files.
 pub fn one_output()

@@ -6,8 +6,9 @@ use Rattle.flow_rows.specs.Elements.{RowView}
 use Rattle.flow_uniq.specs.Key.{Key, key_of, same_key}
 use Rattle.flow_uniq.specs.Groups.{GroupModel, KeyedRow, groups_of, is_before, shown_groups, sorted_groups}
 use Rattle.flow_uniq.specs.Laws.{DivideRows}
-use Rattle.flow_uniq.proofs.Dividing.{groups-distinct, groups-numbers, groups-records, same-in_order, sum_by-keyed}
+use Rattle.flow_uniq.proofs.Dividing.{groups-distinct, groups-numbers, groups-records, sum_by-keyed}
 use Rattle.flow_uniq.proofs.Grouping.{keyed, same_key-equiv}
+use Rattle.pmap_text.proofs.Sorting.{same-in_order}
 use Rattle.flow_uniq.proofs.laws.groups_divide_the_rows.Goals as goal
 
 -- sorted groups divide what the groups divide

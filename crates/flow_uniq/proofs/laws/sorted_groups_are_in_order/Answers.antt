@@ -3,8 +3,7 @@ use Rattle.std.proofs.lemmas.Cmp.{lists_total, nat_list_cmp_total, on_total}
 use Rattle.std.proofs.lemmas.List.Sorted.{ranks_by}
 use Rattle.std.specs.Cmp.{IsStrictWeakOrder}
 use Rattle.flow_uniq.specs.Key.{part_numbers}
-use Rattle.flow_uniq.proofs.Dividing.{same-in_order}
-use Rattle.flow_uniq.proofs.Sorting.{in_order-sorted}
+use Rattle.pmap_text.proofs.Sorting.{in_order-sorted, same-in_order}
 use Rattle.flow_uniq.proofs.laws.sorted_groups_are_in_order.Goals as goal
 
 before-order : IsStrictWeakOrder is_before

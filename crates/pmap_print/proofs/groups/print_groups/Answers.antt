@@ -6,13 +6,13 @@ use Rattle.std.proofs.lemmas.List.Sorted.{All-permutation, IsPermutation-refl, l
 use Rattle.std.proofs.lemmas.List.{take_all}
 use Rattle.flow_uniq.specs.declared.field.KeyField.{KeyField}
 use Rattle.flow_uniq.specs.Groups.{GroupModel, is_before, shown_groups}
-use Rattle.flow_uniq.proofs.Dividing.{same-in_order}
 use Rattle.flow_uniq.specs.Inner.{group_model}
 use Rattle.flow_uniq.proofs.Listing.{none_past}
 use Rattle.pmap_print.specs.Table.{AreWide, IsTable, has_columns, Line, header_text, table_text}
 use Rattle.pmap_print.specs.Reports.{group_fields, group_titles}
 use Rattle.pmap_print.proofs.GroupLines.{first_lines, length-group_titles, line_added, parts_at}
 use Rattle.pmap_print.proofs.TableLines.{header_fits, header_printed}
+use Rattle.pmap_text.proofs.Sorting.{same-in_order}
 use Rattle.pmap_print.proofs.groups.print_groups.Goals as goal
 use Rattle.pmap_print.proofs.groups.print_groups.Goals.{In_ok-print_title, in-Some+in_ok-add_group, in_default, then-sorted+in_ok-sorted, else-sorted}
 

@@ -8,9 +8,9 @@ use Rattle.std.proofs.lemmas.Option.{get_or_from_slice_get, slice_get_within}
 use Rattle.pmap_cert.specs.CertificateText.{text_of_lines}
 use Rattle.pmap_text.specs.ListModel.{Prefix}
 use Rattle.pmap_text.specs.PrefixList.{prefix_of}
-use Rattle.pmap_print.specs.List.{entry_line, mode_text, name_lines}
+use Rattle.pmap_cert.specs.ListText.{entry_line, mode_text, name_lines}
 use Rattle.pmap_text.specs.declared.entry.Entry.{Entry}
-use Rattle.pmap_print.proofs.Order.{sorted-order}
+use Rattle.pmap_cert.proofs.EntryOrder.{sorted-order}
 use Rattle.pmap_print.proofs.list.print_list.Goals as goal
 use Rattle.pmap_print.proofs.list.print_list.Goals.{in-Some+in_ok-extend_from_slice+in_ok-extend_from_slice-2+in_ok-push, in_default, in-V4, in-V6}
 

@@ -1,13 +1,16 @@
-use Rattle.std.proofs.Common.{◌≡◌, ◌≢◌, ◌==◌, ℕ, ◌+◌, ◌<◌, ◌∙◌, [], ◌∷◌, ◌++◌, Bool, true, not, None, Option, Some, ap, arith, length, refl, subst, sym}
-use Rattle.std.specs.List.{join_with_byte}
+use Rattle.std.proofs.Common.{◌≡◌, ◌≢◌, ◌==◌, ℕ, ◌+◌, ◌<◌, ◌∙◌, [], ◌∷◌, ◌++◌, Bool, true, not, List, None, Option, Some, ap, arith, length, refl, subst, sym}
+use Rattle.std.specs.List.{flat_map, join_with_byte}
 use Rattle.std.specs.Option.{option_eq}
 use Rattle.std.proofs.lemmas.Bool.{both_ways, eq-eqb}
+use Rattle.std.proofs.lemmas.Grind.{common_steps}
+use Rattle.std.proofs.lemmas.List.{append-nil}
+use Rattle.std.proofs.lemmas.List.Folds.{flat_map-map}
 use Rattle.pmap_text.specs.declared.label.LabelId.{LabelId}
-use Rattle.pmap_text.specs.Stretches.{StretchesModel, label_at, text_held}
+use Rattle.pmap_text.specs.Stretches.{StretchesModel, label_at}
 use Rattle.pmap_text.proofs.Joined.{same-label}
-use Rattle.pmap_print.specs.Runs.{IsRunsText, run_titles}
-use Rattle.pmap_print.specs.Table.{Text}
-use Rattle.pmap_print.proofs.Stretches.{all_printed, none_printed, run_ends, run_goes_on}
+use Rattle.pmap_text.specs.Runs.{Run}
+use Rattle.pmap_text.specs.RunsText.{Text, line_text, run_between, run_fields, run_text, run_titles}
+use Rattle.pmap_text.proofs.StretchRuns.{all_joined, none_joined, run_ends, run_goes_on}
 use Rattle.pmap_print.proofs.runs.print_runs.Goals as goal
 use Rattle.pmap_print.proofs.runs.print_runs.Goals.{then-index-count+in_ok-print_run, then-index-count-via-then-index-count, then-index-count-via-else-index-count+then-ne, else-index-count+else-ne}
 
@@ -21,15 +24,24 @@ other-label x y r is e same =
     let equal : option_eq (λ a b. a.0 == b.0) x y ≡ true = subst (λ (z : Option LabelId). option_eq (λ a b. a.0 == b.0) x z ≡ true) same (is-same x) in
     both_ways r (is ∙ ap not equal) e
 
+text_more : (s : StretchesModel) (out new : Text) (runs : List Run) (run : Run) → out ≡ line_text run_titles ++ flat_map (run_text s.version) runs
+    → new ≡ out ++ run_text s.version run → new ≡ line_text run_titles ++ flat_map (run_text s.version) (runs ++ run ∷ [])
+text_more s out new runs run so_far text = grind (arith, common_steps)
+
 pub loop-index-init : goal.loop-index-init
-loop-index-init c = none_printed c.args.labels.now c.args.stretches.now c.len-count-2.ensures.every (c.push_bytes.new.self ++ 10 ∷ [])
-    (ap (λ (l : Text). l ++ 10 ∷ []) (c.in_ok-push_bytes.ensures ∙ ap (λ (l : Text). l ++ join_with_byte 124 run_titles) c.new-out.ensures))
+loop-index-init c = (
+  [],
+  none_joined c.args.labels.now c.args.stretches.now c.len-count-2.ensures.every,
+  ap (λ (l : Text). l ++ 10 ∷ []) (c.in_ok-push_bytes.ensures ∙ ap (λ (l : Text). l ++ join_with_byte 124 run_titles) c.new-out.ensures)
+      ∙ sym (append-nil (line_text run_titles)),
+)
 
 pub loop-index-preserved : goal.loop-index-preserved
 loop-index-preserved c =
     let s : StretchesModel = c.args.stretches.now in
     let i : ℕ = c.loop-index.index in
     let within : i < length s.firsts = omega (arith, c.loop-index-test.true, c.len-count-2.ensures.value) in
+    let (runs, joined, text) = c.loop-index.invariant in
     elim c.if-index-count.branch [
       | then-index-count+in_ok-print_run w ↦
           let out = w.out-is in
@@ -39,20 +51,33 @@ loop-index-preserved c =
             | then-index-count-via-else-index-count+then-ne v ↦ λ more same.
                 other-label _ _ v.ne.result v.ne.ensures v.if-ne.true (v.label.ensures ∙ same ∙ sym v.label-else-index-count.ensures)
           ] in
-          rw (out, begin)
-          (run_ends c.args.labels.now s c.len-count-2.ensures.every c.loop-index.begin i within (c.loop-index.out ++ 10 ∷ []) c.loop-index.invariant
-          (w.print_run.new.out ++ 10 ∷ []) c.len-count.ensures.table c.requires other w.in_ok-print_run.ensures)
+          rw (out, begin) (
+            runs ++ run_between c.args.labels.now s c.loop-index.begin i ∷ [],
+            run_ends c.args.labels.now s c.len-count-2.ensures.every c.loop-index.begin i within runs joined c.len-count.ensures.table c.requires other,
+            text_more s (c.loop-index.out ++ 10 ∷ []) (w.print_run.new.out ++ 10 ∷ []) runs (run_between c.args.labels.now s c.loop-index.begin i) text
+                w.in_ok-print_run.ensures,
+          )
       | else-index-count+else-ne w ↦
           let out = w.out-is in
           let begin = w.begin-is in
-          rw (out, begin)
-          (run_goes_on c.args.labels.now s c.len-count-2.ensures.every c.loop-index.begin i within (c.loop-index.out ++ 10 ∷ []) c.loop-index.invariant
-          (omega (arith, w.if-index-count.false, c.len-count-2.ensures.value))
-          (sym w.label.ensures ∙ same-label _ _ w.ne.result w.ne.ensures w.if-ne.false ∙ w.label-else-index-count.ensures))
+          rw (out, begin) (
+            runs,
+            run_goes_on c.args.labels.now s c.len-count-2.ensures.every c.loop-index.begin i within runs joined
+                (omega (arith, w.if-index-count.false, c.len-count-2.ensures.value))
+                (sym w.label.ensures ∙ same-label _ _ w.ne.result w.ne.ensures w.if-ne.false ∙ w.label-else-index-count.ensures),
+            text,
+          )
     ]
 
 pub returns : goal.returns
 returns c =
-    subst (IsRunsText c.args.stretches.now.version (text_held c.args.labels.now c.args.stretches.now)) (sym (c.into_bytes.ensures ∙ c.in_ok-push_bytes-2.ensures))
-    (all_printed c.args.labels.now c.args.stretches.now c.len-count-2.ensures.every c.loop-index.begin c.loop-index.index (c.loop-index.out ++ 10 ∷ [])
-    c.loop-index.invariant (omega (arith, c.loop-index-test.false, c.len-count-2.ensures.value)))
+    let s : StretchesModel = c.args.stretches.now in
+    let (runs, joined, text) = c.loop-index.invariant in
+    record {
+      runs = runs;
+      are = all_joined c.args.labels.now s c.len-count-2.ensures.every c.loop-index.begin c.loop-index.index runs joined
+          (omega (arith, c.loop-index-test.false, c.len-count-2.ensures.value));
+      is =
+          c.into_bytes.ensures ∙ c.in_ok-push_bytes-2.ensures ∙ text
+          ∙ ap (λ (l : Text). line_text run_titles ++ l) (sym (flat_map-map line_text (run_fields s.version) runs));
+    }

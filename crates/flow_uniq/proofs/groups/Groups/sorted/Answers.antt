@@ -6,7 +6,7 @@ use Rattle.std.specs.Cmp.{IsStrictWeakOrder, IsTotalOrder}
 use Rattle.flow_uniq.specs.Inner.{Group, group_model}
 use Rattle.flow_uniq.specs.Key.{part_numbers}
 use Rattle.flow_uniq.specs.Groups.{is_before, key_order, sorted_groups}
-use Rattle.flow_uniq.proofs.Sorting.{map-in_order, sorted_is}
+use Rattle.pmap_text.proofs.Sorting.{map-in_order, sorted_is}
 use Rattle.flow_uniq.proofs.groups.Groups.sorted.Goals as goal
 
 abbrev before : Group → Group → Bool

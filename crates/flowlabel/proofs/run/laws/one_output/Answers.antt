@@ -10,7 +10,7 @@ use Rattle.ipfix_read.specs.Message.{MessageView}
 use Rattle.ipfix_read.specs.Messages.{file_reading}
 use Rattle.flow_rows.specs.Counts.{counts_of}
 use Rattle.pmap_print.specs.Reports.{info_text}
-use Rattle.pmap_print.specs.Runs.{IsRunsText, runs_text}
+use Rattle.pmap_text.specs.RunsText.{IsRunsText, runs_text}
 use Rattle.flowlabel.specs.Output.{BytesFault, Checks, LabelsThen, Outcome, Prints, Then, label_text, shrunk_text}
 use Rattle.flowlabel.proofs.Outcomes.{CertificateThen, ListThen, PrintsCompact, PrintsMinimal, PrintsRuns, ReportsOf, report_of_groups, report_of_rows, checked}
 use Rattle.flowlabel.specs.Reports.{ReportsThen}

@@ -4,9 +4,8 @@ use Rattle.prefix_keys.specs.declared.version.Version.{Version}
 use Rattle.pmap_text.specs.ListModel.{list_label}
 use Rattle.pmap_text.specs.MapModel.{Label, map_label}
 use Rattle.pmap_text.proofs.Runs.{runs-alike, runs-one}
-use Rattle.pmap_print.specs.Runs.{IsRunsText, runs_text}
-use Rattle.pmap_print.specs.Table.{Text}
-use Rattle.pmap_print.proofs.laws.labelling_has_one_runs_text.Goals as goal
+use Rattle.pmap_text.specs.RunsText.{IsRunsText, Text, runs_text}
+use Rattle.pmap_text.proofs.laws.labelling_has_one_runs_text.Goals as goal
 
 text-one : (v : Version) (f : ℕ → Option Label) (text other : Text) → IsRunsText v f text → IsRunsText v f other → text ≡ other
 text-one v f text other is so =

@@ -1,5 +1,5 @@
-use Rattle.pmap_print.proofs.MinimalLists.{can-read_again, well-formed}
-use Rattle.pmap_print.proofs.laws.minimal_list_can_be_read_again.Goals as goal
+use Rattle.pmap_cert.proofs.MinimalLists.{can-read_again, well-formed}
+use Rattle.pmap_cert.proofs.list_laws.minimal_list_can_be_read_again.Goals as goal
 
 pub returns-clause-form : goal.returns-clause-form
 returns-clause-form c = well-formed

@@ -1,12 +1,31 @@
--- A list in order is the only list that ascends and keeps the order of elements that tie.
+-- A list in order has the same elements. It is the only list that ascends and keeps the order of elements that tie.
 use Rattle.std.proofs.Common.{◌≡◌, get_or, zero, suc, ◌+◌, Bool, true, false, not, ◌&&◌, cond, if◌then◌else◌, List, [], ◌∷◌, map, filter, All, true≢false, refl, sym, ap, subst, ◌∙◌, arith}
 use Rattle.std.proofs.lemmas.Bool.{and_parts, both_ways, false_from_ne_true, not-true}
 use Rattle.std.proofs.lemmas.List.Elements.{All-cons, All-filter, All-from_get_or, All-head, All-nil, All-weaker}
-use Rattle.std.proofs.lemmas.List.Sorted.{All-permutation, sorted_far}
+use Rattle.std.proofs.lemmas.List.Sorted.{All-permutation, IsPermutation-cons, IsPermutation-middle, IsPermutation-refl, IsPermutation-trans, sorted_far}
 use Rattle.std.specs.Cmp.{IsStrictWeakOrder}
-use Rattle.std.specs.List.Sorted.{IsSortedBy, IsStableBy, ties}
-use Rattle.flow_uniq.specs.Groups.{in_order, with_in_order}
-use Rattle.flow_uniq.proofs.Dividing.{same-with_in_order}
+use Rattle.std.specs.List.Sorted.{IsPermutation, IsSortedBy, IsStableBy, ties}
+use Rattle.pmap_text.specs.Sorting.{in_order, with_in_order}
+
+-- A list in order is a permutation.
+
+module _ {X : Type 0} (lt : X → X → Bool) where
+  pub same-with_in_order : (x : X) (ys : List X) → IsPermutation (x ∷ ys) (with_in_order lt x ys)
+  same-with_in_order x [] = IsPermutation-refl (x ∷ [])
+  same-with_in_order x (y ∷ ys) = by (lt y x) (same-with_in_order x ys)
+    where
+      by : (b : Bool) → IsPermutation (x ∷ ys) (with_in_order lt x ys)
+          → IsPermutation (x ∷ y ∷ ys) (if b then y ∷ with_in_order lt x ys else x ∷ y ∷ ys)
+      by true ih =
+          IsPermutation-trans (x ∷ y ∷ ys) (y ∷ x ∷ ys) (y ∷ with_in_order lt x ys) (IsPermutation-middle (x ∷ []) y ys)
+          (IsPermutation-cons y (x ∷ ys) (with_in_order lt x ys) ih)
+      by false ih = IsPermutation-refl (x ∷ y ∷ ys)
+
+  pub same-in_order : (xs : List X) → IsPermutation xs (in_order lt xs)
+  same-in_order [] = IsPermutation-refl []
+  same-in_order (x ∷ xs) =
+      IsPermutation-trans (x ∷ xs) (x ∷ in_order lt xs) (in_order lt (x ∷ xs))
+      (IsPermutation-cons x xs (in_order lt xs) (same-in_order xs)) (same-with_in_order x (in_order lt xs))
 
 -- two elements at the start of a list are swapped if not both are kept
 swapped : {X : Type 0} (x y : X) (xs : List X) (a b : Bool) → (a ≡ true → b ≡ true → ⊥)

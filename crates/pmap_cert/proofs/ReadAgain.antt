@@ -25,13 +25,13 @@ use Rattle.pmap_text.specs.declared.fault.MapFault.{MapFault}
 use Rattle.pmap_text.specs.declared.form.Form.{Form}
 use Rattle.pmap_text.specs.declared.form.Form.TheVariants as form
 use Rattle.pmap_text.proofs.ListLabels.{label-longest, label-same_prefixes, longest-match, once-distinct, same_prefixes-permuted}
-use Rattle.pmap_print.specs.List.{entry_line, list_text, mode_text, name_lines, entries_in_order, starts_alike, CanBeReadAgain, IsListAgain, IsMapAgain, IsPrintedEntry}
-use Rattle.pmap_print.proofs.LastMatch.{last-found, match-in, mapping_of_prefix}
+use Rattle.pmap_cert.specs.ListText.{entry_line, list_text, mode_text, name_lines, entries_in_order, starts_alike, CanBeReadAgain, IsListAgain, IsMapAgain, IsPrintedEntry}
+use Rattle.pmap_cert.proofs.LastMatch.{last-found, match-in, mapping_of_prefix}
 use Rattle.prefix_keys.proofs.Groups.{width-le}
-use Rattle.pmap_print.proofs.Order.{alike-flips, in_order-moves, in_order-order}
-use Rattle.pmap_print.proofs.ReadLines.{name-high}
-use Rattle.pmap_print.proofs.ReadList.{HasRead, lines-read}
-use Rattle.pmap_print.proofs.WordLines.{high-block, line-lacks_feed, lines-text}
+use Rattle.pmap_cert.proofs.EntryOrder.{alike-flips, in_order-moves, in_order-order}
+use Rattle.pmap_cert.proofs.ReadLines.{name-high}
+use Rattle.pmap_cert.proofs.ReadLists.{HasRead, lines-read}
+use Rattle.pmap_cert.proofs.WordLines.{high-block, line-lacks_feed, lines-text}
 
 -- no printed line has a line feed in it
 mode-feed : (version : Version) → Lacks 10 (mode_text version)

@@ -2,11 +2,8 @@
 use Rattle.std.proofs.Common.{◌≡◌, ◌≢◌, ℕ, ◌+◌, ◌-◌, ◌^◌, ◌<◌, ◌≤◌, ◌⊎◌, inl, inr, List, [], ◌∷◌, ◌++◌, Option, Some, None, refl, sym, ◌∙◌, ap, subst, arith, cond, length, option_and_then, slice_get, append_assoc}
 use Rattle.std.specs.Prelude.{nat_lt}
 use Rattle.std.proofs.lemmas.List.{append-nil}
-use Rattle.std.specs.List.{flat_map}
 use Rattle.std.specs.Option.{ForSome}
 use Rattle.std.proofs.lemmas.Bool.{cases_lt, le-ltb, lt-ltb}
-use Rattle.std.proofs.lemmas.Grind.{common_steps}
-use Rattle.std.proofs.lemmas.List.Folds.{flat_map-map}
 use Rattle.std.proofs.lemmas.Nat.{pow_pos}
 use Rattle.prefix_keys.specs.Block.{width_of}
 use Rattle.pmap_text.specs.Label.{IsLabelTable}
@@ -16,9 +13,8 @@ use Rattle.pmap_text.specs.Stretches.{AreLabelsBelow, HasEveryAddress, Stretches
 use Rattle.pmap_text.specs.declared.label.LabelId.{LabelId}
 use Rattle.pmap_text.proofs.Orders.{known_text}
 use Rattle.pmap_text.proofs.Ranges.{last_end, next_first, ordered_at, text_at_index}
-use Rattle.pmap_text.specs.Runs.{AreRuns, HasOneLabel, Run}
-use Rattle.pmap_print.specs.Runs.{IsRunsText, run_between, run_fields, run_text, run_titles}
-use Rattle.pmap_print.specs.Table.{Text, line_text}
+use Rattle.pmap_text.specs.Runs.{AreRuns, AreRunsOf, HasOneLabel, Run}
+use Rattle.pmap_text.specs.RunsText.{run_between}
 
 -- the text of a label
 abbrev pub label_text : List Label → Option LabelId → Option Label
@@ -54,21 +50,15 @@ one-joined f low middle next high x one more follows =
 abbrev pub begin_at : StretchesModel → ℕ → ℕ
 begin_at s i = cond (nat_lt i (length s.firsts)) (first_at s i) (2 ^ width_of s.version)
 
--- The header and the runs before the stretch `begin` are printed, followed by any runs from there on they are the labelling's runs. The
--- stretches from `begin` to the one before `index` have the label of the stretch `index`, if there is one.
-pub record IsPrintedTo (table : List Label) (s : StretchesModel) (begin index : ℕ) (out : Text) : Type 0 where
+-- The runs before the stretch `begin`, followed by any runs from there on, are the labelling's runs. The stretches from
+-- `begin` to the one before `index` have the label of the stretch `index`, if there is one.
+pub record AreJoinedTo (table : List Label) (s : StretchesModel) (begin index : ℕ) (runs : List Run) : Type 0 where
   pub order : begin ≤ index
   pub end : length s.firsts ≤ index → begin ≡ index
   pub one : (i : ℕ) → i + 1 ≡ index → begin ≤ i
       → HasOneLabel (text_held table s) (record { low = first_at s begin; high = last_at s i; label = label_text table (label_at s index) })
-  pub runs : List Run
-  pub text : out ≡ line_text run_titles ++ flat_map (run_text s.version) runs
   pub goes_on : (rest : List Run) → AreRuns (text_held table s) (begin_at s begin) (2 ^ width_of s.version) rest
       → AreRuns (text_held table s) 0 (2 ^ width_of s.version) (runs ++ rest)
-
-text_more : (s : StretchesModel) (out new : Text) (runs : List Run) (run : Run) → out ≡ line_text run_titles ++ flat_map (run_text s.version) runs
-    → new ≡ out ++ run_text s.version run → new ≡ line_text run_titles ++ flat_map (run_text s.version) (runs ++ run ∷ [])
-text_more s out new runs run so_far text = grind (arith, common_steps)
 
 module _ (table : List Label) (s : StretchesModel) (every : HasEveryAddress s) where
   begins : (i : ℕ) → i < length s.firsts → begin_at s i ≡ first_at s i
@@ -77,29 +67,21 @@ module _ (table : List Label) (s : StretchesModel) (every : HasEveryAddress s) w
   ends : (i : ℕ) → length s.firsts ≤ i → begin_at s i ≡ 2 ^ width_of s.version
   ends i past = ap (λ b. cond b (first_at s i) (2 ^ width_of s.version)) (le-ltb i (length s.firsts) past)
 
-  pub none_printed : (out : Text) → out ≡ line_text run_titles → IsPrintedTo table s 0 0 out
-  none_printed out title = record {
+  pub none_joined : AreJoinedTo table s 0 0 []
+  none_joined = record {
     order = omega arith;
     end = λ none. refl;
     one = λ i before. absurd (omega (arith, before));
-    runs = [];
-    text = title ∙ sym (append-nil (line_text run_titles));
     goes_on = λ rest are. subst (λ (from : ℕ). AreRuns (text_held table s) from (2 ^ width_of s.version) rest) (begins 0 every.some ∙ every.zero) are;
   }
 
-  pub all_printed : (begin index : ℕ) (out : Text) → IsPrintedTo table s begin index out → length s.firsts ≤ index
-      → IsRunsText s.version (text_held table s) out
-  all_printed begin index out is past = record {
-    runs = is.runs;
-    are = subst (AreRuns (text_held table s) 0 (2 ^ width_of s.version)) (append-nil is.runs) (is.goes_on [] (ends begin (omega (arith, past, is.end past))));
-    is = is.text ∙ ap (λ (x : Text). line_text run_titles ++ x) (sym (flat_map-map line_text (run_fields s.version) is.runs));
-  }
+  pub all_joined : (begin index : ℕ) (runs : List Run) → AreJoinedTo table s begin index runs → length s.firsts ≤ index
+      → AreRunsOf s.version (text_held table s) runs
+  all_joined begin index runs is past =
+      subst (AreRuns (text_held table s) 0 (2 ^ width_of s.version)) (append-nil runs) (is.goes_on [] (ends begin (omega (arith, past, is.end past))))
 
   -- the stretch with the index is the next one
-  module _ (begin index : ℕ) (within : index < length s.firsts) (out : Text) (is : IsPrintedTo table s begin index out) where
-    run : Run
-    run = run_between table s begin index
-
+  module _ (begin index : ℕ) (within : index < length s.firsts) (runs : List Run) (is : AreJoinedTo table s begin index runs) where
     stretch_one : HasOneLabel (text_held table s) (run_between table s index index)
     stretch_one = record {
       some = ordered_at s every index within;
@@ -128,7 +110,7 @@ module _ (table : List Label) (s : StretchesModel) (every : HasEveryAddress s) w
         by (inr end) = omega (arith, last_end s index end, ends (index + 1) end, pow_pos (width_of s.version))
 
     -- if the next stretch has the same label, the run goes on
-    pub run_goes_on : index + 1 ≢ length s.firsts → label_at s (index + 1) ≡ label_at s index → IsPrintedTo table s begin (index + 1) out
+    pub run_goes_on : index + 1 ≢ length s.firsts → label_at s (index + 1) ≡ label_at s index → AreJoinedTo table s begin (index + 1) runs
     run_goes_on more e = record {
       order = omega (arith, is.order);
       end = λ past. absurd (omega (arith, past, more, within));
@@ -137,22 +119,17 @@ module _ (table : List Label) (s : StretchesModel) (every : HasEveryAddress s) w
           let same : label_at s index ≡ label_at s (index + 1) = sym e in
           subst (λ (x : Option LabelId). HasOneLabel (text_held table s) (record { low = first_at s begin; high = last_at s i; label = label_text table x })) same
           (subst (λ k. HasOneLabel (text_held table s) (record { low = first_at s begin; high = last_at s k; label = label_text table (label_at s index) })) here run_one);
-      runs = is.runs;
-      text = is.text;
       goes_on = is.goes_on;
     }
 
-    -- the run is printed unless the next stretch has the same label
-    pub run_ends : (new : Text) → IsLabelTable table → AreLabelsBelow (length table) s
-        → (index + 1 < length s.firsts → label_at s (index + 1) ≢ label_at s index)
-        → new ≡ out ++ run_text s.version (run_between table s begin index) → IsPrintedTo table s (index + 1) (index + 1) new
-    run_ends new distinct known other text = record {
+    -- the run ends unless the next stretch has the same label
+    pub run_ends : IsLabelTable table → AreLabelsBelow (length table) s → (index + 1 < length s.firsts → label_at s (index + 1) ≢ label_at s index)
+        → AreJoinedTo table s (index + 1) (index + 1) (runs ++ run_between table s begin index ∷ [])
+    run_ends distinct known other = record {
       order = omega arith;
       end = λ _. refl;
       one = λ i next ge. absurd (omega (arith, next, ge));
-      runs = is.runs ++ run_between table s begin index ∷ [];
-      text = text_more s out new is.runs (run_between table s begin index) is.text text;
-      goes_on = λ rest are. subst (AreRuns (text_held table s) 0 (2 ^ width_of s.version)) (sym (append_assoc is.runs (run_between table s begin index ∷ []) rest))
+      goes_on = λ rest are. subst (AreRuns (text_held table s) 0 (2 ^ width_of s.version)) (sym (append_assoc runs (run_between table s begin index ∷ []) rest))
           (is.goes_on (run_between table s begin index ∷ rest) (
             sym (begins begin (omega (arith, is.order, within))),
             run_one,

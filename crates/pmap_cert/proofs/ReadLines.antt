@@ -1,5 +1,5 @@
 -- What the printed lines of a list say, read as a list and read as a map.
-use Rattle.std.proofs.Common.{◌≡◌, ℕ, ◌+◌, ◌-◌, ◌<◌, ◌≤◌, ◌==◌, ◌∙◌, true, false, [], ◌∷◌, ◌++◌, All, Option, Some, None, Result, Ok, codes, length, nat_le, option_and_then, unwrap_or, refl, ap, subst, arith}
+use Rattle.std.proofs.Common.{List, ◌≡◌, ℕ, ◌+◌, ◌-◌, ◌<◌, ◌≤◌, ◌==◌, ◌∙◌, true, false, [], ◌∷◌, ◌++◌, All, Option, Some, None, Result, Ok, codes, length, nat_le, option_and_then, unwrap_or, refl, ap, subst, arith}
 use Rattle.std.specs.Fmt.{decimal}
 use Rattle.std.specs.List.{list_any}
 use Rattle.std.specs.Str.{bytes_eq}
@@ -23,19 +23,18 @@ use Rattle.pmap_text.specs.ListModel.{Prefix}
 use Rattle.pmap_text.specs.MapModel.{Label}
 use Rattle.pmap_text.specs.declared.form.Form.{Form}
 use Rattle.pmap_text.specs.declared.form.Form.TheVariants as form
-use Rattle.pmap_print.proofs.LastMatch.{mapping_of_prefix}
-use Rattle.pmap_print.specs.List.{entry_line, mode_text, IsPrintedEntry}
-use Rattle.pmap_print.specs.Table.{Text}
+use Rattle.pmap_cert.proofs.LastMatch.{mapping_of_prefix}
+use Rattle.pmap_cert.specs.ListText.{entry_line, mode_text, IsPrintedEntry}
 use Rattle.prefix_keys.proofs.Groups.{width-le}
-use Rattle.pmap_print.proofs.WordLines.{high-block, line-behind_word, line-content, line-first_word}
+use Rattle.pmap_cert.proofs.WordLines.{high-block, line-behind_word, line-content, line-first_word}
 
 -- a line of a word and a label is read by its words
-content-word : (kind : Form) (earlier : Earlier) (text : Text) → 0 < length text
+content-word : (kind : Form) (earlier : Earlier) (text : List ℕ) → 0 < length text
     → content_line kind earlier text ≡ statement_line kind earlier (first_word text) (behind_word text)
 content-word kind earlier [] some = absurd (omega (arith, some))
 content-word kind earlier (b ∷ bs) some = refl
 
-pub word-line : (kind : Form) (earlier : Earlier) (word label : Text) → 0 < length word → All (λ b. 45 ≤ b) word → is_label label ≡ true
+pub word-line : (kind : Form) (earlier : Earlier) (word label : List ℕ) → 0 < length word → All (λ b. 45 ≤ b) word → is_label label ≡ true
     → content_line kind earlier (content_of (word ++ 32 ∷ label)) ≡ statement_line kind earlier word label
 word-line kind earlier word label some high is =
     ap (content_line kind earlier) (line-content word label some high is)
@@ -75,16 +74,16 @@ mode-entry form.List name V4 = refl
 mode-entry form.List name V6 = refl
 
 -- the block of an entry's line
-slash-in : (front back : Text) → list_any (λ b. b == 47) (front ++ 47 ∷ back) ≡ true
+slash-in : (front back : List ℕ) → list_any (λ b. b == 47) (front ++ 47 ∷ back) ≡ true
 slash-in front back = grind (arith, common_steps)
 
-other-word : (word other : Text) → list_any (λ b. b == 47) word ≡ true → list_any (λ b. b == 47) other ≡ false → bytes_eq word other ≡ false
+other-word : (word other : List ℕ) → list_any (λ b. b == 47) word ≡ true → list_any (λ b. b == 47) other ≡ false → bytes_eq word other ≡ false
 other-word word other has lacks =
     false_from_ne_true (bytes_eq word other)
     (λ same. let e : word ≡ other = (bytes_eq-Decides word other).0 same in
-    both_ways (list_any (λ b. b == 47) other) lacks (subst (λ (w : Text). list_any (λ b. b == 47) w ≡ true) e has))
+    both_ways (list_any (λ b. b == 47) other) lacks (subst (λ (w : List ℕ). list_any (λ b. b == 47) w ≡ true) e has))
 
-block-statement : (kind : Form) (earlier : Earlier) (word label : Text) → list_any (λ b. b == 47) word ≡ true
+block-statement : (kind : Form) (earlier : Earlier) (word label : List ℕ) → list_any (λ b. b == 47) word ≡ true
     → statement_line kind earlier word label ≡ block_line kind earlier (block_of_text word) label
 block-statement kind earlier word label has =
     rw (
@@ -113,7 +112,7 @@ own-number : (version : Version) (start : ℕ) → number_in version (version, s
 own-number V4 start = refl
 own-number V6 start = refl
 
-own-block : (kind : Form) (earlier : Earlier) (version : Version) (start bits : ℕ) (rest : Text) → earlier.version ≡ Some version
+own-block : (kind : Form) (earlier : Earlier) (version : Version) (start bits : ℕ) (rest : List ℕ) → earlier.version ≡ Some version
     → block_line kind earlier (Ok (version, start, bits)) rest ≡ placed_line kind earlier version start bits rest
 own-block kind earlier version start bits rest decided =
     let same : bits + (width_of version - width_of version) ≡ bits = omega arith in

@@ -1,11 +1,21 @@
-use Rattle.std.specs.Prelude.{◌≡◌, ℕ, List, [], ◌∷◌, Option, codes, map, unwrap_or, option_and_then, slice_get}
-use Rattle.std.specs.List.{flat_map}
+use Rattle.std.specs.Prelude.{◌≡◌, ℕ, List, [], ◌∷◌, ◌++◌, Option, codes, map, unwrap_or, option_and_then, slice_get}
+use Rattle.std.specs.List.{flat_map, join_with_byte}
 use Rattle.prefix_keys.specs.Print.{address_text}
 use Rattle.prefix_keys.specs.declared.version.Version.{Version}
 use Rattle.pmap_text.specs.MapModel.{Label}
 use Rattle.pmap_text.specs.Stretches.{StretchesModel, first_at, label_at, last_at}
 use Rattle.pmap_text.specs.Runs.{AreRunsOf, Run}
-use Rattle.pmap_print.specs.Table.{Line, Text, line_text}
+
+-- a field, and the fields of a line
+abbrev pub Text : Type 0
+Text = List ℕ
+
+abbrev pub Line : Type 0
+Line = List Text
+
+-- the text of a line: its fields with `|` between them, and a line feed
+abbrev pub line_text : Line → Text
+line_text fields = join_with_byte 124 fields ++ 10 ∷ []
 
 -- The printed text of runs.
 

@@ -10,8 +10,7 @@ use Rattle.pmap_text.specs.Label.{is_label, with_label}
 use Rattle.pmap_text.specs.Reading.{label_limit, mapping_limit, unknown}
 use Rattle.pmap_cert.specs.Acceptance.{begins_before, HasBlock}
 use Rattle.pmap_cert.specs.CertificateText.{text_of_lines, version_word}
-use Rattle.flow_uniq.specs.Groups.{in_order}
-use Rattle.pmap_print.specs.Table.{Text}
+use Rattle.pmap_text.specs.Sorting.{in_order}
 
 -- The order in which a prefix list is printed.
 
@@ -26,20 +25,20 @@ starts_alike p r = p.start == r.start && p.bits == r.bits
 -- The printed text of a prefix list.
 
 -- `map-name NAME`, if there is a name
-abbrev pub name_lines : Option Label → List Text
+abbrev pub name_lines : Option Label → List (List ℕ)
 name_lines None = []
 name_lines (Some name) = (codes "map-name" ++ 32 ∷ name) ∷ []
 
 -- `mode VERSION`
-abbrev pub mode_text : Version → Text
+abbrev pub mode_text : Version → List ℕ
 mode_text version = codes "mode" ++ 32 ∷ version_word version
 
 -- `BLOCK LABEL`
-abbrev pub entry_line : Version → Prefix → Text
+abbrev pub entry_line : Version → Prefix → List ℕ
 entry_line version p = block_text version p.start p.bits ++ 32 ∷ p.label
 
 -- the text of a list: the lines of its name, its version, and its entries in order
-abbrev pub list_text : ListModel → Text
+abbrev pub list_text : ListModel → List ℕ
 list_text l =
     text_of_lines (name_lines l.name ++ mode_text l.version ∷ map (entry_line l.version) (entries_in_order l.prefixes))
 

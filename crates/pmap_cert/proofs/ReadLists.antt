@@ -20,10 +20,9 @@ use Rattle.pmap_text.specs.declared.fault.MapFaultKind.{MapFaultKind}
 use Rattle.pmap_text.specs.declared.form.Form.{Form}
 use Rattle.pmap_text.specs.declared.form.Form.TheVariants as form
 use Rattle.pmap_text.proofs.ProgressSteps.{length-with_label}
-use Rattle.pmap_print.proofs.LastMatch.{mapping_of_prefix}
-use Rattle.pmap_print.specs.List.{entry_line, mode_text, name_lines, starts_alike, IsPrintedEntry, labels_of}
-use Rattle.pmap_print.specs.Table.{Text}
-use Rattle.pmap_print.proofs.ReadLines.{entered, label_of-label, meant-label, mode-entry, name-entry, placed-entry}
+use Rattle.pmap_cert.proofs.LastMatch.{mapping_of_prefix}
+use Rattle.pmap_cert.specs.ListText.{entry_line, mode_text, name_lines, starts_alike, IsPrintedEntry, labels_of}
+use Rattle.pmap_cert.proofs.ReadLines.{entered, label_of-label, meant-label, mode-entry, name-entry, placed-entry}
 
 -- the entries that were read are these
 abbrev pub AreEntries : Form → Version → Earlier → List Prefix → Type 0
@@ -115,7 +114,7 @@ abbrev AllRead : Form → Version → Option Label → Earlier → ℕ → List 
 AllRead kind version name earlier number ps all =
     (read : Earlier) × (lines_read kind number (Ok earlier) (map (entry_line version) ps) ≡ Ok read) × HasRead kind version name read all
 
-lines-more : (kind : Form) (earlier next : Earlier) (number : ℕ) (line : Text) (lines : List Text) → content_line kind earlier (content_of line) ≡ Ok next
+lines-more : (kind : Form) (earlier next : Earlier) (number : ℕ) (line : List ℕ) (lines : List (List ℕ)) → content_line kind earlier (content_of line) ≡ Ok next
     → lines_read kind number (Ok earlier) (line ∷ lines) ≡ lines_read kind (number + 1) (Ok next) lines
 lines-more kind earlier next number line lines e = ap (λ (r : Result Earlier MapFaultKind). lines_read kind (number + 1) r lines) e
 

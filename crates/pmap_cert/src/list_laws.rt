@@ -1,30 +1,14 @@
-//! The laws on printed texts.
+//! Laws about the texts of prefix lists.
 
-ghost use Rattle.std.specs.Prelude.{◌≡◌, ◌<◌, ◌≤◌, ◌^◌, ℕ, List, Option, Some, length, Ok};
+ghost use Rattle.std.specs.Prelude.{◌≡◌, ◌≤◌, ℕ, List, length, Ok};
 ghost use Rattle.std.specs.List.{IsDistinct};
 ghost use Rattle.std.specs.List.Sorted.{IsPermutation};
-ghost use Rattle.prefix_keys.specs.Block.{width_of};
-ghost use Rattle.prefix_keys.specs.declared.version.Version.{Version};
+ghost use Rattle.pmap_text.specs.ListModel.{ListModel, Prefix};
+ghost use Rattle.pmap_text.specs.MapModel.{MapModel};
+ghost use Rattle.pmap_text.specs.Reading.{label_limit, mapping_limit, map_reading, list_reading};
 ghost use Rattle.pmap_cert.specs.Acceptance.{IsAccepted, IsInOrder, IsMinimalPair};
 ghost use Rattle.pmap_cert.specs.CertificateModel.{CertificateModel};
-ghost use Rattle.pmap_text.specs.ListModel.{IsEquivalent, ListModel, Prefix, list_label};
-ghost use Rattle.pmap_text.specs.MapModel.{Label, MapModel, map_label};
-ghost use Rattle.pmap_text.specs.Reading.{label_limit, mapping_limit, map_reading, list_reading};
-ghost use Rattle.pmap_print.specs.List.{list_text, entries_in_order, starts_alike, CanBeReadAgain, IsListAgain, IsMapAgain, IsWellFormed, labels_of};
-ghost use Rattle.pmap_print.specs.Runs.{IsRunsText};
-ghost use Rattle.pmap_print.specs.Table.{Text};
-
-/// The text of the runs of a labelling is unique, and labellings that agree on each address have the same text. So a
-/// list that labels each address as a map does has the map's text.
-pub fn labelling_has_one_runs_text()
-    ensures one { (v : Version) (f : ℕ → Option Label) (text other : Text) →
-        IsRunsText v f text → IsRunsText v f other → text ≡ other }
-    ensures alike { (v : Version) (f g : ℕ → Option Label) (text : Text) →
-        ((a : ℕ) → a < 2 ^ width_of v → f a ≡ g a) → IsRunsText v f text → IsRunsText v g text }
-    ensures equivalent { (l : ListModel) (m : MapModel) (text other : Text) → IsEquivalent l m →
-        IsRunsText l.version (list_label l) text →
-        IsRunsText m.version (λ a. Some (map_label m a)) other → text ≡ other }
-{}
+ghost use Rattle.pmap_cert.specs.ListText.{list_text, entries_in_order, starts_alike, CanBeReadAgain, IsListAgain, IsMapAgain, IsWellFormed, labels_of};
 
 /// A list is printed in the only order in which each entry precedes all that follow it. A list in that order keeps it.
 pub fn printed_order_is_one()

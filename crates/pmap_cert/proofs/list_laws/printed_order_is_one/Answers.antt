@@ -1,5 +1,5 @@
-use Rattle.pmap_print.proofs.Order.{in_order-kept, in_order-moves, in_order-one, in_order-order}
-use Rattle.pmap_print.proofs.laws.printed_order_is_one.Goals as goal
+use Rattle.pmap_cert.proofs.EntryOrder.{in_order-kept, in_order-moves, in_order-one, in_order-order}
+use Rattle.pmap_cert.proofs.list_laws.printed_order_is_one.Goals as goal
 
 pub returns-clause-entries : goal.returns-clause-entries
 returns-clause-entries c = in_order-moves

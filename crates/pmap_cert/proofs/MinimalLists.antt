@@ -18,9 +18,9 @@ use Rattle.pmap_text.specs.Label.{is_label}
 use Rattle.pmap_text.specs.ListModel.{ListModel, Prefix, is_same_prefix}
 use Rattle.pmap_text.specs.MapModel.{Label, MapModel}
 use Rattle.pmap_text.specs.Reading.{label_limit, mapping_limit, map_reading}
-use Rattle.pmap_print.specs.List.{CanBeReadAgain, IsListAgain, IsPrintedEntry, IsWellFormed, labels_of}
-use Rattle.pmap_print.proofs.LastMatch.{block-start}
-use Rattle.pmap_print.proofs.Order.{in_order-kept}
+use Rattle.pmap_cert.specs.ListText.{CanBeReadAgain, IsListAgain, IsPrintedEntry, IsWellFormed, labels_of}
+use Rattle.pmap_cert.proofs.LastMatch.{block-start}
+use Rattle.pmap_cert.proofs.EntryOrder.{in_order-kept}
 
 -- blocks in order are distinct
 same-start : (W : ℕ) (p r : Prefix) → HasBlock W p → HasBlock W r → p.bits ≡ r.bits

@@ -17,30 +17,29 @@ use Rattle.pmap_cert.specs.CertificateText.{text_of_lines}
 use Rattle.pmap_text.specs.Label.{is_blank, is_label, is_label_byte}
 use Rattle.pmap_text.specs.Reading.{behind_word, content_of, first_word, lines_of, trim_end, trim_start}
 use Rattle.pmap_text.proofs.LeadingWords.{first-behind}
-use Rattle.pmap_print.specs.Table.{Text}
 
 -- each printed line is read as one line
-one-line : (line rest : Text) → Lacks 10 line → lines_of ((line ++ 10 ∷ []) ++ rest) ≡ line ∷ lines_of rest
+one-line : (line rest : List ℕ) → Lacks 10 line → lines_of ((line ++ 10 ∷ []) ++ rest) ≡ line ∷ lines_of rest
 one-line [] rest lacks = refl
 one-line (b ∷ bs) rest lacks =
     rw (All-head (λ b. (b == 10) ≡ false) b bs lacks, one-line bs rest (All-tail (λ b. (b == 10) ≡ false) b bs lacks)) refl
 
-pub lines-text : (lines : List Text) → All (Lacks 10) lines → lines_of (text_of_lines lines) ≡ lines
+pub lines-text : (lines : List (List ℕ)) → All (Lacks 10) lines → lines_of (text_of_lines lines) ≡ lines
 lines-text [] lacks = refl
 lines-text (line ∷ lines) lacks =
     one-line line (text_of_lines lines) (All-head (Lacks 10) line lines lacks)
-    ∙ ap (λ (ls : List Text). line ∷ ls) (lines-text lines (All-tail (Lacks 10) line lines lacks))
+    ∙ ap (λ (ls : List (List ℕ)). line ∷ ls) (lines-text lines (All-tail (Lacks 10) line lines lacks))
 
 -- no byte of the text passes a test
-no_first : (test : ℕ → Bool) (text : Text) → All (λ c. test c ≡ false) text → position_or_len test text ≡ length text
+no_first : (test : ℕ → Bool) (text : List ℕ) → All (λ c. test c ≡ false) text → position_or_len test text ≡ length text
 no_first test text none = position_or_len_is test text (length text) 0 (omega arith) (λ k below. none k 0 below) (λ h. absurd (omega (arith, h)))
 
 -- a text that neither begins nor ends with a blank has no outer blanks
-trim_start-same : (b : ℕ) (bs : Text) → is_blank b ≡ false → trim_start (b ∷ bs) ≡ b ∷ bs
+trim_start-same : (b : ℕ) (bs : List ℕ) → is_blank b ≡ false → trim_start (b ∷ bs) ≡ b ∷ bs
 trim_start-same b bs e =
     ap (λ n. drop n (b ∷ bs)) (position_or_len_is (λ c. not (is_blank c)) (b ∷ bs) 0 0 (omega arith) (λ k below. absurd (omega (arith, below))) (λ _. rw e refl))
 
-trim_end-same : (text : Text) → 0 < length text → is_blank (get_or text (length text - 1) 0) ≡ false → trim_end text ≡ text
+trim_end-same : (text : List ℕ) → 0 < length text → is_blank (get_or text (length text - 1) 0) ≡ false → trim_end text ≡ text
 trim_end-same text some e =
     let whole : take (length text) text ≡ text = take_all (length text) text (omega arith) in
     let none : suffix_len is_blank text ≡ 0 =
@@ -48,13 +47,13 @@ trim_end-same text some e =
     take_all (length text - suffix_len is_blank text) text (omega arith)
 
 -- what a well-formed label is
-pub record LabelParts (label : Text) : Type 0 where
+pub record LabelParts (label : List ℕ) : Type 0 where
   pub some : 0 < length label
   pub bytes : All (λ b. is_label_byte b ≡ true) label
   pub first : is_blank (get_or label 0 0) ≡ false
   pub last : is_blank (get_or label (length label - 1) 0) ≡ false
 
-pub label-parts : (label : Text) → is_label label ≡ true → LabelParts label
+pub label-parts : (label : List ℕ) → is_label label ≡ true → LabelParts label
 label-parts label is =
     record {
       some = grind (arith, nat_tests);
@@ -64,7 +63,7 @@ label-parts label is =
     }
 
 -- a byte that no label has, such as a line feed
-label-lacks : (c : ℕ) → is_label_byte c ≡ false → (label : Text) → is_label label ≡ true → Lacks c label
+label-lacks : (c : ℕ) → is_label_byte c ≡ false → (label : List ℕ) → is_label label ≡ true → Lacks c label
 label-lacks c never label is =
     All-weaker (λ b. is_label_byte b ≡ true) (λ b. (b == c) ≡ false)
     (λ b yes. ne_eqb b c (λ e. both_ways (is_label_byte c) never (subst (λ x. is_label_byte x ≡ true) e yes))) label (label-parts label is).bytes
@@ -77,7 +76,7 @@ high-blank : (b : ℕ) → 45 ≤ b → is_blank b ≡ false
 high-blank b high = rw (high-other 32 b (omega arith) high, high-other 9 b (omega arith) high, high-other 13 b (omega arith) high) refl
 
 -- A word, a space and a label: the first word is the word, and the label follows it.
-module _ (word label : Text) (some : 0 < length word) (high : All (λ b. 45 ≤ b) word) (is : is_label label ≡ true) where
+module _ (word label : List ℕ) (some : 0 < length word) (high : All (λ b. 45 ≤ b) word) (is : is_label label ≡ true) where
   no_blank : All (λ b. is_blank b ≡ false) word
   no_blank = All-weaker (λ b. 45 ≤ b) (λ b. is_blank b ≡ false) high-blank word high
 
@@ -96,7 +95,7 @@ module _ (word label : Text) (some : 0 < length word) (high : All (λ b. 45 ≤ 
   pub line-first_word : first_word (word ++ 32 ∷ label) ≡ word
   line-first_word = ap (λ n. take n (word ++ 32 ∷ label)) word_at ∙ take_at word (32 ∷ label) (length word) refl
 
-  label-trimmed : (text : Text) → 0 < length text → is_blank (get_or text 0 0) ≡ false → trim_start (32 ∷ text) ≡ text
+  label-trimmed : (text : List ℕ) → 0 < length text → is_blank (get_or text 0 0) ≡ false → trim_start (32 ∷ text) ≡ text
   label-trimmed [] more first = absurd (omega (arith, more))
   label-trimmed (b ∷ bs) more first =
       ap (λ n. drop n (32 ∷ b ∷ bs)) (position_or_len_is (λ c. not (is_blank c)) (32 ∷ b ∷ bs) 1 0 (omega arith)
@@ -107,7 +106,7 @@ module _ (word label : Text) (some : 0 < length word) (high : All (λ b. 45 ≤ 
       ap (λ n. trim_start (drop n (word ++ 32 ∷ label))) word_at ∙ ap trim_start (drop_at word (32 ∷ label) (length word) refl)
       ∙ label-trimmed label (label-parts label is).some (label-parts label is).first
 
-  begins : (text : Text) (rest : Text) → 0 < length text → All (λ b. 45 ≤ b) text → trim_start (text ++ rest) ≡ text ++ rest
+  begins : (text : List ℕ) (rest : List ℕ) → 0 < length text → All (λ b. 45 ≤ b) text → trim_start (text ++ rest) ≡ text ++ rest
   begins [] rest more all = absurd (omega (arith, more))
   begins (b ∷ bs) rest more all = trim_start-same b (bs ++ rest) (high-blank b (All-head (λ b. 45 ≤ b) b bs all))
 

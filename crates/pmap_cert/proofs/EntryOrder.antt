@@ -15,9 +15,9 @@ use Rattle.pmap_text.specs.declared.entry.Entry.{Entry}
 use Rattle.pmap_text.proofs.Filed.{distinct_to_map, flips}
 use Rattle.pmap_text.proofs.ListBlocks.{ranks_ascend, short-block}
 use Rattle.pmap_text.proofs.Finds.{Contains-cases, Contains-first, Contains-later, Contains-nil}
-use Rattle.flow_uniq.specs.Groups.{with_in_order}
-use Rattle.flow_uniq.proofs.Dividing.{same-in_order}
-use Rattle.pmap_print.specs.List.{entries_in_order, starts_alike}
+use Rattle.pmap_text.specs.Sorting.{with_in_order}
+use Rattle.pmap_text.proofs.Sorting.{same-in_order}
+use Rattle.pmap_cert.specs.ListText.{entries_in_order, starts_alike}
 
 -- the entries with one more, which is placed before the first entry that doesn't precede it
 abbrev placed : Prefix → List Prefix → List Prefix
