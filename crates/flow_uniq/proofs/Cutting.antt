@@ -1,7 +1,7 @@
 -- The bytes that are written for a key are read back as this key.
 use Rattle.std.proofs.Common.{◌≡◌, ℕ, zero, suc, ◌+◌, ◌*◌, ◌/◌, ◌%◌, ◌^◌, ◌<◌, ◌≤◌, ◌==◌, Bool, true, false, not, cond, if◌then◌else◌, true≢false, List, [], ◌∷◌, ◌++◌, length, take, drop, nat_lt, get_or, map, Option, Some, None, unwrap_or, refl, sym, ap, subst, ◌∙◌, arith}
-use Rattle.std.proofs.lemmas.List.{append_assoc, drop_all, drop-append-le, length-append, length-drop, take_all, take-append-le}
-use Rattle.std.proofs.lemmas.Bool.{and_parts, ne_eqb}
+use Rattle.std.proofs.lemmas.List.{append_assoc, drop_at, length-append, length-drop, take_all, take_at}
+use Rattle.std.proofs.lemmas.Bool.{and_parts, le-ltb, ne_eqb}
 use Rattle.std.proofs.lemmas.Bool.Decides.{nat_tests}
 use Rattle.std.proofs.lemmas.Grind.{common_steps}
 use Rattle.std.proofs.lemmas.Nat.{from_be_bytes-to_be_bytes_2, from_be_bytes-to_be_bytes_4, from_be_bytes-to_be_bytes_8}
@@ -15,19 +15,9 @@ use Rattle.pmap_text.specs.Label.{is_label, is_label_byte}
 use Rattle.flow_uniq.specs.Key.{KeyField, Key, KeyPartModel, AddressPart, NumberPart, LabelPart}
 use Rattle.flow_uniq.specs.Codes.{AreSmall, IsCode, IsSmall, first_part, front_bytes, front_label, key_code, key_in, part_code, parts_in}
 
-not_less : (a b : ℕ) → b ≤ a → nat_lt a b ≡ false
-not_less a b h = grind (arith, nat_tests)
-
--- a list before another is found by its length
-take-front : (n : ℕ) (xs r : List ℕ) → length xs ≡ n → take n (xs ++ r) ≡ xs
-take-front n xs r e = take-append-le n xs r (omega (arith, e)) ∙ take_all n xs (omega (arith, e))
-
-drop-front : (n : ℕ) (xs r : List ℕ) → length xs ≡ n → drop n (xs ++ r) ≡ r
-drop-front n xs r e = drop-append-le n xs r (omega (arith, e)) ∙ ap (λ (l : List ℕ). l ++ r) (drop_all n xs (omega (arith, e)))
-
 -- bytes that were written are read back
 front_bytes-back : (n : ℕ) (xs r : List ℕ) → length xs ≡ n → front_bytes n (xs ++ r) ≡ Some (xs, r)
-front_bytes-back n xs r e = rw (not_less (length (xs ++ r)) n (omega (arith, e, length-append xs r)), take-front n xs r e, drop-front n xs r e) refl
+front_bytes-back n xs r e = rw (le-ltb (length (xs ++ r)) n (omega (arith, e, length-append xs r)), take_at xs r n e, drop_at xs r n e) refl
 
 -- no byte is 0
 abbrev pub LacksZero : List ℕ → Type 0
@@ -61,8 +51,8 @@ front_label-back (Some (b ∷ t)) r h =
     let code : List ℕ = (text ++ 0 ∷ []) ++ r in
     let at : position (λ b. b == 0) code ≡ Some (length text) =
     ap (position (λ b. b == 0)) (append_assoc text (0 ∷ []) r) ∙ zero_at text r (label-lacks_zero text h) in
-    let front : take (length text) code ≡ text = ap (take (length text)) (append_assoc text (0 ∷ []) r) ∙ take-front (length text) text (0 ∷ r) refl in
-    let back : drop (length text + 1) code ≡ r = drop-front (length text + 1) (text ++ 0 ∷ []) r (length-append text (0 ∷ [])) in
+    let front : take (length text) code ≡ text = ap (take (length text)) (append_assoc text (0 ∷ []) r) ∙ take_at text (0 ∷ r) (length text) refl in
+    let back : drop (length text + 1) code ≡ r = drop_at (text ++ 0 ∷ []) r (length text + 1) (length-append text (0 ∷ [])) in
     ap (option_map (λ count. (if count == 0 then None else Some (take count code), drop (count + 1) code))) at
     ∙ (λ i. Some (if ne_eqb (length text) 0 (λ e. omega (arith, e)) i then None else Some (front i), back i))
 

@@ -12,7 +12,7 @@ use Rattle.std.proofs.lemmas.Simd.{map-map}
 use Rattle.flow_rows.specs.Elements.{RowView}
 use Rattle.flow_uniq.specs.Key.{Key, same_key}
 use Rattle.flow_uniq.specs.Groups.{GroupModel, KeyedRow, distinct_keys, groups_of_keyed, totals_of}
-use Rattle.flow_uniq.proofs.Grouping.{rows_with, same_key-equiv, stands-distinct}
+use Rattle.flow_uniq.proofs.Grouping.{rows_with, same_key-equiv, any-distinct_keys}
 
 -- The keys of groups are distinct.
 
@@ -127,7 +127,7 @@ module _ (F : List KeyedRow → ℕ) (empty : F [] ≡ 0)
   groups-sum part is rows =
       over (distinct_keys keys)
       ∙ by_key-all (distinct_keys keys) rows (distinct-distinct_keys keys)
-      (have-more (distinct_keys keys) rows (λ k h. stands-distinct k keys ∙ h))
+      (have-more (distinct_keys keys) rows (λ k h. any-distinct_keys k keys ∙ h))
     where
       keys : List Key
       keys = map (λ r. r.0) rows

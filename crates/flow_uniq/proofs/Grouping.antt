@@ -40,9 +40,9 @@ abbrev other_than : Key → Key → Bool
 other_than x o = not (same_key x o)
 
 -- the distinct keys contain each key
-pub stands-distinct : (k : Key) (ks : List Key) → list_any (same_key k) (distinct_keys ks) ≡ list_any (same_key k) ks
-stands-distinct k [] = refl
-stands-distinct k (x ∷ ks) = by (same_key k x) refl (stands-distinct k ks)
+pub any-distinct_keys : (k : Key) (ks : List Key) → list_any (same_key k) (distinct_keys ks) ≡ list_any (same_key k) ks
+any-distinct_keys k [] = refl
+any-distinct_keys k (x ∷ ks) = by (same_key k x) refl (any-distinct_keys k ks)
   where
     by : (b : Bool) → same_key k x ≡ b → list_any (same_key k) (distinct_keys ks) ≡ list_any (same_key k) ks
         → (b || list_any (same_key k) (filter (other_than x) (distinct_keys ks))) ≡ (b || list_any (same_key k) ks)
@@ -122,4 +122,4 @@ module _ (rows : List KeyedRow) (k : Key) (row : RowView) where
       ∙ (λ i. sym (map-map (grown k row) (group_of rows) (distinct_keys keys)) i ++ (if known i then [] else fresh k row ∷ []))
     where
       known : list_any (same_key k) keys ≡ list_any (λ g. same_key k g.key) (groups_of_keyed rows)
-      known = sym (list_any-map (group_of rows) (λ g. same_key k g.key) (distinct_keys keys) ∙ stands-distinct k keys)
+      known = sym (list_any-map (group_of rows) (λ g. same_key k g.key) (distinct_keys keys) ∙ any-distinct_keys k keys)

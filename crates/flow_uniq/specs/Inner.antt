@@ -7,12 +7,12 @@ use Rattle.flow_uniq.specs.Codes.{AreSmall, key_in, same_code}
 use Rattle.flow_uniq.specs.Key.{Key}
 pub use Rattle.flow_uniq.specs.declared.groups.Group.{Group}
 use Rattle.flow_uniq.specs.Groups.{Totals, GroupModel}
-use Rattle.flow_uniq.specs.declared.codec.Key as lent
+use Rattle.flow_uniq.specs.declared.codec.Key as borrowed
 
 -- How groups are stored.
 
 -- the parts of a borrowed key, and a group
-abbrev pub key_model : lent.Key → Key
+abbrev pub key_model : borrowed.Key → Key
 key_model k = key_in k.code.now
 
 abbrev pub group_model : Group → GroupModel

@@ -196,8 +196,8 @@ impl Code {
     }
 }
 
-// Returns the label before the first 0, which is empty if there is none, and the bytes after that 0. Returns `None` if
-// there is no 0.
+// Returns the label at the front, which ends before the first 0 and may be missing, and the bytes after that 0. Returns
+// `None` if there is no 0.
 fn front_label(code: &[u8]) -> Option<(Option<&[u8]>, &[u8])>
     ensures { option_map (λ r. (option_copied r.0, r.1.now)) result ≡ front_label code.now }
 {

@@ -19,9 +19,9 @@ use Rattle.pmap_text.specs.Sorting.{with_in_order}
 use Rattle.pmap_text.proofs.Sorting.{same-in_order}
 use Rattle.pmap_cert.specs.ListText.{entries_in_order, starts_alike}
 
--- the entries with one more, which is placed before the first entry that doesn't precede it
-abbrev placed : Prefix → List Prefix → List Prefix
-placed p ps = with_in_order begins_before p ps
+-- the entries with one more, before the first entry that doesn't precede it
+abbrev with_entry : Prefix → List Prefix → List Prefix
+with_entry p ps = with_in_order begins_before p ps
 
 -- one entry precedes another
 before-trans : (p r s : Prefix) → begins_before p r ≡ true → begins_before r s ≡ true → begins_before p s ≡ true
@@ -70,11 +70,11 @@ pub in_order-moves : (ps : List Prefix) → IsPermutation ps (entries_in_order p
 in_order-moves = same-in_order begins_before
 
 -- the entries in order ascend
-placed-all : (P : Prefix → Type 0) (p : Prefix) (ps : List Prefix) → P p → AllByRecursion P ps → AllByRecursion P (placed p ps)
-placed-all P p [] is all = (is, tt)
-placed-all P p (r ∷ rs) is all = by (begins_before r p) (placed-all P p rs is all.1)
+with_entry-all : (P : Prefix → Type 0) (p : Prefix) (ps : List Prefix) → P p → AllByRecursion P ps → AllByRecursion P (with_entry p ps)
+with_entry-all P p [] is all = (is, tt)
+with_entry-all P p (r ∷ rs) is all = by (begins_before r p) (with_entry-all P p rs is all.1)
   where
-    by : (b : Bool) → AllByRecursion P (placed p rs) → AllByRecursion P (cond b (r ∷ placed p rs) (p ∷ r ∷ rs))
+    by : (b : Bool) → AllByRecursion P (with_entry p rs) → AllByRecursion P (cond b (r ∷ with_entry p rs) (p ∷ r ∷ rs))
     by true ih = (all.0, ih)
     by false ih = (is, all)
 
@@ -83,12 +83,12 @@ all-before : (p r : Prefix) (rs : List Prefix) → begins_before p r ≡ true �
 all-before p r [] is all = tt
 all-before p r (s ∷ ss) is all = (before-trans p r s is all.0, all-before p r ss is all.1)
 
-placed-order : (p : Prefix) (ps : List Prefix) → IsInOrder ps → AllByRecursion (λ r. starts_alike p r ≡ false) ps → IsInOrder (placed p ps)
-placed-order p [] ordered other = (tt, tt)
-placed-order p (r ∷ rs) ordered other = by (begins_before r p) refl (placed-order p rs ordered.1 other.1)
+with_entry-order : (p : Prefix) (ps : List Prefix) → IsInOrder ps → AllByRecursion (λ r. starts_alike p r ≡ false) ps → IsInOrder (with_entry p ps)
+with_entry-order p [] ordered other = (tt, tt)
+with_entry-order p (r ∷ rs) ordered other = by (begins_before r p) refl (with_entry-order p rs ordered.1 other.1)
   where
-    by : (b : Bool) → begins_before r p ≡ b → IsInOrder (placed p rs) → IsInOrder (cond b (r ∷ placed p rs) (p ∷ r ∷ rs))
-    by true e ih = (placed-all (λ s. begins_before r s ≡ true) p rs e ordered.0, ih)
+    by : (b : Bool) → begins_before r p ≡ b → IsInOrder (with_entry p rs) → IsInOrder (cond b (r ∷ with_entry p rs) (p ∷ r ∷ rs))
+    by true e ih = (with_entry-all (λ s. begins_before r s ≡ true) p rs e ordered.0, ih)
     by false e ih = let is = before-other p r e other.0 in ((is, all-before p r rs is ordered.0), ordered)
 
 pub alike-flips : (p r : Prefix) → starts_alike p r ≡ starts_alike r p
@@ -99,7 +99,7 @@ in_order-order [] distinct = tt
 in_order-order (p ∷ ps) distinct =
     let more : IsDistinct starts_alike (p ∷ entries_in_order ps) =
     IsDistinct-IsPermutation starts_alike alike-flips (p ∷ ps) (p ∷ entries_in_order ps) (IsPermutation-cons p ps (entries_in_order ps) (in_order-moves ps)) distinct in
-    placed-order p (entries_in_order ps) (in_order-order ps (IsDistinct-tail starts_alike p ps distinct)) (IsDistinct-head starts_alike p (entries_in_order ps) more)
+    with_entry-order p (entries_in_order ps) (in_order-order ps (IsDistinct-tail starts_alike p ps distinct)) (IsDistinct-head starts_alike p (entries_in_order ps) more)
 
 -- there is only one order of a list's entries
 pub in_order-one : (ps rs : List Prefix) → IsDistinct starts_alike ps → IsPermutation ps rs → IsInOrder rs → rs ≡ entries_in_order ps
@@ -137,10 +137,10 @@ sorted-order table es sorted moved ascending distinct =
     (entries-order table sorted (ranks_ascend sorted (IsDistinct-IsPermutation same_block flips es sorted moved distinct) ascending))
 
 -- entries in order keep their order
-placed-first : (p : Prefix) (ps : List Prefix) → IsInOrder (p ∷ ps) → placed p ps ≡ p ∷ ps
-placed-first p [] ordered = refl
-placed-first p (r ∷ rs) ordered = let e : begins_before r p ≡ false = before-not p r ordered.0.0 in rw e refl
+with_entry-first : (p : Prefix) (ps : List Prefix) → IsInOrder (p ∷ ps) → with_entry p ps ≡ p ∷ ps
+with_entry-first p [] ordered = refl
+with_entry-first p (r ∷ rs) ordered = let e : begins_before r p ≡ false = before-not p r ordered.0.0 in rw e refl
 
 pub in_order-kept : (ps : List Prefix) → IsInOrder ps → entries_in_order ps ≡ ps
 in_order-kept [] ordered = refl
-in_order-kept (p ∷ ps) ordered = ap (placed p) (in_order-kept ps ordered.1) ∙ placed-first p ps ordered
+in_order-kept (p ∷ ps) ordered = ap (with_entry p) (in_order-kept ps ordered.1) ∙ with_entry-first p ps ordered

@@ -1,9 +1,8 @@
 pub mod Appended
 pub mod GroupLines
-pub mod GroupText
 pub mod Spreading
 pub mod WideLines
 pub mod PaddedLines
-pub mod Placed
+pub mod Moves
 pub mod TableLines
 pub mod RowLines

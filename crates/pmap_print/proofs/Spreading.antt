@@ -59,18 +59,6 @@ pub record IsSpreadTo (widths : List ℕ) (fields : Line) (more : Text) (to : �
   pub room : to_now + sum (drop i widths) ≤ from_now + length (sized (drop i fields))
   pub same : length now ≡ length text
 
-pub spread-first : (widths : List ℕ) (fields : Line) (more : Text) (from to : ℕ) (text : Text) → CanSpread widths fields more from to text
-    → IsSpreadTo widths fields more to text 0 from to text
-spread-first widths fields more from to text can = record {
-  fits = can.fits;
-  back = can.back;
-  within = can.within;
-  front = refl;
-  size = refl;
-  room = can.room;
-  same = refl;
-}
-
 -- the widths and the fields from an index on
 module _ (widths : List ℕ) (fields : Line) (i : ℕ) (inside : i < length widths) where
   abbrev width : ℕ

@@ -1,5 +1,5 @@
 -- One more line of a table.
-use Rattle.std.proofs.Common.{arith, ℕ, Bool, false, true, true≢false, ◌≡◌, ◌<◌, ◌∙◌, List, [], ◌∷◌, ◌++◌, Option, Some, None, is_some, option_map, unwrap_or, drop, length, ap, sym, refl, subst, append_assoc}
+use Rattle.std.proofs.Common.{arith, ℕ, Bool, false, true≢false, ◌≡◌, ◌<◌, ◌∙◌, List, [], ◌∷◌, ◌++◌, Option, Some, None, is_some, option_map, unwrap_or, drop, length, ap, sym, refl, subst, append_assoc}
 use Rattle.std.specs.List.{flat_map, join_with_byte}
 use Rattle.std.specs.Option.{ForSome}
 use Rattle.std.proofs.lemmas.Grind.{flat_map-append}

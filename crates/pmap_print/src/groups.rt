@@ -18,7 +18,7 @@ const TOTALS: usize = 3;
 
 // Appends the header of groups by these fields. In a table with columns, the names of the columns each follow the byte
 // of their length.
-fn print_title(out: &mut Text, fields: &[KeyField], columns: bool) -> Result<(), AllocError>
+fn print_header(out: &mut Text, fields: &[KeyField], columns: bool) -> Result<(), AllocError>
     ensures { OnOk result (out.new ≡ out.old ++ header_text columns (group_titles fields.now)) }
 {
     for field in fields {
@@ -135,7 +135,7 @@ pub fn print_groups(
 {
     let fields = groups.fields();
     let mut table = Table::new(alloc, fields.len() + TOTALS, columns)?;
-    print_title(&mut table.text, fields, columns)?;
+    print_header(&mut table.text, fields, columns)?;
     table.end_line(0);
     let listed = if sorted { Some(groups.sorted()?) } else { None };
     for index in 0..groups.group_count() {

@@ -37,8 +37,8 @@ pub fn print_list(alloc: Global, list: &PrefixList) -> Result<Vec<u8>, AllocErro
     })?;
     let sorted = in_order(alloc, &list.entries)?;
     let entries = sorted_or(&sorted, &list.entries);
-    for place in 0..entries.len() {
-        print_entry(&mut out, &entries.at(place), &list.labels)?;
+    for index in 0..entries.len() {
+        print_entry(&mut out, &entries.at(index), &list.labels)?;
     }
     Ok(out)
 }

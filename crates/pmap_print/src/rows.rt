@@ -39,7 +39,7 @@ fn print_fields(out: &mut Text, row: &Row<'_>, first: Mark, mark: Mark) -> Resul
     let sport = write_number(mark, u64::from(row.sport()), &mut line, dport);
     let dst = write_address(mark, row.dst(), &mut line, sport);
     let src = write_address(first, row.src(), &mut line, dst);
-    out.push_front(&line[src..], LINE - src)
+    out.push_start(&line[src..], LINE - src)
 }
 
 // Appends the fields of the labels of a row, each after a mark. The field of a missing label is empty. If an allocation
@@ -80,7 +80,7 @@ fn print_row(
 }
 
 // Appends the header of rows. In a table with columns, the names of the columns each follow the byte of their length.
-fn print_title(out: &mut Text, labelled: bool, columns: bool) -> Result<(), AllocError>
+fn print_header(out: &mut Text, labelled: bool, columns: bool) -> Result<(), AllocError>
     ensures { OnOk result (out.new ≡ out.old ++ header_text columns (title_line labelled)) }
 {
     let names: &[u8] = if columns {
@@ -110,7 +110,7 @@ impl Table {
     {
         let count = if labelled { WITH_LABELS } else { COLUMNS };
         let mut table = Table::new(alloc, count, columns)?;
-        print_title(&mut table.text, labelled, columns)?;
+        print_header(&mut table.text, labelled, columns)?;
         table.end_line(0);
         Ok(table)
     }

@@ -85,7 +85,7 @@ impl Text {
 
     /// Appends the first `count` of some bytes. All of them are copied, which is faster if their number is constant.
     #[inline(always)]
-    pub fn push_front(&mut self, given: &[u8], count: usize) -> Result<(), AllocError>
+    pub fn push_start(&mut self, given: &[u8], count: usize) -> Result<(), AllocError>
         requires { count ≤ length given.now }
         ensures ok { OnOk result (self.new ≡ self.old ++ take count given.now) }
         ensures err { OnErr result (self.new ≡ self.old) }
@@ -121,7 +121,7 @@ impl Text {
     pub fn push_bytes(&mut self, bytes: &[u8]) -> Result<(), AllocError>
         ensures { OnOk result (self.new ≡ self.old ++ bytes.now) }
     {
-        self.push_front(bytes, bytes.len())
+        self.push_start(bytes, bytes.len())
     }
 
     /// Appends a mark and a field. If an allocation fails, the mark may have been appended.
@@ -131,8 +131,8 @@ impl Text {
         ensures ok { OnOk result (self.new ≡ self.old ++ marked mark field.now) }
         ensures err { OnErr result (BeginsWith self.old self.new) }
     {
-        self.push_front(&[mark.of(field.len())], 1)?;
-        self.push_front(field, field.len())
+        self.push_start(&[mark.of(field.len())], 1)?;
+        self.push_start(field, field.len())
     }
 
     /// Appends a mark and a number in decimal.
@@ -142,7 +142,7 @@ impl Text {
     {
         let mut field = [0; 2 * NUMBER];
         let start = write_number(mark, number, &mut field, NUMBER);
-        self.push_front(&field[start..start + NUMBER], NUMBER - start)
+        self.push_start(&field[start..start + NUMBER], NUMBER - start)
     }
 
     /// Appends a mark and a number of up to 128 bits in decimal.
@@ -163,7 +163,7 @@ impl Text {
     {
         let mut field = [0; 2 * ADDRESS];
         let start = write_address(mark, addr, &mut field, ADDRESS);
-        self.push_front(&field[start..start + ADDRESS], ADDRESS - start)
+        self.push_start(&field[start..start + ADDRESS], ADDRESS - start)
     }
 
     /// Returns the text as bytes.

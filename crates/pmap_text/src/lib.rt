@@ -63,7 +63,7 @@ pub use laws::{
 };
 pub use map_text::MapText;
 pub use name::Name;
-pub use order::{by_rank, in_order, sorted_or};
+pub use order::{in_order, sorted_or};
 pub use prefix_list::PrefixList;
 pub use reading::{LABEL_LIMIT, MAPPING_LIMIT};
 pub use statement::Statement;

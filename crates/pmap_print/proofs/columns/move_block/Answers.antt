@@ -1,4 +1,4 @@
-use Rattle.pmap_print.proofs.Placed.{block_front}
+use Rattle.pmap_print.proofs.Moves.{block_front}
 use Rattle.std.proofs.Common.{arith}
 use Rattle.pmap_print.proofs.columns.move_block.Goals as goal
 

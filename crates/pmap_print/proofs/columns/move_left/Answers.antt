@@ -1,5 +1,5 @@
 use Rattle.std.proofs.Common.{◌+◌, ◌∙◌, ap, arith, drop, take}
-use Rattle.pmap_print.proofs.Placed.{fewer_back, fewer_front, part_back, part_front}
+use Rattle.pmap_print.proofs.Moves.{fewer_back, fewer_front, part_back, part_front}
 use Rattle.pmap_print.proofs.columns.move_left.Goals as goal
 
 pub returns-then-spaces-count-le16-clause-front : goal.returns-then-spaces-count-le16-clause-front

@@ -14,7 +14,7 @@ use Rattle.pmap_print.proofs.GroupLines.{first_lines, length-group_titles, line_
 use Rattle.pmap_print.proofs.TableLines.{header_fits, header_printed}
 use Rattle.pmap_text.proofs.Sorting.{same-in_order}
 use Rattle.pmap_print.proofs.groups.print_groups.Goals as goal
-use Rattle.pmap_print.proofs.groups.print_groups.Goals.{In_ok-print_title, in-Some+in_ok-add_group, in_default, then-sorted+in_ok-sorted, else-sorted}
+use Rattle.pmap_print.proofs.groups.print_groups.Goals.{In_ok-print_header, in-Some+in_ok-add_group, in_default, then-sorted+in_ok-sorted, else-sorted}
 
 -- the shown groups are the groups, in some order
 moved : (sorted : Bool) (groups : List GroupModel) → IsPermutation groups (shown_groups sorted groups)
@@ -25,7 +25,7 @@ shown_parts : (sorted : Bool) (groups : List GroupModel) (count : ℕ) → All (
     → All (λ g. length g.key ≡ count) (shown_groups sorted groups)
 shown_parts sorted groups count all = All-permutation (λ (g : GroupModel). length g.key ≡ count) groups (shown_groups sorted groups) (moved sorted groups) all
 
-module _ (c : In_ok-print_title) where
+module _ (c : In_ok-print_header) where
   abbrev fields : List KeyField
   fields = c.args.groups.now.fields
 
@@ -34,15 +34,15 @@ module _ (c : In_ok-print_title) where
       subst (λ (fs : List KeyField). ForSome c.in_ok-table.table.columns (AreWide (length fs + 3) [])) c.fields-fields.ensures.value
       c.in_ok-table.ensures.wide
 
-  text : c.print_title.new.out ≡ header_text c.args.columns (group_titles fields)
+  text : c.print_header.new.out ≡ header_text c.args.columns (group_titles fields)
   text =
-      c.in_ok-print_title.ensures
+      c.in_ok-print_header.ensures
       ∙ (λ i. c.in_ok-table.ensures.text i ++ header_text c.args.columns (group_titles (c.fields-fields.ensures.value i)))
 
 pub end_line-requires-clause-line : goal.end_line-requires-clause-line
 end_line-requires-clause-line c =
-    let s = (goal.at.end_line-requires-clause-line c).In_ok-print_title in
-    header_fits (length (fields s) + 3) (group_titles (fields s)) c.in_ok-table.table.columns c.print_title.new.out c.args.columns
+    let s = (goal.at.end_line-requires-clause-line c).In_ok-print_header in
+    header_fits (length (fields s) + 3) (group_titles (fields s)) c.in_ok-table.table.columns c.print_header.new.out c.args.columns
     (wide s) (length-group_titles (fields s)) c.in_ok-table.ensures.columns (text s)
 
 pub loop-index-init : goal.loop-index-init
@@ -52,8 +52,8 @@ loop-index-init c = record {
     | else-sorted w ↦ let is = w.listed-is in let sorted = w.if-sorted.false in rw (is, sorted) refl
   ];
   lines =
-      let s = (goal.at.loop-index-init c).In_ok-print_title in
-      header_printed (length (fields s) + 3) (group_titles (fields s)) c.in_ok-table.table.columns c.print_title.new.out c.args.columns
+      let s = (goal.at.loop-index-init c).In_ok-print_header in
+      header_printed (length (fields s) + 3) (group_titles (fields s)) c.in_ok-table.table.columns c.print_header.new.out c.args.columns
       (wide s) (length-group_titles (fields s)) c.in_ok-table.ensures.columns (text s) c.end_line.new.self c.end_line.ensures.text
       c.end_line.ensures.columns c.end_line.ensures.wide;
   columns = c.end_line.ensures.columns ∙ c.in_ok-table.ensures.columns;

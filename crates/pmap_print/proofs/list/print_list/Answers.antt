@@ -14,8 +14,8 @@ use Rattle.pmap_cert.proofs.EntryOrder.{sorted-order}
 use Rattle.pmap_print.proofs.list.print_list.Goals as goal
 use Rattle.pmap_print.proofs.list.print_list.Goals.{in-Some+in_ok-extend_from_slice+in_ok-extend_from_slice-2+in_ok-push, in_default, in-V4, in-V6}
 
-pub loop-place-init : goal.loop-place-init
-loop-place-init c = record {
+pub loop-index-init : goal.loop-index-init
+loop-index-init c = record {
   version =
       All-same (λ (e : Entry). e.block.version ≡ c.args.list.now.version) _ _ c.sorted_or-entries.ensures
       (All-permutation (λ (e : Entry). e.block.version ≡ c.args.list.now.version) _ _ c.in_ok-sorted.ensures.same c.args.list.now.one_version);
@@ -43,21 +43,21 @@ returns c =
     let l = c.args.list.now in
     let sorted = unwrap_or c.in_ok-sorted.sorted l.entries in
     let text : List Prefix → List ℕ = λ ps. text_of_lines (name_lines l.name ++ mode_text l.version ∷ map (entry_line l.version) ps) in
-    c.loop-place.invariant.text
+    c.loop-index.invariant.text
     ∙ ap (λ (es : List Entry). text (map (prefix_of l.labels) es))
-    (take_all c.loop-place.place c.sorted_or-entries.result.now (omega (arith, c.len-place-end.ensures, c.loop-place-test.false)) ∙ c.sorted_or-entries.ensures)
+    (take_all c.loop-index.index c.sorted_or-entries.result.now (omega (arith, c.len-index-end.ensures, c.loop-index-test.false)) ∙ c.sorted_or-entries.ensures)
     ∙ ap text (sorted-order l.labels l.entries sorted c.in_ok-sorted.ensures.same c.in_ok-sorted.ensures.ascending l.blocks_distinct)
 
-pub loop-place-preserved : goal.loop-place-preserved
-loop-place-preserved c =
+pub loop-index-preserved : goal.loop-index-preserved
+loop-index-preserved c =
     let es = c.sorted_or-entries.result.now in
     let e = c.at.result in
-    let place = c.loop-place.place in
-    let within = slice_get_within es place e c.at.ensures in
-    let is = get_or_from_slice_get es place e e c.at.ensures in
-    let version = subst (λ (x : Entry). x.block.version ≡ c.args.list.now.version) is (c.loop-place.invariant.version place e within) in
-    let more : take (place + 1) es ≡ take place es ++ e ∷ [] = take_more es place e within ∙ ap (λ (x : Entry). take place es ++ x ∷ []) is in
+    let index = c.loop-index.index in
+    let within = slice_get_within es index e c.at.ensures in
+    let is = get_or_from_slice_get es index e e c.at.ensures in
+    let version = subst (λ (x : Entry). x.block.version ≡ c.args.list.now.version) is (c.loop-index.invariant.version index e within) in
+    let more : take (index + 1) es ≡ take index es ++ e ∷ [] = take_more es index e within ∙ ap (λ (x : Entry). take index es ++ x ∷ []) is in
     record {
-      version = c.loop-place.invariant.version;
-      text = rw (c.in_ok-print_entry.ensures, c.loop-place.invariant.text, version, more) (grind (arith, common_steps));
+      version = c.loop-index.invariant.version;
+      text = rw (c.in_ok-print_entry.ensures, c.loop-index.invariant.text, version, more) (grind (arith, common_steps));
     }

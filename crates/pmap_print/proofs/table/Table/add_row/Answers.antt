@@ -1,4 +1,4 @@
-use Rattle.std.proofs.Common.{ap, false, is_some, not, option_map, refl, sym, true, ◌++◌, ◌≡◌, ◌∙◌}
+use Rattle.std.proofs.Common.{ap, is_some, not, option_map, refl, sym, true, ◌++◌, ◌≡◌, ◌∙◌}
 use Rattle.std.proofs.lemmas.Result.{on_ok_weaker}
 use Rattle.pmap_print.specs.Table.{Line, added_line, has_columns}
 use Rattle.pmap_print.specs.Reports.{column_count, label_texts, row_line}

@@ -9,8 +9,8 @@ pub returns : goal.returns
 returns c =
     let field : List ℕ = marked c.args.mark (address_text c.args.addr.version c.args.addr.value) in
     let size = c.write_address-start.ensures.size in
-    on_ok_weaker c.push_front.result
+    on_ok_weaker c.push_start.result
     (λ pushed. pushed ∙ ap (λ (l : List ℕ). c.args.self.now ++ l)
     (field_front c.write_address-start.new.line field _ c.write_address-start.result _ _ c.write_address-start.ensures.written
     (omega (arith, size)) (omega (arith, size))))
-    c.push_front.ensures.ok
+    c.push_start.ensures.ok

@@ -2,8 +2,8 @@ use Rattle.std.proofs.Common.{◌≡◌, ◌+◌, ◌-◌, ◌≤◌, ◌∙◌,
 use borrow.Rule.Slice.PartMut.{put_mid}
 use Rattle.std.proofs.lemmas.List.{length-append, length-drop, length-take-le, with_items_is}
 use Rattle.pmap_print.proofs.Appended.{front_written, kept}
-use Rattle.pmap_print.proofs.text.Text.push_front.Goals as goal
-use Rattle.pmap_print.proofs.text.Text.push_front.Goals.{then-end-len+in_ok-resize, else-end-len}
+use Rattle.pmap_print.proofs.text.Text.push_start.Goals as goal
+use Rattle.pmap_print.proofs.text.Text.push_start.Goals.{then-end-len+in_ok-resize, else-end-len}
 
 pub returns-clause-ok : goal.returns-clause-ok
 returns-clause-ok c =

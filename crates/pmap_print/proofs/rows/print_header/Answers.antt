@@ -3,8 +3,8 @@ use Rattle.std.specs.List.{join_with_byte}
 use Rattle.std.proofs.lemmas.Result.{on_ok_weaker}
 use Rattle.pmap_print.specs.Table.{Text, header_text, sized}
 use Rattle.pmap_print.specs.Reports.{label_titles, row_titles, title_line}
-use Rattle.pmap_print.proofs.rows.print_title.Goals as goal
-use Rattle.pmap_print.proofs.rows.print_title.Goals.{then-columns, else-columns, in-true-true, in-true-false, in-false-default}
+use Rattle.pmap_print.proofs.rows.print_header.Goals as goal
+use Rattle.pmap_print.proofs.rows.print_header.Goals.{then-columns, else-columns, in-true-true, in-true-false, in-false-default}
 
 abbrev label_names : Bool → Bool → Text
 label_names true true = sized label_titles

@@ -15,10 +15,10 @@ module _ (text : List ℕ) (to spaces n : ℕ) (few : spaces ≤ n) (within : to
       (take-append-le spaces (replicate n 32) rest (omega (arith, few, length-replicate {A = ℕ} n 32)) ∙ take-replicate spaces n 32 few)
 
   -- bytes that are written over some of the spaces
-  placed : (given rest after : List ℕ) (count : ℕ) → length given ≡ count
+  over_spaces : (given rest after : List ℕ) (count : ℕ) → length given ≡ count
       → take (to + spaces + count) (take (to + spaces) (take to text ++ (replicate n 32 ++ rest)) ++ (given ++ after))
       ≡ take to text ++ (replicate spaces 32 ++ given)
-  placed given rest after count size =
+  over_spaces given rest after count size =
       let front : List ℕ = take to text ++ replicate spaces 32 in
       ap (λ (l : List ℕ). take (to + spaces + count) (l ++ (given ++ after))) (spaced rest)
       ∙ ap (take (to + spaces + count)) (sym (append_assoc front given after))
@@ -67,7 +67,7 @@ block_front text front back filler given from to spaces n k m few far within fro
     ) in
     ap (λ (l : List ℕ). take (to + spaces + n) (put_mid (to + spaces) m (put_mid to k front l) given ++ back)) filled
     ∙ take-append-le (to + spaces + n) two back room
-    ∙ placed front to spaces n few (omega (arith, far, front_size)) given (post_of to k front) (post_of (to + spaces) m one) n given_size
+    ∙ over_spaces front to spaces n few (omega (arith, far, front_size)) given (post_of to k front) (post_of (to + spaces) m one) n given_size
     ∙ ap (λ (l : List ℕ). take to l ++ (replicate spaces 32 ++ given)) front_is
     ∙ ap (λ (l : List ℕ). l ++ (replicate spaces 32 ++ given)) (take-take to from text (omega (arith, far)))
     ∙ ap (λ (l : List ℕ). take to text ++ (replicate spaces 32 ++ l)) (given_is ∙ ap (take n) back_is)
@@ -137,7 +137,7 @@ module _ (text filler : List ℕ) (from to spaces count k e : ℕ) (left : to + 
   part_front =
       ap (take (to + spaces + count)) (append_assoc (take (to + spaces) one) given (drop (to + spaces + (e - from)) one))
       ∙ ap (λ (l : List ℕ). take (to + spaces + count) (take (to + spaces) (take to text ++ (l ++ post_of to k text)) ++ (given ++ drop (to + spaces + (e - from)) one))) filled
-      ∙ placed text to spaces spaces (omega arith) (omega (arith, left, within)) given (post_of to k text) (drop (to + spaces + (e - from)) one) count given_size
+      ∙ over_spaces text to spaces spaces (omega arith) (omega (arith, left, within)) given (post_of to k text) (drop (to + spaces + (e - from)) one) count given_size
       ∙ ap (λ (l : List ℕ). take to text ++ (replicate spaces 32 ++ l)) given_is
 
   pub part_back : drop (from + count) (copy_within (put_mid to k text filler) from e (to + spaces)) ≡ drop (from + count) text

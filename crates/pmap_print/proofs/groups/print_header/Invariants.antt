@@ -3,7 +3,7 @@ use Rattle.std.proofs.Common.{◌≡◌, ◌++◌, drop, map}
 use Rattle.flow_uniq.specs.Key.{field_name}
 use Rattle.pmap_print.specs.Table.{header_text}
 use Rattle.pmap_print.specs.Reports.{group_titles, total_titles}
-use Rattle.pmap_print.proofs.groups.print_title.Given as goal
+use Rattle.pmap_print.proofs.groups.print_header.Given as goal
 
 abbrev pub invariant-loop-field : goal.invariant-loop-field
 invariant-loop-field l = l.out ++ header_text l.columns (map field_name (drop l.field-index l.fields) ++ total_titles)
