@@ -1,5 +1,5 @@
 -- Compacting a certificate.
-use Rattle.std.proofs.Common.{◌≡◌, ◌+◌, ◌==◌, ◌≤◌, inl, inr, Bool, true, false, cond, arith, length, refl, sym, subst}
+use Rattle.std.proofs.Common.{◌≡◌, ◌+◌, ◌==◌, ◌≤◌, inl, inr, Bool, true, false, bytes_eq, cond, arith, length, refl, sym, subst}
 use Rattle.std.proofs.lemmas.Bool.{cond-false, cond-true, eq-eqb, ne_eqb}
 use Rattle.pmap_text.specs.ListModel.{ListModel}
 use Rattle.pmap_text.specs.MapModel.{MapModel}
@@ -11,7 +11,7 @@ use Rattle.pmap_cert.proofs.Runs.{compacted_in-no_run, compacted_in-opens, shape
 
 -- the compacted certificate of a certificate of format 1
 abbrev chained : CertificateModel → CertificateModel
-chained c = record { format = 2; version = c.version; table = c.table; root = compacted c.root }
+chained c = record { format = 2; version = c.version; table = c.table; root = compacted bytes_eq c.root }
 
 pub compact-first : (c : CertificateModel) → c.format ≡ 1 → compact c ≡ chained c
 compact-first c e = cond-true (c.format == 1) (chained c) c (eq-eqb c.format 1 e)
@@ -33,7 +33,7 @@ module _ (c : CertificateModel) (Is : CertificateModel → Type 0) where
       by false = two
 
 -- a compacted root without chains opens to the original
-opens : (c : CertificateModel) → IsPlain c.root → OpensTo (compacted c.root) c.root
+opens : (c : CertificateModel) → IsPlain c.root → OpensTo (compacted bytes_eq c.root) c.root
 opens c plain = compacted_in-opens (line_count c.root) c.root plain
 
 pub compact-accepted : (m : MapModel) (l : ListModel) (c : CertificateModel) → IsOfFormat c → IsAccepted m l c → IsAccepted m l (compact c)
@@ -41,8 +41,8 @@ compact-accepted m l c of h =
     by_format c (IsAccepted m l) of (λ first plain. record {
       list_version = h.list_version;
       certificate_version = h.certificate_version;
-      root = opening-accepted m l.prefixes (compacted c.root) c.root 0 0 (opens c plain) h.root;
-      count = subst (λ (p : Claim). length l.prefixes ≤ p.cost + 1) (claim-opening (compacted c.root) c.root (opens c plain)) h.count;
+      root = opening-accepted m l.prefixes (compacted bytes_eq c.root) c.root 0 0 (opens c plain) h.root;
+      count = subst (λ (p : Claim). length l.prefixes ≤ p.cost + 1) (claim-opening (compacted bytes_eq c.root) c.root (opens c plain)) h.count;
     }) (λ second. h)
 
 pub compact-format : (c : CertificateModel) → IsOfFormat c → (compact c).format ≡ 2
@@ -57,7 +57,7 @@ compact-table c = by_test c (λ k. k.table ≡ c.table) refl refl
 pub compact-lines : (c : CertificateModel) → IsOfFormat c → line_count (compact c).root ≤ line_count c.root
 compact-lines c of =
     by_format c (λ k. line_count k.root ≤ line_count c.root) of
-    (λ first plain. lines-opening (compacted c.root) c.root (opens c plain)) (λ second. omega arith)
+    (λ first plain. lines-opening (compacted bytes_eq c.root) c.root (opens c plain)) (λ second. omega arith)
 
 pub compact-claims : (c : CertificateModel) → c.format ≡ 1 → IsPlain c.root → OpensTo (compact c).root c.root
 compact-claims c first plain = subst (λ (k : CertificateModel). OpensTo k.root c.root) (sym (compact-first c first)) (opens c plain)

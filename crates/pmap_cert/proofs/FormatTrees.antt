@@ -1,17 +1,17 @@
 -- The nodes of a certificate of either format, read and written.
 use Rattle.std.proofs.Common.{◌≡◌, ℕ, zero, suc, ◌+◌, ◌-◌, ◌^◌, ◌<◌, ◌≤◌, ◌∙◌, Bool, true, false, List, [], ◌∷◌, ◌++◌, Result, Ok, Err, cond, length, map, nat_le, refl, sym, ap, subst, arith, ⊎_elim}
 use Rattle.std.proofs.lemmas.Bool.{cond-false, cond-true, le-leb, leb-true}
-use Rattle.std.proofs.lemmas.List.{append_assoc, length-append}
-use Rattle.pmap_text.specs.Label.{IsLabelTable}
+use Rattle.std.proofs.lemmas.List.{append_assoc, length-append, map-append}
 use Rattle.pmap_text.specs.MapModel.{Label}
 use Rattle.pmap_text.specs.Reading.{◌>>=◌}
 use Rattle.pmap_text.specs.MapText.{text_at}
-use Rattle.pmap_cert.specs.CertificateText.{HasNodeForm, IsAscending, chain_line, inner_line, leaf_line, node_lines, place_of}
+use Rattle.pmap_cert.specs.CertificateText.{HasChainForm, Node, chain_line, inner_line, leaf_line, lines_of}
+use Rattle.pmap_cert.specs.Node.{claiming, tree_of}
 use Rattle.pmap_cert.specs.CertificateModel.{ChainNode, InnerNode, LeafNode, Claim, Tree, IsPlain}
 use Rattle.pmap_cert.specs.FormatReading.{ChainLine, DueLine, InnerLine, LeafLine, Place, due_node, fault_at, fits_line, is_ended, likely_line, line_due_at, line_text, nodes_at, CertFault, BadNode, NodesMissing, TooDeep}
 use Rattle.pmap_cert.proofs.ChainWords.{left-room, room-left}
 use Rattle.pmap_cert.proofs.PrintedLines.{FitsLine, IsNumbered, due-again, line-fits, printed-found}
-use Rattle.pmap_cert.proofs.Tables.{bind_ok, ok_is, place_of-text_at, places-texts, text_at-place_of, texts-places}
+use Rattle.pmap_cert.proofs.Tables.{bind_ok, ok_is}
 
 -- a line that is read is the text of its value, which fits
 pub line_due-found : (format most count : ℕ) (place : Place) (x : DueLine × Place) → line_due_at format most count place ≡ Ok x →
@@ -20,10 +20,17 @@ line_due-found format most count place x e =
     let found = printed-found (fits_line format most count) line_text likely_line (cond (is_ended place.pieces) NodesMissing BadNode) place x e in
     (found.0, line-fits format most count x.0 found.1)
 
--- the lines that were read are those of the tree, which is well formed and has no chain in format 1
-abbrev pub IsReadIn : List Label → ℕ → ℕ → Place → Tree × Place → Type 0
-IsReadIn table format room place x =
-    (place.pieces ≡ node_lines table x.0 ++ x.1.pieces) × HasNodeForm table x.0 room × (format ≡ 1 → IsPlain x.0)
+-- the lines that were read are those of a node with the tree's labels, which is well formed and has no chain in format 1
+pub record IsReadIn (table : List Label) (format room : ℕ) (place : Place) (x : Tree × Place) : Type 0 where
+  pub node : Node
+  pub tree : tree_of table node ≡ x.0
+  pub lines : place.pieces ≡ map line_text (lines_of node) ++ x.1.pieces
+  pub form : HasChainForm (length table) node room
+  pub plain : format ≡ 1 → IsPlain node
+
+-- the texts of two lists of lines before others
+pub lines-append : (lines more : List DueLine) (rest : List (List ℕ)) → map line_text (lines ++ more) ++ rest ≡ map line_text lines ++ (map line_text more ++ rest)
+lines-append lines more rest = ap (λ (t : List (List ℕ)). t ++ rest) (map-append line_text lines more) ∙ append_assoc (map line_text lines) (map line_text more) rest
 
 not-ok : (fault : CertFault) (x : Tree × Place) → ◌≡◌ {A = Result (Tree × Place) CertFault} (Err fault) (Ok x) → ⊥
 not-ok fault x e = cc
@@ -52,7 +59,7 @@ nodes_at-down due table (suc room) zero left place deep =
     ap (λ (l : ℕ). nodes_at due table l zero place) same
 nodes_at-down due table (suc room) (suc down) left place deep = nodes_at-down due table room down left place (omega (arith, deep))
 
-module _ (table : List Label) (ok : IsLabelTable table) (format most : ℕ) where
+module _ (table : List Label) (format most : ℕ) where
   abbrev due : Place → Result (DueLine × Place) CertFault
   due = line_due_at format most (length table)
 
@@ -66,26 +73,24 @@ module _ (table : List Label) (ok : IsLabelTable table) (format most : ℕ) wher
   leaf-read : (room number : ℕ) (place after : Place) (x : Tree × Place) → IsNext (LeafLine number) place after →
       ◌≡◌ {A = Result (Tree × Place) CertFault} (Ok (LeafNode (text_at table number), after)) (Ok x) → IsReadIn table format room place x
   leaf-read room number place after x next e =
-      let place_is : place_of table (text_at table number) ≡ number = place_of-text_at table number ok next.1 in
-      subst (IsReadIn table format room place) (ok_is (LeafNode (text_at table number), after) x e) (
-        next.0 ∙ ap (λ (n : ℕ). leaf_line n ∷ after.pieces) (sym place_is),
-        rw place_is next.1,
-        λ first. tt,
-      )
+      subst (IsReadIn table format room place) (ok_is (LeafNode (text_at table number), after) x e)
+      (record { node = LeafNode number; tree = refl; lines = next.0; form = next.1; plain = λ first. tt })
 
   inner-read : (room cost : ℕ) (numbers : List ℕ) (place after : Place) (x lower upper : Tree × Place) → IsNext (InnerLine cost numbers) place after →
       IsReadIn table format room after lower → IsReadIn table format room lower.1 upper →
       (InnerNode (claim_at cost numbers) lower.0 upper.0, upper.1) ≡ x → IsReadIn table format (suc room) place x
   inner-read room cost numbers place after x lower upper next low up e =
-      let places = places-texts table 0 numbers ok next.1.1 in
-      subst (IsReadIn table format (suc room) place) e (
-        next.0
-            ∙ (λ i. inner_line cost (sym places i)
-            ∷ (low.0 ∙ ap (λ (more : List (List ℕ)). node_lines table lower.0 ++ more) up.0
-            ∙ sym (append_assoc (node_lines table lower.0) (node_lines table upper.0) upper.1.pieces)) i),
-        (next.1.0, rw places next.1.1, low.1, up.1),
-        λ first. (low.2 first, up.2 first),
-      )
+      subst (IsReadIn table format (suc room) place) e (record {
+        node = InnerNode (claiming cost numbers) low.node up.node;
+        tree = λ i. InnerNode (claim_at cost numbers) (low.tree i) (up.tree i);
+        lines =
+            next.0
+            ∙ ap (λ (more : List (List ℕ)). inner_line cost numbers ∷ more)
+            (low.lines ∙ ap (λ (more : List (List ℕ)). map line_text (lines_of low.node) ++ more) up.lines
+            ∙ sym (lines-append (lines_of low.node) (lines_of up.node) upper.1.pieces));
+        form = (next.1.0, next.1.1, low.form, up.form);
+        plain = λ first. (low.plain first, up.plain first);
+      })
 
   not-both : format ≡ 1 → format ≡ 2 → ⊥
   not-both one two = omega (arith, one, two)
@@ -95,19 +100,13 @@ module _ (table : List Label) (ok : IsLabelTable table) (format most : ℕ) wher
       room ≡ length bits + left → IsReadIn table format left after last →
       (ChainNode (claim_at cost numbers) bits (text_at table side) last.0, last.1) ≡ x → IsReadIn table format room place x
   chain-read room left cost bits side numbers place after x last next deep end e =
-      let places = places-texts table 0 numbers ok next.1.5 in
-      let side_is : place_of table (text_at table side) ≡ side = place_of-text_at table side ok next.1.4 in
-      subst (IsReadIn table format room place) e (
-        next.0 ∙ (λ i. chain_line cost bits (sym side_is i) (sym places i) ∷ end.0 i),
-        (
-          next.1.1,
-          rw places next.1.5,
-          rw side_is next.1.4,
-          next.1.2,
-          room-left (HasNodeForm table last.0) bits room left deep end.1,
-        ),
-        λ first. absurd (not-both first next.1.0),
-      )
+      subst (IsReadIn table format room place) e (record {
+        node = ChainNode (claiming cost numbers) bits side end.node;
+        tree = ap (ChainNode (claim_at cost numbers) bits (text_at table side)) end.tree;
+        lines = next.0 ∙ ap (λ (more : List (List ℕ)). chain_line cost bits side numbers ∷ more) end.lines;
+        form = (next.1.1, next.1.5, next.1.4, next.1.2, room-left (HasChainForm (length table) end.node) bits room left deep end.form);
+        plain = λ first. absurd (not-both first next.1.0);
+      })
 
   -- what is read below a node is well formed in the room that is left
   abbrev IsFoundBelow : ℕ → Place → Type 0
@@ -166,64 +165,51 @@ module _ (table : List Label) (ok : IsLabelTable table) (format most : ℕ) wher
   abbrev at : ℕ → List (List ℕ) → Place
   at number pieces = record { number = number; pieces = pieces }
 
-  few : length table ≤ 2 ^ 32
-  few = let limit = ok.few in omega arith
+  abbrev IsAgain : Node → ℕ → List (List ℕ) → ℕ → Type 0
+  IsAgain node room rest number =
+      (n : ℕ) × (nodes_at due table room zero (at number (map line_text (lines_of node) ++ rest)) ≡ Ok (tree_of table node, at n rest))
 
-  claim-is : (claim : Claim) → IsAscending (length table) 0 (map (place_of table) claim.labels) → claim_at claim.cost (map (place_of table) claim.labels) ≡ claim
-  claim-is claim ascending = λ i. record { cost = claim.cost; labels = texts-places table 0 claim.labels ascending i }
-
-  abbrev IsAgain : Tree → ℕ → List (List ℕ) → ℕ → Type 0
-  IsAgain tree room rest number =
-      (n : ℕ) × (nodes_at due table room zero (at number (node_lines table tree ++ rest)) ≡ Ok (tree, at n rest))
-
-  leaf-is : (x : Label) → place_of table x < length table → LeafNode (text_at table (place_of table x)) ≡ LeafNode x
-  leaf-is x h = ap LeafNode (text_at-place_of table x h)
-
-  pub nodes_at-again : (tree : Tree) (room : ℕ) (rest : List (List ℕ)) (number : ℕ) → room ≤ most → HasNodeForm table tree room → IsNumbered format →
-      (format ≡ 1 → IsPlain tree) → 0 < length rest → IsAgain tree room rest number
+  -- the lines of a well-formed node are read as the node
+  pub nodes_at-again : length table ≤ 2 ^ 32 → (node : Node) (room : ℕ) (rest : List (List ℕ)) (number : ℕ) → room ≤ most → HasChainForm (length table) node room
+      → IsNumbered format → (format ≡ 1 → IsPlain node) → 0 < length rest → IsAgain node room rest number
   unfolding nodes_at
-  nodes_at-again (LeafNode x) room rest number most_room form numbered plain some =
-      let here : Place = at number (leaf_line (place_of table x) ∷ rest) in (
+  nodes_at-again few (LeafNode label) room rest number most_room form numbered plain some =
+      let here : Place = at number (leaf_line label ∷ rest) in (
         number + 1,
         nodes-step due table room here
-            ∙ ap (λ (r : Result (DueLine × Place) CertFault). r >>= (λ line. due_node table room here (inside_of due table room here) line.0 line.1)) (due-again format most (length table) few (LeafLine (place_of table x)) number rest form some)
-            ∙ ap (λ (t : Tree). Ok (t, at (number + 1) rest)) (leaf-is x form),
+            ∙ ap (λ (r : Result (DueLine × Place) CertFault). r >>= (λ line. due_node table room here (inside_of due table room here) line.0 line.1)) (due-again format most (length table) few (LeafLine label) number rest form some),
       )
-  nodes_at-again (InnerNode claim lower upper) zero rest number most_room form numbered plain some = absurd form
-  nodes_at-again (InnerNode claim lower upper) (suc room) rest number most_room form numbered plain some =
-      let numbers : List ℕ = map (place_of table) claim.labels in
-      let low : List (List ℕ) = node_lines table lower in
-      let up : List (List ℕ) = node_lines table upper in
+  nodes_at-again few (InnerNode claim lower upper) zero rest number most_room form numbered plain some = absurd form
+  nodes_at-again few (InnerNode claim lower upper) (suc room) rest number most_room form numbered plain some =
+      let low : List (List ℕ) = map line_text (lines_of lower) in
+      let up : List (List ℕ) = map line_text (lines_of upper) in
       let behind : 0 < length (up ++ rest) = omega (arith, length-append up rest) in
-      let line = due-again format most (length table) few (InnerLine claim.cost numbers) number (low ++ (up ++ rest)) (form.0, form.1) (omega (arith, length-append low (up ++ rest))) in
-      let first = nodes_at-again lower room (up ++ rest) (number + 1) (omega arith) form.2 numbered (λ one. (plain one).0) behind in
-      let second = nodes_at-again upper room rest first.0 (omega arith) form.3 numbered (λ one. (plain one).1) some in
-      let here : Place = at number (inner_line claim.cost numbers ∷ (low ++ (up ++ rest))) in (
+      let line = due-again format most (length table) few (InnerLine claim.cost claim.labels) number (low ++ (up ++ rest)) (form.0, form.1) (omega (arith, length-append low (up ++ rest))) in
+      let first = nodes_at-again few lower room (up ++ rest) (number + 1) (omega arith) form.2 numbered (λ one. (plain one).0) behind in
+      let second = nodes_at-again few upper room rest first.0 (omega arith) form.3 numbered (λ one. (plain one).1) some in
+      let here : Place = at number (inner_line claim.cost claim.labels ∷ (low ++ (up ++ rest))) in (
         second.0,
-        ap (λ (lines : List (List ℕ)). nodes_at due table (suc room) zero (at number (inner_line claim.cost numbers ∷ lines))) (append_assoc low up rest)
+        ap (λ (lines : List (List ℕ)). nodes_at due table (suc room) zero (at number (inner_line claim.cost claim.labels ∷ lines))) (lines-append (lines_of lower) (lines_of upper) rest)
             ∙ ap (λ (r : Result (DueLine × Place) CertFault). r >>= (λ line. due_node table (suc room) here (nodes_at due table room) line.0 line.1)) line
-            ∙ ap (λ (r : Result (Tree × Place) CertFault). r >>= (λ l. nodes_at due table room 0 l.1 >>= (λ u. Ok (InnerNode (claim_at claim.cost numbers) l.0 u.0, u.1)))) first.1
-            ∙ ap (λ (r : Result (Tree × Place) CertFault). r >>= (λ u. Ok (InnerNode (claim_at claim.cost numbers) lower u.0, u.1))) second.1
-            ∙ ap (λ (c : Claim). Ok (InnerNode c lower upper, at second.0 rest)) (claim-is claim form.1),
+            ∙ ap (λ (r : Result (Tree × Place) CertFault). r >>= (λ l. nodes_at due table room 0 l.1 >>= (λ u. Ok (InnerNode (claim_at claim.cost claim.labels) l.0 u.0, u.1)))) first.1
+            ∙ ap (λ (r : Result (Tree × Place) CertFault). r >>= (λ u. Ok (InnerNode (claim_at claim.cost claim.labels) (tree_of table lower) u.0, u.1))) second.1,
       )
-  nodes_at-again (ChainNode claim [] side end) room rest number most_room form numbered plain some =
+  nodes_at-again few (ChainNode claim [] side end) room rest number most_room form numbered plain some =
       absurd (omega (arith, form.3))
-  nodes_at-again (ChainNode claim (bit ∷ bits) side end) zero rest number most_room form numbered plain some = absurd form.4
-  nodes_at-again (ChainNode claim (bit ∷ bits) side end) (suc room) rest number most_room form numbered plain some =
+  nodes_at-again few (ChainNode claim (bit ∷ bits) side end) zero rest number most_room form numbered plain some = absurd form.4
+  nodes_at-again few (ChainNode claim (bit ∷ bits) side end) (suc room) rest number most_room form numbered plain some =
       let two : format ≡ 2 = ⊎_elim (λ one. absurd (plain one)) (λ two. two) numbered in
-      let numbers : List ℕ = map (place_of table) claim.labels in
-      let below = left-room (HasNodeForm table end) bits room form.4 in
-      let lines : List (List ℕ) = node_lines table end in
-      let line = due-again format most (length table) few (ChainLine claim.cost (bit ∷ bits) (place_of table side) numbers) number (lines ++ rest)
+      let below = left-room (HasChainForm (length table) end) bits room form.4 in
+      let lines : List (List ℕ) = map line_text (lines_of end) in
+      let line = due-again format most (length table) few (ChainLine claim.cost (bit ∷ bits) side claim.labels) number (lines ++ rest)
       (two, form.0, omega arith, omega (arith, below.1), form.2, form.1) (omega (arith, length-append lines rest)) in
-      let last = nodes_at-again end below.0 rest (number + 1) (omega (arith, below.1)) below.2 numbered (λ one. absurd (not-both one two)) some in
-      let here : Place = at number (chain_line claim.cost (bit ∷ bits) (place_of table side) numbers ∷ (lines ++ rest)) in
+      let last = nodes_at-again few end below.0 rest (number + 1) (omega (arith, below.1)) below.2 numbered (λ one. absurd (not-both one two)) some in
+      let here : Place = at number (chain_line claim.cost (bit ∷ bits) side claim.labels ∷ (lines ++ rest)) in
       let chain : Tree × Place → Result (Tree × Place) CertFault =
-      λ e. Ok (ChainNode (claim_at claim.cost numbers) (bit ∷ bits) (text_at table (place_of table side)) e.0, e.1) in (
+      λ e. Ok (ChainNode (claim_at claim.cost claim.labels) (bit ∷ bits) (text_at table side) e.0, e.1) in (
         last.0,
         ap (λ (r : Result (DueLine × Place) CertFault). r >>= (λ line. due_node table (suc room) here (nodes_at due table room) line.0 line.1)) line
             ∙ cond-true (nat_le (suc (length bits)) (suc room)) (nodes_at due table room (length bits) (at (number + 1) (lines ++ rest)) >>= chain) (Err (fault_at here TooDeep))
             (le-leb (suc (length bits)) (suc room) (omega (arith, below.1)))
-            ∙ ap (λ (r : Result (Tree × Place) CertFault). r >>= chain) (nodes_at-down due table room (length bits) below.0 (at (number + 1) (lines ++ rest)) below.1 ∙ last.1)
-            ∙ (λ i. Ok (ChainNode (claim-is claim form.1 i) (bit ∷ bits) (text_at-place_of table side form.2 i) end, at last.0 rest)),
+            ∙ ap (λ (r : Result (Tree × Place) CertFault). r >>= chain) (nodes_at-down due table room (length bits) below.0 (at (number + 1) (lines ++ rest)) below.1 ∙ last.1),
       )

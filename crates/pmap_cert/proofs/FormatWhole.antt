@@ -2,22 +2,25 @@
 use Rattle.std.proofs.Common.{◌≡◌, ◌≢◌, ℕ, true, false, ◌+◌, ◌<◌, ◌≤◌, ◌∙◌, ◌⊎◌, ◌↔◌, inl, inr, List, [], ◌∷◌, ◌++◌, Result, Ok, Err, length, refl, sym, ap, subst, arith, zero, suc, Bool, map}
 use Rattle.std.specs.Result.{IfErr, IfOk}
 use Rattle.std.proofs.lemmas.Bool.{cond-false, cond-true}
-use Rattle.std.proofs.lemmas.List.{append_assoc, length-append}
+use Rattle.std.proofs.lemmas.List.{append_assoc, length-append, map-append}
 use Rattle.prefix_keys.specs.Block.{width_of}
 use Rattle.prefix_keys.specs.declared.version.Version.{Version}
 use Rattle.pmap_text.specs.Label.{IsLabelTable}
 use Rattle.pmap_text.specs.MapModel.{Label}
+use Rattle.pmap_text.specs.MapText.{text_at}
 use Rattle.pmap_text.specs.Reading.{◌>>=◌}
 use Rattle.pmap_cert.specs.Certificate.{certificate_of, Certificate}
-use Rattle.pmap_cert.specs.CertificateText.{HasFormatText, HasNodeForm, certificate_lines, certificate_text, format_header, node_lines, place_of}
-use Rattle.pmap_cert.specs.CertificateModel.{CertificateModel, Tree, ChainNode, InnerNode, LeafNode, IsOfFormat, IsPlain}
+use Rattle.pmap_cert.specs.CertificateText.{HasChainForm, HasFormatText, HasNodeForm, Node, certificate_lines, certificate_text, format_header, lines_of, node_lines, place_of}
+use Rattle.pmap_cert.specs.CertificateModel.{CertificateModel, Tree, ChainNode, InnerNode, LeafNode, IsOfFormat, IsPlain, map_tree}
 use Rattle.pmap_cert.specs.FormatReading.{ChainLine, DueLine, InnerLine, LeafLine, Place, ended_by, fault_at, fits_header, format_header_at, format_reading, header_text, is_ended, labels_at, likely_header, line_due_at, line_text, nodes_at, pieces_of, start_of, CertFault, CertFaultKind, BadHeader, BadLabelTable, BadNode, NoMemory, NodesLeft, NodesMissing, TooDeep}
 use Rattle.pmap_cert.proofs.Filters.{all-append}
 use Rattle.pmap_cert.proofs.PrintedLines.{FitsLine, IsNumbered, Said, fits-header, fits-line, header-fits, header-read, line-lacks, printed-again, printed-found}
 use Rattle.pmap_cert.proofs.FormatTrees.{nodes_at-again, nodes_at-found}
 use Rattle.pmap_cert.proofs.Headers.{table-lacks}
 use Rattle.pmap_cert.proofs.Pieces.{pieces-lines, text_from_pieces}
+use Rattle.pmap_cert.proofs.Relabelled.{plain-map}
 use Rattle.pmap_cert.proofs.Tables.{bind_ok, labels_at-again, labels_at-found, ok_is}
+use Rattle.pmap_cert.proofs.Written.{line_texts-tree, node_form, texts-tree}
 use Rattle.std.specs.List.{AllByRecursion}
 use Rattle.std.proofs.lemmas.Option.{none-some}
 use Rattle.prefix_keys.proofs.Printed.{Lacks}
@@ -49,17 +52,18 @@ module _ (table : List Label) (ok : IsLabelTable table) where
   lacks most line fits =
       let few = ok.few in line-lacks 2 most (length table) (omega arith) line (fits-line 2 most (length table) line fits)
 
-  nodes-lack : (tree : Tree) (room : ℕ) → HasNodeForm table tree room → AllByRecursion (Lacks 10) (node_lines table tree)
-  nodes-lack (LeafNode x) room form = (lacks 0 (LeafLine (place_of table x)) form, tt)
+  nodes-lack : (node : Node) (room : ℕ) → HasChainForm (length table) node room → AllByRecursion (Lacks 10) (map line_text (lines_of node))
+  nodes-lack (LeafNode number) room form = (lacks 0 (LeafLine number) form, tt)
   nodes-lack (ChainNode claim bits side end) room form =
-      let last = left-room (HasNodeForm table end) bits room form.4 in (
-        lacks (length bits) (ChainLine claim.cost bits (place_of table side) (map (place_of table) claim.labels)) (refl, form.0, form.3, omega arith, form.2, form.1),
+      let last = left-room (HasChainForm (length table) end) bits room form.4 in (
+        lacks (length bits) (ChainLine claim.cost bits side claim.labels) (refl, form.0, form.3, omega arith, form.2, form.1),
         nodes-lack end last.0 last.2,
       )
   nodes-lack (InnerNode claim lower upper) zero form = absurd form
   nodes-lack (InnerNode claim lower upper) (suc room) form = (
-    lacks 0 (InnerLine claim.cost (map (place_of table) claim.labels)) (form.0, form.1),
-    all-append (Lacks 10) (node_lines table lower) (node_lines table upper) (nodes-lack lower room form.2) (nodes-lack upper room form.3),
+    lacks 0 (InnerLine claim.cost claim.labels) (form.0, form.1),
+    subst (AllByRecursion (Lacks 10)) (sym (map-append line_text (lines_of lower) (lines_of upper)))
+        (all-append (Lacks 10) (map line_text (lines_of lower)) (map line_text (lines_of upper)) (nodes-lack lower room form.2) (nodes-lack upper room form.3)),
   )
 
 abbrev pub certificate_at : ℕ → Version → List Label → Tree → CertificateModel
@@ -113,14 +117,22 @@ pieces-found pieces c e =
     let fits = header-fits header.0.0 head.1 in
     let few : 0 + count ≤ 65536 = omega (arith, fits.1) in
     let read = labels_at-found count [] header.0.1 labels.0 labels.1 no_labels few in
-    let nodes = nodes_at-found table read.3 format (width_of version) (width_of version) 0 (width_of version) labels.0.1 root.0 (omega arith) root.1 in
+    let nodes = nodes_at-found table format (width_of version) (width_of version) 0 (width_of version) labels.0.1 root.0 (omega arith) root.1 in
+    let W : ℕ = width_of version in
+    let texts : map line_text (lines_of nodes.node) ≡ node_lines table root.0.0 = line_texts-tree table read.3 nodes.node W nodes.form ∙ ap (node_lines table) nodes.tree in
     let count_is : count ≡ length table = sym read.4 ∙ ap (λ (t : List Label). length t) (sym read.1) in
     let made : CertificateModel = certificate_at format version table root.0.0 in
     let lines : pieces ≡ certificate_lines made ++ [] ∷ [] =
     joined-pieces pieces header.0.1.pieces labels.0.1.pieces root.0.1.pieces format version count table (node_lines table root.0.0)
-    head.0 (read.2 ∙ ap (λ (t : List Label). t ++ labels.0.1.pieces) (sym read.1)) nodes.0 end.0 count_is in
-    subst (λ (c : CertificateModel). HasFormatText c × (pieces ≡ certificate_lines c ++ [] ∷ [])) {x = made} end.1
-    (record { format = of-format made fits.0 nodes.2; table = read.3; root = nodes.1 }, lines)
+    head.0 (read.2 ∙ ap (λ (t : List Label). t ++ labels.0.1.pieces) (sym read.1)) (nodes.lines ∙ ap (λ (t : List (List ℕ)). t ++ root.0.1.pieces) texts) end.0 count_is in
+    subst (λ (c : CertificateModel). HasFormatText c × (pieces ≡ certificate_lines c ++ [] ∷ [])) {x = made} end.1 (
+      record {
+        format = of-format made fits.0 (λ one. subst IsPlain nodes.tree (plain-map (text_at table) nodes.node (nodes.plain one)));
+        table = read.3;
+        root = subst (λ (t : Tree). HasNodeForm table t W) nodes.tree (node_form table read.3 nodes.node W nodes.form);
+      },
+      lines,
+    )
 
 -- a text that is read is the text of its certificate, which is well formed
 pub format-found : (text : List ℕ) (c : CertificateModel) → format_reading text ≡ Ok c → HasFormatText c × (text ≡ certificate_text c)
@@ -150,19 +162,20 @@ format-again c form =
     let pieces : pieces_of (certificate_text c) ≡ format_header format version count ∷ (table ++ (nodes ++ [] ∷ [])) =
     pieces-lines (certificate_lines c) (
       (header-read (format, (version, count)) fits).0,
-      all-append (Lacks 10) table nodes (table-lacks table form.table) (nodes-lack table form.table c.root (width_of version) form.root),
+      all-append (Lacks 10) table nodes (table-lacks table form.table) (nodes-lack table form.table (map_tree (place_of table) c.root) (width_of version) form.root),
     )
     ∙ ap (λ (rest : List (List ℕ)). format_header format version count ∷ rest) (append_assoc table nodes ([] ∷ [])) in
     let head = printed-again fits_header header_text likely_header (λ x h. (header-read x h).0) (λ x h. (header-read x h).1) BadHeader (format, (version, count)) 0
     (table ++ (nodes ++ [] ∷ [])) fits (omega (arith, length-append table (nodes ++ [] ∷ []))) in
     let labels = labels_at-again table [] 1 (nodes ++ [] ∷ []) form.table behind in
-    let root = nodes_at-again table form.table format (width_of version) c.root (width_of version) ([] ∷ []) labels.0 (omega arith) form.root
-    (numbered c form.format) (plain c form.format) (omega arith) in
+    let root = nodes_at-again table format (width_of version) (omega arith) (map_tree (place_of table) c.root) (width_of version) ([] ∷ []) labels.0 (omega arith) form.root
+    (numbered c form.format) (λ one. plain-map (place_of table) c.root (plain c form.format one)) (omega arith) in
     reading-steps (certificate_text c)
     ∙ ap (λ (place : Place). header_then (format_header_at place)) (λ i. record { number = 0; pieces = pieces i })
     ∙ ap header_then head
     ∙ ap (labels_then format version) labels.1
     ∙ ap (root_then format version table) root.1
+    ∙ ap (λ (t : Tree). Ok (certificate_at format version table t)) (texts-tree table c.root (width_of version) form.root)
 
 -- a text is read as a certificate exactly if it is the text of that certificate
 pub format-iff : (text : List ℕ) (c : CertificateModel) → format_reading text ≡ Ok c ↔ (HasFormatText c × (text ≡ certificate_text c))

@@ -30,6 +30,7 @@ pub mod Runs
 pub mod Plain
 pub mod Compacts
 pub mod ChainWords
+pub mod Relabelled
 pub mod CompactForms
 pub mod PrintedLines
 pub mod FormatTrees

@@ -2,7 +2,8 @@
 use Rattle.std.proofs.Common.{◌≡◌, Bool, ℕ, zero, suc, ◌<◌, ◌≤◌, ◌∙◌, List, [], ◌∷◌, ◌++◌, Option, Some, None, length, drop, get_or, refl, sym, ap, subst, arith}
 use Rattle.std.proofs.lemmas.List.{append-nil, append_assoc}
 use Rattle.pmap_cert.specs.FormatReading.{ChainLine, DueLine, InnerLine, LeafLine}
-use Rattle.pmap_cert.specs.Node.{AreWhole, Chain, Inner, IsTree, Leaf, Node, chained, first_line, first_node, from_next_line, joined, lines_of, nodes-lines, nodes_of}
+use Rattle.pmap_cert.specs.CertificateModel.{ChainNode, ClaimOf, InnerNode, LeafNode}
+use Rattle.pmap_cert.specs.Node.{AreWhole, IsTree, Node, chained, claiming, first_line, first_node, from_next_line, joined, lines_of, nodes-lines, nodes_of}
 
 -- the bits and the side label of a chain's line
 abbrev pub bits_of : DueLine → List Bool
@@ -14,13 +15,13 @@ side_of (ChainLine cost bits side numbers) = Some side
 side_of _ = None
 
 pub whole-lines : (node : Node) (rest : List DueLine) → AreWhole rest → AreWhole (lines_of node ++ rest)
-whole-lines (Leaf number) rest whole = whole
-whole-lines (Inner cost set lower upper) rest whole =
+whole-lines (LeafNode number) rest whole = whole
+whole-lines (InnerNode claim lower upper) rest whole =
     let nodes : nodes_of (lines_of lower ++ (lines_of upper ++ rest)) ≡ lower ∷ upper ∷ nodes_of rest =
     nodes-lines lower (lines_of upper ++ rest) ∙ ap (λ (ns : List Node). lower ∷ ns) (nodes-lines upper rest) in
     subst (λ (ls : List DueLine). (2 ≤ length (nodes_of ls)) × AreWhole ls) (sym (append_assoc (lines_of lower) (lines_of upper) rest))
     (subst (λ (ns : List Node). 2 ≤ length ns) (sym nodes) (omega arith), whole-lines lower (lines_of upper ++ rest) (whole-lines upper rest whole))
-whole-lines (Chain cost set bits side end) rest whole =
+whole-lines (ChainNode claim bits side end) rest whole =
     (subst (λ (ns : List Node). 1 ≤ length ns) (sym (nodes-lines end rest)) (omega arith), whole-lines end rest whole)
 
 -- the lines of a tree have one node
@@ -42,32 +43,32 @@ whole-next (InnerLine cost numbers ∷ lines) zero whole = whole.1
 whole-next (ChainLine cost bits side numbers ∷ lines) zero whole = whole.1
 whole-next (line ∷ lines) (suc k) whole = whole-next lines k whole
 
-halves : (cost : ℕ) (set : List ℕ) (nodes : List Node) → 2 ≤ length nodes → nodes ≡ from_next_line (joined cost set nodes)
-halves cost set [] two = absurd (omega arith)
-halves cost set (node ∷ []) two = absurd (omega arith)
-halves cost set (lower ∷ upper ∷ nodes) two = refl
+halves : (claim : ClaimOf ℕ) (nodes : List Node) → 2 ≤ length nodes → nodes ≡ from_next_line (joined claim nodes)
+halves claim [] two = absurd (omega arith)
+halves claim (node ∷ []) two = absurd (omega arith)
+halves claim (lower ∷ upper ∷ nodes) two = refl
 
-end-next : (cost : ℕ) (set : List ℕ) (bits : List Bool) (side : ℕ) (nodes : List Node) → 1 ≤ length nodes → nodes ≡ from_next_line (chained cost set bits side nodes)
-end-next cost set bits side [] some = absurd (omega arith)
-end-next cost set bits side (end ∷ nodes) some = refl
+end-next : (claim : ClaimOf ℕ) (bits : List Bool) (side : ℕ) (nodes : List Node) → 1 ≤ length nodes → nodes ≡ from_next_line (chained claim bits side nodes)
+end-next claim bits side [] some = absurd (omega arith)
+end-next claim bits side (end ∷ nodes) some = refl
 
 pub nodes-next : (lines : List DueLine) (k : ℕ) → AreWhole (drop k lines) → nodes_of (drop (suc k) lines) ≡ from_next_line (nodes_of (drop k lines))
 nodes-next [] zero whole = refl
 nodes-next [] (suc k) whole = refl
 nodes-next (LeafLine number ∷ lines) zero whole = refl
-nodes-next (InnerLine cost numbers ∷ lines) zero whole = halves cost numbers (nodes_of lines) whole.0
-nodes-next (ChainLine cost bits side numbers ∷ lines) zero whole = end-next cost numbers bits side (nodes_of lines) whole.0
+nodes-next (InnerLine cost numbers ∷ lines) zero whole = halves (claiming cost numbers) (nodes_of lines) whole.0
+nodes-next (ChainLine cost bits side numbers ∷ lines) zero whole = end-next (claiming cost numbers) bits side (nodes_of lines) whole.0
 nodes-next (line ∷ lines) (suc k) whole = nodes-next lines k whole
 
-inner-line : (cost : ℕ) (set : List ℕ) (nodes : List Node) → 2 ≤ length nodes → InnerLine cost set ≡ first_line (first_node (joined cost set nodes))
-inner-line cost set [] two = absurd (omega arith)
-inner-line cost set (node ∷ []) two = absurd (omega arith)
-inner-line cost set (lower ∷ upper ∷ nodes) two = refl
+inner-line : (claim : ClaimOf ℕ) (nodes : List Node) → 2 ≤ length nodes → InnerLine claim.cost claim.labels ≡ first_line (first_node (joined claim nodes))
+inner-line claim [] two = absurd (omega arith)
+inner-line claim (node ∷ []) two = absurd (omega arith)
+inner-line claim (lower ∷ upper ∷ nodes) two = refl
 
-chain-line : (cost : ℕ) (set : List ℕ) (bits : List Bool) (side : ℕ) (nodes : List Node) → 1 ≤ length nodes
-    → ChainLine cost bits side set ≡ first_line (first_node (chained cost set bits side nodes))
-chain-line cost set bits side [] some = absurd (omega arith)
-chain-line cost set bits side (end ∷ nodes) some = refl
+chain-line : (claim : ClaimOf ℕ) (bits : List Bool) (side : ℕ) (nodes : List Node) → 1 ≤ length nodes
+    → ChainLine claim.cost bits side claim.labels ≡ first_line (first_node (chained claim bits side nodes))
+chain-line claim bits side [] some = absurd (omega arith)
+chain-line claim bits side (end ∷ nodes) some = refl
 
 pub within : (lines : List DueLine) (k : ℕ) → 0 < length (nodes_of (drop k lines)) → k < length lines
 within [] zero some = absurd (omega arith)
@@ -80,6 +81,6 @@ pub line-here : (lines : List DueLine) (k : ℕ) (z : DueLine) → 0 < length (n
 line-here [] zero z some whole = absurd (omega arith)
 line-here [] (suc k) z some whole = absurd (omega arith)
 line-here (LeafLine number ∷ lines) zero z some whole = refl
-line-here (InnerLine cost numbers ∷ lines) zero z some whole = inner-line cost numbers (nodes_of lines) whole.0
-line-here (ChainLine cost bits side numbers ∷ lines) zero z some whole = chain-line cost numbers bits side (nodes_of lines) whole.0
+line-here (InnerLine cost numbers ∷ lines) zero z some whole = inner-line (claiming cost numbers) (nodes_of lines) whole.0
+line-here (ChainLine cost bits side numbers ∷ lines) zero z some whole = chain-line (claiming cost numbers) bits side (nodes_of lines) whole.0
 line-here (line ∷ lines) (suc k) z some whole = line-here lines k z some whole

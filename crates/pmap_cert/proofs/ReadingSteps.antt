@@ -8,7 +8,7 @@ use Rattle.pmap_text.specs.MapText.{text_at}
 use Rattle.pmap_cert.specs.CertificateModel.{ChainNode, InnerNode, LeafNode, Claim, Tree}
 use Rattle.pmap_cert.specs.Format.{format_number, Format}
 use Rattle.pmap_cert.specs.FormatReading.{ChainLine, DueLine, InnerLine, LeafLine, Place, due_node, fault_at, labels_at, line_due_at, new_label, nodes_at, line_value, CertFault, BadLabelTable, TooDeep}
-use Rattle.pmap_cert.specs.Node.{Chain, HasChainForm, Inner, Leaf, Node, lines_of, tree_of}
+use Rattle.pmap_cert.specs.Node.{HasChainForm, Node, claiming, lines_of, tree_of}
 use Rattle.pmap_cert.specs.Inner.{IsReadNode}
 use Rattle.pmap_cert.proofs.ChainWords.{room-left}
 use Rattle.pmap_cert.proofs.FormatTrees.{inside_of, line_due-found, nodes-step, nodes_at-down}
@@ -129,7 +129,7 @@ module _ (format : Format) (most : ℕ) (table : List Label) where
       → new ≡ old ++ LeafLine number ∷ [] → IsReadNode format most table room place old new after
   read-leaf room place after number old new due is =
       let said = line_due-found (format_number format) most (length table) place (LeafLine number, after) due in record {
-        node = Leaf number;
+        node = LeafNode number;
         read = node-leaf due_in table place after room number due;
         form = said.1;
         kind = λ one. tt;
@@ -143,7 +143,7 @@ module _ (format : Format) (most : ℕ) (table : List Label) where
   read-inner room place after middle end cost numbers old first second third due some is low up =
       let said = line_due-found (format_number format) most (length table) place (InnerLine cost numbers, after) due in
       let more : suc (room - 1) ≡ room = omega arith in
-      let node : Node = Inner cost numbers low.node up.node in record {
+      let node : Node = InnerNode (claiming cost numbers) low.node up.node in record {
         node = node;
         read = node-inner due_in table place after cost numbers due room some (tree_of table low.node) middle low.read (tree_of table up.node) end up.read;
         form = subst (HasChainForm (length table) node) more (said.1.0, said.1.1, low.form, up.form);
@@ -160,7 +160,7 @@ module _ (format : Format) (most : ℕ) (table : List Label) where
   read-chain room place after end cost bits side numbers old first second due fits is last =
       let said = line_due-found (format_number format) most (length table) place (ChainLine cost bits side numbers, after) due in
       let some = said.1.2 in record {
-        node = Chain cost numbers bits side last.node;
+        node = ChainNode (claiming cost numbers) bits side last.node;
         read =
             chain-in due_in table place after cost numbers bits side room due fits some
             ∙ ap (end_then due_in table place after cost numbers bits side) last.read;

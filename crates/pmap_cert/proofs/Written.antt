@@ -3,16 +3,16 @@ use Rattle.std.proofs.Common.{◌≡◌, ℕ, zero, suc, ◌+◌, ◌<◌, ◌�
 use Rattle.std.specs.Fmt.{decimal}
 use Rattle.std.specs.List.{flat_map, join_with_byte}
 use Rattle.std.proofs.lemmas.Fmt.{decimal_digit}
-use Rattle.std.proofs.lemmas.List.{append-nil, append_assoc, map-append}
+use Rattle.std.proofs.lemmas.List.{append-nil, append_assoc}
 use Rattle.std.proofs.lemmas.List.Concat.{flat_map-append}
 use Rattle.prefix_keys.specs.declared.version.Version.{Version}
 use Rattle.pmap_text.specs.Label.{IsLabelTable}
 use Rattle.pmap_text.specs.MapModel.{Label}
-use Rattle.pmap_cert.specs.CertificateText.{HasNodeForm, IsAscending, certificate_text, chain_line, format_header, inner_line, leaf_line, node_lines, text_of_lines}
-use Rattle.pmap_cert.specs.FormatReading.{DueLine}
-use Rattle.pmap_cert.specs.Node.{Chain, HasChainForm, Inner, Leaf, Node, line_text, lines_of, tree_of}
-use Rattle.pmap_cert.proofs.ChainWords.{left-room, other-room}
-use Rattle.pmap_cert.proofs.Tables.{place_of-text_at, places-texts}
+use Rattle.pmap_cert.specs.CertificateModel.{ChainNode, InnerNode, LeafNode, Tree, map_tree}
+use Rattle.pmap_cert.specs.CertificateText.{DueLine, HasChainForm, HasNodeForm, Node, certificate_text, format_header, line_text, lines_of, node_lines, place_of, text_of_lines}
+use Rattle.pmap_cert.specs.Node.{claiming, tree_of}
+use Rattle.pmap_cert.proofs.ChainWords.{left-room}
+use Rattle.pmap_cert.proofs.Tables.{place_of-text_at, places-texts, text_at-place_of, texts-places}
 
 -- a word and numbers joined by spaces are the word and each number after a space
 pub joined-numbers : (word : List ℕ) (ns : List ℕ) → join_with_byte 32 (word ∷ map decimal ns) ≡ word ++ flat_map (λ n. 32 ∷ decimal n) ns
@@ -29,33 +29,31 @@ pushed-digit out o1 o2 n d small digit e1 e2 =
 pub text_of_lines-append : (lines more : List (List ℕ)) → text_of_lines (lines ++ more) ≡ text_of_lines lines ++ text_of_lines more
 text_of_lines-append lines more = flat_map-append (λ line. line ++ 10 ∷ []) lines more
 
-module _ (table : List Label) (ok : IsLabelTable table) where
-  pub line_texts-tree : (node : Node) (room : ℕ) → HasChainForm (length table) node room → map line_text (lines_of node) ≡ node_lines table (tree_of table node)
-  line_texts-tree (Leaf number) room form = ap (λ (n : ℕ). leaf_line n ∷ []) (sym (place_of-text_at table number ok form))
-  line_texts-tree (Inner cost set lower upper) zero form = absurd form
-  line_texts-tree (Inner cost set lower upper) (suc room) form =
-      ap (λ (lines : List (List ℕ)). inner_line cost set ∷ lines) (map-append line_text (lines_of lower) (lines_of upper))
-      ∙ (λ i. ap (inner_line cost) (sym (places-texts table 0 set ok form.1)) i ∷ (line_texts-tree lower room form.2 i ++ line_texts-tree upper room form.3 i))
-  line_texts-tree (Chain cost set bits side end) room form =
+-- the numbers of a node's labels are those of its tree, and the texts of a tree's labels are those of its node
+module _ (table : List Label) where
+  pub places-tree : IsLabelTable table → (node : Node) (room : ℕ) → HasChainForm (length table) node room → map_tree (place_of table) (tree_of table node) ≡ node
+  places-tree ok (LeafNode number) room form = ap LeafNode (place_of-text_at table number ok form)
+  places-tree ok (InnerNode claim lower upper) zero form = absurd form
+  places-tree ok (InnerNode claim lower upper) (suc room) form =
+      λ i. InnerNode (claiming claim.cost (places-texts table 0 claim.labels ok form.1 i)) (places-tree ok lower room form.2 i) (places-tree ok upper room form.3 i)
+  places-tree ok (ChainNode claim bits side end) room form =
       let last = left-room (HasChainForm (length table) end) bits room form.4 in
-      λ i. chain_line cost bits (sym (place_of-text_at table side ok form.2) i) (sym (places-texts table 0 set ok form.1) i) ∷ line_texts-tree end last.0 last.2 i
+      λ i. ChainNode (claiming claim.cost (places-texts table 0 claim.labels ok form.1 i)) bits (place_of-text_at table side ok form.2 i) (places-tree ok end last.0 last.2 i)
 
-  pub node_form : (node : Node) (room : ℕ) → HasChainForm (length table) node room → HasNodeForm table (tree_of table node) room
-  node_form (Leaf number) room form = subst (λ (n : ℕ). n < length table) (sym (place_of-text_at table number ok form)) form
-  node_form (Inner cost set lower upper) zero form = absurd form
-  node_form (Inner cost set lower upper) (suc room) form = (
-    form.0,
-    subst (IsAscending (length table) 0) (sym (places-texts table 0 set ok form.1)) form.1,
-    node_form lower room form.2,
-    node_form upper room form.3,
-  )
-  node_form (Chain cost set bits side end) room form = (
-    form.0,
-    subst (IsAscending (length table) 0) (sym (places-texts table 0 set ok form.1)) form.1,
-    subst (λ (n : ℕ). n < length table) (sym (place_of-text_at table side ok form.2)) form.2,
-    form.3,
-    other-room (HasChainForm (length table) end) (HasNodeForm table (tree_of table end)) (λ left fits. node_form end left fits) bits room form.4,
-  )
+  pub texts-tree : (tree : Tree) (room : ℕ) → HasNodeForm table tree room → tree_of table (map_tree (place_of table) tree) ≡ tree
+  texts-tree (LeafNode x) room form = ap LeafNode (text_at-place_of table x form)
+  texts-tree (InnerNode claim lower upper) zero form = absurd form
+  texts-tree (InnerNode claim lower upper) (suc room) form =
+      λ i. InnerNode (record { cost = claim.cost; labels = texts-places table 0 claim.labels form.1 i }) (texts-tree lower room form.2 i) (texts-tree upper room form.3 i)
+  texts-tree (ChainNode claim bits side end) room form =
+      let last = left-room (HasNodeForm table end) bits room form.4 in
+      λ i. ChainNode (record { cost = claim.cost; labels = texts-places table 0 claim.labels form.1 i }) bits (text_at-place_of table side form.2 i) (texts-tree end last.0 last.2 i)
+
+  pub node_form : IsLabelTable table → (node : Node) (room : ℕ) → HasChainForm (length table) node room → HasNodeForm table (tree_of table node) room
+  node_form ok node room form = subst (λ (n : Node). HasChainForm (length table) n room) (sym (places-tree ok node room form)) form
+
+  pub line_texts-tree : IsLabelTable table → (node : Node) (room : ℕ) → HasChainForm (length table) node room → map line_text (lines_of node) ≡ node_lines table (tree_of table node)
+  line_texts-tree ok node room form = ap (λ (n : Node). map line_text (lines_of n)) (sym (places-tree ok node room form))
 
 -- the header, the labels and the lines of the nodes are the certificate's text
 pub whole_text : (format : ℕ) (version : Version) (table : List Label) (root : Node) (room : ℕ) (nodes : List DueLine) (o1 o2 : List ℕ) → IsLabelTable table → HasChainForm (length table) root room

@@ -1,14 +1,17 @@
-use Rattle.std.specs.Prelude.{ℕ, Bool, List, [], ◌∷◌, ◌≡◌, ◌+◌, ◌++◌, filter, zero, suc, ◌*◌, ◌⊎◌, true, false, length, if◌then◌else◌}
+use Rattle.std.specs.Prelude.{ℕ, Bool, List, [], ◌∷◌, ◌≡◌, ◌+◌, ◌++◌, filter, map, zero, suc, ◌*◌, ◌⊎◌, true, false, length, if◌then◌else◌}
 use Rattle.prefix_keys.specs.declared.version.Version.{Version}
 use Rattle.pmap_text.specs.Label.{has_label}
 use Rattle.pmap_text.specs.MapModel.{Label}
 
 -- A certificate as contracts see it: a binary tree over the address space, with label texts.
 
--- a cost and a set of labels; the order of the set's list doesn't count
-pub record Claim : Type 0 where
+-- a cost and a set of labels, which are texts or numbers; the order of the set's list doesn't count
+pub record ClaimOf (L : Type 0) : Type 0 where
   pub cost : ℕ
-  pub labels : List Label
+  pub labels : List L
+
+abbrev pub Claim : Type 0
+Claim = ClaimOf Label
 
 -- the set has the label, as a table has it
 abbrev pub has : List Label → Label → Bool
@@ -18,13 +21,16 @@ has s x = has_label s x
 -- represents nested inner nodes, each with a leaf in one half and the next node in the other. It has the claim of the
 -- first of them, a bit for each of them that is 1 if the path continues in the upper half, the label of all leaves
 -- beside the path, and the node at the path's end.
-pub data Tree : Type 0 where
-  LeafNode : (x : Label) → Tree
-  InnerNode : (claim : Claim) (lower upper : Tree) → Tree
-  ChainNode : (claim : Claim) (bits : List Bool) (side : Label) (end : Tree) → Tree
+pub data TreeOf (L : Type 0) : Type 0 where
+  LeafNode : (x : L) → TreeOf L
+  InnerNode : (claim : ClaimOf L) (lower upper : TreeOf L) → TreeOf L
+  ChainNode : (claim : ClaimOf L) (bits : List Bool) (side : L) (end : TreeOf L) → TreeOf L
+
+abbrev pub Tree : Type 0
+Tree = TreeOf Label
 
 -- the claim of a node; a leaf claims the cost 0 and only its label
-abbrev pub claim_of : Tree → Claim
+abbrev pub claim_of : {L : Type 0} → TreeOf L → ClaimOf L
 claim_of (LeafNode x) = record { cost = 0; labels = x ∷ [] }
 claim_of (InnerNode claim lower upper) = claim
 claim_of (ChainNode claim bits side end) = claim
@@ -110,10 +116,19 @@ abbrev pub opened_certificate : CertificateModel → CertificateModel
 opened_certificate c = record { format = c.format; version = c.version; table = c.table; root = opened c.root }
 
 -- the tree has no chain
-abbrev pub IsPlain : Tree → Type 0
+abbrev pub IsPlain : {L : Type 0} → TreeOf L → Type 0
 IsPlain (LeafNode x) = Unit {0}
 IsPlain (InnerNode claim lower upper) = IsPlain lower × IsPlain upper
 IsPlain (ChainNode claim bits side end) = ⊥
+
+-- the claim and the tree with each label replaced
+abbrev pub map_claim : {L M : Type 0} → (L → M) → ClaimOf L → ClaimOf M
+map_claim f claim = record { cost = claim.cost; labels = map f claim.labels }
+
+abbrev pub map_tree : {L M : Type 0} → (L → M) → TreeOf L → TreeOf M
+map_tree f (LeafNode x) = LeafNode (f x)
+map_tree f (InnerNode claim lower upper) = InnerNode (map_claim f claim) (map_tree f lower) (map_tree f upper)
+map_tree f (ChainNode claim bits side end) = ChainNode (map_claim f claim) bits (f side) (map_tree f end)
 
 -- the certificate is of format 1, which has no chains, or of format 2
 abbrev pub IsOfFormat : CertificateModel → Type 0

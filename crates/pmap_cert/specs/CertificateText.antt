@@ -8,7 +8,7 @@ use Rattle.prefix_keys.specs.declared.version.Version.TheVariants.{V4, V6}
 use Rattle.prefix_keys.specs.Block.{width_of}
 use Rattle.pmap_text.specs.MapModel.{Label}
 use Rattle.pmap_text.specs.Label.{IsLabelTable}
-use Rattle.pmap_cert.specs.CertificateModel.{CertificateModel, ChainNode, InnerNode, LeafNode, Tree, IsOfFormat}
+use Rattle.pmap_cert.specs.CertificateModel.{CertificateModel, ChainNode, InnerNode, LeafNode, Tree, TreeOf, IsOfFormat, map_tree}
 
 -- The text of a certificate of either format: lines of words with one space between two, each line ended by a line
 -- feed.
@@ -51,14 +51,33 @@ abbrev pub chain_line : ℕ → List Bool → ℕ → List ℕ → List ℕ
 chain_line cost bits side numbers =
     spaced (codes "c" ∷ decimal cost ∷ bit_digits bits ∷ decimal side ∷ map decimal numbers)
 
+-- a line of a leaf with its label's number, of an inner node with its cost and its set's numbers, or of a chain with its
+-- cost, its bits, and the numbers of its side label and its set
+pub data DueLine : Type 0 where
+  LeafLine : (number : ℕ) → DueLine
+  InnerLine : (cost : ℕ) (numbers : List ℕ) → DueLine
+  ChainLine : (cost : ℕ) (bits : List Bool) (side : ℕ) (numbers : List ℕ) → DueLine
+
+-- the text of a node's line
+abbrev pub line_text : DueLine → List ℕ
+line_text (LeafLine number) = leaf_line number
+line_text (InnerLine cost numbers) = inner_line cost numbers
+line_text (ChainLine cost bits side numbers) = chain_line cost bits side numbers
+
+-- a node with label numbers, as the code has it
+abbrev pub Node : Type 0
+Node = TreeOf ℕ
+
 -- the lines of a node and of those below it in preorder: first the node, then all of the lower half, then all of the
 -- upper, or all of a chain's end
+abbrev pub lines_of : Node → List DueLine
+lines_of (LeafNode number) = LeafLine number ∷ []
+lines_of (InnerNode claim lower upper) = InnerLine claim.cost claim.labels ∷ (lines_of lower ++ lines_of upper)
+lines_of (ChainNode claim bits side end) = ChainLine claim.cost bits side claim.labels ∷ lines_of end
+
+-- the lines of a tree whose labels are numbered as in the table
 abbrev pub node_lines : List Label → Tree → List (List ℕ)
-node_lines table (LeafNode x) = leaf_line (place_of table x) ∷ []
-node_lines table (InnerNode claim lower upper) =
-    inner_line claim.cost (map (place_of table) claim.labels) ∷ (node_lines table lower ++ node_lines table upper)
-node_lines table (ChainNode claim bits side end) =
-    chain_line claim.cost bits (place_of table side) (map (place_of table) claim.labels) ∷ node_lines table end
+node_lines table tree = map line_text (lines_of (map_tree (place_of table) tree))
 
 -- the lines of a certificate: the header, the labels of the table in order, and the nodes
 abbrev pub certificate_lines : CertificateModel → List (List ℕ)
@@ -89,17 +108,20 @@ HasRoomBelow Fits [] room = Fits room
 HasRoomBelow Fits (bit ∷ bits) zero = ⊥
 HasRoomBelow Fits (bit ∷ bits) (suc room) = HasRoomBelow Fits bits room
 
--- The node has at most `room` levels below it, each label is in the table, each claim is a cost below 2 ^ 32 and a set
--- listed by ascending numbers, and each chain has a bit.
+-- The node has at most `room` levels below it, each bit of a chain counts as one level, and each chain has a bit. Its
+-- numbers are below count, those of each set ascend, and costs are below 2 ^ 32.
+abbrev pub HasChainForm : ℕ → Node → ℕ → Type 0
+HasChainForm count (LeafNode number) room = number < count
+HasChainForm count (InnerNode claim lower upper) zero = ⊥
+HasChainForm count (InnerNode claim lower upper) (suc room) =
+    (claim.cost < 2 ^ 32) × IsAscending count 0 claim.labels × HasChainForm count lower room × HasChainForm count upper room
+HasChainForm count (ChainNode claim bits side end) room =
+    (claim.cost < 2 ^ 32) × IsAscending count 0 claim.labels × (side < count) × (0 < length bits)
+    × HasRoomBelow (HasChainForm count end) bits room
+
+-- like `HasChainForm`, for a tree whose labels are in the table
 abbrev pub HasNodeForm : List Label → Tree → ℕ → Type 0
-HasNodeForm table (LeafNode x) room = place_of table x < length table
-HasNodeForm table (InnerNode claim lower upper) zero = ⊥
-HasNodeForm table (InnerNode claim lower upper) (suc room) =
-    (claim.cost < 2 ^ 32) × IsAscending (length table) 0 (map (place_of table) claim.labels)
-    × HasNodeForm table lower room × HasNodeForm table upper room
-HasNodeForm table (ChainNode claim bits side end) room =
-    (claim.cost < 2 ^ 32) × IsAscending (length table) 0 (map (place_of table) claim.labels) × (place_of table side < length table)
-    × (0 < length bits) × HasRoomBelow (HasNodeForm table end) bits room
+HasNodeForm table tree room = HasChainForm (length table) (map_tree (place_of table) tree) room
 
 -- the certificate has a text of its format
 pub record HasFormatText (c : CertificateModel) : Type 0 where

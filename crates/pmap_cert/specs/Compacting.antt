@@ -2,71 +2,74 @@ use Rattle.std.specs.Prelude.{◌≡◌, ℕ, zero, suc, ◌+◌, ◌<◌, ◌||
 use Rattle.std.specs.Option.{option_or}
 use Rattle.std.specs.Str.{bytes_eq}
 use Rattle.pmap_text.specs.MapModel.{Label}
-use Rattle.pmap_cert.specs.CertificateModel.{CertificateModel, ChainNode, InnerNode, LeafNode, Claim, Tree, claim_of}
+use Rattle.pmap_cert.specs.CertificateModel.{CertificateModel, ChainNode, InnerNode, LeafNode, ClaimOf, Tree, TreeOf, claim_of}
 
 -- Compacting: a chain replaces each run of inner nodes that each have a leaf of the same label in one half.
 
 -- the number of lines of a node and the nodes below it
-abbrev pub line_count : Tree → ℕ
+abbrev pub line_count : {L : Type 0} → TreeOf L → ℕ
 line_count (LeafNode x) = 1
 line_count (InnerNode claim lower upper) = 1 + line_count lower + line_count upper
 line_count (ChainNode claim bits side end) = 1 + line_count end
 
 -- the label of a leaf
-abbrev pub leaf_label : Tree → Option Label
+abbrev pub leaf_label : {L : Type 0} → TreeOf L → Option L
 leaf_label (LeafNode x) = Some x
 leaf_label _ = None
 
+-- The following definitions take the test `same` whether two labels are equal.
+
 -- the node is a leaf with this label
-abbrev pub is_side : Label → Tree → Bool
-is_side side (LeafNode x) = bytes_eq x side
-is_side side _ = false
+abbrev pub is_side : {L : Type 0} → (L → L → Bool) → L → TreeOf L → Bool
+is_side same side (LeafNode x) = same x side
+is_side same side _ = false
 
 -- the bits of the longest run of a side label from a node down: a half is chosen as long as the other half is a leaf
 -- with the side label; if both are, the upper one is chosen
-abbrev pub run_bits : Label → Tree → List Bool
-run_bits side (InnerNode claim lower upper) =
-    if is_side side lower then true ∷ run_bits side upper
-    else (if is_side side upper then false ∷ run_bits side lower else [])
-run_bits side _ = []
+abbrev pub run_bits : {L : Type 0} → (L → L → Bool) → L → TreeOf L → List Bool
+run_bits same side (InnerNode claim lower upper) =
+    if is_side same side lower then true ∷ run_bits same side upper
+    else (if is_side same side upper then false ∷ run_bits same side lower else [])
+run_bits same side _ = []
 
 -- the node at the end of the longest run of a side label from a node down
-abbrev pub run_end : Label → Tree → Tree
-run_end side (InnerNode claim lower upper) =
-    if is_side side lower then run_end side upper
-    else (if is_side side upper then run_end side lower else InnerNode claim lower upper)
-run_end side node = node
+abbrev pub run_end : {L : Type 0} → (L → L → Bool) → L → TreeOf L → TreeOf L
+run_end same side (InnerNode claim lower upper) =
+    if is_side same side lower then run_end same side upper
+    else (if is_side same side upper then run_end same side lower else InnerNode claim lower upper)
+run_end same side node = node
 
 -- the side label of an inner node's run: that of its lower half if it is a leaf, otherwise that of its upper half
-abbrev pub side_of : Tree → Tree → Option Label
+abbrev pub side_of : {L : Type 0} → TreeOf L → TreeOf L → Option L
 side_of lower upper = option_or (leaf_label lower) (leaf_label upper)
 
 -- An inner node compacted, with `inside` for the nodes below it. If its run has two bits or more, it turns into a chain
 -- with its claim, those bits and the compacted end of the run; otherwise its halves are compacted.
-abbrev pub run_compacted : (Tree → Tree) → Claim → Tree → Tree → Option Label → Tree
-run_compacted inside claim lower upper None = InnerNode claim (inside lower) (inside upper)
-run_compacted inside claim lower upper (Some side) =
-    if nat_le 2 (length (run_bits side (InnerNode claim lower upper)))
-    then ChainNode claim (run_bits side (InnerNode claim lower upper)) side (inside (run_end side (InnerNode claim lower upper)))
+abbrev pub run_compacted : {L : Type 0} → (L → L → Bool) → (TreeOf L → TreeOf L) → ClaimOf L → TreeOf L → TreeOf L → Option L → TreeOf L
+run_compacted same inside claim lower upper None = InnerNode claim (inside lower) (inside upper)
+run_compacted same inside claim lower upper (Some side) =
+    if nat_le 2 (length (run_bits same side (InnerNode claim lower upper)))
+    then ChainNode claim (run_bits same side (InnerNode claim lower upper)) side
+    (inside (run_end same side (InnerNode claim lower upper)))
     else InnerNode claim (inside lower) (inside upper)
 
 -- a node compacted down to this many steps below it
-unfoldable pub compacted_in : ℕ → Tree → Tree
-compacted_in zero node = node
-compacted_in (suc steps) (LeafNode x) = LeafNode x
-compacted_in (suc steps) (InnerNode claim lower upper) =
-    run_compacted (compacted_in steps) claim lower upper (side_of lower upper)
-compacted_in (suc steps) (ChainNode claim bits side end) = ChainNode claim bits side (compacted_in steps end)
+unfoldable pub compacted_in : {L : Type 0} → (L → L → Bool) → ℕ → TreeOf L → TreeOf L
+compacted_in same zero node = node
+compacted_in same (suc steps) (LeafNode x) = LeafNode x
+compacted_in same (suc steps) (InnerNode claim lower upper) =
+    run_compacted same (compacted_in same steps) claim lower upper (side_of lower upper)
+compacted_in same (suc steps) (ChainNode claim bits side end) = ChainNode claim bits side (compacted_in same steps end)
 
 -- a node compacted; it has fewer steps down than lines
-abbrev pub compacted : Tree → Tree
-compacted node = compacted_in (line_count node) node
+abbrev pub compacted : {L : Type 0} → (L → L → Bool) → TreeOf L → TreeOf L
+compacted same node = compacted_in same (line_count node) node
 
 -- a certificate compacted: one of format 1 has its root compacted and gets format 2, one of format 2 is unchanged
 abbrev pub compact : CertificateModel → CertificateModel
 compact c =
     if c.format == 1
-    then record { format = 2; version = c.version; table = c.table; root = compacted c.root }
+    then record { format = 2; version = c.version; table = c.table; root = compacted bytes_eq c.root }
     else c
 
 -- The bits are a path down the tree, with a side leaf beside each inner node's chosen half, to a node that meets
@@ -95,7 +98,7 @@ IsSameShape _ _ = ⊥
 
 -- the node is an inner node, and one of its halves is a leaf with the label
 abbrev pub has_side : Label → Tree → Bool
-has_side side (InnerNode claim lower upper) = is_side side lower || is_side side upper
+has_side side (InnerNode claim lower upper) = is_side bytes_eq side lower || is_side bytes_eq side upper
 has_side side _ = false
 
 -- No run is left in the tree: no inner node has a leaf in one half and, in the other, an inner node that has a leaf of
@@ -103,6 +106,6 @@ has_side side _ = false
 abbrev pub HasNoRun : Tree → Type 0
 HasNoRun (LeafNode x) = Unit {0}
 HasNoRun (InnerNode claim lower upper) =
-    ((x : Label) → IsTrue (is_side x lower) → ¬ IsTrue (has_side x upper))
-    × ((x : Label) → IsTrue (is_side x upper) → ¬ IsTrue (has_side x lower)) × HasNoRun lower × HasNoRun upper
+    ((x : Label) → IsTrue (is_side bytes_eq x lower) → ¬ IsTrue (has_side x upper))
+    × ((x : Label) → IsTrue (is_side bytes_eq x upper) → ¬ IsTrue (has_side x lower)) × HasNoRun lower × HasNoRun upper
 HasNoRun (ChainNode claim bits side end) = HasNoRun end

@@ -1,7 +1,8 @@
 use Rattle.std.specs.Prelude.{◌≡◌, ℕ}
 use Rattle.std.specs.Coded.{×_prop, →_prop, Unit-prop}
 use Rattle.prefix_keys.specs.declared.version.Version.{Version}
-use Rattle.pmap_cert.specs.Node.{Chain, Inner, IsPlainNode, Leaf, Node}
+use Rattle.pmap_cert.specs.CertificateModel.{ChainNode, InnerNode, IsPlain, LeafNode}
+use Rattle.pmap_cert.specs.CertificateText.{Node}
 pub use Rattle.pmap_cert.specs.declared.format.Format.{Format}
 pub use Rattle.pmap_cert.specs.declared.format.Format.TheVariants.{One, Two}
 
@@ -15,12 +16,12 @@ header_of h = (format_number h.0, (h.1, h.2))
 
 -- the format allows the node: in format 1 it has no chain
 abbrev pub IsNodeOf : Format → Node → Type 0
-IsNodeOf format node = format ≡ One → IsPlainNode node
+IsNodeOf format node = format ≡ One → IsPlain node
 
-IsPlainNode-prop : (node : Node) → IsProp (IsPlainNode node)
-IsPlainNode-prop (Leaf number) = Unit-prop
-IsPlainNode-prop (Inner cost set lower upper) = ×_prop (IsPlainNode-prop lower) (IsPlainNode-prop upper)
-IsPlainNode-prop (Chain cost set bits side end) = λ x y. absurd x
+IsPlain-prop : (node : Node) → IsProp (IsPlain node)
+IsPlain-prop (LeafNode number) = Unit-prop
+IsPlain-prop (InnerNode claim lower upper) = ×_prop (IsPlain-prop lower) (IsPlain-prop upper)
+IsPlain-prop (ChainNode claim bits side end) = λ x y. absurd x
 
 pub IsNodeOf-prop : (format : Format) (node : Node) → IsProp (IsNodeOf format node)
-IsNodeOf-prop format node = →_prop (IsPlainNode-prop node)
+IsNodeOf-prop format node = →_prop (IsPlain-prop node)

@@ -10,7 +10,8 @@ use Rattle.pmap_text.specs.MapModel.{Label}
 use Rattle.pmap_text.specs.MapText.{text_at}
 use Rattle.pmap_text.specs.Reading.{◌>>=◌}
 use Rattle.pmap_cert.specs.CertificateModel.{CertificateModel, InnerNode, LeafNode, Tree, ChainNode}
-use Rattle.pmap_cert.specs.CertificateText.{chain_line, format_header, inner_line, leaf_line}
+use Rattle.pmap_cert.specs.CertificateText.{format_header}
+pub use Rattle.pmap_cert.specs.CertificateText.{ChainLine, DueLine, InnerLine, LeafLine, line_text}
 pub use Rattle.pmap_cert.specs.declared.fault.CertFault.{CertFault}
 pub use Rattle.pmap_cert.specs.declared.fault.CertFaultKind.{CertFaultKind}
 pub use Rattle.pmap_cert.specs.declared.fault.CertFaultKind.TheVariants.{BadHeader, BadLabelTable, BadNode, NoMemory, NodesLeft, NodesMissing, TooDeep}
@@ -68,19 +69,6 @@ abbrev pub labels_at : ℕ → List Label → Place → Result (List Label × Pl
 labels_at zero table place = Ok (table, place)
 labels_at (suc left) table place =
     line_value BadLabelTable (new_label table) place >>= (λ label. labels_at left (table ++ label.0 ∷ []) label.1)
-
--- a line of a leaf with its label's number, of an inner node with its cost and its set's numbers, or of a chain with its
--- cost, its bits, and the numbers of its side label and its set
-pub data DueLine : Type 0 where
-  LeafLine : (number : ℕ) → DueLine
-  InnerLine : (cost : ℕ) (numbers : List ℕ) → DueLine
-  ChainLine : (cost : ℕ) (bits : List Bool) (side : ℕ) (numbers : List ℕ) → DueLine
-
--- the text of a node's line
-abbrev pub line_text : DueLine → List ℕ
-line_text (LeafLine number) = leaf_line number
-line_text (InnerLine cost numbers) = inner_line cost numbers
-line_text (ChainLine cost bits side numbers) = chain_line cost bits side numbers
 
 -- the numbers strictly ascend, are below the bound, and not below low
 abbrev pub is_ascending : ℕ → ℕ → List ℕ → Bool

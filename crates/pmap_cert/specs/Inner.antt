@@ -1,19 +1,17 @@
-use Rattle.std.specs.Prelude.{◌≡◌, ℕ, List, ◌++◌, Ok, Result, length, ◌^◌, ◌<◌, ◌≤◌, ◌==◌, ◌||◌, Bool, false, [], ◌∷◌, Option, None, Some, IfSome, if◌then◌else◌, ◌+◌, true, All, codes, drop, nat_lt, slice_index}
+use Rattle.std.specs.Prelude.{◌≡◌, ℕ, List, ◌++◌, Ok, Result, length, ◌^◌, ◌<◌, ◌≤◌, ◌==◌, ◌||◌, Bool, false, [], ◌∷◌, Option, None, Some, IfSome, if◌then◌else◌, ◌+◌, true, All, codes, drop, nat_eq, nat_lt, slice_index}
 use Rattle.std.specs.Fmt.{decimal}
 use Rattle.std.specs.List.{flat_map}
-use Rattle.std.specs.Option.{option_or}
 use Rattle.prefix_keys.specs.Block.{width_of}
 use Rattle.prefix_keys.specs.Text.{is_digit}
 use Rattle.prefix_keys.specs.declared.version.Version.{Version}
 use Rattle.pmap_text.specs.MapModel.{Label}
-use Rattle.pmap_text.specs.Label.{IsLabelTable}
 use Rattle.pmap_text.specs.Reading.{◌>>=◌}
 use Rattle.pmap_cert.specs.Format.{IsNodeOf, format_number, Format}
 use Rattle.pmap_cert.specs.FormatReading.{DueLine, Place, ended_by, fits_header, fits_line, header_text, line_due_at, line_text, nodes_at, CertFault}
-use Rattle.pmap_cert.specs.Node.{HasChainForm, IsPlainNode, Node, lines_of, tree_of, AreWhole, Inner, Leaf, first_node, label_of, node_of, nodes_of}
-use Rattle.pmap_cert.specs.CertificateModel.{CertificateModel, Tree}
+use Rattle.pmap_cert.specs.Node.{HasChainForm, Node, lines_of, tree_of, AreWhole, first_node, node_of, nodes_of}
+use Rattle.pmap_cert.specs.CertificateModel.{CertificateModel, ClaimOf, InnerNode, IsPlain, Tree}
 use Rattle.pmap_cert.specs.CertificateText.{IsAscending, bit_digits, format_word, spaced, version_word}
-use Rattle.pmap_cert.specs.Compacting.{compacted}
+use Rattle.pmap_cert.specs.Compacting.{compacted, run_bits, run_end, side_of}
 
 -- reads the next node of a text of this format, for addresses of `most` bits, with at most `room` levels below it
 abbrev pub node_due_at : Format → ℕ → List Label → ℕ → Place → Result (Tree × Place) CertFault
@@ -105,21 +103,11 @@ BeginsWithChain most count text =
 abbrev pub node_from : List DueLine → ℕ → Node
 node_from lines number = first_node (nodes_of (drop number lines))
 
-abbrev pub is_leaf : ℕ → Node → Bool
-is_leaf side (Leaf number) = number == side
-is_leaf side _ = false
-
-abbrev pub bits_down : ℕ → Node → List Bool
-bits_down side (Inner cost set lower upper) =
-    if is_leaf side lower then true ∷ bits_down side upper
-    else (if is_leaf side upper then false ∷ bits_down side lower else [])
-bits_down side _ = []
-
 -- the lines are those of whole nodes without chains, whose runs have at most 128 bits
 pub record ArePlain (lines : List DueLine) : Type 0 where
   pub whole : AreWhole lines
-  pub plain : All (λ line. IsPlainNode (node_of line)) lines
-  pub short : (k side : ℕ) → length (bits_down side (node_from lines k)) ≤ 128
+  pub plain : All (λ line. IsPlain (node_of line)) lines
+  pub short : (k side : ℕ) → length (run_bits nat_eq side (node_from lines k)) ≤ 128
 
 -- The lines of the node at line `number` and of those below it end before line `end`.
 pub record EndsAt (lines : List DueLine) (number end : ℕ) : Type 0 where
@@ -139,41 +127,35 @@ pub record HasPlace (lines : List DueLine) (all : List ℕ) (number : ℕ) : Typ
 
 -- the node at line `number` is an inner node whose halves are at lines `lower` and `upper`
 pub record HasHalves (lines : List DueLine) (all : List ℕ) (number lower upper : ℕ) : Type 0 where
-  pub cost : ℕ
-  pub set : List ℕ
-  pub node : node_from lines number ≡ Inner cost set (node_from lines lower) (node_from lines upper)
+  pub claim : ClaimOf ℕ
+  pub node : node_from lines number ≡ InnerNode claim (node_from lines lower) (node_from lines upper)
   pub low : HasPlace lines all lower
   pub up : HasPlace lines all upper
   pub low_after : number < lower
   pub up_after : number < upper
   pub rest : drop 1 (nodes_of (drop number lines)) ≡ drop 1 (nodes_of (drop upper lines))
 
-abbrev pub end_down : ℕ → Node → Node
-end_down side (Inner cost set lower upper) =
-    if is_leaf side lower then end_down side upper
-    else (if is_leaf side upper then end_down side lower else Inner cost set lower upper)
-end_down side node = node
-
 -- a run of the side label steps from line `number` by this bit to the chosen half
 pub record IsStep (lines : List DueLine) (all : List ℕ) (side number : ℕ) (bit : Bool) (chosen : ℕ) : Type 0 where
-  pub bits : bits_down side (node_from lines number) ≡ bit ∷ bits_down side (node_from lines chosen)
-  pub end : end_down side (node_from lines number) ≡ end_down side (node_from lines chosen)
+  pub bits : run_bits nat_eq side (node_from lines number) ≡ bit ∷ run_bits nat_eq side (node_from lines chosen)
+  pub end : run_end nat_eq side (node_from lines number) ≡ run_end nat_eq side (node_from lines chosen)
   pub after : number < chosen
   pub place : HasPlace lines all chosen
 
 -- the run of the side label from line `number` has these bits and ends at line `end`
 pub record IsRun (lines : List DueLine) (all : List ℕ) (side number : ℕ) (bits : List Bool) (end : ℕ) : Type 0 where
-  pub bits_are : bits ≡ bits_down side (node_from lines number)
-  pub node : node_from lines end ≡ end_down side (node_from lines number)
+  pub bits_are : bits ≡ run_bits nat_eq side (node_from lines number)
+  pub node : node_from lines end ≡ run_end nat_eq side (node_from lines number)
   pub place : HasPlace lines all end
   pub after : number + length bits ≤ end
 
+-- the side label of a node's run
 abbrev pub side_below : Node → Option ℕ
-side_below (Inner cost set lower upper) = option_or (label_of lower) (label_of upper)
+side_below (InnerNode claim lower upper) = side_of lower upper
 side_below _ = None
 
 abbrev pub IsShort : Node → Type 0
-IsShort node = (side : ℕ) → side_below node ≡ Some side → length (bits_down side node) < 2
+IsShort node = (side : ℕ) → side_below node ≡ Some side → length (run_bits nat_eq side node) < 2
 
 -- the run from line `number` has this side label, two bits or more, which are `bits`, and ends at line `end`
 pub record IsLong (lines : List DueLine) (all : List ℕ) (number side : ℕ) (bits : List Bool) (end : ℕ) : Type 0 where
@@ -181,16 +163,9 @@ pub record IsLong (lines : List DueLine) (all : List ℕ) (number side : ℕ) (b
   pub run : IsRun lines all side number bits end
   pub long : 2 ≤ length bits
 
--- The second node is the first one compacted, over each label table that has its labels, and needs no more room.
-pub record IsCompactNode (node compact : Node) : Type 0 where
-  pub same : (table : List Label) (room : ℕ) → IsLabelTable table → HasChainForm (length table) node room →
-      tree_of table compact ≡ compacted (tree_of table node)
-  pub form : (count room : ℕ) → HasChainForm count node room → HasChainForm count compact room
-
-pub record IsCompacted (node : Node) (old new : List DueLine) : Type 0 where
-  pub compact : Node
-  pub is : IsCompactNode node compact
-  pub lines : new ≡ old ++ lines_of compact
+-- the lines of the node, compacted, were added
+abbrev pub IsCompacted : Node → List DueLine → List DueLine → Type 0
+IsCompacted node old new = new ≡ old ++ lines_of (compacted nat_eq node)
 
 abbrev pub IsShallow : Node → Type 0
 IsShallow node = (count : ℕ) × (room : ℕ) × (room ≤ 128) × HasChainForm count node room

@@ -1,6 +1,7 @@
 //! Laws about certificates with chains.
 
 ghost use Rattle.std.specs.Prelude.{◌≡◌, ◌≤◌, ◌⊎◌, ◌↔◌, ◌∷◌, ℕ, Bool, List, Err, Ok, length};
+ghost use Rattle.std.specs.Str.{bytes_eq};
 ghost use Rattle.pmap_text.specs.ListModel.{ListModel};
 ghost use Rattle.pmap_text.specs.MapModel.{Label, MapModel};
 ghost use Rattle.pmap_cert.specs.Acceptance.{IsAccepted};
@@ -59,13 +60,13 @@ pub fn compact_gives_back_equal()
 /// A tree is compacted from its root down: each inner node by its run, and a leaf stays as it is. A run is a path whose
 /// side leaves all have the side label, and no such path from the same node is longer.
 pub fn compacting_is_by_longest_runs()
-    ensures inner { (claim : Claim) (lower upper : Tree) → compacted (InnerNode claim lower upper)
-        ≡ run_compacted compacted claim lower upper (side_of lower upper) }
-    ensures leaf { (x : Label) → compacted (LeafNode x) ≡ LeafNode x }
+    ensures inner { (claim : Claim) (lower upper : Tree) → compacted bytes_eq (InnerNode claim lower upper)
+        ≡ run_compacted bytes_eq (compacted bytes_eq) claim lower upper (side_of lower upper) }
+    ensures leaf { (x : Label) → compacted bytes_eq (LeafNode x) ≡ LeafNode x }
     ensures path { (side : Label) (node : Tree) →
-        IsPath (λ end. end ≡ run_end side node) side (run_bits side node) node }
+        IsPath (λ end. end ≡ run_end bytes_eq side node) side (run_bits bytes_eq side node) node }
     ensures longest { (side : Label) (node : Tree) (bits : List Bool) →
-        IsPath (λ end. Unit {0}) side bits node → length bits ≤ length (run_bits side node) }
+        IsPath (λ end. Unit {0}) side bits node → length bits ≤ length (run_bits bytes_eq side node) }
 {}
 
 /// A certificate with a text of its format, compacted, has one. One with a text of format 1 has a text of its format.

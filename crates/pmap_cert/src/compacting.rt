@@ -1,11 +1,10 @@
 //! Compacting: a chain replaces each run of inner nodes that each have a leaf of the same label in one half.
-ghost use Rattle.std.specs.Prelude.{◌≡◌, ◌<◌, [], IfOk, IsSome, MatchOption, OnOk, length, option_map};
-ghost use Rattle.std.specs.Option.{option_or};
+ghost use Rattle.std.specs.Prelude.{◌≡◌, ◌<◌, [], IfOk, IsSome, MatchOption, OnOk, length, nat_eq, option_map};
 ghost use Rattle.pmap_cert.specs.Certificate.{certificate_of};
-ghost use Rattle.pmap_cert.specs.Compacting.{compact};
-ghost use Rattle.pmap_cert.specs.Node.{IsPlainNode, label_of};
+ghost use Rattle.pmap_cert.specs.CertificateModel.{IsPlain};
+ghost use Rattle.pmap_cert.specs.Compacting.{compact, compacted, is_side, leaf_label, side_of};
 ghost use Rattle.pmap_cert.specs.Packed.{bits_in};
-ghost use Rattle.pmap_cert.specs.Inner.{AreEndsFrom, ArePlain, EndsAt, HasHalves, HasPlace, IsCompactNode, IsCompacted, IsLong, IsRun, IsShallow, IsShort, IsStep, is_leaf, node_from};
+ghost use Rattle.pmap_cert.specs.Inner.{AreEndsFrom, ArePlain, EndsAt, HasHalves, HasPlace, IsCompacted, IsLong, IsRun, IsShallow, IsShort, IsStep, node_from};
 
 use crate::certificate::Certificate;
 use crate::format::Format;
@@ -20,7 +19,7 @@ use std::alloc::{AllocError, Global};
 fn leaf_label(nodes: &Nodes, number: usize) -> Option<LabelId>
     requires plain { ArePlain nodes.now }
     requires within { number < length nodes.now }
-    ensures { option_map (λ id. id.0) result ≡ label_of (node_from nodes.now number) }
+    ensures { option_map (λ id. id.0) result ≡ leaf_label (node_from nodes.now number) }
 {
     match nodes.node(number) {
         Node::Leaf(id) => Some(id),
@@ -31,7 +30,7 @@ fn leaf_label(nodes: &Nodes, number: usize) -> Option<LabelId>
 // Returns the lines of the halves of the node at line `number`, or `None` for a leaf.
 fn halves_of(nodes: &Nodes, ends: &[usize], number: usize) -> Option<(usize, usize)>
     requires { HasPlace nodes.now ends.now number }
-    ensures { MatchOption result (IsSome (label_of (node_from nodes.now number)))
+    ensures { MatchOption result (IsSome (leaf_label (node_from nodes.now number)))
         (λ x. HasHalves nodes.now ends.now number x.0 x.1) }
 {
     match leaf_label(nodes, number) {
@@ -66,10 +65,10 @@ fn ends_of(alloc: Global, nodes: &Nodes) -> Result<Vec<usize>, AllocError>
     Ok(ends)
 }
 
-fn is_leaf(nodes: &Nodes, number: usize, label: LabelId) -> bool
+fn is_side(nodes: &Nodes, number: usize, label: LabelId) -> bool
     requires plain { ArePlain nodes.now }
     requires within { number < length nodes.now }
-    ensures { result ≡ is_leaf label.0 (node_from nodes.now number) }
+    ensures { result ≡ is_side nat_eq label.0 (node_from nodes.now number) }
 {
     leaf_label(nodes, number) == Some(label)
 }
@@ -82,9 +81,9 @@ fn step(nodes: &Nodes, ends: &[usize], number: usize, side: LabelId) -> Option<(
         (λ x. IsStep nodes.now ends.now side.0 number x.0 x.1) }
 {
     let (lower, upper) = halves_of(nodes, ends, number)?;
-    if is_leaf(nodes, lower, side) {
+    if is_side(nodes, lower, side) {
         Some((true, upper))
-    } else if is_leaf(nodes, upper, side) {
+    } else if is_side(nodes, upper, side) {
         Some((false, lower))
     } else {
         None
@@ -111,7 +110,7 @@ fn side_of(nodes: &Nodes, lower: usize, upper: usize) -> Option<LabelId>
     requires lower { lower < length nodes.now }
     requires upper { upper < length nodes.now }
     ensures { option_map (λ id. id.0) result
-        ≡ option_or (label_of (node_from nodes.now lower)) (label_of (node_from nodes.now upper)) }
+        ≡ side_of (node_from nodes.now lower) (node_from nodes.now upper) }
 {
     leaf_label(nodes, lower).or_else(|| leaf_label(nodes, upper))
 }
@@ -171,9 +170,9 @@ fn compact_node(
 }
 
 fn compact_root(alloc: Global, root: &Root) -> Result<Root, AllocError>
-    requires plain { IsPlainNode root.now }
+    requires plain { IsPlain root.now }
     requires shallow { IsShallow root.now }
-    ensures { IfOk result (λ found. IsCompactNode root.now found) }
+    ensures { IfOk result (λ found. found ≡ compacted nat_eq root.now) }
 {
     let nodes = root.nodes();
     let ends = ends_of(alloc, nodes)?;

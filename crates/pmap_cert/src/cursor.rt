@@ -1,6 +1,7 @@
 ghost use Rattle.std.specs.Prelude.{◌≡◌, ◌<◌, ◌∷◌, [], length, map};
 ghost use Rattle.pmap_cert.specs.Packed.{line_of};
-ghost use Rattle.pmap_cert.specs.Node.{cost_of, first_line, first_node, from_next_line, set_of};
+ghost use Rattle.pmap_cert.specs.CertificateModel.{claim_of};
+ghost use Rattle.pmap_cert.specs.Node.{first_line, first_node, from_next_line};
 
 use crate::node::{Claim, Node};
 use crate::nodes::Nodes;
@@ -51,8 +52,8 @@ impl<'a> Cursor<'a> {
     /// Returns what the node claims.
     pub fn claim(&self) -> Claim<'a>
         requires { 0 < length self.now }
-        ensures cost { result.cost ≡ cost_of (first_node self.now) }
-        ensures set { map (λ id. id.0) result.set.now ≡ set_of (first_node self.now) }
+        ensures cost { result.cost ≡ (claim_of (first_node self.now)).cost }
+        ensures set { map (λ id. id.0) result.set.now ≡ (claim_of (first_node self.now)).labels }
     {
         self.nodes.claim(self.number)
     }

@@ -1,6 +1,7 @@
 ghost use Rattle.std.specs.Prelude.{◌≡◌, ◌+◌, ◌<◌, ◌≤◌, ◌++◌, ◌∷◌, [], IfOk, OnErr, OnOk, length, map, reverse, slice_index_or};
-ghost use Rattle.pmap_cert.specs.FormatReading.{ChainLine, LeafLine};
-ghost use Rattle.pmap_cert.specs.Node.{cost_of, node_of, set_of};
+ghost use Rattle.pmap_cert.specs.CertificateText.{ChainLine, LeafLine};
+ghost use Rattle.pmap_cert.specs.CertificateModel.{claim_of};
+ghost use Rattle.pmap_cert.specs.Node.{node_of};
 ghost use Rattle.pmap_cert.specs.Packed.{HasSetAt, IsGrown, IsLine, IsMore, bits_in, line_of, set_at, store_of};
 
 use crate::node::{Claim, Node};
@@ -55,7 +56,7 @@ impl Drop for Nodes {
 impl Model for Nodes {
     ghost use Rattle.std.specs.Prelude.{List, map};
     ghost use Rattle.std.specs.List.{All};
-    ghost use Rattle.pmap_cert.specs.FormatReading.{DueLine};
+    ghost use Rattle.pmap_cert.specs.CertificateText.{DueLine};
     ghost use Rattle.pmap_cert.specs.Packed.{IsPacked, line_in, store_of};
 
     ghost Value = { List DueLine };
@@ -220,9 +221,9 @@ impl Nodes {
     #[inline(always)]
     pub fn claim(&self, number: usize) -> Claim<'_>
         requires { number < length self.now }
-        ensures cost { result.cost ≡ cost_of (node_of (slice_index_or self.now number (LeafLine 0))) }
+        ensures cost { result.cost ≡ (claim_of (node_of (slice_index_or self.now number (LeafLine 0)))).cost }
         ensures set { map (λ id. id.0) result.set.now
-            ≡ set_of (node_of (slice_index_or self.now number (LeafLine 0))) }
+            ≡ (claim_of (node_of (slice_index_or self.now number (LeafLine 0)))).labels }
     {
         let (cost, set) = match &self.lines[number] {
             Packed::Leaf(id) => (0, slice::from_ref(id)),

@@ -12,31 +12,31 @@ use Rattle.pmap_text.specs.PrefixList.{prefix_of}
 use Rattle.pmap_text.specs.declared.entry.Entry.{Entry}
 use Rattle.pmap_text.specs.declared.label.LabelId.{LabelId}
 use Rattle.label_trie.specs.TrieModel.{number_of}
-use Rattle.pmap_cert.specs.CertificateModel.{chosen_half, has}
+use Rattle.pmap_cert.specs.CertificateModel.{ClaimOf, InnerNode, LeafNode, chosen_half, claim_of, has}
 use Rattle.pmap_cert.specs.CertificateText.{IsAscending}
 use Rattle.pmap_cert.specs.Acceptance.{entries_of, handed_on, has_inherited, least_label, own_entry}
-use Rattle.pmap_cert.specs.Node.{HasNumberForm, Inner, Leaf, Node, set_of, tree_of}
+use Rattle.pmap_cert.specs.Node.{HasNumberForm, Node, tree_of}
 use Rattle.pmap_cert.specs.Paths.{LeadsTo, digit, path_number, path_to}
 use Rattle.pmap_cert.proofs.Handed.{handed_on-leaf}
 use Rattle.pmap_cert.proofs.Paths.{path-length}
 use Rattle.pmap_cert.proofs.Sets.{bytes_eq-same, has-own}
 use Rattle.pmap_minimise.specs.Listing.{AddsEntries, IsEntryOf, text_of}
 use Rattle.pmap_minimise.specs.Numbers.{IsOwn, IsSound, has_number, numbers_of}
-use Rattle.pmap_minimise.specs.Opened.{cost_above, node_over, path_node, set_above}
+use Rattle.pmap_minimise.specs.Opened.{claim_above, node_over, path_node, set_above}
 use Rattle.pmap_minimise.proofs.Entered.{half-entries, handed, one-known}
 use Rattle.pmap_minimise.proofs.Paths.{above-has}
 
 -- A property of nodes at a depth that an inner node passes on to its halves, one level deeper.
 abbrev PassesOn : (Node → ℕ → Type 0) → Type 0
-PassesOn Is = (cost : ℕ) (set : List ℕ) (lower upper : Node) (room : ℕ) → Is (Inner cost set lower upper) room → (left : ℕ) × (room ≡ suc left) × Is lower left × Is upper left
+PassesOn Is = (claim : ClaimOf ℕ) (lower upper : Node) (room : ℕ) → Is (InnerNode claim lower upper) room → (left : ℕ) × (room ≡ suc left) × Is lower left × Is upper left
 
 pub sound-passes : PassesOn IsSound
-sound-passes cost set lower upper zero sound = absurd sound
-sound-passes cost set lower upper (suc room) sound = (room, refl, sound.1, sound.2)
+sound-passes claim lower upper zero sound = absurd sound
+sound-passes claim lower upper (suc room) sound = (room, refl, sound.1, sound.2)
 
 pub form-passes : (count : ℕ) → PassesOn (HasNumberForm count)
-form-passes count cost set lower upper zero form = absurd form.0
-form-passes count cost set lower upper (suc room) form = (room, refl, (form.0.2, form.1.0), (form.0.3, form.1.1))
+form-passes count claim lower upper zero form = absurd form.0
+form-passes count claim lower upper (suc room) form = (room, refl, (form.0.2, form.1.0), (form.0.3, form.1.1))
 
 -- a node with the property has it at the end of a run too, with less room by the run's bits
 pub record IsDeep (Is : Node → ℕ → Type 0) (end : Node) (bits room : ℕ) : Type 0 where
@@ -45,14 +45,14 @@ pub record IsDeep (Is : Node → ℕ → Type 0) (end : Node) (bits room : ℕ) 
   pub is : Is end left
 
 module _ (Is : Node → ℕ → Type 0) (passes : PassesOn Is) where
-  over-deep : (d cost : ℕ) (set : List ℕ) (path side : Node) (room : ℕ) → Is (node_over d cost set path side) room → (left : ℕ) × (room ≡ suc left) × Is path left × Is side left
-  over-deep zero cost set path side room is = passes cost set path side room is
-  over-deep (suc d) cost set path side room is = let halves = passes cost set side path room is in (halves.0, halves.1, halves.3, halves.2)
+  over-deep : (d : ℕ) (claim : ClaimOf ℕ) (path side : Node) (room : ℕ) → Is (node_over d claim path side) room → (left : ℕ) × (room ≡ suc left) × Is path left × Is side left
+  over-deep zero claim path side room is = passes claim path side room is
+  over-deep (suc d) claim path side room is = let halves = passes claim side path room is in (halves.0, halves.1, halves.3, halves.2)
 
   pub path-deep : (side value bits : ℕ) (end : Node) (room : ℕ) → Is (path_node side value bits end) room → IsDeep Is end bits room
   path-deep side value zero end room is = record { left = room; room_is = omega arith; is = is }
   path-deep side value (suc bits) end room is =
-      let first = over-deep (digit value bits) (cost_above side end) (set_above side (set_of end) bits) (path_node side value bits end) (Leaf side) room is in
+      let first = over-deep (digit value bits) (claim_above side (claim_of end) bits) (path_node side value bits end) (LeafNode side) room is in
       let rest = path-deep side value bits end first.0 first.2 in
       let one = first.1 in
       let more = rest.room_is in
@@ -78,7 +78,7 @@ module _ (W : ℕ) (table : List Label) (side value : ℕ) (end : Node) where
   path bits = path_node side value bits end
 
   abbrev set : ℕ → List Label
-  set bits = map (text_at table) (set_above side (set_of end) bits)
+  set bits = map (text_at table) (set_above side (claim_of end).labels bits)
 
   -- a node whose set has the inherited label passes it on, and has no entry of its own
   kept : (s : List Label) → has s x ≡ true → handed_on table s (Some x) ≡ Some x
@@ -90,7 +90,7 @@ module _ (W : ℕ) (table : List Label) (side value : ℕ) (end : Node) where
   -- the entries of a run's node that passes on the side label: those of the half that the run chooses, since the side
   -- block has none
   over-entries : (bits d n q : ℕ) (h : Option Label) → d < 2 → handed_on table (set bits) h ≡ Some x
-      → entries_of W table (tree_of table (node_over d (cost_above side end) (set_above side (set_of end) bits) (path bits) (Leaf side))) h n q
+      → entries_of W table (tree_of table (node_over d (claim_above side (claim_of end) bits) (path bits) (LeafNode side))) h n q
       ≡ own_entry W table (set bits) h n q ++ entries_of W table (tree_of table (path bits)) (Some x) (suc n) (chosen_half (d == 1) q)
   over-entries bits zero n q h small passes =
       let own = own_entry W table (set bits) h n q in
@@ -107,7 +107,7 @@ module _ (W : ℕ) (table : List Label) (side value : ℕ) (end : Node) where
   path-entries : (bits n q : ℕ) → entries_of W table (tree_of table (path bits)) (Some x) n q ≡ entries_of W table (tree_of table end) (Some x) (n + bits) (path_number (path_to value bits) q)
   path-entries zero n q = let same : n ≡ n + 0 = omega arith in ap (λ (k : ℕ). entries_of W table (tree_of table end) (Some x) k q) same
   path-entries (suc bits) n q =
-      let there = texts-have table side (set_above side (set_of end) bits) (above-has side (set_of end) bits) in
+      let there = texts-have table side (set_above side (claim_of end).labels bits) (above-has side (claim_of end).labels bits) in
       let half = chosen_half (digit value bits == 1) q in
       let deeper : suc n + bits ≡ n + suc bits = omega arith in
       over-entries bits (digit value bits) n q (Some x) (omega arith) (kept (set bits) there)
@@ -133,7 +133,7 @@ module _ (side value bits : ℕ) (end : Node) (long : 2 ≤ bits) (block last : 
       by : (bits : ℕ) → 2 ≤ bits → (count room : ℕ) → HasNumberForm count (path_node side value bits end) room → side < count
       by zero long count room form = absurd (omega arith)
       by (suc bits) long count room form =
-          (over-deep (HasNumberForm count) (form-passes count) (digit value bits) (cost_above side end) (set_above side (set_of end) bits) (path_node side value bits end) (Leaf side) room form).3.0
+          (over-deep (HasNumberForm count) (form-passes count) (digit value bits) (claim_above side (claim_of end) bits) (path_node side value bits end) (LeafNode side) room form).3.0
 
   -- a chain adds the own entry of its block and the entries of its end
   pub chain-adds : numbers_of ids ≡ side ∷ [] → IsOwn ids block inherited old middle id → LeadsTo block last (path_to value bits) → AddsEntries end last (Some id) middle new

@@ -11,12 +11,13 @@ use Rattle.pmap_text.specs.MapText.{text_at}
 use Rattle.pmap_text.proofs.Finds.{All-left, All-right}
 use Rattle.pmap_cert.specs.FormatReading.{DueLine, InnerLine, LeafLine}
 use Rattle.pmap_cert.specs.CertificateText.{IsAscending}
-use Rattle.pmap_cert.specs.Node.{Inner, Leaf, Node, cost_of, lines_of, set_of}
+use Rattle.pmap_cert.specs.CertificateModel.{InnerNode, LeafNode, claim_of}
+use Rattle.pmap_cert.specs.Node.{Node, lines_of}
 use Rattle.label_trie.specs.Stored.{IsInnerAt, IsLeafAt, IsNodeAt}
 use Rattle.label_trie.specs.TrieModel.{IsSettledLeaf, IsUndivided, LeafModel, NodeModel, TrieModel}
 use Rattle.pmap_minimise.specs.Built.{AddsInner, AreHalves}
-use Rattle.pmap_minimise.specs.Numbers.{IsCertified, IsMapNode, IsSound}
-use Rattle.pmap_minimise.proofs.BuiltNodes.{HasClaimOf, are-halves, earlier-claim, halves-exact, inner-lines, last-claim, reversed-lines}
+use Rattle.pmap_minimise.specs.Numbers.{IsCertified, IsExact, IsMapNode, IsSound}
+use Rattle.pmap_minimise.proofs.BuiltNodes.{HasClaimOf, are-halves, earlier-claim, inner-lines, last-claim, reversed-lines}
 use Rattle.pmap_minimise.proofs.Joined.{joined-in, joined-sound, moved}
 use Rattle.pmap_minimise.proofs.Texts.{exact-ascending, exact-cost}
 
@@ -24,13 +25,13 @@ use Rattle.pmap_minimise.proofs.Texts.{exact-ascending, exact-cost}
 pub record IsClaimed (W : ℕ) (place : NodeModel) (old new : List DueLine) : Type 0 where
   pub node : Node
   pub certified : IsCertified place.bits place.number (W - place.bits) place.leaves node
-  pub ascending : IsAscending (2 ^ 32) 0 (set_of node)
+  pub ascending : IsAscending (2 ^ 32) 0 (claim_of node).labels
   pub lines_are : new ≡ old ++ reverse (lines_of node)
 
 leaf-claimed : (W : ℕ) (leaf : LeafModel) (id : ℕ) (old new : List DueLine) → id < 2 ^ 32 → leaf.label ≡ Some id → new ≡ old ++ LeafLine id ∷ []
     → IsClaimed W (record { bits = leaf.bits; number = leaf.number; leaves = leaf ∷ [] }) old new
 leaf-claimed W leaf id old new fits label_is lines = record {
-  node = Leaf id;
+  node = LeafNode id;
   certified = record {
     each = λ m ok settled undivided.
         let own = All-head (IsSettledLeaf m) leaf [] settled in
@@ -81,10 +82,10 @@ module _ (t : TrieModel) (number upper : ℕ) (inner : IsInnerAt t number upper)
       let high_room : W - inner.high.bits ≡ room = omega (arith, inner.high_bits) in
       let low_len : inner.low.bits ≡ suc c.bits = omega (arith, len) in
       let high_len : inner.high.bits ≡ suc c.bits = omega (arith, inner.high_bits) in
-      let exact = halves-exact after (length middle - 1) below.node above.node adds.cost adds.set low-claim high-claim adds.exact in
-      let node = Inner adds.cost adds.set below.node above.node in
-      let cheap : adds.cost < length c.leaves =
-      let most = exact-cost (cost_of below.node) (cost_of above.node) (set_of below.node) (set_of above.node) adds.cost adds.set exact in
+      let exact : IsExact (claim_of below.node) (claim_of above.node) adds.claim = rw (low-claim.claim, high-claim.claim) at adds.exact in
+      let node = InnerNode adds.claim below.node above.node in
+      let cheap : adds.claim.cost < length c.leaves =
+      let most = exact-cost (claim_of below.node) (claim_of above.node) adds.claim exact in
       omega (arith, count, most, below.certified.cost, above.certified.cost) in
       record {
         node = node;
@@ -95,15 +96,15 @@ module _ (t : TrieModel) (number upper : ℕ) (inner : IsInnerAt t number upper)
               let low = inner.low.leaves in
               let high = inner.high.leaves in
               subst (λ (h : ℕ). IsMapNode m c.bits c.number h node) all
-              (joined-in m c.bits c.number room below.node above.node adds.cost adds.set ok (inner.unsettled m undivided)
+              (joined-in m c.bits c.number room below.node above.node adds.claim ok (inner.unsettled m undivided)
               (moved m _ _ _ _ _ _ below.node low_len inner.low_number refl (below.certified.each m ok (All-left (IsSettledLeaf m) low high settled') (All-left (IsUndivided m) low high undivided')))
               (moved m _ _ _ _ _ _ above.node high_len inner.high_number high_room (above.certified.each m ok (All-right (IsSettledLeaf m) low high settled') (All-right (IsUndivided m) low high undivided'))) exact (omega (arith, cheap, some-leaves, few)));
           sound = subst (IsSound node) all
-              (joined-sound room below.node above.node adds.cost adds.set below.certified.sound (subst (IsSound above.node) high_room above.certified.sound) exact);
+              (joined-sound room below.node above.node adds.claim below.certified.sound (subst (IsSound above.node) high_room above.certified.sound) exact);
           cost = cheap;
         };
-        ascending = exact-ascending (2 ^ 32) (cost_of below.node) (cost_of above.node) (set_of below.node) (set_of above.node) adds.cost adds.set below.ascending above.ascending exact;
-        lines_are = inner-lines old middle after new adds.cost adds.set below.node above.node above.lines_are below.lines_are adds.lines_are;
+        ascending = exact-ascending (2 ^ 32) (claim_of below.node) (claim_of above.node) adds.claim below.ascending above.ascending exact;
+        lines_are = inner-lines old middle after new adds.claim below.node above.node above.lines_are below.lines_are adds.lines_are;
       }
 
 -- The node with the number k has its lines among these. They follow those of the nodes with greater numbers that are not
@@ -207,7 +208,7 @@ module _ (t : TrieModel) (number : ℕ) (lines : List DueLine) (some : 0 < numbe
 
     pub inner-added : (line : ℕ) (new : List DueLine) → line + 1 + upper ≡ length t.nodes → AddsInner line lines new → AreClaimed t n new
     inner-added line new is adds =
-        more-claimed new (InnerLine adds.cost adds.set) inner.whole above.from adds.lines_are inner.whole_at.there
+        more-claimed new (InnerLine adds.claim.cost adds.claim.labels) inner.whole above.from adds.lines_are inner.whole_at.there
         (halves-claimed t n upper inner are.few (take above.from lines) (take above.to lines) lines above.claimed lower new
         (subst (λ (k : ℕ). AddsInner k lines new) (sym (line_is line is)) adds))
         (omega (arith, above.from_is, inner.upper_is, ap length inner.leaves, length-append inner.low.leaves inner.high.leaves))

@@ -17,9 +17,9 @@ use Rattle.pmap_text.specs.declared.entry.Entry.{Entry}
 use Rattle.pmap_text.specs.declared.label.LabelId.{LabelId}
 use Rattle.pmap_text.proofs.MovedBlocks.{first_of-whole}
 use Rattle.pmap_cert.specs.CertificateText.{IsAscending}
-use Rattle.pmap_cert.specs.CertificateModel.{Tree}
+use Rattle.pmap_cert.specs.CertificateModel.{ClaimOf, InnerNode, LeafNode, Tree}
 use Rattle.pmap_cert.specs.Acceptance.{entries_of, handed_on, has_inherited, least_label, own_entry}
-use Rattle.pmap_cert.specs.Node.{HasNumberForm, Inner, Leaf, Node, tree_of}
+use Rattle.pmap_cert.specs.Node.{HasNumberForm, Node, tree_of}
 use Rattle.label_trie.specs.TrieModel.{number_of}
 use Rattle.label_trie.specs.Parts.{IsHalf}
 use Rattle.pmap_minimise.specs.Listing.{AddsEntries, AddsPrefixes, IsEntryOf, text_of}
@@ -90,7 +90,7 @@ pub one-known : (count : ℕ) (id : LabelId) → id.0 < count → ForSome (Some 
 one-known count id known = λ x e. subst (λ (i : LabelId). i.0 < count) (same_Some id x e) known
 
 pub leaf-adds : (x : LabelId) (block : Block) (inherited : Option LabelId) (old new : List Entry) (ids : List LabelId) (id : LabelId) → numbers_of ids ≡ x.0 ∷ []
-    → IsOwn ids block inherited old new id → AddsEntries (Leaf x.0) block inherited old new
+    → IsOwn ids block inherited old new id → AddsEntries (LeafNode x.0) block inherited old new
 leaf-adds x block inherited old new ids id is own = λ table ok known form.
     (handed table ok ids block inherited old new id (subst (λ (l : List ℕ). IsAscending (length table) 0 l) (sym is) (omega arith, form.0, tt)) known (x.0 ∷ []) is own).adds
 
@@ -106,17 +106,17 @@ joined-entries old own lower upper new0 new1 new2 e f g =
     g ∙ ap (λ (l : List Prefix). l ++ upper) f ∙ ap (λ (l : List Prefix). (l ++ lower) ++ upper) e
     ∙ append_assoc (old ++ own) lower upper ∙ append_assoc old own (lower ++ upper)
 
-pub inner-adds : (cost : ℕ) (set : List ℕ) (left right : Node) (block low high : Block) (inherited : Option LabelId) (old new0 new1 new2 : List Entry) (ids : List LabelId) (id : LabelId)
-    → numbers_of ids ≡ set → IsOwn ids block inherited old new0 id → IsHalf 0 block low → IsHalf 1 block high
-    → AddsEntries left low (Some id) new0 new1 → AddsEntries right high (Some id) new1 new2 → AddsEntries (Inner cost set left right) block inherited old new2
-inner-adds cost set left right block low high inherited old new0 new1 new2 ids id is own low_half high_half lower upper = λ table ok known form.
+pub inner-adds : (claim : ClaimOf ℕ) (left right : Node) (block low high : Block) (inherited : Option LabelId) (old new0 new1 new2 : List Entry) (ids : List LabelId) (id : LabelId)
+    → numbers_of ids ≡ claim.labels → IsOwn ids block inherited old new0 id → IsHalf 0 block low → IsHalf 1 block high
+    → AddsEntries left low (Some id) new0 new1 → AddsEntries right high (Some id) new1 new2 → AddsEntries (InnerNode claim left right) block inherited old new2
+inner-adds claim left right block low high inherited old new0 new1 new2 ids id is own low_half high_half lower upper = λ table ok known form.
     let room = half-room 0 block low low_half in
     let room' = half-room 1 block high high_half in
     let level : width_of low.version - low.len ≡ width_of high.version - high.len = omega arith in
-    let inner = subst (HasNumberForm (length table) (Inner cost set left right)) room form in
+    let inner = subst (HasNumberForm (length table) (InnerNode claim left right)) room form in
     let up = subst (λ (ns : List ℕ). IsAscending (length table) 0 ns) (sym is) inner.0.1 in
-    let hand = handed table ok ids block inherited old new0 id up known set is own in
-    let passed = handed_on table (map (text_at table) set) (text_of table inherited) in
+    let hand = handed table ok ids block inherited old new0 id up known claim.labels is own in
+    let passed = handed_on table (map (text_at table) claim.labels) (text_of table inherited) in
     let next = one-known (length table) id hand.known in
     let below = lower table ok next (inner.0.2, inner.1.0) in
     let above = upper table ok next (subst (HasNumberForm (length table) right) level (inner.0.3, inner.1.1)) in

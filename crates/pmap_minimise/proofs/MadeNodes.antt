@@ -1,5 +1,5 @@
 -- Blocks of addresses with the stretches at their ends, and a block's node of the certificate.
-use Rattle.std.proofs.Common.{◌≡◌, ℕ, zero, suc, ◌+◌, ◌-◌, ◌*◌, ◌/◌, ◌^◌, ◌<◌, ◌≤◌, inl, inr, ◌∙◌, ◌==◌, List, [], ◌∷◌, Option, Some, None, option_map, refl, sym, ap, subst, arith}
+use Rattle.std.proofs.Common.{◌≡◌, ℕ, zero, suc, ◌+◌, ◌-◌, ◌*◌, ◌/◌, ◌^◌, ◌<◌, ◌≤◌, inl, inr, ◌∙◌, ◌==◌, List, [], ◌∷◌, Option, Some, None, nat_eq, option_map, refl, sym, ap, subst, arith}
 use Rattle.std.proofs.lemmas.Bool.{cases_lt, cond-false, cond-true, eq-eqb, ne_eqb}
 use Rattle.std.proofs.Math.Nat.{pow-suc}
 use Rattle.std.proofs.lemmas.Nat.{pow_pos}
@@ -11,8 +11,10 @@ use Rattle.pmap_text.specs.Stretches.{AreStretches, HasEveryAddress, HoldsAddres
 use Rattle.pmap_text.specs.declared.label.LabelId.{LabelId}
 use Rattle.pmap_text.specs.declared.statement.Statement.{Statement}
 use Rattle.pmap_cert.specs.CertificateText.{IsAscending}
-use Rattle.pmap_cert.specs.Node.{Inner, Leaf, Node, cost_of, label_of, set_of}
-use Rattle.pmap_cert.specs.Inner.{bits_down, end_down, side_below}
+use Rattle.pmap_cert.specs.CertificateModel.{ClaimOf, InnerNode, LeafNode, claim_of}
+use Rattle.pmap_cert.specs.Compacting.{leaf_label, run_bits, run_end}
+use Rattle.pmap_cert.specs.Node.{Node}
+use Rattle.pmap_cert.specs.Inner.{side_below}
 use Rattle.pmap_text.specs.Settled.{Settles, divisions}
 use Rattle.pmap_text.proofs.Settling.{window_divided, window_most, window_settled, window_unsettled}
 use Rattle.pmap_text.specs.Windows.{AreHalvesOf, IsWindow, number_at}
@@ -20,7 +22,7 @@ use Rattle.pmap_text.specs.declared.window.Window.{Window}
 use Rattle.pmap_text.proofs.Windows.{one_index, ordered_window}
 use Rattle.pmap_minimise.specs.Runs.{AreCountedHalves, IsCounted, IsChoice, IsMade, IsRun, IsRunTo, IsStep, IsStop, own_label}
 use Rattle.pmap_cert.specs.Paths.{digit, path_to}
-use Rattle.pmap_minimise.specs.Opened.{cost_above, node_over, set_above, path_node}
+use Rattle.pmap_minimise.specs.Opened.{claim_above, node_over, path_node}
 use Rattle.pmap_minimise.specs.Numbers.{IsExact, IsMapNode, IsSound}
 use Rattle.pmap_minimise.proofs.Joined.{joined-in, joined-sound, moved}
 use Rattle.pmap_minimise.proofs.Texts.{exact-cost}
@@ -99,7 +101,7 @@ own-label-is None n is = absurd (none-some n is)
 own-label-is (Some id) n is = ap (λ (k : ℕ). Some (id_of k)) (same_Some id.0 n is)
 
 -- a block in one stretch has the node of a leaf
-pub leaf-made : (s : StretchesModel) (a : Window) (n : ℕ) → IsCounted s a → own_label s a ≡ Some n → n < 2 ^ 32 → IsMade s a (Leaf n)
+pub leaf-made : (s : StretchesModel) (a : Window) (n : ℕ) → IsCounted s a → own_label s a ≡ Some n → n < 2 ^ 32 → IsMade s a (LeafNode n)
 leaf-made s a n is own fits =
     let single = own-single s a n is.window.ordered own in
     let label : label_at s a.from ≡ Some (id_of n) = own-label-is (label_at s a.from) n (sym (own-is s a single) ∙ own) in
@@ -122,12 +124,12 @@ module _ (s : StretchesModel) (a low high : Window) (lower upper : Node) (is : I
   other same = let divided = are.divided in absurd (omega arith)
 
   -- the costs of the halves and one more are few
-  pub both-cost : (ss : List Statement) (default : Option LabelId) → AreStretches ss default s → cost_of lower + cost_of upper + 1 ≤ divisions s a ss
+  pub both-cost : (ss : List Statement) (default : Option LabelId) → AreStretches ss default s → (claim_of lower).cost + (claim_of upper).cost + 1 ≤ divisions s a ss
   both-cost ss default stretches =
       omega (arith, window_most s a is.window ss default stretches other low high are.halves, low_made.few ss default stretches, high_made.few ss default stretches)
 
-  pub halves-made : (cost : ℕ) (set : List ℕ) → IsExact lower upper cost set → IsAscending (2 ^ 32) 0 set → IsMade s a (Inner cost set lower upper)
-  halves-made cost set exact ascending =
+  pub halves-made : (claim : ClaimOf ℕ) → IsExact (claim_of lower) (claim_of upper) claim → IsAscending (2 ^ 32) 0 claim.labels → IsMade s a (InnerNode claim lower upper)
+  halves-made claim exact ascending =
       let W : ℕ = width_of s.version in
       let below = window_divided s a is.window is.few.statements is.few.default is.few.stretches other in
       let room : ℕ = W - suc a.len in
@@ -136,26 +138,25 @@ module _ (s : StretchesModel) (a low high : Window) (lower upper : Node) (is : I
       let high_len : high.len ≡ suc a.len = omega (arith, are.halves.high_len) in
       let low_room : W - low.len ≡ room = ap (λ (n : ℕ). W - n) low_len in
       let high_room : W - high.len ≡ room = ap (λ (n : ℕ). W - n) high_len in
-      let most = exact-cost (cost_of lower) (cost_of upper) (set_of lower) (set_of upper) cost set exact in
+      let most = exact-cost (claim_of lower) (claim_of upper) claim exact in
       let few = is.few.few in
       record {
         each = λ m on.
-            subst (λ (h : ℕ). IsMapNode m a.len (number_at s a) h (Inner cost set lower upper)) all
-            (joined-in m a.len (number_at s a) room lower upper cost set on.table
+            subst (λ (h : ℕ). IsMapNode m a.len (number_at s a) h (InnerNode claim lower upper)) all
+            (joined-in m a.len (number_at s a) room lower upper claim on.table
             (rw (on.is.width, on.is.mappings) (window_unsettled s a is.window on.statements on.default on.stretches other m.table m.fallback))
             (moved m _ _ _ _ _ _ lower low_len are.halves.low_number low_room (low_made.each m on)) (moved m _ _ _ _ _ _ upper high_len are.halves.high_number high_room (high_made.each m on))
             exact (omega (arith, most, both-cost is.few.statements is.few.default is.few.stretches, few)));
         few = λ ss default stretches. omega (arith, most, both-cost ss default stretches);
-        sound = subst (IsSound (Inner cost set lower upper)) all
-            (joined-sound room lower upper cost set (subst (IsSound lower) low_room low_made.sound) (subst (IsSound upper) high_room high_made.sound) exact);
+        sound = subst (IsSound (InnerNode claim lower upper)) all
+            (joined-sound room lower upper claim (subst (IsSound lower) low_room low_made.sound) (subst (IsSound upper) high_room high_made.sound) exact);
         ascending = ascending;
         own = sym (own-none s a are.divided);
         single = λ same. absurd (other same);
         halves = λ low' high' are'.
             let same = same-halves s a low high low' high' are are' in
             record {
-              cost = cost;
-              set = set;
+              claim = claim;
               lower = lower;
               upper = upper;
               node_is = refl;
@@ -166,14 +167,14 @@ module _ (s : StretchesModel) (a low high : Window) (lower upper : Node) (is : I
 
 -- if no step leads on from a block, its node has no run
 pub made-stop : (s : StretchesModel) (side : ℕ) (a : Window) (node : Node) → IsMade s a node → IsStop s side a
-    → (bits_down side node ≡ []) × (end_down side node ≡ node)
+    → (run_bits nat_eq side node ≡ []) × (run_end nat_eq side node ≡ node)
 made-stop s side a node made (inl single) =
     let leaf = made.single single in
-    (ap (bits_down side) leaf.1, ap (end_down side) leaf.1 ∙ sym leaf.1)
+    (ap (run_bits nat_eq side) leaf.1, ap (run_end nat_eq side) leaf.1 ∙ sym leaf.1)
 made-stop s side a node made (inr none) =
     let own = made.halves none.low none.high none.halves in
-    let down = down-none side own.cost own.set own.lower own.upper (λ e. none.low_other (sym own.low_label ∙ e)) (λ e. none.high_other (sym own.high_label ∙ e)) in
-    (ap (bits_down side) own.node_is ∙ down.0, ap (end_down side) own.node_is ∙ down.1 ∙ sym own.node_is)
+    let down = down-none side own.claim own.lower own.upper (λ e. none.low_other (sym own.low_label ∙ e)) (λ e. none.high_other (sym own.high_label ∙ e)) in
+    (ap (run_bits nat_eq side) own.node_is ∙ down.0, ap (run_end nat_eq side) own.node_is ∙ down.1 ∙ sym own.node_is)
 
 -- Runs.
 
@@ -291,9 +292,9 @@ module _ (s : StretchesModel) (side : ℕ) (fits : side < 2 ^ 32) (end : Window)
   abbrev node_of : ℕ → Node
   node_of count = path_node side value count node
 
-  over-made : (a : Window) (count d : ℕ) → IsMade s a (node_over d (cost_above side node) (set_above side (set_of node) count) (node_of count) (Leaf side)) → digit value count ≡ d
+  over-made : (a : Window) (count d : ℕ) → IsMade s a (node_over d (claim_above side (claim_of node) count) (node_of count) (LeafNode side)) → digit value count ≡ d
       → IsMade s a (node_of (suc count))
-  over-made a count d is same = subst (λ (k : ℕ). IsMade s a (node_over k (cost_above side node) (set_above side (set_of node) count) (node_of count) (Leaf side))) (sym same) is
+  over-made a count d is same = subst (λ (k : ℕ). IsMade s a (node_over k (claim_above side (claim_of node) count) (node_of count) (LeafNode side))) (sym same) is
 
   pub run-made : (count : ℕ) (a : Window) → IsCounted s a → IsRun s side count a end → IsMade s a (node_of count)
   run-made zero a is run = subst (λ (b : Window). IsMade s b node) run made
@@ -308,40 +309,40 @@ module _ (s : StretchesModel) (side : ℕ) (fits : side < 2 ^ 32) (end : Window)
       by below rest (inl high) =
           let number = below.number ∙ ap (number_at s) high.0 ∙ halves.halves.high_number in
           over-made a count 1
-          (halves-made s a run.1.low run.1.high (Leaf side) (node_of count) is halves (leaf-made s run.1.low side halves.low_counted high.1 fits)
-          (subst (λ (b : Window). IsMade s b (node_of count)) high.0 rest) (cost_above side node) (set_above side (set_of node) count)
+          (halves-made s a run.1.low run.1.high (LeafNode side) (node_of count) is halves (leaf-made s run.1.low side halves.low_counted high.1 fits)
+          (subst (λ (b : Window). IsMade s b (node_of count)) high.0 rest) (claim_above side (claim_of node) count)
           (path-high side fits node made.ascending value count) (above-ascending side fits node made.ascending count))
           (omega arith)
       by below rest (inr low) =
           let number = below.number ∙ ap (number_at s) low.0 ∙ halves.halves.low_number in
           over-made a count 0
-          (halves-made s a run.1.low run.1.high (node_of count) (Leaf side) is halves (subst (λ (b : Window). IsMade s b (node_of count)) low.0 rest)
-          (leaf-made s run.1.high side halves.high_counted low.2 fits) (cost_above side node) (set_above side (set_of node) count)
+          (halves-made s a run.1.low run.1.high (node_of count) (LeafNode side) is halves (subst (λ (b : Window). IsMade s b (node_of count)) low.0 rest)
+          (leaf-made s run.1.high side halves.high_counted low.2 fits) (claim_above side (claim_of node) count)
           (path-low side fits node made.ascending value count) (above-ascending side fits node made.ascending count))
           (omega arith)
 
   -- the run from the node has `count` bits, and leads to the node of the end
   pub record GoesDown (count : ℕ) : Type 0 where
-    pub bits : bits_down side (node_of count) ≡ path_to value count
-    pub last : end_down side (node_of count) ≡ node
+    pub bits : run_bits nat_eq side (node_of count) ≡ path_to value count
+    pub last : run_end nat_eq side (node_of count) ≡ node
 
   -- the node over another has one bit more
   abbrev over : ℕ → ℕ → Node
-  over count d = node_over d (cost_above side node) (set_above side (set_of node) count) (node_of count) (Leaf side)
+  over count d = node_over d (claim_above side (claim_of node) count) (node_of count) (LeafNode side)
 
-  goes-over : (count d : ℕ) → digit value count ≡ d → GoesDown count → bits_down side (over count d) ≡ (d == 1) ∷ bits_down side (node_of count)
-      → end_down side (over count d) ≡ end_down side (node_of count) → GoesDown (suc count)
+  goes-over : (count d : ℕ) → digit value count ≡ d → GoesDown count → run_bits nat_eq side (over count d) ≡ (d == 1) ∷ run_bits nat_eq side (node_of count)
+      → run_end nat_eq side (over count d) ≡ run_end nat_eq side (node_of count) → GoesDown (suc count)
   goes-over count d same down bits end = record {
-    bits = ap (λ (k : ℕ). bits_down side (over count k)) same ∙ bits ∙ (λ i. (sym same i == 1) ∷ down.bits i);
-    last = ap (λ (k : ℕ). end_down side (over count k)) same ∙ end ∙ down.last;
+    bits = ap (λ (k : ℕ). run_bits nat_eq side (over count k)) same ∙ bits ∙ (λ i. (sym same i == 1) ∷ down.bits i);
+    last = ap (λ (k : ℕ). run_end nat_eq side (over count k)) same ∙ end ∙ down.last;
   }
 
-  over-down : (count d : ℕ) → digit value count ≡ d → d < 2 → (d ≡ 0 → label_of (node_of count) ≡ Some side → ⊥) → GoesDown count → GoesDown (suc count)
+  over-down : (count d : ℕ) → digit value count ≡ d → d < 2 → (d ≡ 0 → leaf_label (node_of count) ≡ Some side → ⊥) → GoesDown count → GoesDown (suc count)
   over-down count zero same small other down =
-      let low = down-low side (cost_above side node) (set_above side (set_of node) count) (node_of count) (other refl) in
+      let low = down-low side (claim_above side (claim_of node) count) (node_of count) (other refl) in
       goes-over count 0 same down low.0 low.1
   over-down count (suc zero) same small other down =
-      let high = down-high side (cost_above side node) (set_above side (set_of node) count) (node_of count) in
+      let high = down-high side (claim_above side (claim_of node) count) (node_of count) in
       goes-over count 1 same down high.0 high.1
   over-down count (suc (suc d)) same small other down = absurd (omega arith)
 

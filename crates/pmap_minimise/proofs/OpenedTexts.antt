@@ -8,10 +8,11 @@ use Rattle.pmap_cert.proofs.Written.{text_of_lines-append}
 use Rattle.pmap_cert.specs.CertificateText.{inner_line, leaf_line, text_of_lines}
 use Rattle.pmap_cert.specs.FormatReading.{ChainLine, DueLine}
 use Rattle.pmap_cert.proofs.NodeWalk.{bits_of, side_of}
-use Rattle.pmap_cert.specs.Node.{Chain, Inner, Leaf, Node, cost_of, first_line, first_node, from_next_line, line_text, lines_of, node_of, set_of}
+use Rattle.pmap_cert.specs.CertificateModel.{ChainNode, ClaimOf, InnerNode, LeafNode, claim_of}
+use Rattle.pmap_cert.specs.Node.{Node, first_line, first_node, from_next_line, line_text, lines_of, node_of}
 use Rattle.pmap_cert.specs.Paths.{digit, path_to}
 use Rattle.pmap_minimise.specs.Numbers.{has_number}
-use Rattle.pmap_minimise.specs.Opened.{Opens, cost_above, node_over, node_text, path_node, set_above, with_number}
+use Rattle.pmap_minimise.specs.Opened.{Opens, claim_above, cost_above, node_over, node_text, path_node, set_above, with_number}
 
 -- a line with its end
 abbrev ended : List ℕ → List ℕ
@@ -20,34 +21,34 @@ ended text = text ++ 10 ∷ []
 lines-text : (a b : List DueLine) → text_of_lines (map line_text (a ++ b)) ≡ text_of_lines (map line_text a) ++ text_of_lines (map line_text b)
 lines-text a b = ap text_of_lines (map-append line_text a b) ∙ text_of_lines-append (map line_text a) (map line_text b)
 
-leaf-text : (n : ℕ) → node_text (Leaf n) ≡ ended (leaf_line n)
+leaf-text : (n : ℕ) → node_text (LeafNode n) ≡ ended (leaf_line n)
 leaf-text n = append-nil (ended (leaf_line n))
 
-inner-text : (cost : ℕ) (set : List ℕ) (lower upper : Node) → node_text (Inner cost set lower upper) ≡ ended (inner_line cost set) ++ (node_text lower ++ node_text upper)
-inner-text cost set lower upper = ap (λ (t : List ℕ). ended (inner_line cost set) ++ t) (lines-text (lines_of lower) (lines_of upper))
+inner-text : (claim : ClaimOf ℕ) (lower upper : Node) → node_text (InnerNode claim lower upper) ≡ ended (inner_line claim.cost claim.labels) ++ (node_text lower ++ node_text upper)
+inner-text claim lower upper = ap (λ (t : List ℕ). ended (inner_line claim.cost claim.labels) ++ t) (lines-text (lines_of lower) (lines_of upper))
 
 -- the text of an inner node is appended: its own line, and those of its halves
-pub inner-added : (cost : ℕ) (set : List ℕ) (lower upper : Node) (old own middle new : List ℕ) → own ≡ old ++ ended (inner_line cost set) → middle ≡ own ++ node_text lower → new ≡ middle ++ node_text upper
-    → new ≡ old ++ node_text (Inner cost set lower upper)
-inner-added cost set lower upper old own middle new first second third =
+pub inner-added : (claim : ClaimOf ℕ) (lower upper : Node) (old own middle new : List ℕ) → own ≡ old ++ ended (inner_line claim.cost claim.labels) → middle ≡ own ++ node_text lower → new ≡ middle ++ node_text upper
+    → new ≡ old ++ node_text (InnerNode claim lower upper)
+inner-added claim lower upper old own middle new first second third =
     third ∙ ap (λ (t : List ℕ). t ++ node_text upper) (second ∙ ap (λ (t : List ℕ). t ++ node_text lower) first)
-    ∙ append_assoc (old ++ ended (inner_line cost set)) (node_text lower) (node_text upper)
-    ∙ append_assoc old (ended (inner_line cost set)) (node_text lower ++ node_text upper)
-    ∙ ap (λ (t : List ℕ). old ++ t) (sym (inner-text cost set lower upper))
+    ∙ append_assoc (old ++ ended (inner_line claim.cost claim.labels)) (node_text lower) (node_text upper)
+    ∙ append_assoc old (ended (inner_line claim.cost claim.labels)) (node_text lower ++ node_text upper)
+    ∙ ap (λ (t : List ℕ). old ++ t) (sym (inner-text claim lower upper))
 
 -- The lines of a run's node are appended, and of its side block if that comes before the end. With those of the end, `E`,
 -- and of the side blocks after it, `U`, the lines below them are those of the half that the run chooses.
-pub over-down : (d cost side : ℕ) (set : List ℕ) (path : Node) (old own new E U : List ℕ) → d < 2 → own ≡ old ++ (ended (inner_line cost set) ++ cond (d == 1) (ended (leaf_line side)) [])
-    → new ++ (E ++ U) ≡ own ++ node_text path → new ++ (E ++ (U ++ cond (d == 0) (ended (leaf_line side)) [])) ≡ old ++ node_text (node_over d cost set path (Leaf side))
-over-down zero cost side set path old own new E U small first second =
+pub over-down : (d side : ℕ) (claim : ClaimOf ℕ) (path : Node) (old own new E U : List ℕ) → d < 2 → own ≡ old ++ (ended (inner_line claim.cost claim.labels) ++ cond (d == 1) (ended (leaf_line side)) [])
+    → new ++ (E ++ U) ≡ own ++ node_text path → new ++ (E ++ (U ++ cond (d == 0) (ended (leaf_line side)) [])) ≡ old ++ node_text (node_over d claim path (LeafNode side))
+over-down zero side claim path old own new E U small first second =
     ap (λ (t : List ℕ). new ++ t) (sym (append_assoc E U (ended (leaf_line side)))) ∙ sym (append_assoc new (E ++ U) (ended (leaf_line side)))
-    ∙ inner-added cost set path (Leaf side) old own (new ++ (E ++ U)) _ (first ∙ ap (λ (t : List ℕ). old ++ t) (append-nil (ended (inner_line cost set)))) second
+    ∙ inner-added claim path (LeafNode side) old own (new ++ (E ++ U)) _ (first ∙ ap (λ (t : List ℕ). old ++ t) (append-nil (ended (inner_line claim.cost claim.labels)))) second
     (ap (λ (t : List ℕ). (new ++ (E ++ U)) ++ t) (sym (leaf-text side)))
-over-down (suc zero) cost side set path old own new E U small first second =
+over-down (suc zero) side claim path old own new E U small first second =
     ap (λ (t : List ℕ). new ++ (E ++ t)) (append-nil U)
-    ∙ inner-added cost set (Leaf side) path old (old ++ ended (inner_line cost set)) own _ refl
-    (first ∙ sym (append_assoc old (ended (inner_line cost set)) (ended (leaf_line side))) ∙ ap (λ (t : List ℕ). (old ++ ended (inner_line cost set)) ++ t) (sym (leaf-text side))) second
-over-down (suc (suc d)) cost side set path old own new E U small first second = absurd (omega arith)
+    ∙ inner-added claim (LeafNode side) path old (old ++ ended (inner_line claim.cost claim.labels)) own _ refl
+    (first ∙ sym (append_assoc old (ended (inner_line claim.cost claim.labels)) (ended (leaf_line side))) ∙ ap (λ (t : List ℕ). (old ++ ended (inner_line claim.cost claim.labels)) ++ t) (sym (leaf-text side))) second
+over-down (suc (suc d)) side claim path old own new E U small first second = absurd (omega arith)
 
 -- equal bits lead to the end from the same node
 same-digit : (d e : ℕ) → d < 2 → e < 2 → (d == 1) ≡ (e == 1) → d ≡ e
@@ -66,18 +67,18 @@ same-path side value other end (suc count) (suc many) same =
     let rest : path_to value count ≡ path_to other many = ap (drop 1) same in
     let counts : count ≡ many = omega (arith, path-length value count, path-length other many, ap length rest) in
     let digits = same-digit (digit value count) (digit other many) (omega arith) (omega arith) (ap (λ (l : List Bool). get_or l 0 false) same) in
-    λ i. node_over (digits i) (cost_above side end) (set_above side (set_of end) (counts i)) (same-path side value other end count many rest i) (Leaf side)
+    λ i. node_over (digits i) (claim_above side (claim_of end) (counts i)) (same-path side value other end count many rest i) (LeafNode side)
 
 -- the text of a chain is that of the node from which its bits lead to its end
 pub chain-added : (cost value count side : ℕ) (set : List ℕ) (nodes : List Node) (old new : List ℕ) → 0 < length nodes → ChainLine cost (path_to value count) side set ≡ first_line (first_node nodes)
-    → ((end : Node) → Opens (first_node (from_next_line nodes)) end → cost ≡ cost_above side end → new ≡ old ++ node_text (path_node side value count end))
+    → ((end : Node) → Opens (first_node (from_next_line nodes)) end → cost ≡ cost_above side (claim_of end) → new ≡ old ++ node_text (path_node side value count end))
     → (node : Node) → Opens (first_node nodes) node → new ≡ old ++ node_text node
 chain-added cost value count side set [] old new some line added node opens = absurd (omega arith)
-chain-added cost value count side set (Leaf n ∷ rest) old new some line added node opens = absurd cc
-chain-added cost value count side set (Inner price claimed lower upper ∷ rest) old new some line added node opens = absurd cc
-chain-added cost value count side set (Chain price claimed path beside end ∷ rest) old new some line added node opens =
+chain-added cost value count side set (LeafNode n ∷ rest) old new some line added node opens = absurd cc
+chain-added cost value count side set (InnerNode claimed lower upper ∷ rest) old new some line added node opens = absurd cc
+chain-added cost value count side set (ChainNode claimed path beside end ∷ rest) old new some line added node opens =
     let same : beside ≡ side = sym (same_Some side beside (ap side_of line)) in
-    added opens.end opens.below (ap (λ l. cost_of (node_of l)) line ∙ opens.cost_is ∙ ap (λ (n : ℕ). cost_above n opens.end) same)
+    added opens.end opens.below (ap (λ l. (claim_of (node_of l)).cost) line ∙ ap (λ (c : ClaimOf ℕ). c.cost) opens.claim_is ∙ ap (λ (n : ℕ). cost_above n (claim_of opens.end)) same)
     ∙ ap (λ (k : Node). old ++ node_text k)
     (same-path side value opens.value opens.end count opens.count (ap bits_of line ∙ opens.bits_are)
     ∙ ap (λ (n : ℕ). path_node n opens.value opens.count opens.end) (sym same) ∙ sym opens.node_is)

@@ -1,12 +1,13 @@
 -- The nodes of a run: what they claim, and how the run goes down them.
-use Rattle.std.proofs.Common.{◌≡◌, ◌≢◌, ℕ, zero, suc, ◌+◌, ◌^◌, ◌<◌, ◌≤◌, inl, inr, ◌∙◌, ◌||◌, ◌==◌, Bool, true, false, cond, List, [], ◌∷◌, Some, refl, sym, ap, subst, arith}
+use Rattle.std.proofs.Common.{◌≡◌, ◌≢◌, ℕ, zero, suc, ◌+◌, ◌^◌, ◌<◌, ◌≤◌, inl, inr, ◌∙◌, ◌||◌, ◌==◌, Bool, true, false, cond, List, [], ◌∷◌, Some, nat_eq, refl, sym, ap, subst, arith}
 use Rattle.std.specs.List.{list_any}
 use Rattle.std.proofs.lemmas.Bool.{cases_lt, cond_above, cond_below, eq-eqb, eqb-true, ne_eqb}
 use Rattle.pmap_cert.specs.CertificateText.{IsAscending}
-use Rattle.pmap_cert.specs.Node.{Chain, Inner, Leaf, Node, cost_of, label_of, set_of}
-use Rattle.pmap_cert.specs.Inner.{bits_down, end_down, is_leaf}
+use Rattle.pmap_cert.specs.CertificateModel.{ChainNode, ClaimOf, InnerNode, LeafNode, claim_of}
+use Rattle.pmap_cert.specs.Compacting.{is_side, leaf_label, run_bits, run_end}
+use Rattle.pmap_cert.specs.Node.{Node}
 use Rattle.pmap_cert.specs.Paths.{digit}
-use Rattle.pmap_minimise.specs.Opened.{cost_above, node_over, set_above, path_node, with_number}
+use Rattle.pmap_minimise.specs.Opened.{claim_above, node_over, set_above, path_node, with_number}
 use Rattle.pmap_minimise.specs.Numbers.{IsExact, IsExactBy, common_numbers, has_number}
 use Rattle.pmap_minimise.proofs.Merged.{lacks}
 
@@ -76,126 +77,113 @@ with-ascending b k n (m ∷ ms) ascending least below none =
     rest true y e = absurd (true-not e)
     rest false y e = e
 
--- The cost and the set that the node of a run with `bits` bits below it claims.
+-- the claim of the node of a run with `bits` bits below it
 module _ (side : ℕ) (end : Node) where
-  abbrev path_cost : ℕ → ℕ
-  path_cost zero = cost_of end
-  path_cost (suc bits) = cost_above side end
+  abbrev claim_over : ℕ → ClaimOf ℕ
+  claim_over zero = claim_of end
+  claim_over (suc bits) = claim_above side (claim_of end) bits
 
-  abbrev path_set : ℕ → List ℕ
-  path_set zero = set_of end
-  path_set (suc bits) = set_above side (set_of end) bits
+  over-claim : (d : ℕ) (claim : ClaimOf ℕ) (x y : Node) → claim_of (node_over d claim x y) ≡ claim
+  over-claim zero claim x y = refl
+  over-claim (suc d) claim x y = refl
 
-  over-cost : (d cost : ℕ) (set : List ℕ) (x y : Node) → cost_of (node_over d cost set x y) ≡ cost
-  over-cost zero cost set x y = refl
-  over-cost (suc d) cost set x y = refl
-
-  over-set : (d cost : ℕ) (set : List ℕ) (x y : Node) → set_of (node_over d cost set x y) ≡ set
-  over-set zero cost set x y = refl
-  over-set (suc d) cost set x y = refl
-
-  pub path-cost : (value bits : ℕ) → cost_of (path_node side value bits end) ≡ path_cost bits
-  path-cost value zero = refl
-  path-cost value (suc bits) = over-cost (digit value bits) (cost_above side end) (set_above side (set_of end) bits) (path_node side value bits end) (Leaf side)
-
-  pub path-set : (value bits : ℕ) → set_of (path_node side value bits end) ≡ path_set bits
-  path-set value zero = refl
-  path-set value (suc bits) = over-set (digit value bits) (cost_above side end) (set_above side (set_of end) bits) (path_node side value bits end) (Leaf side)
+  pub path-claim : (value bits : ℕ) → claim_of (path_node side value bits end) ≡ claim_over bits
+  path-claim value zero = refl
+  path-claim value (suc bits) = over-claim (digit value bits) (claim_above side (claim_of end) bits) (path_node side value bits end) (LeafNode side)
 
 -- What the nodes of a run claim.
-module _ (side : ℕ) (fits : side < 2 ^ 32) (end : Node) (ascending : IsAscending (2 ^ 32) 0 (set_of end)) where
+module _ (side : ℕ) (fits : side < 2 ^ 32) (end : Node) (ascending : IsAscending (2 ^ 32) 0 (claim_of end).labels) where
+  abbrev set : List ℕ
+  set = (claim_of end).labels
+
+  abbrev leaf : ClaimOf ℕ
+  leaf = claim_of (LeafNode side)
+
   one-ascending : IsAscending (2 ^ 32) 0 (side ∷ [])
   one-ascending = (omega arith, fits, tt)
 
-  abbrev above : ℕ → List ℕ
-  above more = set_above side (set_of end) more
+  abbrev above : ℕ → ClaimOf ℕ
+  above more = claim_above side (claim_of end) more
 
-  pub above-ascending : (more : ℕ) → IsAscending (2 ^ 32) 0 (above more)
-  above-ascending zero = by (has_number (set_of end) side) refl
+  pub above-ascending : (more : ℕ) → IsAscending (2 ^ 32) 0 (above more).labels
+  above-ascending zero = by (has_number set side) refl
     where
-      by : (t : Bool) → has_number (set_of end) side ≡ t → IsAscending (2 ^ 32) 0 (cond t (side ∷ []) (with_number side (set_of end)))
+      by : (t : Bool) → has_number set side ≡ t → IsAscending (2 ^ 32) 0 (cond t (side ∷ []) (with_number side set))
       by true e = one-ascending
-      by false e = with-ascending (2 ^ 32) 0 side (set_of end) ascending (omega arith) fits e
+      by false e = with-ascending (2 ^ 32) 0 side set ascending (omega arith) fits e
   above-ascending (suc more) = one-ascending
 
-  exact-low : (bits : ℕ) → IsExactBy (path_cost side end bits) 0 (path_set side end bits) (side ∷ []) (common_numbers (path_set side end bits) (side ∷ [])) (cost_above side end) (above bits)
+  -- the claim right above the end, by whether the end's set has the side label
+  abbrev above_by : Bool → ClaimOf ℕ
+  above_by t = record { cost = cond t (claim_of end).cost ((claim_of end).cost + 1); labels = cond t (side ∷ []) (with_number side set) }
+
+  exact-low : (bits : ℕ) → IsExact (claim_over side end bits) leaf (above bits)
   exact-low zero =
-      subst (λ (shared : List ℕ). IsExactBy (cost_of end) 0 (set_of end) (side ∷ []) shared (cost_above side end) (above zero)) (sym (common-one (2 ^ 32) 0 side (set_of end) ascending))
-      (by (has_number (set_of end) side) refl)
+      subst (λ (shared : List ℕ). IsExactBy (claim_of end) leaf shared (above zero)) (sym (common-one (2 ^ 32) 0 side set ascending)) (by (has_number set side) refl)
     where
-      by : (t : Bool) → has_number (set_of end) side ≡ t
-          → IsExactBy (cost_of end) 0 (set_of end) (side ∷ []) (only_if t side) (cond t (cost_of end) (cost_of end + 1)) (cond t (side ∷ []) (with_number side (set_of end)))
+      by : (t : Bool) → has_number set side ≡ t → IsExactBy (claim_of end) leaf (only_if t side) (above_by t)
       by true e = (omega arith, refl)
       by false e = (
         omega arith,
-        λ p. with-any p side (set_of end) ∙ swap (p side) (list_any p (set_of end)),
-        with-ascending (2 ^ 32) 0 side (set_of end) ascending (omega arith) fits e,
+        λ p. with-any p side set ∙ swap (p side) (list_any p set),
+        with-ascending (2 ^ 32) 0 side set ascending (omega arith) fits e,
       )
         where
           swap : (x y : Bool) → (x || y) ≡ (y || (x || false))
           swap x y = grind arith
   exact-low (suc bits) =
-      subst (λ (shared : List ℕ). IsExactBy (cost_above side end) 0 (above bits) (side ∷ []) shared (cost_above side end) (side ∷ []))
-      (sym (common-one (2 ^ 32) 0 side (above bits) (above-ascending bits) ∙ ap (λ (t : Bool). only_if t side) (above-has side (set_of end) bits)))
+      subst (λ (shared : List ℕ). IsExactBy (above bits) leaf shared (above (suc bits)))
+      (sym (common-one (2 ^ 32) 0 side (above bits).labels (above-ascending bits) ∙ ap (λ (t : Bool). only_if t side) (above-has side set bits)))
       (omega arith, refl)
 
-  exact-high : (bits : ℕ) → IsExactBy 0 (path_cost side end bits) (side ∷ []) (path_set side end bits) (common_numbers (side ∷ []) (path_set side end bits)) (cost_above side end) (above bits)
-  exact-high zero = by (has_number (set_of end) side) refl
+  exact-high : (bits : ℕ) → IsExact leaf (claim_over side end bits) (above bits)
+  exact-high zero = by (has_number set side) refl
     where
-      by : (t : Bool) → has_number (set_of end) side ≡ t
-          → IsExactBy 0 (cost_of end) (side ∷ []) (set_of end) (only_if t side) (cond t (cost_of end) (cost_of end + 1)) (cond t (side ∷ []) (with_number side (set_of end)))
+      by : (t : Bool) → has_number set side ≡ t → IsExactBy leaf (claim_of end) (only_if t side) (above_by t)
       by true e = (omega arith, refl)
       by false e = (
         omega arith,
-        λ p. with-any p side (set_of end) ∙ add (p side) (list_any p (set_of end)),
-        with-ascending (2 ^ 32) 0 side (set_of end) ascending (omega arith) fits e,
+        λ p. with-any p side set ∙ add (p side) (list_any p set),
+        with-ascending (2 ^ 32) 0 side set ascending (omega arith) fits e,
       )
         where
           add : (x y : Bool) → (x || y) ≡ ((x || false) || y)
           add x y = grind arith
   exact-high (suc bits) =
-      subst (λ (t : Bool). IsExactBy 0 (cost_above side end) (side ∷ []) (above bits) (only_if t side) (cost_above side end) (side ∷ []))
-      (sym (above-has side (set_of end) bits)) (omega arith, refl)
+      subst (λ (t : Bool). IsExactBy leaf (above bits) (only_if t side) (above (suc bits))) (sym (above-has side set bits)) (omega arith, refl)
 
-  abbrev path : ℕ → ℕ → Node
-  path value bits = path_node side value bits end
+  pub path-low : (value bits : ℕ) → IsExact (claim_of (path_node side value bits end)) leaf (above bits)
+  path-low value bits = subst (λ (c : ClaimOf ℕ). IsExact c leaf (above bits)) (sym (path-claim side end value bits)) (exact-low bits)
 
-  pub path-low : (value bits : ℕ) → IsExact (path value bits) (Leaf side) (cost_above side end) (above bits)
-  path-low value bits =
-      subst (λ (cost : ℕ). IsExactBy cost 0 (set_of (path value bits)) (side ∷ []) (common_numbers (set_of (path value bits)) (side ∷ [])) (cost_above side end) (above bits)) (sym (path-cost side end value bits))
-      (subst (λ (set : List ℕ). IsExactBy (path_cost side end bits) 0 set (side ∷ []) (common_numbers set (side ∷ [])) (cost_above side end) (above bits)) (sym (path-set side end value bits)) (exact-low bits))
-
-  pub path-high : (value bits : ℕ) → IsExact (Leaf side) (path value bits) (cost_above side end) (above bits)
-  path-high value bits =
-      subst (λ (cost : ℕ). IsExactBy 0 cost (side ∷ []) (set_of (path value bits)) (common_numbers (side ∷ []) (set_of (path value bits))) (cost_above side end) (above bits)) (sym (path-cost side end value bits))
-      (subst (λ (set : List ℕ). IsExactBy 0 (path_cost side end bits) (side ∷ []) set (common_numbers (side ∷ []) set) (cost_above side end) (above bits)) (sym (path-set side end value bits)) (exact-high bits))
+  pub path-high : (value bits : ℕ) → IsExact leaf (claim_of (path_node side value bits end)) (above bits)
+  path-high value bits = subst (λ (c : ClaimOf ℕ). IsExact leaf c (above bits)) (sym (path-claim side end value bits)) (exact-high bits)
 
 -- a node without the side label is no leaf with it
-pub no-leaf : (side : ℕ) (node : Node) → (label_of node ≡ Some side → ⊥) → is_leaf side node ≡ false
-no-leaf side (Leaf number) other = ne_eqb number side (λ same. other (ap (λ (n : ℕ). Some n) same))
-no-leaf side (Inner cost set lower upper) other = refl
-no-leaf side (Chain cost set bits s end) other = refl
+pub no-leaf : (side : ℕ) (node : Node) → (leaf_label node ≡ Some side → ⊥) → is_side nat_eq side node ≡ false
+no-leaf side (LeafNode number) other = ne_eqb number side (λ same. other (ap (λ (n : ℕ). Some n) same))
+no-leaf side (InnerNode claim lower upper) other = refl
+no-leaf side (ChainNode claim bits s end) other = refl
 
-pub down-high : (side cost : ℕ) (set : List ℕ) (upper : Node)
-    → (bits_down side (Inner cost set (Leaf side) upper) ≡ true ∷ bits_down side upper) × (end_down side (Inner cost set (Leaf side) upper) ≡ end_down side upper)
-down-high side cost set upper = (
-  (λ i. cond (eq-eqb side side refl i) (true ∷ bits_down side upper) (cond (is_leaf side upper) (false ∷ bits_down side (Leaf side)) [])),
-  (λ i. cond (eq-eqb side side refl i) (end_down side upper) (cond (is_leaf side upper) (end_down side (Leaf side)) (Inner cost set (Leaf side) upper))),
+pub down-high : (side : ℕ) (claim : ClaimOf ℕ) (upper : Node)
+    → (run_bits nat_eq side (InnerNode claim (LeafNode side) upper) ≡ true ∷ run_bits nat_eq side upper) × (run_end nat_eq side (InnerNode claim (LeafNode side) upper) ≡ run_end nat_eq side upper)
+down-high side claim upper = (
+  (λ i. cond (eq-eqb side side refl i) (true ∷ run_bits nat_eq side upper) (cond (is_side nat_eq side upper) (false ∷ run_bits nat_eq side (LeafNode side)) [])),
+  (λ i. cond (eq-eqb side side refl i) (run_end nat_eq side upper) (cond (is_side nat_eq side upper) (run_end nat_eq side (LeafNode side)) (InnerNode claim (LeafNode side) upper))),
 )
 
-pub down-low : (side cost : ℕ) (set : List ℕ) (lower : Node) → (label_of lower ≡ Some side → ⊥)
-    → (bits_down side (Inner cost set lower (Leaf side)) ≡ false ∷ bits_down side lower) × (end_down side (Inner cost set lower (Leaf side)) ≡ end_down side lower)
-down-low side cost set lower other =
+pub down-low : (side : ℕ) (claim : ClaimOf ℕ) (lower : Node) → (leaf_label lower ≡ Some side → ⊥)
+    → (run_bits nat_eq side (InnerNode claim lower (LeafNode side)) ≡ false ∷ run_bits nat_eq side lower) × (run_end nat_eq side (InnerNode claim lower (LeafNode side)) ≡ run_end nat_eq side lower)
+down-low side claim lower other =
     let none = no-leaf side lower other in (
-      (λ i. cond (none i) (true ∷ bits_down side (Leaf side)) (cond (eq-eqb side side refl i) (false ∷ bits_down side lower) [])),
-      (λ i. cond (none i) (end_down side (Leaf side)) (cond (eq-eqb side side refl i) (end_down side lower) (Inner cost set lower (Leaf side)))),
+      (λ i. cond (none i) (true ∷ run_bits nat_eq side (LeafNode side)) (cond (eq-eqb side side refl i) (false ∷ run_bits nat_eq side lower) [])),
+      (λ i. cond (none i) (run_end nat_eq side (LeafNode side)) (cond (eq-eqb side side refl i) (run_end nat_eq side lower) (InnerNode claim lower (LeafNode side)))),
     )
 
-pub down-none : (side cost : ℕ) (set : List ℕ) (lower upper : Node) → (label_of lower ≡ Some side → ⊥) → (label_of upper ≡ Some side → ⊥)
-    → (bits_down side (Inner cost set lower upper) ≡ []) × (end_down side (Inner cost set lower upper) ≡ Inner cost set lower upper)
-down-none side cost set lower upper low high =
+pub down-none : (side : ℕ) (claim : ClaimOf ℕ) (lower upper : Node) → (leaf_label lower ≡ Some side → ⊥) → (leaf_label upper ≡ Some side → ⊥)
+    → (run_bits nat_eq side (InnerNode claim lower upper) ≡ []) × (run_end nat_eq side (InnerNode claim lower upper) ≡ InnerNode claim lower upper)
+down-none side claim lower upper low high =
     let first = no-leaf side lower low in
     let second = no-leaf side upper high in (
-      (λ i. cond (first i) (true ∷ bits_down side upper) (cond (second i) (false ∷ bits_down side lower) [])),
-      (λ i. cond (first i) (end_down side upper) (cond (second i) (end_down side lower) (Inner cost set lower upper))),
+      (λ i. cond (first i) (true ∷ run_bits nat_eq side upper) (cond (second i) (false ∷ run_bits nat_eq side lower) [])),
+      (λ i. cond (first i) (run_end nat_eq side upper) (cond (second i) (run_end nat_eq side lower) (InnerNode claim lower upper))),
     )

@@ -9,16 +9,16 @@ use Rattle.pmap_text.specs.declared.label.LabelId.{LabelId}
 use Rattle.label_trie.specs.Parts.{IsHalf}
 use Rattle.pmap_cert.specs.FormatReading.{ChainLine, InnerLine, LeafLine}
 use Rattle.pmap_cert.proofs.NodeWalk.{bits_of}
-use Rattle.pmap_cert.specs.Node.{Chain, Inner, Leaf, Node, first_line, first_node, from_next_line, lines_of, set_of}
+use Rattle.pmap_cert.specs.CertificateModel.{ChainNode, ClaimOf, InnerNode, LeafNode, claim_of}
+use Rattle.pmap_cert.specs.Node.{Node, first_line, first_node, from_next_line, lines_of}
 use Rattle.pmap_cert.specs.Paths.{LeadsTo, path_to}
 use Rattle.pmap_cert.proofs.Paths.{path-length}
 use Rattle.pmap_minimise.specs.Listing.{AddsEntries, IsListedBy}
 use Rattle.pmap_minimise.specs.Numbers.{IsOwn, IsSound, numbers_of}
 use Rattle.pmap_minimise.specs.Opened.{Opens}
-use Rattle.pmap_minimise.proofs.BuiltNodes.{opens-claim}
 use Rattle.pmap_minimise.proofs.ChainEntries.{chain-adds, path-deep, sound-passes}
 use Rattle.pmap_minimise.proofs.Entered.{inner-adds, leaf-adds}
-use Rattle.pmap_minimise.proofs.Joined.{half-room, set-some}
+use Rattle.pmap_minimise.proofs.Joined.{half-room}
 
 -- a block whose node is read later, and the label that it inherits
 abbrev pub Due : Type 0
@@ -66,9 +66,9 @@ lines_left (node ∷ nodes) = length (lines_of node) + lines_left nodes
 
 pub next-left : (nodes : List Node) → 0 < length nodes → lines_left (from_next_line nodes) < lines_left nodes
 next-left [] some = absurd (omega arith)
-next-left (Leaf n ∷ rest) some = omega arith
-next-left (Inner cost set lower upper ∷ rest) some = omega (arith, length-append (lines_of lower) (lines_of upper))
-next-left (Chain cost set bits side end ∷ rest) some = omega arith
+next-left (LeafNode n ∷ rest) some = omega arith
+next-left (InnerNode claim lower upper ∷ rest) some = omega (arith, length-append (lines_of lower) (lines_of upper))
+next-left (ChainNode claim bits side end ∷ rest) some = omega arith
 
 pub due-some : (nodes : List Node) (due : Due) (dues : List Due) → AreDue nodes (due ∷ dues) → 0 < length nodes
 due-some [] due dues are = absurd are
@@ -79,31 +79,14 @@ none-due [] dues none are = refl
 none-due (node ∷ nodes) [] none are = absurd are
 none-due (node ∷ nodes) (due ∷ dues) none are = absurd cc
 
--- the labels of a node are the set of its line
-pub own-some : (nodes : List Node) (due : Due) (dues : List Due) → AreDue nodes (due ∷ dues) → 0 < length (set_of (first_node nodes))
-own-some [] due dues are = absurd are
-own-some (node ∷ nodes) due dues are =
-    let claim = opens-claim node are.0.opened are.0.opens in
-    rw claim.1 (set-some are.0.opened (room_of due.0) are.0.sound)
-
 module _ (block : Block) (inherited : Option LabelId) (dues : List Due) where
-  -- a divided block has two addresses or more
-  pub inner-fits : (cost : ℕ) (set : List ℕ) (nodes : List Node) → AreDue nodes ((block, inherited) ∷ dues) → InnerLine cost set ≡ first_line (first_node nodes) → block.len < width_of block.version
-  inner-fits cost set [] are line = absurd are
-  inner-fits cost set (Leaf m ∷ rest) are line = absurd cc
-  inner-fits cost set (Chain price claimed bits beside end ∷ rest) are line = absurd cc
-  inner-fits cost set (Inner price claimed left right ∷ rest) are line =
-      let opens = are.0.opens in
-      let room = (sound-passes price claimed opens.lower opens.upper (room_of block) (subst (λ (k : Node). IsSound k (room_of block)) opens.node_is are.0.sound)).1 in
-      omega arith
-
   -- the end of a chain
   pub end-at : (cost value count side : ℕ) (set : List ℕ) (nodes : List Node) → AreDue nodes ((block, inherited) ∷ dues) → ChainLine cost (path_to value count) side set ≡ first_line (first_node nodes)
       → IsEndAt nodes count (room_of block)
   end-at cost value count side set [] are line = absurd are
-  end-at cost value count side set (Leaf m ∷ rest) are line = absurd cc
-  end-at cost value count side set (Inner price claimed left right ∷ rest) are line = absurd cc
-  end-at cost value count side set (Chain price claimed bits beside end ∷ rest) are line =
+  end-at cost value count side set (LeafNode m ∷ rest) are line = absurd cc
+  end-at cost value count side set (InnerNode claimed left right ∷ rest) are line = absurd cc
+  end-at cost value count side set (ChainNode claimed bits beside end ∷ rest) are line =
       let opens = are.0.opens in
       let deep = path-deep IsSound sound-passes beside opens.value opens.count opens.end (room_of block) (subst (λ (n : Node). IsSound n (room_of block)) opens.node_is are.0.sound) in
       let room = deep.room_is in
@@ -114,10 +97,10 @@ module _ (block : Block) (inherited : Option LabelId) (dues : List Due) where
       }
 
   module _ (old middle : List Entry) (ids : List LabelId) (id : LabelId) (own : IsOwn ids block inherited old middle id) where
-    pub leaf-read : (n : ℕ) (nodes : List Node) → AreDue nodes ((block, inherited) ∷ dues) → numbers_of ids ≡ set_of (first_node nodes) → LeafLine n ≡ first_line (first_node nodes)
+    pub leaf-read : (n : ℕ) (nodes : List Node) → AreDue nodes ((block, inherited) ∷ dues) → numbers_of ids ≡ (claim_of (first_node nodes)).labels → LeafLine n ≡ first_line (first_node nodes)
         → IsReadTo nodes ((block, inherited) ∷ dues) old (from_next_line nodes) dues middle
     leaf-read n [] are set line = absurd are
-    leaf-read n (Leaf m ∷ rest) are set line = record {
+    leaf-read n (LeafNode m ∷ rest) are set line = record {
       due = are.1;
       adds = λ new more. (
         middle,
@@ -126,20 +109,20 @@ module _ (block : Block) (inherited : Option LabelId) (dues : List Due) where
         more,
       );
     }
-    leaf-read n (Inner cost claimed lower upper ∷ rest) are set line = absurd cc
-    leaf-read n (Chain cost claimed bits side end ∷ rest) are set line = absurd cc
+    leaf-read n (InnerNode claimed lower upper ∷ rest) are set line = absurd cc
+    leaf-read n (ChainNode claimed bits side end ∷ rest) are set line = absurd cc
 
     pub inner-read : (low high : Block) → IsHalf 0 block low → IsHalf 1 block high → (cost : ℕ) (line_set : List ℕ) (nodes : List Node) → AreDue nodes ((block, inherited) ∷ dues)
-        → numbers_of ids ≡ set_of (first_node nodes) → InnerLine cost line_set ≡ first_line (first_node nodes)
+        → numbers_of ids ≡ (claim_of (first_node nodes)).labels → InnerLine cost line_set ≡ first_line (first_node nodes)
         → IsReadTo nodes ((block, inherited) ∷ dues) old (from_next_line nodes) ((low, Some id) ∷ (high, Some id) ∷ dues) middle
     inner-read low high low_half high_half cost line_set [] are set line = absurd are
-    inner-read low high low_half high_half cost line_set (Leaf m ∷ rest) are set line = absurd cc
-    inner-read low high low_half high_half cost line_set (Chain price claimed bits side end ∷ rest) are set line = absurd cc
-    inner-read low high low_half high_half cost line_set (Inner price claimed left right ∷ rest) are set line =
+    inner-read low high low_half high_half cost line_set (LeafNode m ∷ rest) are set line = absurd cc
+    inner-read low high low_half high_half cost line_set (ChainNode claimed bits side end ∷ rest) are set line = absurd cc
+    inner-read low high low_half high_half cost line_set (InnerNode claimed left right ∷ rest) are set line =
         let opens = are.0.opens in
         let low_room = half-room 0 block low low_half in
         let high_room = half-room 1 block high high_half in
-        let sound = subst (IsSound (Inner price claimed opens.lower opens.upper)) low_room (subst (λ (k : Node). IsSound k (room_of block)) opens.node_is are.0.sound) in
+        let sound = subst (IsSound (InnerNode claimed opens.lower opens.upper)) low_room (subst (λ (k : Node). IsSound k (room_of block)) opens.node_is are.0.sound) in
         let level : room_of low ≡ room_of high = omega arith in
         record {
           due = (
@@ -149,20 +132,20 @@ module _ (block : Block) (inherited : Option LabelId) (dues : List Due) where
           adds = λ new more. (
             more.2.0,
             (λ opened opens. subst (λ (k : Node). AddsEntries k block inherited old more.2.0) (sym opens.node_is)
-                (inner-adds price claimed opens.lower opens.upper block low high inherited old middle more.0 more.2.0 ids id set own low_half high_half
+                (inner-adds claimed opens.lower opens.upper block low high inherited old middle more.0 more.2.0 ids id set own low_half high_half
                 (more.1 opens.lower opens.low) (more.2.1 opens.upper opens.high))),
             more.2.2,
           );
         }
 
     pub chain-read : (last : Block) (cost value count side : ℕ) (line_set : List ℕ) (nodes : List Node) → LeadsTo block last (path_to value count) → AreDue nodes ((block, inherited) ∷ dues)
-        → numbers_of ids ≡ set_of (first_node nodes) → ChainLine cost (path_to value count) side line_set ≡ first_line (first_node nodes)
+        → numbers_of ids ≡ (claim_of (first_node nodes)).labels → ChainLine cost (path_to value count) side line_set ≡ first_line (first_node nodes)
         → IsReadTo nodes ((block, inherited) ∷ dues) old (from_next_line nodes) ((last, Some id) ∷ dues) middle
     chain-read last cost value count side line_set [] down are set line = absurd are
-    chain-read last cost value count side line_set (Leaf m ∷ rest) down are set line = absurd cc
-    chain-read last cost value count side line_set (Inner price claimed left right ∷ rest) down are set line = absurd cc
-    chain-read last cost value count side line_set (Chain price claimed bits beside end ∷ rest) down are set line =
-        let ends = end-at cost value count side line_set (Chain price claimed bits beside end ∷ rest) are line in
+    chain-read last cost value count side line_set (LeafNode m ∷ rest) down are set line = absurd cc
+    chain-read last cost value count side line_set (InnerNode claimed left right ∷ rest) down are set line = absurd cc
+    chain-read last cost value count side line_set (ChainNode claimed bits beside end ∷ rest) down are set line =
+        let ends = end-at cost value count side line_set (ChainNode claimed bits beside end ∷ rest) are line in
         let left = ends.room_is in
         let len = down.len in
         let width : width_of last.version ≡ width_of block.version = ap width_of down.version in
@@ -172,7 +155,7 @@ module _ (block : Block) (inherited : Option LabelId) (dues : List Due) where
           adds = λ new more. (
             more.0,
             (λ opened opens. subst (λ (k : Node). AddsEntries k block inherited old more.0) (sym opens.node_is)
-                (chain-adds beside opens.value opens.count opens.end opens.long block last inherited old middle more.0 ids id (set ∙ opens.set_is) own
+                (chain-adds beside opens.value opens.count opens.end opens.long block last inherited old middle more.0 ids id (set ∙ ap (λ (c : ClaimOf ℕ). c.labels) opens.claim_is) own
                 (subst (LeadsTo block last) (ap bits_of line ∙ opens.bits_are) down) (more.1 opens.end opens.below))),
             more.2,
           );

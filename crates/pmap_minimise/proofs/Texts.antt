@@ -12,14 +12,14 @@ use Rattle.pmap_text.specs.MapModel.{Label}
 use Rattle.pmap_text.specs.MapText.{text_at}
 use Rattle.pmap_text.specs.declared.label.LabelId.{LabelId}
 use Rattle.pmap_cert.specs.CertificateText.{IsAscending}
-use Rattle.pmap_cert.specs.CertificateModel.{Claim, has, IsSameClaim, exact_claim, exact_claim_by}
+use Rattle.pmap_cert.specs.CertificateModel.{Claim, ClaimOf, has, IsSameClaim, exact_claim, exact_claim_by, map_claim}
 use Rattle.pmap_cert.specs.Acceptance.{has_inherited, least_label, in_table_order}
 use Rattle.pmap_cert.proofs.Filters.{find-filter}
 use Rattle.pmap_cert.proofs.InTableOrder.{listed-known}
 use Rattle.pmap_cert.proofs.Sets.{bytes_eq-same, has-append}
 use Rattle.pmap_cert.proofs.Tables.{ascending-filter, label-same}
 use Rattle.pmap_minimise.specs.Listing.{text_of}
-use Rattle.pmap_minimise.specs.Numbers.{IsExactBy, IsUnion, common_numbers, has_number, keeps, numbers_of}
+use Rattle.pmap_minimise.specs.Numbers.{IsExact, IsExactBy, IsUnion, common_numbers, has_number, keeps, numbers_of}
 use Rattle.pmap_minimise.proofs.Merged.{lacks}
 
 -- ascending numbers that are all below `count` ascend below it
@@ -35,36 +35,34 @@ ascending-within count low (n ∷ ns) ascending =
     or_from (nat_le count n) (list_any (λ m. nat_le count m) ns) (lt-leb count n ascending.1) (ascending-within count (n + 1) ns ascending.2)
 
 -- the exact set of two ascending sets ascends, and has a number if one of the sets has
-pub exact-ascending : (count low_cost high_cost : ℕ) (low high : List ℕ) (cost : ℕ) (set : List ℕ) → IsAscending count 0 low → IsAscending count 0 high
-    → IsExactBy low_cost high_cost low high (common_numbers low high) cost set → IsAscending count 0 set
-exact-ascending count low_cost high_cost low high cost set low_ascending high_ascending exact =
-    by (common_numbers low high) (ascending-filter count 0 (has_number high) low low_ascending) exact
+pub exact-ascending : (count : ℕ) (low high claim : ClaimOf ℕ) → IsAscending count 0 low.labels → IsAscending count 0 high.labels → IsExact low high claim → IsAscending count 0 claim.labels
+exact-ascending count low high claim low_ascending high_ascending exact =
+    by (common_numbers low.labels high.labels) (ascending-filter count 0 (has_number high.labels) low.labels low_ascending) exact
   where
-    by : (ns : List ℕ) → IsAscending count 0 ns → IsExactBy low_cost high_cost low high ns cost set → IsAscending count 0 set
+    by : (ns : List ℕ) → IsAscending count 0 ns → IsExactBy low high ns claim → IsAscending count 0 claim.labels
     by [] ascending exact =
-        ascending-bounded (2 ^ 32) count 0 set exact.2
+        ascending-bounded (2 ^ 32) count 0 claim.labels exact.2
         (exact.1 (λ n. nat_le count n)
-        ∙ or_from (list_any (λ n. nat_le count n) low) (list_any (λ n. nat_le count n) high) (ascending-within count 0 low low_ascending) (ascending-within count 0 high high_ascending))
+        ∙ or_from (list_any (λ n. nat_le count n) low.labels) (list_any (λ n. nat_le count n) high.labels) (ascending-within count 0 low.labels low_ascending)
+        (ascending-within count 0 high.labels high_ascending))
     by (n ∷ ns) ascending exact = subst (λ (s : List ℕ). IsAscending count 0 s) (sym exact.1) ascending
 
 union-some : (m : ℕ) (ms high set : List ℕ) → IsUnion (m ∷ ms) high set → 0 < length set
 union-some m ms high [] union = absurd (false≢true (union (λ n. true)))
 union-some m ms high (n ∷ ns) union = omega arith
 
-pub exact-some : (low_cost high_cost : ℕ) (low high : List ℕ) (cost : ℕ) (set : List ℕ) → 0 < length low
-    → IsExactBy low_cost high_cost low high (common_numbers low high) cost set → 0 < length set
-exact-some low_cost high_cost low high cost set some exact = by (common_numbers low high) low some exact
+pub exact-some : (low high claim : ClaimOf ℕ) → 0 < length low.labels → IsExact low high claim → 0 < length claim.labels
+exact-some low high claim some exact = by (common_numbers low.labels high.labels) low.labels some exact
   where
-    by : (ns : List ℕ) (low : List ℕ) → 0 < length low → IsExactBy low_cost high_cost low high ns cost set → 0 < length set
+    by : (ns : List ℕ) (ls : List ℕ) → 0 < length ls → IsExactBy (record { cost = low.cost; labels = ls }) high ns claim → 0 < length claim.labels
     by [] [] some exact = absurd (omega arith)
-    by [] (m ∷ ms) some exact = union-some m ms high set exact.1
-    by (n ∷ ns) low some exact = subst (λ (s : List ℕ). 0 < length s) (sym exact.1) (omega arith)
+    by [] (m ∷ ms) some exact = union-some m ms high.labels claim.labels exact.1
+    by (n ∷ ns) ls some exact = subst (λ (s : List ℕ). 0 < length s) (sym exact.1) (omega arith)
 
-pub exact-cost : (low_cost high_cost : ℕ) (low high : List ℕ) (cost : ℕ) (set : List ℕ)
-    → IsExactBy low_cost high_cost low high (common_numbers low high) cost set → cost ≤ low_cost + high_cost + 1
-exact-cost low_cost high_cost low high cost set exact = by (common_numbers low high) exact
+pub exact-cost : (low high claim : ClaimOf ℕ) → IsExact low high claim → claim.cost ≤ low.cost + high.cost + 1
+exact-cost low high claim exact = by (common_numbers low.labels high.labels) exact
   where
-    by : (ns : List ℕ) → IsExactBy low_cost high_cost low high ns cost set → cost ≤ low_cost + high_cost + 1
+    by : (ns : List ℕ) → IsExactBy low high ns claim → claim.cost ≤ low.cost + high.cost + 1
     by [] exact = let e = exact.0 in omega arith
     by (n ∷ ns) exact = let e = exact.0 in omega arith
 
@@ -103,31 +101,24 @@ module _ (table : List Label) (ok : IsLabelTable table) where
       (filter (has (map (text_at table) hs)) (map (text_at table) ls)) (common_numbers ls hs)
       (texts-common (n + 1) low ls hs ascending.2 also)
 
+  abbrev texts : ClaimOf ℕ → Claim
+  texts claim = map_claim (text_at table) claim
+
   -- the exact claim by numbers is the exact claim of the texts
-  same_claim : (low_cost high_cost : ℕ) (ls hs : List ℕ) (cost : ℕ) (set : List ℕ) → IsAscending (length table) 0 ls → IsAscending (length table) 0 hs
-      → IsExactBy low_cost high_cost ls hs (common_numbers ls hs) cost set
-      → IsSameClaim (record { cost = cost; labels = map (text_at table) set })
-      (exact_claim (record { cost = low_cost; labels = map (text_at table) ls }) (record { cost = high_cost; labels = map (text_at table) hs }))
-  same_claim low_cost high_cost ls hs cost set ascending also exact =
-      subst (λ (common : List Label). IsSameClaim claim (exact_claim_by lower upper common)) (sym (texts-common 0 0 ls hs ascending also)) (by (common_numbers ls hs) exact)
+  same_claim : (low high claim : ClaimOf ℕ) → IsAscending (length table) 0 low.labels → IsAscending (length table) 0 high.labels → IsExact low high claim
+      → IsSameClaim (texts claim) (exact_claim (texts low) (texts high))
+  same_claim low high claim ascending also exact =
+      subst (λ (common : List Label). IsSameClaim (texts claim) (exact_claim_by (texts low) (texts high) common)) (sym (texts-common 0 0 low.labels high.labels ascending also))
+      (by (common_numbers low.labels high.labels) exact)
     where
-      claim : Claim
-      claim = record { cost = cost; labels = map (text_at table) set }
-
-      lower : Claim
-      lower = record { cost = low_cost; labels = map (text_at table) ls }
-
-      upper : Claim
-      upper = record { cost = high_cost; labels = map (text_at table) hs }
-
-      union : (x : Label) → IsUnion ls hs set → has (map (text_at table) set) x ≡ has (map (text_at table) ls ++ map (text_at table) hs) x
+      union : (x : Label) → IsUnion low.labels high.labels claim.labels → has (texts claim).labels x ≡ has ((texts low).labels ++ (texts high).labels) x
       union x all =
-          any-texts table (bytes_eq x) set ∙ all (λ n. bytes_eq x (text_at table n))
-          ∙ ap (λ (t : Bool). t || list_any (λ n. bytes_eq x (text_at table n)) hs) (sym (any-texts table (bytes_eq x) ls))
-          ∙ ap (λ (t : Bool). has (map (text_at table) ls) x || t) (sym (any-texts table (bytes_eq x) hs))
-          ∙ sym (has-append (map (text_at table) ls) (map (text_at table) hs) x)
+          any-texts table (bytes_eq x) claim.labels ∙ all (λ n. bytes_eq x (text_at table n))
+          ∙ ap (λ (t : Bool). t || list_any (λ n. bytes_eq x (text_at table n)) high.labels) (sym (any-texts table (bytes_eq x) low.labels))
+          ∙ ap (λ (t : Bool). has (texts low).labels x || t) (sym (any-texts table (bytes_eq x) high.labels))
+          ∙ sym (has-append (texts low).labels (texts high).labels x)
 
-      by : (ns : List ℕ) → IsExactBy low_cost high_cost ls hs ns cost set → IsSameClaim claim (exact_claim_by lower upper (map (text_at table) ns))
+      by : (ns : List ℕ) → IsExactBy low high ns claim → IsSameClaim (texts claim) (exact_claim_by (texts low) (texts high) (map (text_at table) ns))
       by [] exact = record { cost = exact.0; labels = λ x. union x exact.1 }
       by (n ∷ ns) exact = record { cost = exact.0; labels = λ x. ap (λ (s : List ℕ). has (map (text_at table) s) x) exact.1 }
 
@@ -180,16 +171,14 @@ module _ (table : List Label) (ok : IsLabelTable table) where
   ]
 
   -- and its set is in the order of the table
-  pub listed_claim : (low_cost high_cost : ℕ) (ls hs : List ℕ) (cost : ℕ) (set : List ℕ) → IsAscending (length table) 0 ls → IsAscending (length table) 0 hs
-      → IsExactBy low_cost high_cost ls hs (common_numbers ls hs) cost set
-      → record { cost = cost; labels = map (text_at table) set }
-      ≡ in_table_order table (exact_claim (record { cost = low_cost; labels = map (text_at table) ls }) (record { cost = high_cost; labels = map (text_at table) hs }))
-  listed_claim low_cost high_cost ls hs cost set up also exact =
-      let e : Claim = exact_claim (record { cost = low_cost; labels = map (text_at table) ls }) (record { cost = high_cost; labels = map (text_at table) hs }) in
-      let same = same_claim low_cost high_cost ls hs cost set up also exact in
-      let ascending = exact-ascending (length table) low_cost high_cost ls hs cost set up also exact in
-      let kept = kept-all e.labels set ascending (λ j from to. sym (same.labels (text_at table j)) ∙ texts-has 0 set j ascending to) in
-      let labels = sym kept ∙ sym (listed-known table e (λ x h. texts-known 0 set x ascending (same.labels x ∙ h))) in
+  pub listed_claim : (low high claim : ClaimOf ℕ) → IsAscending (length table) 0 low.labels → IsAscending (length table) 0 high.labels → IsExact low high claim
+      → texts claim ≡ in_table_order table (exact_claim (texts low) (texts high))
+  listed_claim low high claim up also exact =
+      let e : Claim = exact_claim (texts low) (texts high) in
+      let same = same_claim low high claim up also exact in
+      let ascending = exact-ascending (length table) low high claim up also exact in
+      let kept = kept-all e.labels claim.labels ascending (λ j from to. sym (same.labels (text_at table j)) ∙ texts-has 0 claim.labels j ascending to) in
+      let labels = sym kept ∙ sym (listed-known table e (λ x h. texts-known 0 claim.labels x ascending (same.labels x ∙ h))) in
       λ i. record { cost = same.cost i; labels = labels i }
 
   -- whether the inherited label is kept is the same by texts and by numbers

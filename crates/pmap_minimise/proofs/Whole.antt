@@ -19,7 +19,7 @@ use Rattle.pmap_cert.specs.Node.{HasNumberForm, Node, lines_of, tree_of}
 use Rattle.pmap_cert.specs.declared.format.Format.TheVariants.{One}
 use Rattle.label_trie.specs.TrieModel.{number_of, IsSettledLeaf, IsUndivided, LeafModel}
 use Rattle.pmap_cert.proofs.CompactNodes.{compact-one}
-use Rattle.pmap_cert.proofs.Plain.{plain-tree_of}
+use Rattle.pmap_cert.proofs.Relabelled.{plain-map}
 use Rattle.pmap_cert.proofs.Written.{node_form, whole_text}
 use Rattle.pmap_text.specs.ListEntries.{HasDistinctBlocks}
 use Rattle.pmap_cert.proofs.InOrder.{list-form}
@@ -86,7 +86,7 @@ root-form : (m : MapText) (root : Node) → HasNumberForm (length m.labels) root
 root-form m root form ok = record {
   first = refl;
   text = record {
-    format = inl (refl, plain-tree_of m.labels root form.1);
+    format = inl (refl, plain-map (text_at m.labels) root form.1);
     table = ok;
     root = node_form m.labels ok root (width_of m.version) form.0;
   };

@@ -7,7 +7,8 @@ use Rattle.pmap_text.specs.Label.{IsLabelTable}
 use Rattle.pmap_text.specs.MapModel.{MapModel}
 use Rattle.label_trie.specs.TrieModel.{IsSettledLeaf, IsUndivided, LeafModel}
 use Rattle.pmap_cert.specs.CertificateText.{IsAscending}
-use Rattle.pmap_cert.specs.Node.{Chain, Inner, Leaf, Node, cost_of, set_of, HasNumberForm, tree_of}
+use Rattle.pmap_cert.specs.CertificateModel.{ChainNode, ClaimOf, InnerNode, LeafNode, claim_of}
+use Rattle.pmap_cert.specs.Node.{HasNumberForm, Node, tree_of}
 use Rattle.pmap_cert.specs.Acceptance.{StandsFor}
 
 abbrev pub numbers_of : List LabelId → List ℕ
@@ -22,24 +23,22 @@ common_numbers low high = filter (has_number high) low
 abbrev pub IsUnion : List ℕ → List ℕ → List ℕ → Type 0
 IsUnion low high set = (p : ℕ → Bool) → list_any p set ≡ (list_any p low || list_any p high)
 
--- The exact cost and set of two costs and sets, by the sets' common numbers: the sum of the costs and these numbers, if
--- there are any, otherwise one more than the sum and the numbers of either set.
-abbrev pub IsExactBy : ℕ → ℕ → List ℕ → List ℕ → List ℕ → ℕ → List ℕ → Type 0
-IsExactBy low_cost high_cost low high [] cost set =
-    (cost ≡ low_cost + high_cost + 1) × IsUnion low high set × IsAscending (2 ^ 32) 0 set
-IsExactBy low_cost high_cost low high (n ∷ ns) cost set = (cost ≡ low_cost + high_cost) × (set ≡ n ∷ ns)
+-- The exact claim of two claims, by the sets' common numbers: the sum of the costs and these numbers, if there are any,
+-- otherwise one more than the sum and the numbers of either set.
+abbrev pub IsExactBy : ClaimOf ℕ → ClaimOf ℕ → List ℕ → ClaimOf ℕ → Type 0
+IsExactBy low high [] claim =
+    (claim.cost ≡ low.cost + high.cost + 1) × IsUnion low.labels high.labels claim.labels × IsAscending (2 ^ 32) 0 claim.labels
+IsExactBy low high (n ∷ ns) claim = (claim.cost ≡ low.cost + high.cost) × (claim.labels ≡ n ∷ ns)
 
--- the exact cost and set of two nodes by their claims
-abbrev pub IsExact : Node → Node → ℕ → List ℕ → Type 0
-IsExact low high cost set =
-    IsExactBy (cost_of low) (cost_of high) (set_of low) (set_of high) (common_numbers (set_of low) (set_of high)) cost set
+abbrev pub IsExact : ClaimOf ℕ → ClaimOf ℕ → ClaimOf ℕ → Type 0
+IsExact low high claim = IsExactBy low high (common_numbers low.labels high.labels) claim
 
 -- the node has no chain, each of its sets has a number, and at most `room` inner nodes are nested
 abbrev pub IsSound : Node → ℕ → Type 0
-IsSound (Leaf id) room = Unit {0}
-IsSound (Inner cost set left right) zero = ⊥
-IsSound (Inner cost set left right) (suc room) = (0 < length set) × IsSound left room × IsSound right room
-IsSound (Chain cost set bits side end) room = ⊥
+IsSound (LeafNode id) room = Unit {0}
+IsSound (InnerNode claim left right) zero = ⊥
+IsSound (InnerNode claim left right) (suc room) = (0 < length claim.labels) × IsSound left room × IsSound right room
+IsSound (ChainNode claim bits side end) room = ⊥
 
 abbrev pub keeps : List LabelId → Option LabelId → Bool
 keeps ids None = false
@@ -66,4 +65,4 @@ pub record IsMapNode (m : MapModel) (n q h : ℕ) (node : Node) : Type 0 where
 pub record IsCertified (n q h : ℕ) (leaves : List LeafModel) (node : Node) : Type 0 where
   pub each : (m : MapModel) → IsLabelTable m.table → All (IsSettledLeaf m) leaves → All (IsUndivided m) leaves → IsMapNode m n q h node
   pub sound : IsSound node h
-  pub cost : cost_of node < length leaves
+  pub cost : (claim_of node).cost < length leaves

@@ -1,6 +1,7 @@
 use Rattle.std.specs.Prelude.{◌≡◌, ℕ, zero, suc, ◌+◌, ◌<◌, ◌≤◌, ◌==◌, Bool, List, [], ◌∷◌, ◌++◌, if◌then◌else◌, length, map, nat_lt}
 use Rattle.pmap_cert.specs.CertificateText.{leaf_line, text_of_lines}
-use Rattle.pmap_cert.specs.Node.{Chain, Inner, Leaf, Node, cost_of, first_node, line_text, lines_of, set_of}
+use Rattle.pmap_cert.specs.CertificateModel.{ChainNode, ClaimOf, InnerNode, LeafNode, claim_of}
+use Rattle.pmap_cert.specs.Node.{Node, first_node, line_text, lines_of}
 use Rattle.pmap_cert.specs.Paths.{digit, path_to}
 use Rattle.pmap_minimise.specs.Numbers.{has_number}
 
@@ -12,41 +13,43 @@ abbrev pub with_number : ℕ → List ℕ → List ℕ
 with_number n [] = n ∷ []
 with_number n (m ∷ ms) = if nat_lt n m then n ∷ m ∷ ms else m ∷ with_number n ms
 
--- The set of a node of a run that has `more` nodes of the run below it, and the cost of each node of the run, by the
--- side label and the run's end.
+-- The claim of a node of a run that has `more` nodes of the run below it, by the side label and the claim of the run's
+-- end.
 abbrev pub set_above : ℕ → List ℕ → ℕ → List ℕ
 set_above side set zero = if has_number set side then side ∷ [] else with_number side set
 set_above side set (suc more) = side ∷ []
 
-abbrev pub cost_above : ℕ → Node → ℕ
-cost_above side end = if has_number (set_of end) side then cost_of end else cost_of end + 1
+abbrev pub cost_above : ℕ → ClaimOf ℕ → ℕ
+cost_above side end = if has_number end.labels side then end.cost else end.cost + 1
+
+abbrev pub claim_above : ℕ → ClaimOf ℕ → ℕ → ClaimOf ℕ
+claim_above side end more = record { cost = cost_above side end; labels = set_above side end.labels more }
 
 -- an inner node over the half that a run chooses, the lower one if the digit is 0, and the side block's leaf
-abbrev pub node_over : ℕ → ℕ → List ℕ → Node → Node → Node
-node_over zero cost set path side = Inner cost set path side
-node_over (suc digit) cost set path side = Inner cost set side path
+abbrev pub node_over : ℕ → ClaimOf ℕ → Node → Node → Node
+node_over zero claim path side = InnerNode claim path side
+node_over (suc digit) claim path side = InnerNode claim side path
 
 -- the node from which a run of `bits` bits leads to the node `end`, whose block has the number `value`
 abbrev pub path_node : ℕ → ℕ → ℕ → Node → Node
 path_node side value zero end = end
 path_node side value (suc bits) end =
-    node_over (digit value bits) (cost_above side end) (set_above side (set_of end) bits) (path_node side value bits end) (Leaf side)
+    node_over (digit value bits) (claim_above side (claim_of end) bits) (path_node side value bits end) (LeafNode side)
 
-pub record OpensInner (cost : ℕ) (set : List ℕ) (OpensLower OpensUpper : Node → Type 0) (node : Node) : Type 0 where
+pub record OpensInner (claim : ClaimOf ℕ) (OpensLower OpensUpper : Node → Type 0) (node : Node) : Type 0 where
   pub lower : Node
   pub upper : Node
   pub low : OpensLower lower
   pub high : OpensUpper upper
-  pub node_is : node ≡ Inner cost set lower upper
+  pub node_is : node ≡ InnerNode claim lower upper
 
 -- the chain has two bits or more, and its claim is the exact one of the run's first node
-pub record OpensChain (cost : ℕ) (set : List ℕ) (bits : List Bool) (side : ℕ) (OpensEnd : Node → Type 0) (node : Node) : Type 0 where
+pub record OpensChain (claim : ClaimOf ℕ) (bits : List Bool) (side : ℕ) (OpensEnd : Node → Type 0) (node : Node) : Type 0 where
   pub value : ℕ
   pub count : ℕ
   pub end : Node
   pub below : OpensEnd end
-  pub cost_is : cost ≡ cost_above side end
-  pub set_is : set ≡ side ∷ []
+  pub claim_is : claim ≡ claim_above side (claim_of end) 1
   pub bits_are : bits ≡ path_to value count
   pub long : 2 ≤ count
   pub few : count ≤ 128
@@ -54,9 +57,9 @@ pub record OpensChain (cost : ℕ) (set : List ℕ) (bits : List Bool) (side : �
 
 -- opening each chain of the first node gives the second one
 abbrev pub Opens : Node → Node → Type 0
-Opens (Leaf label) node = node ≡ Leaf label
-Opens (Inner cost set lower upper) node = OpensInner cost set (Opens lower) (Opens upper) node
-Opens (Chain cost set bits side end) node = OpensChain cost set bits side (Opens end) node
+Opens (LeafNode label) node = node ≡ LeafNode label
+Opens (InnerNode claim lower upper) node = OpensInner claim (Opens lower) (Opens upper) node
+Opens (ChainNode claim bits side end) node = OpensChain claim bits side (Opens end) node
 
 pub record IsOpenedAt (nodes : List Node) : Type 0 where
   pub some : 0 < length nodes

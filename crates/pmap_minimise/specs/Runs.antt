@@ -9,7 +9,9 @@ use Rattle.pmap_text.specs.declared.window.Window.{Window}
 use Rattle.pmap_text.specs.declared.label.LabelId.{LabelId}
 use Rattle.pmap_text.specs.declared.statement.Statement.{Statement}
 use Rattle.pmap_cert.specs.CertificateText.{IsAscending}
-use Rattle.pmap_cert.specs.Node.{Inner, Leaf, Node, cost_of, label_of, set_of}
+use Rattle.pmap_cert.specs.CertificateModel.{ClaimOf, InnerNode, LeafNode, claim_of}
+use Rattle.pmap_cert.specs.Compacting.{leaf_label}
+use Rattle.pmap_cert.specs.Node.{Node}
 use Rattle.pmap_minimise.specs.Numbers.{IsMapNode, IsSound}
 
 -- The stretches are those of statements with a default, few enough that their leaves can be counted.
@@ -93,20 +95,19 @@ pub record IsRunTo (s : StretchesModel) (side : ℕ) (a end : Window) : Type 0 w
 
 -- the node is an inner one, and a half that is a leaf has the label of this window
 pub record HasLabelledHalves (s : StretchesModel) (low high : Window) (node : Node) : Type 0 where
-  pub cost : ℕ
-  pub set : List ℕ
+  pub claim : ClaimOf ℕ
   pub lower : Node
   pub upper : Node
-  pub node_is : node ≡ Inner cost set lower upper
-  pub low_label : label_of lower ≡ own_label s low
-  pub high_label : label_of upper ≡ own_label s high
+  pub node_is : node ≡ InnerNode claim lower upper
+  pub low_label : leaf_label lower ≡ own_label s low
+  pub high_label : leaf_label upper ≡ own_label s high
 
 -- The node represents the block in each map on the stretches. It costs at most as often as the block is divided.
 pub record IsMade (s : StretchesModel) (a : Window) (node : Node) : Type 0 where
   pub each : (m : MapModel) → IsMapOn s m → IsMapNode m a.len (number_at s a) (width_of s.version - a.len) node
-  pub few : (ss : List Statement) (default : Option LabelId) → AreStretches ss default s → cost_of node ≤ divisions s a ss
+  pub few : (ss : List Statement) (default : Option LabelId) → AreStretches ss default s → (claim_of node).cost ≤ divisions s a ss
   pub sound : IsSound node (width_of s.version - a.len)
-  pub ascending : IsAscending (2 ^ 32) 0 (set_of node)
-  pub own : label_of node ≡ own_label s a
-  pub single : a.from ≡ a.to → (n : ℕ) × (node ≡ Leaf n)
+  pub ascending : IsAscending (2 ^ 32) 0 (claim_of node).labels
+  pub own : leaf_label node ≡ own_label s a
+  pub single : a.from ≡ a.to → (n : ℕ) × (node ≡ LeafNode n)
   pub halves : (low high : Window) → AreCountedHalves s a low high → HasLabelledHalves s low high node

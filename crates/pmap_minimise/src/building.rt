@@ -2,11 +2,10 @@
 ghost use Rattle.std.specs.Prelude.{◌≡◌, ◌+◌, ◌-◌, ◌^◌, ◌<◌, ◌++◌, ◌∷◌, [], IfOk, OnOk, if◌then◌else◌, length, option_map};
 ghost use Rattle.std.specs.Option.{option_or};
 ghost use Rattle.pmap_cert.specs.FormatReading.{ChainLine};
-ghost use Rattle.pmap_cert.specs.Node.{cost_of};
 ghost use Rattle.pmap_cert.specs.Paths.{path_to};
 ghost use Rattle.pmap_text.specs.MapModel.{MapModel};
 ghost use Rattle.pmap_text.specs.Windows.{IsWindow, number_at};
-ghost use Rattle.pmap_minimise.specs.Built.{AddsInner, AreHalves, IsBuilt, IsBuiltIn, last_node};
+ghost use Rattle.pmap_minimise.specs.Built.{AddsInner, AreHalves, IsBuilt, IsBuiltIn, last_claim};
 ghost use Rattle.pmap_minimise.specs.Numbers.{has_number, numbers_of};
 ghost use Rattle.pmap_minimise.specs.Opened.{cost_above};
 ghost use Rattle.pmap_minimise.specs.Runs.{AreCountable, IsCounted, IsMapOn, own_label};
@@ -35,7 +34,7 @@ pub fn push_inner(alloc: Global, nodes: &mut Nodes, upper: usize) -> Result<(), 
         let set = slice::from_ref(&id);
         return nodes.push(Node::Inner(Claim { cost, set }));
     }
-    let (cost, set) = exact_claim(alloc, low.cost, low.set, high.cost, high.set)?;
+    let (cost, set) = exact_claim(alloc, low, high)?;
     let set = set.as_slice();
     nodes.push(Node::Inner(Claim { cost, set }))
 }
@@ -51,9 +50,9 @@ fn chain_cost(set: &[LabelId], cost: u32, side: LabelId) -> u32
 // Adds the line of a chain over the node of the last line. The chain claims the side label alone.
 fn push_chain(nodes: &mut Nodes, path: Path, side: LabelId) -> Result<(), AllocError>
     requires some { 0 < length nodes.old }
-    requires few { cost_of (last_node nodes.old) + 1 < 2 ^ 32 }
+    requires few { (last_claim nodes.old).cost + 1 < 2 ^ 32 }
     ensures { OnOk result (nodes.new ≡ nodes.old
-        ++ ChainLine (cost_above side.0 (last_node nodes.old)) (path_to path.value path.count) side.0 (side.0 ∷ []) ∷ []) }
+        ++ ChainLine (cost_above side.0 (last_claim nodes.old)) (path_to path.value path.count) side.0 (side.0 ∷ []) ∷ []) }
 {
     let end = nodes.claim(nodes.len() - 1);
     let claim = Claim {

@@ -1,7 +1,8 @@
 //! Writes the lines of a certificate's nodes, with each chain opened.
 ghost use Rattle.std.specs.Prelude.{◌≡◌, ◌≤◌, ◌++◌, ◌∷◌, [], OnOk, drop, if◌then◌else◌};
 ghost use Rattle.pmap_cert.specs.CertificateText.{inner_line, leaf_line};
-ghost use Rattle.pmap_cert.specs.Node.{Node as AnyNode, first_node, set_of};
+ghost use Rattle.pmap_cert.specs.CertificateModel.{claim_of};
+ghost use Rattle.pmap_cert.specs.Node.{Node as AnyNode, first_node};
 ghost use Rattle.pmap_minimise.specs.Numbers.{numbers_of};
 ghost use Rattle.pmap_minimise.specs.Opened.{IsOpenedAt, Opens, cost_above, node_text, path_node, set_above, text_up, with_number};
 
@@ -84,8 +85,8 @@ fn push_down(
 ) -> Result<(), AllocError>
     requires { bits ≤ 128 }
     // The lines of the end and those of the side blocks after it complete those of the chain.
-    ensures { OnOk result ((end : AnyNode) → numbers_of set.now ≡ set_of end
-        → chain.now.cost ≡ cost_above chain.now.side.0 end
+    ensures { OnOk result ((end : AnyNode) → numbers_of set.now ≡ (claim_of end).labels
+        → chain.now.cost ≡ cost_above chain.now.side.0 (claim_of end)
         → out.new.items ++ (node_text end ++ text_up chain.now.side.0 chain.now.value bits)
         ≡ out.old.items ++ node_text (path_node chain.now.side.0 chain.now.value bits end)) }
 {
@@ -124,7 +125,7 @@ fn push_chain(
 ) -> Result<(), AllocError>
     requires { IsOpenedAt at.old }
     ensures next { OnOk result (at.new ≡ drop 1 at.old) }
-    ensures text { OnOk result ((end : AnyNode) → Opens (first_node at.old) end → cost ≡ cost_above side.0 end
+    ensures text { OnOk result ((end : AnyNode) → Opens (first_node at.old) end → cost ≡ cost_above side.0 (claim_of end)
         → out.new.items ≡ out.old.items ++ node_text (path_node side.0 path.now.value path.now.count end)) }
 {
     texts.clear();

@@ -1,8 +1,10 @@
 //! Sets of labels, as slices with their numbers in ascending order.
 ghost use Rattle.std.specs.Prelude.{◌≡◌, ◌+◌, ◌^◌, ◌<◌, IfOk};
 ghost use Rattle.pmap_cert.specs.CertificateText.{IsAscending};
-ghost use Rattle.pmap_minimise.specs.Numbers.{IsExactBy, IsUnion, common_numbers, numbers_of};
+ghost use Rattle.pmap_cert.specs.Node.{claiming};
+ghost use Rattle.pmap_minimise.specs.Numbers.{IsExact, IsUnion, common_numbers, numbers_of};
 
+use pmap_cert::Claim;
 use pmap_text::LabelId;
 use smallvec::SmallVec;
 use std::alloc::{AllocError, Global};
@@ -67,23 +69,17 @@ fn either(alloc: Global, low: &[LabelId], high: &[LabelId]) -> Result<SmallSet, 
 
 /// Returns the exact claim of two halves with these claims, its cost and its set: the labels that both have or, if
 /// there are none, those that either has, for one more than the sum of the costs.
-pub fn exact_claim(
-    alloc: Global,
-    low_cost: u32,
-    low: &[LabelId],
-    high_cost: u32,
-    high: &[LabelId],
-) -> Result<(u32, SmallSet), AllocError>
-    requires low { IsAscending (2 ^ 32) 0 (numbers_of low.now) }
-    requires high { IsAscending (2 ^ 32) 0 (numbers_of high.now) }
-    requires few { low_cost + high_cost + 1 < 2 ^ 32 }
-    ensures { IfOk result (λ claim. IsExactBy low_cost high_cost (numbers_of low.now) (numbers_of high.now)
-        (common_numbers (numbers_of low.now) (numbers_of high.now)) claim.0 (numbers_of claim.1.items)) }
+pub fn exact_claim(alloc: Global, low: Claim, high: Claim) -> Result<(u32, SmallSet), AllocError>
+    requires low { IsAscending (2 ^ 32) 0 (numbers_of low.set.now) }
+    requires high { IsAscending (2 ^ 32) 0 (numbers_of high.set.now) }
+    requires few { low.cost + high.cost + 1 < 2 ^ 32 }
+    ensures { IfOk result (λ claim. IsExact (claiming low.entry.cost (numbers_of low.entry.set.now))
+        (claiming high.entry.cost (numbers_of high.entry.set.now)) (claiming claim.0 (numbers_of claim.1.items))) }
 {
-    let sum = low_cost + high_cost;
-    let shared = common(alloc, low, high)?;
+    let sum = low.cost + high.cost;
+    let shared = common(alloc, low.set, high.set)?;
     if shared.is_empty() {
-        let all = either(alloc, low, high)?;
+        let all = either(alloc, low.set, high.set)?;
         return Ok((sum + 1, all));
     }
     Ok((sum, shared))

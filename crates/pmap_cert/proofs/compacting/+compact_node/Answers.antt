@@ -19,7 +19,7 @@ returns-in_ok-compact_node-in-Some-run_of t c =
     let halves = rw c.in-Some.is at c.halves_of.ensures in
     let long = rw c.in-Some-run_of.is at c.run_of.ensures in
     let run = long.run in
-    chain-lines (node_from lines c.args.number) halves.cost halves.set (node_from lines c.in-Some.halves.0) (node_from lines c.in-Some.halves.1) halves.node c.args.out.now
+    chain-lines (node_from lines c.args.number) halves.claim (node_from lines c.in-Some.halves.0) (node_from lines c.in-Some.halves.1) halves.node c.args.out.now
     c.in-Some-run_of.side.0 (get_or lines c.args.number (LeafLine 0)) c.claim.result.cost (map (λ (id : LabelId). id.0) c.claim.result.set.now)
     (bits_in c.in-Some-run_of.path) (node_from lines c.in-Some-run_of.end) c.push-in-Some-run_of.new.self c.compact_node.new.out long.sides run.bits_are run.node long.long
     (line-of lines c.args.number c.requires.plain c.requires.within) c.claim.ensures.cost c.claim.ensures.set
@@ -29,7 +29,7 @@ pub returns-in_ok-compact_node-in-None-2 : goal.returns-in_ok-compact_node-in-No
 returns-in_ok-compact_node-in-None-2 t c =
     let lines = c.args.nodes.now in
     let halves = rw c.in-Some.is at c.halves_of.ensures in
-    inner-lines (node_from lines c.args.number) halves.cost halves.set (node_from lines c.in-Some.halves.0) (node_from lines c.in-Some.halves.1) halves.node c.args.out.now
+    inner-lines (node_from lines c.args.number) halves.claim (node_from lines c.in-Some.halves.0) (node_from lines c.in-Some.halves.1) halves.node c.args.out.now
     c.push-in-None.new.self c.compact_node-in-None.new.out c.compact_node-in-None-2.new.out (rw c.in-None.is at c.run_of.ensures)
     (c.in_ok-push-in-None.ensures.ok ∙ ap (λ (l : DueLine). c.args.out.now ++ l ∷ []) (c.node-in-None.ensures ∙ line-of lines c.args.number c.requires.plain c.requires.within))
     c.in_ok-compact_node-in-None.ensures c.in_ok-compact_node-in-None-2.ensures

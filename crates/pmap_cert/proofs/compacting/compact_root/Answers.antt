@@ -1,7 +1,7 @@
-use Rattle.std.proofs.Common.{ℕ, ◌++◌, ◌∙◌, List, ap, arith, subst, sym}
-use Rattle.pmap_cert.specs.FormatReading.{DueLine}
-use Rattle.pmap_cert.specs.Node.{Node, lines_of}
-use Rattle.pmap_cert.specs.Inner.{AreEndsFrom, IsCompactNode}
+use Rattle.std.proofs.Common.{ℕ, ◌++◌, ◌∙◌, List, ap, arith, nat_eq, subst, sym}
+use Rattle.pmap_cert.specs.Node.{lines_of}
+use Rattle.pmap_cert.specs.Compacting.{compacted}
+use Rattle.pmap_cert.specs.Inner.{AreEndsFrom}
 use Rattle.pmap_cert.proofs.CompactPlaces.{ends-later, plain-of, root-at, some-lines}
 use Rattle.pmap_cert.proofs.compacting.compact_root.Goals as goal
 
@@ -20,7 +20,5 @@ compact_node-requires c = record {
 pub returns : goal.returns
 returns c =
     let is = root-at c.args.root.now c.nodes-nodes.result.now c.nodes-nodes.ensures in
-    let done = c.in_ok-compact_node.ensures in
-    let same = c.new.ensures done.compact (done.lines ∙ ap (λ (ls : List DueLine). ls ++ lines_of done.compact) c.new-out.ensures) in
-    subst (IsCompactNode c.args.root.now) (sym same)
-    (subst (λ (n : Node). IsCompactNode n done.compact) is done.is)
+    let compact = ap (compacted nat_eq) is in
+    c.new.ensures (compacted nat_eq c.args.root.now) (c.in_ok-compact_node.ensures ∙ (λ i. c.new-out.ensures i ++ lines_of (compact i)))

@@ -72,7 +72,7 @@ push_divided-push_chain-requires-clause-few t c =
     let is = c.run_end-end.ensures.counted in
     let cost = built.made.few is.few.statements is.few.default is.few.stretches in
     let few = is.few.few in
-    omega (arith, (built-claim c.args.stretches.now c.run_end-end.result c.args.nodes.now c.push_window.new.nodes built).cost)
+    rw ((built-claim c.args.stretches.now c.run_end-end.result c.args.nodes.now c.push_window.new.nodes built).claim) (omega arith)
 
 pub push_divided-returns-then-count-ge2 : goal.push_divided-returns-then-count-ge2
 push_divided-returns-then-count-ge2 t c =

@@ -11,6 +11,7 @@ use Rattle.pmap_cert.specs.Compacting.{compact}
 use Rattle.pmap_cert.specs.Format.{format_number}
 use Rattle.pmap_cert.specs.Acceptance.{IsMinimalPair}
 use Rattle.pmap_cert.specs.Node.{HasChainForm, tree_of}
+use Rattle.pmap_cert.proofs.CompactForms.{form-compacted}
 use Rattle.pmap_minimise.proofs.Whole.{compacted-text}
 use Rattle.pmap_minimise.proofs.minimal.compact_text.Goals as goal
 
@@ -19,7 +20,7 @@ of_format-requires-clause-form c =
     let m = c.args.map in
     let built = c.in_ok-root.ensures.built in
     subst (λ (t : List Label). HasChainForm (length t) c.in_ok-root.root (width_of m.version)) (sym c.in_ok-root.ensures.labels)
-    (built.compact_is.form (length m.labels) (width_of m.version) built.is.form.0)
+    (rw built.compact_is (form-compacted (length m.labels) built.node (width_of m.version) built.is.form.1 built.is.form.0))
 
 pub returns : goal.returns
 returns c =

@@ -6,7 +6,8 @@ use Rattle.pmap_text.specs.MapText.{map_of}
 use Rattle.pmap_text.specs.PrefixList.{list_of, prefix_of}
 use Rattle.pmap_cert.specs.Certificate.{certificate_of}
 use Rattle.pmap_cert.specs.Format.{format_number}
-use Rattle.pmap_cert.specs.Node.{HasNumberForm, Node, cost_of, first_node, tree_of}
+use Rattle.pmap_cert.specs.CertificateModel.{claim_of}
+use Rattle.pmap_cert.specs.Node.{HasNumberForm, Node, first_node, tree_of}
 use Rattle.prefix_keys.specs.declared.version.Version.{Version}
 use Rattle.pmap_minimise.specs.Numbers.{IsSound}
 use Rattle.pmap_minimise.proofs.Joined.{claim-cost, sound-opens}
@@ -53,7 +54,7 @@ returns c =
     let count = c.minimal_pair_is_accepted.ensures.count (map_of m) l certificate pair in
     let entries : length l.prefixes ≡ length made_list.entries = length-map made_list.entries (prefix_of made_list.labels) in
     let cost = claim-cost c.new-certificate.result.labels c.new-certificate.result.root in
-    let own : c.claim.result.cost ≡ cost_of c.new-certificate.result.root = c.claim.ensures.cost ∙ ap (λ (l : List Node). cost_of (first_node l)) c.root-top.ensures.value in
+    let own : c.claim.result.cost ≡ (claim_of c.new-certificate.result.root).cost = c.claim.ensures.cost ∙ ap (λ (l : List Node). (claim_of (first_node l)).cost) c.root-top.ensures.value in
     record {
       minimal = pair;
       cost = omega (arith, cost, own, c.from-root_cost.ensures);

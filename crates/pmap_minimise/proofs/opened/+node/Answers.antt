@@ -1,6 +1,7 @@
 use Rattle.std.proofs.Common.{◌∙◌, ◌++◌, ℕ, List, ap, subst, sym}
 use Rattle.std.proofs.lemmas.List.{append_assoc}
 use Rattle.std.proofs.lemmas.Result.{on_ok_weaker}
+use Rattle.pmap_cert.specs.CertificateModel.{ClaimOf}
 use Rattle.pmap_cert.specs.Node.{Node, first_node}
 use Rattle.pmap_minimise.specs.Opened.{Opens, node_text, text_up}
 use Rattle.pmap_minimise.proofs.BuiltNodes.{opens-claim}
@@ -12,7 +13,7 @@ push_chain-returns-clause-text t c =
     let up = text_up c.args.side.0 c.args.path.now.value c.args.path.now.count in
     on_ok_weaker c.push_up.result (λ after end opens price.
     after ∙ ap (λ (t : List ℕ). t ++ up) (c.in_ok-push_node.ensures.text end opens) ∙ append_assoc c.push_down.new.out.items (node_text end) up
-    ∙ c.in_ok-push_down.ensures end (c.claim.ensures.set ∙ (opens-claim (first_node c.args.at.now) end opens).1) price)
+    ∙ c.in_ok-push_down.ensures end (c.claim.ensures.set ∙ ap (λ (c : ClaimOf ℕ). c.labels) (opens-claim (first_node c.args.at.now) end opens)) price)
     c.push_up.ensures
 
 pub push_node-returns-in-Chain-clause-text : goal.push_node-returns-in-Chain-clause-text

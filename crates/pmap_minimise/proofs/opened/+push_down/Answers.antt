@@ -1,9 +1,9 @@
 use Rattle.std.proofs.Common.{◌≡◌, ◌-◌, ◌==◌, ◌∙◌, ◌∷◌, ◌++◌, [], ℕ, List, suc, arith, cond, subst}
 use Rattle.std.proofs.lemmas.Result.{on_ok_weaker}
 use Rattle.pmap_cert.specs.CertificateText.{inner_line, leaf_line}
-use Rattle.pmap_cert.specs.Node.{set_of}
+use Rattle.pmap_cert.specs.CertificateModel.{claim_of}
 use Rattle.pmap_cert.specs.Paths.{digit}
-use Rattle.pmap_minimise.specs.Opened.{cost_above, node_text, path_node, set_above, text_up}
+use Rattle.pmap_minimise.specs.Opened.{claim_above, node_text, path_node, set_above, text_up}
 use Rattle.pmap_minimise.proofs.OpenedTexts.{over-down}
 use Rattle.pmap_minimise.proofs.opened.+push_down.Goals as goal
 
@@ -18,6 +18,6 @@ returns t c =
     let next : suc more ≡ c.args.bits = omega (arith, c.if-bits-eq0.false) in
     on_ok_weaker c.push_down.result (λ below end set price.
     subst (λ (k : ℕ). new ++ (node_text end ++ text_up side chain.value k) ≡ old ++ node_text (path_node side chain.value k end)) next
-    (over-down (digit chain.value more) (cost_above side end) side (set_above side (set_of end) more) (path_node side chain.value more end) old c.push_step.new.out.items new (node_text end) (text_up side chain.value more)
+    (over-down (digit chain.value more) side (claim_above side (claim_of end) more) (path_node side chain.value more end) old c.push_step.new.out.items new (node_text end) (text_up side chain.value more)
     (omega arith) (c.in_ok-push_step.ensures ∙ (λ i. old ++ ((inner_line (price i) (set_above side (set i) more) ++ 10 ∷ []) ++ cond (digit chain.value more == 1) leaf []))) (below end set price)))
     c.push_down.ensures
