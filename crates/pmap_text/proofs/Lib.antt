@@ -7,6 +7,8 @@ pub mod LabelTexts
 pub mod Places
 pub mod MovedBlocks
 pub mod ProgressSteps
+pub mod Ascents
+pub mod EntryStatements
 pub mod Blocks
 pub mod Finds
 pub mod LastSuch
@@ -25,7 +27,6 @@ pub mod Stretched
 pub mod Joined
 pub mod Layers
 pub mod SeenBlocks
-pub mod Layered
 pub mod Painted
 pub mod Longest
 pub mod ListPainted

@@ -6,23 +6,10 @@ use Rattle.std.proofs.lemmas.List.{get_or_default}
 use Rattle.prefix_keys.specs.Block.{width_of}
 use Rattle.pmap_text.specs.MapModel.{Label}
 use Rattle.pmap_text.specs.Stretches.{AreLabelsBelow, AreStretches, HasEveryAddress, HasStretch, StretchesModel, count_begun, first_at, label_at, label_seen, last_at, text_held, text_won, LabelId}
-use Rattle.pmap_text.specs.Inner.{IsWinner, statement_won}
+use Rattle.pmap_text.specs.Inner.{AreStretchesTo, IsWinner, WinsOther, last_first, statement_won}
 use Rattle.pmap_text.specs.declared.statement.Statement.{Statement}
 use Rattle.pmap_text.proofs.Ranges.{Adds, first_early, first_late, holder, label_early, label_late, last_early, last_end, last_late, length_added}
-use Rattle.pmap_text.proofs.Winners.{WinsOther, known_label, stretch_of, stretch_text}
-
--- the start of the last stretch
-abbrev pub last_first : StretchesModel → ℕ
-last_first s = first_at s (length s.firsts - 1)
-
--- The stretches before the last one are there, and the last one goes on to `last` at least: there the statement wins.
-pub record AreStretchesTo (ss : List Statement) (default : Option LabelId) (s : StretchesModel) (won : Option ℕ) (last : ℕ) : Type 0 where
-  pub every : HasEveryAddress s
-  pub settled : (i : ℕ) → i + 1 < length s.firsts → HasStretch (width_of s.version) ss default (first_at s i) (last_at s i) (label_at s i)
-  pub before : (a : ℕ) → a + 1 ≡ last_first s → WinsOther ss a won
-  pub from : last_first s ≤ last
-  pub wins : (a : ℕ) → last_first s ≤ a → a ≤ last → IsWinner ss a won
-  pub label : label_at s (length s.firsts - 1) ≡ label_seen default (statement_won ss won)
+use Rattle.pmap_text.proofs.Winners.{known_label, stretch_of, stretch_text}
 
 -- two equal stretches
 same_stretch : (ss : List Statement) (default : Option LabelId) (W W' f f' l l' : ℕ) (o o' : Option LabelId) → W' ≡ W → f' ≡ f → l' ≡ l → o' ≡ o

@@ -10,7 +10,7 @@ use Rattle.prefix_keys.specs.declared.version.Version.{Version}
 use Rattle.pmap_text.specs.MapModel.{Label, MapModel, Mapping}
 use Rattle.pmap_text.specs.MapText.{mapping_of, text_at, Statement}
 use Rattle.pmap_text.specs.Stretches.{HasStretch, label_seen, mappings_of, text_won, LabelId}
-use Rattle.pmap_text.specs.Inner.{IsWinner, statement_won}
+use Rattle.pmap_text.specs.Inner.{IsWinner, WinsOther, statement_won}
 use Rattle.pmap_text.proofs.Orders.{known_text}
 use Rattle.pmap_text.proofs.Seen.{none_at, seen_at, seen_last}
 
@@ -53,12 +53,6 @@ winners_apart table ss a b (Some i) (Some j) first second other same =
     let up : j ≤ i = first.most j (record { statement = y.statement; listed = y.listed; low = omega (arith, low, x.low); high = omega (arith, high, x.high) }) in
     let down : i ≤ j = second.most i (record { statement = x.statement; listed = x.listed; low = omega (arith, low, y.low); high = omega (arith, high, y.high) }) in
     other (ap (λ (k : ℕ). Some k) (omega (arith, up, down)))
-
--- another statement wins at an address, or none does
-pub record WinsOther (ss : List Statement) (a : ℕ) (won : Option ℕ) : Type 0 where
-  pub other : Option ℕ
-  pub wins : IsWinner ss a other
-  pub is_other : other ≢ won
 
 -- the statement with the number is one of them
 listed_won : (ss : List Statement) (won : Option ℕ) (s : Statement) → statement_won ss won ≡ Some s → Contains ss s

@@ -1,4 +1,4 @@
-use Rattle.std.specs.Prelude.{ℕ, ◌*◌, ◌-◌, ◌/◌, ◌%◌, ◌^◌, List, bit_and, bit_or, bit_xor, drop, length, ◌≡◌, ◌||◌, ◌==◌, Bool, true, false, if◌then◌else◌, ◌∷◌, ◌++◌, Some, Ok, ◌+◌, ◌≤◌, ◌⊎◌, Option, All, Contains, IsSomeAnd, option_and_then, option_map, slice_get, unwrap_or, ◌&&◌, None, take, ◌≢◌, [], Result, Err, IfErr, IfOk, OnErr, OnOk}
+use Rattle.std.specs.Prelude.{ℕ, ◌*◌, ◌-◌, ◌/◌, ◌%◌, ◌^◌, List, bit_and, bit_or, bit_xor, drop, length, ◌≡◌, ◌||◌, ◌==◌, Bool, true, false, if◌then◌else◌, ◌∷◌, ◌++◌, Some, Ok, ◌+◌, ◌<◌, ◌≤◌, ◌⊎◌, Option, All, Contains, IsSomeAnd, option_and_then, option_map, slice_get, unwrap_or, ◌&&◌, None, take, ◌≢◌, [], Result, Err, IfErr, IfOk, OnErr, OnOk}
 use Rattle.std.specs.Int.{from_le_bytes, w64}
 use Rattle.std.specs.List.{fold, list_any, IsDistinct}
 use Rattle.std.specs.Simd.{first_chunks}
@@ -15,6 +15,10 @@ use Rattle.pmap_text.specs.declared.leading.Word.TheVariants.{Block as block_wor
 use Rattle.pmap_text.specs.declared.statement.Statement.{Statement}
 use Rattle.pmap_text.specs.Starting.{Start, AreStarts, start_of}
 use Rattle.pmap_text.specs.declared.sweep.Sweep.{Sweep}
+use Rattle.pmap_text.specs.declared.ascent.Ascent.{Ascent}
+use Rattle.pmap_text.specs.Stretches.{HasEveryAddress, HasStretch, LabelId, StretchesModel, first_at, label_at, label_seen, last_at}
+use Rattle.prefix_keys.specs.Block.{width_of}
+use Rattle.std.specs.List.Sorted.{IsNonDecreasingBy}
 use Rattle.pmap_text.specs.ListModel.{Prefix}
 use Rattle.pmap_text.specs.Reading.{has_prefix, Earlier, has_room, text_read, MapFault, MapFaultKind, DuplicateBlock, NoMemory, Form}
 use Rattle.pmap_text.specs.MapModel.{Label}
@@ -120,6 +124,59 @@ pub record IsSweeping (ss : List Statement) (end first : ℕ) (s : Sweep) : Type
   pub from : first ≤ s.last
   pub to : s.last ≤ end
   pub wins : (a : ℕ) → first ≤ a → a ≤ s.last → IsWinner ss a s.won
+
+-- How stretches are built from the first address to the last.
+
+-- the start of the last stretch
+abbrev pub last_first : StretchesModel → ℕ
+last_first s = first_at s (length s.firsts - 1)
+
+-- another statement wins at an address, or none does
+pub record WinsOther (ss : List Statement) (a : ℕ) (won : Option ℕ) : Type 0 where
+  pub other : Option ℕ
+  pub wins : IsWinner ss a other
+  pub is_other : other ≢ won
+
+-- The stretches before the last one are there, and the last one extends to `last` at least: there the statement wins.
+pub record AreStretchesTo (ss : List Statement) (default : Option LabelId) (s : StretchesModel) (won : Option ℕ) (last : ℕ) : Type 0 where
+  pub every : HasEveryAddress s
+  pub settled : (i : ℕ) → i + 1 < length s.firsts → HasStretch (width_of s.version) ss default (first_at s i) (last_at s i) (label_at s i)
+  pub before : (a : ℕ) → a + 1 ≡ last_first s → WinsOther ss a won
+  pub from : last_first s ≤ last
+  pub wins : (a : ℕ) → last_first s ≤ a → a ≤ last → IsWinner ss a won
+  pub label : label_at s (length s.firsts - 1) ≡ label_seen default (statement_won ss won)
+
+-- Of the first statements, those with these numbers may cover addresses from `first` on. All have begun.
+pub record AreOpen (ss : List Statement) (next first : ℕ) (opened : List ℕ) : Type 0 where
+  pub ascending : IsNonDecreasingBy (λ n. n) opened
+  pub begun : All (λ j. (j < next) × (s : Statement) × (slice_get ss j ≡ Some s) × (s.span.low.value ≤ first)) opened
+  pub every : (j : ℕ) (s : Statement) → j < next → slice_get ss j ≡ Some s → first ≤ s.span.high.value → Contains opened j
+
+-- all statements but the first begin after the address
+abbrev pub BeginAfter : List Statement → ℕ → ℕ → Type 0
+BeginAfter ss next last = (j : ℕ) (s : Statement) → next ≤ j → slice_get ss j ≡ Some s → last < s.span.low.value
+
+-- the last open statement, if there is one, goes on to the address
+abbrev pub ReachesTo : List Statement → List ℕ → ℕ → Type 0
+ReachesTo ss opened last =
+    (j : ℕ) (s : Statement) → slice_get opened (length opened - 1) ≡ Some j → slice_get ss j ≡ Some s → last ≤ s.span.high.value
+
+-- the labels have numbers below the one that is stored for a missing label
+pub record HaveNumbers (ss : List Statement) (default : Option LabelId) : Type 0 where
+  pub labels : All (λ s. s.label.0 < 2 ^ 32 - 1) ss
+  pub fallback : ForSome default (λ id. id.0 < 2 ^ 32 - 1)
+
+-- the stretches of statements that begin in ascending order are there up to an address, and the open statements known
+pub record IsAscent (ss : List Statement) (a : Ascent) : Type 0 where
+  pub are : AreStretchesTo ss a.default a.growing.stretches a.growing.won a.growing.last
+  pub opened : AreOpen ss a.next (a.growing.last + 1) a.opened.items
+
+-- the stretches may have been extended, and no other statement was opened
+pub record Continues (ss : List Statement) (old new : Ascent) : Type 0 where
+  pub ascent : IsAscent ss new
+  pub version : new.growing.stretches.version ≡ old.growing.stretches.version
+  pub default : new.default ≡ old.default
+  pub next : new.next ≡ old.next
 
 -- How a repeated block is found. This is private, and callers of the crate need not read it.
 

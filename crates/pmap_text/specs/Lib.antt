@@ -15,3 +15,4 @@ pub mod Settled
 pub mod Runs
 pub mod Sorting
 pub mod RunsText
+pub mod Mappings

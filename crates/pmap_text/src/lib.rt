@@ -18,11 +18,13 @@
 //! cite, including the label that a map gives an address and settled blocks, are in `specs`.
 #![tactic(auto)]
 
+mod ascent;
 mod declarations;
 mod entries;
 mod entry;
 mod fault;
 mod form;
+mod growing;
 mod hashing;
 mod in_version;
 mod label;
@@ -30,8 +32,8 @@ mod labels;
 mod laws;
 mod leading;
 mod lines;
-mod list_statements;
 mod map_text;
+mod mappings;
 mod name;
 mod opened;
 mod order;

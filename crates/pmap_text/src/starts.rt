@@ -24,8 +24,8 @@ impl<'a> Model for Starts<'a> {
     ghost view = { λ s. unwrap_or (option_map (λ v. v.items) s.sorted) (starts_from 0 s.statements.now) };
 }
 
-// Returns `true` only if no statement begins before an earlier one.
-fn are_ascending(statements: &Statements) -> bool
+/// Returns `true` only if no statement begins before an earlier one.
+pub fn are_ascending(statements: &Statements) -> bool
     ensures { IsTrue result → IsNonDecreasingBy (λ s. s.span.low.value) statements.now }
 {
     for place in 1..statements.len() {

@@ -1,19 +1,22 @@
-ghost use Rattle.std.specs.Prelude.{◌≡◌, ℕ, ◌+◌, ◌-◌, ◌*◌, ◌^◌, ◌<◌, ◌≤◌, ◌++◌, ◌∷◌, [], List, None, Some, All, IfOk, OnOk, length};
+ghost use Rattle.std.specs.Prelude.{◌≡◌, ◌↔◌, ℕ, IsTrue, ◌+◌, ◌-◌, ◌*◌, ◌^◌, ◌<◌, ◌≤◌, ◌++◌, ◌∷◌, [], List, None, Some, All, IfOk, OnOk, length};
 ghost use Rattle.std.specs.Option.{ForSome};
 ghost use Rattle.prefix_keys.specs.Block.{width_of};
-ghost use Rattle.pmap_text.specs.Stretches.{label_kept, AreLabelsBelow, AreStretches, HasEveryAddress, HoldsAddress, count_begun, first_at, label_at, label_held, label_seen, last_at, text_held, text_won};
+ghost use Rattle.pmap_text.specs.Stretches.{label_kept, AreLabelsBelow, AreStretches, HasEveryAddress, HoldsAddress, count_begun, first_at, label_at, label_held, last_at, text_held, text_won};
 ghost use Rattle.pmap_text.specs.ListModel.{list_label};
 ghost use Rattle.pmap_text.specs.MapModel.{map_label};
 ghost use Rattle.pmap_text.specs.MapText.{map_of};
 ghost use Rattle.pmap_text.specs.PrefixList.{AreShortestFirst, list_of};
 ghost use Rattle.pmap_text.specs.declared.statement.Statement.{Statement};
-ghost use Rattle.pmap_text.specs.Inner.{statement_won};
+ghost use Rattle.pmap_text.specs.Inner.{HaveNumbers};
 
+use crate::ascent::{label_won, of_ascending};
+use crate::growing::Growing;
 use crate::label::LabelId;
 use crate::labels::Labels;
-use crate::list_statements::statements_of_list;
 use crate::map_text::MapText;
+use crate::order::{in_order, sorted_or};
 use crate::prefix_list::PrefixList;
+use crate::starts::are_ascending;
 use crate::statements::Statements;
 use crate::sweep::{Sweep, last_address};
 use prefix_keys::Version;
@@ -78,19 +81,31 @@ fn given(id: LabelId) -> Option<LabelId>
     if id.0 == NO_LABEL.0 { None } else { Some(id) }
 }
 
-// Returns the label where a statement wins, or the default if none does.
-fn label_won(
-    statements: &Statements,
-    won: Option<usize>,
+// Returns the stretches of statements.
+fn of_statements(
+    alloc: Global,
+    version: Version,
     default: Option<LabelId>,
-) -> Option<LabelId>
-    requires { ForSome won (λ number. number < length statements.now) }
-    ensures { result ≡ label_seen default (statement_won statements.now won) }
+    statements: &Statements,
+) -> Result<Stretches, AllocError>
+    requires { HaveNumbers statements.now default }
+    ensures version { IfOk result (λ s. s.version ≡ version) }
+    ensures stretches { IfOk result (AreStretches statements.now default) }
 {
-    match won {
-        Some(number) => Some(statements.at(number).label),
-        None => default,
+    if are_ascending(statements) {
+        return of_ascending(alloc, version, default, statements);
     }
+    let end = last_address(version);
+    let mut sweep = Sweep::new(alloc, end, statements)?;
+    let label = label_won(statements, sweep.won, default);
+    let mut growing = Growing::new(alloc, version, sweep.won, label, sweep.last)?;
+    while sweep.last < end {
+        let first = sweep.last + 1;
+        sweep.move_to(statements, end, first)?;
+        let label = label_won(statements, sweep.won, default);
+        growing.extend(sweep.won, label, sweep.last)?;
+    }
+    Ok(growing.stretches)
 }
 
 impl Stretches {
@@ -113,18 +128,7 @@ impl Stretches {
     {
         // Provides the law that the numbers of a table's labels are below the one that is stored for a missing label.
         let _count = labels.len();
-        let end = last_address(version);
-        let mut sweep = Sweep::new(alloc, end, statements)?;
-        let mut won = sweep.won;
-        let mut stretches = Stretches::whole(alloc, version, label_won(statements, won, default))?;
-        while sweep.last < end {
-            let first = sweep.last + 1;
-            sweep.move_to(statements, end, first)?;
-            if sweep.won != won {
-                won = sweep.won;
-                stretches.push(first, label_won(statements, won, default))?;
-            }
-        }
+        let stretches = of_statements(alloc, version, default, statements)?;
         Ok(stretches)
     }
 
@@ -184,12 +188,16 @@ impl Stretches {
         ensures labels { IfOk result (λ s. (a : ℕ) → a < 2 ^ width_of list.now.version →
             text_held list.now.labels s a ≡ list_label (list_of list.now) a) }
     {
-        let statements = statements_of_list(alloc, list)?;
-        Stretches::new(alloc, list.version, None, &list.labels, &statements)
+        // Provides the law that the numbers of a table's labels are below the one that is stored for a missing label.
+        let _count = list.labels.len();
+        let sorted = in_order(alloc, &list.entries)?;
+        let entries = sorted_or(&sorted, &list.entries);
+        let stretches = of_ascending(alloc, list.version, None, entries)?;
+        Ok(stretches)
     }
 
-    // Returns one stretch that has all addresses of the version.
-    fn whole(
+    /// Returns one stretch that has all addresses of the version.
+    pub(crate) fn whole(
         alloc: Global,
         version: Version,
         label: Option<LabelId>,
@@ -208,10 +216,10 @@ impl Stretches {
         Ok(Stretches { begins })
     }
 
-    // Appends a stretch that begins at the address, where the last stretch ends. If an allocation fails, the stretches
-    // are unchanged.
+    /// Appends a stretch that begins at the address, where the last stretch ends. If an allocation fails, the stretches
+    /// are unchanged.
     #[inline(always)]
-    fn push(&mut self, first: u128, label: Option<LabelId>) -> Result<(), AllocError>
+    pub(crate) fn push(&mut self, first: u128, label: Option<LabelId>) -> Result<(), AllocError>
         requires above { first_at self.old (length self.old.firsts - 1) < first }
         requires within { first < 2 ^ width_of self.old.version }
         requires known { ForSome label (λ id. id.0 < 2 ^ 32 - 1) }
@@ -281,6 +289,16 @@ impl Stretches {
         }
     }
 
+    // Returns `true` if the stretch with this index ends before the address.
+    #[inline(always)]
+    fn ends_before(&self, index: usize, address: u128) -> bool
+        requires index { index < length self.now.firsts }
+        requires address { address < 2 ^ width_of self.now.version }
+        ensures { IsTrue result ↔ (last_at self.now index < address) }
+    {
+        index < self.len() - 1 && self.first(index + 1) <= address
+    }
+
     /// Returns the label of the stretch with this index.
     #[inline(always)]
     pub fn label(&self, index: usize) -> Option<LabelId>
@@ -333,7 +351,7 @@ impl Stretches {
         let mut low = start;
         let mut high = start;
         // Each step looks at twice as many stretches as the one before.
-        while self.last(high) < address {
+        while self.ends_before(high, address) {
             low = high + 1;
             high = end.min(high.saturating_add(low - start));
         }

@@ -108,3 +108,13 @@ are_halves W n v h short fits none is =
       lower = rw (← is, half) (lower_number v h some free);
       upper = rw (← is, half) (upper_number v h some free);
     }
+
+-- the last number of a block
+pub last-fits : (W n v : ℕ) → n ≤ W → v < 2 ^ W → v % 2 ^ (W - n) ≡ 0 → v + (2 ^ (W - n) - 1) < 2 ^ W
+last-fits W n v h fits none =
+    let some : 0 < 2 ^ (W - n) = pow_pos (W - n) in
+    let end : v + 2 ^ (W - n) ≤ 2 ^ W = block_end W n v h fits none in
+    omega arith
+
+pub last-above : (v k : ℕ) → v ≤ v + k
+last-above v k = omega arith

@@ -1,15 +1,14 @@
 use Rattle.std.proofs.Common.{◌≡◌, ◌+◌, ◌-◌, ◌≤◌}
-use Rattle.pmap_text.specs.Inner.{IsReady}
-use Rattle.pmap_text.proofs.Stretched.{AreStretchesTo}
-use Rattle.pmap_text.proofs.stretches.Stretches.new.Given as goal
+use Rattle.pmap_text.specs.Inner.{AreStretchesTo, IsReady}
+use Rattle.pmap_text.proofs.stretches.of_statements.Given as goal
 
 abbrev pub invariant-loop-sweep : goal.invariant-loop-sweep
 invariant-loop-sweep l = record {
-  version : l.stretches.version ≡ l.initial.stretches.version;
+  version : l.growing.stretches.version ≡ l.initial.growing.stretches.version;
   ready : IsReady l.statements (l.sweep.last + 1) l.sweep;
   to : l.sweep.last ≤ l.end;
-  won : l.sweep.won ≡ l.won;
-  are : AreStretchesTo l.statements l.default l.stretches l.won l.sweep.last;
+  last : l.growing.last ≡ l.sweep.last;
+  are : AreStretchesTo l.statements l.default l.growing.stretches l.growing.won l.growing.last;
 }
 
 abbrev pub decreases-loop-sweep : goal.decreases-loop-sweep

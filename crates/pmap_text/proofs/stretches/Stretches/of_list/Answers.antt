@@ -1,0 +1,48 @@
+use Rattle.std.proofs.Common.{◌≡◌, ◌∙◌, ℕ, ◌-◌, ◌^◌, ◌<◌, Some, None, arith, length, map, subst, sym}
+use Rattle.std.specs.List.Sorted.{IsNonDecreasingBy}
+use Rattle.std.specs.Option.{ForSome}
+use Rattle.std.proofs.lemmas.List.Elements.{All-weaker}
+use Rattle.prefix_keys.specs.Block.{width_of}
+use Rattle.prefix_keys.specs.declared.version.Version.{Version}
+use Rattle.pmap_text.specs.ListEntries.{rank_of}
+use Rattle.pmap_text.specs.Mappings.{statement_of}
+use Rattle.pmap_text.specs.Stretches.{LabelId}
+use Rattle.pmap_text.proofs.EntryStatements.{lows_ascend, shortest_first}
+use Rattle.pmap_text.proofs.ListPainted.{statements_of}
+use Rattle.pmap_text.proofs.Stretched.{held_text, stretches_known}
+use Rattle.pmap_text.proofs.stretches.Stretches.of_list.Goals as goal
+
+no_default : (count : ℕ) → ForSome None (λ (id : LabelId). id.0 < count)
+no_default count id is = absurd (let h : None ≡ Some id = is in cc)
+
+pub of_ascending-requires-clause-known : goal.of_ascending-requires-clause-known
+of_ascending-requires-clause-known c =
+    let ss = map statement_of c.sorted_or-entries.result.now in
+    let order = shortest_first c.args.list.now.entries _ _ c.sorted_or-entries.ensures c.in_ok-sorted.ensures.same c.in_ok-sorted.ensures.ascending in
+    record {
+      labels = All-weaker (λ s. s.label.0 < length c.args.list.now.labels) (λ s. s.label.0 < 2 ^ 32 - 1)
+          (λ s less. omega (arith, less, c.len-count.ensures.value, c.len-count.ensures.few)) ss (statements_of c.args.list.now ss order).known;
+      fallback = no_default (2 ^ 32 - 1);
+    }
+
+pub of_ascending-requires-clause-ascending : goal.of_ascending-requires-clause-ascending
+of_ascending-requires-clause-ascending c =
+    lows_ascend c.sorted_or-entries.result.now
+    (subst (IsNonDecreasingBy (λ e. rank_of e.block)) (sym c.sorted_or-entries.ensures) c.in_ok-sorted.ensures.ascending)
+
+pub returns : goal.returns
+returns c =
+    let l = c.args.list.now in
+    let ss = map statement_of c.sorted_or-entries.result.now in
+    let order = shortest_first l.entries _ _ c.sorted_or-entries.ensures c.in_ok-sorted.ensures.same c.in_ok-sorted.ensures.ascending in
+    let facts = statements_of l ss order in
+    let made = c.in_ok-stretches.ensures in
+    let known = stretches_known ss None (length l.labels) c.in_ok-stretches.stretches made.stretches facts.known (no_default (length l.labels)) in
+    record {
+      version = made.version;
+      stretches = (ss, order, made.stretches);
+      known = known;
+      labels = λ a below.
+          held_text ss None l.labels c.in_ok-stretches.stretches made.stretches known a
+          (subst (λ (v : Version). a < 2 ^ width_of v) (sym made.version) below) ∙ facts.labels a;
+    }

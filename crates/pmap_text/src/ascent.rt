@@ -1,0 +1,176 @@
+//! The stretches of mappings whose first addresses ascend.
+ghost use Rattle.std.specs.Prelude.{◌≡◌, ◌+◌, ◌^◌, ◌<◌, ◌≤◌, All, IfOk, OnOk, length};
+ghost use Rattle.std.specs.List.Sorted.{IsNonDecreasingBy};
+ghost use Rattle.std.specs.Option.{ForSome};
+ghost use Rattle.prefix_keys.specs.Block.{width_of};
+ghost use Rattle.pmap_text.specs.Inner.{AreOpen, BeginAfter, Continues, HaveNumbers, IsAscent, ReachesTo, statement_won};
+ghost use Rattle.pmap_text.specs.Stretches.{AreStretches, label_seen};
+
+use crate::growing::Growing;
+use crate::label::LabelId;
+use crate::mappings::Mappings;
+use crate::stretches::Stretches;
+use crate::sweep::last_address;
+use prefix_keys::Version;
+use std::alloc::{AllocError, Global};
+
+/// The stretches of mappings up to an address, the label of the addresses that no mapping covers, the number of mappings
+/// that have begun, and the numbers of those that may go on.
+#[derive(Drop)]
+pub struct Ascent {
+    pub growing: Growing,
+    pub default: Option<LabelId>,
+    pub next: usize,
+    pub opened: Vec<usize>,
+}
+
+/// Returns the label where a mapping wins, or the default if none does.
+#[inline(always)]
+pub fn label_won<M: Mappings>(
+    mappings: &M,
+    won: Option<usize>,
+    default: Option<LabelId>,
+) -> Option<LabelId>
+    requires { ForSome won (λ number. number < length (M.all mappings.now)) }
+    ensures { result ≡ label_seen default (statement_won (M.all mappings.now) won) }
+{
+    match won {
+        Some(number) => Some(mappings.mapping(number).label),
+        None => default,
+    }
+}
+
+// Returns the numbers of the mappings that begin at address 0.
+fn opened_at_zero<M: Mappings>(alloc: Global, mappings: &M) -> Result<Vec<usize>, AllocError>
+    requires { IsNonDecreasingBy (λ s. s.span.low.value) (M.all mappings.now) }
+    ensures opened { IfOk result (λ o. AreOpen (M.all mappings.now) (length o.items) 0 o.items) }
+    ensures later { IfOk result (λ o. BeginAfter (M.all mappings.now) (length o.items) 0) }
+{
+    let mut opened = Vec::new(alloc);
+    for number in 0..mappings.count() {
+        if mappings.mapping(number).span.low.value != 0 {
+            return Ok(opened);
+        }
+        opened.push(number)?;
+    }
+    Ok(opened)
+}
+
+impl Ascent {
+    // Returns the stretches up to address 0.
+    fn new<M: Mappings>(
+        alloc: Global,
+        version: Version,
+        default: Option<LabelId>,
+        mappings: &M,
+    ) -> Result<Ascent, AllocError>
+        requires known { HaveNumbers (M.all mappings.now) default }
+        requires ascending { IsNonDecreasingBy (λ s. s.span.low.value) (M.all mappings.now) }
+        ensures ascent { IfOk result (IsAscent (M.all mappings.now)) }
+        ensures version { IfOk result (λ a. a.growing.stretches.version ≡ version) }
+        ensures default { IfOk result (λ a. a.default ≡ default) }
+        ensures last { IfOk result (λ a. a.growing.last ≡ 0) }
+        ensures later { IfOk result (λ a. BeginAfter (M.all mappings.now) a.next a.growing.last) }
+    {
+        let opened = opened_at_zero(alloc, mappings)?;
+        let won = opened.last().copied();
+        let label = label_won(mappings, won, default);
+        let growing = Growing::new(alloc, version, won, label, 0)?;
+        Ok(Ascent {
+            growing,
+            default,
+            next: opened.len(),
+            opened,
+        })
+    }
+
+    // Extends the stretches to the ends of the open mappings that don't go on after the address, and closes these.
+    #[inline(always)]
+    fn close_to<M: Mappings>(&mut self, mappings: &M, last: u128) -> Result<(), AllocError>
+        requires known { HaveNumbers (M.all mappings.now) self.old.default }
+        requires ascent { IsAscent (M.all mappings.now) self.old }
+        requires later { BeginAfter (M.all mappings.now) self.old.next last }
+        requires from { self.old.growing.last ≤ last }
+        requires within { last < 2 ^ width_of self.old.growing.stretches.version }
+        ensures continues { OnOk result (Continues (M.all mappings.now) self.old self.new) }
+        ensures last { OnOk result (self.new.growing.last ≤ last) }
+        ensures reaches { OnOk result (ReachesTo (M.all mappings.now) self.new.opened.items last) }
+    {
+        while let Some(number) = self.opened.last().copied() {
+            let mapping = mappings.mapping(number);
+            let high = mapping.span.high.value;
+            if last < high {
+                return Ok(());
+            }
+            self.growing
+                .extend(Some(number), Some(mapping.label), high)?;
+            self.opened.pop();
+        }
+        Ok(())
+    }
+
+    // Extends the stretches to the address, after which the next mapping begins.
+    #[inline(always)]
+    fn reach<M: Mappings>(&mut self, mappings: &M, last: u128) -> Result<(), AllocError>
+        requires known { HaveNumbers (M.all mappings.now) self.old.default }
+        requires ascent { IsAscent (M.all mappings.now) self.old }
+        requires later { BeginAfter (M.all mappings.now) self.old.next last }
+        requires from { self.old.growing.last ≤ last }
+        requires within { last < 2 ^ width_of self.old.growing.stretches.version }
+        ensures continues { OnOk result (Continues (M.all mappings.now) self.old self.new) }
+        ensures last { OnOk result (self.new.growing.last ≡ last) }
+    {
+        self.close_to(mappings, last)?;
+        let won = self.opened.last().copied();
+        let label = label_won(mappings, won, self.default);
+        self.growing.extend(won, label, last)?;
+        Ok(())
+    }
+
+    // Extends the stretches to the address before the last mapping begins that does so up to `end`.
+    fn open_all<M: Mappings>(&mut self, mappings: &M, end: u128) -> Result<(), AllocError>
+        requires known { HaveNumbers (M.all mappings.now) self.old.default }
+        requires ascending { IsNonDecreasingBy (λ s. s.span.low.value) (M.all mappings.now) }
+        requires ascent { IsAscent (M.all mappings.now) self.old }
+        requires later { BeginAfter (M.all mappings.now) self.old.next self.old.growing.last }
+        requires from { self.old.growing.last ≤ end }
+        requires within { end < 2 ^ width_of self.old.growing.stretches.version }
+        ensures ascent { OnOk result (IsAscent (M.all mappings.now) self.new) }
+        ensures version { OnOk result
+            (self.new.growing.stretches.version ≡ self.old.growing.stretches.version) }
+        ensures default { OnOk result (self.new.default ≡ self.old.default) }
+        ensures later { OnOk result (BeginAfter (M.all mappings.now) self.new.next end) }
+        ensures last { OnOk result (self.new.growing.last ≤ end) }
+    {
+        while self.next < mappings.count() {
+            let low = mappings.mapping(self.next).span.low.value;
+            if end < low {
+                return Ok(());
+            }
+            self.reach(mappings, low - 1)?;
+            self.opened.push(self.next)?;
+            self.next += 1;
+        }
+        Ok(())
+    }
+}
+
+/// Returns the stretches of mappings whose first addresses ascend. `default` is the label of the addresses that no
+/// mapping covers.
+pub fn of_ascending<M: Mappings>(
+    alloc: Global,
+    version: Version,
+    default: Option<LabelId>,
+    mappings: &M,
+) -> Result<Stretches, AllocError>
+    requires known { HaveNumbers (M.all mappings.now) default }
+    requires ascending { IsNonDecreasingBy (λ s. s.span.low.value) (M.all mappings.now) }
+    ensures version { IfOk result (λ s. s.version ≡ version) }
+    ensures stretches { IfOk result (AreStretches (M.all mappings.now) default) }
+{
+    let end = last_address(version);
+    let mut ascent = Ascent::new(alloc, version, default, mappings)?;
+    ascent.open_all(mappings, end)?;
+    ascent.reach(mappings, end)?;
+    Ok(ascent.growing.stretches)
+}
