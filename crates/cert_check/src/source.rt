@@ -46,8 +46,9 @@ impl Source {
             result ≡ has_one_label from self.now.stretches first last (text_at to id.0) }
     {
         let index = self.stretches.find_near(*near, first);
+        let holds = last <= self.stretches.last(index)
+            && is_label(self.numbers.as_slice(), self.stretches.label(index), id);
         *near = index;
-        last <= self.stretches.last(index)
-            && is_label(self.numbers.as_slice(), self.stretches.label(index), id)
+        holds
     }
 }

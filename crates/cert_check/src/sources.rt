@@ -135,29 +135,6 @@ impl<'a> Sources<'a> {
         whole <= last || self.is_clear(near, last + 1, whole, side)
     }
 
-    // Returns the fault of the blocks beside the path from the block, from the deepest up, as leaves with the label.
-    fn sides_fault(
-        &self,
-        near: &mut Near,
-        block: &Block,
-        path: &Path,
-        side: LabelId,
-    ) -> Option<CheckFaultKind>
-        requires sources { AreSources self.now }
-        requires version { block.now.version ≡ self.now.map.now.version }
-        requires known { side.0 < length self.now.frame.labels.now }
-        requires room { block.now.len + path.now.count ≤ width_of block.now.version }
-        ensures { result ≡ sides_fault_of (map_of self.now.map.now) (list_of self.now.list.now).prefixes
-            (text_at self.now.frame.labels.now side.0) (bits_in path.now) block.now.len (number_of block.now) }
-    {
-        let (bit, rest) = path.split_first()?;
-        let (chosen, beside) = halves_by(block, bit)?;
-        match self.sides_fault(near, &chosen, &rest, side) {
-            None => self.leaf_fault(near, &beside, side),
-            fault => fault,
-        }
-    }
-
     /// Returns the fault of the blocks beside the path from the block to its end, from the deepest up, as leaves with
     /// the label `side`. One look at the addresses after the end is enough if those before it are clear.
     pub fn path_fault(
@@ -178,9 +155,13 @@ impl<'a> Sources<'a> {
             (text_at self.now.frame.labels.now side.0) (bits_in path.now) block.now.len (number_of block.now) }
     {
         if is_clear_before && self.is_clear_after(near, block, &path.end(block), side) {
-            None
-        } else {
-            self.sides_fault(near, block, path, side)
+            return None;
+        }
+        let (bit, rest) = path.split_first()?;
+        let (chosen, beside) = halves_by(block, bit)?;
+        match self.path_fault(near, &chosen, &rest, side, false) {
+            None => self.leaf_fault(near, &beside, side),
+            fault => fault,
         }
     }
 }

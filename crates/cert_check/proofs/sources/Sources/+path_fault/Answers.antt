@@ -4,8 +4,9 @@ use Rattle.pmap_text.specs.MapText.{map_of, text_at}
 use Rattle.pmap_text.specs.PrefixList.{list_of, number_of_block}
 use Rattle.pmap_cert.specs.Packed.{bits_in}
 use Rattle.cert_check.specs.Checking.{CheckFaultKind, leaf_fault}
+use Rattle.cert_check.proofs.Beside.{path-clear}
 use Rattle.cert_check.proofs.Nodes.{or-some, sides-step}
-use Rattle.cert_check.proofs.sources.Sources.+sides_fault.Goals as goal
+use Rattle.cert_check.proofs.sources.Sources.+path_fault.Goals as goal
 
 pub returns-in-None : goal.returns-in-None
 returns-in-None t c =
@@ -16,7 +17,7 @@ returns-in-None t c =
     let next = c.in_ok-chosen in
     c.leaf_fault.ensures
     ∙ sym (sides-step m ps x c.args.block.now next.chosen next.beside c.in_ok-bit.bit (bits_in c.args.path.now) (bits_in c.in_ok-bit.rest) c.in_ok-bit.ensures.bits next.ensures.chosen next.ensures.beside
-    ∙ ap (λ (o : Option CheckFaultKind). option_or o (leaf_fault m ps next.beside.len (number_of_block next.beside) x)) (sym c.sides_fault.ensures ∙ c.in-None.is))
+    ∙ ap (λ (o : Option CheckFaultKind). option_or o (leaf_fault m ps next.beside.len (number_of_block next.beside) x)) (sym c.path_fault.ensures ∙ c.in-None.is))
 
 pub returns-in_default : goal.returns-in_default
 returns-in_default t c =
@@ -26,5 +27,12 @@ returns-in_default t c =
     let x = text_at s.frame.labels.now c.args.side.0 in
     let next = c.in_ok-chosen in
     sym (sides-step m ps x c.args.block.now next.chosen next.beside c.in_ok-bit.bit (bits_in c.args.path.now) (bits_in c.in_ok-bit.rest) c.in_ok-bit.ensures.bits next.ensures.chosen next.ensures.beside
-    ∙ ap (λ (o : Option CheckFaultKind). option_or o (leaf_fault m ps next.beside.len (number_of_block next.beside) x)) (sym c.sides_fault.ensures)
-    ∙ or-some c.sides_fault.result (leaf_fault m ps next.beside.len (number_of_block next.beside) x) c.in_default.not-None)
+    ∙ ap (λ (o : Option CheckFaultKind). option_or o (leaf_fault m ps next.beside.len (number_of_block next.beside) x)) (sym c.path_fault.ensures)
+    ∙ or-some c.path_fault.result (leaf_fault m ps next.beside.len (number_of_block next.beside) x) c.in_default.not-None)
+
+pub returns-then-is_clear_after : goal.returns-then-is_clear_after
+returns-then-is_clear_after t c =
+    let s = c.args.self.now in
+    let x = text_at s.frame.labels.now c.args.side.0 in
+    sym (path-clear s x c.args.block.now c.end.result c.requires.version (bits_in c.args.path.now) c.end.ensures
+    (c.requires.before c.end.result c.end.ensures c.if-is_clear_before.true) (c.is_clear_after.ensures c.if-is_clear_after.true))
