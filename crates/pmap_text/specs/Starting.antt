@@ -1,4 +1,4 @@
-use Rattle.std.specs.Prelude.{◌≡◌, ℕ, ◌+◌, List, [], ◌∷◌, Some, All, Contains, slice_get}
+use Rattle.std.specs.Prelude.{◌≡◌, ℕ, List, Some, All, Contains, slice_get}
 use Rattle.std.specs.List.Sorted.{IsNonDecreasingBy}
 use Rattle.pmap_text.specs.declared.statement.Statement.{Statement}
 pub use Rattle.pmap_text.specs.declared.start.Start.{Start}
@@ -15,8 +15,3 @@ pub record AreStarts (ss : List Statement) (starts : List Start) : Type 0 where
   pub each : All (IsStart ss) starts
   pub every : (j : ℕ) (s : Statement) → slice_get ss j ≡ Some s → Contains starts (start_of j s)
   pub ascending : IsNonDecreasingBy (λ start. start.low) starts
-
--- the starts of statements, in their own order, with numbers from this one on
-abbrev pub starts_from : ℕ → List Statement → List Start
-starts_from n [] = []
-starts_from n (s ∷ ss) = start_of n s ∷ starts_from (n + 1) ss

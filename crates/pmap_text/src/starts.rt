@@ -7,21 +7,19 @@ use crate::statements::Statements;
 use std::alloc::{AllocError, Global};
 use std::marker::Model;
 
-/// The starts of statements, in ascending order. If the statements are in that order already, as in most texts, nothing
-/// is copied and nothing is sorted.
+/// The starts of statements, in ascending order.
 #[derive(Drop)]
-pub struct Starts<'a> {
-    statements: &'a Statements,
-    sorted: Option<Vec<Start>>,
+pub struct Starts {
+    sorted: Vec<Start>,
 }
 
-impl<'a> Model for Starts<'a> {
-    ghost use Rattle.std.specs.Prelude.{List, option_map, unwrap_or};
-    ghost use Rattle.pmap_text.specs.Starting.{Start, starts_from};
+impl Model for Starts {
+    ghost use Rattle.std.specs.Prelude.{List};
+    ghost use Rattle.pmap_text.specs.Starting.{Start};
 
     ghost Value = { List Start };
 
-    ghost view = { λ s. unwrap_or (option_map (λ v. v.items) s.sorted) (starts_from 0 s.statements.now) };
+    ghost view = { λ s. s.sorted.items };
 }
 
 /// Returns `true` only if no statement begins before an earlier one.
@@ -36,50 +34,28 @@ pub fn are_ascending(statements: &Statements) -> bool
     true
 }
 
-// Returns the starts of the statements, sorted.
-fn sorted_starts(alloc: Global, statements: &Statements) -> Result<Vec<Start>, AllocError>
-    ensures { IfOk result (λ starts. AreStarts statements.now starts.items) }
-{
-    let mut starts = Vec::with_capacity(alloc, statements.len())?;
-    for number in 0..statements.len() {
-        let statement = statements.at(number);
-        starts.push(Start {
-            low: statement.span.low.value,
-            number,
-        })?;
-    }
-    starts.sort_unstable_by_key(|start| start.low);
-    Ok(starts)
-}
-
-impl<'a> Starts<'a> {
+impl Starts {
     /// Returns the starts of these statements.
-    pub fn new(alloc: Global, statements: &'a Statements) -> Result<Starts<'a>, AllocError>
+    pub fn new(alloc: Global, statements: &Statements) -> Result<Starts, AllocError>
         ensures { IfOk result (λ starts. AreStarts statements.now starts) }
     {
-        if are_ascending(statements) {
-            return Ok(Starts {
-                statements,
-                sorted: None,
-            });
+        let mut sorted = Vec::with_capacity(alloc, statements.len())?;
+        for number in 0..statements.len() {
+            let statement = statements.at(number);
+            sorted.push(Start {
+                low: statement.span.low.value,
+                number,
+            })?;
         }
-        let sorted = sorted_starts(alloc, statements)?;
-        Ok(Starts {
-            statements,
-            sorted: Some(sorted),
-        })
+        sorted.sort_unstable_by_key(|start| start.low);
+        Ok(Starts { sorted })
     }
-}
 
-impl Starts<'_> {
     /// Returns the number of starts.
     pub fn len(&self) -> usize
         ensures { result ≡ length self.now }
     {
-        match &self.sorted {
-            Some(sorted) => sorted.len(),
-            None => self.statements.len(),
-        }
+        self.sorted.len()
     }
 
     /// Returns the start at an index.
@@ -87,15 +63,6 @@ impl Starts<'_> {
         requires { place < length self.now }
         ensures { slice_get self.now place ≡ Some result }
     {
-        match &self.sorted {
-            Some(sorted) => sorted[place],
-            None => {
-                let statement = self.statements.at(place);
-                Start {
-                    low: statement.span.low.value,
-                    number: place,
-                }
-            }
-        }
+        self.sorted[place]
     }
 }

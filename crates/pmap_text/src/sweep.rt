@@ -11,18 +11,18 @@ use std::alloc::{AllocError, Global};
 
 /// A sweep over the addresses from the first to the last: the number of the statement that wins at the addresses up to
 /// `last`, if one does, and the state that is needed to continue.
-pub struct Sweep<'a> {
+pub struct Sweep {
     pub won: Option<usize>,
     pub last: u128,
     /// The starts of the statements, in ascending order. Those before `next` have been opened.
-    pub starts: Starts<'a>,
+    pub starts: Starts,
     pub next: usize,
     /// The numbers of the others that have been opened and not yet been found to end.
     pub opened: Opened,
 }
 
 // A drop is one call, so the proofs of functions that drop this type have one step instead of one for each part.
-impl Drop for Sweep<'_> {
+impl Drop for Sweep {
     fn drop(self) {
         let Sweep {
             won: _,
@@ -91,13 +91,9 @@ pub fn last_address(version: Version) -> u128
     }
 }
 
-impl<'a> Sweep<'a> {
+impl Sweep {
     /// Returns a sweep at address 0.
-    pub fn new(
-        alloc: Global,
-        end: u128,
-        statements: &'a Statements,
-    ) -> Result<Sweep<'a>, AllocError>
+    pub fn new(alloc: Global, end: u128, statements: &Statements) -> Result<Sweep, AllocError>
         ensures { IfOk result (IsSweeping statements.now end 0) }
     {
         let mut sweep = Sweep {
@@ -110,9 +106,7 @@ impl<'a> Sweep<'a> {
         sweep.move_to(statements, end, 0)?;
         Ok(sweep)
     }
-}
 
-impl Sweep<'_> {
     /// Goes on to the address.
     #[inline(always)]
     pub fn move_to(
