@@ -6,7 +6,7 @@ use Rattle.std.proofs.lemmas.List.{get_or_append_left, get_or_push, length_push}
 use Rattle.std.proofs.lemmas.List.Elements.{All-contains, All-push, All-weaker, Contains-append_left, Contains-push, Contains-push_cases}
 use Rattle.std.proofs.lemmas.Option.{get_or_from_slice_get, same_Some, slice_get-get_or, slice_get_within}
 use Rattle.pmap_text.specs.declared.statement.Statement.{Statement}
-use Rattle.pmap_text.specs.Inner.{AreOpen, BeginAfter, IsWinner, ReachesTo}
+use Rattle.pmap_text.specs.Inner.{AreOpen, BeginAfter, IsWinner}
 use Rattle.pmap_text.proofs.Finds.{All-left}
 
 -- if a statement begins after an address, so do all later ones
@@ -62,7 +62,8 @@ module _ (ss : List Statement) (next first : ℕ) (opened : List ℕ) (are : Are
       rw end (omega (arith, order, has.2))
 
   -- the last open statement wins up to its end, if no other begins before
-  pub top_wins : (last : ℕ) → BeginAfter ss next last → ReachesTo ss opened last → (a : ℕ) → first ≤ a → a ≤ last
+  pub top_wins : (last : ℕ) → BeginAfter ss next last
+      → ((j : ℕ) (s : Statement) → slice_get opened (length opened - 1) ≡ Some j → slice_get ss j ≡ Some s → last ≤ s.span.high.value) → (a : ℕ) → first ≤ a → a ≤ last
       → IsWinner ss a (slice_get opened (length opened - 1))
   top_wins last later reaches a from to = record {
     covers = λ j is.

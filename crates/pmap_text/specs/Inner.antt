@@ -156,11 +156,6 @@ pub record AreOpen (ss : List Statement) (next first : ℕ) (opened : List ℕ) 
 abbrev pub BeginAfter : List Statement → ℕ → ℕ → Type 0
 BeginAfter ss next last = (j : ℕ) (s : Statement) → next ≤ j → slice_get ss j ≡ Some s → last < s.span.low.value
 
--- the last open statement, if there is one, goes on to the address
-abbrev pub ReachesTo : List Statement → List ℕ → ℕ → Type 0
-ReachesTo ss opened last =
-    (j : ℕ) (s : Statement) → slice_get opened (length opened - 1) ≡ Some j → slice_get ss j ≡ Some s → last ≤ s.span.high.value
-
 -- the labels have numbers below the one that is stored for a missing label
 pub record HaveNumbers (ss : List Statement) (default : Option LabelId) : Type 0 where
   pub labels : All (λ s. s.label.0 < 2 ^ 32 - 1) ss

@@ -3,7 +3,7 @@ ghost use Rattle.std.specs.Prelude.{◌≡◌, ◌+◌, ◌^◌, ◌<◌, ◌≤
 ghost use Rattle.std.specs.List.Sorted.{IsNonDecreasingBy};
 ghost use Rattle.std.specs.Option.{ForSome};
 ghost use Rattle.prefix_keys.specs.Block.{width_of};
-ghost use Rattle.pmap_text.specs.Inner.{AreOpen, BeginAfter, Continues, HaveNumbers, IsAscent, ReachesTo, statement_won};
+ghost use Rattle.pmap_text.specs.Inner.{AreOpen, BeginAfter, Continues, HaveNumbers, IsAscent, statement_won};
 ghost use Rattle.pmap_text.specs.Stretches.{AreStretches, label_seen};
 
 use crate::growing::Growing;
@@ -84,32 +84,7 @@ impl Ascent {
         })
     }
 
-    // Extends the stretches to the ends of the open mappings that don't go on after the address, and closes these.
-    #[inline(always)]
-    fn close_to<M: Mappings>(&mut self, mappings: &M, last: u128) -> Result<(), AllocError>
-        requires known { HaveNumbers (M.all mappings.now) self.old.default }
-        requires ascent { IsAscent (M.all mappings.now) self.old }
-        requires later { BeginAfter (M.all mappings.now) self.old.next last }
-        requires from { self.old.growing.last ≤ last }
-        requires within { last < 2 ^ width_of self.old.growing.stretches.version }
-        ensures continues { OnOk result (Continues (M.all mappings.now) self.old self.new) }
-        ensures last { OnOk result (self.new.growing.last ≤ last) }
-        ensures reaches { OnOk result (ReachesTo (M.all mappings.now) self.new.opened.items last) }
-    {
-        while let Some(number) = self.opened.last().copied() {
-            let mapping = mappings.mapping(number);
-            let high = mapping.span.high.value;
-            if last < high {
-                return Ok(());
-            }
-            self.growing
-                .extend(Some(number), Some(mapping.label), high)?;
-            self.opened.pop();
-        }
-        Ok(())
-    }
-
-    // Extends the stretches to the address, after which the next mapping begins.
+    // Extends the stretches to the address, after which the next mapping begins. Open mappings that end before are closed.
     #[inline(always)]
     fn reach<M: Mappings>(&mut self, mappings: &M, last: u128) -> Result<(), AllocError>
         requires known { HaveNumbers (M.all mappings.now) self.old.default }
@@ -120,10 +95,22 @@ impl Ascent {
         ensures continues { OnOk result (Continues (M.all mappings.now) self.old self.new) }
         ensures last { OnOk result (self.new.growing.last ≡ last) }
     {
-        self.close_to(mappings, last)?;
-        let won = self.opened.last().copied();
-        let label = label_won(mappings, won, self.default);
-        self.growing.extend(won, label, last)?;
+        while self.growing.last < last {
+            let Some(number) = self.opened.last().copied() else {
+                self.growing.extend(None, self.default, last)?;
+                return Ok(());
+            };
+            let mapping = mappings.mapping(number);
+            let high = mapping.span.high.value;
+            if last < high {
+                self.growing
+                    .extend(Some(number), Some(mapping.label), last)?;
+                return Ok(());
+            }
+            self.growing
+                .extend(Some(number), Some(mapping.label), high)?;
+            self.opened.pop();
+        }
         Ok(())
     }
 
