@@ -46,6 +46,8 @@ V4_HOSTS, V6_HOSTS = 200_000, 40_000
 COLLIDING = 0x157C_4A7F_B979_379E
 # The fixed numbers of `KeyHashing`.
 KNOWN_SEED, KNOWN_MULTIPLIER = 0x243F_6A88_85A3_08D3, 0x9E37_79B9_7F4A_7C15
+# The byte before an IPv6 address in the bytes of a key.
+IPV6_PART = 1
 # Nearly as many fields as a message can hold.
 MANY = 16_000
 
@@ -97,7 +99,7 @@ def colliding_address(rng):
 
 def known_address(rng):
     """Returns an address whose second word, of the key's bytes 9 to 16, returns the state to the same one for each."""
-    front = bytes((6, 0x20, 0x01)) + rng.randbytes(5)
+    front = bytes((IPV6_PART, 0x20, 0x01)) + rng.randbytes(5)
     product = (KNOWN_SEED ^ int.from_bytes(front, "little")) * KNOWN_MULTIPLIER
     return front[1:] + ((product ^ product >> 64) % 2**64).to_bytes(8, "little") + bytes(1)
 

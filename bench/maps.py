@@ -65,8 +65,6 @@ COLLIDING = 0x9E37_79B9_7F4A_7C15
 SEED_NUMBER, MULTIPLIER = 0x243F_6A88_85A3_08D3, 0x9E37_79B9_7F4A_7C15
 # The letters of chosen labels, the number of letters of a label, and the number of those that vary most.
 LETTERS, LABEL_LENGTH, VARYING = "abcdefghijklmnopqrstuvwxyz", 10, 2
-# The number of slots of a table of 65,535 labels. Chosen labels are in the first sixteenth of them.
-PLACES, NEAR = 8192, 512
 
 
 def text_of(value):
@@ -199,14 +197,16 @@ HASHES = {
 }
 
 
-def near_labels(rng, order):
-    """Yields endless distinct labels that are close together in a table."""
+def near_labels(rng, order, count):
+    """Yields endless distinct labels that are in the first sixteenth of a table with this number of labels."""
     start, step, end = HASHES[order]
+    # A table has sixteen slots with the same remainder, and at most seven eighths of its slots are filled.
+    remainders = 1 << (count * 8 // 7).bit_length() - 4
     for front in random_labels(rng, LABEL_LENGTH - VARYING):
         front_state = functools.reduce(step, front, start)
         for back in map("".join, itertools.product(LETTERS, repeat=VARYING)):
             number = end(functools.reduce(step, back, front_state))
-            if (number ^ number >> 32) % PLACES < NEAR:
+            if (number ^ number >> 32) % remainders < remainders / 16:
                 yield front + back
 
 
@@ -222,7 +222,7 @@ def random_labels(rng, length=LABEL_LENGTH):
 
 def own_labels(rng, count, order):
     """Yields the lines of `count` single addresses, each with a label of its own."""
-    names = random_labels(rng) if order == "labels" else near_labels(rng, order)
+    names = random_labels(rng) if order == "labels" else near_labels(rng, order, count)
     for number, name in enumerate(itertools.islice(names, count)):
         yield f"{dotted((10 << 24) + number)} {name}"
 
