@@ -23,7 +23,7 @@ ROW = "10.0.0.1|8.8.8.8|0|0|6|0|3|180|0|0\n"
 def message(*sets):
     """Returns a message with these sets in hexadecimal digits."""
     body = bytes.fromhex("".join(sets))
-    return bytes.fromhex("000a") + (16 + len(body)).to_bytes(2, "big") + bytes.fromhex("60000000 00000000 00000001") + body
+    return bytes.fromhex(f"000a{16 + len(body):04x} 60000000 00000000 00000001") + body
 
 
 def data_set(number, *records):
