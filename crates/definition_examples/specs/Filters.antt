@@ -1,9 +1,11 @@
-use Rattle.std.specs.Prelude.{ℕ, List, [], ◌∷◌, ◌==◌, Bool, Option, None, Result, Ok, find, map, option_map}
+use Rattle.std.specs.Prelude.{ℕ, List, [], ◌∷◌, ◌==◌, Bool, Option, None, Some, Result, Ok, find, map, option_map}
 use Rattle.prefix_keys.specs.Text.{AddressOf}
 use Rattle.pmap_text.specs.MapModel.{Label}
-use Rattle.pmap_text.specs.Reading.{◌>>=◌}
+use Rattle.pmap_text.specs.Reading.{◌>>=◌, map_reading}
+use Rattle.pmap_text.specs.declared.fault.MapFault.{MapFault}
+use Rattle.label_lookup.specs.Labelling.{labelling_of_map}
 use Rattle.flow_rows.specs.Elements.{RowView}
-use Rattle.flow_filter.specs.Condition.{filter_of, row_passes}
+use Rattle.flow_filter.specs.Condition.{filter_of, passing, row_passes}
 use Rattle.flow_filter.specs.declared.fault.FilterFault.{FilterFault}
 use Rattle.flow_filter.specs.declared.fault.FilterFaultKind.{FilterFaultKind}
 use Rattle.flow_filter.specs.declared.option.FilterOption.{FilterOption}
@@ -35,6 +37,10 @@ passes_all given label row = filter_of (texts_of given) >>= (λ condition. Ok (r
 
 abbrev pub passes : FilterOption → List ℕ → RowView → Result Bool FilterFault
 passes option text row = passes_all ((option, text) ∷ []) (λ address. None) row
+
+-- the rows that pass the options given, under the map that a text represents
+abbrev pub passing_by : List ℕ → List (FilterOption × List ℕ) → List RowView → Result (List RowView) MapFault
+passing_by text given rows = map_reading text >>= (λ m. Ok (passing given (Some (labelling_of_map m)) rows))
 
 abbrev pub of_option : FilterOption → FilterFaultKind → FilterFault
 of_option option kind = record { option = option; kind = kind }

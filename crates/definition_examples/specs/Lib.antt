@@ -6,3 +6,4 @@ pub mod Reports
 pub mod Rows
 pub mod Files
 pub mod Samples
+pub mod Shortest

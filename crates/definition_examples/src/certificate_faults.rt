@@ -73,6 +73,7 @@ pub fn c3_bad_node()
     ensures a_chain_of_129_digits { format_reading (codes "flowlabel-cert 2 ipv6 1\nA\nc 0 " ++ replicate 129 49 ++ codes " 0 0\nl 0\n") ≡ Err (at_certificate_line BadNode 3) }
     ensures format_1_has_no_chain_of_one_digit { format_reading (codes "flowlabel-cert 1 ipv4 1\nA\nc 0 1 0 0\nl 0\n") ≡ Err (at_certificate_line BadNode 3) }
     ensures no_labels { format_reading (codes "flowlabel-cert 1 ipv4 0\nl 0\n") ≡ Err (at_certificate_line BadNode 2) }
+    ensures a_cost_of_a_chain_that_is_too_large { format_reading (codes "flowlabel-cert 2 ipv4 1\nA\nc 4294967296 1 0 0\nl 0\n") ≡ Err (at_certificate_line BadNode 3) }
 {}
 
 /// An inner node, or a digit of a well-formed chain, halves a block of one address.

@@ -60,6 +60,7 @@ pub fn paths_are_compacted()
     ensures format_2_is_unchanged { compacted_text last ≡ Ok last }
     ensures paths_of_format_2_too { compacted_text (codes "flowlabel-cert 2 ipv4 2\nA\nB\nn 1 0\nl 0\nn 1 0 1\nl 0\nl 1\n") ≡ Ok (codes "flowlabel-cert 2 ipv4 2\nA\nB\nn 1 0\nl 0\nn 1 0 1\nl 0\nl 1\n") }
     ensures a_single_leaf { compacted_text (codes "flowlabel-cert 1 ipv4 1\nA\nl 0\n") ≡ Ok (codes "flowlabel-cert 2 ipv4 1\nA\nl 0\n") }
+    ensures the_greatest_cost { compacted_text (codes "flowlabel-cert 2 ipv4 1\nA\nc 4294967295 1 0 0\nl 0\n") ≡ Ok (codes "flowlabel-cert 2 ipv4 1\nA\nc 4294967295 1 0 0\nl 0\n") }
 {}
 
 /// FORMATS.md, "Chains": a chain opened into its inner nodes and leaves.

@@ -1,6 +1,7 @@
 //! Verdicts of `check`: FORMATS.md, "What `check` reports".
 #![tactic(auto, unfolding(crate::specs::Certificates::opened))]
 
+ghost use Rattle.cert_check.specs.Checking.{told};
 ghost use Rattle.cert_check.specs.declared.fault.CheckFaultKind.TheVariants.{BoundNotMet, CostTooHigh, LeafNotUniform, ListDiffers, SetTooSmall, VersionDiffers};
 ghost use Rattle.definition_examples.specs.Certificates.{AreMinimalPair, head, last, last_list, last_map, minimal, quarters, quarters_list, quarters_map, refused, verdict};
 ghost use Rattle.pmap_cert.specs.FormatReading.{format_reading};
@@ -10,6 +11,8 @@ ghost use Rattle.std.specs.Prelude.{◌≡◌, ◌++◌, codes, None};
 /// The first map of the page has the first list and the first certificate as its minimal pair.
 pub fn a_map_has_a_minimal_pair()
     ensures the_first_of_the_page { AreMinimalPair (map_reading quarters_map) (list_reading quarters_list) (format_reading quarters) }
+    ensures the_first_label_of_the_table_is_chosen { AreMinimalPair (map_reading (codes "128.0.0.0/1 B\n0.0.0.0/1 A\n")) (list_reading (codes "0.0.0.0/0 B\n0.0.0.0/1 A\n"))
+        (format_reading (codes "flowlabel-cert 1 ipv4 3\nB\nA\nUNKNOWN\nn 1 0 1\nl 1\nl 0\n")) }
 {}
 
 /// The certificates of the page are accepted, and others that claim no more than the exact claims.
@@ -27,6 +30,8 @@ pub fn a_shortest_list_is_minimal()
     ensures of_ipv6 { verdict (codes "2000::/3 G\n") (codes "::/0 UNKNOWN\n2000::/3 G\n") (codes "flowlabel-cert 2 ipv6 2\nG\nUNKNOWN\nc 1 001 1 1\nl 0\n") ≡ minimal 2 }
     ensures a_chain_of_one_digit { verdict (codes "128.0.0.0/1 X\n0.0.0.0/1 D\n") (codes "0.0.0.0/0 D\n128.0.0.0/1 X\n") (codes "flowlabel-cert 2 ipv4 2\nD\nX\nc 1 1 0 0 1\nl 1\n") ≡ minimal 2 }
     ensures a_later_mapping { verdict (codes "default A\n0.0.0.0/1 B\n0.0.0.0/0 C\n") (codes "0.0.0.0/0 C\n") (codes "flowlabel-cert 1 ipv4 3\nA\nB\nC\nl 2\n") ≡ minimal 1 }
+    ensures a_chain_in_the_lower_half { verdict (codes "default A\n0.0.0.0/3 B\n128.0.0.0/1 C\n") (codes "0.0.0.0/0 A\n0.0.0.0/3 B\n128.0.0.0/1 C\n")
+        (codes "flowlabel-cert 2 ipv4 3\nA\nB\nC\nn 2 0 2\nc 1 00 0 0\nl 1\nl 2\n") ≡ minimal 3 }
 {}
 
 /// The versions of map, list and certificate differ. Reported at 0, and checked first.
@@ -49,6 +54,8 @@ pub fn k2_leaf_not_uniform()
     ensures before_the_list { verdict (codes "0.0.0.0/0 B\n") (codes "0.0.0.0/0 B\n") (codes "flowlabel-cert 1 ipv4 1\nA\nl 0\n") ≡ refused LeafNotUniform 1 }
     ensures the_upper_end_of_a_leaf { verdict (codes "128.0.0.0/1 X\n0.0.0.0/1 D\n127.255.255.255 Y\n") (codes "0.0.0.0/0 D\n128.0.0.0/1 X\n") (codes "flowlabel-cert 1 ipv4 2\nD\nX\nn 1 0 1\nl 0\nl 1\n") ≡ refused LeafNotUniform 2 }
     ensures the_lower_end_of_a_leaf { verdict (codes "128.0.0.0/1 X\n0.0.0.0/1 D\n128.0.0.0 Y\n") (codes "0.0.0.0/0 D\n128.0.0.0/1 X\n") (codes "flowlabel-cert 1 ipv4 2\nD\nX\nn 1 0 1\nl 0\nl 1\n") ≡ refused LeafNotUniform 3 }
+    ensures after_a_chain { verdict (codes "default A\n0.0.0.0/3 B\n128.0.0.0/1 C\n") (codes "0.0.0.0/0 A\n0.0.0.0/3 B\n128.0.0.0/1 C\n")
+        (codes "flowlabel-cert 2 ipv4 3\nA\nB\nC\nn 2 0 2\nc 1 00 0 0\nl 1\nl 1\n") ≡ refused LeafNotUniform 4 }
 {}
 
 /// A leaf or a side block doesn't meet the condition on the list.
@@ -103,4 +110,11 @@ pub fn no_verdict_on_faulty_texts()
     ensures the_map { verdict (codes "colour red\n") quarters_list quarters ≡ None }
     ensures the_list { verdict quarters_map (codes "default A\n") quarters ≡ None }
     ensures the_certificate { verdict quarters_map quarters_list (codes "") ≡ None }
+{}
+
+/// FORMATS.md, "What `check` reports": the number of the node, or 18446744073709551615 if the number is larger.
+pub fn a_node_has_its_number()
+    ensures above_999 { told 1000 ≡ 1000 }
+    ensures the_greatest { told 18446744073709551615 ≡ 18446744073709551615 }
+    ensures above_the_greatest { told 18446744073709551616 ≡ 18446744073709551615 }
 {}

@@ -2,11 +2,13 @@
 #![tactic(auto, unfolding(crate::specs::Files::opened))]
 
 ghost use Rattle.definition_examples.specs.Files.{at_offset, counts, rfc_decoded, rfc_message, rows};
-ghost use Rattle.definition_examples.specs.Rows.{plain};
+ghost use Rattle.definition_examples.specs.Rows.{hex, plain};
+ghost use Rattle.ipfix_read.specs.Message.{own_fault};
 ghost use Rattle.ipfix_read.specs.Messages.{StopsReading, file_reading};
-ghost use Rattle.ipfix_read.specs.declared.fault.ReadFaultKind.TheVariants.{BadMessageLength, BadRecord, BadSetLength, BadTemplate, BadVersion, ReadFault as Unread, TruncatedHeader, TruncatedMessage};
+ghost use Rattle.ipfix_read.specs.Value.{variable_at};
+ghost use Rattle.ipfix_read.specs.declared.fault.ReadFaultKind.TheVariants.{BadMessageLength, BadRecord, BadSetLength, BadTemplate, BadVersion, ReadFault as Unread, TooManyMessages, TruncatedHeader, TruncatedMessage};
 ghost use Rattle.ipfix_templates.specs.declared.fault.TemplateFaultKind.TheVariants.{BadScope, BadTemplateId, Truncated};
-ghost use Rattle.std.specs.Prelude.{◌≡◌, ◌++◌, ◌∷◌, [], codes, Err, Ok, take};
+ghost use Rattle.std.specs.Prelude.{◌≡◌, ◌++◌, ◌∷◌, [], codes, Err, None, Ok, replicate, Some, take};
 
 /// RFC 7011, appendix A: one template, one options template, three records and two options records.
 pub fn the_message_of_rfc_7011()
@@ -72,6 +74,7 @@ pub fn padding_is_ignored()
     ensures of_variable_length { counts (codes "000a002a 00000000 00000000 00000001 00020010 01000002 0052ffff 00040001 0100000a 03657468 06 00") ≡ Ok (1 ∷ 1 ∷ 0 ∷ 0 ∷ 1 ∷ 0 ∷ 1 ∷ 0 ∷ 0 ∷ []) }
     ensures long_form { counts (codes "000a0026 00000000 00000000 00000001 0002000c 01000001 0052ffff 0100000a ff0003657468") ≡ Ok (1 ∷ 1 ∷ 0 ∷ 0 ∷ 1 ∷ 0 ∷ 1 ∷ 0 ∷ 0 ∷ []) }
     ensures records_of_no_bytes { counts (codes "000a0021 00000000 00000000 00000001 0002000c 01000001 00080000 01000005 00") ≡ Ok (1 ∷ 1 ∷ 0 ∷ 0 ∷ 1 ∷ 0 ∷ 0 ∷ 0 ∷ 0 ∷ []) }
+    ensures a_length_of_254 { variable_at (254 ∷ replicate 255 7) ≡ Some (replicate 254 7, 7 ∷ []) }
 {}
 
 /// FORMATS.md, "IPFIX Files": F1 to F4, at the offset of the message.
@@ -84,6 +87,8 @@ pub fn faults_of_messages()
     ensures a_length_of_17 { counts (codes "000a0011 00000000 00000000 00000001") ≡ Err (at_offset TruncatedMessage 0) }
     ensures a_version_before_a_length { counts (codes "0009000f 00000000 00000000 00000001") ≡ Err (at_offset BadVersion 0) }
     ensures in_the_third { counts (codes "000a0010 00000000 00000000 00000001 000a0020 00000000 00000000 00000001 00020010 01000002 00080004 000c0004 000a0028 00000000 00000000 00000001") ≡ Err (at_offset TruncatedMessage 48) }
+    ensures the_last_message_of_a_file { own_fault 4294967294 (hex (codes "000a0010")) ≡ None }
+    ensures one_message_too_many { own_fault 4294967295 (hex (codes "000a0010")) ≡ Some TooManyMessages }
 {}
 
 /// FORMATS.md, "IPFIX Files": F5 to F7, at the offset of the set or the record.
@@ -100,4 +105,8 @@ pub fn faults_of_sets_and_records()
     ensures an_enterprise_that_is_cut_off { counts (codes "000a001e 00000000 00000000 00000001 0002000e 01000001 80080004 0000") ≡ Err (at_offset (BadTemplate Truncated) 20) }
     ensures a_value_beyond_the_set { counts (codes "000a0024 00000000 00000000 00000001 0002000c 01000001 0052ffff 01000008 04657468") ≡ Err (at_offset BadRecord 32) }
     ensures the_second_record { counts (codes "000a0024 00000000 00000000 00000001 0002000c 01000001 0052ffff 01000008 0165 0265") ≡ Err (at_offset BadRecord 34) }
+    ensures a_set_of_the_second_message { counts (codes "000a0010 00000000 00000000 00000001 000a0014 00000000 00000000 00000001 00020003") ≡ Err (at_offset BadSetLength 32) }
+    ensures a_template_of_the_second_message { counts (codes "000a0010 00000000 00000000 00000001 000a001c 00000000 00000000 00000001 0002000c 00ff0001 00080004") ≡ Err (at_offset (BadTemplate BadTemplateId) 36) }
+    ensures a_record_of_the_second_message { counts (codes "000a0010 00000000 00000000 00000001 000a0024 00000000 00000000 00000001 0002000c 01000001 0052ffff 01000008 04657468") ≡ Err (at_offset BadRecord 48) }
+    ensures the_withdrawal_of_all_of_the_other_kind { counts (codes "000a0018 00000000 00000000 00000001 00020008 00030000") ≡ Err (at_offset (BadTemplate BadTemplateId) 20) }
 {}

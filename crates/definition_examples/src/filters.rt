@@ -1,13 +1,14 @@
 //! Filters: which rows pass an option, and which texts are malformed. The row `tcp` goes from 10.0.0.0, port 1804, to
 //! 198.51.100.228, port 443, with protocol 6, 5 packets and 546 bytes.
 
-ghost use Rattle.definition_examples.specs.Filters.{of_option, passes, passes_all};
+ghost use Rattle.definition_examples.specs.Filters.{of_option, passes, passes_all, passing_by};
 ghost use Rattle.definition_examples.specs.Maps.{by_map};
 ghost use Rattle.definition_examples.specs.Rows.{tcp, tcp_back};
+ghost use Rattle.flow_filter.specs.Condition.{passing};
 ghost use Rattle.flow_filter.specs.declared.fault.FilterFaultKind.TheVariants.{BadBlock, BadNumberList, BadRange};
 ghost use Rattle.flow_filter.specs.declared.option.FilterOption.TheVariants.{AnyLabel, Bytes, DestinationAddress, DestinationLabel, DestinationPort, Packets, Protocol, SourceAddress, SourceLabel, SourcePort};
 ghost use Rattle.prefix_keys.specs.declared.version.Version.TheVariants.{V6};
-ghost use Rattle.std.specs.Prelude.{◌≡◌, ◌∷◌, [], codes, Err, false, Ok, true};
+ghost use Rattle.std.specs.Prelude.{◌≡◌, ◌∷◌, [], codes, Err, false, None, Ok, true};
 
 /// FORMATS.md, "Filters": `--protocol`, `--sport` and `--dport`.
 pub fn numbers_and_ranges()
@@ -33,6 +34,7 @@ pub fn numbers_and_ranges()
     ensures ports_above_1023 { passes SourcePort (codes "1024-65535") tcp ≡ Ok true }
     ensures ports_below_1024 { passes SourcePort (codes "0-1023") tcp ≡ Ok false }
     ensures web { passes DestinationPort (codes "80,443") tcp ≡ Ok true }
+    ensures up_to_the_last_port { passes DestinationPort (codes "443-65535") tcp ≡ Ok true }
 {}
 
 /// FORMATS.md, "Filters": `--saddress` and `--daddress`. Membership is that of Python's `ipaddress`.
@@ -90,6 +92,7 @@ pub fn one_range_of_packets_or_bytes()
     ensures not_the_packets { passes Bytes (codes "5") tcp ≡ Ok false }
     ensures bytes_from_to { passes Bytes (codes "500-1000") tcp ≡ Ok true }
     ensures bytes_at_least { passes Bytes (codes "547-") tcp ≡ Ok false }
+    ensures bytes_up_to_the_greatest_number { passes Bytes (codes "546-18446744073709551615") tcp ≡ Ok true }
 {}
 
 /// FORMATS.md, "Filters": labels are compared byte by byte, and are no lists. An address without a label matches no
@@ -108,6 +111,8 @@ pub fn labels()
     ensures no_label { passes_all ((SourceLabel, codes "UNKNOWN") ∷ []) (by_map (codes "10.0.0.0/8 Inside\n198.51.100.0/24 Out, far\n")) (record tcp { version = V6; src = 0x2001_0db8_0000_0000_0000_0000_0000_0001 }) ≡ Ok false }
     ensures the_empty_text { passes_all ((SourceLabel, codes "") ∷ []) (by_map (codes "10.0.0.0/8 Inside\n198.51.100.0/24 Out, far\n")) (record tcp { version = V6; src = 0x2001_0db8_0000_0000_0000_0000_0000_0001 }) ≡ Ok false }
     ensures any_of_one_address { passes_all ((AnyLabel, codes "Inside") ∷ []) (by_map (codes "10.0.0.0/8 Inside\n198.51.100.0/24 Out, far\n")) tcp_back ≡ Ok true }
+    ensures under_a_labelling { passing_by (codes "10.0.0.0/8 Inside\n") ((SourceLabel, codes "Inside") ∷ []) (tcp ∷ tcp_back ∷ []) ≡ Ok (tcp ∷ []) }
+    ensures without_a_labelling { passing ((SourceLabel, codes "Inside") ∷ []) None (tcp ∷ []) ≡ [] }
 {}
 
 /// FORMATS.md, "Filters": a row passes if it meets the condition of each option given.

@@ -20,4 +20,5 @@ pub mod printed_addresses;
 pub mod rows;
 pub mod runs;
 pub mod samples;
+pub mod shortest;
 pub mod tables;

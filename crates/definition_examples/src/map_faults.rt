@@ -53,6 +53,7 @@ pub fn m3_bad_length()
     ensures in_an_ipv6_map { map_reading (codes "mode ipv6\n10.0.0.0/33 A\n") ≡ Err (at_line BadLength 2) }
     ensures of_four_digits { map_reading (codes "10.0.0.0/0008 A\n") ≡ Err (at_line BadLength 1) }
     ensures in_a_list { list_reading (codes "10.0.0.0/33 A\n") ≡ Err (at_line BadLength 1) }
+    ensures a_form_feed_is_no_blank { map_reading (codes "10.0.0.0/8" ++ 12 ∷ codes "A\n") ≡ Err (at_line BadLength 1) }
 {}
 
 /// The first address of a range is above the second.
@@ -99,6 +100,7 @@ pub fn m7_bad_label()
     ensures of_a_name { map_reading (codes "map-name A" ++ 1 ∷ []) ≡ Err (at_line BadLabel 1) }
     ensures of_a_range { map_reading (codes "10.0.0.0 10.0.0.1 A" ++ 11 ∷ []) ≡ Err (at_line BadLabel 1) }
     ensures lines_that_end_with_a_carriage_return { map_reading (codes "10.0.0.0/8 A\r10.1.0.0/16 B\r") ≡ Err (at_line BadLabel 1) }
+    ensures a_declared_text_of_eleven_digits { map_reading (codes "label 5 12345678901\n") ≡ Err (at_line BadLabel 1) }
 {}
 
 /// A number has two labels, or a label two numbers.

@@ -103,6 +103,8 @@ pub fn a_record_of_both_directions_has_two_rows()
     ensures a_reverse_end { rows_of (value 8 (codes "0a000001") ∷ value 12 (codes "0a000002") ∷ value 153 (codes "0000000000000009") ∷ reverse 153 (codes "000000000000000a") ∷ reverse 2 (codes "02") ∷ []) ≡ record plain { end_ms = 9 } ∷ record plain { src = 0x0a00_0002; dst = 0x0a00_0001; end_ms = 10; packets = 2 } ∷ [] }
     ensures times_of_the_first { rows_of (value 8 (codes "0a000001") ∷ value 12 (codes "0a000002") ∷ value 152 (codes "0000000000000009") ∷ value 153 (codes "000000000000000b") ∷ reverse 2 (codes "02") ∷ []) ≡ record plain { start_ms = 9; end_ms = 11 } ∷ record plain { src = 0x0a00_0002; dst = 0x0a00_0001; start_ms = 9; end_ms = 11; packets = 2 } ∷ [] }
     ensures of_ipv6 { rows_of (value 27 (codes "20010db8000000000000000000000001") ∷ value 28 (codes "20010db8000000000000000000000002") ∷ reverse 2 (codes "01") ∷ []) ≡ record plain { version = V6; src = 0x2001_0db8_0000_0000_0000_0000_0000_0001; dst = 0x2001_0db8_0000_0000_0000_0000_0000_0002 } ∷ record plain { version = V6; src = 0x2001_0db8_0000_0000_0000_0000_0000_0002; dst = 0x2001_0db8_0000_0000_0000_0000_0000_0001; packets = 1 } ∷ [] }
+    ensures a_protocol_of_the_way_back { rows_of (value 8 (codes "0a000001") ∷ value 12 (codes "0a000002") ∷ value 4 (codes "11") ∷ reverse 4 (codes "06") ∷ reverse 2 (codes "02") ∷ [])
+        ≡ record plain { protocol = 17 } ∷ record plain { src = 0x0a00_0002; dst = 0x0a00_0001; protocol = 17; packets = 2 } ∷ [] }
 {}
 
 /// FORMATS.md, "Records of both directions": a second row needs a first row, and packets.
