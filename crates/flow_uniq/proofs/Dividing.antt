@@ -1,10 +1,10 @@
 -- Groups divide rows.
-use Rattle.std.proofs.Common.{◌≡◌, ℕ, ◌+◌, Bool, true, false, not, ◌||◌, cond, List, [], ◌∷◌, length, map, filter, true≢false, refl, sym, ap, subst, ◌∙◌, arith}
+use Rattle.std.proofs.Common.{◌≡◌, ℕ, ◌+◌, ◌<◌, All, Bool, true, false, not, ◌||◌, cond, List, [], ◌∷◌, length, map, filter, true≢false, refl, sym, ap, subst, ◌∙◌, arith}
 use Rattle.std.specs.Prelude.{sum_by}
 use Rattle.std.specs.List.{AllByRecursion, IsDistinct, list_any}
-use Rattle.std.proofs.lemmas.Bool.{not-true}
-use Rattle.std.proofs.lemmas.List.{map-id}
-use Rattle.std.proofs.lemmas.List.Elements.{All-filter, All-from_recursion, All-weaker, filter_passes, recursion_from_All}
+use Rattle.std.proofs.lemmas.Bool.{not-true, or_right}
+use Rattle.std.proofs.lemmas.List.{length-map, map-id}
+use Rattle.std.proofs.lemmas.List.Elements.{All-filter, All-from_recursion, All-map, All-weaker, filter_passes, recursion_from_All}
 use Rattle.std.proofs.lemmas.List.Filters.{length-filter_both, sum_by-filter_both}
 use Rattle.std.proofs.lemmas.List.Sums.{sum_by-cons}
 use Rattle.std.proofs.lemmas.Map.Keys.{IsDistinct-head, IsDistinct-tail}
@@ -12,6 +12,7 @@ use Rattle.std.proofs.lemmas.Simd.{map-map}
 use Rattle.flow_rows.specs.Elements.{RowView}
 use Rattle.flow_uniq.specs.Key.{Key, same_key}
 use Rattle.flow_uniq.specs.Groups.{GroupModel, KeyedRow, distinct_keys, groups_of_keyed, totals_of}
+use Rattle.flow_uniq.specs.Laws.{SumsItsRows}
 use Rattle.flow_uniq.proofs.Grouping.{rows_with, same_key-equiv, any-distinct_keys}
 
 -- The keys of groups are distinct.
@@ -49,6 +50,90 @@ groups-distinct rows =
     let group : Key → GroupModel = λ key. record { key = key; totals = totals_of (rows_with key rows) } in
     subst (IsDistinct same_key) (sym (map-map (λ (g : GroupModel). g.key) group (distinct_keys keys) ∙ map-id (distinct_keys keys)))
     (distinct-distinct_keys keys)
+
+-- Each group sums the rows that have its key.
+
+-- a sum over rows with keys is that over the rows
+abbrev keyed_by : (RowView → Key) → List RowView → List KeyedRow
+keyed_by key rows = map (λ row. (key row, row)) rows
+
+pub sum_by-keyed : (key : RowView → Key) (f : RowView → ℕ) (rows : List RowView)
+    → sum_by (λ r. f r.1) (map (λ row. let R : KeyedRow = (key row, row) in R) rows) ≡ sum_by f rows
+sum_by-keyed key f [] = refl
+sum_by-keyed key f (row ∷ rows) =
+    omega (
+      arith,
+      sum_by-cons (λ (r : KeyedRow). f r.1) (key row, row) (map (λ x. let R : KeyedRow = (key x, x) in R) rows),
+      sum_by-cons f row rows,
+      sum_by-keyed key f rows,
+    )
+
+-- each distinct key is the key of a row
+have-rows : (ks : List Key) → AllByRecursion (λ d. list_any (same_key d) ks ≡ true) (distinct_keys ks)
+have-rows [] = tt
+have-rows (k ∷ ks) =
+    let P : Key → Type 0 = λ d. list_any (same_key d) (k ∷ ks) ≡ true in
+    let kept : Key → Bool = λ o. not (same_key k o) in (
+      ap (λ b. b || list_any (same_key k) ks) (same_key-equiv.refl k),
+      recursion_from_All P (filter kept (distinct_keys ks))
+          (All-filter kept P (distinct_keys ks)
+          (All-weaker (λ d. list_any (same_key d) ks ≡ true) P (λ d h. or_right (same_key d k) (list_any (same_key d) ks) h) (distinct_keys ks)
+          (All-from_recursion (λ d. list_any (same_key d) ks ≡ true) (distinct_keys ks) (have-rows ks)))),
+    )
+
+-- a key of a row has a row
+has-row : (d : Key) (rows : List KeyedRow) → list_any (same_key d) (map (λ r. r.0) rows) ≡ true → 0 < length (rows_with d rows)
+has-row d [] none = absurd (true≢false (sym none))
+has-row d (r ∷ rows) some = by (same_key d r.0) (has-row d rows) some
+  where
+    keys : List Key
+    keys = map (λ x. x.0) rows
+
+    by : (b : Bool) → (list_any (same_key d) keys ≡ true → 0 < length (rows_with d rows)) → (b || list_any (same_key d) keys) ≡ true
+        → 0 < length (cond b (r ∷ rows_with d rows) (rows_with d rows))
+    by true ih h = omega arith
+    by false ih h = ih h
+
+-- the rows with a key, after their keys are left out
+rows_with-keyed : (key : RowView → Key) (d : Key) (rows : List RowView)
+    → rows_with d (keyed_by key rows) ≡ keyed_by key (filter (λ row. same_key d (key row)) rows)
+rows_with-keyed key d [] = refl
+rows_with-keyed key d (row ∷ rows) = by (same_key d (key row)) (rows_with-keyed key d rows)
+  where
+    by : (b : Bool) → rows_with d (keyed_by key rows) ≡ keyed_by key (filter (λ row. same_key d (key row)) rows)
+        → cond b ((key row, row) ∷ rows_with d (keyed_by key rows)) (rows_with d (keyed_by key rows))
+        ≡ keyed_by key (cond b (row ∷ filter (λ row. same_key d (key row)) rows) (filter (λ row. same_key d (key row)) rows))
+    by true ih = ap (λ (l : List KeyedRow). (key row, row) ∷ l) ih
+    by false ih = ih
+
+pub groups-sum_their_rows : (key : RowView → Key) (rows : List RowView) → All (SumsItsRows key rows) (groups_of_keyed (keyed_by key rows))
+groups-sum_their_rows key rows = All-map (SumsItsRows key rows) group ds (All-weaker HasRow (λ d. SumsItsRows key rows (group d)) sums ds (All-from_recursion HasRow ds (have-rows ks)))
+  where
+    ks : List Key
+    ks = map (λ r. r.0) (keyed_by key rows)
+
+    ds : List Key
+    ds = distinct_keys ks
+
+    group : Key → GroupModel
+    group d = record { key = d; totals = totals_of (rows_with d (keyed_by key rows)) }
+
+    HasRow : Key → Type 0
+    HasRow d = list_any (same_key d) ks ≡ true
+
+    sums : (d : Key) → HasRow d → SumsItsRows key rows (group d)
+    sums d has =
+        let own : List RowView = filter (λ row. same_key d (key row)) rows in
+        let same : rows_with d (keyed_by key rows) ≡ keyed_by key own = rows_with-keyed key d rows in
+        let count : length (rows_with d (keyed_by key rows)) ≡ length own = ap length same ∙ length-map own (λ row. let R : KeyedRow = (key row, row) in R) in
+        record {
+          own = own;
+          have_its_key = refl;
+          some = subst (λ n. 0 < n) count (has-row d (keyed_by key rows) has);
+          records = count;
+          packets = ap (sum_by (λ (r : KeyedRow). r.1.packets)) same ∙ sum_by-keyed key (λ row. row.packets) own;
+          octets = ap (sum_by (λ (r : KeyedRow). r.1.octets)) same ∙ sum_by-keyed key (λ row. row.octets) own;
+        }
 
 -- What all rows have, added up, is the sum over the groups.
 
@@ -157,14 +242,3 @@ module _ (f : RowView → ℕ) where
       groups-sum (sum_by (λ r. f r.1)) refl
       (λ d. sum_by-filter_both (λ (r : KeyedRow). same_key d r.0) (λ r. not (same_key d r.0)) (λ r. refl) (λ (r : KeyedRow). f r.1))
 
--- a sum over rows with keys is that over the rows
-pub sum_by-keyed : (key : RowView → Key) (f : RowView → ℕ) (rows : List RowView)
-    → sum_by (λ r. f r.1) (map (λ row. let R : KeyedRow = (key row, row) in R) rows) ≡ sum_by f rows
-sum_by-keyed key f [] = refl
-sum_by-keyed key f (row ∷ rows) =
-    omega (
-      arith,
-      sum_by-cons (λ (r : KeyedRow). f r.1) (key row, row) (map (λ x. let R : KeyedRow = (key x, x) in R) rows),
-      sum_by-cons f row rows,
-      sum_by-keyed key f rows,
-    )

@@ -4,14 +4,15 @@ ghost use Rattle.std.specs.List.Sorted.{IsPermutation, IsSortedBy};
 ghost use Rattle.prefix_keys.specs.Text.{AddressOf};
 ghost use Rattle.pmap_text.specs.MapModel.{Label};
 ghost use Rattle.flow_rows.specs.Elements.{RowView};
-ghost use Rattle.flow_uniq.specs.Key.{KeyField};
+ghost use Rattle.flow_uniq.specs.Key.{KeyField, key_of};
 ghost use Rattle.flow_uniq.specs.Groups.{GroupModel, groups_of, is_before, shown_groups, sorted_groups};
 ghost use Rattle.flow_uniq.specs.Laws.{DivideRows};
 
-/// The groups of rows have distinct keys. Their records, packets and bytes add up to those of the rows.
+/// The groups of rows have distinct keys, and each sums exactly the rows that have its key. Their records, packets and
+/// bytes add up to those of the rows.
 pub fn groups_divide_the_rows()
     ensures { (fields : List KeyField) (label : AddressOf → Option Label) (sorted : Bool) (rows : List RowView) →
-        DivideRows rows (shown_groups sorted (groups_of fields label rows)) }
+        DivideRows (key_of label fields) rows (shown_groups sorted (groups_of fields label rows)) }
 {}
 
 /// Sorted groups are the same groups, and no key is before the key of the previous group.

@@ -1,46 +1,62 @@
-use Rattle.std.specs.Prelude.{◌≡◌, ◌≤◌, ◌<◌, ◌^◌, ◌⊎◌, ℕ, List, Bool, true, None, Some, Ok, length}
+use Rattle.std.specs.Prelude.{◌≡◌, ◌≤◌, ◌<◌, ◌^◌, ◌⊎◌, ◌∷◌, ◌++◌, [], ℕ, All, List, Bool, true, Option, None, Some, Ok, codes, decimal, length, map, unwrap_or}
 use Rattle.std.specs.List.Sorted.{IsSortedBy}
-use Rattle.std.specs.Option.{ForSome}
+use Rattle.std.specs.Option.{ForSome, option_map_or}
 use Rattle.prefix_keys.specs.Block.{width_of}
+use Rattle.prefix_keys.specs.Print.{address_text}
 use Rattle.pmap_text.specs.ListModel.{IsEquivalent, ListModel}
 use Rattle.pmap_text.specs.MapModel.{Label, MapModel, map_label}
-use Rattle.pmap_text.specs.Reading.{map_reading, list_reading}
+use Rattle.pmap_text.specs.Reading.{label_limit, list_reading, map_reading, mapping_limit}
 use Rattle.pmap_cert.specs.Acceptance.{IsLeast, IsInOrder}
-use Rattle.pmap_cert.specs.CertificateText.{certificate_text}
 use Rattle.pmap_cert.specs.CertificateModel.{CertificateModel}
 use Rattle.pmap_cert.specs.Compacting.{compact, line_count}
 use Rattle.pmap_cert.specs.FormatReading.{format_reading}
 use Rattle.cert_check.specs.Checking.{first_fault}
 use Rattle.pmap_text.specs.Runs.{HasOneRun, Run}
-use Rattle.label_lookup.specs.Labelling.{Labelling}
+use Rattle.label_lookup.specs.Labelling.{Labelling, label_by, label_where}
 use Rattle.flow_rows.specs.Counts.{rows_of_messages}
 use Rattle.flow_rows.specs.Elements.{RowView}
 use Rattle.flow_rows.specs.Laws.{summed_counts}
 use Rattle.flow_filter.specs.Laws.{rows_left}
 use Rattle.flow_uniq.specs.Groups.{GroupModel, is_before}
+use Rattle.flow_uniq.specs.Key.{key_of}
 use Rattle.flow_uniq.specs.Laws.{DivideRows}
 use Rattle.flow_uniq.specs.declared.field.KeyField.{KeyField}
-use Rattle.pmap_cert.specs.ListText.{list_text, IsWellFormed}
-use Rattle.pmap_print.specs.Reports.{groups_text, info_text}
+use Rattle.pmap_cert.specs.ListText.{IsWellFormed, labels_of, list_text}
+use Rattle.pmap_print.specs.Reports.{groups_text, info_text, label_titles, row_titles}
 use Rattle.pmap_text.specs.RunsText.{runs_text}
-use Rattle.pmap_print.specs.Table.{table_text}
-use Rattle.flowlabel.specs.Output.{FlowsThen, IsOutput, LabelsThen, Outcome, Prints, labelled_row_lines, minimal_text, shrunk_text}
+use Rattle.pmap_print.specs.Table.{Line, table_text}
+use Rattle.flowlabel.specs.Output.{FlowsThen, IsOutput, LabelsThen, Outcome, Prints, minimal_text}
 use Rattle.flowlabel.specs.Request.{FromList, FromMap, LabelSource, Request, Text, cat, check, info, label, recert, rows, shrink, uniq}
+use Rattle.flowlabel.specs.declared.command.Shrunk.TheVariants as shrunk
 
 -- The headline: what a command that ends without a fault has written.
 
 -- The list labels every address as the map does, and no list that does so has fewer entries. It has the map's name, its
--- entries are in order, and it is well formed. The certificate and the compacted certificate have no fault for the map
--- and the list, and each is read again from its text.
-pub record IsShortest (m : MapModel) (l : ListModel) (c : CertificateModel) : Type 0 where
+-- entries are in order, and it is well formed.
+pub record IsShortest (m : MapModel) (l : ListModel) : Type 0 where
   pub equivalent : IsEquivalent l m
   pub least : IsLeast m l
   pub name : l.name ≡ m.name
   pub form : IsWellFormed l
   pub order : IsInOrder l.prefixes
-  pub has_text : format_reading (certificate_text c) ≡ Ok c
+
+-- The text is that of the list. If the list is within the limits of a text, the text is read again as the list, with a
+-- label table of its own. Read as a map text, it then gives each address the same label as the map.
+pub record IsReadAgain (m : MapModel) (l : ListModel) (text : Text) : Type 0 where
+  pub table : List Label
+  pub reads : list_reading text ≡ Ok (record l { table = table })
+  pub again : MapModel
+  pub reads_map : map_reading text ≡ Ok again
+  pub version : again.version ≡ m.version
+  pub labels : (a : ℕ) → a < 2 ^ width_of m.version → map_label again a ≡ map_label m a
+
+abbrev pub PrintsList : MapModel → ListModel → Text → Type 0
+PrintsList m l text = (text ≡ list_text l)
+    × (length l.prefixes ≤ mapping_limit → length (labels_of l.prefixes) ≤ label_limit → IsReadAgain m l text)
+
+-- the certificate and the compacted certificate have no fault for the map and the list
+pub record IsCertificateFor (m : MapModel) (l : ListModel) (c : CertificateModel) : Type 0 where
   pub accepted : first_fault m l c ≡ None
-  pub has_compact_text : format_reading (certificate_text (compact c)) ≡ Ok (compact c)
   pub compact_accepted : first_fault m l (compact c) ≡ None
 
 -- If the text is the output under a map text, it is also the output under each list text whose list labels every address
@@ -61,9 +77,29 @@ pub record IsAsGood (before after : Text) : Type 0 where
   pub again : IsOutput (recert after) (Ok after)
   pub checks : (map list : Text) (out : List ℕ) → IsOutput (check map list before) (Ok out) → IsOutput (check map list after) (Ok out)
 
--- the outcome is the text of groups that divide the rows, in the order of their keys if asked
-abbrev pub PrintsGroups : List KeyField → Bool → Bool → List RowView → Outcome → Type 0
-PrintsGroups fields sorted columns shown outcome = (groups : List GroupModel) × DivideRows shown groups
+-- the columns of a row, each with its title and the row's field; the last two are the labels of its addresses, if there is
+-- a labelling
+abbrev pub row_columns : Option Labelling → RowView → List (Text × Text)
+row_columns labels row =
+    (codes "sip", address_text row.version row.src) ∷ (codes "dip", address_text row.version row.dst)
+    ∷ (codes "sport", decimal row.sport) ∷ (codes "dport", decimal row.dport) ∷ (codes "proto", decimal row.protocol)
+    ∷ (codes "flags", decimal row.flags) ∷ (codes "packets", decimal row.packets) ∷ (codes "bytes", decimal row.octets)
+    ∷ (codes "stime", decimal row.start_ms) ∷ (codes "etime", decimal row.end_ms)
+    ∷ option_map_or (λ l. (codes "src-label", unwrap_or (label_by l (row.version, row.src)) [])
+    ∷ (codes "dst-label", unwrap_or (label_by l (row.version, row.dst)) []) ∷ []) labels []
+
+-- The outcome is a table of a header and a line for each row, in order. The header has the titles of each row's columns,
+-- and the row's line has the fields.
+pub record PrintsRows (columns : Bool) (labels : Option Labelling) (shown : List RowView) (outcome : Outcome) : Type 0 where
+  pub titles : Line
+  pub header : titles ≡ row_titles ++ option_map_or (λ l. label_titles) labels []
+  pub under : All (λ row. map (λ c. c.0) (row_columns labels row) ≡ titles) shown
+  pub prints : Prints (table_text columns (titles ∷ map (λ row. map (λ c. c.1) (row_columns labels row)) shown)) outcome
+
+-- the outcome is the text of groups that divide the rows by their keys, in the order of the keys if asked
+abbrev pub PrintsGroups : List KeyField → Bool → Bool → Option Labelling → List RowView → Outcome → Type 0
+PrintsGroups fields sorted columns labels shown outcome = (groups : List GroupModel)
+    × DivideRows (key_of (label_where labels) fields) shown groups
     × (sorted ≡ true → IsSortedBy is_before groups) × Prints (groups_text fields groups columns) outcome
 
 -- the outcome is the text of runs of which exactly one has each address
@@ -72,8 +108,8 @@ PrintsEachOnce labels outcome = (runs : List Run) × ((a : ℕ) → a < 2 ^ widt
     × Prints (runs_text labels.version runs) outcome
 
 -- The headline for the text that a request writes for the texts of its files. `info`: the numbers are the sums of those
--- of each message. `rows`: the rows are those that each option in turn leaves. `uniq`: the groups divide these rows.
--- `cat`: exactly one run has each address. `shrink`: it is the text of a shortest list for the map, or of its
+-- of each message. `rows`: it is a table of the rows that each option in turn leaves. `uniq`: the groups divide these rows.
+-- `cat`: exactly one run has each address. `shrink`: it is read as a shortest list for the map, or as its
 -- certificate. `check`: it is the number of entries of the list, which is equivalent and least. `recert`: it is a
 -- certificate as good as the one read. Under a map or a list: it is the same under an equivalent list or map.
 abbrev pub IsHeadline : Request → List ℕ → Type 0
@@ -81,26 +117,29 @@ IsHeadline (label source address) out = IsSameUnder (λ other. label other addre
 IsHeadline (info flows) out = FlowsThen (λ labels messages. Prints (info_text (summed_counts messages))) None flows (Ok out)
 IsHeadline (rows source condition columns flows) out =
     ForSome source (λ given. IsSameUnder (λ other. rows (Some other) condition columns flows) given out)
-    × FlowsThen (λ labels messages. Prints (table_text columns (labelled_row_lines labels (rows_left condition labels (rows_of_messages messages))))) source flows (Ok out)
+    × FlowsThen (λ labels messages. PrintsRows columns labels (rows_left condition labels (rows_of_messages messages))) source flows (Ok out)
 IsHeadline (uniq fields source condition sorted columns flows) out =
     ForSome source (λ given. IsSameUnder (λ other. uniq fields (Some other) condition sorted columns flows) given out)
-    × FlowsThen (λ labels messages. PrintsGroups fields sorted columns (rows_left condition labels (rows_of_messages messages))) source flows (Ok out)
+    × FlowsThen (λ labels messages. PrintsGroups fields sorted columns labels (rows_left condition labels (rows_of_messages messages))) source flows (Ok out)
 IsHeadline (cat source) out = IsSameUnder cat source out × LabelsThen PrintsEachOnce source (Ok out)
-IsHeadline (shrink map printed) out = (m : MapModel) × (l : ListModel) × (c : CertificateModel)
-    × (map_reading map ≡ Ok m) × IsShortest m l c × (out ≡ shrunk_text printed l c)
+IsHeadline (shrink map shrunk.List) out = (m : MapModel) × (l : ListModel) × (map_reading map ≡ Ok m) × IsShortest m l × PrintsList m l out
+IsHeadline (shrink map shrunk.Certificate) out = (m : MapModel) × (l : ListModel) × (c : CertificateModel)
+    × (map_reading map ≡ Ok m) × IsShortest m l × IsCertificateFor m l c × (format_reading out ≡ Ok c)
+IsHeadline (shrink map shrunk.Compact) out = (m : MapModel) × (l : ListModel) × (c : CertificateModel)
+    × (map_reading map ≡ Ok m) × IsShortest m l × IsCertificateFor m l c × (format_reading out ≡ Ok (compact c))
 IsHeadline (check map list certificate) out = (m : MapModel) × (l : ListModel) × (map_reading map ≡ Ok m) × (list_reading list ≡ Ok l)
     × IsEquivalent l m × IsLeast m l × (out ≡ minimal_text (length l.prefixes))
 IsHeadline (recert certificate) out = IsAsGood certificate out
 
--- The printed text of a list is read again as this list, with a label table of its own. Read as a map text, the text
--- gives each address the same label as the map. Over the map's text, the printed text and the printed certificate,
--- compacted or not, `check` prints the number of the list's entries.
-pub record StandsAgain (map : Text) (m : MapModel) (l : ListModel) (c : CertificateModel) : Type 0 where
-  pub table : List Label
-  pub reads : list_reading (list_text l) ≡ Ok (record l { table = table })
-  pub again : MapModel
-  pub reads_map : map_reading (list_text l) ≡ Ok again
-  pub version : again.version ≡ m.version
-  pub labels : (a : ℕ) → a < 2 ^ width_of m.version → map_label again a ≡ map_label m a
-  pub checks : (printed : Text) → (printed ≡ certificate_text c) ⊎ (printed ≡ certificate_text (compact c))
+-- What `shrink` prints for a map text, each way, is one list and its certificate. If the list is within the limits of a
+-- text, `check` over the map's text, the list's text and the certificate's text, compacted or not, prints the number of
+-- the list's entries.
+pub record AreShrunk (map : Text) (m : MapModel) (l : ListModel) (c : CertificateModel) : Type 0 where
+  pub shortest : IsShortest m l
+  pub certificate : IsCertificateFor m l c
+  pub prints_list : (out : Text) × IsOutput (shrink map shrunk.List) (Ok out) × PrintsList m l out
+  pub prints : (out : Text) × IsOutput (shrink map shrunk.Certificate) (Ok out) × (format_reading out ≡ Ok c)
+  pub prints_compact : (out : Text) × IsOutput (shrink map shrunk.Compact) (Ok out) × (format_reading out ≡ Ok (compact c))
+  pub checks : length l.prefixes ≤ mapping_limit → length (labels_of l.prefixes) ≤ label_limit → (printed : Text)
+      → (format_reading printed ≡ Ok c) ⊎ (format_reading printed ≡ Ok (compact c))
       → IsOutput (check map (list_text l) printed) (Ok (minimal_text (length l.prefixes)))

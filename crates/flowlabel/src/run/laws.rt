@@ -1,12 +1,11 @@
-ghost use Rattle.std.specs.Prelude.{◌≡◌, ◌≤◌, ℕ, List, Ok, length};
+ghost use Rattle.std.specs.Prelude.{◌≡◌, ℕ, List, Ok};
 ghost use Rattle.pmap_text.specs.ListModel.{ListModel};
 ghost use Rattle.pmap_text.specs.MapModel.{MapModel};
-ghost use Rattle.pmap_text.specs.Reading.{label_limit, mapping_limit, map_reading};
+ghost use Rattle.pmap_text.specs.Reading.{map_reading};
 ghost use Rattle.pmap_cert.specs.CertificateModel.{CertificateModel};
-ghost use Rattle.pmap_cert.specs.ListText.{labels_of};
-ghost use Rattle.flowlabel.specs.Headline.{IsHeadline, IsShortest, StandsAgain};
-ghost use Rattle.flowlabel.specs.Output.{IsOutput, Outcome, shrunk_text};
-ghost use Rattle.flowlabel.specs.Request.{Request, Shrunk, Text, shrink};
+ghost use Rattle.flowlabel.specs.Headline.{AreShrunk, IsHeadline};
+ghost use Rattle.flowlabel.specs.Output.{IsOutput, Outcome};
+ghost use Rattle.flowlabel.specs.Request.{Request, Text};
 
 use cert_check::no_fault_is_acceptance;
 use flow_filter::options_hold_together;
@@ -33,14 +32,11 @@ pub fn one_output()
     minimal_pair_is_unique();
 }
 
-/// For each map text, `shrink` prints a shortest list, or its certificate. If the list is within the limits of a text,
-/// its text is read again as the same list. Read as a map text, the text gives each address the same label as the map.
-/// `check` accepts the text with the certificate, compacted or not.
+/// For each map text, `shrink` prints a shortest list and its certificate, compacted or not. If the list is within the
+/// limits of a text, its text is read again as the same list. Read as a map text, the text gives each address the same
+/// label as the map. `check` accepts the text with the certificate, compacted or not.
 pub fn shrunk_list_is_least()
-    ensures { (map : Text) (m : MapModel) → map_reading map ≡ Ok m → (l : ListModel) × (c : CertificateModel)
-        × ((printed : Shrunk) → IsOutput (shrink map printed) (Ok (shrunk_text printed l c)))
-        × IsShortest m l c
-        × (length l.prefixes ≤ mapping_limit → length (labels_of l.prefixes) ≤ label_limit → StandsAgain map m l c) }
+    ensures { (map : Text) (m : MapModel) → map_reading map ≡ Ok m → (l : ListModel) × (c : CertificateModel) × AreShrunk map m l c }
 {
     map_text_has_a_minimal_pair();
     map_text_has_its_labels();

@@ -1,7 +1,8 @@
-use Rattle.std.proofs.Common.{◌≡◌, ◌∙◌, ℕ, Bool, true, false, true≢false, List, Option, None, Some, Result, Ok, Err, ap, refl, subst, sym}
-use Rattle.std.specs.Prelude.{length}
+use Rattle.std.proofs.Common.{◌≡◌, ◌∙◌, ℕ, Bool, true, false, true≢false, List, [], ◌∷◌, ◌++◌, Option, None, Some, Result, Ok, Err, ap, map, refl, subst, sym}
+use Rattle.std.specs.Prelude.{length, slice_index_or}
 use Rattle.std.specs.List.Sorted.{IsSortedBy}
-use Rattle.std.specs.Option.{ForSome}
+use Rattle.std.specs.List.{zip}
+use Rattle.std.specs.Option.{ForSome, option_map_or}
 use Rattle.pmap_text.specs.ListModel.{ListModel}
 use Rattle.pmap_text.specs.MapModel.{MapModel}
 use Rattle.pmap_cert.specs.FormatReading.{format_reading}
@@ -20,14 +21,16 @@ use Rattle.flow_rows.specs.Elements.{RowView}
 use Rattle.flow_rows.specs.Laws.{summed_counts}
 use Rattle.flow_filter.specs.Laws.{rows_left}
 use Rattle.flow_uniq.specs.Groups.{GroupModel, groups_of, is_before, shown_groups, sorted_groups}
+use Rattle.flow_uniq.specs.Key.{key_of}
 use Rattle.flow_uniq.specs.Laws.{DivideRows}
-use Rattle.pmap_print.specs.Reports.{info_text}
-use Rattle.pmap_print.specs.Table.{table_text}
-use Rattle.flowlabel.specs.Headline.{IsSameUnder, PrintsEachOnce, PrintsGroups}
-use Rattle.flowlabel.specs.Output.{BytesFault, Checks, IsOutput, LabelsThen, Outcome, Prints, Then, label_text, minimal_text, shrunk_text, FlowsThen, labelled_row_lines}
+use Rattle.pmap_print.specs.Reports.{info_text, label_fields, label_titles, row_fields, row_titles}
+use Rattle.pmap_print.specs.Table.{Line, table_text}
+use Rattle.flowlabel.specs.Headline.{IsSameUnder, PrintsEachOnce, PrintsGroups, PrintsList, PrintsRows, row_columns}
+use Rattle.flowlabel.specs.Output.{BytesFault, Checks, IsOutput, LabelsThen, Outcome, Prints, Then, FlowsThen, label_text, labelled_row_lines, minimal_text, row_labels}
 use Rattle.flowlabel.proofs.Outcomes.{CertificateThen, ListThen, PrintsCompact, PrintsMinimal, PrintsRuns, ReportsOf, passing_rows, report_of_groups, report_of_rows, checked}
 use Rattle.flowlabel.specs.Reports.{ReportsThen}
 use Rattle.flowlabel.specs.Request.{FromList, FromMap, LabelSource, Request, Text, cat, check, info, label, recert, rows, shrink, uniq}
+use Rattle.flowlabel.specs.declared.command.Shrunk.TheVariants as shrunk
 use Rattle.flowlabel.specs.declared.bytes_fault.BytesFault.TheVariants.{Map as InMap, List as InList, Certificate as InCertificate, Flows as InFlows}
 use Rattle.flowlabel.proofs.run.laws.output_keeps_headline.Goals as goal
 
@@ -94,11 +97,43 @@ flows_keep this that keep (Some source) flows out is =
     labels_keep (λ labels. Then InFlows (this (Some labels)) (file_reading flows)) (λ labels. Then InFlows (that (Some labels)) (file_reading flows))
     (λ labels. then_keep InFlows (this (Some labels)) (that (Some labels)) (keep (Some labels)) (file_reading flows)) source out is
 
+-- the lines of rows have their fields, with their labels or without
+lines_of_rows : (labels : Option Labelling) (shown : List RowView) → labelled_row_lines labels shown
+    ≡ (row_titles ++ option_map_or (λ l. label_titles) labels []) ∷ map (λ row. map (λ c. c.1) (row_columns labels row)) shown
+lines_of_rows None shown = refl
+lines_of_rows (Some l) shown = ap (λ (lines : List Line). (row_titles ++ label_titles) ∷ lines) (each shown)
+  where
+    each : (all : List RowView) → map (λ p. row_fields p.0 ++ label_fields p.1) (zip all (map (row_labels l) all))
+        ≡ map (λ row. map (λ c. c.1) (row_columns (Some l) row)) all
+    each [] = refl
+    each (row ∷ more) = ap (λ (lines : List Line). (row_fields row ++ label_fields (row_labels l row)) ∷ lines) (each more)
+
+titles_of_rows : (labels : Option Labelling) (row : RowView) → map (λ c. c.0) (row_columns labels row) ≡ row_titles ++ option_map_or (λ l. label_titles) labels []
+titles_of_rows None row = refl
+titles_of_rows (Some l) row = refl
+
+prints_rows : (columns : Bool) (labels : Option Labelling) (shown : List RowView) (outcome : Outcome)
+    → outcome ≡ Ok (table_text columns (labelled_row_lines labels shown)) → PrintsRows columns labels shown outcome
+prints_rows columns labels shown outcome made = record {
+  titles = row_titles ++ option_map_or (λ l. label_titles) labels [];
+  header = refl;
+  under = λ k d below. titles_of_rows labels (slice_index_or shown k d);
+  prints = made ∙ ap (λ (lines : List Line). Ok (table_text columns lines)) (lines_of_rows labels shown);
+}
+
 -- groups are in order if they are sorted
 in_order_if : (sorted : Bool) (groups : List GroupModel) → IsSortedBy is_before (sorted_groups groups) → sorted ≡ true
     → IsSortedBy is_before (shown_groups sorted groups)
 in_order_if true groups up e = up
 in_order_if false groups up e = absurd (true≢false (sym e))
+
+-- two texts that a request prints are equal
+only : (request : Request) → (outcome : Outcome) × IsOutput request outcome × ((other : Outcome) → IsOutput request other → other ≡ outcome)
+    → {this that : List ℕ} → IsOutput request (Ok this) → IsOutput request (Ok that) → this ≡ that
+only request (outcome, made, one) {this} {that} first second =
+    let left : Ok this ≡ outcome = one (Ok this) first in
+    let right : Ok that ≡ outcome = one (Ok that) second in
+    cc
 
 pub returns : goal.returns
 returns c (label source address) out is =
@@ -109,23 +144,24 @@ returns c (info flows) out is =
 returns c (rows source condition columns flows) out is = (
   same_report (report_of_rows condition columns) flows (λ other. rows other condition columns flows) (λ other outcome found. found) source out is,
   flows_keep (λ labels messages. Prints (report_of_rows condition columns labels messages))
-      (λ labels messages. Prints (table_text columns (labelled_row_lines labels (rows_left condition labels (rows_of_messages messages)))))
+      (λ labels messages. PrintsRows columns labels (rows_left condition labels (rows_of_messages messages)))
       (λ labels messages text made.
-      made
+      prints_rows columns labels (rows_left condition labels (rows_of_messages messages)) (Ok text)
+      (made
       ∙ ap (λ (shown : List RowView). Ok (table_text columns (labelled_row_lines labels shown)))
-      (c.options_hold_together.ensures.left condition labels (rows_of_messages messages)))
+      (c.options_hold_together.ensures.left condition labels (rows_of_messages messages))))
       source flows out is,
 )
 returns c (uniq fields source condition sorted columns flows) out is = (
   same_report (report_of_groups fields condition sorted columns) flows (λ other. uniq fields other condition sorted columns flows)
       (λ other outcome found. found) source out is,
   flows_keep (λ labels messages. Prints (report_of_groups fields condition sorted columns labels messages))
-      (λ labels messages. PrintsGroups fields sorted columns (rows_left condition labels (rows_of_messages messages)))
+      (λ labels messages. PrintsGroups fields sorted columns labels (rows_left condition labels (rows_of_messages messages)))
       (λ labels messages text made.
       let shown : List RowView = passing_rows condition labels messages in
       let groups : List GroupModel = groups_of fields (label_where labels) shown in (
         shown_groups sorted groups,
-        subst (λ (left : List RowView). DivideRows left (shown_groups sorted groups))
+        subst (λ (left : List RowView). DivideRows (key_of (label_where labels) fields) left (shown_groups sorted groups))
             (c.options_hold_together.ensures.left condition labels (rows_of_messages messages))
             (c.groups_divide_the_rows.ensures fields (label_where labels) sorted shown),
         in_order_if sorted groups (c.sorted_groups_are_in_order.ensures.ascends groups),
@@ -143,14 +179,21 @@ returns c (cat source) out is = (
       ))
       source out is,
 )
-returns c (shrink map printed) out is =
-    let (m, reads, found) = printed_of InMap (PrintsMinimal printed) (map_reading map) out is in
-    let (l, k, prints, short, again) = c.shrunk_list_is_least.ensures map m reads in
-    let (outcome, made, one) = c.one_output.ensures (shrink map printed) in
-    let this : Ok out ≡ outcome = one (Ok out) is in
-    let that : Ok (shrunk_text printed l k) ≡ outcome = one (Ok (shrunk_text printed l k)) (prints printed) in
-    let same : out ≡ shrunk_text printed l k = cc in
-    (m, l, k, reads, short, same)
+returns c (shrink map shrunk.List) out is =
+    let (m, reads, found) = printed_of InMap (PrintsMinimal shrunk.List) (map_reading map) out is in
+    let (l, k, all) = c.shrunk_list_is_least.ensures map m reads in
+    let (text, printed, again) = all.prints_list in
+    (m, l, reads, all.shortest, subst (PrintsList m l) (only (shrink map shrunk.List) (c.one_output.ensures (shrink map shrunk.List)) printed is) again)
+returns c (shrink map shrunk.Certificate) out is =
+    let (m, reads, found) = printed_of InMap (PrintsMinimal shrunk.Certificate) (map_reading map) out is in
+    let (l, k, all) = c.shrunk_list_is_least.ensures map m reads in
+    let (text, printed, again) = all.prints in
+    (m, l, k, reads, all.shortest, all.certificate, ap format_reading (only (shrink map shrunk.Certificate) (c.one_output.ensures (shrink map shrunk.Certificate)) is printed) ∙ again)
+returns c (shrink map shrunk.Compact) out is =
+    let (m, reads, found) = printed_of InMap (PrintsMinimal shrunk.Compact) (map_reading map) out is in
+    let (l, k, all) = c.shrunk_list_is_least.ensures map m reads in
+    let (text, printed, again) = all.prints_compact in
+    (m, l, k, reads, all.shortest, all.certificate, ap format_reading (only (shrink map shrunk.Compact) (c.one_output.ensures (shrink map shrunk.Compact)) is printed) ∙ again)
 returns c (check map list certificate) out is =
     let (m, l, k, reads_map, reads_list, reads, none, text) = checked_of map list certificate out is in
     let form = ((c.text_of_format_is_read_or_has_a_fault.ensures.read certificate k).0 reads).0 in

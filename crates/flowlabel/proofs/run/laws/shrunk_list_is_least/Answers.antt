@@ -4,13 +4,14 @@ use Rattle.prefix_keys.specs.declared.version.Version.{Version}
 use Rattle.pmap_text.specs.ListModel.{IsEquivalent}
 use Rattle.pmap_text.specs.MapModel.{Label}
 use Rattle.pmap_text.specs.Reading.{unknown}
-use Rattle.pmap_cert.specs.Acceptance.{IsAccepted, IsInOrder}
+use Rattle.pmap_cert.specs.Acceptance.{IsAccepted}
 use Rattle.pmap_cert.specs.CertificateText.{HasFormatText, certificate_text}
 use Rattle.pmap_cert.specs.CertificateModel.{CertificateModel}
 use Rattle.pmap_cert.specs.Compacting.{compact}
 use Rattle.cert_check.specs.Checking.{first_fault}
 use Rattle.cert_check.specs.declared.fault.CheckFault.{CheckFault}
 use Rattle.pmap_cert.specs.FormatReading.{format_reading}
+use Rattle.pmap_cert.specs.ListText.{list_text}
 use Rattle.flowlabel.specs.Output.{minimal_text}
 use Rattle.flowlabel.proofs.Outcomes.{checked}
 use Rattle.flowlabel.proofs.run.laws.shrunk_list_is_least.Goals as goal
@@ -21,45 +22,59 @@ returns c map m reads =
     let formed : HasFormatText k = c.compact_has_a_text.ensures.first k has_form in
     let read = c.text_of_format_is_read_or_has_a_fault.ensures.read in
     let faultless = c.no_fault_is_acceptance.ensures.no_fault in
-    let has_text = (read (certificate_text k) k).1 (formed, refl) in
-    let compacted = (read (certificate_text (compact k)) (compact k)).1 (c.compact_has_a_text.ensures.text k formed, refl) in
     let accepted : IsAccepted m l k = c.minimal_pair_is_accepted.ensures.accepted m l k pair in
-    let order : IsInOrder l.prefixes = (c.minimal_list_is_in_order.ensures m l k pair (c.map_text_has_its_labels.ensures map m reads)).order in (
+    let alike : IsEquivalent l m = c.acceptance_is_enough.ensures.equivalent m l k accepted in
+    let printed_again = c.minimal_list_can_be_read_again.ensures.again map m l k reads pair in (
       l,
       k,
-      (λ printed. rw reads (l, k, pair, refl)),
       record {
-        equivalent = c.acceptance_is_enough.ensures.equivalent m l k accepted;
-        least = c.acceptance_is_enough.ensures.least m l k accepted;
-        name = pair.list_name;
-        form = c.minimal_list_can_be_read_again.ensures.form map m l k reads pair;
-        order = order;
-        has_text = has_text;
-        accepted = faultless m l k accepted;
-        has_compact_text = compacted;
-        compact_accepted = faultless m l (compact k) (c.compact_keeps_acceptance.ensures m l k formed.format accepted);
+        shortest = record {
+          equivalent = alike;
+          least = c.acceptance_is_enough.ensures.least m l k accepted;
+          name = pair.list_name;
+          form = c.minimal_list_can_be_read_again.ensures.form map m l k reads pair;
+          order = (c.minimal_list_is_in_order.ensures m l k pair (c.map_text_has_its_labels.ensures map m reads)).order;
+        };
+        certificate = record {
+          accepted = faultless m l k accepted;
+          compact_accepted = faultless m l (compact k) (c.compact_keeps_acceptance.ensures m l k formed.format accepted);
+        };
+        prints_list = (
+          list_text l,
+          (rw reads (l, k, pair, refl)),
+          (
+            refl,
+            λ few few_labels.
+                let (can, kept) = printed_again few few_labels in
+                let (again, reads_list, is) = c.printed_list_is_read_back.ensures.list l can in
+                let (same, accepted') = kept again is in
+                let (other, reads_map, is_map) = c.printed_list_is_read_back.ensures.map l can in
+                record {
+                  table = again.table;
+                  reads = reads_list ∙ (λ i. Ok (record { version = is.version i; name = is.name i; prefixes = same i; table = again.table }));
+                  again = other;
+                  reads_map = reads_map;
+                  version = is_map.version ∙ alike.version;
+                  labels = λ a below. is_map.labels a (subst (λ (v : Version). a < 2 ^ width_of v) (sym alike.version) below)
+                      ∙ ap (λ (o : Option Label). unwrap_or o unknown) (alike.labels a below);
+                },
+          ),
+        );
+        prints = (certificate_text k, (rw reads (l, k, pair, refl)), (read (certificate_text k) k).1 (formed, refl));
+        prints_compact = (
+          certificate_text (compact k),
+          (rw reads (l, k, pair, refl)),
+          (read (certificate_text (compact k)) (compact k)).1 (c.compact_has_a_text.ensures.text k formed, refl),
+        );
+        checks = λ few few_labels printed either.
+            let (can, kept) = printed_again few few_labels in
+            let (again, reads_list, is) = c.printed_list_is_read_back.ensures.list l can in
+            let (same, accepted') = kept again is in
+            let (x, reads', accepts) : (x : CertificateModel) × (format_reading printed ≡ Ok x) × IsAccepted m again x = elim either [
+              | inl plain ↦ (k, plain, accepted')
+              | inr short ↦ (compact k, short, c.compact_keeps_acceptance.ensures m again k formed.format accepted')
+            ] in
+            let none : first_fault m again x ≡ None = faultless m again x accepts in
+            rw (reads, reads_list, reads') (ap (λ (n : ℕ). Ok (minimal_text n)) (sym (ap length same)) ∙ sym (ap (λ (f : Option CheckFault). checked f (length again.prefixes)) none));
       },
-      λ few few_labels.
-          let (can, kept) = c.minimal_list_can_be_read_again.ensures.again map m l k reads pair few few_labels in
-          let (again, reads_list, is) = c.printed_list_is_read_back.ensures.list l can in
-          let (same, accepted') = kept again is in
-          let (other, reads_map, is_map) = c.printed_list_is_read_back.ensures.map l can in
-          let alike : IsEquivalent l m = c.acceptance_is_enough.ensures.equivalent m l k accepted in
-          record {
-            table = again.table;
-            reads = reads_list ∙ (λ i. Ok (record { version = is.version i; name = is.name i; prefixes = same i; table = again.table }));
-            again = other;
-            reads_map = reads_map;
-            version = is_map.version ∙ alike.version;
-            labels = λ a below. is_map.labels a (subst (λ (v : Version). a < 2 ^ width_of v) (sym alike.version) below)
-                ∙ ap (λ (o : Option Label). unwrap_or o unknown) (alike.labels a below);
-            checks = λ printed either.
-                let (x, reads', accepts) : (x : CertificateModel) × (format_reading printed ≡ Ok x) × IsAccepted m again x = elim either [
-                  | inl plain ↦ (k, (read printed k).1 (formed, plain), accepted')
-                  | inr short ↦
-                      (compact k, (read printed (compact k)).1 (c.compact_has_a_text.ensures.text k formed, short), c.compact_keeps_acceptance.ensures m again k formed.format accepted')
-                ] in
-                let none : first_fault m again x ≡ None = faultless m again x accepts in
-                rw (reads, reads_list, reads') (ap (λ (n : ℕ). Ok (minimal_text n)) (sym (ap length same)) ∙ sym (ap (λ (f : Option CheckFault). checked f (length again.prefixes)) none));
-          },
     )
