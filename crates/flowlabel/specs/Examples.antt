@@ -1,11 +1,11 @@
-use Rattle.std.specs.Prelude.{◌≡◌, ◌+◌, ◌*◌, ℕ, List, [], ◌∷◌, Option, Result, Ok, Err, codes, unwrap_or}
+use Rattle.std.specs.Prelude.{◌≡◌, ◌+◌, ◌*◌, ℕ, List, [], ◌∷◌, ◌++◌, Option, Some, Result, Ok, Err, codes, false, unwrap_or}
 use Rattle.std.specs.Borrow.{Bor}
 use Rattle.std.specs.Fmt.{digits}
 use Rattle.std.specs.String.{string_bytes}
 use lib.Dec.{lit<}
 use Rattle.prefix_keys.specs.Text.{hex_digit_value}
 use Rattle.prefix_keys.specs.declared.addr.Addr.{Addr}
-use Rattle.prefix_keys.specs.declared.version.Version.TheVariants.{V4}
+use Rattle.prefix_keys.specs.declared.version.Version.TheVariants.{V4, V6}
 use Rattle.ipfix_templates.specs.Elements.{fits}
 use Rattle.ipfix_templates.specs.InForce.{in_force}
 use Rattle.ipfix_templates.specs.Reading.{definition_at, field_at, fields_at, template_record_at}
@@ -14,12 +14,16 @@ use Rattle.pmap_cert.specs.CertificateModel.{CertificateModel}
 use Rattle.pmap_cert.specs.Compacting.{compacted_in}
 use Rattle.pmap_cert.specs.FormatReading.{format_reading, nodes_at}
 use Rattle.pmap_cert.specs.declared.fault.CertFault.{CertFault}
+use Rattle.flow_filter.specs.declared.option.FilterOption.{FilterOption}
+use Rattle.flow_uniq.specs.declared.field.KeyField.{KeyField}
 use Rattle.flowlabel.specs.BytesFault.{role_of}
 use Rattle.flowlabel.specs.ByFile.{ByFile, at}
 use Rattle.flowlabel.specs.Faults.{exit_status_of, fault_text}
 use Rattle.flowlabel.specs.Output.{IsOutput, Outcome}
-use Rattle.flowlabel.specs.Request.{Command, Text, files_of, request_of, with_texts}
+use Rattle.flowlabel.specs.Request.{Check, Command, Info, Label, Recert, Rows, Text, Uniq, files_of, request_of, with_texts}
 use Rattle.flowlabel.specs.Run.{File, RunFault, Usage}
+use Rattle.flowlabel.specs.declared.command.LabelFile.{LabelFile}
+use Rattle.flowlabel.specs.declared.command.LabelFile.TheVariants.{Map, List as Prefixes}
 use Rattle.flowlabel.specs.declared.usage.UsageFault.TheVariants.{Help}
 
 -- Texts of the worked examples.
@@ -49,9 +53,13 @@ abbrev pub hex : List ℕ → List ℕ
 hex (a ∷ b ∷ text) = (hex_digit_value a * 16 + hex_digit_value b) ∷ hex text
 hex _ = []
 
--- a File of one message, with a template and a record: the flow of FORMATS.md, "Records of both directions", one way
+-- a File of one flow, that of FORMATS.md, "Records of both directions", one way
 abbrev pub one_flow : List ℕ
 one_flow = hex (codes "000a006a000000000000000000000001000200300100000a00080004000c000400070002000b00020004000100060001000200040001000400980008009900080100002a0a000000c63364e4070c01bb061b00000005000002220000018bcfe66dd60000018bcfe66f22")
+
+-- a File of one flow with its way back: 10.0.0.1 sent 8.8.8.8 three packets of 180 bytes, and got two of 100 bytes
+abbrev pub both_ways : List ℕ
+both_ways = hex (codes "000a00596000000000000000000000010002002c0100000700080004000c0004000400010002000400010004800200040000727980010004000072790100001d0a000001080808080600000003000000b40000000200000064")
 
 -- What a user sees of a run.
 
@@ -69,10 +77,6 @@ seen (Err fault) = (exit_status_of {A = Text} (Err fault), StandardError, fault_
 abbrev pub named : Text → Bor Text
 named name = record { ref_ptr = (0, 0); now = name }
 
--- the address 10.1.2.3 on the command line
-abbrev pub address : Addr
-address = record { version = V4; value = 0x0a01_0203; in_range = lit< tt }
-
 -- the end of a run for an outcome over the texts of its files, if no device fails and there is memory
 abbrev pub end_of : ByFile (Option Text) → Outcome → Result Text RunFault
 end_of names (Ok out) = Ok out
@@ -84,9 +88,99 @@ Shows command texts end =
     (outcome : Outcome) × IsOutput (with_texts texts command) outcome
     × (seen (end_of (files_of (request_of command)) outcome) ≡ end)
 
--- files without a text
+-- the run writes this text, or it reports this fault of a file
+abbrev pub Writes : Command → ByFile Text → Text → Type 0
+Writes command texts out = Shows command texts (0, StandardOutput, out)
+
+abbrev pub Reports : Command → ByFile Text → Text → Type 0
+Reports command texts fault = Shows command texts (1, StandardError, codes "flowlabel: " ++ fault ++ codes "\n")
+
+-- The files of the commands, and their texts.
+
+abbrev pub by_map : LabelFile
+by_map = Map (named (codes "map.txt"))
+
+abbrev pub by_list : LabelFile
+by_list = Prefixes (named (codes "list.txt"))
+
+abbrev pub day : Bor Text
+day = named (codes "day.ipfix")
+
 abbrev pub empty : ByFile Text
 empty = record { map = []; list = []; certificate = []; flows = [] }
+
+abbrev pub of_map : Text → ByFile Text
+of_map text = record empty { map = text }
+
+abbrev pub of_list : Text → ByFile Text
+of_list text = record empty { list = text }
+
+abbrev pub of_flows : Text → ByFile Text
+of_flows text = record empty { flows = text }
+
+-- Claims about one command each.
+
+-- the address 10.1.2.3, and 2001:db8::1, on the command line
+abbrev pub address : Addr
+address = record { version = V4; value = 0x0a01_0203; in_range = lit< tt }
+
+abbrev pub long_address : Addr
+long_address = record { version = V6; value = 0x2001_0db8_0000_0000_0000_0000_0000_0001; in_range = lit< tt }
+
+-- `label` writes this line, or reports this fault, for 10.1.2.3 under a map or a list
+abbrev pub Labels : Text → Text → Type 0
+Labels map line = Writes (Label by_map address) (of_map map) line
+
+abbrev pub LabelsByList : Text → Text → Type 0
+LabelsByList list line = Writes (Label by_list address) (of_list list) line
+
+abbrev pub HasMapFault : Text → Text → Type 0
+HasMapFault map fault = Reports (Label by_map address) (of_map map) (codes "map.txt: " ++ fault)
+
+abbrev pub HasListFault : Text → Text → Type 0
+HasListFault list fault = Reports (Label by_list address) (of_list list) (codes "list.txt: " ++ fault)
+
+-- `recert` writes this certificate for another one, or reports this fault
+abbrev pub Recerts : Text → Text → Type 0
+Recerts text out = Writes (Recert (named (codes "cert.txt"))) (record empty { certificate = text }) out
+
+abbrev pub HasCertificateFault : Text → Text → Type 0
+HasCertificateFault text fault = Reports (Recert (named (codes "cert.txt"))) (record empty { certificate = text }) (codes "cert.txt: " ++ fault)
+
+-- `check` writes this line, or reports this fault, for the texts of a map, a list and a certificate
+abbrev pub check_all : Command
+check_all = Check (named (codes "map.txt")) (named (codes "list.txt")) (named (codes "cert.txt"))
+
+abbrev pub Checks : Text → Text → Text → Text → Type 0
+Checks map list certificate line = Writes check_all (record empty { map = map; list = list; certificate = certificate }) line
+
+abbrev pub HasCheckFault : Text → Text → Text → Text → Type 0
+HasCheckFault map list certificate fault = Reports check_all (record empty { map = map; list = list; certificate = certificate }) fault
+
+-- `info` writes these numbers for a File of these hexadecimal digits, or reports this fault
+abbrev pub Counts : Text → Text → Type 0
+Counts digits out = Writes (Info day) (of_flows (hex digits)) out
+
+abbrev pub HasFlowsFault : Text → Text → Type 0
+HasFlowsFault digits fault = Reports (Info day) (of_flows (hex digits)) (codes "day.ipfix: " ++ fault)
+
+-- The File of one flow, with the labels In and Out. `rows` with this option writes the row, or the header alone.
+abbrev pub labelled_flow : ByFile Text
+labelled_flow = record empty { map = codes "10.0.0.0/8 In\ndefault Out\n"; flows = one_flow }
+
+abbrev pub labelled_header : Text
+labelled_header = codes "sip|dip|sport|dport|proto|flags|packets|bytes|stime|etime|src-label|dst-label\n"
+
+abbrev pub Drops : FilterOption → Text → Type 0
+Drops option text = Writes (Rows (Some by_map) ((option, text) ∷ []) false day) labelled_flow labelled_header
+
+abbrev pub Keeps : FilterOption → Text → Type 0
+Keeps option text = Writes (Rows (Some by_map) ((option, text) ∷ []) false day) labelled_flow
+    (labelled_header ++ codes "10.0.0.0|198.51.100.228|1804|443|6|27|5|546|1700000067030|1700000067362|In|Out\n")
+
+-- `uniq` by these fields writes these lines for the File of one flow with the labels
+abbrev pub Groups : List KeyField → Text → Type 0
+Groups fields out = Writes (Uniq fields (Some by_map) [] false false day) labelled_flow out
 
 -- The examples unfold `opened`, and with it the opaque definitions that are named here after `unfolding`.
 unfoldable pub opened : List ℕ → Result CertificateModel CertFault
