@@ -206,7 +206,8 @@ pub fn a_run_shrinks_a_map()
 
 /// The addresses of the ranges are those of RFC 4632, section 3.1.
 pub fn a_run_prints_ranges()
-    ensures cat { Writes (command.Cat by_map) (of_map halves_map) (codes "low|high|label\n0.0.0.0|127.255.255.255|A\n128.0.0.0|255.255.255.255|B\n") }
+    ensures of_a_map { Writes (command.Cat by_map) (of_map halves_map) (codes "low|high|label\n0.0.0.0|127.255.255.255|A\n128.0.0.0|255.255.255.255|B\n") }
+    ensures of_a_list { Writes (command.Cat by_list) (of_list (codes "0.0.0.0/1 A\n")) (codes "low|high|label\n0.0.0.0|127.255.255.255|A\n128.0.0.0|255.255.255.255|\n") }
 {}
 
 /// FORMATS.md, "Exit status" and the table of faults.
