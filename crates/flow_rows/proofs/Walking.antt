@@ -15,7 +15,7 @@ use Rattle.ipfix_templates.specs.declared.kind.Kind.{Kind}
 use Rattle.ipfix_templates.specs.declared.kind.Kind.TheVariants.{Flow, Options}
 use Rattle.ipfix_templates.specs.declared.layout.RowLayout.{RowLayout}
 use Rattle.ipfix_templates.specs.Layout.{is_there, layout_of}
-use Rattle.ipfix_templates.specs.Runs.{runs_behind}
+use Rattle.ipfix_templates.specs.Runs.{runs_from}
 use Rattle.ipfix_templates.specs.Template.{same_kind}
 use Rattle.ipfix_templates.specs.declared.field.Field.{Field}
 use Rattle.ipfix_read.specs.Message.{message_size, set_size}
@@ -55,7 +55,7 @@ module _ {T : Type 0} (has : List RowView → T → Type 0) where
 
 -- flow records whose fields have a layout
 pub have_layout : (layout : RowLayout) (runs : List ℕ) (fields : List Field) (records : List Record) (kind : Kind) → Some layout ≡ layout_of fields
-    → runs ≡ runs_behind 0 fields → same_kind kind Flow ≡ true → All (λ r. r.kind ≡ kind) records → All (λ r. fields_of r.fields ≡ fields) records
+    → runs ≡ runs_from 0 fields → same_kind kind Flow ≡ true → All (λ r. r.kind ≡ kind) records → All (λ r. fields_of r.fields ≡ fields) records
     → HaveLayout layout runs records
 have_layout layout runs fields records Flow layout_is runs_are is_flow kinds same =
     record { fields = fields; layout_is = layout_is; runs_are = runs_are; flows = kinds; same = same }

@@ -7,7 +7,7 @@ use Rattle.ipfix_templates.specs.declared.layout.Place.{Place}
 use Rattle.ipfix_templates.specs.declared.layout.Places.{Places}
 use Rattle.ipfix_templates.specs.declared.layout.RowLayout.{RowLayout}
 use Rattle.ipfix_templates.specs.Layout.{layout_of}
-use Rattle.ipfix_templates.specs.Runs.{runs_behind}
+use Rattle.ipfix_templates.specs.Runs.{runs_from}
 use Rattle.ipfix_read.specs.declared.record.Record.{Record}
 use Rattle.ipfix_read.specs.Value.{bytes_at, variable_at}
 use Rattle.flow_rows.specs.Elements.{RowView, big_endian}
@@ -78,6 +78,6 @@ second_at layout runs bytes =
 pub record HaveLayout (layout : RowLayout) (runs : List ℕ) (records : List Record) : Type 0 where
   pub fields : List Field
   pub layout_is : Some layout ≡ layout_of fields
-  pub runs_are : runs ≡ runs_behind 0 fields
+  pub runs_are : runs ≡ runs_from 0 fields
   pub flows : All (λ r. r.kind ≡ Flow) records
   pub same : All (λ r. map (λ v. v.field) r.fields ≡ fields) records

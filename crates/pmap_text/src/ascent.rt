@@ -84,7 +84,7 @@ impl Ascent {
         })
     }
 
-    // Extends the stretches to the address, after which the next mapping begins. Open mappings that end before are closed.
+    // Extends the stretches to an address before the next mapping begins, and closes open mappings that end up to there.
     #[inline(always)]
     fn reach<M: Mappings>(&mut self, mappings: &M, last: u128) -> Result<(), AllocError>
         requires known { HaveNumbers (M.all mappings.now) self.old.default }
@@ -114,7 +114,7 @@ impl Ascent {
         Ok(())
     }
 
-    // Extends the stretches to the address before the last mapping begins that does so up to `end`.
+    // Opens the mappings that begin up to `end`, and extends the stretches to the address before the last of them begins.
     fn open_all<M: Mappings>(&mut self, mappings: &M, end: u128) -> Result<(), AllocError>
         requires known { HaveNumbers (M.all mappings.now) self.old.default }
         requires ascending { IsNonDecreasingBy (λ s. s.span.low.value) (M.all mappings.now) }
