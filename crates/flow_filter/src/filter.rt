@@ -1,7 +1,7 @@
 ghost use Rattle.std.specs.Prelude.{◌≡◌, ◌++◌, ◌∷◌, [], IfErr, IfOk, Ok, OnOk, Some, false, true};
 ghost use Rattle.std.specs.Option.{option_eq};
 ghost use Rattle.std.specs.Str.{bytes_eq};
-ghost use Rattle.label_lookup.specs.Labelling.{label_where, labelling_lent};
+ghost use Rattle.label_lookup.specs.Labelling.{label_where, labelling_borrowed};
 ghost use Rattle.flow_filter.specs.Condition.{filter_of, is_malformed, meets, needs_map, row_passes};
 ghost use Rattle.flow_filter.specs.Filters.{IsFault, IsRefused, number_of, texts_of};
 ghost use Rattle.flow_filter.specs.Options.{is_on_labels};
@@ -76,7 +76,7 @@ fn number_of(option: FilterOption, row: &Row<'_>) -> u128
 // Returns `true` if the address has this label.
 fn has_label<L: Labeller>(label: &str, labeller: Option<&L>, addr: Addr) -> bool
     ensures { result ≡ option_eq bytes_eq
-        (label_where (labelling_lent L.version_of L.label labeller.entry) (addr.version, addr.value)) (Some label.now) }
+        (label_where (labelling_borrowed L.version_of L.label labeller.entry) (addr.version, addr.value)) (Some label.now) }
 {
     label_row_under(labeller, addr) == Some(label.as_bytes())
 }
@@ -104,7 +104,7 @@ impl<'a> Part<'a> {
     // Whether the row meets the condition that the option states. Without a labeller no address has a label.
     #[inline(never)]
     fn meets<L: Labeller>(&self, row: &Row<'_>, labeller: Option<&L>) -> bool
-        ensures { result ≡ meets (label_where (labelling_lent L.version_of L.label labeller.entry)) row.now self.now }
+        ensures { result ≡ meets (label_where (labelling_borrowed L.version_of L.label labeller.entry)) row.now self.now }
     {
         if self.option.is_on_labels() {
             return self.meets_label(row, labeller);
@@ -117,7 +117,7 @@ impl<'a> Part<'a> {
     #[inline(never)]
     fn meets_label<L: Labeller>(&self, row: &Row<'_>, labeller: Option<&L>) -> bool
         requires { is_on_labels self.now.0 ≡ true }
-        ensures { result ≡ meets (label_where (labelling_lent L.version_of L.label labeller.entry)) row.now self.now }
+        ensures { result ≡ meets (label_where (labelling_borrowed L.version_of L.label labeller.entry)) row.now self.now }
     {
         match self.option {
             FilterOption::SourceLabel => has_label(self.text, labeller, row.src()),
@@ -159,7 +159,7 @@ impl<'a> Filter<'a> {
     #[inline(always)]
     pub fn passes<L: Labeller>(&self, row: &Row<'_>, labeller: Option<&L>) -> bool
         ensures { result ≡ row_passes self.now
-            (label_where (labelling_lent L.version_of L.label labeller.entry)) row.now }
+            (label_where (labelling_borrowed L.version_of L.label labeller.entry)) row.now }
     {
         self.parts.iter().all(|part| part.meets(row, labeller))
     }

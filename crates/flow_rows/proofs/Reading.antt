@@ -12,7 +12,7 @@ use Rattle.ipfix_templates.specs.Layout.{place}
 use Rattle.ipfix_templates.specs.Runs.{runs_from}
 use Rattle.ipfix_read.specs.Value.{FieldValueView, bytes_at, value_at, values_at, variable_at}
 use Rattle.flow_rows.specs.Elements.{big_endian, element}
-use Rattle.flow_rows.specs.Inner.{behind_values, bytes_there, number_there}
+use Rattle.flow_rows.specs.Inner.{after_values, bytes_there, number_there}
 use Rattle.flow_rows.proofs.Usable.{has_other_length}
 
 -- the bytes that are there are the first ones
@@ -37,17 +37,17 @@ unfolding value_at
 variable_value f bytes is = rw is refl
 
 -- one more value of variable length, after a run of bytes
-one_more_value : (runs : List ℕ) (run : ℕ) (bytes gap rest : List ℕ) (v : List ℕ × List ℕ) → behind_values runs bytes ≡ Some (gap ++ rest)
-    → length gap ≡ run → variable_at rest ≡ Some v → behind_values (runs ++ run ∷ []) bytes ≡ Some v.1
+one_more_value : (runs : List ℕ) (run : ℕ) (bytes gap rest : List ℕ) (v : List ℕ × List ℕ) → after_values runs bytes ≡ Some (gap ++ rest)
+    → length gap ≡ run → variable_at rest ≡ Some v → after_values (runs ++ run ∷ []) bytes ≡ Some v.1
 one_more_value [] run bytes gap rest v is long read =
     rw (some_is bytes (gap ++ rest) is, cut run gap rest long, read) refl
 one_more_value (n ∷ runs) run bytes gap rest v is long read =
-    let a = gave (bytes_at n bytes) (λ f. option_and_then (λ v. behind_values runs v.1) (variable_at f.1)) (gap ++ rest) is in
-    let b = gave (variable_at a.0.1) (λ v. behind_values runs v.1) (gap ++ rest) a.2 in
+    let a = gave (bytes_at n bytes) (λ f. option_and_then (λ v. after_values runs v.1) (variable_at f.1)) (gap ++ rest) is in
+    let b = gave (variable_at a.0.1) (λ v. after_values runs v.1) (gap ++ rest) a.2 in
     rw (a.1, b.1) (one_more_value runs run b.0.1 gap rest v b.2 long read)
 
 -- the bytes of a value, after the values that are skipped and a gap
-found_there : (front more : List ℕ) (bytes gap value after : List ℕ) → behind_values front bytes ≡ Some (gap ++ (value ++ after))
+found_there : (front more : List ℕ) (bytes gap value after : List ℕ) → after_values front bytes ≡ Some (gap ++ (value ++ after))
     → bytes_there (record { offset = length gap; skips = length front; length = length value }) (front ++ more) bytes ≡ Some value
 found_there front more bytes gap value after is =
     rw (take_at front more (length front) refl, is, cut (length gap) gap (value ++ after) refl, cut (length value) value after refl) refl
@@ -66,7 +66,7 @@ before_values p runs bytes none within =
 -- a number without bytes is 0
 pub none_there : (p : Place) (runs bytes : List ℕ) → p.length ≡ 0 → number_there p runs bytes ≡ 0
 none_there p runs bytes none =
-    elim (behind_values (take p.skips runs) bytes) as (λ rest.
+    elim (after_values (take p.skips runs) bytes) as (λ rest.
     big_endian (unwrap_or (option_and_then (λ rest. option_and_then (λ f. option_map (λ v. v.0) (bytes_at p.length f.1)) (bytes_at p.offset rest)) rest) []) ≡ 0) [
       | None ↦ refl
       | Some rest ↦ elim (bytes_at p.offset rest) as (λ f.
@@ -91,7 +91,7 @@ module _ (direction : Option ℕ) (number : ℕ) (bytes : List ℕ) where
   said_at front skips offset fields = number_there (place direction number skips offset fields) (front ++ runs_from offset fields) bytes
 
   said_behind : (fields : List FieldView) (front gap rest : List ℕ) (skips offset : ℕ) (x : List FieldValueView × List ℕ)
-      → skips ≡ length front → offset ≡ length gap → behind_values front bytes ≡ Some (gap ++ rest) → values_at fields rest ≡ Some x
+      → skips ≡ length front → offset ≡ length gap → after_values front bytes ≡ Some (gap ++ rest) → values_at fields rest ≡ Some x
       → said_at front skips offset fields ≡ unwrap_or (element direction x.0 number) 0
   unfolding values_at
   said_behind [] front gap rest skips offset x skips_are offset_is behind read =
@@ -121,7 +121,7 @@ module _ (direction : Option ℕ) (number : ℕ) (bytes : List ℕ) where
             (front ++ cond c (offset ∷ runs_from 0 fs) (runs_from (offset + f.length) fs)) bytes
             ≡ said x.0) [
               | true ↦ λ variable.
-                  let next : behind_values (front ++ offset ∷ []) bytes ≡ Some a.0.1 =
+                  let next : after_values (front ++ offset ∷ []) bytes ≡ Some a.0.1 =
                   one_more_value front offset bytes gap rest a.0 behind (sym offset_is) (sym (variable_value f rest variable) ∙ a.1) in
                   ap (λ (runs : List ℕ). number_there (place direction number (skips + 1) 0 fs) runs bytes) (sym (append_assoc front (offset ∷ []) (runs_from 0 fs)))
                   ∙ said_behind fs (front ++ offset ∷ []) [] a.0.1 (skips + 1) 0 b.0

@@ -15,16 +15,16 @@ use Rattle.flow_rows.specs.Elements.{RowView, big_endian}
 -- What is read at the places of a row's numbers. This is private, and callers of the crate need not read it.
 
 -- the bytes after values of variable length, each after a run of bytes
-abbrev pub behind_values : List ℕ → List ℕ → Option (List ℕ)
-behind_values [] bytes = Some bytes
-behind_values (run ∷ runs) bytes =
-    option_and_then (λ f. option_and_then (λ v. behind_values runs v.1) (variable_at f.1)) (bytes_at run bytes)
+abbrev pub after_values : List ℕ → List ℕ → Option (List ℕ)
+after_values [] bytes = Some bytes
+after_values (run ∷ runs) bytes =
+    option_and_then (λ f. option_and_then (λ v. after_values runs v.1) (variable_at f.1)) (bytes_at run bytes)
 
 -- the bytes at a place in a record, given the runs of bytes before its values of variable length
 abbrev pub bytes_there : Place → List ℕ → List ℕ → Option (List ℕ)
 bytes_there p runs bytes =
     option_and_then (λ rest. option_and_then (λ f. option_map (λ v. v.0) (bytes_at p.length f.1)) (bytes_at p.offset rest))
-    (behind_values (take p.skips runs) bytes)
+    (after_values (take p.skips runs) bytes)
 
 -- the number there, or 0
 abbrev pub number_there : Place → List ℕ → List ℕ → ℕ

@@ -27,7 +27,7 @@ fn find_bytes<'a>(place: &Place, runs: &[u32], bytes: &'a [u8]) -> Option<&'a [u
 // Returns the bytes at a place after values of variable length, or no bytes if the record is too short. Out of line,
 // since most numbers are before all of these values.
 #[inline(never)]
-fn bytes_behind<'a>(place: &Place, runs: &[u32], bytes: &'a [u8]) -> &'a [u8]
+fn bytes_after<'a>(place: &Place, runs: &[u32], bytes: &'a [u8]) -> &'a [u8]
     ensures there { result.now ≡ unwrap_or (bytes_there place.now runs.now bytes.now) [] }
     ensures size { (length result.now ≡ place.now.length) ⊎ (result.now ≡ []) }
 {
@@ -46,7 +46,7 @@ pub fn bytes_there<'a>(place: &Place, runs: &[u32], bytes: &'a [u8]) -> &'a [u8]
         let from = &bytes[place.offset as usize..];
         return &from[..usize::from(place.length)];
     }
-    bytes_behind(place, runs, bytes)
+    bytes_after(place, runs, bytes)
 }
 
 /// Returns the number of up to 8 bytes at a place in a record, or 0 if there is none.

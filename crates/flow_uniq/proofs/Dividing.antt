@@ -241,4 +241,3 @@ module _ (f : RowView → ℕ) where
   groups-numbers =
       groups-sum (sum_by (λ r. f r.1)) refl
       (λ d. sum_by-filter_both (λ (r : KeyedRow). same_key d r.0) (λ r. not (same_key d r.0)) (λ r. refl) (λ (r : KeyedRow). f r.1))
-

@@ -1,7 +1,7 @@
 //! Keys as bytes, which are in the order of the keys. The bytes that are written for the key of a row are read back as
 //! this key, part by part.
 ghost use Rattle.std.specs.Prelude.{◌≡◌, ◌++◌, ◌∷◌, ◌↔◌, [], IfNone, IfOk, IfSome, IsTrue, OnOk, option_copied, option_map};
-ghost use Rattle.label_lookup.specs.Labelling.{label_where, labelling_lent};
+ghost use Rattle.label_lookup.specs.Labelling.{label_where, labelling_borrowed};
 ghost use Rattle.flow_uniq.specs.Key.{AddressPart, Key as Parts, key_of, key_part};
 ghost use Rattle.flow_uniq.specs.Codes.{AreSmall, IsCode, IsCode-prop, IsSmall, first_part, front_label, key_code, key_in, part_code, part_model};
 ghost use Rattle.flow_uniq.specs.Groups.{key_order};
@@ -102,7 +102,7 @@ impl Hash for Code {
 
 // Returns the part for this field of the row.
 fn part_of<'a, L: Labeller>(field: KeyField, row: &Row<'_>, labeller: Option<&'a L>) -> KeyPart<'a>
-    ensures value { let label = label_where (labelling_lent L.version_of L.label labeller.entry) in
+    ensures value { let label = label_where (labelling_borrowed L.version_of L.label labeller.entry) in
         part_model result ≡ key_part label row.now field }
     ensures small { IsSmall (part_model result) }
 {
@@ -166,7 +166,7 @@ pub fn write_key<L: Labeller>(
     labeller: Option<&L>,
 ) -> Result<(), AllocError>
     ensures code { OnOk result (IsCode out.new.items) }
-    ensures key { let label = label_where (labelling_lent L.version_of L.label labeller.entry) in
+    ensures key { let label = label_where (labelling_borrowed L.version_of L.label labeller.entry) in
         OnOk result (key_in out.new.items ≡ key_of label fields.now row.now) }
 {
     out.clear();

@@ -1,5 +1,5 @@
 ghost use Rattle.std.specs.Prelude.{All, ◌≡◌, ◌++◌, ℕ, ◌∷◌, [], ◌+◌, ◌-◌, ◌^◌, ◌<◌, ◌≤◌, false, IsTrue, List, IfOk, OnOk, OnErr, length, map, option_map, slice_get};
-ghost use Rattle.label_lookup.specs.Labelling.{label_where, labelling_lent};
+ghost use Rattle.label_lookup.specs.Labelling.{label_where, labelling_borrowed};
 ghost use Rattle.flow_uniq.specs.Groups.{AreOfNoRows, KeyedRow, groups_of_keyed, record_count, sorted_groups};
 ghost use Rattle.flow_uniq.specs.Key.{key_of};
 ghost use Rattle.flow_uniq.specs.Codes.{IsCode, key_in};
@@ -191,7 +191,7 @@ impl Groups {
         requires { record_count self.old.groups < 2 ^ 64 - 1 }
         ensures fields { self.new.fields ≡ self.old.fields }
         // If these were the groups of some rows with their keys, they are now those of the rows followed by this one.
-        ensures ok { let label = label_where (labelling_lent L.version_of L.label labeller.entry) in
+        ensures ok { let label = label_where (labelling_borrowed L.version_of L.label labeller.entry) in
             let added = row.now in
             OnOk result ((rows : List KeyedRow) → self.old.groups ≡ groups_of_keyed rows → self.new.groups
             ≡ groups_of_keyed (rows ++ (key_of label self.old.fields added, added) ∷ [])) }

@@ -30,7 +30,7 @@ use Rattle.flowlabel.specs.Reports.{AreLabels, AreLabelsOf, IsMade, IsReadOf, Is
 use Rattle.flowlabel.specs.declared.command.LabelFile.{LabelFile}
 use Rattle.flowlabel.specs.declared.command.LabelFile.TheVariants.{Map, List as Prefixes}
 use Rattle.flowlabel.specs.Request.{Command, FromList, FromMap, LabelSource, Text, role_in, source_by, source_with, with_texts}
-use Rattle.flowlabel.specs.Run.{AreAllFetched, AreKeptBehind, AreReadOn, AreReported, AreTexts, AreUnread, EndsAs, IsFaultOf, IsNamed, MayHave, RunFault, CannotRead, File, NoMemory as OutOfMemory, Source, any_failed, is_unread, name_in, view_of}
+use Rattle.flowlabel.specs.Run.{AreAllFetched, AreLaterUntouched, AreReadOn, AreReported, AreTexts, AreUnread, EndsAs, IsFaultOf, IsNamed, MayHave, RunFault, CannotRead, File, NoMemory as OutOfMemory, Source, any_failed, is_unread, name_in, view_of}
 
 -- a result that passes on a fault has the properties of one with this fault
 pub handed_on : {A F : Type 0} (P : Result A F → Type 0) (r : Result A F) (fault : F) → IsErrAnd r (λ y. y ≡ fault) → P (Err fault) → P r
@@ -73,11 +73,11 @@ module _ {R : Type 0} (input : R → InputView) (old : ByFile (Option (Source R)
   one_tells role.Flows file = rw (none_failed.0, none_failed.1, none_failed.2) refl
 
 -- no file is read after the flows
-none_behind : (later : Role) → 3 < turn later → ⊥
-none_behind role.Map behind = omega (arith, behind)
-none_behind role.List behind = omega (arith, behind)
-none_behind role.Certificate behind = omega (arith, behind)
-none_behind role.Flows behind = omega (arith, behind)
+none_after_flows : (later : Role) → 3 < turn later → ⊥
+none_after_flows role.Map behind = omega (arith, behind)
+none_after_flows role.List behind = omega (arith, behind)
+none_after_flows role.Certificate behind = omega (arith, behind)
+none_after_flows role.Flows behind = omega (arith, behind)
 
 -- a report under labels that are read
 source_stays : (texts : ByFile Text) (bytes : List ℕ) (labels : Option LabelFile)
@@ -162,8 +162,8 @@ unread_at q p ended bytes (Unread other) whole e = let same : other ≡ p = cc i
 unread_at q p ended bytes (Faulty fault) whole e = absurd whole
 
 -- the files after one that was read are untouched
-pub kept_behind : {R : Type 0} (old new : ByFile (Option (Source R))) (r : Role) (file : Option (Source R)) → new ≡ with_at r file old → AreKeptBehind r old new
-kept_behind old new r file is o later = elim (at_other file old r o) [
+pub later_untouched : {R : Type 0} (old new : ByFile (Option (Source R))) (r : Role) (file : Option (Source R)) → new ≡ with_at r file old → AreLaterUntouched r old new
+later_untouched old new r file is o later = elim (at_other file old r o) [
   | inl same ↦ let wrong : turn r < turn r = subst (λ (p : Role). turn r < turn p) same later in absurd (omega (arith, wrong))
   | inr still ↦ ap (at o) is ∙ still
 ]
@@ -253,7 +253,7 @@ module _ {R : Type 0} {input : R → InputView} where
     unread Is r new (Unread other) early first got =
         subst (λ (p : Role). IsFaultOf input Is old new (Unread p)) (sym got.whole.2) (
           got.unread,
-          kept_behind old new r (at r new) got.others,
+          later_untouched old new r (at r new) got.others,
           λ texts given fault is. first texts fault is,
           λ flows. let wrong : 3 < 3 = subst (λ (p : Role). turn p < 3) flows early in absurd (omega (arith, wrong)),
         )
@@ -290,7 +290,7 @@ module _ {R : Type 0} {input : R → InputView} where
       λ texts given. returns texts (text_of_read new r fresh got refl texts given),
       λ later behind.
           let least : turn r ≤ turn (role_of fault) = first _ fault (returns (with_at r text.items blank) (at_same r text.items blank)) in
-          kept_behind old new r (at r new) got.others later (omega (arith, least, behind)),
+          later_untouched old new r (at r new) got.others later (omega (arith, least, behind)),
       read_tells got,
     )
 
@@ -321,7 +321,7 @@ module _ {R : Type 0} {input : R → InputView} where
       then_made new (Err (Unread p)) is later kept =
           let after : turn r + 1 ≤ turn p = later p refl in (
             is.0,
-            λ o behind. is.1 o behind ∙ kept_behind old mid r (at r mid) got.others o (omega (arith, after, behind)),
+            λ o behind. is.1 o behind ∙ later_untouched old mid r (at r mid) got.others o (omega (arith, after, behind)),
             λ texts given fault has. is.2 texts given fault (back texts (Err fault) (text_of_read new r fresh got kept texts given) has),
             is.3,
           )
@@ -329,14 +329,14 @@ module _ {R : Type 0} {input : R → InputView} where
           let has : (texts : ByFile Text) → AreTexts input new texts → Is texts (Err fault) =
           λ texts given. there texts (Err fault) (text_of_read new r fresh got kept texts given) (is.0 texts given) in
           let least : turn r ≤ turn (role_of fault) = first _ fault (has (each (λ file. (view_of input file).returned) new) (read_so_far input new)) in
-          (has, λ o behind. is.1 o behind ∙ kept_behind old mid r (at r mid) got.others o (omega (arith, least, behind)), is.2)
+          (has, λ o behind. is.1 o behind ∙ later_untouched old mid r (at r mid) got.others o (omega (arith, least, behind)), is.2)
 
       pub then_from : {new : ByFile (Option (Source R))} {result : Result (Vec ℕ) OutputFault}
           → (any_failed input mid ≡ false → AreUnreadFrom input (turn r + 1) mid → MadeFrom input (turn r + 1) Is' mid new result)
           → MadeFrom input (turn r) Is old new result
       then_from {new = new} {result = result} rest =
           let is = rest (read_tells got)
-          (λ q later. ap (λ file. (view_of input file).returned) (kept_behind old mid r (at r mid) got.others q (omega (arith, later))) ∙ fresh q (omega (arith, later))) in
+          (λ q later. ap (λ file. (view_of input file).returned) (later_untouched old mid r (at r mid) got.others q (omega (arith, later))) ∙ fresh q (omega (arith, later))) in
           record {
             made = record { made = then_made new result is.made.made is.later (is.kept r (omega arith)); read = read_more input (read_of got) is.made.read };
             later = λ p same. omega (arith, is.later p same);
@@ -353,7 +353,7 @@ module _ {R : Type 0} {input : R → InputView} where
         → AreLabels input (Some file) old new result
     labels_made file new text (Ok labels) fresh got is = record {
       reads = λ texts given. of_source (λ source flows. ReadsLabels (Some source) (labelling_read labels)) file text.items texts (text_of_read new (role_in file) fresh got refl texts given) is;
-      flows = kept_behind old new (role_in file) (at (role_in file) new) got.others role.Flows (early file);
+      flows = later_untouched old new (role_in file) (at (role_in file) new) got.others role.Flows (early file);
       works = read_tells got;
       read = read_of got;
     }
@@ -411,7 +411,7 @@ module _ {R : Type 0} (input : R → InputView) {old mid : ByFile (Option (Sourc
   report_stopped is_of taken (Unread other) bytes returns (named_flows, stop, stops) works =
       subst (λ (p : Role). IsFaultOf input (ReportsOver text named) old (with_at role.Flows flows mid) (Unread p)) (sym named_flows) (
         works,
-        λ later behind. absurd (none_behind later behind),
+        λ later behind. absurd (none_after_flows later behind),
         λ texts given fault is. flows_last text (option_map (source_with texts) named) (labelling_read found) texts.flows fault (reads_then texts given) is,
         λ is. (stop, subst (λ (l : List ℕ). StopsReading l stop) (sym (all_read fresh returns)) stops),
       )
@@ -420,7 +420,7 @@ module _ {R : Type 0} (input : R → InputView) {old mid : ByFile (Option (Sourc
         let (rest, follows, all) = given role.Flows in
         over texts (bytes ++ rest) (Err (InFlows fault)) given (all ∙ ap (λ (l : List ℕ). l ++ rest) (all_read fresh returns))
         (rw (has rest follows) refl),
-    λ later behind. absurd (none_behind later behind),
+    λ later behind. absurd (none_after_flows later behind),
     works_then ∙ works,
   )
   report_stopped is_of taken (Faulty fault) bytes returns is works = absurd is

@@ -11,7 +11,7 @@ use Rattle.ipfix_read.specs.declared.fault.ReadFault.{ReadFault}
 use Rattle.ipfix_read.specs.declared.fault.ReadFaultKind.{ReadFaultKind}
 use Rattle.ipfix_read.specs.declared.fault.ReadFaultKind.TheVariants.{ReadFault as Stopped}
 use Rattle.flowlabel.specs.declared.bytes_fault.BytesFault.TheVariants.{Flows as InFlows}
-use Rattle.flowlabel.specs.BytesFault.{is_want_of_memory}
+use Rattle.flowlabel.specs.BytesFault.{is_out_of_memory}
 use Rattle.flowlabel.specs.Output.{Faulty, NoMemory, OutputFault, Unread}
 use Rattle.flowlabel.proofs.MadeLemmas.{handed_on}
 use Rattle.flowlabel.specs.Reports.{IsFaultOfCall, TakesFile, TakesMessages}
@@ -41,8 +41,8 @@ module _ {T : Type 0} (is_of : List MessageView → T → Type 0) where
   fault_taken ended taken fault (Unread other) bytes (named, reader) (inr (inl stops)) = (named, fault, stops)
   fault_taken ended taken fault (Unread other) bytes (named, reader) (inr (inr (calls, has))) = absurd (not_of_reader fault.kind calls reader)
   fault_taken ended taken fault (Faulty made) bytes (works, is) (inl memory) =
-      let wrong : is_want_of_memory (InFlows fault) ≡ true = ap (λ (f : ReadFault). is_want_of_memory (InFlows f)) memory in
-      let other : is_want_of_memory (InFlows fault) ≡ false = is.1 in cc
+      let wrong : is_out_of_memory (InFlows fault) ≡ true = ap (λ (f : ReadFault). is_out_of_memory (InFlows f)) memory in
+      let other : is_out_of_memory (InFlows fault) ≡ false = is.1 in cc
   fault_taken ended taken fault (Faulty made) bytes (works, is) (inr (inl stops)) =
       let wrong : is_of_reader fault.kind ≡ true = stopped _ (file_reading bytes) fault stops in cc
   fault_taken ended taken fault (Faulty made) bytes (works, is) (inr (inr (calls, has))) =

@@ -77,36 +77,36 @@ bytes_fault_name (InFlows fault) = flows_fault_name fault.kind
 bytes_fault_name (InCertificate fault) = certificate_fault_name fault.kind
 bytes_fault_name (InCheck fault) = check_fault_name fault.kind
 
-abbrev pub bytes_fault_place : BytesFault → ℕ
-bytes_fault_place (InMap fault) = fault.line
-bytes_fault_place (InList fault) = fault.line
-bytes_fault_place (InFlows fault) = fault.offset
-bytes_fault_place (InCertificate fault) = fault.line
-bytes_fault_place (InCheck fault) = fault.node
+abbrev pub bytes_fault_position : BytesFault → ℕ
+bytes_fault_position (InMap fault) = fault.line
+bytes_fault_position (InList fault) = fault.line
+bytes_fault_position (InFlows fault) = fault.offset
+bytes_fault_position (InCertificate fault) = fault.line
+bytes_fault_position (InCheck fault) = fault.node
 
 -- whether the kind is out of memory, which says nothing about the bytes
-abbrev pub is_map_want : MapFaultKind → Bool
-is_map_want kind.NoMemory = true
-is_map_want k = false
+abbrev pub is_map_memory : MapFaultKind → Bool
+is_map_memory kind.NoMemory = true
+is_map_memory k = false
 
-abbrev pub is_flows_want : ReadFaultKind → Bool
-is_flows_want flows.NoMemory = true
-is_flows_want k = false
+abbrev pub is_flows_memory : ReadFaultKind → Bool
+is_flows_memory flows.NoMemory = true
+is_flows_memory k = false
 
-abbrev pub is_certificate_want : CertFaultKind → Bool
-is_certificate_want certificate.NoMemory = true
-is_certificate_want k = false
+abbrev pub is_certificate_memory : CertFaultKind → Bool
+is_certificate_memory certificate.NoMemory = true
+is_certificate_memory k = false
 
-abbrev pub is_check_want : CheckFaultKind → Bool
-is_check_want check.NoMemory = true
-is_check_want k = false
+abbrev pub is_check_memory : CheckFaultKind → Bool
+is_check_memory check.NoMemory = true
+is_check_memory k = false
 
-abbrev pub is_want_of_memory : BytesFault → Bool
-is_want_of_memory (InMap fault) = is_map_want fault.kind
-is_want_of_memory (InList fault) = is_map_want fault.kind
-is_want_of_memory (InFlows fault) = is_flows_want fault.kind
-is_want_of_memory (InCertificate fault) = is_certificate_want fault.kind
-is_want_of_memory (InCheck fault) = is_check_want fault.kind
+abbrev pub is_out_of_memory : BytesFault → Bool
+is_out_of_memory (InMap fault) = is_map_memory fault.kind
+is_out_of_memory (InList fault) = is_map_memory fault.kind
+is_out_of_memory (InFlows fault) = is_flows_memory fault.kind
+is_out_of_memory (InCertificate fault) = is_certificate_memory fault.kind
+is_out_of_memory (InCheck fault) = is_check_memory fault.kind
 
 -- the file that the fault names; it is the certificate if it doesn't fit the map and the list
 abbrev pub role_of : BytesFault → Role

@@ -32,10 +32,10 @@ IsWritten old new text = Writes old new text ⊎ StopsWriting old new text
 -- Help goes to standard output, and the line of a fault to standard error if there is memory for it. Nothing else is
 -- written.
 module _ {O E : Type 0} (output : O → OutputView) (error : E → OutputView) where
-  abbrev pub IsTold : Result (Unit {0}) RunFault → O → O → E → E → Type 0
-  IsTold (Ok done) out out' err err' = (out' ≡ out) × (err' ≡ err)
-  IsTold (Err (Usage (usage.Help text))) out out' err err' = IsWritten (output out) (output out') (string_bytes text) × (err' ≡ err)
-  IsTold (Err fault) out out' err err' =
+  abbrev pub IsReported : Result (Unit {0}) RunFault → O → O → E → E → Type 0
+  IsReported (Ok done) out out' err err' = (out' ≡ out) × (err' ≡ err)
+  IsReported (Err (Usage (usage.Help text))) out out' err err' = IsWritten (output out) (output out') (string_bytes text) × (err' ≡ err)
+  IsReported (Err fault) out out' err err' =
       (out' ≡ out) × (IsWritten (error err) (error err') (fault_text fault) ⊎ (err' ≡ err))
 
 -- The program for these words, or an error of getting them: a command's outcome, the text that is written for it, and
@@ -46,5 +46,5 @@ module _ {R O E : Type 0} (answers : Text → Option R → Type 0) (input : R �
     pub between : O
     pub ends : MatchResult words (λ list. IsEndOf answers input output list out between outcome)
         (λ kind. (outcome ≡ Err (Usage (words_fault_of kind))) × (between ≡ out))
-    pub told : IsTold output error outcome between out' err err'
+    pub told : IsReported output error outcome between out' err err'
     pub status : code ≡ exit_status_of outcome

@@ -5,7 +5,7 @@ use Rattle.flow_filter.specs.declared.fault.FilterFaultKind.TheVariants as filte
 use Rattle.flow_filter.specs.Options.{name_of}
 use Rattle.flow_uniq.specs.declared.fault.KeyFault.{KeyFault}
 use Rattle.flow_uniq.specs.declared.fault.KeyFault.TheVariants as keys
-use Rattle.flowlabel.specs.BytesFault.{bytes_fault_name, bytes_fault_place}
+use Rattle.flowlabel.specs.BytesFault.{bytes_fault_name, bytes_fault_position}
 use Rattle.flowlabel.specs.declared.fault.RunFault.{RunFault}
 use Rattle.flowlabel.specs.declared.fault.RunFault.TheVariants.{Usage, CannotOpen, CannotRead, CannotWrite, NoMemory, File}
 use Rattle.flowlabel.specs.declared.usage.UsageFault.{UsageFault}
@@ -16,8 +16,8 @@ use Rattle.flowlabel.specs.declared.usage.UsageFault.TheVariants as usage
 abbrev pub out_of_memory : List ℕ
 out_of_memory = codes "flowlabel: out of memory\n"
 
-abbrev pub place_text : List ℕ → List ℕ → ℕ → List ℕ
-place_text file name place =
+abbrev pub position_text : List ℕ → List ℕ → ℕ → List ℕ
+position_text file name place =
     codes "flowlabel: " ++ file ++ codes ": " ++ name ++ codes " at " ++ decimal place ++ codes "\n"
 
 abbrev pub filter_fault_text : FilterFaultKind → List ℕ
@@ -53,7 +53,7 @@ fault_text (CannotOpen file) = codes "flowlabel: " ++ file.now ++ codes ": canno
 fault_text (CannotRead file) = codes "flowlabel: " ++ file.now ++ codes ": cannot read\n"
 fault_text CannotWrite = codes "flowlabel: output: cannot write\n"
 fault_text NoMemory = out_of_memory
-fault_text (File file fault) = place_text file.now (bytes_fault_name fault) (bytes_fault_place fault)
+fault_text (File file fault) = position_text file.now (bytes_fault_name fault) (bytes_fault_position fault)
 
 abbrev pub status_of : RunFault → ℕ
 status_of (Usage (usage.Help text)) = 0

@@ -24,7 +24,7 @@ use Rattle.pmap_print.specs.Table.{Line, table_text}
 use Rattle.label_lookup.specs.Labelling.{Labelling, label_by, label_where, labelling_of_list, labelling_of_map}
 pub use Rattle.flowlabel.specs.declared.bytes_fault.BytesFault.{BytesFault}
 use Rattle.flowlabel.specs.declared.bytes_fault.BytesFault.TheVariants.{Map as InMap, List as InList, Flows as InFlows, Certificate as InCertificate, Check as InCheck}
-use Rattle.flowlabel.specs.BytesFault.{is_want_of_memory}
+use Rattle.flowlabel.specs.BytesFault.{is_out_of_memory}
 pub use Rattle.flowlabel.specs.declared.output_fault.OutputFault.{OutputFault}
 pub use Rattle.flowlabel.specs.declared.output_fault.OutputFault.TheVariants.{Faulty, NoMemory, Unread}
 use Rattle.flowlabel.specs.Request.{Shrunk, FromList, FromMap, LabelSource, Request, Text, label, info, rows, cat, shrink, check, uniq, recert}
@@ -100,9 +100,9 @@ IsOutput (recert certificate) = Then InCertificate (λ c. Prints (certificate_te
 
 -- the fault of a command for one of bytes, which is out of memory or says something about the bytes
 abbrev pub IsFaultFor : BytesFault → OutputFault → Type 0
-IsFaultFor fault NoMemory = is_want_of_memory fault ≡ true
+IsFaultFor fault NoMemory = is_out_of_memory fault ≡ true
 IsFaultFor fault (Unread role) = ⊥
-IsFaultFor fault (Faulty other) = (other ≡ fault) × (is_want_of_memory fault ≡ false)
+IsFaultFor fault (Faulty other) = (other ≡ fault) × (is_out_of_memory fault ≡ false)
 
 -- What a call returns, by the outcomes that it may have: the text, or the fault. It reads no device.
 abbrev pub Returns : (Outcome → Type 0) → Result (Vec ℕ) OutputFault → Type 0

@@ -37,8 +37,8 @@ abbrev pub name_in : {R : Type 0} → Option (Source R) → Text
 name_in file = option_map_or (λ source. source.name.now) file []
 
 -- the files that are read after this one are untouched
-abbrev pub AreKeptBehind : {R : Type 0} → Role → ByFile (Option (Source R)) → ByFile (Option (Source R)) → Type 0
-AreKeptBehind role old new = (later : Role) → turn role < turn later → at later new ≡ at later old
+abbrev pub AreLaterUntouched : {R : Type 0} → Role → ByFile (Option (Source R)) → ByFile (Option (Source R)) → Type 0
+AreLaterUntouched role old new = (later : Role) → turn role < turn later → at later new ≡ at later old
 
 -- The function is what contracts see of a reader.
 module _ {R : Type 0} (input : R → InputView) where
@@ -77,11 +77,11 @@ module _ {R : Type 0} (input : R → InputView) where
   abbrev pub IsFaultOf : (ByFile Text → Outcome → Type 0) → ByFile (Option (Source R)) → ByFile (Option (Source R)) → OutputFault → Type 0
   IsFaultOf Is old new OutOfMemory = any_failed new ≡ false
   IsFaultOf Is old new (Unread role) =
-      ((view_of (at role new)).failed ≡ true) × AreKeptBehind role old new
+      ((view_of (at role new)).failed ≡ true) × AreLaterUntouched role old new
       × ((texts : ByFile Text) → AreTexts new texts → (fault : BytesFault) → Is texts (Err fault) → turn role ≤ turn (role_of fault))
       × (role ≡ roles.Flows → (stop : ReadFault) × StopsReading (view_of new.flows).returned stop)
   IsFaultOf Is old new (Faulty fault) =
-      ((texts : ByFile Text) → AreTexts new texts → Is texts (Err fault)) × AreKeptBehind (role_of fault) old new × (any_failed new ≡ false)
+      ((texts : ByFile Text) → AreTexts new texts → Is texts (Err fault)) × AreLaterUntouched (role_of fault) old new × (any_failed new ≡ false)
 
 -- What a run of a command does, if nothing of its files is read before, and neither a reader nor the writer has failed.
 -- The functions are what contracts see of a reader and of a writer.

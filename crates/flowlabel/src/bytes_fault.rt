@@ -1,5 +1,5 @@
 ghost use Rattle.std.specs.Prelude.{◌≡◌};
-ghost use Rattle.flowlabel.specs.BytesFault.{role_of, bytes_fault_name, bytes_fault_place, certificate_fault_name, check_fault_name, flows_fault_name, is_want_of_memory, map_fault_name, template_fault_name};
+ghost use Rattle.flowlabel.specs.BytesFault.{role_of, bytes_fault_name, bytes_fault_position, certificate_fault_name, check_fault_name, flows_fault_name, is_out_of_memory, map_fault_name, template_fault_name};
 
 use crate::by_file::Role;
 use cert_check::{CheckFault, CheckFaultKind};
@@ -37,8 +37,8 @@ impl BytesFault {
     }
 
     /// Returns whether the fault is out of memory, which says nothing about the bytes.
-    pub fn is_want_of_memory(&self) -> bool
-        ensures { result ≡ is_want_of_memory self.now }
+    pub fn is_out_of_memory(&self) -> bool
+        ensures { result ≡ is_out_of_memory self.now }
     {
         match self {
             BytesFault::Map(fault) => fault.kind == MapFaultKind::NoMemory,
@@ -62,8 +62,8 @@ impl BytesFault {
     }
 
     /// Returns the position of the fault: a line of a text, an offset in bytes into a File, or a node of a certificate.
-    pub fn place(&self) -> u64
-        ensures { result ≡ bytes_fault_place self.now }
+    pub fn position(&self) -> u64
+        ensures { result ≡ bytes_fault_position self.now }
     {
         match self {
             BytesFault::Map(fault) | BytesFault::List(fault) => fault.line,

@@ -2,7 +2,7 @@
 ghost use Rattle.std.specs.Prelude.{◌≡◌, Err, false};
 ghost use Rattle.std.specs.declared.alloc.Global.{Global};
 ghost use Rattle.std.specs.declared.string.String.{String};
-ghost use Rattle.flowlabel.specs.Ending.{IsTold};
+ghost use Rattle.flowlabel.specs.Ending.{IsReported};
 ghost use Rattle.flowlabel.specs.Faults.{exit_status_of};
 ghost use Rattle.flowlabel.specs.Run.{Usage};
 ghost use Rattle.flowlabel.specs.declared.usage.UsageFault.TheVariants as usage;
@@ -23,7 +23,7 @@ pub fn end<O: Output, E: Output>(
     requires output { (text : String Global) → outcome.now ≡ Err (Usage (usage.Help text)) → (O.output output.old).failed ≡ false }
     requires error { (E.output error.old).failed ≡ false }
     ensures status { result ≡ exit_status_of outcome.now }
-    ensures told { IsTold O.output E.output outcome.now output.old output.new
+    ensures told { IsReported O.output E.output outcome.now output.old output.new
         error.old error.new }
 {
     let _ = match outcome {

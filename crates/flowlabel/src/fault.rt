@@ -1,6 +1,6 @@
 ghost use Rattle.std.specs.Prelude.{◌≡◌, IfOk};
 ghost use Rattle.std.specs.String.{string_bytes};
-ghost use Rattle.flowlabel.specs.Faults.{fault_text, filter_fault_text, key_fault_text, option_text, place_text, status_of, usage_fault_text};
+ghost use Rattle.flowlabel.specs.Faults.{fault_text, filter_fault_text, key_fault_text, option_text, position_text, status_of, usage_fault_text};
 
 use crate::bytes_fault::BytesFault;
 use crate::usage::UsageFault;
@@ -90,8 +90,8 @@ fn usage_line(alloc: Global, fault: &UsageFault) -> Result<String, AllocError>
     }
 }
 
-fn place_line(alloc: Global, file: &str, name: &str, place: u64) -> Result<String, AllocError>
-    ensures { IfOk result (λ line. string_bytes line ≡ place_text file.now name.now place) }
+fn position_line(alloc: Global, file: &str, name: &str, place: u64) -> Result<String, AllocError>
+    ensures { IfOk result (λ line. string_bytes line ≡ position_text file.now name.now place) }
 {
     format!(in alloc; "flowlabel: {file}: {name} at {place}\n")
 }
@@ -105,7 +105,12 @@ fn line_of(alloc: Global, fault: &RunFault<'_>) -> Result<String, AllocError>
         RunFault::CannotRead(file) => format!(in alloc; "flowlabel: {file}: cannot read\n"),
         RunFault::CannotWrite => String::from_str(alloc, "flowlabel: output: cannot write\n"),
         RunFault::NoMemory => String::from_str(alloc, OUT_OF_MEMORY),
-        RunFault::File { file, fault } => place_line(alloc, file, fault.name(), fault.place()),
+        RunFault::File { file, fault } => position_line(
+            alloc,
+            file,
+            fault.name(),
+            fault.position(),
+        ),
     }
 }
 

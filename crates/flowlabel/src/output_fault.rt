@@ -24,7 +24,7 @@ impl OutputFault {
     pub fn of(fault: BytesFault) -> OutputFault
         ensures { IsFaultFor fault result }
     {
-        if fault.is_want_of_memory() {
+        if fault.is_out_of_memory() {
             OutputFault::NoMemory
         } else {
             OutputFault::Faulty(fault)

@@ -1,7 +1,7 @@
 //! The label of a row's address.
 ghost use Rattle.std.specs.Prelude.{◌≡◌, IfSome, IsTrue, option_map};
 ghost use Rattle.pmap_text.specs.Label.{is_label};
-ghost use Rattle.label_lookup.specs.Labelling.{label_by, label_where, labelling_by, labelling_lent};
+ghost use Rattle.label_lookup.specs.Labelling.{label_by, label_where, labelling_by, labelling_borrowed};
 
 use crate::labeller::Labeller;
 use prefix_keys::{Addr, convert};
@@ -21,7 +21,7 @@ pub fn label_row<L: Labeller>(labeller: &L, addr: Addr) -> Option<&[u8]>
 #[inline(always)]
 pub fn label_row_under<L: Labeller>(labeller: Option<&L>, addr: Addr) -> Option<&[u8]>
     ensures value { option_map (λ t. t.now) result
-        ≡ label_where (labelling_lent L.version_of L.label labeller.entry) (addr.version, addr.value) }
+        ≡ label_where (labelling_borrowed L.version_of L.label labeller.entry) (addr.version, addr.value) }
     ensures label { IfSome result (λ t. IsTrue (is_label t.now)) }
 {
     label_row(labeller?, addr)
