@@ -7,3 +7,4 @@ pub mod Rows
 pub mod Files
 pub mod Samples
 pub mod Shortest
+pub mod Templates

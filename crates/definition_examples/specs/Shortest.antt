@@ -1,4 +1,4 @@
-use Rattle.std.specs.Prelude.{ℕ, List, Result, Ok, Err}
+use Rattle.std.specs.Prelude.{ℕ, List, Result, Ok}
 use Rattle.pmap_text.specs.ListModel.{IsEquivalent, ListModel}
 use Rattle.pmap_text.specs.MapModel.{MapModel}
 use Rattle.pmap_text.specs.Reading.{list_reading, map_reading}

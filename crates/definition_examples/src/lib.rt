@@ -22,3 +22,4 @@ pub mod runs;
 pub mod samples;
 pub mod shortest;
 pub mod tables;
+pub mod templates;
