@@ -1,6 +1,6 @@
 //! Keys as bytes, which are in the order of the keys. The bytes that are written for the key of a row are read back as
 //! this key, part by part.
-ghost use Rattle.std.specs.Prelude.{◌≡◌, ◌++◌, ◌∷◌, ◌↔◌, [], IfNone, IfOk, IfSome, IsTrue, OnOk, option_copied, option_map};
+ghost use Rattle.std.specs.Prelude.{bytes_eq, ◌≡◌, ◌++◌, ◌∷◌, ◌↔◌, [], IfNone, IfOk, IfSome, IsTrue, OnOk, option_copied, option_map};
 ghost use Rattle.label_lookup.specs.Labelling.{label_where, labelling_borrowed};
 ghost use Rattle.flow_uniq.specs.Key.{AddressPart, Key as Parts, key_of, key_part};
 ghost use Rattle.flow_uniq.specs.Codes.{AreSmall, IsCode, IsCode-prop, IsSmall, first_part, front_label, key_code, key_in, part_code, part_model};
@@ -190,7 +190,8 @@ impl Code {
     /// Returns `true` if the key has these bytes.
     #[inline(always)]
     pub fn has_bytes(&self, bytes: &[u8]) -> bool
-        ensures { IsTrue result → self.now ≡ key_in bytes.now }
+        ensures known { IsTrue result → self.now ≡ key_in bytes.now }
+        ensures exact { result ≡ bytes_eq (key_code self.now) bytes.now }
     {
         self.bytes.as_slice() == bytes
     }

@@ -31,6 +31,6 @@ returns-clause-added c =
     let value = value_at c.args.totals.now.entries c.args.index _ _ c.in-Some-get_index_mut.found.now at c.in-Some-get_index_mut.ensures.value in
     λ _.
     row_at c.in-Some.code.now (key_in c.args.key.now) c.args.row.now c.args.totals.now.entries _ _ c.add.new.self
-    c.get_index_mut.ensures.unique (c.has_bytes.ensures c.if-not-has_bytes.false)
+    c.get_index_mut.ensures.unique (c.has_bytes.ensures.known c.if-not-has_bytes.false)
     (c.add.ensures.value ∙ ap (λ t. with_row t c.args.row.now) value) c.add.ensures.packets c.add.ensures.octets c.args.index at
     c.in-Some.ensures.value (search rules)
