@@ -2,7 +2,8 @@
 use Rattle.std.proofs.Common.{◌≡◌, ℕ, zero, suc, ◌<◌, List, inr, arith, length, nat_eq, refl, subst}
 use Rattle.std.proofs.lemmas.Bool.{leb-true}
 use Rattle.prefix_keys.specs.Block.{width_of}
-use Rattle.pmap_cert.specs.CertificateText.{HasChainForm, HasFormatText, HasRoomBelow, Node, place_of}
+use Rattle.pmap_cert.specs.CertificateText.{HasChainForm, HasFormatText, HasRoomBelow, place_of}
+use Rattle.pmap_cert.specs.Node.{Node}
 use Rattle.pmap_cert.specs.CertificateModel.{CertificateModel, ChainNode, ClaimOf, InnerNode, LeafNode, IsPlain, map_tree}
 use Rattle.pmap_cert.specs.Compacting.{compact, compacted, compacted_in, line_count, run_bits, run_end, side_of}
 use Rattle.pmap_cert.proofs.ChainWords.{other-room}

@@ -5,8 +5,8 @@ use Rattle.std.proofs.lemmas.List.{append_assoc, length-append, map-append}
 use Rattle.pmap_text.specs.MapModel.{Label}
 use Rattle.pmap_text.specs.Reading.{◌>>=◌}
 use Rattle.pmap_text.specs.MapText.{text_at}
-use Rattle.pmap_cert.specs.CertificateText.{HasChainForm, Node, chain_line, inner_line, leaf_line, lines_of}
-use Rattle.pmap_cert.specs.Node.{claiming, tree_of}
+use Rattle.pmap_cert.specs.CertificateText.{HasChainForm, lines_of}
+use Rattle.pmap_cert.specs.Node.{Node, claiming, tree_of}
 use Rattle.pmap_cert.specs.CertificateModel.{ChainNode, InnerNode, LeafNode, Claim, Tree, IsPlain}
 use Rattle.pmap_cert.specs.FormatReading.{ChainLine, DueLine, InnerLine, LeafLine, Place, due_node, fault_at, fits_line, is_ended, likely_line, line_due_at, line_text, nodes_at, CertFault, BadNode, NodesMissing, TooDeep}
 use Rattle.pmap_cert.proofs.ChainWords.{left-room, room-left}
@@ -85,7 +85,7 @@ module _ (table : List Label) (format most : ℕ) where
         tree = λ i. InnerNode (claim_at cost numbers) (low.tree i) (up.tree i);
         lines =
             next.0
-            ∙ ap (λ (more : List (List ℕ)). inner_line cost numbers ∷ more)
+            ∙ ap (λ (more : List (List ℕ)). line_text (InnerLine cost numbers) ∷ more)
             (low.lines ∙ ap (λ (more : List (List ℕ)). map line_text (lines_of low.node) ++ more) up.lines
             ∙ sym (lines-append (lines_of low.node) (lines_of up.node) upper.1.pieces));
         form = (next.1.0, next.1.1, low.form, up.form);
@@ -103,7 +103,7 @@ module _ (table : List Label) (format most : ℕ) where
       subst (IsReadIn table format room place) e (record {
         node = ChainNode (claiming cost numbers) bits side end.node;
         tree = ap (ChainNode (claim_at cost numbers) bits (text_at table side)) end.tree;
-        lines = next.0 ∙ ap (λ (more : List (List ℕ)). chain_line cost bits side numbers ∷ more) end.lines;
+        lines = next.0 ∙ ap (λ (more : List (List ℕ)). line_text (ChainLine cost bits side numbers) ∷ more) end.lines;
         form = (next.1.1, next.1.5, next.1.4, next.1.2, room-left (HasChainForm (length table) end.node) bits room left deep end.form);
         plain = λ first. absurd (not-both first next.1.0);
       })
@@ -174,7 +174,7 @@ module _ (table : List Label) (format most : ℕ) where
       → IsNumbered format → (format ≡ 1 → IsPlain node) → 0 < length rest → IsAgain node room rest number
   unfolding nodes_at
   nodes_at-again few (LeafNode label) room rest number most_room form numbered plain some =
-      let here : Place = at number (leaf_line label ∷ rest) in (
+      let here : Place = at number (line_text (LeafLine label) ∷ rest) in (
         number + 1,
         nodes-step due table room here
             ∙ ap (λ (r : Result (DueLine × Place) CertFault). r >>= (λ line. due_node table room here (inside_of due table room here) line.0 line.1)) (due-again format most (length table) few (LeafLine label) number rest form some),
@@ -187,9 +187,9 @@ module _ (table : List Label) (format most : ℕ) where
       let line = due-again format most (length table) few (InnerLine claim.cost claim.labels) number (low ++ (up ++ rest)) (form.0, form.1) (omega (arith, length-append low (up ++ rest))) in
       let first = nodes_at-again few lower room (up ++ rest) (number + 1) (omega arith) form.2 numbered (λ one. (plain one).0) behind in
       let second = nodes_at-again few upper room rest first.0 (omega arith) form.3 numbered (λ one. (plain one).1) some in
-      let here : Place = at number (inner_line claim.cost claim.labels ∷ (low ++ (up ++ rest))) in (
+      let here : Place = at number (line_text (InnerLine claim.cost claim.labels) ∷ (low ++ (up ++ rest))) in (
         second.0,
-        ap (λ (lines : List (List ℕ)). nodes_at due table (suc room) zero (at number (inner_line claim.cost claim.labels ∷ lines))) (lines-append (lines_of lower) (lines_of upper) rest)
+        ap (λ (lines : List (List ℕ)). nodes_at due table (suc room) zero (at number (line_text (InnerLine claim.cost claim.labels) ∷ lines))) (lines-append (lines_of lower) (lines_of upper) rest)
             ∙ ap (λ (r : Result (DueLine × Place) CertFault). r >>= (λ line. due_node table (suc room) here (nodes_at due table room) line.0 line.1)) line
             ∙ ap (λ (r : Result (Tree × Place) CertFault). r >>= (λ l. nodes_at due table room 0 l.1 >>= (λ u. Ok (InnerNode (claim_at claim.cost claim.labels) l.0 u.0, u.1)))) first.1
             ∙ ap (λ (r : Result (Tree × Place) CertFault). r >>= (λ u. Ok (InnerNode (claim_at claim.cost claim.labels) (tree_of table lower) u.0, u.1))) second.1,
@@ -204,7 +204,7 @@ module _ (table : List Label) (format most : ℕ) where
       let line = due-again format most (length table) few (ChainLine claim.cost (bit ∷ bits) side claim.labels) number (lines ++ rest)
       (two, form.0, omega arith, omega (arith, below.1), form.2, form.1) (omega (arith, length-append lines rest)) in
       let last = nodes_at-again few end below.0 rest (number + 1) (omega (arith, below.1)) below.2 numbered (λ one. absurd (not-both one two)) some in
-      let here : Place = at number (chain_line claim.cost (bit ∷ bits) side claim.labels ∷ (lines ++ rest)) in
+      let here : Place = at number (line_text (ChainLine claim.cost (bit ∷ bits) side claim.labels) ∷ (lines ++ rest)) in
       let chain : Tree × Place → Result (Tree × Place) CertFault =
       λ e. Ok (ChainNode (claim_at claim.cost claim.labels) (bit ∷ bits) (text_at table side) e.0, e.1) in (
         last.0,

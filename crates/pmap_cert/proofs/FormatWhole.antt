@@ -10,9 +10,10 @@ use Rattle.pmap_text.specs.MapModel.{Label}
 use Rattle.pmap_text.specs.MapText.{text_at}
 use Rattle.pmap_text.specs.Reading.{◌>>=◌}
 use Rattle.pmap_cert.specs.Certificate.{certificate_of, Certificate}
-use Rattle.pmap_cert.specs.CertificateText.{HasChainForm, HasFormatText, HasNodeForm, Node, certificate_lines, certificate_text, format_header, lines_of, node_lines, place_of}
+use Rattle.pmap_cert.specs.CertificateText.{HasChainForm, HasFormatText, HasNodeForm, certificate_lines, certificate_text, format_header, lines_of, place_of}
+use Rattle.pmap_cert.specs.Node.{Node}
 use Rattle.pmap_cert.specs.CertificateModel.{CertificateModel, Tree, ChainNode, InnerNode, LeafNode, IsOfFormat, IsPlain, map_tree}
-use Rattle.pmap_cert.specs.FormatReading.{ChainLine, DueLine, InnerLine, LeafLine, Place, ended_by, fault_at, fits_header, format_header_at, format_reading, header_text, is_ended, labels_at, likely_header, line_due_at, line_text, nodes_at, pieces_of, start_of, CertFault, CertFaultKind, BadHeader, BadLabelTable, BadNode, NoMemory, NodesLeft, NodesMissing, TooDeep}
+use Rattle.pmap_cert.specs.FormatReading.{ChainLine, DueLine, InnerLine, LeafLine, Place, ended_by, fault_at, fits_header, format_header_at, format_reading, is_ended, labels_at, likely_header, line_due_at, line_text, nodes_at, pieces_of, start_of, CertFault, CertFaultKind, BadHeader, BadLabelTable, BadNode, NoMemory, NodesLeft, NodesMissing, TooDeep}
 use Rattle.pmap_cert.proofs.Filters.{all-append}
 use Rattle.pmap_cert.proofs.PrintedLines.{FitsLine, IsNumbered, Said, fits-header, fits-line, header-fits, header-read, line-lacks, printed-again, printed-found}
 use Rattle.pmap_cert.proofs.FormatTrees.{nodes_at-again, nodes_at-found}
@@ -20,7 +21,7 @@ use Rattle.pmap_cert.proofs.Headers.{table-lacks}
 use Rattle.pmap_cert.proofs.Pieces.{pieces-lines, text_from_pieces}
 use Rattle.pmap_cert.proofs.Relabelled.{plain-map}
 use Rattle.pmap_cert.proofs.Tables.{bind_ok, labels_at-again, labels_at-found, ok_is}
-use Rattle.pmap_cert.proofs.Written.{line_texts-tree, node_form, texts-tree}
+use Rattle.pmap_cert.proofs.Written.{line_texts-tree, node_form, node_lines, texts-tree}
 use Rattle.std.specs.List.{AllByRecursion}
 use Rattle.std.proofs.lemmas.Option.{none-some}
 use Rattle.prefix_keys.proofs.Printed.{Lacks}
@@ -88,12 +89,12 @@ reading-steps text = λ i. header_then (format_header_at (start_of text))
 
 -- the pieces that the steps of a reading leave make up the lines of a certificate
 joined-pieces : (all behind_header behind_labels behind_nodes : List (List ℕ)) (format : ℕ) (version : Version) (count : ℕ) (table : List Label)
-    (lines : List (List ℕ)) → all ≡ format_header format version count ∷ behind_header → behind_header ≡ table ++ behind_labels →
+    (lines : List (List ℕ)) → all ≡ format_header (format, (version, count)) ∷ behind_header → behind_header ≡ table ++ behind_labels →
     behind_labels ≡ lines ++ behind_nodes → behind_nodes ≡ [] ∷ [] → count ≡ length table →
-    all ≡ (format_header format version (length table) ∷ (table ++ lines)) ++ [] ∷ []
+    all ≡ (format_header (format, (version, length table)) ∷ (table ++ lines)) ++ [] ∷ []
 joined-pieces all behind_header behind_labels behind_nodes format version count table lines e f g h is =
     e
-    ∙ (λ i. format_header format version (is i)
+    ∙ (λ i. format_header (format, (version, is i))
     ∷ (f ∙ ap (λ rest. table ++ rest) (g ∙ ap (λ rest. lines ++ rest) h) ∙ sym (append_assoc table lines ([] ∷ []))) i)
 
 of-format : (c : CertificateModel) → IsNumbered c.format → (c.format ≡ 1 → IsPlain c.root) → IsOfFormat c
@@ -113,7 +114,7 @@ pieces-found pieces c e =
     let table : List Label = labels.0.0 in
     let root = bind_ok (nodes_at (due format version table) table (width_of version) 0 labels.0.1) (λ (root : Tree × Place). ended_by (certificate_at format version table root.0) root.1) c labels.2 in
     let end = ended_by-found (certificate_at format version table root.0.0) root.0.1 c root.2 in
-    let head = printed-found fits_header header_text likely_header BadHeader start header.0 header.1 in
+    let head = printed-found fits_header format_header likely_header BadHeader start header.0 header.1 in
     let fits = header-fits header.0.0 head.1 in
     let few : 0 + count ≤ 65536 = omega (arith, fits.1) in
     let read = labels_at-found count [] header.0.1 labels.0 labels.1 no_labels few in
@@ -159,13 +160,13 @@ format-again c form =
     let nodes : List (List ℕ) = node_lines table c.root in
     let fits = fits-header format version count (numbered c form.format) few in
     let behind : 0 < length (nodes ++ [] ∷ []) = omega (arith, length-append nodes ([] ∷ [])) in
-    let pieces : pieces_of (certificate_text c) ≡ format_header format version count ∷ (table ++ (nodes ++ [] ∷ [])) =
+    let pieces : pieces_of (certificate_text c) ≡ format_header (format, (version, count)) ∷ (table ++ (nodes ++ [] ∷ [])) =
     pieces-lines (certificate_lines c) (
       (header-read (format, (version, count)) fits).0,
       all-append (Lacks 10) table nodes (table-lacks table form.table) (nodes-lack table form.table (map_tree (place_of table) c.root) (width_of version) form.root),
     )
-    ∙ ap (λ (rest : List (List ℕ)). format_header format version count ∷ rest) (append_assoc table nodes ([] ∷ [])) in
-    let head = printed-again fits_header header_text likely_header (λ x h. (header-read x h).0) (λ x h. (header-read x h).1) BadHeader (format, (version, count)) 0
+    ∙ ap (λ (rest : List (List ℕ)). format_header (format, (version, count)) ∷ rest) (append_assoc table nodes ([] ∷ [])) in
+    let head = printed-again fits_header format_header likely_header (λ x h. (header-read x h).0) (λ x h. (header-read x h).1) BadHeader (format, (version, count)) 0
     (table ++ (nodes ++ [] ∷ [])) fits (omega (arith, length-append table (nodes ++ [] ∷ []))) in
     let labels = labels_at-again table [] 1 (nodes ++ [] ∷ []) form.table behind in
     let root = nodes_at-again table format (width_of version) (omega arith) (map_tree (place_of table) c.root) (width_of version) ([] ∷ []) labels.0 (omega arith) form.root

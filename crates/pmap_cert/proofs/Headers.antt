@@ -1,13 +1,12 @@
 -- Bytes that lines lack.
 use Rattle.std.proofs.Common.{◌≡◌, ℕ, zero, suc, ◌==◌, true, false, not, List, [], ◌∷◌, Some, IsTrue, refl, subst, arith}
-use Rattle.std.specs.List.{AllByRecursion, list_all, slice_get}
+use Rattle.std.specs.List.{AllByRecursion, join_with_byte, list_all, slice_get}
 use Rattle.std.proofs.lemmas.Bool.{and_parts, ne_eqb, not-true}
 use Rattle.std.proofs.lemmas.List.Elements.{All-append, All-cons, All-weaker}
 use Rattle.std.proofs.lemmas.List.Sums.{AllPass-from_list_all}
 use Rattle.prefix_keys.proofs.Printed.{Lacks}
 use Rattle.pmap_text.specs.Label.{IsLabelTable, is_label, is_label_byte}
 use Rattle.pmap_text.specs.MapModel.{Label}
-use Rattle.pmap_cert.specs.CertificateText.{spaced}
 
 -- a text whose bytes all pass the test lacks the byte
 pub Lacks-tested : (c : ℕ) (text : List ℕ) → list_all (λ b. not (b == c)) text ≡ true → Lacks c text
@@ -16,12 +15,12 @@ Lacks-tested c text passed =
     (AllPass-from_list_all (λ b. not (b == c)) text passed)
 
 -- a line lacks a byte, other than the space, that its words lack
-pub Lacks-line : (c : ℕ) (words : List (List ℕ)) → (32 == c) ≡ false → AllByRecursion (Lacks c) words → Lacks c (spaced words)
+pub Lacks-line : (c : ℕ) (words : List (List ℕ)) → (32 == c) ≡ false → AllByRecursion (Lacks c) words → Lacks c (join_with_byte 32 words)
 Lacks-line c [] apart all = λ k d h. absurd (omega arith)
 Lacks-line c (word ∷ []) apart all = all.0
 Lacks-line c (word ∷ next ∷ words) apart all =
-    All-append (λ b. (b == c) ≡ false) word (32 ∷ spaced (next ∷ words)) all.0
-    (All-cons (λ b. (b == c) ≡ false) 32 (spaced (next ∷ words)) apart (Lacks-line c (next ∷ words) apart all.1))
+    All-append (λ b. (b == c) ≡ false) word (32 ∷ join_with_byte 32 (next ∷ words)) all.0
+    (All-cons (λ b. (b == c) ≡ false) 32 (join_with_byte 32 (next ∷ words)) apart (Lacks-line c (next ∷ words) apart all.1))
 
 -- a label lacks line feeds
 no_feed : (b : ℕ) → is_label_byte b ≡ true → (b == 10) ≡ false

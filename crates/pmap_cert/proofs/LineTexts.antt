@@ -11,10 +11,10 @@ use Rattle.std.proofs.lemmas.List.Concat.{flat_map-cons}
 use Rattle.std.proofs.lemmas.Option.{none-some, same_Some}
 use Rattle.prefix_keys.specs.Text.{decimal_value, is_digit}
 use Rattle.prefix_keys.specs.declared.version.Version.{Version}
-use Rattle.pmap_cert.specs.CertificateText.{IsAscending, bit_digits, chain_line, format_word, inner_line, version_word}
+use Rattle.pmap_cert.specs.CertificateText.{IsAscending, bit_digits, format_header, format_word, line_text, version_word}
 use Rattle.pmap_cert.specs.Format.{Format, One, Two, format_number}
 use Rattle.std.specs.Prelude.{IfSome}
-use Rattle.pmap_cert.specs.FormatReading.{ChainLine, DueLine, InnerLine, LeafLine, header_text}
+use Rattle.pmap_cert.specs.FormatReading.{ChainLine, DueLine, InnerLine, LeafLine}
 use Rattle.pmap_cert.specs.Inner.{BeginsWithBits, BeginsWithChain, BeginsWithClaim, BeginsWithHeader, BeginsWithLine, BeginsWithNumber, BeginsWithSet, GoesOnWithout, Reads, Then, after_byte, header_name, is_bit}
 use Rattle.pmap_cert.proofs.ChainWords.{bits-back, bits-digits, digits-back}
 use Rattle.pmap_cert.proofs.PrintedLines.{IsNumbered, fits-line, header-fits, line-fits}
@@ -360,12 +360,12 @@ module _ {A B : Type 0} (First : A → List ℕ → Type 0) (Second : List ℕ �
     }
 
 -- Reading lines by their first letters.
-inner-text : (cost : ℕ) (numbers r : List ℕ) → inner_line cost numbers ++ 10 ∷ r ≡ 110 ∷ 32 ∷ (decimal cost ++ (words numbers ++ 10 ∷ r))
+inner-text : (cost : ℕ) (numbers r : List ℕ) → line_text (InnerLine cost numbers) ++ 10 ∷ r ≡ 110 ∷ 32 ∷ (decimal cost ++ (words numbers ++ 10 ∷ r))
 inner-text cost numbers r =
     ap (λ (t : List ℕ). 110 ∷ 32 ∷ (t ++ 10 ∷ r)) (joined-numbers (decimal cost) numbers)
     ∙ ap (λ (t : List ℕ). 110 ∷ 32 ∷ t) (append_assoc (decimal cost) (words numbers) (10 ∷ r))
 
-chain-text : (cost : ℕ) (bits : List Bool) (side : ℕ) (numbers r : List ℕ) → chain_line cost bits side numbers ++ 10 ∷ r
+chain-text : (cost : ℕ) (bits : List Bool) (side : ℕ) (numbers r : List ℕ) → line_text (ChainLine cost bits side numbers) ++ 10 ∷ r
     ≡ 99 ∷ 32 ∷ (decimal cost ++ 32 ∷ (bit_digits bits ++ 32 ∷ (decimal side ++ (words numbers ++ 10 ∷ r))))
 chain-text cost bits side numbers r =
     let last : List ℕ = decimal side ++ words numbers in
@@ -479,7 +479,7 @@ no_bit d no_zero no_one = rw (ne_eqb d 48 no_zero, ne_eqb d 49 no_one) refl
 
 -- A header by its name, which says its format and its version.
 header-after : (format : ℕ) (version : Version) (count : ℕ) (r : List ℕ)
-    → header_text (format, (version, count)) ++ 10 ∷ r ≡ header_name format version ++ 32 ∷ (decimal count ++ 10 ∷ r)
+    → format_header (format, (version, count)) ++ 10 ∷ r ≡ header_name format version ++ 32 ∷ (decimal count ++ 10 ∷ r)
 header-after format version count r =
     ap (λ (t : List ℕ). codes "flowlabel-cert" ++ 32 ∷ t) (append_assoc (format_word format) (32 ∷ (version_word version ++ 32 ∷ decimal count)) (10 ∷ r)
     ∙ ap (λ (t : List ℕ). format_word format ++ 32 ∷ t) (append_assoc (version_word version) (32 ∷ decimal count) (10 ∷ r))

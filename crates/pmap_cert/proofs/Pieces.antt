@@ -8,8 +8,8 @@ use Rattle.std.proofs.lemmas.List.{append_assoc}
 use Rattle.std.proofs.lemmas.List.Splits.{join_with_byte-slice_split, length-slice_split, slice_split_at, slice_split_first, slice_split_none}
 use Rattle.prefix_keys.proofs.Pieces.{split-whole}
 use Rattle.prefix_keys.proofs.Printed.{Lacks}
-use Rattle.pmap_cert.specs.FormatReading.{is_ended, line_from, pieces_of, words_of}
-use Rattle.pmap_cert.specs.CertificateText.{spaced, text_of_lines}
+use Rattle.pmap_cert.specs.FormatReading.{is_ended, line_from, pieces_of}
+use Rattle.pmap_cert.specs.CertificateText.{text_of_lines}
 
 -- the position of a first element that passes is within the list
 pub found_at : {X : Type 0} (p : X → Bool) (text : List X) (end : ℕ) → position p text ≡ Some end → (position_or_len p text < length text) × (position_or_len p text ≡ end)
@@ -80,8 +80,12 @@ pieces-lines (line ∷ lines) none =
     ∙ ap (λ pieces. line ∷ pieces) (pieces-lines lines none.1)
 
 -- words without spaces are the words of the line of them
-pub words-line : (word : List ℕ) (words : List (List ℕ)) → Lacks 32 word → AllByRecursion (Lacks 32) words → words_of (spaced (word ∷ words)) ≡ word ∷ words
+-- the words of a line
+abbrev pub words_of : List ℕ → List (List ℕ)
+words_of line = slice_split (λ b. b == 32) line
+
+pub words-line : (word : List ℕ) (words : List (List ℕ)) → Lacks 32 word → AllByRecursion (Lacks 32) words → words_of (join_with_byte 32 (word ∷ words)) ≡ word ∷ words
 words-line word [] first rest = slice_split_none (λ b. b == 32) word first
 words-line word (next ∷ words) first rest =
-    slice_split_at (λ b. b == 32) word 32 (spaced (next ∷ words)) first (eq-eqb 32 32 refl)
+    slice_split_at (λ b. b == 32) word 32 (join_with_byte 32 (next ∷ words)) first (eq-eqb 32 32 refl)
     ∙ ap (λ words. word ∷ words) (words-line next words rest.0 rest.1)

@@ -12,13 +12,13 @@ use Rattle.prefix_keys.proofs.Printed.{Lacks}
 use Rattle.prefix_keys.specs.Text.{decimal_value}
 use Rattle.prefix_keys.specs.declared.version.Version.{Version}
 use Rattle.prefix_keys.specs.declared.version.Version.TheVariants.{V4, V6}
-use Rattle.pmap_cert.specs.CertificateText.{IsAscending, bit_digits, spaced}
-use Rattle.pmap_cert.specs.FormatReading.{ChainLine, DueLine, InnerLine, LeafLine, Place, fault_at, fits_header, fits_line, header_text, is_ended, likely_header, likely_line, line_due_at, line_text, pieces_of, printed_at, printed_value, line_value, words_of, CertFault, CertFaultKind, BadNode, NodesMissing}
+use Rattle.pmap_cert.specs.CertificateText.{IsAscending, bit_digits, format_header}
+use Rattle.pmap_cert.specs.FormatReading.{ChainLine, DueLine, InnerLine, LeafLine, Place, fault_at, fits_header, fits_line, is_ended, likely_header, likely_line, line_due_at, line_text, pieces_of, printed_at, printed_value, line_value, CertFault, CertFaultKind, BadNode, NodesMissing}
 use Rattle.pmap_cert.specs.Inner.{BeginsWith, Reads}
 use Rattle.pmap_cert.proofs.ChainWords.{Lacks-bits, bits-back}
 use Rattle.pmap_cert.proofs.Headers.{Lacks-line, Lacks-tested}
 use Rattle.pmap_cert.proofs.Numbers.{Lacks-decimal, Lacks-decimals, ascending-passed, ascending-test, decimal_value-decimal, values-decimals}
-use Rattle.pmap_cert.proofs.Pieces.{split_some, words-line}
+use Rattle.pmap_cert.proofs.Pieces.{words_of, split_some, words-line}
 use Rattle.pmap_cert.proofs.Tables.{or_fault, value_at-again, value_at-found}
 
 abbrev at : ℕ → List (List ℕ) → Place
@@ -122,8 +122,8 @@ header-cases P each x h = by x.1.0 (header-fits x h).0
     by V6 (inr e) = subst (λ (f : ℕ). P (f, (V6, x.1.1))) (sym e) these.3
 
 -- the text of a header has no line feed, and its words are those of no other header
-pub header-read : (x : Said) → fits_header x ≡ true → Lacks 10 (header_text x) × (likely_header (words_of (header_text x)) ≡ x)
-header-read = header-cases (λ x. Lacks 10 (header_text x) × (likely_header (words_of (header_text x)) ≡ x)) (λ count few. (
+pub header-read : (x : Said) → fits_header x ≡ true → Lacks 10 (format_header x) × (likely_header (words_of (format_header x)) ≡ x)
+header-read = header-cases (λ x. Lacks 10 (format_header x) × (likely_header (words_of (format_header x)) ≡ x)) (λ count few. (
   (lacks count few (codes "flowlabel-cert 1 ipv4 ") refl, back count few (codes "1") (codes "ipv4")),
   (lacks count few (codes "flowlabel-cert 1 ipv6 ") refl, back count few (codes "1") (codes "ipv6")),
   (lacks count few (codes "flowlabel-cert 2 ipv4 ") refl, back count few (codes "2") (codes "ipv4")),
@@ -149,7 +149,7 @@ line_words (LeafLine number) = (codes "l", decimal number ∷ [])
 line_words (InnerLine cost numbers) = (codes "n", decimal cost ∷ map decimal numbers)
 line_words (ChainLine cost bits side numbers) = (codes "c", decimal cost ∷ bit_digits bits ∷ decimal side ∷ map decimal numbers)
 
-text-words : (line : DueLine) → line_text line ≡ spaced ((line_words line).0 ∷ (line_words line).1)
+text-words : (line : DueLine) → line_text line ≡ join_with_byte 32 ((line_words line).0 ∷ (line_words line).1)
 text-words (LeafLine number) = refl
 text-words (InnerLine cost numbers) = refl
 text-words (ChainLine cost bits side numbers) = refl

@@ -5,7 +5,8 @@ use Rattle.std.proofs.lemmas.Option.{none-some, same_Some}
 use Rattle.pmap_text.specs.Label.{IsLabelTable}
 use Rattle.pmap_text.specs.MapModel.{Label}
 use Rattle.pmap_text.specs.MapText.{text_at}
-use Rattle.pmap_cert.specs.CertificateText.{HasChainForm, HasNodeForm, Node, place_of}
+use Rattle.pmap_cert.specs.CertificateText.{HasChainForm, HasNodeForm, place_of}
+use Rattle.pmap_cert.specs.Node.{Node}
 use Rattle.pmap_cert.specs.CertificateModel.{ChainNode, ClaimOf, InnerNode, IsPlain, LeafNode, Tree, TreeOf, map_claim, map_tree}
 use Rattle.pmap_cert.specs.Compacting.{compacted, compacted_in, is_side, leaf_label, line_count, run_bits, run_compacted, run_end, side_of}
 use Rattle.pmap_cert.proofs.ChainWords.{left-room}

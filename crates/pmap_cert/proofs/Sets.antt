@@ -3,7 +3,7 @@ use Rattle.std.proofs.lemmas.Bool.{and_from, and_parts, false≢true, or_cases, 
 use Rattle.std.proofs.lemmas.Slice.Eq.{bytes_eq-Decides}
 use Rattle.std.proofs.Math.Bool.{or-false, or_assoc}
 use Rattle.pmap_text.specs.MapModel.{Label}
-use Rattle.pmap_cert.specs.CertificateModel.{Claim, has, IsClaimWith, IsSameClaim, common_labels, exact_claim, exact_claim_by}
+use Rattle.pmap_cert.specs.CertificateModel.{Claim, has, IsClaimWith, IsSameClaim, exact_claim, exact_claim_by}
 use Rattle.pmap_cert.specs.Acceptance.{has_inherited, in_table_order}
 
 -- Sets of labels, and the cost of the exact claim of two claims.
@@ -81,7 +81,7 @@ pub data IsExact (p r e : Claim) : Type 0 where
       (is : IsClaimWith e (p.cost + r.cost + 1) (λ y. has p.labels y || has r.labels y)) → IsExact p r e
 
 pub exact : (p r : Claim) → IsExact p r (exact_claim p r)
-exact p r = by (common_labels p r) (has-filter (has r.labels) p.labels)
+exact p r = by (filter (has r.labels) p.labels) (has-filter (has r.labels) p.labels)
   where
     by : (xs : List Label) → ((x : Label) → has xs x ≡ (has p.labels x && has r.labels x)) → IsExact p r (exact_claim_by p r xs)
     by [] both = apart (λ x. sym (both x)) (record { cost = refl; labels = has-append p.labels r.labels })

@@ -1,18 +1,25 @@
 -- The text that is written by label numbers is that of the certificate with label texts.
-use Rattle.std.proofs.Common.{◌≡◌, ℕ, zero, suc, ◌+◌, ◌<◌, ◌∙◌, List, [], ◌∷◌, ◌++◌, length, map, sym, ap, subst}
+use Rattle.std.proofs.Common.{◌≡◌, ℕ, zero, suc, ◌+◌, ◌<◌, ◌∙◌, List, [], ◌∷◌, ◌++◌, ◌≤◌, drop, length, map, take, sym, ap, arith, subst}
 use Rattle.std.specs.Fmt.{decimal}
 use Rattle.std.specs.List.{flat_map, join_with_byte}
 use Rattle.std.proofs.lemmas.Fmt.{decimal_digit}
-use Rattle.std.proofs.lemmas.List.{append-nil, append_assoc}
+use Rattle.std.proofs.lemmas.List.{append-nil, append_assoc, length-take, take-append-drop, take-append-le}
 use Rattle.std.proofs.lemmas.List.Concat.{flat_map-append}
 use Rattle.prefix_keys.specs.declared.version.Version.{Version}
 use Rattle.pmap_text.specs.Label.{IsLabelTable}
 use Rattle.pmap_text.specs.MapModel.{Label}
 use Rattle.pmap_cert.specs.CertificateModel.{ChainNode, InnerNode, LeafNode, Tree, map_tree}
-use Rattle.pmap_cert.specs.CertificateText.{DueLine, HasChainForm, HasNodeForm, Node, certificate_text, format_header, line_text, lines_of, node_lines, place_of, text_of_lines}
-use Rattle.pmap_cert.specs.Node.{claiming, tree_of}
+use Rattle.pmap_cert.specs.CertificateText.{DueLine, HasChainForm, HasNodeForm, certificate_text, format_header, line_text, lines_of, place_of, text_of_lines}
+use Rattle.pmap_cert.specs.Node.{Node, claiming, tree_of}
 use Rattle.pmap_cert.proofs.ChainWords.{left-room}
 use Rattle.pmap_cert.proofs.Tables.{place_of-text_at, places-texts, text_at-place_of, texts-places}
+
+-- what is kept of a text in a longer one is kept in each text that keeps the longer one
+pub kept_then : (old mid new : List ℕ) → take (length old) mid ≡ old → take (length mid) new ≡ mid → take (length old) new ≡ old
+kept_then old mid new kept more =
+    let fits : length old ≤ length mid = omega (arith, ap length kept, length-take (length old) mid) in
+    ap (take (length old)) (sym (ap (λ (l : List ℕ). l ++ drop (length mid) new) (sym more) ∙ take-append-drop (length mid) new))
+    ∙ take-append-le (length old) mid (drop (length mid) new) fits ∙ kept
 
 -- a word and numbers joined by spaces are the word and each number after a space
 pub joined-numbers : (word : List ℕ) (ns : List ℕ) → join_with_byte 32 (word ∷ map decimal ns) ≡ word ++ flat_map (λ n. 32 ∷ decimal n) ns
@@ -28,6 +35,10 @@ pushed-digit out o1 o2 n d small digit e1 e2 =
 -- the text of joined lines is that of the first and then that of the others
 pub text_of_lines-append : (lines more : List (List ℕ)) → text_of_lines (lines ++ more) ≡ text_of_lines lines ++ text_of_lines more
 text_of_lines-append lines more = flat_map-append (λ line. line ++ 10 ∷ []) lines more
+
+-- the lines of a tree whose labels are numbered as in the table
+abbrev pub node_lines : List Label → Tree → List (List ℕ)
+node_lines table tree = map line_text (lines_of (map_tree (place_of table) tree))
 
 -- the numbers of a node's labels are those of its tree, and the texts of a tree's labels are those of its node
 module _ (table : List Label) where
@@ -57,10 +68,10 @@ module _ (table : List Label) where
 
 -- the header, the labels and the lines of the nodes are the certificate's text
 pub whole_text : (format : ℕ) (version : Version) (table : List Label) (root : Node) (room : ℕ) (nodes : List DueLine) (o1 o2 : List ℕ) → IsLabelTable table → HasChainForm (length table) root room
-    → nodes ≡ lines_of root → o1 ≡ text_of_lines (format_header format version (length table) ∷ table) → o2 ≡ o1 ++ text_of_lines (map line_text nodes)
+    → nodes ≡ lines_of root → o1 ≡ text_of_lines (format_header (format, (version, length table)) ∷ table) → o2 ≡ o1 ++ text_of_lines (map line_text nodes)
     → o2 ≡ certificate_text (record { format = format; version = version; table = table; root = tree_of table root })
 whole_text format version table root room nodes o1 o2 ok form same e1 e2 =
-    let head : List (List ℕ) = format_header format version (length table) ∷ table in
+    let head : List (List ℕ) = format_header (format, (version, length table)) ∷ table in
     let lines : List (List ℕ) = node_lines table (tree_of table root) in
     let texts : text_of_lines (map line_text nodes) ≡ text_of_lines lines =
     ap (λ (ls : List DueLine). text_of_lines (map line_text ls)) same ∙ ap text_of_lines (line_texts-tree table ok root room form) in

@@ -45,10 +45,6 @@ pub record CertificateModel : Type 0 where
 
 -- The exact claim of the claims of a block's halves.
 
--- the labels that both sets have
-abbrev pub common_labels : Claim → Claim → List Label
-common_labels p r = filter (has r.labels) p.labels
-
 -- the exact claim by the common labels: the sum of the costs with these, or, without any, one more with either set's
 -- labels
 abbrev pub exact_claim_by : Claim → Claim → List Label → Claim
@@ -56,7 +52,7 @@ exact_claim_by p r [] = record { cost = p.cost + r.cost + 1; labels = p.labels +
 exact_claim_by p r (x ∷ xs) = record { cost = p.cost + r.cost; labels = x ∷ xs }
 
 abbrev pub exact_claim : Claim → Claim → Claim
-exact_claim p r = exact_claim_by p r (common_labels p r)
+exact_claim p r = exact_claim_by p r (filter (has r.labels) p.labels)
 
 -- two claims have the same cost and the same set
 pub record IsSameClaim (p r : Claim) : Type 0 where

@@ -11,15 +11,11 @@ use Rattle.pmap_text.specs.Label.{IsLabelTable}
 use Rattle.pmap_cert.specs.CertificateModel.{CertificateModel, ChainNode, InnerNode, LeafNode, Tree, TreeOf, IsOfFormat, map_tree}
 
 -- The text of a certificate of either format: lines of words with one space between two, each line ended by a line
--- feed.
+-- feed. Labels are numbered by their index in the table.
 
 -- the number of a label: its index in the table, or the table's length if the table lacks it
 abbrev pub place_of : List Label → Label → ℕ
 place_of table x = position_or_len (bytes_eq x) table
-
--- the line of these words, with single spaces between
-abbrev pub spaced : List (List ℕ) → List ℕ
-spaced words = join_with_byte 32 words
 
 abbrev pub version_word : Version → List ℕ
 version_word V4 = codes "ipv4"
@@ -29,27 +25,13 @@ abbrev pub format_word : ℕ → List ℕ
 format_word format = if format == 1 then codes "1" else codes "2"
 
 -- `flowlabel-cert FORMAT VERSION COUNT`
-abbrev pub format_header : ℕ → Version → ℕ → List ℕ
-format_header format version count =
-    spaced (codes "flowlabel-cert" ∷ format_word format ∷ version_word version ∷ decimal count ∷ [])
-
--- `l NUMBER`: a leaf with the number of its label
-abbrev pub leaf_line : ℕ → List ℕ
-leaf_line number = spaced (codes "l" ∷ decimal number ∷ [])
-
--- `n COST NUMBER NUMBER ..`: an inner node with the cost that it claims and the numbers of its set
-abbrev pub inner_line : ℕ → List ℕ → List ℕ
-inner_line cost numbers = spaced (codes "n" ∷ decimal cost ∷ map decimal numbers)
+abbrev pub format_header : ℕ × (Version × ℕ) → List ℕ
+format_header header =
+    join_with_byte 32 (codes "flowlabel-cert" ∷ format_word header.0 ∷ version_word header.1.0 ∷ decimal header.1.1 ∷ [])
 
 -- the digits of a chain's bits: 1 if the path continues in the upper half
 abbrev pub bit_digits : List Bool → List ℕ
 bit_digits bits = map (λ bit. if bit then 49 else 48) bits
-
--- `c COST BITS SIDE NUMBER NUMBER ..`: a chain with the cost that it claims, its bits, the number of its side label and
--- the numbers of its set
-abbrev pub chain_line : ℕ → List Bool → ℕ → List ℕ → List ℕ
-chain_line cost bits side numbers =
-    spaced (codes "c" ∷ decimal cost ∷ bit_digits bits ∷ decimal side ∷ map decimal numbers)
 
 -- a line of a leaf with its label's number, of an inner node with its cost and its set's numbers, or of a chain with its
 -- cost, its bits, and the numbers of its side label and its set
@@ -58,30 +40,26 @@ pub data DueLine : Type 0 where
   InnerLine : (cost : ℕ) (numbers : List ℕ) → DueLine
   ChainLine : (cost : ℕ) (bits : List Bool) (side : ℕ) (numbers : List ℕ) → DueLine
 
--- the text of a node's line
+-- The text of a node's line: `l NUMBER`, `n COST NUMBER NUMBER ..`, or `c COST BITS SIDE NUMBER NUMBER ..`. A set's
+-- numbers come last.
 abbrev pub line_text : DueLine → List ℕ
-line_text (LeafLine number) = leaf_line number
-line_text (InnerLine cost numbers) = inner_line cost numbers
-line_text (ChainLine cost bits side numbers) = chain_line cost bits side numbers
+line_text (LeafLine number) = join_with_byte 32 (codes "l" ∷ decimal number ∷ [])
+line_text (InnerLine cost numbers) = join_with_byte 32 (codes "n" ∷ decimal cost ∷ map decimal numbers)
+line_text (ChainLine cost bits side numbers) =
+    join_with_byte 32 (codes "c" ∷ decimal cost ∷ bit_digits bits ∷ decimal side ∷ map decimal numbers)
 
--- a node with label numbers, as the code has it
-abbrev pub Node : Type 0
-Node = TreeOf ℕ
-
--- the lines of a node and of those below it in preorder: first the node, then all of the lower half, then all of the
+-- the lines of a tree with label numbers, in preorder: first the node, then all of the lower half, then all of the
 -- upper, or all of a chain's end
-abbrev pub lines_of : Node → List DueLine
+abbrev pub lines_of : TreeOf ℕ → List DueLine
 lines_of (LeafNode number) = LeafLine number ∷ []
 lines_of (InnerNode claim lower upper) = InnerLine claim.cost claim.labels ∷ (lines_of lower ++ lines_of upper)
 lines_of (ChainNode claim bits side end) = ChainLine claim.cost bits side claim.labels ∷ lines_of end
 
--- the lines of a tree whose labels are numbered as in the table
-abbrev pub node_lines : List Label → Tree → List (List ℕ)
-node_lines table tree = map line_text (lines_of (map_tree (place_of table) tree))
-
 -- the lines of a certificate: the header, the labels of the table in order, and the nodes
 abbrev pub certificate_lines : CertificateModel → List (List ℕ)
-certificate_lines c = format_header c.format c.version (length c.table) ∷ (c.table ++ node_lines c.table c.root)
+certificate_lines c =
+    format_header (c.format, (c.version, length c.table))
+    ∷ (c.table ++ map line_text (lines_of (map_tree (place_of c.table) c.root)))
 
 -- the text of these lines, each ended by a line feed
 abbrev pub text_of_lines : List (List ℕ) → List ℕ
@@ -110,7 +88,7 @@ HasRoomBelow Fits (bit ∷ bits) (suc room) = HasRoomBelow Fits bits room
 
 -- The node has at most `room` levels below it, each bit of a chain counts as one level, and each chain has a bit. Its
 -- numbers are below count, those of each set ascend, and costs are below 2 ^ 32.
-abbrev pub HasChainForm : ℕ → Node → ℕ → Type 0
+abbrev pub HasChainForm : ℕ → TreeOf ℕ → ℕ → Type 0
 HasChainForm count (LeafNode number) room = number < count
 HasChainForm count (InnerNode claim lower upper) zero = ⊥
 HasChainForm count (InnerNode claim lower upper) (suc room) =

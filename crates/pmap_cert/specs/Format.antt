@@ -2,7 +2,7 @@ use Rattle.std.specs.Prelude.{◌≡◌, ℕ}
 use Rattle.std.specs.Coded.{×_prop, →_prop, Unit-prop}
 use Rattle.prefix_keys.specs.declared.version.Version.{Version}
 use Rattle.pmap_cert.specs.CertificateModel.{ChainNode, InnerNode, IsPlain, LeafNode}
-use Rattle.pmap_cert.specs.CertificateText.{Node}
+use Rattle.pmap_cert.specs.Node.{Node}
 pub use Rattle.pmap_cert.specs.declared.format.Format.{Format}
 pub use Rattle.pmap_cert.specs.declared.format.Format.TheVariants.{One, Two}
 

@@ -52,10 +52,6 @@ abbrev pub line_value : {A : Type 0} → CertFaultKind → (List ℕ → Option 
 line_value kind value_of place =
     ok_or (option_and_then (λ next. option_map (λ x. (x, next.1)) (value_of next.0)) (next_line place)) (fault_at place kind)
 
--- the words of a line: the pieces between its spaces
-abbrev pub words_of : List ℕ → List (List ℕ)
-words_of line = slice_split (λ b. b == 32) line
-
 -- the value `likely` if it fits and the line is its text
 abbrev pub printed_value : {A : Type 0} → (A → Bool) → (A → List ℕ) → A → List ℕ → Option A
 printed_value fits text_of likely line = if fits likely && bytes_eq line (text_of likely) then Some likely else None
@@ -95,10 +91,6 @@ likely_line (kind ∷ number ∷ words) =
     else likely_chain (decimal_value number) words)
 likely_line _ = LeafLine 0
 
--- the text of a header with this format, version and number of labels
-abbrev pub header_text : ℕ × (Version × ℕ) → List ℕ
-header_text header = format_header header.0 header.1.0 header.1.1
-
 abbrev pub fits_header : ℕ × (Version × ℕ) → Bool
 fits_header header = ((header.0 == 1) || (header.0 == 2)) && nat_le header.1.1 65536
 
@@ -108,13 +100,14 @@ likely_header (name ∷ format ∷ version ∷ count ∷ words) =
     (decimal_value format, (if bytes_eq version (codes "ipv4") then V4 else V6, decimal_value count))
 likely_header _ = (0, (V4, 0))
 
--- reads a line as the value that fits and whose text the line is; `likely` is the only one that could have its words
+-- reads a line as the value that fits and whose text the line is; `likely` is the only one that could have its words,
+-- the pieces between its spaces
 abbrev pub printed_at : {A : Type 0} → CertFaultKind → (A → Bool) → (A → List ℕ) → (List (List ℕ) → A) → Place → Result (A × Place) CertFault
-printed_at kind fits text_of likely place = line_value kind (λ line. printed_value fits text_of (likely (words_of line)) line) place
+printed_at kind fits text_of likely place = line_value kind (λ line. printed_value fits text_of (likely (slice_split (λ b. b == 32) line)) line) place
 
 -- reads the header
 abbrev pub format_header_at : Place → Result ((ℕ × (Version × ℕ)) × Place) CertFault
-format_header_at place = printed_at BadHeader fits_header header_text likely_header place
+format_header_at place = printed_at BadHeader fits_header format_header likely_header place
 
 -- reads the line of the next node; if there is no next line because the text has ended, the fault is `NodesMissing`,
 -- otherwise `BadNode`

@@ -1,16 +1,16 @@
 use Rattle.std.specs.Prelude.{◌≡◌, ℕ, List, ◌++◌, Ok, Result, length, ◌^◌, ◌<◌, ◌≤◌, ◌==◌, ◌||◌, Bool, false, [], ◌∷◌, Option, None, Some, IfSome, if◌then◌else◌, ◌+◌, true, All, codes, drop, nat_eq, nat_lt, slice_index}
 use Rattle.std.specs.Fmt.{decimal}
-use Rattle.std.specs.List.{flat_map}
+use Rattle.std.specs.List.{flat_map, join_with_byte}
 use Rattle.prefix_keys.specs.Block.{width_of}
 use Rattle.prefix_keys.specs.Text.{is_digit}
 use Rattle.prefix_keys.specs.declared.version.Version.{Version}
 use Rattle.pmap_text.specs.MapModel.{Label}
 use Rattle.pmap_text.specs.Reading.{◌>>=◌}
 use Rattle.pmap_cert.specs.Format.{IsNodeOf, format_number, Format}
-use Rattle.pmap_cert.specs.FormatReading.{DueLine, Place, ended_by, fits_header, fits_line, header_text, line_due_at, line_text, nodes_at, CertFault}
+use Rattle.pmap_cert.specs.FormatReading.{DueLine, Place, ended_by, fits_header, fits_line, line_due_at, line_text, nodes_at, CertFault}
 use Rattle.pmap_cert.specs.Node.{HasChainForm, Node, lines_of, tree_of, AreWhole, first_node, node_of, nodes_of}
 use Rattle.pmap_cert.specs.CertificateModel.{CertificateModel, ClaimOf, InnerNode, IsPlain, Tree}
-use Rattle.pmap_cert.specs.CertificateText.{IsAscending, bit_digits, format_word, spaced, version_word}
+use Rattle.pmap_cert.specs.CertificateText.{IsAscending, bit_digits, format_header, format_word, version_word}
 use Rattle.pmap_cert.specs.Compacting.{compacted, run_bits, run_end, side_of}
 
 -- reads the next node of a text of this format, for addresses of `most` bits, with at most `room` levels below it
@@ -82,11 +82,11 @@ abbrev pub BeginsWithLine : ℕ → ℕ → ℕ → List ℕ → DueLine → Lis
 BeginsWithLine format most count text = BeginsWith (fits_line format most count) line_text text
 
 abbrev pub BeginsWithHeader : List ℕ → ℕ × (Version × ℕ) → List ℕ → Type 0
-BeginsWithHeader text = BeginsWith fits_header header_text text
+BeginsWithHeader text = BeginsWith fits_header format_header text
 
 -- the part of a header's text before the space and the number of labels
 abbrev pub header_name : ℕ → Version → List ℕ
-header_name format version = spaced (codes "flowlabel-cert" ∷ format_word format ∷ version_word version ∷ [])
+header_name format version = join_with_byte 32 (codes "flowlabel-cert" ∷ format_word format ∷ version_word version ∷ [])
 
 pub record Then {A B : Type 0} (First : A → List ℕ → Type 0) (Second : List ℕ → B → List ℕ → Type 0) (both : A × B) (rest : List ℕ) : Type 0 where
   pub middle : List ℕ

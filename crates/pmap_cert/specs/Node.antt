@@ -6,8 +6,12 @@ use Rattle.std.specs.Coded.{Coded, code_by, coded_bool, coded_list, coded_ℕ, c
 use Rattle.pmap_text.specs.MapModel.{Label}
 use Rattle.pmap_text.specs.MapText.{text_at}
 use Rattle.pmap_cert.specs.CertificateText.{ChainLine, DueLine, HasRoomBelow, InnerLine, IsAscending-prop, LeafLine}
-pub use Rattle.pmap_cert.specs.CertificateText.{HasChainForm, Node, line_text, lines_of}
-use Rattle.pmap_cert.specs.CertificateModel.{ChainNode, ClaimOf, InnerNode, IsPlain, LeafNode, Tree, map_tree}
+pub use Rattle.pmap_cert.specs.CertificateText.{HasChainForm, line_text, lines_of}
+use Rattle.pmap_cert.specs.CertificateModel.{ChainNode, ClaimOf, InnerNode, IsPlain, LeafNode, Tree, TreeOf, map_tree}
+
+-- a node with label numbers, as the code has it
+abbrev pub Node : Type 0
+Node = TreeOf ℕ
 
 abbrev pub tree_of : List Label → Node → Tree
 tree_of table node = map_tree (text_at table) node

@@ -71,4 +71,4 @@ pub use nodes::Nodes;
 pub use nodes_from::NodesFrom;
 pub use path::Path;
 pub use root::Root;
-pub use writing::{push_head, push_inner_line, push_leaf_line, write_cert};
+pub use writing::{head_text, push_line, write_cert};

@@ -1,11 +1,10 @@
 //! Writing the text of a certificate.
-ghost use Rattle.std.specs.Prelude.{◌≡◌, ◌++◌, ◌∷◌, [], IfOk, OnOk, length, map};
+ghost use Rattle.std.specs.Prelude.{◌≡◌, ◌++◌, ◌∷◌, [], IfOk, OnErr, OnOk, length, map, take};
 ghost use Rattle.std.specs.List.{flat_map};
 ghost use Rattle.std.specs.Fmt.{decimal};
 ghost use Rattle.pmap_cert.specs.Certificate.{certificate_of};
-ghost use Rattle.pmap_cert.specs.CertificateText.{bit_digits, certificate_text, chain_line, format_header, format_word, inner_line, leaf_line, text_of_lines, version_word};
+ghost use Rattle.pmap_cert.specs.CertificateText.{ChainLine, InnerLine, LeafLine, bit_digits, certificate_text, format_header, format_word, line_text, text_of_lines, version_word};
 ghost use Rattle.pmap_cert.specs.Format.{format_number};
-ghost use Rattle.pmap_cert.specs.Node.{line_text};
 ghost use Rattle.pmap_cert.specs.Packed.{bits_in, line_of};
 
 use crate::certificate::Certificate;
@@ -20,7 +19,8 @@ use std::alloc::{AllocError, Global};
 
 // Appends a space and a number.
 fn push_number(out: &mut Vec<u8>, number: u32) -> Result<(), AllocError>
-    ensures { OnOk result (out.new.items ≡ out.old.items ++ 32 ∷ decimal number) }
+    ensures ok { OnOk result (out.new.items ≡ out.old.items ++ 32 ∷ decimal number) }
+    ensures kept { take (length out.old.items) out.new.items ≡ out.old.items }
 {
     out.push(b' ')?;
     if number < 10 {
@@ -33,8 +33,10 @@ fn push_number(out: &mut Vec<u8>, number: u32) -> Result<(), AllocError>
 }
 
 // Appends the numbers of a set, with a space before each.
+#[tactic(auto, using(crate::proofs::Written::kept_then))]
 fn push_set(out: &mut Vec<u8>, set: &[LabelId]) -> Result<(), AllocError>
-    ensures { OnOk result (out.new.items ≡ out.old.items ++ flat_map (λ n. 32 ∷ decimal n) (map (λ id. id.0) set.now)) }
+    ensures ok { OnOk result (out.new.items ≡ out.old.items ++ flat_map (λ n. 32 ∷ decimal n) (map (λ id. id.0) set.now)) }
+    ensures kept { take (length out.old.items) out.new.items ≡ out.old.items }
 {
     for id in set {
         push_number(out, id.0)?;
@@ -42,9 +44,10 @@ fn push_set(out: &mut Vec<u8>, set: &[LabelId]) -> Result<(), AllocError>
     Ok(())
 }
 
-/// Appends the line of a leaf with this label. If an allocation fails, a part of the line may have been appended.
-pub fn push_leaf_line(out: &mut Vec<u8>, id: LabelId) -> Result<(), AllocError>
-    ensures { OnOk result (out.new.items ≡ out.old.items ++ (leaf_line id.0 ++ 10 ∷ [])) }
+#[tactic(auto, using(crate::proofs::Written::kept_then))]
+fn push_leaf(out: &mut Vec<u8>, id: LabelId) -> Result<(), AllocError>
+    ensures ok { OnOk result (out.new.items ≡ out.old.items ++ (line_text (LeafLine id.0) ++ 10 ∷ [])) }
+    ensures kept { take (length out.old.items) out.new.items ≡ out.old.items }
 {
     out.push(b'l')?;
     push_number(out, id.0)?;
@@ -52,21 +55,24 @@ pub fn push_leaf_line(out: &mut Vec<u8>, id: LabelId) -> Result<(), AllocError>
     Ok(())
 }
 
-/// Appends the line of an inner node that claims this cost and set. If an allocation fails, a part of the line may have
-/// been appended.
-pub fn push_inner_line(out: &mut Vec<u8>, cost: u32, set: &[LabelId]) -> Result<(), AllocError>
-    ensures { OnOk result (out.new.items ≡ out.old.items ++ (inner_line cost (map (λ id. id.0) set.now) ++ 10 ∷ [])) }
+#[tactic(auto, using(crate::proofs::Written::kept_then))]
+fn push_inner(out: &mut Vec<u8>, claim: Claim) -> Result<(), AllocError>
+    ensures ok { OnOk result (out.new.items ≡ out.old.items
+        ++ (line_text (InnerLine claim.entry.cost (map (λ id. id.0) claim.entry.set.now)) ++ 10 ∷ [])) }
+    ensures kept { take (length out.old.items) out.new.items ≡ out.old.items }
 {
     out.push(b'n')?;
-    push_number(out, cost)?;
-    push_set(out, set)?;
+    push_number(out, claim.cost)?;
+    push_set(out, claim.set)?;
     out.push(b'\n')?;
     Ok(())
 }
 
 // Appends a space and the bits as digits 0 and 1.
+#[tactic(auto, using(crate::proofs::Written::kept_then))]
 fn push_bits(out: &mut Vec<u8>, path: &Path) -> Result<(), AllocError>
-    ensures { OnOk result (out.new.items ≡ out.old.items ++ 32 ∷ bit_digits (bits_in path.now)) }
+    ensures ok { OnOk result (out.new.items ≡ out.old.items ++ 32 ∷ bit_digits (bits_in path.now)) }
+    ensures kept { take (length out.old.items) out.new.items ≡ out.old.items }
 {
     out.push(b' ')?;
     let mut rest = *path;
@@ -77,9 +83,11 @@ fn push_bits(out: &mut Vec<u8>, path: &Path) -> Result<(), AllocError>
     Ok(())
 }
 
+#[tactic(auto, using(crate::proofs::Written::kept_then))]
 fn push_chain(out: &mut Vec<u8>, claim: Claim, path: &Path, side: LabelId) -> Result<(), AllocError>
-    ensures { OnOk result (out.new.items ≡ out.old.items
-        ++ (chain_line claim.entry.cost (bits_in path.now) side.0 (map (λ id. id.0) claim.entry.set.now) ++ 10 ∷ [])) }
+    ensures ok { OnOk result (out.new.items ≡ out.old.items ++ (line_text
+        (ChainLine claim.entry.cost (bits_in path.now) side.0 (map (λ id. id.0) claim.entry.set.now)) ++ 10 ∷ [])) }
+    ensures kept { take (length out.old.items) out.new.items ≡ out.old.items }
 {
     out.push(b'c')?;
     push_number(out, claim.cost)?;
@@ -90,14 +98,28 @@ fn push_chain(out: &mut Vec<u8>, claim: Claim, path: &Path, side: LabelId) -> Re
     Ok(())
 }
 
-fn push_line(out: &mut Vec<u8>, node: Node) -> Result<(), AllocError>
-    ensures { OnOk result (out.new.items ≡ out.old.items ++ (line_text (line_of node.entry) ++ 10 ∷ [])) }
+fn push_whole(out: &mut Vec<u8>, node: Node) -> Result<(), AllocError>
+    ensures ok { OnOk result (out.new.items ≡ out.old.items ++ (line_text (line_of node.entry) ++ 10 ∷ [])) }
+    ensures kept { take (length out.old.items) out.new.items ≡ out.old.items }
 {
     match node {
-        Node::Leaf(id) => push_leaf_line(out, id),
-        Node::Inner(claim) => push_inner_line(out, claim.cost, claim.set),
+        Node::Leaf(id) => push_leaf(out, id),
+        Node::Inner(claim) => push_inner(out, claim),
         Node::Chain { claim, path, side } => push_chain(out, claim, path, side),
     }
+}
+
+/// Appends the line of a node. If an allocation fails, `out` is unchanged.
+pub fn push_line(out: &mut Vec<u8>, node: Node) -> Result<(), AllocError>
+    ensures ok { OnOk result (out.new.items ≡ out.old.items ++ (line_text (line_of node.entry) ++ 10 ∷ [])) }
+    ensures err { OnErr result (out.new.items ≡ out.old.items) }
+{
+    let len = out.len();
+    let pushed = push_whole(out, node);
+    if pushed.is_err() {
+        out.truncate(len);
+    }
+    pushed
 }
 
 fn push_nodes(out: &mut Vec<u8>, nodes: &Nodes) -> Result<(), AllocError>
@@ -150,7 +172,7 @@ fn push_header(
     count: u32,
 ) -> Result<(), AllocError>
     ensures { OnOk result (out.new.items
-        ≡ out.old.items ++ (format_header (format_number format) version count ++ 10 ∷ [])) }
+        ≡ out.old.items ++ (format_header (format_number format, (version, count)) ++ 10 ∷ [])) }
 {
     out.extend_from_slice(b"flowlabel-cert ")?;
     out.extend_from_slice(format_text(format))?;
@@ -161,19 +183,20 @@ fn push_header(
     Ok(())
 }
 
-/// Appends the beginning of a certificate's text: its header and its label table. The lines of its nodes must follow.
-/// If an allocation fails, a part of the beginning may have been appended.
-pub fn push_head(
-    out: &mut Vec<u8>,
+/// Returns the beginning of a certificate's text: its header and its label table. The lines of its nodes must follow.
+pub fn head_text(
+    alloc: Global,
     format: Format,
     version: Version,
     labels: &Labels,
-) -> Result<(), AllocError>
-    ensures { OnOk result (out.new.items ≡ out.old.items
-        ++ text_of_lines (format_header (format_number format) version (length labels.now) ∷ labels.now)) }
+) -> Result<Vec<u8>, AllocError>
+    ensures { IfOk result (λ text. text.items
+        ≡ text_of_lines (format_header (format_number format, (version, length labels.now)) ∷ labels.now)) }
 {
-    push_header(out, format, version, labels.len() as u32)?;
-    push_labels(out, labels)
+    let mut out = Vec::new(alloc);
+    push_header(&mut out, format, version, labels.len() as u32)?;
+    push_labels(&mut out, labels)?;
+    Ok(out)
 }
 
 /// Returns the text of a certificate: a header, its label table and its nodes in preorder.
@@ -187,9 +210,8 @@ pub fn write_cert(alloc: Global, certificate: &Certificate) -> Result<Vec<u8>, A
 {
     // Provides the law that the table's labels are distinct.
     let _labels = certificate.labels.len();
-    let mut out = Vec::new(alloc);
-    push_head(
-        &mut out,
+    let mut out = head_text(
+        alloc,
         certificate.format,
         certificate.version,
         &certificate.labels,

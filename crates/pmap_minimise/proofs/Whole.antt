@@ -94,7 +94,7 @@ root-form m root form ok = record {
 
 module _ (m : MapText) (compacted : Node) (built : IsBuiltIn (map_of m) compacted) where
   -- the text of a root's certificate, which is part of the map's minimal pair
-  pub certified-text : (head text : List ℕ) → head ≡ text_of_lines (format_header 1 m.version (length m.labels) ∷ m.labels) → text ≡ head ++ node_text built.node
+  pub certified-text : (head text : List ℕ) → head ≡ text_of_lines (format_header (1, (m.version, length m.labels)) ∷ m.labels) → text ≡ head ++ node_text built.node
       → (l : ListModel) × (c : CertificateModel) × IsMinimalPair (map_of m) l c × HasTextForm c × (text ≡ certificate_text c)
   certified-text head text head_is text_is = (
     shortest_list (map_of m) (tree_of m.labels built.node),

@@ -1,7 +1,7 @@
 use Rattle.std.specs.Prelude.{◌≡◌, ℕ, zero, suc, ◌+◌, ◌<◌, ◌≤◌, ◌==◌, Bool, List, [], ◌∷◌, ◌++◌, if◌then◌else◌, length, map, nat_lt}
-use Rattle.pmap_cert.specs.CertificateText.{leaf_line, text_of_lines}
+use Rattle.pmap_cert.specs.CertificateText.{LeafLine, line_text, text_of_lines}
 use Rattle.pmap_cert.specs.CertificateModel.{ChainNode, ClaimOf, InnerNode, LeafNode, claim_of}
-use Rattle.pmap_cert.specs.Node.{Node, first_node, line_text, lines_of}
+use Rattle.pmap_cert.specs.Node.{Node, first_node, lines_of}
 use Rattle.pmap_cert.specs.Paths.{digit, path_to}
 use Rattle.pmap_minimise.specs.Numbers.{has_number}
 
@@ -73,4 +73,4 @@ node_text node = text_of_lines (map line_text (lines_of node))
 abbrev pub text_up : ℕ → ℕ → ℕ → List ℕ
 text_up side value zero = []
 text_up side value (suc bits) =
-    text_up side value bits ++ (if digit value bits == 0 then leaf_line side ++ 10 ∷ [] else [])
+    text_up side value bits ++ (if digit value bits == 0 then line_text (LeafLine side) ++ 10 ∷ [] else [])

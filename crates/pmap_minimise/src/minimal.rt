@@ -16,7 +16,7 @@ use crate::claiming::claimed;
 use crate::entries::entries_of;
 use crate::opened::push_opened;
 use label_trie::Trie;
-use pmap_cert::{Certificate, Format, Root, minimal_pair_is_accepted, push_head, write_cert};
+use pmap_cert::{Certificate, Format, Root, head_text, minimal_pair_is_accepted, write_cert};
 use pmap_text::{Entries, Labels, MapText, Name, PrefixList, Stretches};
 use prefix_keys::Version;
 use std::alloc::{AllocError, Global};
@@ -98,8 +98,7 @@ pub fn certificate_text(alloc: Global, map: MapText) -> Result<Vec<u8>, AllocErr
 {
     let version = map.version;
     let (root, labels) = compact_root(alloc, map)?;
-    let mut out = Vec::new(alloc);
-    push_head(&mut out, Format::One, version, &labels)?;
+    let mut out = head_text(alloc, Format::One, version, &labels)?;
     push_opened(&mut out, alloc, &root)?;
     Ok(out)
 }

@@ -1,13 +1,13 @@
 //! Writes the lines of a certificate's nodes, with each chain opened.
 ghost use Rattle.std.specs.Prelude.{◌≡◌, ◌≤◌, ◌++◌, ◌∷◌, [], OnOk, drop, if◌then◌else◌};
-ghost use Rattle.pmap_cert.specs.CertificateText.{inner_line, leaf_line};
+ghost use Rattle.pmap_cert.specs.CertificateText.{InnerLine, LeafLine, line_text};
 ghost use Rattle.pmap_cert.specs.CertificateModel.{claim_of};
 ghost use Rattle.pmap_cert.specs.Node.{Node as AnyNode, first_node};
 ghost use Rattle.pmap_minimise.specs.Numbers.{numbers_of};
 ghost use Rattle.pmap_minimise.specs.Opened.{IsOpenedAt, Opens, cost_above, node_text, path_node, set_above, text_up, with_number};
 
 use crate::entering::has_label;
-use pmap_cert::{Cursor, Node, Path, Root, cursor_of, push_inner_line, push_leaf_line};
+use pmap_cert::{Claim, Cursor, Node, Path, Root, cursor_of, push_line};
 use pmap_text::LabelId;
 use std::alloc::{AllocError, Global};
 use std::slice;
@@ -22,8 +22,8 @@ struct Chain<'a> {
     node: &'a [u8],
     leaf: &'a [u8],
     both: &'a [u8],
-    ghost node_is: { node.now ≡ inner_line cost (side.0 ∷ []) ++ 10 ∷ [] },
-    ghost leaf_is: { leaf.now ≡ leaf_line side.0 ++ 10 ∷ [] },
+    ghost node_is: { node.now ≡ line_text (InnerLine cost (side.0 ∷ [])) ++ 10 ∷ [] },
+    ghost leaf_is: { leaf.now ≡ line_text (LeafLine side.0) ++ 10 ∷ [] },
     ghost both_is: { both.now ≡ node.now ++ leaf.now },
 }
 
@@ -58,8 +58,8 @@ fn push_step(
     before: bool,
 ) -> Result<(), AllocError>
     ensures { OnOk result (out.new.items ≡ out.old.items
-        ++ ((inner_line chain.now.cost (set_above chain.now.side.0 (numbers_of set.now) more) ++ 10 ∷ [])
-        ++ (if before then leaf_line chain.now.side.0 ++ 10 ∷ [] else []))) }
+        ++ ((line_text (InnerLine chain.now.cost (set_above chain.now.side.0 (numbers_of set.now) more)) ++ 10 ∷ [])
+        ++ (if before then line_text (LeafLine chain.now.side.0) ++ 10 ∷ [] else []))) }
 {
     if more > 0 || has_label(set, chain.side) {
         out.extend_from_slice(if before { chain.both } else { chain.node })?;
@@ -67,7 +67,11 @@ fn push_step(
     }
     all.clear();
     push_with(all, set, chain.side)?;
-    push_inner_line(out, chain.cost, all.as_slice())?;
+    let claim = Claim {
+        cost: chain.cost,
+        set: all.as_slice(),
+    };
+    push_line(out, Node::Inner(claim))?;
     if before {
         out.extend_from_slice(chain.leaf)?;
     }
@@ -100,7 +104,7 @@ fn push_down(
 
 // Appends the lines of the side blocks after a chain's end, each of which is this line.
 fn push_up(out: &mut Vec<u8>, path: &Path, side: LabelId, leaf: &[u8]) -> Result<(), AllocError>
-    requires { leaf.now ≡ leaf_line side.0 ++ 10 ∷ [] }
+    requires { leaf.now ≡ line_text (LeafLine side.0) ++ 10 ∷ [] }
     ensures { OnOk result (out.new.items ≡ out.old.items ++ text_up side.0 path.now.value path.now.count) }
 {
     for place in 0..path.count {
@@ -129,9 +133,10 @@ fn push_chain(
         → out.new.items ≡ out.old.items ++ node_text (path_node side.0 path.now.value path.now.count end)) }
 {
     texts.clear();
-    push_inner_line(texts, cost, slice::from_ref(&side))?;
+    let set = slice::from_ref(&side);
+    push_line(texts, Node::Inner(Claim { cost, set }))?;
     let len = texts.len();
-    push_leaf_line(texts, side)?;
+    push_line(texts, Node::Leaf(side))?;
     let both = texts.as_slice();
     let (node, leaf) = both.split_at(len);
     let chain = Chain {
@@ -145,7 +150,7 @@ fn push_chain(
     push_down(out, all, &chain, at.claim().set, path.count)?;
     push_node(out, all, texts, at)?;
     texts.clear();
-    push_leaf_line(texts, side)?;
+    push_line(texts, Node::Leaf(side))?;
     push_up(out, path, side, texts.as_slice())
 }
 
@@ -166,9 +171,9 @@ fn push_node(
     let node = at.node();
     *at = at.next();
     match node {
-        Node::Leaf(id) => push_leaf_line(out, id),
+        Node::Leaf(id) => push_line(out, Node::Leaf(id)),
         Node::Inner(claim) => {
-            push_inner_line(out, claim.cost, claim.set)?;
+            push_line(out, Node::Inner(claim))?;
             push_node(out, all, texts, at)?;
             push_node(out, all, texts, at)
         }

@@ -8,7 +8,6 @@ use Rattle.pmap_cert.proofs.writing.write_cert.Goals as goal
 pub returns : goal.returns
 returns c =
     let certificate = c.args.certificate.now in
-    whole_text (format_number certificate.format) certificate.version certificate.labels certificate.root (width_of certificate.version) c.nodes.result.now c.push_head.new.out.items c.push_nodes.new.out.items
+    whole_text (format_number certificate.format) certificate.version certificate.labels certificate.root (width_of certificate.version) c.nodes.result.now c.in_ok-out.out.items c.push_nodes.new.out.items
     c.len-labels.ensures.table certificate.form c.nodes.ensures
-    (c.in_ok-push_head.ensures ∙ ap (λ out. out ++ text_of_lines (format_header (format_number certificate.format) certificate.version (length certificate.labels) ∷ certificate.labels)) c.new-out.ensures.items)
-    c.in_ok-push_nodes.ensures
+    c.in_ok-out.ensures c.in_ok-push_nodes.ensures

@@ -11,6 +11,6 @@ returns c =
     let m = c.args.map in
     let built = c.in_ok-root.ensures.built in
     let labels = c.in_ok-root.ensures.labels in
-    certified-text m c.in_ok-root.root built c.push_head.new.out.items c.push_opened.new.out.items
-    (c.in_ok-push_head.ensures ∙ (λ i. c.new-out.ensures.items i ++ text_of_lines (format_header 1 m.version (length (labels i)) ∷ labels i)))
+    certified-text m c.in_ok-root.root built c.in_ok-out.out.items c.push_opened.new.out.items
+    (c.in_ok-out.ensures ∙ (λ i. text_of_lines (format_header (1, (m.version, length (labels i))) ∷ labels i)))
     (c.in_ok-push_opened.ensures built.node built.opens)
