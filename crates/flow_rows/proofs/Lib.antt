@@ -1,4 +1,4 @@
 pub mod Usable
 pub mod Reading
-pub mod Rows
+pub mod LayoutRows
 pub mod Walking

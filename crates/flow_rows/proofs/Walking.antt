@@ -1,5 +1,5 @@
--- Rows that are given in several steps, and their number.
-use Rattle.std.proofs.Common.{◌≡◌, ◌∙◌, ◌≤◌, ◌+◌, ◌*◌, ℕ, All, Bool, true, false, List, [], ◌∷◌, ◌++◌, length, Option, Some, None, append_assoc, ap, length-append, refl, subst, sym, arith}
+-- The rows of a message, one after the other, and their number.
+use Rattle.std.proofs.Common.{◌≡◌, ◌∙◌, ◌≤◌, ◌*◌, ℕ, All, Bool, true, false, List, [], ◌∷◌, ◌++◌, length, Option, Some, None, ap, length-append, refl, subst, sym, arith}
 use Rattle.std.specs.Prelude.{◌==◌, option_and_then}
 use Rattle.std.specs.Bool.{then_some}
 use Rattle.std.specs.Borrow.{Bor}
@@ -7,17 +7,13 @@ use Rattle.std.specs.List.{flat_map}
 use Rattle.std.specs.Option.{IfSome, option_to_list}
 use Rattle.std.proofs.lemmas.Bool.{eqb-true, not-false}
 use Rattle.std.proofs.lemmas.Grind.{flat_map-append}
-use Rattle.std.proofs.lemmas.List.{append-nil}
 use Rattle.std.proofs.lemmas.List.Concat.{length-flat_map}
 use Rattle.std.proofs.lemmas.List.Elements.{All-head, All-tail}
 use Rattle.std.proofs.lemmas.List.Sums.{sum_by-le-sum_by}
 use Rattle.ipfix_templates.specs.declared.kind.Kind.{Kind}
 use Rattle.ipfix_templates.specs.declared.kind.Kind.TheVariants.{Flow, Options}
 use Rattle.ipfix_templates.specs.declared.layout.RowLayout.{RowLayout}
-use Rattle.ipfix_templates.specs.Layout.{is_there, layout_of}
-use Rattle.ipfix_templates.specs.Runs.{runs_from}
-use Rattle.ipfix_templates.specs.Template.{same_kind}
-use Rattle.ipfix_templates.specs.declared.field.Field.{Field}
+use Rattle.ipfix_templates.specs.Layout.{is_there}
 use Rattle.ipfix_read.specs.Message.{message_size, set_size}
 use Rattle.ipfix_read.specs.Value.{values_at}
 use Rattle.ipfix_read.specs.declared.record.Record.{Record}
@@ -26,43 +22,11 @@ use Rattle.ipfix_read.specs.declared.set.Set.TheVariants.{Templates, Values, Ski
 use Rattle.flow_rows.specs.Counts.{records_in, records_of, rows_of}
 use Rattle.flow_rows.specs.Elements.{RowView, first_row, rows_of_record, second_row}
 use Rattle.flow_rows.specs.Inner.{AreUsable, HaveLayout, number_there, row_at, second_at}
-use Rattle.flow_rows.proofs.Rows.{reverse_found, reverse_missing, row_found, usable}
+use Rattle.flow_rows.proofs.LayoutRows.{reverse_found, reverse_missing, row_found, usable}
 use Rattle.flow_rows.proofs.Usable.{fields_of}
-use Rattle.flow_rows.specs.Walk.{CanTake, Takes}
-
-module _ {T : Type 0} (has : List RowView → T → Type 0) where
-  pub can_fewer : (n m : ℕ) (old : T) → m ≤ n → CanTake has n old → CanTake has m old
-  can_fewer n m old fewer can = (can.0, omega (arith, can.1, fewer), can.2)
-
-  pub can_then : (n m : ℕ) (a : List RowView) (old mid : T) → length a + m ≤ n → CanTake has n old → Takes has a old mid → CanTake has m mid
-  can_then n m a old mid within can takes = (
-    can.0 ++ a,
-    omega (arith, can.1, within, length-append can.0 a),
-    takes can.0 (omega (arith, can.1, within)) can.2,
-  )
-
-  pub takes_both : (a b : List RowView) (old mid new : T) → Takes has a old mid → Takes has b mid new → Takes has (a ++ b) old new
-  takes_both a b old mid new first second = λ rows few is.
-      subst (λ (rs : List RowView). has rs new) (append_assoc rows a b)
-      (second (rows ++ a) (omega (arith, few, length-append a b, length-append rows a)) (first rows (omega (arith, few, length-append a b)) is))
-
-  pub takes_none : (old : T) → Takes has [] old old
-  takes_none old = λ rows few is. subst (λ (rs : List RowView). has rs old) (sym (append-nil rows)) is
-
-  pub takes_empty : (rows : List RowView) (old : T) → length rows ≡ 0 → Takes has rows old old
-  takes_empty [] old none = takes_none old
-  takes_empty (row ∷ rows) old none = absurd (omega (arith, none))
-
--- flow records whose fields have a layout
-pub have_layout : (layout : RowLayout) (runs : List ℕ) (fields : List Field) (records : List Record) (kind : Kind) → Some layout ≡ layout_of fields
-    → runs ≡ runs_from 0 fields → same_kind kind Flow ≡ true → All (λ r. r.kind ≡ kind) records → All (λ r. fields_of r.fields ≡ fields) records
-    → HaveLayout layout runs records
-have_layout layout runs fields records Flow layout_is runs_are is_flow kinds same =
-    record { fields = fields; layout_is = layout_is; runs_are = runs_are; flows = kinds; same = same }
-have_layout layout runs fields records Options layout_is runs_are is_flow kinds same = absurd (cc)
 
 -- the first of flow records with a layout, and its bytes
-module _ {layout : RowLayout} {runs : List ℕ} {all : List Record} (have : HaveLayout layout runs all) {r : Record} {records : List Record}
+module _ (layout : RowLayout) (runs : List ℕ) (all : List Record) (have : HaveLayout layout runs all) (r : Record) (records : List Record)
     (is : all ≡ r ∷ records) (bytes : Bor (List ℕ)) (read : (rest : List ℕ) × (values_at (fields_of r.fields) bytes.now ≡ Some (r.fields, rest))) where
   flows : All (λ r. r.kind ≡ Flow) (r ∷ records)
   flows = subst (All (λ r. r.kind ≡ Flow)) is have.flows
@@ -141,6 +105,10 @@ pub set_within : (set : Set) → length (records_in set) ≤ set_size set
 set_within (Templates kind events) = omega arith
 set_within (Values kind records) = omega arith
 set_within (Skipped id) = omega arith
+
+pub empty_of : {A : Type 0} (xs : List A) → length xs ≡ 0 → [] ≡ xs
+empty_of [] none = refl
+empty_of (x ∷ xs) none = absurd (omega (arith, none))
 
 pub none_in : (set : Set) → ((kind : Kind) (records : List Record) → set ≡ Values kind records → ⊥) → records_in set ≡ []
 none_in (Templates kind events) other = refl

@@ -1,5 +1,5 @@
 pub mod Elements
 pub mod Counts
-pub mod Walk
 pub mod Inner
 pub mod Laws
+pub mod Walk

@@ -1,98 +1,120 @@
-//! The walk from messages to rows.
-ghost use Rattle.std.specs.Prelude.{◌≤◌, ◌*◌, ◌∷◌, [], List, OnOk, length};
+//! The rows of a message, one after the other.
+ghost use Rattle.std.specs.Prelude.{◌≡◌, ◌≤◌, [], IfNone, IfSome, None, length, option_map, unwrap_or};
+ghost use Rattle.std.specs.Iterator.{YieldsFirst, item_count};
 ghost use Rattle.std.specs.List.{flat_map};
-ghost use Rattle.std.specs.Option.{option_to_list};
-ghost use Rattle.flow_rows.specs.Counts.{rows_of};
-ghost use Rattle.flow_rows.specs.Elements.{RowView, rows_of_record};
-ghost use Rattle.flow_rows.specs.Walk.{CanTake, Takes};
+ghost use Rattle.flow_rows.specs.Counts.{records_in, rows_of};
+ghost use Rattle.flow_rows.specs.Elements.{rows_of_record};
+ghost use Rattle.flow_rows.specs.Walk.{HaveRows, rows_left};
 
 use crate::record::second_row;
 use crate::row::Row;
-use ipfix_read::{Message, RecordList, Set};
-use ipfix_templates::Kind;
-use std::alloc::AllocError;
+use ipfix_read::{Message, Records, Set};
+use ipfix_templates::{Kind, RowLayout};
+use std::marker::Model;
+use std::slice::Iter;
 
-/// What takes rows, one after the other.
-pub trait TakesRows {
-    /// The state after the rows that were taken.
-    type Taken;
-
-    // The state is that after these rows.
-    ghost has_taken: { Self → List RowView → Self.Taken → Type 0 };
-
-    /// Takes the next row.
-    fn take_row(&self, taken: &mut Self::Taken, row: &Row<'_>) -> Result<(), AllocError>
-        requires { CanTake (has_taken self.now) 1 taken.old }
-        ensures { OnOk result (Takes (has_taken self.now) (row.now ∷ []) taken.old taken.new) };
+// The flow records of a set, all with the same layout.
+#[derive(Drop)]
+struct SetRows<'m> {
+    layout: &'m RowLayout,
+    runs: &'m [u32],
+    records: Records<'m, 'm>,
 }
 
-// Gives a row, if there is one.
-#[inline(always)]
-fn give_row<T: TakesRows>(
-    row: Option<Row<'_>>,
-    taker: &T,
-    taken: &mut T::Taken,
-) -> Result<(), AllocError>
-    requires { CanTake (T.has_taken taker.now) 1 taken.old }
-    ensures { OnOk result (Takes (T.has_taken taker.now) (option_to_list row.entry) taken.old taken.new) }
-{
-    match row {
-        Some(row) => taker.take_row(taken, &row),
-        None => Ok(()),
+impl<'m> SetRows<'m> {
+    // Returns the flow records of a set, or `None` if its template shows that there are no rows.
+    #[inline(always)]
+    fn of_set(set: &'m Set<'m>) -> Option<SetRows<'m>>
+        ensures have { IfSome result (λ set. HaveRows set None) }
+        ensures rows { unwrap_or (option_map (λ set. rows_left set None) result) []
+            ≡ flat_map rows_of_record (records_in set.now) }
+    {
+        let Set::Values(_, list) = set else {
+            return None;
+        };
+        let fields = list.fields();
+        if !list.kind().is(Kind::Flow) {
+            return None;
+        }
+        Some(SetRows {
+            layout: fields.row_layout()?,
+            runs: fields.runs(),
+            records: list.iter(),
+        })
+    }
+
+    // Returns the next row. `last` has the bytes of the last record if it may have a second row.
+    #[inline(always)]
+    fn next_row(&mut self, last: &mut Option<&'m [u8]>) -> Option<Row<'m>>
+        requires { HaveRows self.old last.old }
+        ensures have { HaveRows self.new last.new }
+        ensures last { IfNone result (last.new ≡ None) }
+        ensures rows { YieldsFirst (λ rows. rows) (rows_left self.old last.old) result (rows_left self.new last.new) }
+    {
+        if let Some(row) = second_row(self.layout, self.runs, last.take()) {
+            return Some(row);
+        }
+        let bytes = self.records.next()?.fields.bytes();
+        if self.layout.second.packets.is_there() {
+            *last = Some(bytes);
+        }
+        Some(Row::new(&self.layout.first, self.runs, bytes))
     }
 }
 
-// Gives the rows of the records of a set. Their fields show where the numbers of rows are, or that there are no rows.
-#[inline(always)]
-fn give_rows_of_records<T: TakesRows>(
-    records: &RecordList<'_>,
-    taker: &T,
-    taken: &mut T::Taken,
-) -> Result<(), AllocError>
-    requires { CanTake (T.has_taken taker.now) (2 * length records.now) taken.old }
-    ensures { OnOk result (Takes (T.has_taken taker.now) (flat_map rows_of_record records.now) taken.old taken.new) }
-{
-    let fields = records.fields();
-    if !records.kind().is(Kind::Flow) {
-        return Ok(());
-    }
-    let Some(layout) = fields.row_layout() else {
-        return Ok(());
-    };
-    let runs = fields.runs();
-    let has_second = layout.second.packets.is_there();
-    for source in records.iter() {
-        let bytes = source.fields.bytes();
-        taker.take_row(taken, &Row::new(&layout.first, runs, bytes))?;
-        give_row(
-            second_row(layout, runs, has_second.then_some(bytes)),
-            taker,
-            taken,
-        )?;
-    }
-    Ok(())
+/// An iterator over the rows of a message, in order. The second row of a record, if there is one, comes right after the
+/// first.
+#[derive(Drop)]
+pub struct Rows<'m> {
+    sets: Iter<'m, Set<'m>>,
+    set: Option<SetRows<'m>>,
+    // The bytes of the last record of `set`, if it may have a second row.
+    last: Option<&'m [u8]>,
 }
 
-/// Gives the rows of a message, in order, at most 131,070. The second row of a record, if there is one, comes right
-/// after the first.
-///
-/// # Errors
-///
-/// If an allocation of the taker fails. The rows before have then been taken.
-#[inline(always)]
-pub fn give_rows<T: TakesRows>(
-    message: &Message<'_>,
-    taker: &T,
-    taken: &mut T::Taken,
-) -> Result<(), AllocError>
-    requires { CanTake (T.has_taken taker.now) 131070 taken.old }
-    ensures taken { OnOk result (Takes (T.has_taken taker.now) (rows_of message.now.sets) taken.old taken.new) }
-    ensures few { length (rows_of message.now.sets) ≤ 131070 }
+impl<'m> Model for Rows<'m> {
+    ghost use Rattle.std.specs.Prelude.{◌≡◌, ◌++◌, [], List, MatchOption, None, option_map, unwrap_or};
+    ghost use Rattle.std.specs.Slice.Iter.{iter_rest};
+    ghost use Rattle.flow_rows.specs.Counts.{rows_of};
+    ghost use Rattle.flow_rows.specs.Elements.{RowView};
+    ghost use Rattle.flow_rows.specs.Walk.{HaveRows, rows_left};
+
+    ghost Value = { List RowView };
+
+    ghost view = { λ a. unwrap_or (option_map (λ set. rows_left set a.last) a.set) []
+        ++ rows_of (iter_rest a.sets) };
+
+    ghost invariant = { λ a. MatchOption a.set (a.last ≡ None) (λ set. HaveRows set a.last) };
+}
+
+/// Returns the rows of a message, at most 131,070.
+pub fn rows_of<'m>(message: &'m Message<'m>) -> Rows<'m>
+    ensures rows { result ≡ rows_of message.now.sets }
+    ensures few { length result ≤ 131070 }
 {
-    for set in message.sets().as_slice() {
-        if let Set::Values(_, records) = set {
-            give_rows_of_records(records, taker, taken)?;
+    Rows {
+        sets: message.sets().as_slice().iter(),
+        set: None,
+        last: None,
+    }
+}
+
+impl<'m> Iterator for Rows<'m> {
+    type Item = Row<'m>;
+
+    ghost next_gives = { YieldsFirst (λ rows. rows) };
+
+    ghost remaining = { item_count (λ rows. rows) };
+
+    #[inline(always)]
+    fn next(&mut self) -> Option<Row<'m>> {
+        loop {
+            if let Some(set) = &mut self.set {
+                if let Some(row) = set.next_row(&mut self.last) {
+                    return Some(row);
+                }
+            }
+            self.set = SetRows::of_set(self.sets.next()?);
         }
     }
-    Ok(())
 }

@@ -26,7 +26,7 @@ use Rattle.pmap_cert.specs.FormatReading.{format_reading}
 use Rattle.pmap_text.specs.Reading.{list_reading}
 use Rattle.flowlabel.specs.declared.run.labels.LabelsRead.{LabelsRead}
 use Rattle.flowlabel.specs.declared.run.labels.LabelsRead.TheVariants as read
-use Rattle.flowlabel.specs.Reports.{AreLabels, AreLabelsOf, IsMade, IsReadOf, IsWhole, LabelsMade, Makes, ReadsLabels, ReportsThen, TakesFile, TakesMessages, labelling_found, labelling_read}
+use Rattle.flowlabel.specs.Reports.{AreLabels, AreLabelsOf, IsMade, IsReadOf, IsReadOut, IsWhole, LabelsMade, Makes, ReadsLabels, ReadsMessages, ReportsThen, labelling_found, labelling_read}
 use Rattle.flowlabel.specs.declared.command.LabelFile.{LabelFile}
 use Rattle.flowlabel.specs.declared.command.LabelFile.TheVariants.{Map, List as Prefixes}
 use Rattle.flowlabel.specs.Request.{Command, FromList, FromMap, LabelSource, Text, role_in, source_by, source_with, with_texts}
@@ -390,32 +390,33 @@ module _ {R : Type 0} (input : R → InputView) {old mid : ByFile (Option (Sourc
   pub flows_read : ReadsInput (view_of input mid.flows) (view_of input flows) (λ _. ⊤) → AreReadOn input old (with_at role.Flows flows mid)
   flows_read more = read_more input had.read (one_read input role.Flows flows mid (with_at role.Flows flows mid) refl more)
 
-  pub report_done : {T : Type 0} (is_of : List MessageView → T → Type 0) (taken : T) (out : Vec ℕ)
-      → TakesFile is_of (view_of input mid.flows) (view_of input flows) taken (Ok tt) → (view_of input flows).failed ≡ false
-      → ((messages : List MessageView) → is_of messages taken → out.items ≡ text (labelling_read found) messages)
-      → IsMade input (ReportsOver text named) old (with_at role.Flows flows mid) (Ok out)
-  report_done is_of taken out (bytes, returns, (messages, is, end, whole)) works says = record {
-    made = (
-      λ texts given.
-          over texts bytes (Ok out.items) given (text_is (view_of input flows) texts.flows bytes (all_read fresh returns) end (given role.Flows))
-          (rw whole (ap Ok (says messages is))),
-      works_then ∙ works,
-    );
-    read = flows_read (bytes, returns, tt);
-  }
+  pub report_done : (messages : List MessageView) (out : Vec ℕ) → IsReadOut (view_of input mid.flows) (view_of input flows) (Ok messages)
+      → out.items ≡ text (labelling_read found) messages → IsMade input (ReportsOver text named) old (with_at role.Flows flows mid) (Ok out)
+  report_done messages out is says =
+      let (bytes, returns, (end, whole)) = is.read in
+      record {
+        made = (
+          λ texts given.
+              over texts bytes (Ok out.items) given (text_is (view_of input flows) texts.flows bytes (all_read fresh returns) end (given role.Flows))
+              (rw whole (ap Ok says)),
+          works_then ∙ is.works,
+        );
+        read = flows_read (bytes, returns, tt);
+      }
 
-  report_stopped : {T : Type 0} (is_of : List MessageView → T → Type 0) (taken : T) (fault : OutputFault) (bytes : List ℕ)
-      → Gives (view_of input mid.flows) (view_of input flows) bytes → TakesMessages is_of taken (has_ended (view_of input flows)) (Err fault) bytes
-      → (view_of input flows).failed ≡ is_unread {A = Unit {0}} (Err fault) → IsFaultOf input (ReportsOver text named) old (with_at role.Flows flows mid) fault
-  report_stopped is_of taken NoMemory bytes returns is works = works_then ∙ works
-  report_stopped is_of taken (Unread other) bytes returns (named_flows, stop, stops) works =
+  report_stopped : (fault : OutputFault) (bytes : List ℕ)
+      → Gives (view_of input mid.flows) (view_of input flows) bytes → ReadsMessages (has_ended (view_of input flows)) (Err fault) bytes
+      → (view_of input flows).failed ≡ is_unread {A = List MessageView} (Err fault)
+      → IsFaultOf input (ReportsOver text named) old (with_at role.Flows flows mid) fault
+  report_stopped NoMemory bytes returns is works = works_then ∙ works
+  report_stopped (Unread other) bytes returns (named_flows, stop, stops) works =
       subst (λ (p : Role). IsFaultOf input (ReportsOver text named) old (with_at role.Flows flows mid) (Unread p)) (sym named_flows) (
         works,
         λ later behind. absurd (none_after_flows later behind),
         λ texts given fault is. flows_last text (option_map (source_with texts) named) (labelling_read found) texts.flows fault (reads_then texts given) is,
         λ is. (stop, subst (λ (l : List ℕ). StopsReading l stop) (sym (all_read fresh returns)) stops),
       )
-  report_stopped is_of taken (Faulty (InFlows fault)) bytes returns has works = (
+  report_stopped (Faulty (InFlows fault)) bytes returns has works = (
     λ texts given.
         let (rest, follows, all) = given role.Flows in
         over texts (bytes ++ rest) (Err (InFlows fault)) given (all ∙ ap (λ (l : List ℕ). l ++ rest) (all_read fresh returns))
@@ -423,21 +424,19 @@ module _ {R : Type 0} (input : R → InputView) {old mid : ByFile (Option (Sourc
     λ later behind. absurd (none_after_flows later behind),
     works_then ∙ works,
   )
-  report_stopped is_of taken (Faulty fault) bytes returns is works = absurd is
+  report_stopped (Faulty fault) bytes returns is works = absurd is
 
-  pub report_fault : {T : Type 0} (is_of : List MessageView → T → Type 0) (taken : T) (fault : OutputFault) (result : Result (Vec ℕ) OutputFault)
-      → IsErrAnd result (λ other. other ≡ fault) → TakesFile is_of (view_of input mid.flows) (view_of input flows) taken (Err fault)
-      → (view_of input flows).failed ≡ is_unread {A = Unit {0}} (Err fault) → IsMade input (ReportsOver text named) old (with_at role.Flows flows mid) result
-  report_fault is_of taken fault result same (bytes, returns, is) works =
+  pub report_fault : (fault : OutputFault) (result : Result (Vec ℕ) OutputFault) → IsErrAnd result (λ other. other ≡ fault)
+      → IsReadOut (view_of input mid.flows) (view_of input flows) (Err fault) → IsMade input (ReportsOver text named) old (with_at role.Flows flows mid) result
+  report_fault fault result same is =
+      let (bytes, returns, stops) = is.read in
       handed_on (IsMade input (ReportsOver text named) old (with_at role.Flows flows mid)) result fault same
-      (record { made = report_stopped is_of taken fault bytes returns is works; read = flows_read (bytes, returns, tt) })
+      (record { made = report_stopped fault bytes returns stops is.works; read = flows_read (bytes, returns, tt) })
 
   -- no more memory after the flows
-  pub report_memory : {T : Type 0} (is_of : List MessageView → T → Type 0) (taken : T) (Is : ByFile Text → Outcome → Type 0) (result : Result (Vec ℕ) OutputFault)
-      → IsErrAnd result (λ fault. fault ≡ NoMemory) → TakesFile is_of (view_of input mid.flows) (view_of input flows) taken (Ok tt) → (view_of input flows).failed ≡ false
-      → IsMade input Is old (with_at role.Flows flows mid) result
-  report_memory is_of taken Is result same (bytes, gives, _) works =
-      memory_made input Is old (with_at role.Flows flows mid) result same (works_then ∙ works) (flows_read (bytes, gives, tt))
+  pub report_memory : (messages : List MessageView) (result : Result (Vec ℕ) OutputFault) → IsErrAnd result (λ fault. fault ≡ NoMemory)
+      → IsReadOut (view_of input mid.flows) (view_of input flows) (Ok messages) → IsMade input (ReportsOver text named) old (with_at role.Flows flows mid) result
+  report_memory messages result same is = report_fault NoMemory result same (record { read = (is.read.0, is.read.1, tt); works = is.works })
 
 -- an index that is borrowed has the labelling of the index
 pub found_is : (lent : Option (Bor StretchModel)) (owned : Option StretchModel) (labels : Option Labelling)

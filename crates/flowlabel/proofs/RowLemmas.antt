@@ -1,11 +1,15 @@
 -- The lines of rows, one by one.
-use Rattle.std.proofs.Common.{◌≡◌, ◌∙◌, Bool, true, false, cond, List, [], ◌∷◌, ◌++◌, Option, Some, None, is_some, length-append, map, refl, subst, sym, ap, arith}
+use Rattle.std.proofs.Common.{append_assoc, ◌≡◌, ◌∙◌, Bool, true, false, cond, List, [], ◌∷◌, ◌++◌, Option, Some, None, is_some, map, refl, subst, sym, ap}
 use Rattle.std.specs.Prelude.{option_map}
 use Rattle.std.specs.Borrow.{Bor}
-use Rattle.std.specs.List.{zip}
+use Rattle.std.specs.List.{flat_map, zip}
+use Rattle.std.proofs.lemmas.Grind.{flat_map-append}
 use Rattle.std.proofs.lemmas.List.{append-nil, map-append}
 use Rattle.std.proofs.lemmas.List.Elements.{filter-append}
-use Rattle.flow_rows.specs.Elements.{RowView}
+use Rattle.ipfix_read.specs.Message.{MessageView}
+use Rattle.ipfix_read.specs.declared.set.Set.{Set}
+use Rattle.flow_rows.specs.Counts.{records_in, records_of, rows_of, rows_of_messages, sets_of}
+use Rattle.flow_rows.specs.Elements.{RowView, rows_of_record}
 use Rattle.flow_filter.specs.Condition.{Condition, passing, row_passes}
 use Rattle.pmap_print.specs.declared.row_labels.RowLabels.{RowLabels}
 use Rattle.flow_uniq.specs.Groups.{GroupsModel, groups_of}
@@ -49,6 +53,36 @@ pub is_some-found : (labels : Option (Bor StretchModel)) → is_some labels ≡ 
 is_some-found None = refl
 is_some-found (Some l) = refl
 
+-- the rows of messages, with one more message
+pub rows_more : (messages : List MessageView) (m : MessageView) → rows_of_messages messages ++ rows_of m.sets ≡ rows_of_messages (messages ++ m ∷ [])
+rows_more messages m =
+    sym (ap rows_of (flat_map-append (λ (message : MessageView). message.sets) messages (m ∷ []) ∙ ap (λ (sets : List Set). sets_of messages ++ sets) (append-nil m.sets))
+    ∙ ap (flat_map rows_of_record) (flat_map-append records_in (sets_of messages) m.sets)
+    ∙ flat_map-append rows_of_record (records_of (sets_of messages)) (records_of m.sets))
+
+-- A state has some of the rows of a list more than the state before, and these are left. `has` is what has rows, for
+-- each parameter.
+pub record AreAdded {K T : Type 0} (has : K → List RowView → T → Type 0) (all left : List RowView) (before now : T) : Type 0 where
+  pub added : List RowView
+  pub all_are : added ++ left ≡ all
+  pub more : (k : K) (rows : List RowView) → has k rows before → has k (rows ++ added) now
+
+module _ {K T : Type 0} (has : K → List RowView → T → Type 0) where
+  pub one_added : (all left left' : List RowView) (row : RowView) (before now then : T) → left ≡ row ∷ left' → AreAdded has all left before now
+      → ((k : K) (rows : List RowView) → has k rows now → has k (rows ++ row ∷ []) then) → AreAdded has all left' before then
+  one_added all left left' row before now then step had next = record {
+    added = had.added ++ row ∷ [];
+    all_are = append_assoc had.added (row ∷ []) left' ∙ ap (λ (rest : List RowView). had.added ++ rest) (sym step) ∙ had.all_are;
+    more = λ k rows is.
+        subst (λ (rs : List RowView). has k rs then) (append_assoc rows had.added (row ∷ [])) (next k (rows ++ had.added) (had.more k rows is));
+  }
+
+  pub all_added : (all left : List RowView) (before now : T) → left ≡ [] → AreAdded has all left before now
+      → (k : K) (rows : List RowView) → has k rows before → has k (rows ++ all) now
+  all_added all left before now none had k rows is =
+      subst (λ (rs : List RowView). has k (rows ++ rs) now)
+      (sym (append-nil had.added) ∙ ap (λ (rest : List RowView). had.added ++ rest) (sym none) ∙ had.all_are) (had.more k rows is)
+
 -- the rows that pass, with one more row
 passing_one : (condition : Condition) (labels : Option Labelling) (rows : List RowView) (row : RowView)
     → passing condition labels (rows ++ row ∷ []) ≡ passing condition labels rows ++ passing condition labels (row ∷ [])
@@ -81,6 +115,5 @@ pub failing_in_group : (keys : List KeyField) (condition : Condition) (labels : 
     → HasGroups keys condition labels (rows ++ row ∷ []) had
 failing_in_group keys condition labels rows row had has failed = record {
   fields = has.fields;
-  count = omega (arith, has.count, length-append rows (row ∷ []));
   groups = has.groups ∙ ap (groups_of keys (label_where labels)) (sym (without_failing condition labels rows row failed));
 }

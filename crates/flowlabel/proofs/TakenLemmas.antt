@@ -1,78 +1,94 @@
--- What a report takes of the messages of a File, call by call.
-use Rattle.std.proofs.Common.{◌≡◌, ◌<◌, ◌≤◌, ◌+◌, ◌⊎◌, inl, inr, ℕ, List, [], ◌∷◌, ◌++◌, Bool, Some, None, Result, Ok, Err, true, false, length, sym, ap, subst, arith}
-use Rattle.std.specs.Result.{IsErrAnd}
+-- The messages of a File, call by call.
+use Rattle.std.proofs.Common.{◌≡◌, ◌∙◌, ◌≤◌, ◌<◌, ◌-◌, ◌+◌, ◌⊎◌, inl, inr, ℕ, List, [], ◌∷◌, ◌++◌, Bool, Option, Some, None, Result, Ok, Err, true, false, length, length-append, sym, ap, subst, arith}
+use Rattle.std.specs.Prelude.{OnSome}
 use Rattle.flow_io.specs.Devices.{InputView, MayFollow, ReadsInput, has_ended}
+use Rattle.flow_io.proofs.Moving.{gives_none}
 use Rattle.ipfix_templates.specs.InForce.{no_templates}
 use Rattle.ipfix_read.specs.Fault.{is_of_calls, is_of_reader, out_of_memory}
-use Rattle.ipfix_read.specs.Messages.{AnswersNext, IsReadTo, ProgressView, StopsAfter, StopsReading, file_reading}
+use Rattle.ipfix_read.specs.Messages.{AnswersNext, IsAt, ProgressView, StopsAfter, StopsReading, file_reading}
 use Rattle.ipfix_read.specs.Laws.{CallsJoinFile}
+use Rattle.ipfix_read.specs.declared.progress.State.TheVariants.{Going}
 use Rattle.ipfix_read.specs.Message.{MessageView}
 use Rattle.ipfix_read.specs.declared.fault.ReadFault.{ReadFault}
-use Rattle.ipfix_read.specs.declared.fault.ReadFaultKind.{ReadFaultKind}
-use Rattle.ipfix_read.specs.declared.fault.ReadFaultKind.TheVariants.{ReadFault as Stopped}
+use Rattle.ipfix_read.proofs.Joining.{calls_start}
+use Rattle.ipfix_read.proofs.Readings.{not_of_reader}
 use Rattle.flowlabel.specs.declared.bytes_fault.BytesFault.TheVariants.{Flows as InFlows}
 use Rattle.flowlabel.specs.BytesFault.{is_out_of_memory}
 use Rattle.flowlabel.specs.Output.{Faulty, NoMemory, OutputFault, Unread}
-use Rattle.flowlabel.proofs.MadeLemmas.{handed_on}
-use Rattle.flowlabel.specs.Reports.{IsFaultOfCall, TakesFile, TakesMessages}
-
-not_of_reader : (kind : ReadFaultKind) → is_of_calls kind ≡ false → is_of_reader kind ≡ true → ⊥
-not_of_reader Stopped calls reader = cc
-not_of_reader kind calls reader = cc
+use Rattle.flowlabel.specs.Reports.{AreReadSoFar, IsFaultOfCall, IsReadOut, ReadsMessages, ReadsNext}
+use Rattle.flowlabel.specs.Run.{is_unread}
 
 -- a fault of a reader that stopped is one of a reader
 stopped : (size : ℕ) (reading : Result (List MessageView) ReadFault) (stop : ReadFault) → StopsAfter size reading stop → is_of_reader stop.kind ≡ true
 stopped size (Ok messages) stop is = ap (λ (f : ReadFault). is_of_reader f.kind) is
 stopped size (Err fault) stop is = ap (λ (f : ReadFault). is_of_reader f.kind) is.1
 
--- the state of a report is that after the messages that are read so far
-module _ {T : Type 0} (is_of : List MessageView → T → Type 0) where
-  abbrev pub Held : InputView → InputView → ProgressView → T → Type 0
-  Held start now p taken = (messages : List MessageView) × is_of messages taken × IsReadTo no_templates 0 0 start messages p now
+-- a fault of the bytes read so far
+fault_read : (ended : Bool) (fault : ReadFault) (made : OutputFault) (bytes : List ℕ) → IsFaultOfCall fault made
+    → (fault ≡ out_of_memory) ⊎ (StopsReading bytes fault
+    ⊎ ((is_of_calls fault.kind ≡ false) × ((rest : List ℕ) → MayFollow ended rest → file_reading (bytes ++ rest) ≡ Err fault)))
+    → ReadsMessages ended (Err made) bytes
+fault_read ended fault NoMemory bytes is joined = tt
+fault_read ended fault (Unread other) bytes (named, reader) (inl memory) =
+    let works : is_of_reader fault.kind ≡ false = not_of_reader fault.kind (ap (λ (f : ReadFault). is_of_calls f.kind) memory) in cc
+fault_read ended fault (Unread other) bytes (named, reader) (inr (inl stops)) = (named, fault, stops)
+fault_read ended fault (Unread other) bytes (named, reader) (inr (inr (calls, has))) =
+    let works : is_of_reader fault.kind ≡ false = not_of_reader fault.kind calls in cc
+fault_read ended fault (Faulty made) bytes (works, is) (inl memory) =
+    let wrong : is_out_of_memory (InFlows fault) ≡ true = ap (λ (f : ReadFault). is_out_of_memory (InFlows f)) memory in
+    let other : is_out_of_memory (InFlows fault) ≡ false = is.1 in cc
+fault_read ended fault (Faulty made) bytes (works, is) (inr (inl stops)) =
+    let wrong : is_of_reader fault.kind ≡ true = stopped (0 + length bytes) (file_reading bytes) fault stops in cc
+fault_read ended fault (Faulty made) bytes (works, is) (inr (inr (calls, has))) =
+    subst (λ m. ReadsMessages ended (Err (Faulty m)) bytes) (sym is.0) has
 
-  -- a fault of the bytes read so far
-  fault_taken : (ended : Bool) (taken : T) (fault : ReadFault) (made : OutputFault) (bytes : List ℕ) → IsFaultOfCall fault made
-      → (fault ≡ out_of_memory) ⊎ (StopsReading bytes fault
-      ⊎ ((is_of_calls fault.kind ≡ false) × ((rest : List ℕ) → MayFollow ended rest → file_reading (bytes ++ rest) ≡ Err fault)))
-      → TakesMessages is_of taken ended (Err made) bytes
-  fault_taken ended taken fault NoMemory bytes is joined = tt
-  fault_taken ended taken fault (Unread other) bytes (named, reader) (inl memory) =
-      absurd (not_of_reader fault.kind (ap (λ (f : ReadFault). is_of_calls f.kind) memory) reader)
-  fault_taken ended taken fault (Unread other) bytes (named, reader) (inr (inl stops)) = (named, fault, stops)
-  fault_taken ended taken fault (Unread other) bytes (named, reader) (inr (inr (calls, has))) = absurd (not_of_reader fault.kind calls reader)
-  fault_taken ended taken fault (Faulty made) bytes (works, is) (inl memory) =
-      let wrong : is_out_of_memory (InFlows fault) ≡ true = ap (λ (f : ReadFault). is_out_of_memory (InFlows f)) memory in
-      let other : is_out_of_memory (InFlows fault) ≡ false = is.1 in cc
-  fault_taken ended taken fault (Faulty made) bytes (works, is) (inr (inl stops)) =
-      let wrong : is_of_reader fault.kind ≡ true = stopped _ (file_reading bytes) fault stops in cc
-  fault_taken ended taken fault (Faulty made) bytes (works, is) (inr (inr (calls, has))) =
-      subst (λ m. TakesMessages is_of taken ended (Err (Faulty m)) bytes) (sym is.0) has
+of_reader : (fault : ReadFault) (made : OutputFault) → IsFaultOfCall fault made → is_of_reader fault.kind ≡ is_unread {A = List MessageView} (Err made)
+of_reader fault NoMemory is = is.0
+of_reader fault (Unread other) is = is.1
+of_reader fault (Faulty made) is = is.0
 
-  -- the result of the next call, joined to what is read so far
-  module _ (joins : CallsJoinFile) (start now new : InputView) (p p' : ProgressView) (taken : T) (held : Held start now p taken) where
-    pub held_more : (m : MessageView) (taken' : T) → ReadsInput now new (AnswersNext p (Ok (Some m)) p' (has_ended new))
-        → p'.count ≡ p.count + 1 → p'.count ≤ 4294967295
-        → ((messages : List MessageView) → length messages < 4294967295 → is_of messages taken → is_of (messages ++ m ∷ []) taken')
-        → Held start new p' taken'
-    held_more m taken' answers counted most next = (
-      held.0 ++ m ∷ [],
-      next held.0 (omega (arith, held.2.counted, counted, most)) held.1,
-      joins _ _ _ start now new held.0 p p' (Ok (Some m)) held.2 answers,
-    )
+-- before any call
+pub none_so_far : (input : InputView) (p : ProgressView) → IsAt no_templates 0 0 p → input.failed ≡ false → AreReadSoFar input [] p input
+none_so_far input p at works = record { read = calls_start no_templates 0 0 input p at; going = at.3; works = works }
 
-    -- an allocation failed after the next message
-    pub held_stop : (m : MessageView) (taken' : T) (result : Result (Unit {0}) OutputFault) → IsErrAnd result (λ fault. fault ≡ NoMemory)
-        → ReadsInput now new (AnswersNext p (Ok (Some m)) p' (has_ended new)) → TakesFile is_of start new taken' result
-    held_stop m taken' result none answers =
-        let read = joins _ _ _ start now new held.0 p p' (Ok (Some m)) held.2 answers in
-        handed_on (TakesFile is_of start new taken') result NoMemory none (read.taken, read.consumed, tt)
+-- an allocation failed between two calls
+pub no_memory_so_far : {start : InputView} {messages : List MessageView} {p : ProgressView} {now : InputView} → AreReadSoFar start messages p now
+    → IsReadOut start now (Err NoMemory)
+no_memory_so_far so_far = record { read = (so_far.read.taken, so_far.read.consumed, tt); works = so_far.works }
 
-    pub held_all : ReadsInput now new (AnswersNext p (Ok None) p' (has_ended new)) → TakesFile is_of start new taken (Ok tt)
-    held_all answers =
-        let (bytes, gives, (end, whole)) = joins _ _ _ start now new held.0 p p' (Ok None) held.2 answers in (bytes, gives, (held.0, held.1, end, whole))
+-- an allocation failed before any call
+pub no_memory : (input : InputView) → input.failed ≡ false → IsReadOut input input (Err NoMemory)
+no_memory input works = record { read = ([], gives_none input, tt); works = works }
 
-    pub held_fault : (fault : ReadFault) (made : OutputFault) → IsFaultOfCall fault made → ReadsInput now new (AnswersNext p (Err fault) p' (has_ended new))
-        → TakesFile is_of start new taken (Err made)
-    held_fault fault made is answers =
-        let (bytes, gives, joined) = joins _ _ _ start now new held.0 p p' (Err fault) held.2 answers in
-        (bytes, gives, fault_taken (has_ended new) taken fault made bytes is joined)
+-- The messages so far are read, and this is built from them.
+pub record AreReadInto {T : Type 0} (is_of : List MessageView → T → Type 0) (start : InputView) (p : ProgressView) (now : InputView) (made : T) : Type 0 where
+  pub messages : List MessageView
+  pub so_far : AreReadSoFar start messages p now
+  pub is : is_of messages made
+
+-- fewer messages are left
+pub fewer_left : (start : InputView) (messages : List MessageView) (m : MessageView) (p p' : ProgressView) (now then : InputView)
+    → AreReadSoFar start messages p now → ReadsNext start messages (Ok (Some m)) p' then → 4294967295 - p'.count < 4294967295 - p.count
+fewer_left start messages m p p' now then so_far next =
+    omega (arith, so_far.read.counted, next.0.read.counted, next.1, length-append messages (m ∷ []))
+
+-- the result of the next call, joined to the messages before it
+module _ (joins : CallsJoinFile) (start : InputView) (messages : List MessageView) (p p' : ProgressView) (now then : InputView)
+    (so_far : AreReadSoFar start messages p now) where
+  pub at_end : ReadsInput now then (AnswersNext p (Ok None) p' (has_ended then)) → then.failed ≡ false → IsReadOut start then (Ok messages)
+  at_end answers works = record { read = joins _ _ _ start now then messages p p' (Ok None) so_far.read answers; works = works }
+
+  pub next_read : (result : Option MessageView) → ReadsInput now then (AnswersNext p (Ok result) p' (has_ended then))
+      → OnSome result ((p'.count ≡ p.count + 1) × (p'.count ≤ 4294967295) × (p'.state ≡ Going)) → then.failed ≡ false
+      → ReadsNext start messages (Ok result) p' then
+  next_read None answers counted works = at_end answers works
+  next_read (Some m) answers (counted, most, going) works = (
+    record { read = joins _ _ _ start now then messages p p' (Ok (Some m)) so_far.read answers; going = going; works = works },
+    omega (arith, so_far.read.counted, counted, most),
+  )
+
+  pub with_fault : (fault : ReadFault) (made : OutputFault) → IsFaultOfCall fault made → ReadsInput now then (AnswersNext p (Err fault) p' (has_ended then))
+      → then.failed ≡ is_of_reader fault.kind → IsReadOut start then (Err made)
+  with_fault fault made is answers device =
+      let (bytes, gives, joined) = joins _ _ _ start now then messages p p' (Err fault) so_far.read answers in
+      record { read = (bytes, gives, fault_read (has_ended then) fault made bytes is joined); works = device ∙ of_reader fault made is }

@@ -1,4 +1,4 @@
-use Rattle.std.specs.Prelude.{◌≡◌, ⊤, ◌≤◌, ◌*◌, ◌++◌, List, ℕ, Bool, Option, Some, None, is_some, Result, Ok, Err, false, true, length, option_map}
+use Rattle.std.specs.Prelude.{◌≡◌, ⊤, ◌<◌, ◌++◌, ◌∷◌, [], List, ℕ, Bool, Option, Some, None, is_some, Result, Ok, Err, false, true, length, option_map}
 use Rattle.std.specs.Borrow.{Bor}
 use Rattle.std.specs.Global.{Vec}
 use Rattle.flow_io.specs.Devices.{InputView, MayFollow, ReadsInput, has_ended}
@@ -9,13 +9,14 @@ use Rattle.pmap_text.specs.MapModel.{MapModel}
 use Rattle.pmap_text.specs.Reading.{map_reading, list_reading}
 use Rattle.label_lookup.specs.Labelling.{Labelling, StretchModel, label_where, labelling_of_list, labelling_of_map, labelling_of_stretches}
 use Rattle.ipfix_read.specs.Fault.{is_of_reader}
-use Rattle.ipfix_read.specs.Messages.{StopsReading, file_reading}
+use Rattle.ipfix_templates.specs.InForce.{no_templates}
+use Rattle.ipfix_read.specs.Messages.{IsReadTo, ProgressView, StopsReading, file_reading}
+use Rattle.ipfix_read.specs.declared.progress.State.TheVariants.{Going}
 use Rattle.ipfix_read.specs.declared.fault.ReadFault.{ReadFault}
 use Rattle.ipfix_read.specs.Message.{MessageView}
-use Rattle.flow_rows.specs.Counts.{rows_of_messages}
 use Rattle.flow_rows.specs.Elements.{RowView}
 use Rattle.flow_filter.specs.Condition.{Condition, passing}
-use Rattle.flow_uniq.specs.Groups.{GroupsModel, groups_of, record_count}
+use Rattle.flow_uniq.specs.Groups.{GroupsModel, groups_of}
 use Rattle.flow_uniq.specs.declared.field.KeyField.{KeyField}
 use Rattle.pmap_print.specs.Reports.{column_count}
 use Rattle.pmap_print.specs.Table.{IsTable, has_columns}
@@ -63,17 +64,37 @@ abbrev pub IsFaultOfCall : ReadFault → OutputFault → Type 0
 IsFaultOfCall fault (Unread other) = (other ≡ roles.Flows) × (is_of_reader fault.kind ≡ true)
 IsFaultOfCall fault made = (is_of_reader fault.kind ≡ false) × IsFaultFor (InFlows fault) made
 
--- The messages of a File, given to something whose state is then `taken`: the reader returned these bytes, and may have
--- found the end.
-abbrev pub TakesMessages : {T : Type 0} → (List MessageView → T → Type 0) → T → Bool → Result (Unit {0}) OutputFault → List ℕ → Type 0
-TakesMessages is_of taken ended (Ok done) bytes = (messages : List MessageView) × is_of messages taken × (ended ≡ true) × (file_reading bytes ≡ Ok messages)
-TakesMessages is_of taken ended (Err NoMemory) bytes = ⊤
-TakesMessages is_of taken ended (Err (Unread other)) bytes = (other ≡ roles.Flows) × (stop : ReadFault) × StopsReading bytes stop
-TakesMessages is_of taken ended (Err (Faulty (InFlows fault))) bytes = (rest : List ℕ) → MayFollow ended rest → file_reading (bytes ++ rest) ≡ Err fault
-TakesMessages is_of taken ended (Err (Faulty fault)) bytes = ⊥
+-- The messages of a File, as far as they are read.
 
-abbrev pub TakesFile : {T : Type 0} → (List MessageView → T → Type 0) → InputView → InputView → T → Result (Unit {0}) OutputFault → Type 0
-TakesFile is_of old new taken result = ReadsInput old new (TakesMessages is_of taken (has_ended new) result)
+-- the input has returned these messages, whose number the state has, and there may be more
+pub record AreReadSoFar (start : InputView) (messages : List MessageView) (p : ProgressView) (now : InputView) : Type 0 where
+  pub read : IsReadTo no_templates 0 0 start messages p now
+  pub going : p.state ≡ Going
+  pub works : now.failed ≡ false
+
+-- the input returned these bytes, and may have ended: they are the messages, or they have a fault or no more are read
+abbrev pub ReadsMessages : Bool → Result (List MessageView) OutputFault → List ℕ → Type 0
+ReadsMessages ended (Ok messages) bytes = (ended ≡ true) × (file_reading bytes ≡ Ok messages)
+ReadsMessages ended (Err NoMemory) bytes = ⊤
+ReadsMessages ended (Err (Unread other)) bytes = (other ≡ roles.Flows) × (stop : ReadFault) × StopsReading bytes stop
+ReadsMessages ended (Err (Faulty (InFlows fault))) bytes = (rest : List ℕ) → MayFollow ended rest → file_reading (bytes ++ rest) ≡ Err fault
+ReadsMessages ended (Err (Faulty fault)) bytes = ⊥
+
+-- all messages were read, or there is a fault
+pub record IsReadOut (start now : InputView) (result : Result (List MessageView) OutputFault) : Type 0 where
+  pub read : ReadsInput start now (ReadsMessages (has_ended now) result)
+  pub works : now.failed ≡ is_unread result
+
+-- the result of a call for the message after these, and the state after the call
+abbrev pub ReadsNext : InputView → List MessageView → Result (Option MessageView) OutputFault → ProgressView → InputView → Type 0
+ReadsNext start messages (Ok (Some m)) p now = AreReadSoFar start (messages ++ m ∷ []) p now × (length messages < 4294967295)
+ReadsNext start messages (Ok None) p now = IsReadOut start now (Ok messages)
+ReadsNext start messages (Err fault) p now = IsReadOut start now (Err fault)
+
+-- all messages were read, and this is built from them, or there is a fault
+abbrev pub ReadsInto : {T : Type 0} → (List MessageView → T → Type 0) → InputView → InputView → Result T OutputFault → Type 0
+ReadsInto is_of start now (Ok made) = (messages : List MessageView) × IsReadOut start now (Ok messages) × is_of messages made
+ReadsInto is_of start now (Err fault) = IsReadOut start now (Err fault)
 
 -- a file was read whole, or it stopped as its reader or an allocation failed
 abbrev pub IsWhole : Role → Bool → Result (Vec ℕ) OutputFault → List ℕ → Type 0
@@ -111,18 +132,12 @@ module _ {R : Type 0} (input : R → InputView) where
   AreLabels labels old new (Err fault) = (text : Option Labelling → List MessageView → List ℕ)
       → IsMade (λ texts. ReportsThen text (option_map (source_with texts) labels) texts.flows) old new (Err fault)
 
--- The state of a report after the rows that it has taken.
+-- Groups and tables of the rows that meet a condition.
 
 pub record HasGroups (keys : List KeyField) (condition : Condition) (labels : Option Labelling) (rows : List RowView) (had : GroupsModel) : Type 0 where
   pub fields : had.fields ≡ keys
-  pub count : record_count had.groups ≤ length rows
   pub groups : had.groups ≡ groups_of keys (label_where labels) (passing condition labels rows)
 
 pub record HasRows (condition : Condition) (columns : Bool) (labels : Option Labelling) (rows : List RowView) (table : Table) : Type 0 where
   pub padded : has_columns table ≡ columns
   pub lines : IsTable (column_count (is_some labels)) (labelled_row_lines labels (passing condition labels rows)) table
-
--- the state is that after the rows of these messages
-pub record IsAfter {T : Type 0} (has_taken : List RowView → T → Type 0) (messages : List MessageView) (taken : T) : Type 0 where
-  pub few : length (rows_of_messages messages) ≤ 131070 * length messages
-  pub rows : has_taken (rows_of_messages messages) taken

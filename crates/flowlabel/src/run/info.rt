@@ -1,35 +1,37 @@
 //! The output of `info`.
 ghost use Rattle.std.specs.Prelude.{◌≡◌, false};
+ghost use Rattle.flow_rows.specs.Counts.{counts_of, numbers_of};
 ghost use Rattle.flowlabel.specs.Output.{IsOutput};
-ghost use Rattle.flowlabel.specs.Reports.{IsMade};
+ghost use Rattle.flowlabel.specs.Reports.{IsMade, ReadsInto};
 ghost use Rattle.flowlabel.specs.Request.{info};
-ghost use Rattle.flowlabel.specs.Run.{AreUnread, any_failed};
+ghost use Rattle.flowlabel.specs.Run.{AreUnread, any_failed, view_of};
 
 use crate::by_file::ByFile;
 use crate::inputs::Source;
 use crate::output_fault::OutputFault;
-use crate::run::report::{Report, take_messages};
+use crate::run::messages::next_message;
 use flow_io::Input;
 use flow_rows::Counts;
-use ipfix_read::Message;
+use ipfix_read::{Buffer, Progress};
 use pmap_print::print_info;
-use std::alloc::{AllocError, Global};
+use std::alloc::Global;
 
-#[derive(Clone, Copy)]
-struct InfoReport;
-
-impl Report for InfoReport {
-    ghost use Rattle.std.specs.Prelude.{◌≡◌};
-    ghost use Rattle.flow_rows.specs.Counts.{counts_of, numbers_of};
-
-    type Taken = Counts;
-
-    ghost is_of = { λ report messages counts. numbers_of counts ≡ counts_of messages };
-
-    fn take(&self, counts: &mut Counts, message: &Message<'_>) -> Result<(), AllocError> {
-        counts.add(message);
-        Ok(())
+// Returns the counts of the messages of a File.
+fn counts_of<R: Input>(
+    alloc: Global,
+    flows: &mut Option<Source<'_, R>>,
+) -> Result<Counts, OutputFault>
+    requires { (view_of R.input flows.old).failed ≡ false }
+    ensures { ReadsInto (λ messages counts. numbers_of counts ≡ counts_of messages)
+        (view_of R.input flows.old) (view_of R.input flows.new) result }
+{
+    let mut counts = Counts::new();
+    let mut buffer = Buffer::new(alloc)?;
+    let mut progress = Progress::new(alloc);
+    while let Some(message) = next_message(flows, &mut progress, &mut buffer)? {
+        counts.add(&message);
     }
+    Ok(counts)
 }
 
 /// Returns the counts of the messages of a File and of what they have.
@@ -41,7 +43,6 @@ pub fn output<R: Input>(
     requires works { any_failed R.input files.old ≡ false }
     ensures { IsMade R.input (λ texts. IsOutput (info texts.flows)) files.old files.new result }
 {
-    let mut counts = Counts::new();
-    take_messages(alloc, &mut files.flows, &InfoReport, &mut counts)?;
+    let counts = counts_of(alloc, &mut files.flows)?;
     Ok(print_info(alloc, &counts)?)
 }

@@ -1,47 +1,27 @@
 //! The output of `rows`.
-ghost use Rattle.std.specs.Prelude.{◌≡◌, false, option_map};
+ghost use Rattle.std.specs.Prelude.{◌≡◌, ◌++◌, ◌∷◌, [], Bool, List, OnOk, false, option_map};
+ghost use Rattle.flow_rows.specs.Counts.{rows_of, rows_of_messages};
+ghost use Rattle.flow_rows.specs.Elements.{RowView};
 ghost use Rattle.pmap_print.specs.Reports.{label_texts};
 ghost use Rattle.flowlabel.specs.Output.{IsOutput, row_labels};
-ghost use Rattle.flowlabel.specs.Reports.{IsMade, labelling_found};
+ghost use Rattle.flowlabel.specs.Reports.{HasRows, IsMade, ReadsInto, labelling_found};
 ghost use Rattle.flowlabel.specs.Request.{rows, source_with};
-ghost use Rattle.flowlabel.specs.Run.{AreUnread, any_failed};
+ghost use Rattle.flowlabel.specs.Run.{AreUnread, any_failed, view_of};
 
 use crate::by_file::ByFile;
 use crate::command::LabelFile;
 use crate::inputs::Source;
 use crate::output_fault::OutputFault;
 use crate::run::labels::LabelsRead;
-use crate::run::report::take_messages;
+use crate::run::messages::next_message;
 use flow_filter::Filter;
 use flow_io::Input;
-use flow_rows::{Row, TakesRows};
+use flow_rows::{Row, rows_of};
+use ipfix_read::{Buffer, Message, Progress};
 use label_lookup::{StretchIndex, label_row};
 use pmap_print::{RowLabels, Table};
 use pmap_text::KeyHashing;
 use std::alloc::{AllocError, Global};
-
-#[derive(Clone, Copy)]
-struct RowsReport<'a> {
-    filter: &'a Filter<'a>,
-    columns: bool,
-    labels: Option<&'a StretchIndex<'a>>,
-}
-
-impl<'a> TakesRows for RowsReport<'a> {
-    ghost use Rattle.flowlabel.specs.Reports.{HasRows, labelling_found};
-
-    type Taken = Table;
-
-    ghost has_taken = { λ report. HasRows report.filter.now report.columns (labelling_found report.labels) };
-
-    #[tactic(auto, using(crate::proofs::RowLemmas::failing_row))]
-    fn take_row(&self, table: &mut Table, row: &Row<'_>) -> Result<(), AllocError> {
-        if !self.filter.passes(row, self.labels) {
-            return Ok(());
-        }
-        table.add_row(row, labels_under(self.labels, row))
-    }
-}
 
 fn labels_under<'l>(labels: Option<&'l StretchIndex<'_>>, row: &Row<'_>) -> Option<RowLabels<'l>>
     ensures { option_map label_texts result
@@ -52,6 +32,69 @@ fn labels_under<'l>(labels: Option<&'l StretchIndex<'_>>, row: &Row<'_>) -> Opti
         src: label_row(labels, row.src()),
         dst: label_row(labels, row.dst()),
     })
+}
+
+// Adds a row to a table if the row passes a filter.
+#[inline(always)]
+#[tactic(auto, using(crate::proofs::RowLemmas::failing_row))]
+fn add_row(
+    row: &Row<'_>,
+    filter: &Filter<'_>,
+    labels: Option<&StretchIndex<'_>>,
+    table: &mut Table,
+) -> Result<(), AllocError>
+    requires { (columns : Bool) × (rows : List RowView)
+        × HasRows filter.now columns (labelling_found labels) rows table.old }
+    ensures { OnOk result ((columns : Bool) (rows : List RowView)
+        → HasRows filter.now columns (labelling_found labels.entry) rows table.old
+        → HasRows filter.now columns (labelling_found labels.entry) (rows ++ row.now ∷ []) table.new) }
+{
+    if !filter.passes(row, labels) {
+        return Ok(());
+    }
+    table.add_row(row, labels_under(labels, row))
+}
+
+// Adds the rows of a message that pass a filter to a table.
+#[inline(always)]
+fn add_rows(
+    message: &Message<'_>,
+    filter: &Filter<'_>,
+    labels: Option<&StretchIndex<'_>>,
+    table: &mut Table,
+) -> Result<(), AllocError>
+    requires { (columns : Bool) × (rows : List RowView)
+        × HasRows filter.now columns (labelling_found labels) rows table.old }
+    ensures { OnOk result ((columns : Bool) (rows : List RowView)
+        → HasRows filter.now columns (labelling_found labels.entry) rows table.old
+        → HasRows filter.now columns (labelling_found labels.entry) (rows ++ rows_of message.now.sets) table.new) }
+{
+    for row in rows_of(message) {
+        add_row(&row, filter, labels, table)?;
+    }
+    Ok(())
+}
+
+// Returns the table of the rows of a File that pass a filter.
+fn table_of<R: Input>(
+    alloc: Global,
+    flows: &mut Option<Source<'_, R>>,
+    filter: &Filter<'_>,
+    labels: Option<&StretchIndex<'_>>,
+    columns: bool,
+) -> Result<Table, OutputFault>
+    requires { (view_of R.input flows.old).failed ≡ false }
+    ensures { ReadsInto
+        (λ messages. HasRows filter.now columns (labelling_found labels.entry) (rows_of_messages messages))
+        (view_of R.input flows.old) (view_of R.input flows.new) result }
+{
+    let mut table = Table::of_rows(alloc, labels.is_some(), columns)?;
+    let mut buffer = Buffer::new(alloc)?;
+    let mut progress = Progress::new(alloc);
+    while let Some(message) = next_message(flows, &mut progress, &mut buffer)? {
+        add_rows(&message, filter, labels, &mut table)?;
+    }
+    Ok(table)
 }
 
 /// Returns the rows of a File that pass a filter, with labels if there is a map or a list, and padded to columns if
@@ -72,13 +115,6 @@ pub fn output<R: Input>(
 {
     let read = LabelsRead::of_files(alloc, labels, files, hashing)?;
     let index = read.index(alloc)?;
-    let labels = index.as_ref();
-    let mut table = Table::of_rows(alloc, labels.is_some(), columns)?;
-    let report = RowsReport {
-        filter,
-        columns,
-        labels,
-    };
-    take_messages(alloc, &mut files.flows, &report, &mut table)?;
+    let table = table_of(alloc, &mut files.flows, filter, index.as_ref(), columns)?;
     Ok(table.into_text()?)
 }

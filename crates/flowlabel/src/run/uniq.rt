@@ -1,20 +1,25 @@
 //! The output of `uniq`.
-ghost use Rattle.std.specs.Prelude.{◌≡◌, false, option_map};
+ghost use Rattle.std.specs.Prelude.{◌≡◌, ◌≤◌, ◌<◌, ◌^◌, ◌+◌, ◌-◌, ◌++◌, ◌∷◌, [], List, OnOk, false, option_map};
+ghost use Rattle.flow_rows.specs.Counts.{rows_of, rows_of_messages};
+ghost use Rattle.flow_rows.specs.Elements.{RowView};
+ghost use Rattle.flow_uniq.specs.Groups.{record_count};
+ghost use Rattle.flow_uniq.specs.declared.field.KeyField.{KeyField};
 ghost use Rattle.flowlabel.specs.Output.{IsOutput};
-ghost use Rattle.flowlabel.specs.Reports.{IsMade};
+ghost use Rattle.flowlabel.specs.Reports.{HasGroups, IsMade, ReadsInto, labelling_found};
 ghost use Rattle.flowlabel.specs.Request.{source_with, uniq};
-ghost use Rattle.flowlabel.specs.Run.{AreUnread, any_failed};
+ghost use Rattle.flowlabel.specs.Run.{AreUnread, any_failed, view_of};
 
 use crate::by_file::ByFile;
 use crate::command::LabelFile;
 use crate::inputs::Source;
 use crate::output_fault::OutputFault;
 use crate::run::labels::LabelsRead;
-use crate::run::report::take_messages;
+use crate::run::messages::next_message;
 use flow_filter::Filter;
 use flow_io::Input;
-use flow_rows::{Row, TakesRows};
+use flow_rows::{Row, rows_of};
 use flow_uniq::{Groups, Keys};
+use ipfix_read::{Buffer, Message, Progress};
 use label_lookup::StretchIndex;
 use pmap_print::print_groups;
 use pmap_text::KeyHashing;
@@ -33,30 +38,71 @@ pub struct Grouping<'a> {
     pub columns: bool,
 }
 
-#[derive(Clone, Copy)]
-struct UniqReport<'a> {
-    keys: &'a Keys,
-    filter: &'a Filter<'a>,
-    labels: Option<&'a StretchIndex<'a>>,
-}
-
-impl<'a> TakesRows for UniqReport<'a> {
-    ghost use Rattle.flowlabel.specs.Reports.{HasGroups, labelling_found};
-
-    type Taken = Groups;
-
-    ghost has_taken = { λ report. HasGroups report.keys.now report.filter.now (labelling_found report.labels) };
-
-    #[tactic(auto, using(crate::proofs::RowLemmas::failing_in_group))]
-    fn take_row(&self, groups: &mut Groups, row: &Row<'_>) -> Result<(), AllocError> {
-        if !self.filter.passes(row, self.labels) {
-            return Ok(());
-        }
-        groups.add(row, self.labels)
+// Adds a row to groups if the row passes a filter.
+#[inline(always)]
+#[tactic(auto, using(crate::proofs::RowLemmas::failing_in_group))]
+fn add_row(
+    row: &Row<'_>,
+    filter: &Filter<'_>,
+    labels: Option<&StretchIndex<'_>>,
+    groups: &mut Groups,
+) -> Result<(), AllocError>
+    requires { record_count groups.old.groups < 2 ^ 64 - 1 }
+    ensures count { OnOk result (record_count groups.new.groups ≤ record_count groups.old.groups + 1) }
+    ensures row { OnOk result ((keys : List KeyField) (rows : List RowView)
+        → HasGroups keys filter.now (labelling_found labels.entry) rows groups.old
+        → HasGroups keys filter.now (labelling_found labels.entry) (rows ++ row.now ∷ []) groups.new) }
+{
+    if !filter.passes(row, labels) {
+        return Ok(());
     }
+    groups.add(row, labels)
 }
 
-/// Returns the groups of the rows of a File that pass a filter.
+// Adds the rows of a message that pass a filter to groups.
+#[inline(always)]
+fn add_rows(
+    message: &Message<'_>,
+    filter: &Filter<'_>,
+    labels: Option<&StretchIndex<'_>>,
+    groups: &mut Groups,
+) -> Result<(), AllocError>
+    requires { record_count groups.old.groups + 131070 < 2 ^ 64 }
+    ensures count { OnOk result (record_count groups.new.groups ≤ record_count groups.old.groups + 131070) }
+    ensures rows { OnOk result ((keys : List KeyField) (rows : List RowView)
+        → HasGroups keys filter.now (labelling_found labels.entry) rows groups.old
+        → HasGroups keys filter.now (labelling_found labels.entry) (rows ++ rows_of message.now.sets) groups.new) }
+{
+    for row in rows_of(message) {
+        add_row(&row, filter, labels, groups)?;
+    }
+    Ok(())
+}
+
+// Returns the groups of the rows of a File that pass a filter.
+fn groups_of<R: Input>(
+    alloc: Global,
+    flows: &mut Option<Source<'_, R>>,
+    grouping: Grouping<'_>,
+    labels: Option<&StretchIndex<'_>>,
+    hashing: KeyHashing,
+) -> Result<Groups, OutputFault>
+    requires { (view_of R.input flows.old).failed ≡ false }
+    ensures { ReadsInto
+        (λ messages. HasGroups grouping.entry.keys.now grouping.entry.filter.now (labelling_found labels.entry)
+        (rows_of_messages messages))
+        (view_of R.input flows.old) (view_of R.input flows.new) result }
+{
+    let mut groups = Groups::with_hashing(alloc, grouping.keys, hashing)?;
+    let mut buffer = Buffer::new(alloc)?;
+    let mut progress = Progress::new(alloc);
+    while let Some(message) = next_message(flows, &mut progress, &mut buffer)? {
+        add_rows(&message, grouping.filter, labels, &mut groups)?;
+    }
+    Ok(groups)
+}
+
+/// Returns the groups of the rows of a File that pass a filter, as a text.
 pub fn output<R: Input>(
     alloc: Global,
     labels: Option<LabelFile<'_>>,
@@ -73,13 +119,6 @@ pub fn output<R: Input>(
 {
     let read = LabelsRead::of_files(alloc, labels, files, hashing)?;
     let index = read.index(alloc)?;
-    let labels = index.as_ref();
-    let mut groups = Groups::with_hashing(alloc, grouping.keys, hashing)?;
-    let report = UniqReport {
-        keys: grouping.keys,
-        filter: grouping.filter,
-        labels,
-    };
-    take_messages(alloc, &mut files.flows, &report, &mut groups)?;
+    let groups = groups_of(alloc, &mut files.flows, grouping, index.as_ref(), hashing)?;
     Ok(print_groups(alloc, &groups, grouping.sorted, grouping.columns)?)
 }

@@ -1,5 +1,5 @@
 use Rattle.std.proofs.Common.{◌∙◌, Bool, length, cond, sym, ap}
-use Rattle.flow_rows.proofs.Rows.{of_kind_counted}
+use Rattle.flow_rows.proofs.LayoutRows.{of_kind_counted}
 use Rattle.flow_rows.proofs.counting.of_kind.Goals as goal
 
 pub returns-then-is : goal.returns-then-is

@@ -1,7 +1,7 @@
 use Rattle.std.proofs.Common.{◌∙◌, ap, arith, is_some, sym}
 use Rattle.std.specs.Prelude.{count_by}
 use Rattle.flow_rows.specs.Elements.{second_row}
-use Rattle.flow_rows.proofs.Rows.{all_rows, no_flows, no_layout, none_back}
+use Rattle.flow_rows.proofs.LayoutRows.{all_rows, no_flows, no_layout, none_back}
 use Rattle.flow_rows.proofs.counting.row_count.Goals as goal
 
 pub returns-in_default-clause-value : goal.returns-in_default-clause-value

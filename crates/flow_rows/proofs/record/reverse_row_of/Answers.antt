@@ -1,5 +1,5 @@
 use Rattle.std.proofs.Common.{◌∙◌, refl, rules}
-use Rattle.flow_rows.proofs.Rows.{reverse_found, row_missing, usable}
+use Rattle.flow_rows.proofs.LayoutRows.{reverse_found, row_missing, usable}
 use Rattle.flow_rows.proofs.record.reverse_row_of.Goals as goal
 
 pub returns-in_err-layout : goal.returns-in_err-layout

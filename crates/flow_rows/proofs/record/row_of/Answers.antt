@@ -1,6 +1,6 @@
 use Rattle.std.proofs.Common.{◌∙◌, Some, ap, refl, rules}
 use Rattle.flow_rows.specs.Elements.{RowView}
-use Rattle.flow_rows.proofs.Rows.{row_found, row_missing, usable}
+use Rattle.flow_rows.proofs.LayoutRows.{row_found, row_missing, usable}
 use Rattle.flow_rows.proofs.record.row_of.Goals as goal
 
 pub returns-in_err-layout : goal.returns-in_err-layout

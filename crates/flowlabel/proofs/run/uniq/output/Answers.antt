@@ -1,12 +1,11 @@
-use Rattle.std.proofs.Common.{◌≡◌, ◌∙◌, Option, ap, arith}
+use Rattle.std.proofs.Common.{◌≡◌, ◌∙◌, Option, ap}
 use Rattle.std.specs.Prelude.{option_map}
-use Rattle.flow_filter.specs.Condition.{Condition}
-use Rattle.flow_uniq.specs.Groups.{record_count, shown_groups}
+use Rattle.flow_uniq.specs.Groups.{shown_groups}
 use Rattle.label_lookup.specs.Labelling.{Labelling}
 use Rattle.pmap_print.specs.Reports.{groups_text}
 use Rattle.flowlabel.specs.Output.{IsOutput}
 use Rattle.flowlabel.proofs.Outcomes.{report_of_groups}
-use Rattle.flowlabel.specs.Reports.{HasGroups, IsAfter, IsMade, labelling_found, labelling_read}
+use Rattle.flowlabel.specs.Reports.{IsMade, labelling_found, labelling_read}
 use Rattle.flowlabel.specs.Request.{source_with, uniq}
 use Rattle.flowlabel.proofs.MadeLemmas.{found_is, handed_on, report_done, report_fault, report_memory}
 use Rattle.flowlabel.proofs.run.uniq.output.Goals as goal
@@ -17,41 +16,22 @@ returns-in_err-read g c =
     c.from_residual.result c.in_err-read.field-0.0 c.from_residual.ensures.1
     (c.in_err-read.ensures (report_of_groups c.args.grouping.keys.now c.args.grouping.filter.now c.args.grouping.sorted c.args.grouping.columns))
 
-pub take_messages-requires-clause-none : goal.take_messages-requires-clause-none
-take_messages-requires-clause-none g c =
-    let none = c.in_ok-groups.ensures in
-    let zero : record_count c.in_ok-groups.groups.groups ≡ 0 = ap record_count none.groups in
-    record {
-      few = omega arith;
-      rows = record {
-        fields = none.fields;
-        count = omega (arith, zero);
-        groups = none.groups;
-      };
-    }
-
-pub returns-in_err-take_messages : goal.returns-in_err-take_messages
-returns-in_err-take_messages g c =
-    report_fault g.R.Input.input (report_of_groups c.args.grouping.keys.now c.args.grouping.filter.now c.args.grouping.sorted c.args.grouping.columns) c.in_ok-read.ensures c.requires.unread c.take_messages.new.flows
-    (IsAfter (HasGroups c.args.grouping.keys.now c.args.grouping.filter.now (labelling_found c.as_ref-labels.result))) c.take_messages.new.taken
-    c.in_err-take_messages.field-0.0 c.from_residual-in_err-take_messages.result c.from_residual-in_err-take_messages.ensures.1
-    c.in_err-take_messages.ensures.taken c.in_err-take_messages.ensures.failed
+pub returns-in_err-groups : goal.returns-in_err-groups
+returns-in_err-groups g c =
+    report_fault g.R.Input.input (report_of_groups c.args.grouping.keys.now c.args.grouping.filter.now c.args.grouping.sorted c.args.grouping.columns) c.in_ok-read.ensures c.requires.unread c.groups_of.new.flows
+    c.in_err-groups.field-0.0 c.from_residual-in_err-groups.result c.from_residual-in_err-groups.ensures.1 c.in_err-groups.ensures
 
 pub returns-in_err-print_groups : goal.returns-in_err-print_groups
 returns-in_err-print_groups g c =
-    report_memory g.R.Input.input (report_of_groups c.args.grouping.keys.now c.args.grouping.filter.now c.args.grouping.sorted c.args.grouping.columns) c.in_ok-read.ensures c.requires.unread c.take_messages.new.flows
-    (IsAfter (HasGroups c.args.grouping.keys.now c.args.grouping.filter.now (labelling_found c.as_ref-labels.result))) c.take_messages.new.taken
-    (λ texts. IsOutput (uniq c.args.grouping.keys.now (option_map (source_with texts) c.args.labels) c.args.grouping.filter.now c.args.grouping.sorted c.args.grouping.columns texts.flows))
-    c.from_residual-in_err-print_groups.result c.from_residual-in_err-print_groups.ensures.1 c.in_ok-take_messages.ensures.taken c.in_ok-take_messages.ensures.failed
+    report_memory g.R.Input.input (report_of_groups c.args.grouping.keys.now c.args.grouping.filter.now c.args.grouping.sorted c.args.grouping.columns) c.in_ok-read.ensures c.requires.unread c.groups_of.new.flows
+    c.in_ok-groups.ensures.0 c.from_residual-in_err-print_groups.result c.from_residual-in_err-print_groups.ensures.1 c.in_ok-groups.ensures.1
 
 pub returns : goal.returns
 returns g c =
-    let condition : Condition = c.args.grouping.filter.now in
     let labels : Option Labelling = labelling_read c.in_ok-read.read in
-    let found : Option Labelling = labelling_found c.as_ref-labels.result in
-    let is : found ≡ labels = found_is c.as_ref-labels.result c.in_ok-index.index labels c.as_ref-labels.ensures.value c.in_ok-index.ensures in
-    report_done g.R.Input.input (report_of_groups c.args.grouping.keys.now c.args.grouping.filter.now c.args.grouping.sorted c.args.grouping.columns) c.in_ok-read.ensures c.requires.unread c.take_messages.new.flows
-    (IsAfter (HasGroups c.args.grouping.keys.now c.args.grouping.filter.now (labelling_found c.as_ref-labels.result))) c.take_messages.new.taken c.in_ok-print_groups.field-0
-    c.in_ok-take_messages.ensures.taken c.in_ok-take_messages.ensures.failed
-    (λ messages has. c.in_ok-print_groups.ensures ∙ (λ j. groups_text (has.rows.fields j) (shown_groups c.args.grouping.sorted (has.rows.groups j)) c.args.grouping.columns)
-    ∙ ap (λ (l : Option Labelling). report_of_groups c.args.grouping.keys.now condition c.args.grouping.sorted c.args.grouping.columns l messages) is)
+    let found : Option Labelling = labelling_found c.as_ref.result in
+    let is : found ≡ labels = found_is c.as_ref.result c.in_ok-index.index labels c.as_ref.ensures.value c.in_ok-index.ensures in
+    let (messages, read, has) = c.in_ok-groups.ensures in
+    report_done g.R.Input.input (report_of_groups c.args.grouping.keys.now c.args.grouping.filter.now c.args.grouping.sorted c.args.grouping.columns) c.in_ok-read.ensures c.requires.unread c.groups_of.new.flows messages c.in_ok-print_groups.field-0 read
+    (c.in_ok-print_groups.ensures ∙ (λ j. groups_text (has.fields j) (shown_groups c.args.grouping.sorted (has.groups j)) c.args.grouping.columns)
+    ∙ ap (λ (l : Option Labelling). report_of_groups c.args.grouping.keys.now c.args.grouping.filter.now c.args.grouping.sorted c.args.grouping.columns l messages) is)

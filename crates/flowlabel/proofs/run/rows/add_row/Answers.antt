@@ -7,13 +7,13 @@ use Rattle.pmap_print.specs.Table.{IsTable, Line}
 use Rattle.flowlabel.specs.Output.{labelled_row_lines}
 use Rattle.flowlabel.specs.Reports.{labelling_found}
 use Rattle.flowlabel.proofs.RowLemmas.{lines_more, same_labelled, with_passing}
-use Rattle.flowlabel.proofs.run.rows.RowsReportTakesRows.take_row.Goals as goal
+use Rattle.flowlabel.proofs.run.rows.add_row.Goals as goal
 
 pub add_row-requires : goal.add_row-requires
 add_row-requires c =
-    let labels : Option Labelling = labelling_found c.args.self.now.labels in
-    let (rows, few, has) = c.requires in
-    let lines : List Line = labelled_row_lines labels (passing c.args.self.now.filter.now labels rows) in (
+    let labels : Option Labelling = labelling_found c.args.labels in
+    let (columns, rows, has) = c.requires in
+    let lines : List Line = labelled_row_lines labels (passing c.args.filter.now labels rows) in (
       lines,
       subst (λ (b : Bool). IsTable (column_count b) lines c.args.table.now)
           (sym (same_labelled labels c.labels_under.result c.args.row.now c.labels_under.ensures)) has.lines,
@@ -21,11 +21,11 @@ add_row-requires c =
 
 pub returns : goal.returns
 returns c =
-    let labels : Option Labelling = labelling_found c.args.self.now.labels in
-    let condition : Condition = c.args.self.now.filter.now in
+    let labels : Option Labelling = labelling_found c.args.labels in
+    let condition : Condition = c.args.filter.now in
     let passed : row_passes condition (label_where labels) c.args.row.now ≡ true = search rules in
     let same = same_labelled labels c.labels_under.result c.args.row.now c.labels_under.ensures in
-    IfOk-weaker c.add_row.result _ _ (λ done line. λ rows few has.
+    IfOk-weaker c.add_row.result _ _ (λ done line. λ columns rows has.
     let lines : List Line = labelled_row_lines labels (passing condition labels rows) in
     let added : Line = row_line c.args.row.now (option_map label_texts c.labels_under.result) in
     record {
