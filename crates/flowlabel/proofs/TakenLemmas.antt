@@ -1,6 +1,7 @@
 -- The messages of a File, call by call.
 use Rattle.std.proofs.Common.{◌≡◌, ◌∙◌, ◌≤◌, ◌<◌, ◌-◌, ◌+◌, ◌⊎◌, inl, inr, ℕ, List, [], ◌∷◌, ◌++◌, Bool, Option, Some, None, Result, Ok, Err, true, false, length, length-append, sym, ap, subst, arith}
 use Rattle.std.specs.Prelude.{OnSome}
+use Rattle.std.specs.Result.{IsErrAnd}
 use Rattle.flow_io.specs.Devices.{InputView, MayFollow, ReadsInput, has_ended}
 use Rattle.flow_io.proofs.Moving.{gives_none}
 use Rattle.ipfix_templates.specs.InForce.{no_templates}
@@ -15,8 +16,9 @@ use Rattle.ipfix_read.proofs.Readings.{not_of_reader}
 use Rattle.flowlabel.specs.declared.bytes_fault.BytesFault.TheVariants.{Flows as InFlows}
 use Rattle.flowlabel.specs.BytesFault.{is_out_of_memory}
 use Rattle.flowlabel.specs.Output.{Faulty, NoMemory, OutputFault, Unread}
-use Rattle.flowlabel.specs.Reports.{AreReadSoFar, IsFaultOfCall, IsReadOut, ReadsMessages, ReadsNext}
+use Rattle.flowlabel.specs.Reports.{AreReadSoFar, IsFaultOfCall, IsReadOut, ReadsInto, ReadsMessages, ReadsNext}
 use Rattle.flowlabel.specs.Run.{is_unread}
+use Rattle.flowlabel.proofs.MadeLemmas.{handed_on}
 
 -- a fault of a reader that stopped is one of a reader
 stopped : (size : ℕ) (reading : Result (List MessageView) ReadFault) (stop : ReadFault) → StopsAfter size reading stop → is_of_reader stop.kind ≡ true
@@ -51,26 +53,43 @@ of_reader fault (Faulty made) is = is.0
 pub none_so_far : (input : InputView) (p : ProgressView) → IsAt no_templates 0 0 p → input.failed ≡ false → AreReadSoFar input [] p input
 none_so_far input p at works = record { read = calls_start no_templates 0 0 input p at; going = at.3; works = works }
 
--- an allocation failed between two calls
-pub no_memory_so_far : {start : InputView} {messages : List MessageView} {p : ProgressView} {now : InputView} → AreReadSoFar start messages p now
-    → IsReadOut start now (Err NoMemory)
-no_memory_so_far so_far = record { read = (so_far.read.taken, so_far.read.consumed, tt); works = so_far.works }
-
 -- an allocation failed before any call
-pub no_memory : (input : InputView) → input.failed ≡ false → IsReadOut input input (Err NoMemory)
-no_memory input works = record { read = ([], gives_none input, tt); works = works }
+pub no_memory : {T : Type 0} (is_of : List MessageView → T → Type 0) (input : InputView) (result : Result T OutputFault) → input.failed ≡ false
+    → IsErrAnd result (λ fault. fault ≡ NoMemory) → ReadsInto is_of input input result
+no_memory is_of input result works same =
+    handed_on (ReadsInto is_of input input) result NoMemory same (record { read = ([], gives_none input, tt); works = works })
 
 -- The messages so far are read, and this is built from them.
-pub record AreReadInto {T : Type 0} (is_of : List MessageView → T → Type 0) (start : InputView) (p : ProgressView) (now : InputView) (made : T) : Type 0 where
+pub record AreReadInto {T : Type 0} (is_of : List MessageView → T → Type 0) (start : InputView) (p : ProgressView) (now : InputView) (built : T) : Type 0 where
   pub messages : List MessageView
   pub so_far : AreReadSoFar start messages p now
-  pub is : is_of messages made
+  pub is : is_of messages built
 
--- fewer messages are left
-pub fewer_left : (start : InputView) (messages : List MessageView) (m : MessageView) (p p' : ProgressView) (now then : InputView)
-    → AreReadSoFar start messages p now → ReadsNext start messages (Ok (Some m)) p' then → 4294967295 - p'.count < 4294967295 - p.count
-fewer_left start messages m p p' now then so_far next =
-    omega (arith, so_far.read.counted, next.0.read.counted, next.1, length-append messages (m ∷ []))
+module _ {T : Type 0} {is_of : List MessageView → T → Type 0} {start : InputView} {p : ProgressView} {now : InputView} {built : T}
+    (had : AreReadInto is_of start p now built) where
+  -- the next call has a fault
+  pub fault_next : (then : InputView) (fault : OutputFault) (result : Result T OutputFault) → IsErrAnd result (λ other. other ≡ fault)
+      → IsReadOut start then (Err fault) → ReadsInto is_of start then result
+  fault_next then fault result same is = handed_on (ReadsInto is_of start then) result fault same is
+
+  -- the next call returns a message
+  module _ (m : MessageView) (p' : ProgressView) (then : InputView) (next : ReadsNext start had.messages (Ok (Some m)) p' then) where
+    pub one_counted : (p'.count ≡ p.count + 1) × (p.count < 4294967295)
+    one_counted = (
+      omega (arith, had.so_far.read.counted, next.0.read.counted, length-append had.messages (m ∷ [])),
+      omega (arith, had.so_far.read.counted, next.1),
+    )
+
+    pub fewer_left : 4294967295 - p'.count < 4294967295 - p.count
+    fewer_left = omega (arith, one_counted.0, one_counted.1)
+
+    pub one_more : (built' : T) → is_of (had.messages ++ m ∷ []) built' → AreReadInto is_of start p' then built'
+    one_more built' is = record { messages = had.messages ++ m ∷ []; so_far = next.0; is = is }
+
+    -- an allocation failed after it
+    pub no_memory_then : (result : Result T OutputFault) → IsErrAnd result (λ fault. fault ≡ NoMemory) → ReadsInto is_of start then result
+    no_memory_then result same =
+        fault_next then NoMemory result same (record { read = (next.0.read.taken, next.0.read.consumed, tt); works = next.0.works })
 
 -- the result of the next call, joined to the messages before it
 module _ (joins : CallsJoinFile) (start : InputView) (messages : List MessageView) (p p' : ProgressView) (now then : InputView)

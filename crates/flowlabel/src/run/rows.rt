@@ -1,5 +1,5 @@
 //! The output of `rows`.
-ghost use Rattle.std.specs.Prelude.{◌≡◌, ◌++◌, ◌∷◌, [], Bool, List, OnOk, false, option_map};
+ghost use Rattle.std.specs.Prelude.{◌≡◌, ◌++◌, Bool, List, OnOk, false, option_map};
 ghost use Rattle.flow_rows.specs.Counts.{rows_of, rows_of_messages};
 ghost use Rattle.flow_rows.specs.Elements.{RowView};
 ghost use Rattle.pmap_print.specs.Reports.{label_texts};
@@ -34,27 +34,6 @@ fn labels_under<'l>(labels: Option<&'l StretchIndex<'_>>, row: &Row<'_>) -> Opti
     })
 }
 
-// Adds a row to a table if the row passes a filter.
-#[inline(always)]
-#[tactic(auto, using(crate::proofs::RowLemmas::failing_row))]
-fn add_row(
-    row: &Row<'_>,
-    filter: &Filter<'_>,
-    labels: Option<&StretchIndex<'_>>,
-    table: &mut Table,
-) -> Result<(), AllocError>
-    requires { (columns : Bool) × (rows : List RowView)
-        × HasRows filter.now columns (labelling_found labels) rows table.old }
-    ensures { OnOk result ((columns : Bool) (rows : List RowView)
-        → HasRows filter.now columns (labelling_found labels.entry) rows table.old
-        → HasRows filter.now columns (labelling_found labels.entry) (rows ++ row.now ∷ []) table.new) }
-{
-    if !filter.passes(row, labels) {
-        return Ok(());
-    }
-    table.add_row(row, labels_under(labels, row))
-}
-
 // Adds the rows of a message that pass a filter to a table.
 #[inline(always)]
 fn add_rows(
@@ -70,7 +49,9 @@ fn add_rows(
         → HasRows filter.now columns (labelling_found labels.entry) (rows ++ rows_of message.now.sets) table.new) }
 {
     for row in rows_of(message) {
-        add_row(&row, filter, labels, table)?;
+        if filter.passes(&row, labels) {
+            table.add_row(&row, labels_under(labels, &row))?;
+        }
     }
     Ok(())
 }

@@ -1,5 +1,5 @@
 //! The output of `uniq`.
-ghost use Rattle.std.specs.Prelude.{◌≡◌, ◌≤◌, ◌<◌, ◌^◌, ◌+◌, ◌-◌, ◌++◌, ◌∷◌, [], List, OnOk, false, option_map};
+ghost use Rattle.std.specs.Prelude.{◌≡◌, ◌≤◌, ◌<◌, ◌^◌, ◌+◌, ◌++◌, List, OnOk, false, option_map};
 ghost use Rattle.flow_rows.specs.Counts.{rows_of, rows_of_messages};
 ghost use Rattle.flow_rows.specs.Elements.{RowView};
 ghost use Rattle.flow_uniq.specs.Groups.{record_count};
@@ -38,27 +38,6 @@ pub struct Grouping<'a> {
     pub columns: bool,
 }
 
-// Adds a row to groups if the row passes a filter.
-#[inline(always)]
-#[tactic(auto, using(crate::proofs::RowLemmas::failing_in_group))]
-fn add_row(
-    row: &Row<'_>,
-    filter: &Filter<'_>,
-    labels: Option<&StretchIndex<'_>>,
-    groups: &mut Groups,
-) -> Result<(), AllocError>
-    requires { record_count groups.old.groups < 2 ^ 64 - 1 }
-    ensures count { OnOk result (record_count groups.new.groups ≤ record_count groups.old.groups + 1) }
-    ensures row { OnOk result ((keys : List KeyField) (rows : List RowView)
-        → HasGroups keys filter.now (labelling_found labels.entry) rows groups.old
-        → HasGroups keys filter.now (labelling_found labels.entry) (rows ++ row.now ∷ []) groups.new) }
-{
-    if !filter.passes(row, labels) {
-        return Ok(());
-    }
-    groups.add(row, labels)
-}
-
 // Adds the rows of a message that pass a filter to groups.
 #[inline(always)]
 fn add_rows(
@@ -74,7 +53,9 @@ fn add_rows(
         → HasGroups keys filter.now (labelling_found labels.entry) (rows ++ rows_of message.now.sets) groups.new) }
 {
     for row in rows_of(message) {
-        add_row(&row, filter, labels, groups)?;
+        if filter.passes(&row, labels) {
+            groups.add(&row, labels)?;
+        }
     }
     Ok(())
 }

@@ -1,22 +1,19 @@
-use Rattle.std.proofs.Common.{◌∙◌, ◌++◌, ◌∷◌, Bool, List, [], Ok, Option, Some, is_some, subst}
-use Rattle.flow_io.specs.Devices.{InputView}
+use Rattle.std.proofs.Common.{◌∙◌, ◌∷◌, Bool, List, [], Option, is_some, subst}
 use Rattle.flow_rows.specs.Counts.{rows_of_messages}
 use Rattle.flow_rows.specs.Elements.{RowView}
 use Rattle.label_lookup.specs.Labelling.{Labelling}
 use Rattle.pmap_print.specs.Reports.{column_count, title_line}
 use Rattle.pmap_print.specs.Table.{IsTable, Line}
-use Rattle.flowlabel.specs.Reports.{HasRows, ReadsInto, ReadsNext, labelling_found}
+use Rattle.flowlabel.specs.Reports.{HasRows, labelling_found}
 use Rattle.flowlabel.specs.Run.{view_of}
-use Rattle.flowlabel.proofs.MadeLemmas.{handed_on}
 use Rattle.flowlabel.proofs.RowLemmas.{is_some-found, no_rows, rows_more}
-use Rattle.flowlabel.proofs.TakenLemmas.{fewer_left, no_memory, no_memory_so_far, none_so_far}
+use Rattle.flowlabel.proofs.TakenLemmas.{fault_next, fewer_left, no_memory, no_memory_then, none_so_far, one_more}
 use Rattle.flowlabel.proofs.run.rows.table_of.Goals as goal
 
 pub returns-in_err-buffer : goal.returns-in_err-buffer
 returns-in_err-buffer g c =
-    let start : InputView = view_of g.R.Input.input c.args.flows.now in
-    handed_on (ReadsInto (λ messages. HasRows c.args.filter.now c.args.columns (labelling_found c.args.labels) (rows_of_messages messages)) start start)
-    c.from_residual-in_err-buffer.result _ c.from_residual-in_err-buffer.ensures.1 (no_memory start c.requires)
+    no_memory (λ messages. HasRows c.args.filter.now c.args.columns (labelling_found c.args.labels) (rows_of_messages messages))
+    (view_of g.R.Input.input c.args.flows.now) c.from_residual-in_err-buffer.result c.requires c.from_residual-in_err-buffer.ensures.1
 
 pub loop-progress-init : goal.loop-progress-init
 loop-progress-init g c =
@@ -35,45 +32,29 @@ loop-progress-init g c =
 
 pub returns-in_err-message : goal.returns-in_err-message
 returns-in_err-message g c =
-    let start : InputView = view_of g.R.Input.input c.args.flows.now in
-    let had = c.loop-progress.invariant in
-    handed_on (ReadsInto (λ messages. HasRows c.args.filter.now c.args.columns (labelling_found c.args.labels) (rows_of_messages messages)) start
-    (view_of g.R.Input.input c.next_message.new.flows))
-    c.from_residual-in_err-message.result c.in_err-message.field-0.0 c.from_residual-in_err-message.ensures.1
-    (c.in_err-message.ensures start had.messages had.so_far)
+    fault_next c.loop-progress.invariant (view_of g.R.Input.input c.next_message.new.flows) c.in_err-message.field-0.0 c.from_residual-in_err-message.result
+    c.from_residual-in_err-message.ensures.1 (c.in_err-message.ensures _ _ c.loop-progress.invariant.so_far)
 
 pub returns-in_err-add_rows : goal.returns-in_err-add_rows
 returns-in_err-add_rows g c =
-    let start : InputView = view_of g.R.Input.input c.args.flows.now in
-    let had = c.loop-progress.invariant in
-    let next : ReadsNext start had.messages (Ok (Some c.in-Some.message)) c.next_message.new.progress (view_of g.R.Input.input c.next_message.new.flows) =
-    rw c.in-Some.is at (c.in_ok-message.ensures start had.messages had.so_far) in
-    handed_on (ReadsInto (λ messages. HasRows c.args.filter.now c.args.columns (labelling_found c.args.labels) (rows_of_messages messages)) start
-    (view_of g.R.Input.input c.next_message.new.flows))
-    c.from_residual-in_err-add_rows.result _ c.from_residual-in_err-add_rows.ensures.1 (no_memory_so_far next.0)
+    no_memory_then c.loop-progress.invariant c.in-Some.message c.next_message.new.progress (view_of g.R.Input.input c.next_message.new.flows)
+    (rw c.in-Some.is at (c.in_ok-message.ensures _ _ c.loop-progress.invariant.so_far))
+    c.from_residual-in_err-add_rows.result c.from_residual-in_err-add_rows.ensures.1
 
 pub loop-progress-smaller : goal.loop-progress-smaller
 loop-progress-smaller g c =
-    let start : InputView = view_of g.R.Input.input c.args.flows.now in
-    let had = c.loop-progress.invariant in
-    fewer_left start had.messages c.in-Some.message c.loop-progress.progress c.next_message.new.progress (view_of g.R.Input.input c.loop-progress.flows)
-    (view_of g.R.Input.input c.next_message.new.flows) had.so_far (rw c.in-Some.is at (c.in_ok-message.ensures start had.messages had.so_far))
+    fewer_left c.loop-progress.invariant c.in-Some.message c.next_message.new.progress (view_of g.R.Input.input c.next_message.new.flows)
+    (rw c.in-Some.is at (c.in_ok-message.ensures _ _ c.loop-progress.invariant.so_far))
 
 pub loop-progress-preserved : goal.loop-progress-preserved
 loop-progress-preserved g c =
-    let start : InputView = view_of g.R.Input.input c.args.flows.now in
     let had = c.loop-progress.invariant in
-    let next : ReadsNext start had.messages (Ok (Some c.in-Some.message)) c.next_message.new.progress (view_of g.R.Input.input c.next_message.new.flows) =
-    rw c.in-Some.is at (c.in_ok-message.ensures start had.messages had.so_far) in
-    record {
-      messages = had.messages ++ c.in-Some.message ∷ [];
-      so_far = next.0;
-      is =
-          subst (λ (rows : List RowView). HasRows c.args.filter.now c.args.columns (labelling_found c.args.labels) rows c.add_rows.new.table)
-          (rows_more had.messages c.in-Some.message) (c.in_ok-add_rows.ensures c.args.columns (rows_of_messages had.messages) had.is);
-    }
+    one_more c.loop-progress.invariant c.in-Some.message c.next_message.new.progress (view_of g.R.Input.input c.next_message.new.flows)
+    (rw c.in-Some.is at (c.in_ok-message.ensures _ _ c.loop-progress.invariant.so_far))
+    c.add_rows.new.table
+    (subst (λ (rows : List RowView). HasRows c.args.filter.now c.args.columns (labelling_found c.args.labels) rows c.add_rows.new.table)
+    (rows_more had.messages c.in-Some.message) (c.in_ok-add_rows.ensures c.args.columns (rows_of_messages had.messages) had.is))
 
 pub returns : goal.returns
 returns g c =
-    let had = c.loop-progress.invariant in
-    (had.messages, rw c.in_default.is at (c.in_ok-message.ensures (view_of g.R.Input.input c.args.flows.now) had.messages had.so_far), had.is)
+    let had = c.loop-progress.invariant in (had.messages, rw c.in_default.is at (c.in_ok-message.ensures _ _ had.so_far), had.is)

@@ -1,5 +1,5 @@
 -- The groups are those of the rows of the messages that are read so far.
-use Rattle.std.proofs.Common.{◌≤◌, ◌*◌, ◌-◌, length}
+use Rattle.std.proofs.Common.{◌≤◌, ◌*◌, ◌-◌}
 use Rattle.flow_rows.specs.Counts.{rows_of_messages}
 use Rattle.flow_uniq.specs.Groups.{record_count}
 use Rattle.flowlabel.specs.Reports.{HasGroups, labelling_found}
@@ -8,10 +8,11 @@ use Rattle.flowlabel.proofs.TakenLemmas.{AreReadInto}
 use Rattle.flowlabel.proofs.run.uniq.groups_of.Given as goal
 
 abbrev pub invariant-loop-progress : goal.invariant-loop-progress
-invariant-loop-progress g l =
-    AreReadInto (λ messages groups. HasGroups l.grouping.keys.now l.grouping.filter.now (labelling_found l.labels) (rows_of_messages messages) groups
-    × (record_count groups.groups ≤ 131070 * length messages))
-    (view_of g.R.Input.input l.initial.flows) l.progress (view_of g.R.Input.input l.flows) l.groups
+invariant-loop-progress g l = record {
+  read : AreReadInto (λ messages. HasGroups l.grouping.keys.now l.grouping.filter.now (labelling_found l.labels) (rows_of_messages messages))
+      (view_of g.R.Input.input l.initial.flows) l.progress (view_of g.R.Input.input l.flows) l.groups;
+  few : record_count l.groups.groups ≤ 131070 * l.progress.count;
+}
 
 abbrev pub decreases-loop-progress : goal.decreases-loop-progress
 decreases-loop-progress g l = 4294967295 - l.progress.count
