@@ -1,12 +1,14 @@
 """Times jobs beside plain Rust, and prints a table: job_times.py PROGRAM PLAIN FLOWS BIFLOWS MAP..
 
 Both run in turns with the same words, five times each. The time is that of the fastest run, and the memory is the
-maximum of a run. Both must write the same bytes. The maps are ORDER-LINES.txt, including those of countries and of
-routes. Each is shrunk, certified and checked. FLOWS is reported on by itself and under the two maps. BIFLOWS, whose
-records have both directions, is reported on by itself.
+maximum of a run. Both must write the same bytes. One more run each counts page faults, and another the instructions,
+if valgrind is installed: other work of the machine changes neither. The last row has the geometric means of ratios.
+The maps are ORDER-LINES.txt, including those of countries and of routes. Each is shrunk, certified and checked. FLOWS
+is reported on by itself and under the two maps. BIFLOWS, whose records have both directions, is reported on by itself.
 """
 
 import os
+import statistics
 import sys
 
 from measure import Yardstick, print_table
@@ -56,6 +58,13 @@ def jobs_of_biflows(name):
                  for words in (("info",), ("rows",), ("uniq", "--fields", "sip")))
 
 
+def means(rows):
+    """Returns the row with the geometric mean of each column of ratios."""
+    cells = [f"{statistics.geometric_mean(map(float, column)):.2f}" if head.startswith("ratio") else ""
+             for head, *column in zip(*rows)]
+    return ["geometric mean", *cells[1:]]
+
+
 def main():
     program, plain, flows, biflows, *maps = sys.argv[1:]
     yardstick = Yardstick(program, plain)
@@ -63,14 +72,14 @@ def main():
     jobs = [job for name in maps for job in jobs_of_map(name)]
     jobs += jobs_of_flows(flows, by_order["countries"], by_order["routes"])
     jobs += jobs_of_biflows(biflows)
-    rows = [["job", "seconds", "MB", *yardstick.heads]]
+    rows = [["job", "seconds", "MB", *yardstick.heads, *yardstick.count_heads]]
     for job, words, kept in jobs:
         output = yardstick.output(words)
         if kept:
             os.replace(output, kept)
         seconds, memory, cells = yardstick.measure(words, TIMES)
-        rows.append([job, f"{seconds:.3f}", f"{memory:.1f}", *cells])
-    print_table(rows)
+        rows.append([job, f"{seconds:.3f}", f"{memory:.1f}", *cells, *yardstick.counts(words)])
+    print_table([*rows, means(rows)])
 
 
 main()

@@ -2,6 +2,8 @@
 
 import filecmp
 import os
+import re
+import shutil
 import subprocess
 import sys
 
@@ -38,16 +40,35 @@ def lines_of(name):
         return sum(chunk.count(b"\n") for chunk in iter(lambda: text.read(1 << 20), b""))
 
 
+def memory_of(words):
+    """Returns the maximum memory of a program, in MB of 10^6 bytes, and its page faults without I/O."""
+    if os.access(METER, os.X_OK):
+        metered = [METER, "-f", "%M %R", *words]
+        ended = subprocess.run(metered, stdout=subprocess.DEVNULL, stderr=subprocess.PIPE, check=True)
+        kilobytes, faults = map(int, ended.stderr.split()[-2:])
+    else:
+        with subprocess.Popen(words, stdout=subprocess.DEVNULL) as started:
+            usage = os.wait4(started.pid, 0)[2]
+            started.returncode = 0
+        kilobytes, faults = usage.ru_maxrss, usage.ru_minflt
+    return kilobytes * 1024 / 1e6, faults
+
+
 def peak(words):
     """Returns the maximum memory of a program, in MB of 10^6 bytes."""
-    if os.access(METER, os.X_OK):
-        metered = [METER, "-f", "%M", *words]
-        ended = subprocess.run(metered, stdout=subprocess.DEVNULL, stderr=subprocess.PIPE, check=True)
-        return int(ended.stderr.split()[-1]) * 1024 / 1e6
-    with subprocess.Popen(words, stdout=subprocess.DEVNULL) as started:
-        usage = os.wait4(started.pid, 0)[2]
-        started.returncode = 0
-    return usage.ru_maxrss * 1024 / 1e6
+    return memory_of(words)[0]
+
+
+def page_faults(words):
+    """Returns the number of times that a program touches a page of memory that it hadn't yet."""
+    return memory_of(words)[1]
+
+
+def instructions(words):
+    """Returns the instructions that a program executes, in millions, as valgrind counts them."""
+    counted = ["valgrind", "--tool=cachegrind", "--cache-sim=no", "--cachegrind-out-file=/dev/null", *words]
+    ended = subprocess.run(counted, stdout=subprocess.DEVNULL, stderr=subprocess.PIPE, text=True, check=True)
+    return int(re.search(r"I +refs: +([\d,]+)", ended.stderr)[1].replace(",", "")) / 1e6
 
 
 class Yardstick:
@@ -57,6 +78,10 @@ class Yardstick:
         self.programs = [program, plain] if os.path.exists(plain) else [program]
         self.folder = os.path.dirname(plain)
         self.heads = ["plain Rust", "MB", "ratio of seconds", "ratio of MB"][:4 * len(self.programs) - 4]
+        self.counters = {"page faults": page_faults}
+        if shutil.which("valgrind"):
+            self.counters["10^6 instructions"] = instructions
+        self.count_heads = [head for name in self.counters for head in [name, "ratio"][:len(self.programs)]]
 
     def output(self, words):
         """Returns the file with the output of the program. If plain Rust writes other bytes, the bench ends."""
@@ -76,6 +101,16 @@ class Yardstick:
         cells = [f"{seconds[-1]:.3f}", f"{memory[-1]:.1f}"]
         cells += [f"{seconds[0] / seconds[-1]:.2f}", f"{memory[0] / memory[-1]:.1f}"]
         return seconds[0], memory[0], cells[:len(self.heads)]
+
+    def counts(self, words):
+        """Returns cells that other work of the machine doesn't change: for each counter the program's count, and its
+        ratio to that of plain Rust."""
+        cells = []
+        for counter in self.counters.values():
+            values = [counter([program, *words]) for program in self.programs]
+            cells.append(f"{values[0]:.0f}")
+            cells += [f"{values[0] / value:.2f}" for value in values[1:]]
+        return cells
 
 
 class Growth:
