@@ -5,7 +5,7 @@ use Rattle.std.proofs.lemmas.List.{drop-append-le, get_or_append_left, map-appen
 use Rattle.std.proofs.lemmas.List.Elements.{All-cons, All-head, All-nil, All-push, All-tail}
 use Rattle.pmap_text.specs.declared.label.LabelId.{LabelId}
 use Rattle.pmap_cert.specs.FormatReading.{DueLine, InnerLine}
-use Rattle.pmap_cert.specs.Packed.{HasSetAt, IsLine, IsMore, IsPacked, Store, chain_at, chain_with, count_at, joined_halves, line_in, no_chain, set_at, Packed, Chain, Inner, Leaf, PackedChain, SideChain, Single}
+use Rattle.pmap_cert.specs.Packed.{HasSetAt, IsLine, IsMore, IsPacked, IsStored, Store, chain_at, chain_with, cost_at, count_at, joined_halves, line_in, line_with, no_chain, set_at, unpacked, Packed, Chain, Inner, Leaf, PackedChain, SideChain, Single, Unpacked}
 
 -- a range of a list stays the same if more is appended
 same-piece : {A : Type 0} (xs more : List A) (from end : ℕ) → from ≤ end → end ≤ length xs → slice_range (xs ++ more) from end ≡ slice_range xs from end
@@ -44,22 +44,36 @@ module _ (s s' : Store) (m : IsMore s s') where
   still-inside : (n : ℕ) → n < length s.chains → n < length s'.chains
   still-inside n inside = let more = ap length m.chains.1 ∙ length-append s.chains m.chains.0 in omega arith
 
+  same-cost_at : (place : ℕ) → HasSetAt s.sets (place + 1) → cost_at s'.sets place ≡ cost_at s.sets place
+  same-cost_at place has =
+      ap (λ (sets : List LabelId). cost_at sets place) m.sets.1
+      ∙ ap (λ (id : LabelId). id.0) (get_or_append_left s.sets m.sets.0 (record { 0 = 0 }) place (omega (arith, has)))
+
+  still-stored : (u : Unpacked) → IsStored s u → IsStored s' u
+  still-stored (Leaf id) stored = tt
+  still-stored (Single cost id) stored = tt
+  still-stored (Inner place) stored = still-set_at (place + 1) stored
+  still-stored (SideChain n) stored = still-inside n stored
+  still-stored (Chain n) stored = (
+    still-inside n stored.0,
+    subst (λ (c : PackedChain). HasSetAt s'.sets c.set) (sym (same-chain_at n stored.0)) (still-set_at (chain_at s.chains n).set stored.1),
+  )
+
+  still-line : (u : Unpacked) → IsStored s u → line_with s' u ≡ line_with s u
+  still-line (Leaf id) stored = refl
+  still-line (Single cost id) stored = refl
+  still-line (Inner place) stored =
+      λ i. InnerLine (same-cost_at place stored i) (same-set_at (place + 1) stored i)
+  still-line (SideChain n) stored = ap (λ (c : PackedChain). chain_with (c.side.0 ∷ []) c) (same-chain_at n stored)
+  still-line (Chain n) stored =
+      ap (λ (c : PackedChain). chain_with (set_at s'.sets c.set) c) (same-chain_at n stored.0)
+      ∙ ap (λ (ns : List ℕ). chain_with ns (chain_at s.chains n)) (same-set_at (chain_at s.chains n).set stored.1)
+
   pub same-line : (p : Packed) (line : DueLine) → IsLine s p line → IsLine s' p line
-  same-line (Leaf id) line l = record { packed = tt; is = l.is }
-  same-line (Single cost id) line l = record { packed = tt; is = l.is }
-  same-line (Inner cost place) line l = record {
-    packed = still-set_at place l.packed;
-    is = ap (InnerLine cost) (same-set_at place l.packed) ∙ l.is;
+  same-line p line l = record {
+    packed = still-stored (unpacked p) l.packed;
+    is = still-line (unpacked p) l.packed ∙ l.is;
   }
-  same-line (SideChain n) line l = record {
-    packed = still-inside n l.packed;
-    is = ap (λ (c : PackedChain). chain_with (c.side.0 ∷ []) c) (same-chain_at n l.packed) ∙ l.is;
-  }
-  same-line (Chain n) line l =
-      let chain = same-chain_at n l.packed.0 in record {
-        packed = (still-inside n l.packed.0, subst (λ (c : PackedChain). HasSetAt s'.sets c.set) (sym chain) (still-set_at (chain_at s.chains n).set l.packed.1));
-        is = ap (λ (c : PackedChain). chain_with (set_at s'.sets c.set) c) chain ∙ ap (λ (ns : List ℕ). chain_with ns (chain_at s.chains n)) (same-set_at (chain_at s.chains n).set l.packed.1) ∙ l.is;
-      }
 
 -- the packed lines, whose parts are in the store, represent the lines
 pub record ArePackedAs (s : Store) (ps : List Packed) (lines : List DueLine) : Type 0 where

@@ -1,11 +1,12 @@
-use Rattle.std.specs.Prelude.{◌≡◌, ℕ, ◌+◌, ◌*◌, ◌^◌, ◌<◌, ◌≤◌, Bool, List, [], ◌∷◌, ◌++◌, length, map, slice_index_or}
+use Rattle.std.specs.Prelude.{◌≡◌, ℕ, ◌+◌, ◌*◌, ◌/◌, ◌%◌, ◌^◌, ◌<◌, ◌≤◌, ◌==◌, Bool, List, [], ◌∷◌, ◌++◌, length, map, slice_index_or, if◌then◌else◌}
 use Rattle.std.proofs.Common.{lit≤}
 use Rattle.std.specs.List.{slice_range}
 use Rattle.pmap_text.specs.declared.label.LabelId.{LabelId}
 use Rattle.pmap_cert.specs.FormatReading.{ChainLine, DueLine, InnerLine, LeafLine}
-pub use Rattle.pmap_cert.specs.declared.nodes.Packed.{Packed}
-pub use Rattle.pmap_cert.specs.declared.nodes.Packed.TheVariants.{Chain, Inner, Leaf, SideChain, Single}
 pub use Rattle.pmap_cert.specs.declared.nodes.PackedChain.{PackedChain}
+pub use Rattle.pmap_cert.specs.declared.packed.Packed.{Packed}
+pub use Rattle.pmap_cert.specs.declared.packed.Unpacked.{Unpacked}
+pub use Rattle.pmap_cert.specs.declared.packed.Unpacked.TheVariants.{Chain, Inner, Leaf, SideChain, Single}
 use Rattle.pmap_cert.specs.declared.path.Path.{Path}
 pub use Rattle.pmap_cert.specs.declared.node.Node.{Node}
 use Rattle.pmap_cert.specs.declared.node.Node.TheVariants.{Chain as ChainNode, Inner as InnerNode, Leaf as LeafNode}
@@ -55,20 +56,49 @@ bits_in path = path_to path.value path.count
 abbrev pub chain_with : List ℕ → PackedChain → DueLine
 chain_with set c = ChainLine c.cost (bits_in c.path) c.side.0 set
 
--- the line that a packed line represents
+-- the line of this kind with this label, cost and index
+abbrev pub of_kind : ℕ → LabelId → ℕ → ℕ → Unpacked
+of_kind kind label cost index =
+    if kind == 0 then Leaf label
+    else (if kind == 1 then Single cost label
+    else (if kind == 2 then Inner index
+    else (if kind == 3 then SideChain index else Chain index)))
+
+abbrev pub unpacked : Packed → Unpacked
+unpacked p = of_kind (p.tail % 8) p.label (p.tail / 8) (joined_halves p.label.0 (p.tail / 8))
+
+-- a packed line has room for this line
+abbrev pub FitsPacked : Unpacked → Type 0
+FitsPacked (Leaf id) = Unit {0}
+FitsPacked (Single cost id) = cost < 2 ^ 29
+FitsPacked (Inner index) = index < 2 ^ 61
+FitsPacked (SideChain index) = index < 2 ^ 61
+FitsPacked (Chain index) = index < 2 ^ 61
+
+-- the cost before a set
+abbrev pub cost_at : List LabelId → ℕ → ℕ
+cost_at sets place = (slice_index_or sets place (record { 0 = 0 })).0
+
+-- the line that an unpacked line represents
+abbrev pub line_with : Store → Unpacked → DueLine
+line_with s (Leaf id) = LeafLine id.0
+line_with s (Single cost id) = InnerLine cost (id.0 ∷ [])
+line_with s (Inner place) = InnerLine (cost_at s.sets place) (set_at s.sets (place + 1))
+line_with s (SideChain index) = chain_with ((chain_at s.chains index).side.0 ∷ []) (chain_at s.chains index)
+line_with s (Chain index) = chain_with (set_at s.sets (chain_at s.chains index).set) (chain_at s.chains index)
+
 abbrev pub line_in : Store → Packed → DueLine
-line_in s (Leaf id) = LeafLine id.0
-line_in s (Single cost id) = InnerLine cost (id.0 ∷ [])
-line_in s (Inner cost place) = InnerLine cost (set_at s.sets place)
-line_in s (SideChain index) = chain_with ((chain_at s.chains index).side.0 ∷ []) (chain_at s.chains index)
-line_in s (Chain index) = chain_with (set_at s.sets (chain_at s.chains index).set) (chain_at s.chains index)
+line_in s p = line_with s (unpacked p)
+
+abbrev pub IsStored : Store → Unpacked → Type 0
+IsStored s (Leaf id) = Unit {0}
+IsStored s (Single cost id) = Unit {0}
+IsStored s (Inner place) = HasSetAt s.sets (place + 1)
+IsStored s (SideChain index) = index < length s.chains
+IsStored s (Chain index) = (index < length s.chains) × HasSetAt s.sets (chain_at s.chains index).set
 
 abbrev pub IsPacked : Store → Packed → Type 0
-IsPacked s (Leaf id) = Unit {0}
-IsPacked s (Single cost id) = Unit {0}
-IsPacked s (Inner cost place) = HasSetAt s.sets place
-IsPacked s (SideChain index) = index < length s.chains
-IsPacked s (Chain index) = (index < length s.chains) × HasSetAt s.sets (chain_at s.chains index).set
+IsPacked s p = IsStored s (unpacked p)
 
 pub record IsLine (s : Store) (p : Packed) (line : DueLine) : Type 0 where
   pub packed : IsPacked s p

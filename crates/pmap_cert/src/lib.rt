@@ -40,6 +40,7 @@ mod node_line;
 mod node_source;
 mod nodes;
 mod nodes_from;
+mod packed;
 mod path;
 mod root;
 mod writing;

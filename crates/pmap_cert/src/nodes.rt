@@ -1,29 +1,16 @@
-ghost use Rattle.std.specs.Prelude.{◌≡◌, ◌+◌, ◌<◌, ◌≤◌, ◌++◌, ◌∷◌, [], IfOk, OnErr, OnOk, length, map, reverse, slice_index_or};
+ghost use Rattle.std.specs.Prelude.{◌≡◌, ◌+◌, ◌^◌, ◌<◌, ◌≤◌, ◌++◌, ◌∷◌, [], IfOk, OnErr, OnOk, length, map, reverse, slice_index_or};
 ghost use Rattle.pmap_cert.specs.CertificateText.{ChainLine, LeafLine};
 ghost use Rattle.pmap_cert.specs.CertificateModel.{claim_of};
 ghost use Rattle.pmap_cert.specs.Node.{node_of};
-ghost use Rattle.pmap_cert.specs.Packed.{HasSetAt, IsGrown, IsLine, IsMore, bits_in, line_of, set_at, store_of};
+ghost use Rattle.pmap_cert.specs.Packed.{HasSetAt, IsGrown, IsLine, IsMore, bits_in, cost_at, line_of, set_at, store_of};
 
 use crate::node::{Claim, Node};
+use crate::packed::{HALF, Packed, Unpacked};
 use crate::path::Path;
 use pmap_text::LabelId;
 use std::alloc::{AllocError, Global};
 use std::marker::Model;
 use std::slice;
-
-// The number of values of 32 bits.
-const HALF: usize = 1 << 32;
-
-// The line of a node: a leaf's label, an inner node's cost and set, or the index of a chain. A set of one label is in
-// the line of its inner node, any other in `sets`, from an index on.
-#[derive(Clone, Copy)]
-enum Packed {
-    Leaf(LabelId),
-    Single(u32, LabelId),
-    Inner(u32, usize),
-    SideChain(usize),
-    Chain(usize),
-}
 
 // A chain. The set of a `SideChain` is its side label alone, any other is in `sets`, from the index `set` on.
 #[derive(Clone, Copy)]
@@ -34,11 +21,12 @@ struct PackedChain {
     path: Path,
 }
 
-/// The nodes of a certificate in the order of their lines. Each takes 16 bytes, a chain 48 more.
+/// The nodes of a certificate in the order of their lines. Each takes 8 bytes, a chain 48 more.
 pub struct Nodes {
     lines: Vec<Packed>,
     chains: Vec<PackedChain>,
-    // For each set: the lower and the upper 32 bits of the number of its labels, and then the labels.
+    // For each set: the lower and the upper 32 bits of the number of its labels, and then the labels. The cost of an
+    // inner node is before its set.
     sets: Vec<LabelId>,
 }
 
@@ -69,6 +57,7 @@ impl Model for Nodes {
 // Appends a set to the sets, and returns its index.
 fn hold(sets: &mut Vec<LabelId>, set: &[LabelId]) -> Result<usize, AllocError>
     ensures grown { IsGrown sets.old.items sets.new.items }
+    ensures place { IfOk result (λ place. place ≡ length sets.old.items) }
     ensures whole { IfOk result (HasSetAt sets.new.items) }
     ensures set { IfOk result (λ place. set_at sets.new.items place ≡ map (λ id. id.0) set.now) }
 {
@@ -76,6 +65,22 @@ fn hold(sets: &mut Vec<LabelId>, set: &[LabelId]) -> Result<usize, AllocError>
     sets.push(LabelId((set.len() % HALF) as u32))?;
     sets.push(LabelId((set.len() / HALF) as u32))?;
     sets.extend_from_slice(set)?;
+    Ok(place)
+}
+
+// Appends a cost and a set, and returns the index of the cost.
+#[inline(always)]
+fn hold_claim(sets: &mut Vec<LabelId>, claim: Claim) -> Result<usize, AllocError>
+    ensures grown { IsGrown sets.old.items sets.new.items }
+    ensures below { IfOk result (λ place. place < 2 ^ 61) }
+    ensures cost { IfOk result (λ place. cost_at sets.new.items place ≡ claim.entry.cost) }
+    ensures whole { IfOk result (λ place. HasSetAt sets.new.items (place + 1)) }
+    ensures set { IfOk result (λ place. set_at sets.new.items (place + 1) ≡ map (λ id. id.0) claim.entry.set.now) }
+{
+    // Provides the bound on the number of labels.
+    let place = sets.as_slice().len();
+    sets.push(LabelId(claim.cost))?;
+    hold(sets, claim.set)?;
     Ok(place)
 }
 
@@ -102,7 +107,8 @@ fn pack_chain(
     ensures ok { IfOk result (λ line. IsLine (store_of sets.new.items chains.new.items) line
         (ChainLine claim.entry.cost (bits_in path.now) side.0 (map (λ id. id.0) claim.entry.set.now))) }
 {
-    let index = chains.len();
+    // Provides the bound on the number of chains.
+    let index = chains.as_slice().len();
     let cost = claim.cost;
     if let [id] = claim.set
         && id.0 == side.0
@@ -113,7 +119,7 @@ fn pack_chain(
             set: 0,
             path: *path,
         })?;
-        return Ok(Packed::SideChain(index));
+        return Ok(Packed::pack(Unpacked::SideChain(index)));
     }
     let set = hold(sets, claim.set)?;
     chains.push(PackedChain {
@@ -122,7 +128,7 @@ fn pack_chain(
         set,
         path: *path,
     })?;
-    Ok(Packed::Chain(index))
+    Ok(Packed::pack(Unpacked::Chain(index)))
 }
 
 // Stores what the line of a node doesn't have itself, and returns the line.
@@ -136,11 +142,16 @@ fn pack(
     ensures ok { IfOk result (λ line. IsLine (store_of sets.new.items chains.new.items) line (line_of node.entry)) }
 {
     match node {
-        Node::Leaf(id) => Ok(Packed::Leaf(id)),
-        Node::Inner(claim) => match claim.set {
-            [id] => Ok(Packed::Single(claim.cost, *id)),
-            set => Ok(Packed::Inner(claim.cost, hold(sets, set)?)),
-        },
+        Node::Leaf(id) => Ok(Packed::pack(Unpacked::Leaf(id))),
+        Node::Inner(claim) => {
+            if let [id] = claim.set
+                && claim.cost < 1 << 29
+            {
+                return Ok(Packed::pack(Unpacked::Single(claim.cost, *id)));
+            }
+            let place = hold_claim(sets, claim)?;
+            Ok(Packed::pack(Unpacked::Inner(place)))
+        }
         Node::Chain { claim, path, side } => pack_chain(sets, chains, claim, path, side),
     }
 }
@@ -203,11 +214,11 @@ impl Nodes {
         requires { number < length self.now }
         ensures { line_of result ≡ slice_index_or self.now number (LeafLine 0) }
     {
-        match &self.lines[number] {
-            Packed::Leaf(id) => Node::Leaf(*id),
-            Packed::Single(_, _) | Packed::Inner(_, _) => Node::Inner(self.claim(number)),
-            Packed::SideChain(index) | Packed::Chain(index) => {
-                let chain = &self.chains[*index];
+        match self.lines[number].unpack() {
+            Unpacked::Leaf(id) => Node::Leaf(id),
+            Unpacked::Single(_, _) | Unpacked::Inner(_) => Node::Inner(self.claim(number)),
+            Unpacked::SideChain(index) | Unpacked::Chain(index) => {
+                let chain = &self.chains[index];
                 Node::Chain {
                     claim: self.claim(number),
                     path: &chain.path,
@@ -225,16 +236,17 @@ impl Nodes {
         ensures set { map (λ id. id.0) result.set.now
             ≡ (claim_of (node_of (slice_index_or self.now number (LeafLine 0)))).labels }
     {
-        let (cost, set) = match &self.lines[number] {
-            Packed::Leaf(id) => (0, slice::from_ref(id)),
-            Packed::Single(cost, id) => (*cost, slice::from_ref(id)),
-            Packed::Inner(cost, place) => (*cost, held(self.sets.as_slice(), *place)),
-            Packed::SideChain(index) => {
-                let chain = &self.chains[*index];
+        let packed = &self.lines[number];
+        let (cost, set) = match packed.unpack() {
+            Unpacked::Leaf(_) => (0, slice::from_ref(&packed.label)),
+            Unpacked::Single(cost, _) => (cost, slice::from_ref(&packed.label)),
+            Unpacked::Inner(place) => (self.sets[place].0, held(self.sets.as_slice(), place + 1)),
+            Unpacked::SideChain(index) => {
+                let chain = &self.chains[index];
                 (chain.cost, slice::from_ref(&chain.side))
             }
-            Packed::Chain(index) => {
-                let chain = &self.chains[*index];
+            Unpacked::Chain(index) => {
+                let chain = &self.chains[index];
                 (chain.cost, held(self.sets.as_slice(), chain.set))
             }
         };
