@@ -1,5 +1,5 @@
 -- A compacted certificate has a text if the original has one.
-use Rattle.std.proofs.Common.{◌≡◌, ℕ, zero, suc, ◌<◌, List, inr, arith, length, nat_eq, refl, subst}
+use Rattle.std.proofs.Common.{◌≡◌, ℕ, zero, suc, ◌<◌, inr, arith, length, nat_eq, refl, subst}
 use Rattle.std.proofs.lemmas.Bool.{leb-true}
 use Rattle.prefix_keys.specs.Block.{width_of}
 use Rattle.pmap_cert.specs.CertificateText.{HasChainForm, HasFormatText, HasRoomBelow, place_of}

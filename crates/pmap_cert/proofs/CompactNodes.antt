@@ -1,18 +1,16 @@
 -- Compacting nodes with label numbers.
-use Rattle.std.proofs.Common.{◌≡◌, ◌++◌, ℕ, ◌<◌, ◌≤◌, ◌∙◌, Bool, false, true, List, [], ◌∷◌, Some, IsSome, length, nat_eq, refl, sym, ap, ap₂, arith}
+use Rattle.std.proofs.Common.{◌≡◌, ◌++◌, ℕ, ◌≤◌, ◌∙◌, Bool, false, true, List, [], ◌∷◌, Some, IsSome, length, nat_eq, refl, sym, ap, arith}
 use Rattle.std.proofs.lemmas.Bool.{le-leb, leb-true}
-use Rattle.std.proofs.lemmas.List.{append_assoc}
 use Rattle.prefix_keys.specs.Block.{width_of}
 use Rattle.prefix_keys.specs.declared.version.Version.{Version}
 use Rattle.pmap_text.specs.Label.{IsLabelTable}
 use Rattle.pmap_text.specs.MapModel.{Label}
-use Rattle.pmap_text.specs.MapText.{text_at}
 use Rattle.pmap_cert.specs.CertificateModel.{CertificateModel, ChainNode, ClaimOf, InnerNode, LeafNode, claim_of}
 use Rattle.pmap_cert.specs.Compacting.{compact, compacted, leaf_label, run_bits, run_compacted, run_end, side_of}
 use Rattle.pmap_cert.specs.Format.{format_number, Format, One, Two}
-use Rattle.pmap_cert.specs.FormatReading.{ChainLine, DueLine, InnerLine}
+use Rattle.pmap_cert.specs.FormatReading.{ChainLine, DueLine}
 use Rattle.pmap_cert.specs.Node.{HasChainForm, Node, first_line, lines_of, node_of, tree_of}
-use Rattle.pmap_cert.specs.Inner.{IsCompacted, IsShort, side_below}
+use Rattle.pmap_cert.specs.Inner.{IsShort, side_below}
 use Rattle.pmap_cert.proofs.Compacts.{compact-again, compact-first}
 use Rattle.pmap_cert.proofs.Relabelled.{compacted-texts}
 use Rattle.pmap_cert.proofs.Runs.{by_run, compacted-inner, compacted-leaf, run_compacted-chain}
@@ -35,36 +33,28 @@ module _ (claim : ClaimOf ℕ) (lower upper : Node) where
       ∙ run_compacted-chain nat_eq (compacted nat_eq) claim lower upper side (le-leb _ _ long)
 
 -- the line of a leaf is that of the leaf compacted
-pub leaf-lines : (node : Node) (old new : List DueLine) → IsSome (leaf_label node) → new ≡ old ++ first_line node ∷ [] → IsCompacted node old new
-leaf-lines (LeafNode number) old new leaf pushed = pushed ∙ ap (λ (n : Node). old ++ lines_of n) (sym (compacted-leaf nat_eq number))
-leaf-lines (InnerNode claim lower upper) old new leaf pushed = absurd (let e : false ≡ true = leaf in cc)
-leaf-lines (ChainNode claim bits side end) old new leaf pushed = absurd (let e : false ≡ true = leaf in cc)
+pub leaf-lines : (node : Node) → IsSome (leaf_label node) → first_line node ∷ [] ≡ lines_of (compacted nat_eq node)
+leaf-lines (LeafNode number) leaf = ap lines_of (sym (compacted-leaf nat_eq number))
+leaf-lines (InnerNode claim lower upper) leaf = absurd (let e : false ≡ true = leaf in cc)
+leaf-lines (ChainNode claim bits side end) leaf = absurd (let e : false ≡ true = leaf in cc)
 
-module _ (node : Node) (claim : ClaimOf ℕ) (lower upper : Node) (node_is : node ≡ InnerNode claim lower upper) (old : List DueLine) where
-  pub chain-lines : (side : ℕ) (line : DueLine) (cost' : ℕ) (set' : List ℕ) (bits : List Bool) (down : Node) (mid new : List DueLine) → side_below node ≡ Some side
+module _ (node : Node) (claim : ClaimOf ℕ) (lower upper : Node) (node_is : node ≡ InnerNode claim lower upper) where
+  pub chain-lines : (side : ℕ) (line : DueLine) (cost' : ℕ) (set' : List ℕ) (bits : List Bool) (down : Node) → side_below node ≡ Some side
       → bits ≡ run_bits nat_eq side node → down ≡ run_end nat_eq side node → 2 ≤ length bits → line ≡ first_line node
       → cost' ≡ (claim_of (node_of line)).cost → set' ≡ (claim_of (node_of line)).labels
-      → mid ≡ old ++ ChainLine cost' bits side set' ∷ [] → IsCompacted down mid new → IsCompacted node old new
-  chain-lines side line cost' set' bits down mid new sides are is long line_is cost_is set_is pushed below =
+      → ChainLine cost' bits side set' ∷ lines_of (compacted nat_eq down) ≡ lines_of (compacted nat_eq node)
+  chain-lines side line cost' set' bits down sides are is long line_is cost_is set_is =
       let here = ap (λ (l : DueLine). claim_of (node_of l)) (line_is ∙ ap first_line node_is) in
       let run = are ∙ ap (run_bits nat_eq side) node_is in
       let count = ap length run in
-      below ∙ (λ i. pushed i ++ lines_of (compacted nat_eq ((is ∙ ap (run_end nat_eq side) node_is) i)))
-      ∙ append_assoc old (ChainLine cost' bits side set' ∷ []) (lines_of (compacted nat_eq (run_end nat_eq side (InnerNode claim lower upper))))
-      ∙ (λ i. old ++ ChainLine ((cost_is ∙ ap (λ (c : ClaimOf ℕ). c.cost) here) i) (run i) side ((set_is ∙ ap (λ (c : ClaimOf ℕ). c.labels) here) i)
-      ∷ lines_of (compacted nat_eq (run_end nat_eq side (InnerNode claim lower upper))))
-      ∙ ap (λ (n : Node). old ++ lines_of n)
-      (sym (ap (compacted nat_eq) node_is ∙ compact-chain claim lower upper side (sym (ap side_below node_is) ∙ sides) (omega arith)))
+      (λ i. ChainLine ((cost_is ∙ ap (λ (c : ClaimOf ℕ). c.cost) here) i) (run i) side ((set_is ∙ ap (λ (c : ClaimOf ℕ). c.labels) here) i)
+      ∷ lines_of (compacted nat_eq ((is ∙ ap (run_end nat_eq side) node_is) i)))
+      ∙ ap lines_of (sym (ap (compacted nat_eq) node_is ∙ compact-chain claim lower upper side (sym (ap side_below node_is) ∙ sides) (omega arith)))
 
-  pub inner-lines : (first second third : List DueLine) → IsShort node → first ≡ old ++ first_line node ∷ [] → IsCompacted lower first second → IsCompacted upper second third
-      → IsCompacted node old third
-  inner-lines first second third short pushed low up =
-      let low' = lines_of (compacted nat_eq lower) in
-      let up' = lines_of (compacted nat_eq upper) in
-      let line = InnerLine claim.cost claim.labels ∷ [] in
-      up ∙ ap (λ (ls : List DueLine). ls ++ up') (low ∙ ap (λ (ls : List DueLine). ls ++ low') (pushed ∙ ap (λ (n : Node). old ++ first_line n ∷ []) node_is))
-      ∙ append_assoc (old ++ line) low' up' ∙ append_assoc old line (low' ++ up')
-      ∙ ap (λ (n : Node). old ++ lines_of n)
+  pub inner-lines : IsShort node → first_line node ∷ (lines_of (compacted nat_eq lower) ++ lines_of (compacted nat_eq upper)) ≡ lines_of (compacted nat_eq node)
+  inner-lines short =
+      ap (λ (n : Node). first_line n ∷ (lines_of (compacted nat_eq lower) ++ lines_of (compacted nat_eq upper))) node_is
+      ∙ ap lines_of
       (sym (ap (compacted nat_eq) node_is ∙ compact-short claim lower upper (λ side e.
       let few = short side (ap side_below node_is ∙ e) in
       let count = ap (λ (n : Node). length (run_bits nat_eq side n)) node_is in

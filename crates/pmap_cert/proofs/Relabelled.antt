@@ -1,5 +1,5 @@
 -- Replacing labels commutes with compacting, if it keeps apart the labels that are there.
-use Rattle.std.proofs.Common.{◌≡◌, ℕ, zero, suc, ◌<◌, ◌∙◌, Bool, true, false, List, Option, Some, None, bytes_eq, cond, ◌∷◌, [], length, nat_eq, nat_le, option_map, refl, sym, ap, subst, ⊎_elim}
+use Rattle.std.proofs.Common.{◌≡◌, ℕ, zero, suc, ◌<◌, ◌∙◌, Bool, true, false, List, Option, Some, None, bytes_eq, cond, length, nat_eq, nat_le, option_map, refl, sym, ap, subst, ⊎_elim}
 use Rattle.std.specs.Option.{option_or}
 use Rattle.std.proofs.lemmas.Option.{none-some, same_Some}
 use Rattle.pmap_text.specs.Label.{IsLabelTable}

@@ -11,7 +11,7 @@ use Rattle.pmap_cert.specs.FormatReading.{DueLine, Place, ended_by, fits_header,
 use Rattle.pmap_cert.specs.Node.{HasChainForm, Node, lines_of, tree_of, AreWhole, first_node, node_of, nodes_of}
 use Rattle.pmap_cert.specs.CertificateModel.{CertificateModel, ClaimOf, InnerNode, IsPlain, Tree}
 use Rattle.pmap_cert.specs.CertificateText.{IsAscending, bit_digits, format_header, format_word, version_word}
-use Rattle.pmap_cert.specs.Compacting.{compacted, run_bits, run_end, side_of}
+use Rattle.pmap_cert.specs.Compacting.{run_bits, run_end, side_of}
 
 -- reads the next node of a text of this format, for addresses of `most` bits, with at most `room` levels below it
 abbrev pub node_due_at : Format → ℕ → List Label → ℕ → Place → Result (Tree × Place) CertFault
@@ -162,10 +162,6 @@ pub record IsLong (lines : List DueLine) (all : List ℕ) (number side : ℕ) (b
   pub sides : side_below (node_from lines number) ≡ Some side
   pub run : IsRun lines all side number bits end
   pub long : 2 ≤ length bits
-
--- the lines of the node, compacted, were added
-abbrev pub IsCompacted : Node → List DueLine → List DueLine → Type 0
-IsCompacted node old new = new ≡ old ++ lines_of (compacted nat_eq node)
 
 abbrev pub IsShallow : Node → Type 0
 IsShallow node = (count : ℕ) × (room : ℕ) × (room ≤ 128) × HasChainForm count node room

@@ -11,3 +11,4 @@ pub mod Certificate
 pub mod Inner
 pub mod NodeSource
 pub mod ListText
+pub mod Sinks

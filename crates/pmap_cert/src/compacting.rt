@@ -2,16 +2,19 @@
 ghost use Rattle.std.specs.Prelude.{◌≡◌, ◌<◌, [], IfOk, IsSome, MatchOption, OnOk, length, nat_eq, option_map};
 ghost use Rattle.pmap_cert.specs.Certificate.{certificate_of};
 ghost use Rattle.pmap_cert.specs.CertificateModel.{IsPlain};
+ghost use Rattle.pmap_cert.specs.CertificateText.{certificate_text, lines_of};
 ghost use Rattle.pmap_cert.specs.Compacting.{compact, compacted, is_side, leaf_label, side_of};
 ghost use Rattle.pmap_cert.specs.Packed.{bits_in};
-ghost use Rattle.pmap_cert.specs.Inner.{AreEndsFrom, ArePlain, EndsAt, HasHalves, HasPlace, IsCompacted, IsLong, IsRun, IsShallow, IsShort, IsStep, node_from};
+ghost use Rattle.pmap_cert.specs.Inner.{AreEndsFrom, ArePlain, EndsAt, HasHalves, HasPlace, IsLong, IsRun, IsShallow, IsShort, IsStep, node_from};
 
 use crate::certificate::Certificate;
 use crate::format::Format;
 use crate::node::Node;
+use crate::node_sink::NodeSink;
 use crate::nodes::Nodes;
 use crate::path::Path;
 use crate::root::Root;
+use crate::writing::{head_text, push_nodes};
 use pmap_text::LabelId;
 use std::alloc::{AllocError, Global};
 
@@ -136,23 +139,23 @@ fn run_of(
     Some((path, side, end))
 }
 
-// Compacts the node at line `number` and adds the result to `out`.
-fn compact_node(
-    out: &mut Nodes,
+// Compacts the node at line `number` and adds the lines of the result to `out`.
+fn compact_node<S: NodeSink>(
+    out: &mut S,
     nodes: &Nodes,
     ends: &[usize],
     number: usize,
 ) -> Result<(), AllocError>
     requires { HasPlace nodes.now ends.now number }
-    ensures { OnOk result (IsCompacted (node_from nodes.now number) out.old out.new) }
+    ensures { OnOk result (S.has_added out.old (lines_of (compacted nat_eq (node_from nodes.now number))) out.new) }
 {
     let Some(halves) = halves_of(nodes, ends, number) else {
-        out.push(nodes.node(number))?;
+        out.add(nodes.node(number))?;
         return Ok(());
     };
     match run_of(nodes, ends, number, halves) {
         Some((path, side, end)) => {
-            out.push(Node::Chain {
+            out.add(Node::Chain {
                 claim: nodes.claim(number),
                 path: &path,
                 side,
@@ -161,7 +164,7 @@ fn compact_node(
             Ok(())
         }
         None => {
-            out.push(nodes.node(number))?;
+            out.add(nodes.node(number))?;
             compact_node(out, nodes, ends, halves.0)?;
             compact_node(out, nodes, ends, halves.1)?;
             Ok(())
@@ -169,15 +172,24 @@ fn compact_node(
     }
 }
 
+// Adds the lines of a compacted root to `out`.
+fn push_compacted<S: NodeSink>(out: &mut S, alloc: Global, root: &Root) -> Result<(), AllocError>
+    requires plain { IsPlain root.now }
+    requires shallow { IsShallow root.now }
+    ensures { OnOk result (S.has_added out.old (lines_of (compacted nat_eq root.now)) out.new) }
+{
+    let nodes = root.nodes();
+    let ends = ends_of(alloc, nodes)?;
+    compact_node(out, nodes, ends.as_slice(), 0)
+}
+
 fn compact_root(alloc: Global, root: &Root) -> Result<Root, AllocError>
     requires plain { IsPlain root.now }
     requires shallow { IsShallow root.now }
     ensures { IfOk result (λ found. found ≡ compacted nat_eq root.now) }
 {
-    let nodes = root.nodes();
-    let ends = ends_of(alloc, nodes)?;
     let mut out = Nodes::new(alloc);
-    compact_node(&mut out, nodes, ends.as_slice(), 0)?;
+    push_compacted(&mut out, alloc, root)?;
     Ok(Root::new(out))
 }
 
@@ -194,4 +206,18 @@ pub fn compact(alloc: Global, certificate: &Certificate) -> Result<Certificate, 
         Format::Two => certificate.root.copy(alloc)?,
     };
     Ok(Certificate::of_format(Format::Two, certificate.version, labels, root))
+}
+
+/// Returns the text of the certificate of `compact`, made without its nodes.
+pub fn write_compact(alloc: Global, certificate: &Certificate) -> Result<Vec<u8>, AllocError>
+    ensures { IfOk result (λ text. text.items ≡ certificate_text (compact (certificate_of certificate.now))) }
+{
+    // Provides the law that the table has at most 65536 labels, all distinct.
+    let _count = certificate.labels.len();
+    let mut out = head_text(alloc, Format::Two, certificate.version, &certificate.labels)?;
+    match certificate.format {
+        Format::One => push_compacted(&mut out, alloc, &certificate.root)?,
+        Format::Two => push_nodes(&mut out, certificate.root.nodes())?,
+    }
+    Ok(out)
 }

@@ -37,6 +37,7 @@ mod lines;
 mod list_laws;
 mod node;
 mod node_line;
+mod node_sink;
 mod node_source;
 mod nodes;
 mod nodes_from;
@@ -52,7 +53,7 @@ pub use chain_laws::{
     compact_has_no_more_lines, compact_keeps_acceptance, compact_opens_to_the_same,
     compacting_is_by_longest_runs, opened_is_accepted, text_of_format_is_read_or_has_a_fault,
 };
-pub use compacting::compact;
+pub use compacting::{compact, write_compact};
 pub use cursor::{Cursor, cursor_of};
 pub use fault::{CertFault, CertFaultKind};
 pub use format::Format;

@@ -96,6 +96,7 @@ fn bits_word(text: &[u8], most: u32) -> Option<(Path, &[u8])>
 }
 
 // Reads a set of ascending numbers to the end of the line, stores it, and returns the text after the line.
+#[inline(always)]
 fn set_to_end<'a>(
     set: &mut Vec<LabelId>,
     text: &'a [u8],

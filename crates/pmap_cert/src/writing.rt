@@ -98,7 +98,9 @@ fn push_chain(out: &mut Vec<u8>, claim: Claim, path: &Path, side: LabelId) -> Re
     Ok(())
 }
 
-fn push_whole(out: &mut Vec<u8>, node: Node) -> Result<(), AllocError>
+/// Appends the line of a node. If an allocation fails, `out` may have a part of it.
+#[inline(always)]
+pub fn push_whole(out: &mut Vec<u8>, node: Node) -> Result<(), AllocError>
     ensures ok { OnOk result (out.new.items ≡ out.old.items ++ (line_text (line_of node.entry) ++ 10 ∷ [])) }
     ensures kept { take (length out.old.items) out.new.items ≡ out.old.items }
 {
@@ -110,6 +112,7 @@ fn push_whole(out: &mut Vec<u8>, node: Node) -> Result<(), AllocError>
 }
 
 /// Appends the line of a node. If an allocation fails, `out` is unchanged.
+#[inline(always)]
 pub fn push_line(out: &mut Vec<u8>, node: Node) -> Result<(), AllocError>
     ensures ok { OnOk result (out.new.items ≡ out.old.items ++ (line_text (line_of node.entry) ++ 10 ∷ [])) }
     ensures err { OnErr result (out.new.items ≡ out.old.items) }
@@ -122,11 +125,11 @@ pub fn push_line(out: &mut Vec<u8>, node: Node) -> Result<(), AllocError>
     pushed
 }
 
-fn push_nodes(out: &mut Vec<u8>, nodes: &Nodes) -> Result<(), AllocError>
+pub fn push_nodes(out: &mut Vec<u8>, nodes: &Nodes) -> Result<(), AllocError>
     ensures { OnOk result (out.new.items ≡ out.old.items ++ text_of_lines (map line_text nodes.now)) }
 {
     for number in 0..nodes.len() {
-        push_line(out, nodes.node(number))?;
+        push_whole(out, nodes.node(number))?;
     }
     Ok(())
 }

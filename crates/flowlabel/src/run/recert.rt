@@ -4,7 +4,7 @@ ghost use Rattle.flowlabel.specs.Request.{recert};
 
 use crate::output_fault::OutputFault;
 use crate::run::reading::certificate_in;
-use pmap_cert::{compact, write_cert};
+use pmap_cert::write_compact;
 use pmap_text::KeyHashing;
 use std::alloc::Global;
 
@@ -13,6 +13,5 @@ pub fn output(alloc: Global, text: Vec<u8>, hashing: KeyHashing) -> Result<Vec<u
     ensures { Returns (IsOutput (recert text.items)) result }
 {
     let certificate = certificate_in(alloc, text, hashing)?;
-    let compacted = compact(alloc, &certificate)?;
-    Ok(write_cert(alloc, &compacted)?)
+    Ok(write_compact(alloc, &certificate)?)
 }

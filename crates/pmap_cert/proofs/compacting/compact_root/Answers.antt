@@ -1,24 +1,9 @@
-use Rattle.std.proofs.Common.{ℕ, ◌++◌, ◌∙◌, List, ap, arith, nat_eq, subst, sym}
-use Rattle.pmap_cert.specs.Node.{lines_of}
+use Rattle.std.proofs.Common.{◌++◌, ◌∙◌, ap, nat_eq}
+use Rattle.pmap_cert.specs.CertificateText.{lines_of}
 use Rattle.pmap_cert.specs.Compacting.{compacted}
-use Rattle.pmap_cert.specs.Inner.{AreEndsFrom}
-use Rattle.pmap_cert.proofs.CompactPlaces.{ends-later, plain-of, root-at, some-lines}
 use Rattle.pmap_cert.proofs.compacting.compact_root.Goals as goal
-
-pub ends_of-requires : goal.ends_of-requires
-ends_of-requires c = plain-of c.args.root.now c.nodes-nodes.result.now c.nodes-nodes.ensures c.requires.plain c.requires.shallow
-
-pub compact_node-requires : goal.compact_node-requires
-compact_node-requires c = record {
-  plain = plain-of c.args.root.now c.nodes-nodes.result.now c.nodes-nodes.ensures c.requires.plain c.requires.shallow;
-  within = some-lines c.args.root.now c.nodes-nodes.result.now c.nodes-nodes.ensures;
-  ends =
-      ends-later c.nodes-nodes.result.now c.as_slice.result.now 0 1
-      (subst (λ (l : List ℕ). AreEndsFrom c.nodes-nodes.result.now l 0) (sym c.as_slice.ensures.value) c.in_ok-ends.ensures) (omega arith);
-}
 
 pub returns : goal.returns
 returns c =
-    let is = root-at c.args.root.now c.nodes-nodes.result.now c.nodes-nodes.ensures in
-    let compact = ap (compacted nat_eq) is in
-    c.new.ensures (compacted nat_eq c.args.root.now) (c.in_ok-compact_node.ensures ∙ (λ i. c.new-out.ensures i ++ lines_of (compact i)))
+    c.new.ensures (compacted nat_eq c.args.root.now)
+    (c.in_ok-push_compacted.ensures ∙ ap (λ ls. ls ++ lines_of (compacted nat_eq c.args.root.now)) c.new-out.ensures)

@@ -1,6 +1,4 @@
-use Rattle.std.proofs.Common.{◌++◌, ◌∷◌, ◌∙◌, ap, length}
 use Rattle.prefix_keys.specs.Block.{width_of}
-use Rattle.pmap_cert.specs.CertificateText.{format_header, text_of_lines}
 use Rattle.pmap_cert.specs.Format.{format_number}
 use Rattle.pmap_cert.proofs.Written.{whole_text}
 use Rattle.pmap_cert.proofs.writing.write_cert.Goals as goal
