@@ -1,8 +1,8 @@
 -- The text that is written by label numbers is that of the certificate with label texts.
-use Rattle.std.proofs.Common.{◌≡◌, ℕ, zero, suc, ◌+◌, ◌<◌, ◌∙◌, List, [], ◌∷◌, ◌++◌, ◌≤◌, drop, length, map, take, sym, ap, arith, subst}
+use Rattle.std.proofs.Common.{◌≡◌, ℕ, zero, suc, ◌+◌, ◌/◌, ◌%◌, ◌<◌, ◌∙◌, List, [], ◌∷◌, ◌++◌, ◌≤◌, drop, length, map, take, sym, ap, arith, subst}
 use Rattle.std.specs.Fmt.{decimal}
 use Rattle.std.specs.List.{flat_map, join_with_byte}
-use Rattle.std.proofs.lemmas.Fmt.{decimal_digit}
+use Rattle.std.proofs.lemmas.Fmt.{decimal_digit, decimal_step}
 use Rattle.std.proofs.lemmas.List.{append-nil, append_assoc, length-take, take-append-drop, take-append-le}
 use Rattle.std.proofs.lemmas.List.Concat.{flat_map-append}
 use Rattle.prefix_keys.specs.declared.version.Version.{Version}
@@ -31,6 +31,15 @@ pub pushed-digit : (out o1 o2 : List ℕ) (n d : ℕ) → n < 10 → d ≡ 48 + 
 pushed-digit out o1 o2 n d small digit e1 e2 =
     e2 ∙ ap (λ t. t ++ d ∷ []) e1 ∙ append_assoc out (32 ∷ []) (d ∷ [])
     ∙ ap (λ t. out ++ 32 ∷ t) (ap (λ (x : ℕ). x ∷ []) digit ∙ sym (decimal_digit n small))
+
+-- so are two digits
+pub pushed-digits : (out o1 o2 o3 : List ℕ) (n : ℕ) → 10 ≤ n → n < 100 → o1 ≡ out ++ 32 ∷ [] → o2 ≡ o1 ++ (48 + n / 10) ∷ [] → o3 ≡ o2 ++ (48 + n % 10) ∷ []
+    → o3 ≡ out ++ 32 ∷ decimal n
+pushed-digits out o1 o2 o3 n low high e1 e2 e3 =
+    e3 ∙ ap (λ t. t ++ (48 + n % 10) ∷ []) (e2 ∙ ap (λ t. t ++ (48 + n / 10) ∷ []) e1 ∙ append_assoc out (32 ∷ []) ((48 + n / 10) ∷ []))
+    ∙ append_assoc out (32 ∷ (48 + n / 10) ∷ []) ((48 + n % 10) ∷ [])
+    ∙ ap (λ t. out ++ 32 ∷ t)
+    (sym (decimal_step n low (omega (arith, high)) ∙ ap (λ t. t ++ (48 + n % 10) ∷ []) (decimal_digit (n / 10) (omega (arith, high)))))
 
 -- the text of joined lines is that of the first and then that of the others
 pub text_of_lines-append : (lines more : List (List ℕ)) → text_of_lines (lines ++ more) ≡ text_of_lines lines ++ text_of_lines more

@@ -27,6 +27,12 @@ fn push_number(out: &mut Vec<u8>, number: u32) -> Result<(), AllocError>
         out.push(b'0' + number as u8)?;
         return Ok(());
     }
+    // An optimisation: most labels and costs have at most two digits.
+    if number < 100 {
+        out.push(b'0' + (number / 10) as u8)?;
+        out.push(b'0' + (number % 10) as u8)?;
+        return Ok(());
+    }
     let mut buffer = Buffer::new();
     out.extend_from_slice(buffer.format(number).as_bytes())?;
     Ok(())
