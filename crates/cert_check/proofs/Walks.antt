@@ -40,7 +40,7 @@ module _ (s : Sources) (b low high : Block) (low_half : IsHalf b low (2 * number
   q = number_of_block b
 
   abbrev claim : Claim
-  claim = claim_with s.frame.labels.now cost (numbers own)
+  claim = claim_with s.limits.labels.now cost (numbers own)
 
   abbrev faults : Tree → ℕ → ℕ → ℕ → Option CheckFault
   faults tree k = node_fault (map_of s.map.now) (list_of s.list.now).prefixes tree k
@@ -67,8 +67,8 @@ module _ (s : Sources) (b low high : Block) (low_half : IsHalf b low (2 * number
 
     pub halves-passed : (old : List LabelId) (last new : Walk) (high_cost : ℕ) (o : Option CheckFaultKind)
         (upper : IsPassed s (reading_at s high.len (place_in middle.nodes)) (fault_of_node s high) middle.number middle.sets.items middle.fault last high_cost)
-        → IsAscending (length s.frame.labels.now) 0 (numbers own)
-        → o ≡ claim_fault claim (exact_claim (claim_with s.frame.labels.now low_cost (numbers lower.set)) (claim_with s.frame.labels.now high_cost (numbers upper.set)))
+        → IsAscending (length s.limits.labels.now) 0 (numbers own)
+        → o ≡ claim_fault claim (exact_claim (claim_with s.limits.labels.now low_cost (numbers lower.set)) (claim_with s.limits.labels.now high_cost (numbers upper.set)))
         → new.nodes ≡ last.nodes → new.number ≡ last.number → new.sets.items ≡ old ++ own → new.fault ≡ option_or last.fault (fault_with number o)
         → IsPassed s (halves_reading s n claim place) (fault_of_node s b) number old before new cost
     halves-passed old last new high_cost o upper ascending fault nodes numbered sets noted = record {
@@ -102,10 +102,10 @@ module _ (s : Sources) (b low high : Block) (low_half : IsHalf b low (2 * number
 module _ (s : Sources) (b end : Block) (cost : ℕ) (own : List LabelId) (bits : List Bool) (side : ℕ) (path : LeadsTo b end bits) (place : Place)
     (number next : ℕ) (after : IsAfter number next) where
   abbrev claim' : Claim
-  claim' = claim_with s.frame.labels.now cost (numbers own)
+  claim' = claim_with s.limits.labels.now cost (numbers own)
 
   abbrev text : List ℕ
-  text = text_at s.frame.labels.now side
+  text = text_at s.limits.labels.now side
 
   abbrev m : MapModel
   m = map_of s.map.now
@@ -132,9 +132,9 @@ module _ (s : Sources) (b end : Block) (cost : ℕ) (own : List LabelId) (bits :
 
   pub chain-passed : (sets old : List LabelId) (before : Option CheckFault) (last new : Walk) (end_cost : ℕ) (beside o : Option CheckFaultKind)
       (below : IsPassed s (reading_at s end.len place) (fault_of_node s end) next sets before last end_cost)
-      → IsAscending (length s.frame.labels.now) 0 (numbers own)
+      → IsAscending (length s.limits.labels.now) 0 (numbers own)
       → beside ≡ sides_fault m ps text bits b.len (number_of_block b)
-      → o ≡ claim_fault claim' (chain_claim (length bits) text (claim_with s.frame.labels.now end_cost (numbers below.set)))
+      → o ≡ claim_fault claim' (chain_claim (length bits) text (claim_with s.limits.labels.now end_cost (numbers below.set)))
       → new.nodes ≡ last.nodes → new.number ≡ last.number → new.sets.items ≡ old ++ own
       → new.fault ≡ option_or (option_or last.fault (fault_with number beside)) (fault_with number o)
       → IsPassed s (chain_reading s b.len claim' bits side place) (fault_of_node s b) number old before new cost

@@ -59,15 +59,15 @@ root-checked s are b place number cost old before last new first len one none pa
     }
 
 -- a text whose root was read is read as the certificate with that root if nothing follows
-module _ (s : Sources) (are : AreSources s) (format : Format) (table : List Label) (version : Version) (format_is : s.frame.format ≡ format) (table_is : s.frame.labels.now ≡ table)
+module _ (s : Sources) (are : AreSources s) (format : Format) (table : List Label) (version : Version) (format_is : s.limits.format ≡ format) (table_is : s.limits.labels.now ≡ table)
     (version_is : version ≡ s.map.now.version) (place : Place) where
   abbrev then_ended : Read → Result CertificateModel CertFault
   then_ended r = r >>= (λ root. ended_by (certificate_with format version table root.0) root.1)
 
   at-root : node_due_at format (width_of version) table (width_of version) place ≡ reading_at s 0 place
   at-root =
-      let width : width_of version ≡ s.frame.width = ap width_of version_is ∙ sym are.width in
-      let room : width_of version ≡ s.frame.width - 0 = omega (arith, width) in
+      let width : width_of version ≡ s.limits.width = ap width_of version_is ∙ sym are.width in
+      let room : width_of version ≡ s.limits.width - 0 = omega (arith, width) in
       λ i. node_due_at (sym format_is i) (width i) (sym table_is i) (room i) place
 
   from-root : reading_from format version table place ≡ then_ended (reading_at s 0 place)

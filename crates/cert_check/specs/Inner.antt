@@ -28,7 +28,7 @@ use Rattle.pmap_text.specs.Reading.{◌>>=◌}
 use Rattle.cert_check.specs.Checking.{is_label_of, first_fault, leaf_fault, node_fault, told, CheckFault, CheckFaultKind}
 pub use Rattle.cert_check.specs.declared.source.Source.{Source}
 pub use Rattle.cert_check.specs.declared.sources.Sources.{Sources}
-pub use Rattle.cert_check.specs.declared.walk.Held.{Held}
+pub use Rattle.cert_check.specs.declared.walk.StoredClaim.{StoredClaim}
 pub use Rattle.cert_check.specs.declared.walk.Walk.{Walk}
 
 -- the numbers of one table's labels in another table, `None` for a label that the other lacks
@@ -56,9 +56,9 @@ has_one_label from s first last x =
 -- the list
 pub record AreSources (s : Sources) : Type 0 where
   pub list_version : s.list.now.version ≡ s.map.now.version
-  pub width : s.frame.width ≡ width_of s.map.now.version
-  pub of_map : IsSource s.map.now.labels s.frame.labels.now s.of_map
-  pub of_list : IsSource s.list.now.labels s.frame.labels.now s.of_list
+  pub width : s.limits.width ≡ width_of s.map.now.version
+  pub of_map : IsSource s.map.now.labels s.limits.labels.now s.of_map
+  pub of_list : IsSource s.list.now.labels s.limits.labels.now s.of_list
   pub map_width : s.of_map.stretches.version ≡ s.map.now.version
   pub list_width : s.of_list.stretches.version ≡ s.list.now.version
   pub map_stretches : AreStretches s.map.now.statements (Some s.map.now.default) s.of_map.stretches
@@ -84,20 +84,20 @@ abbrev pub claim_in : List Label → Claimed → Claim
 claim_in table c = claim_with table c.cost (map (λ i. i.0) c.set.now)
 
 -- the claim that is held, with its set at the end of a walk's sets
-abbrev pub held_claim : Sources → Held → List LabelId → Claim
-held_claim s held sets = claim_with s.frame.labels.now held.cost (map (λ i. i.0) (drop held.from sets))
+abbrev pub held_claim : Sources → StoredClaim → List LabelId → Claim
+held_claim s held sets = claim_with s.limits.labels.now held.cost (map (λ i. i.0) (drop held.from sets))
 
 -- the walk's sets end with the set that is held, whose numbers ascend
-pub record IsHeld (s : Sources) (held : Held) (sets : List LabelId) : Type 0 where
+pub record IsHeld (s : Sources) (held : StoredClaim) (sets : List LabelId) : Type 0 where
   pub within : held.from ≤ length sets
-  pub ascending : IsAscending (length s.frame.labels.now) 0 (map (λ i. i.0) (drop held.from sets))
+  pub ascending : IsAscending (length s.limits.labels.now) 0 (map (λ i. i.0) (drop held.from sets))
 
 abbrev pub Read : Type 0
 Read = Result (Tree × Place) CertFault
 
 -- reads the node at a place and those below it, for a block of n bits
 abbrev pub reading_at : Sources → ℕ → Place → Read
-reading_at s n place = node_due_at s.frame.format s.frame.width s.frame.labels.now (s.frame.width - n) place
+reading_at s n place = node_due_at s.limits.format s.limits.width s.limits.labels.now (s.limits.width - n) place
 
 -- reads the nodes of the halves of an inner node with this claim, for a block of n bits
 abbrev pub halves_reading : Sources → ℕ → Claim → Place → Read
@@ -109,7 +109,7 @@ halves_reading s n claim place =
 abbrev pub chain_reading : Sources → ℕ → Claim → List Bool → ℕ → Place → Read
 chain_reading s n claim bits side place =
     reading_at s (n + length bits) place >>= (λ end.
-    Ok (ChainNode claim bits (text_at s.frame.labels.now side) end.0, end.1))
+    Ok (ChainNode claim bits (text_at s.limits.labels.now side) end.0, end.1))
 
 -- the first fault of a tree whose node has the number k, for the block
 abbrev pub fault_of_node : Sources → Block → Tree → ℕ → Option CheckFault
@@ -127,8 +127,8 @@ IsAfter number next = (k : ℕ) → told k ≡ number → told (k + 1) ≡ next
 
 -- the block has room for the chain's bits, and the table has the chain's side label
 pub record FitsPath (s : Sources) (b : Block) (side : ℕ) (bits : List Bool) : Type 0 where
-  pub room : b.len + length bits ≤ s.frame.width
-  pub known : side < length s.frame.labels.now
+  pub room : b.len + length bits ≤ s.limits.width
+  pub known : side < length s.limits.labels.now
 
 -- the fault of the node with this number
 abbrev pub fault_with : ℕ → Option CheckFaultKind → Option CheckFault
@@ -136,7 +136,7 @@ fault_with number = option_map (λ kind. record { kind = kind; node = number })
 
 -- the lines of the nodes that are left fit the certificate
 abbrev pub CanBeRead : Sources → NodeSource → Type 0
-CanBeRead s = HasFittingLines (format_number s.frame.format) s.frame.width (length s.frame.labels.now)
+CanBeRead s = HasFittingLines (format_number s.limits.format) s.limits.width (length s.limits.labels.now)
 
 -- A tree was read, whose node has this number. The walk has its claimed set after the old ones, and its first fault
 -- unless one came before.
@@ -145,8 +145,8 @@ pub record IsPassed (s : Sources) (reading : Read) (fault_at : Tree → ℕ → 
   pub set : List LabelId
   pub nodes : CanBeRead s new.nodes
   pub read : reading ≡ Ok (tree, place_in new.nodes)
-  pub claim : claim_of tree ≡ claim_with s.frame.labels.now cost (map (λ i. i.0) set)
-  pub ascending : IsAscending (length s.frame.labels.now) 0 (map (λ i. i.0) set)
+  pub claim : claim_of tree ≡ claim_with s.limits.labels.now cost (map (λ i. i.0) set)
+  pub ascending : IsAscending (length s.limits.labels.now) 0 (map (λ i. i.0) set)
   pub sets : new.sets.items ≡ old ++ set
   pub fault : (k : ℕ) → told k ≡ number → (new.fault ≡ option_or before (fault_at tree k)) × (new.number ≡ told (k + line_count tree))
 
@@ -168,4 +168,4 @@ pub record IsRootChecked (s : Sources) (place : Place) (new : Walk) : Type 0 whe
   pub tree : Tree
   pub read : reading_at s 0 place ≡ Ok (tree, place_in new.nodes)
   pub fault : new.fault
-      ≡ first_fault (map_of s.map.now) (list_of s.list.now) (certificate_with s.frame.format s.map.now.version s.frame.labels.now tree)
+      ≡ first_fault (map_of s.map.now) (list_of s.list.now) (certificate_with s.limits.format s.map.now.version s.limits.labels.now tree)

@@ -16,7 +16,7 @@ use crate::laws::no_fault_is_acceptance;
 use crate::sources::Sources;
 use crate::walk::{Walk, check_node};
 use pmap_cert::{
-    CertFault, CertFaultKind, Certificate, Frame, Head, NodeSource, acceptance_is_enough,
+    CertFault, CertFaultKind, Certificate, Head, LineLimits, NodeSource, acceptance_is_enough,
     read_cert_with_hashing, read_head, text_of_format_is_read_or_has_a_fault, write_cert,
 };
 use pmap_text::{KeyHashing, MapText, PrefixList};
@@ -72,7 +72,7 @@ pub fn check_text(
         labels,
         nodes,
     } = read_head(alloc, text, hashing)?;
-    let frame = Frame {
+    let limits = LineLimits {
         format,
         width: version.width(),
         labels: &labels,
@@ -87,7 +87,7 @@ pub fn check_text(
             node: 0,
         }));
     }
-    let sources = Sources::new(alloc, map, list, frame)?;
+    let sources = Sources::new(alloc, map, list, limits)?;
     let mut walk = Walk::new(alloc, NodeSource::Text(nodes));
     check_root(&sources, &mut walk)?;
     if !walk.nodes.is_ended() {
@@ -148,12 +148,12 @@ pub fn check(
             node: 0,
         });
     }
-    let frame = Frame {
+    let limits = LineLimits {
         format: certificate.format,
         width: certificate.version.width(),
         labels: &certificate.labels,
     };
-    let sources = Sources::new(alloc, map, list, frame)?;
+    let sources = Sources::new(alloc, map, list, limits)?;
     let mut walk = Walk::new(alloc, certificate.nodes());
     let Ok(()) = check_root(&sources, &mut walk) else {
         // The lines of a certificate are well formed, so only a failed allocation ends the walk early.

@@ -12,7 +12,7 @@ ghost use Rattle.cert_check.specs.Inner.{AreSources, IsClear, IsHalf, sides_faul
 
 use crate::fault::CheckFaultKind;
 use crate::source::Source;
-use pmap_cert::{Frame, Path};
+use pmap_cert::{LineLimits, Path};
 use pmap_text::{LabelId, MapText, PrefixList, Stretches};
 use prefix_keys::Block;
 use std::alloc::{AllocError, Global};
@@ -23,7 +23,7 @@ use std::alloc::{AllocError, Global};
 pub struct Sources<'a> {
     pub map: &'a MapText,
     pub list: &'a PrefixList,
-    pub frame: Frame<'a>,
+    pub limits: LineLimits<'a>,
     pub of_map: Source,
     pub of_list: Source,
 }
@@ -56,23 +56,23 @@ impl<'a> Sources<'a> {
         alloc: Global,
         map: &'a MapText,
         list: &'a PrefixList,
-        frame: Frame<'a>,
+        limits: LineLimits<'a>,
     ) -> Result<Sources<'a>, AllocError>
         requires version { list.now.version ≡ map.now.version }
-        requires width { frame.width ≡ width_of map.now.version }
+        requires width { limits.width ≡ width_of map.now.version }
         ensures sources { IfOk result AreSources }
         ensures map { IfOk result (λ s. s.map ≡ map.entry) }
         ensures list { IfOk result (λ s. s.list ≡ list.entry) }
-        ensures frame { IfOk result (λ s. s.frame ≡ frame.entry) }
+        ensures limits { IfOk result (λ s. s.limits ≡ limits.entry) }
     {
         let of_map = Stretches::of_map(alloc, map)?;
         let of_list = Stretches::of_list(alloc, list)?;
         Ok(Sources {
             map,
             list,
-            frame,
-            of_map: Source::new(alloc, of_map, &map.labels, frame.labels)?,
-            of_list: Source::new(alloc, of_list, &list.labels, frame.labels)?,
+            limits,
+            of_map: Source::new(alloc, of_map, &map.labels, limits.labels)?,
+            of_list: Source::new(alloc, of_list, &list.labels, limits.labels)?,
         })
     }
 
@@ -80,9 +80,9 @@ impl<'a> Sources<'a> {
     pub fn leaf_fault(&self, near: &mut Near, block: &Block, id: LabelId) -> Option<CheckFaultKind>
         requires sources { AreSources self.now }
         requires version { block.now.version ≡ self.now.map.now.version }
-        requires known { id.0 < length self.now.frame.labels.now }
+        requires known { id.0 < length self.now.limits.labels.now }
         ensures { result ≡ leaf_fault_of (map_of self.now.map.now) (list_of self.now.list.now).prefixes block.now.len
-            (number_of block.now) (text_at self.now.frame.labels.now id.0) }
+            (number_of block.now) (text_at self.now.limits.labels.now id.0) }
     {
         let (first, last) = (block.value, block.high().value);
         if !self.of_map.has_label(&mut near.map, first, last, id) {
@@ -98,8 +98,8 @@ impl<'a> Sources<'a> {
     fn is_clear(&self, near: &mut Near, first: u128, last: u128, id: LabelId) -> bool
         requires sources { AreSources self.now }
         requires within { first < 2 ^ width_of self.now.map.now.version }
-        requires known { id.0 < length self.now.frame.labels.now }
-        ensures { IsTrue result → IsClear self.now first (last + 1) (text_at self.now.frame.labels.now id.0) }
+        requires known { id.0 < length self.now.limits.labels.now }
+        ensures { IsTrue result → IsClear self.now first (last + 1) (text_at self.now.limits.labels.now id.0) }
     {
         self.of_map.has_label(&mut near.map, first, last, id)
             && self.of_list.has_label(&mut near.list, first, last, id)
@@ -115,9 +115,9 @@ impl<'a> Sources<'a> {
     ) -> bool
         requires sources { AreSources self.now }
         requires version { block.now.version ≡ self.now.map.now.version }
-        requires known { side.0 < length self.now.frame.labels.now }
+        requires known { side.0 < length self.now.limits.labels.now }
         ensures { IsTrue result → IsClear self.now block.now.value end.now.value
-            (text_at self.now.frame.labels.now side.0) }
+            (text_at self.now.limits.labels.now side.0) }
     {
         end.value <= block.value || self.is_clear(near, block.value, end.value - 1, side)
     }
@@ -126,10 +126,10 @@ impl<'a> Sources<'a> {
     fn is_clear_after(&self, near: &mut Near, block: &Block, end: &Block, side: LabelId) -> bool
         requires sources { AreSources self.now }
         requires version { block.now.version ≡ self.now.map.now.version }
-        requires known { side.0 < length self.now.frame.labels.now }
+        requires known { side.0 < length self.now.limits.labels.now }
         ensures { let W = width_of block.now.version in IsTrue result →
             IsClear self.now (last_of (width_of end.now.version) end.now.len (number_of end.now) + 1)
-            (last_of W block.now.len (number_of block.now) + 1) (text_at self.now.frame.labels.now side.0) }
+            (last_of W block.now.len (number_of block.now) + 1) (text_at self.now.limits.labels.now side.0) }
     {
         let (last, whole) = (end.high().value, block.high().value);
         whole <= last || self.is_clear(near, last + 1, whole, side)
@@ -147,12 +147,12 @@ impl<'a> Sources<'a> {
     ) -> Option<CheckFaultKind>
         requires sources { AreSources self.now }
         requires version { block.now.version ≡ self.now.map.now.version }
-        requires known { side.0 < length self.now.frame.labels.now }
+        requires known { side.0 < length self.now.limits.labels.now }
         requires room { block.now.len + path.now.count ≤ width_of block.now.version }
         requires before { (end : Block) → LeadsTo block.now end (bits_in path.now) → IsTrue is_clear_before →
-            IsClear self.now block.now.value end.value (text_at self.now.frame.labels.now side.0) }
+            IsClear self.now block.now.value end.value (text_at self.now.limits.labels.now side.0) }
         ensures { result ≡ sides_fault_of (map_of self.now.map.now) (list_of self.now.list.now).prefixes
-            (text_at self.now.frame.labels.now side.0) (bits_in path.now) block.now.len (number_of block.now) }
+            (text_at self.now.limits.labels.now side.0) (bits_in path.now) block.now.len (number_of block.now) }
     {
         if is_clear_before && self.is_clear_after(near, block, &path.end(block), side) {
             return None;

@@ -10,7 +10,7 @@ ghost use Rattle.cert_check.specs.Inner.{AreSources, CanBeRead, FitsPath, IsAfte
 use crate::claims::{chain_fault, claim_fault};
 use crate::fault::{CheckFault, CheckFaultKind};
 use crate::sources::{Near, Sources};
-use pmap_cert::{CertFault, CertFaultKind, Claim, Frame, Kept, Node, NodeSource, Path};
+use pmap_cert::{CertFault, CertFaultKind, Claim, LineLimits, Node, NodeBuffer, NodeSource, Path};
 use pmap_text::LabelId;
 use prefix_keys::Block;
 use std::alloc::{AllocError, Global};
@@ -22,7 +22,7 @@ use std::slice;
 #[derive(Drop)]
 pub struct Walk<'a> {
     pub nodes: NodeSource<'a>,
-    pub kept: Kept,
+    pub buffer: NodeBuffer,
     number: u64,
     sets: Vec<LabelId>,
     near: Near,
@@ -38,7 +38,7 @@ impl<'a> Walk<'a> {
     {
         Walk {
             nodes,
-            kept: Kept::new(alloc),
+            buffer: NodeBuffer::new(alloc),
             number: 1,
             sets: Vec::new(alloc),
             near: Near { map: 0, list: 0 },
@@ -58,14 +58,14 @@ impl<'a> Walk<'a> {
 
 // What a node claims: a cost, and the walk's sets from an index on.
 #[derive(Clone, Copy)]
-struct Held {
+struct StoredClaim {
     cost: u32,
     from: usize,
 }
 
 // Adds the set of a claim to others, quickly if it has one label.
 #[inline(always)]
-fn hold(sets: &mut Vec<LabelId>, claim: Claim) -> Result<Held, AllocError>
+fn hold(sets: &mut Vec<LabelId>, claim: Claim) -> Result<StoredClaim, AllocError>
     ensures cost { IfOk result (λ held. held.cost ≡ claim.entry.cost) }
     ensures from { IfOk result (λ held. held.from ≡ length sets.old.items) }
     ensures sets { OnOk result (sets.new.items ≡ sets.old.items ++ claim.entry.set.now) }
@@ -75,7 +75,7 @@ fn hold(sets: &mut Vec<LabelId>, claim: Claim) -> Result<Held, AllocError>
         [id] => sets.push(*id)?,
         _ => sets.extend_from_slice(claim.set)?,
     }
-    Ok(Held {
+    Ok(StoredClaim {
         cost: claim.cost,
         from,
     })
@@ -101,7 +101,7 @@ pub fn check_node(sources: &Sources, walk: &mut Walk, block: &Block) -> Result<u
     let deepest = walk.nodes.fault(CertFaultKind::TooDeep);
     let number = walk.number;
     walk.number = next_number(number);
-    match walk.nodes.next_node(&mut walk.kept, &sources.frame)? {
+    match walk.nodes.next_node(&mut walk.buffer, &sources.limits)? {
         Node::Leaf(id) => {
             walk.sets.extend_from_slice(slice::from_ref(&id))?;
             let fault = sources.leaf_fault(&mut walk.near, block, id);
@@ -116,7 +116,7 @@ pub fn check_node(sources: &Sources, walk: &mut Walk, block: &Block) -> Result<u
             check_inner(sources, walk, &low, &high, number, held)
         }
         Node::Chain { claim, path, side } => {
-            if path.len() > sources.frame.width - block.len {
+            if path.len() > sources.limits.width - block.len {
                 return Err(deepest);
             }
             let path = *path;
@@ -134,7 +134,7 @@ fn check_inner(
     low: &Block,
     high: &Block,
     number: u64,
-    held: Held,
+    held: StoredClaim,
 ) -> Result<u32, CertFault>
     requires sources { AreSources sources.now }
     requires nodes { CanBeRead sources.now walk.old.nodes }
@@ -155,7 +155,7 @@ fn check_inner(
     let upper_cost = check_node(sources, walk, high)?;
     let sets = walk.sets.as_slice();
     let fault = claim_fault(
-        sources.frame.labels,
+        sources.limits.labels,
         Claim {
             cost: held.cost,
             set: &sets[held.from..lower],
@@ -182,7 +182,7 @@ fn check_chain(
     walk: &mut Walk,
     block: &Block,
     number: u64,
-    held: Held,
+    held: StoredClaim,
     path: &Path,
     side: LabelId,
 ) -> Result<u32, CertFault>
@@ -207,7 +207,7 @@ fn check_chain(
     walk.note(beside, number);
     let sets = walk.sets.as_slice();
     let fault = chain_fault(
-        sources.frame.labels,
+        sources.limits.labels,
         Claim {
             cost: held.cost,
             set: &sets[held.from..start],

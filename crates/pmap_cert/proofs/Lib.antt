@@ -37,7 +37,7 @@ pub mod FormatTrees
 pub mod FormatWhole
 pub mod CompactNodes
 pub mod CompactPlaces
-pub mod GivenLines
+pub mod StoredLines
 pub mod EntryOrder
 pub mod WordLines
 pub mod LastMatch

@@ -4,7 +4,7 @@ ghost use Rattle.pmap_cert.specs.CertificateText.{HasFormatText, HasTextForm};
 ghost use Rattle.pmap_cert.specs.Format.{IsNodeOf, IsNodeOf-prop, One};
 ghost use Rattle.pmap_cert.specs.Node.{HasChainForm, HasChainForm-prop, HasNumberForm};
 
-use crate::cursor::{Cursor, cursor_of};
+use crate::cursor::Cursor;
 use crate::format::Format;
 use crate::node_source::NodeSource;
 use crate::nodes_from::NodesFrom;
@@ -71,7 +71,7 @@ impl Certificate {
     {
         // Provides the law that the table has at most 65536 labels, all distinct.
         let _count = self.labels.len();
-        cursor_of(&self.root)
+        Cursor::at_root(&self.root)
     }
 
     /// Returns the nodes, from the root on. Read like a text, they are the certificate's.

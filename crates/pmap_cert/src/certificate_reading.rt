@@ -12,7 +12,7 @@ use crate::fault::{CertFault, CertFaultKind};
 use crate::format::Format;
 use crate::lines::Lines;
 use crate::node::Node;
-use crate::node_line::{Frame, Kept};
+use crate::node_line::{LineLimits, NodeBuffer};
 use crate::nodes::Nodes;
 use crate::root::Root;
 use pmap_text::{KeyHashing, Labels, is_label};
@@ -60,19 +60,19 @@ fn read_labels<'a>(
 // Reads the next node, with at most `room` levels below it, adds its lines to `nodes`, and moves `lines` past them.
 fn read_node(
     nodes: &mut Nodes,
-    kept: &mut Kept,
-    frame: &Frame,
+    buffer: &mut NodeBuffer,
+    limits: &LineLimits,
     room: u32,
     lines: &mut Lines,
 ) -> Result<(), CertFault>
-    ensures ok { OnOk result (IsReadNode frame.now.format frame.now.width frame.now.labels.now room lines.old
+    ensures ok { OnOk result (IsReadNode limits.now.format limits.now.width limits.now.labels.now room lines.old
         nodes.old nodes.new lines.new) }
     ensures err { IfErr result (λ fault. fault.kind ≢ NoMemory →
-        node_due_at frame.now.format frame.now.width frame.now.labels.now room lines.old ≡ Err fault) }
+        node_due_at limits.now.format limits.now.width limits.now.labels.now room lines.old ≡ Err fault) }
     ensures memory { IfErr result (λ fault. fault.kind ≡ NoMemory → fault.line ≡ 0) }
 {
     let deepest = lines.fault(CertFaultKind::TooDeep);
-    let node = lines.next_node(kept, frame)?;
+    let node = lines.next_node(buffer, limits)?;
     match node {
         Node::Leaf(id) => {
             nodes.push(Node::Leaf(id))?;
@@ -83,8 +83,8 @@ fn read_node(
                 return Err(deepest);
             }
             nodes.push(Node::Inner(claim))?;
-            read_node(nodes, kept, frame, room - 1, lines)?;
-            read_node(nodes, kept, frame, room - 1, lines)?;
+            read_node(nodes, buffer, limits, room - 1, lines)?;
+            read_node(nodes, buffer, limits, room - 1, lines)?;
             Ok(())
         }
         Node::Chain { claim, path, side } => {
@@ -93,26 +93,26 @@ fn read_node(
                 return Err(deepest);
             }
             nodes.push(Node::Chain { claim, path, side })?;
-            read_node(nodes, kept, frame, room - deep, lines)?;
+            read_node(nodes, buffer, limits, room - deep, lines)?;
             Ok(())
         }
     }
 }
 
 // Reads the root with all nodes below it, and moves `lines` past them.
-fn read_root(alloc: Global, frame: &Frame, lines: &mut Lines) -> Result<Root, CertFault>
+fn read_root(alloc: Global, limits: &LineLimits, lines: &mut Lines) -> Result<Root, CertFault>
     ensures ok { IfOk result (λ root.
-        node_due_at frame.now.format frame.now.width frame.now.labels.now frame.now.width lines.old
-        ≡ Ok (tree_of frame.now.labels.now root, lines.new)) }
-    ensures form { IfOk result (λ root. HasChainForm (length frame.now.labels.now) root frame.now.width) }
-    ensures kind { IfOk result (λ root. IsNodeOf frame.now.format root) }
+        node_due_at limits.now.format limits.now.width limits.now.labels.now limits.now.width lines.old
+        ≡ Ok (tree_of limits.now.labels.now root, lines.new)) }
+    ensures form { IfOk result (λ root. HasChainForm (length limits.now.labels.now) root limits.now.width) }
+    ensures kind { IfOk result (λ root. IsNodeOf limits.now.format root) }
     ensures err { IfErr result (λ fault. fault.kind ≢ NoMemory →
-        node_due_at frame.now.format frame.now.width frame.now.labels.now frame.now.width lines.old ≡ Err fault) }
+        node_due_at limits.now.format limits.now.width limits.now.labels.now limits.now.width lines.old ≡ Err fault) }
     ensures memory { IfErr result (λ fault. fault.kind ≡ NoMemory → fault.line ≡ 0) }
 {
     let mut nodes = Nodes::new(alloc);
-    let mut kept = Kept::new(alloc);
-    read_node(&mut nodes, &mut kept, frame, frame.width, lines)?;
+    let mut buffer = NodeBuffer::new(alloc);
+    read_node(&mut nodes, &mut buffer, limits, limits.width, lines)?;
     Ok(Root::new(nodes))
 }
 
@@ -159,12 +159,12 @@ fn read_all(alloc: Global, text: &[u8], hashing: KeyHashing) -> Result<Certifica
         nodes,
     } = read_head(alloc, text, hashing)?;
     let mut rest = nodes;
-    let frame = Frame {
+    let limits = LineLimits {
         format,
         width: version.width(),
         labels: &labels,
     };
-    let root = read_root(alloc, &frame, &mut rest)?;
+    let root = read_root(alloc, &limits, &mut rest)?;
     if rest.is_ended() {
         Ok(Certificate::of_format(format, version, labels, root))
     } else {

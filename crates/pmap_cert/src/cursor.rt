@@ -30,17 +30,17 @@ impl<'a> Model for Cursor<'a> {
     ghost invariant = { λ c. AreWhole (drop c.number c.nodes.now) };
 }
 
-/// Returns a cursor at the root of a tree.
-pub fn cursor_of(tree: &Root) -> Cursor<'_>
-    ensures { result ≡ tree.now ∷ [] }
-{
-    Cursor {
-        nodes: tree.nodes(),
-        number: 0,
-    }
-}
-
 impl<'a> Cursor<'a> {
+    /// Returns a cursor at the root of a tree.
+    pub fn at_root(tree: &'a Root) -> Cursor<'a>
+        ensures { result ≡ tree.now ∷ [] }
+    {
+        Cursor {
+            nodes: tree.nodes(),
+            number: 0,
+        }
+    }
+
     /// Returns the node.
     pub fn node(&self) -> Node<'a>
         requires { 0 < length self.now }

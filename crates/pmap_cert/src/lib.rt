@@ -54,7 +54,7 @@ pub use chain_laws::{
     compacting_is_by_longest_runs, opened_is_accepted, text_of_format_is_read_or_has_a_fault,
 };
 pub use compacting::{compact, write_compact};
-pub use cursor::{Cursor, cursor_of};
+pub use cursor::Cursor;
 pub use fault::{CertFault, CertFaultKind};
 pub use format::Format;
 pub use laws::{
@@ -62,15 +62,13 @@ pub use laws::{
     map_text_has_its_labels, minimal_list_is_in_order, minimal_pair_exists,
     minimal_pair_is_accepted, minimal_pair_is_unique,
 };
-pub use lines::Lines;
 pub use list_laws::{
     minimal_list_can_be_read_again, printed_list_is_read_back, printed_order_is_one,
 };
 pub use node::{Claim, Node};
-pub use node_line::{Frame, Kept};
+pub use node_line::{LineLimits, NodeBuffer};
 pub use node_source::NodeSource;
 pub use nodes::Nodes;
-pub use nodes_from::NodesFrom;
 pub use path::Path;
 pub use root::Root;
 pub use writing::{head_text, push_line, write_cert};

@@ -7,7 +7,7 @@ use crate::fault::{CertFault, CertFaultKind};
 use crate::format::Format;
 use crate::header::read_header;
 use crate::node::Node;
-use crate::node_line::{Frame, Kept, node_line};
+use crate::node_line::{LineLimits, NodeBuffer, node_line};
 use prefix_keys::{Version, find_byte};
 use std::marker::Model;
 
@@ -70,21 +70,21 @@ impl<'a> Lines<'a> {
         }
     }
 
-    /// Reads the next line of a node and moves past it. `kept` gets the node's set and bits.
+    /// Reads the next line of a node and moves past it. `buffer` gets the node's set and bits.
     #[inline(always)]
     pub fn next_node<'s>(
         &mut self,
-        kept: &'s mut Kept,
-        frame: &Frame,
+        buffer: &'s mut NodeBuffer,
+        limits: &LineLimits,
     ) -> Result<Node<'s>, CertFault>
-        ensures ok { IfOk result (λ node. line_due_at (format_number frame.now.format) frame.now.width
-            (length frame.now.labels.now) self.old ≡ Ok (line_of node, self.new)) }
-        ensures err { IfErr result (λ fault. fault.kind ≢ NoMemory → line_due_at (format_number frame.now.format)
-            frame.now.width (length frame.now.labels.now) self.old ≡ Err fault) }
+        ensures ok { IfOk result (λ node. line_due_at (format_number limits.now.format) limits.now.width
+            (length limits.now.labels.now) self.old ≡ Ok (line_of node, self.new)) }
+        ensures err { IfErr result (λ fault. fault.kind ≢ NoMemory → line_due_at (format_number limits.now.format)
+            limits.now.width (length limits.now.labels.now) self.old ≡ Err fault) }
         ensures memory { IfErr result (λ fault. fault.kind ≡ NoMemory → fault.line ≡ 0) }
     {
-        let count = frame.labels.len() as u64;
-        match node_line(kept, frame, self.rest, count)? {
+        let count = limits.labels.len() as u64;
+        match node_line(buffer, limits, self.rest, count)? {
             Some((node, rest)) => {
                 *self = Lines {
                     rest,

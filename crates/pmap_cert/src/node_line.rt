@@ -12,7 +12,7 @@ use std::alloc::{AllocError, Global};
 
 /// The limits of node lines: the format, the number of bits of an address, and the label table.
 #[derive(Clone, Copy)]
-pub struct Frame<'a> {
+pub struct LineLimits<'a> {
     pub format: Format,
     pub width: u32,
     pub labels: &'a Labels,
@@ -21,15 +21,15 @@ pub struct Frame<'a> {
 
 /// The memory for the set and the bits of the node that was read last.
 #[derive(Drop)]
-pub struct Kept {
+pub struct NodeBuffer {
     set: Vec<LabelId>,
     path: Path,
 }
 
-impl Kept {
+impl NodeBuffer {
     /// Constructs the set and the bits before the first line, which are empty.
-    pub fn new(alloc: Global) -> Kept {
-        Kept {
+    pub fn new(alloc: Global) -> NodeBuffer {
+        NodeBuffer {
             set: Vec::new(alloc),
             path: Path { value: 0, count: 0 },
         }
@@ -160,7 +160,7 @@ fn claim<'a>(
 
 // Reads a chain's line after its letter, stores bits and set, and returns cost, side label and the text after the line.
 fn chain<'a>(
-    kept: &mut Kept,
+    buffer: &mut NodeBuffer,
     text: &'a [u8],
     most: u32,
     count: u64,
@@ -168,7 +168,7 @@ fn chain<'a>(
     requires few { most ≤ 128 }
     requires count { count ≤ 2 ^ 32 }
     ensures { IfOk result (λ found. Reads (BeginsWithChain most count text.entry.now)
-        (option_map (λ x. ((x.0.0, (bits_in kept.new.path, (x.0.1.0, map (λ id. id.0) kept.new.set.items))), x.1.now))
+        (option_map (λ x. ((x.0.0, (bits_in buffer.new.path, (x.0.1.0, map (λ id. id.0) buffer.new.set.items))), x.1.now))
         found)) }
 {
     let Some((cost, rest)) = number_word(text, 1 << 32) else {
@@ -177,25 +177,25 @@ fn chain<'a>(
     let Some((path, rest)) = bits_word(rest, most) else {
         return Ok(None);
     };
-    kept.path = path;
-    match claim(&mut kept.set, rest, count, count)? {
+    buffer.path = path;
+    match claim(&mut buffer.set, rest, count, count)? {
         Some((side, rest)) => Ok(Some(((cost, LabelId(side)), rest))),
         None => Ok(None),
     }
 }
 
 /// Reads the node line at the beginning of a text, and returns its node with the text after it, or `None` if it is
-/// malformed for `count` labels. `kept` gets the node's set and bits.
+/// malformed for `count` labels. `buffer` gets the node's set and bits.
 #[inline(always)]
 pub fn node_line<'a, 's>(
-    kept: &'s mut Kept,
-    frame: &Frame,
+    buffer: &'s mut NodeBuffer,
+    limits: &LineLimits,
     text: &'a [u8],
     count: u64,
 ) -> Result<Option<(Node<'s>, &'a [u8])>, AllocError>
     requires { count ≤ 2 ^ 32 }
     ensures { IfOk result (λ found. Reads
-        (BeginsWithLine (format_number frame.now.format) frame.now.width count text.entry.now)
+        (BeginsWithLine (format_number limits.now.format) limits.now.width count text.entry.now)
         (option_map (λ x. (line_of x.0, x.1.now)) found)) }
 {
     if let Some(rest) = after_byte(text, b'l') {
@@ -204,20 +204,20 @@ pub fn node_line<'a, 's>(
             None => Ok(None),
         }
     } else if let Some(rest) = after_byte(text, b'n') {
-        match claim(&mut kept.set, rest, 1 << 32, count)? {
+        match claim(&mut buffer.set, rest, 1 << 32, count)? {
             Some((cost, rest)) => {
-                let set = kept.set.as_slice();
+                let set = buffer.set.as_slice();
                 Ok(Some((Node::Inner(Claim { cost, set }), rest)))
             }
             None => Ok(None),
         }
-    } else if let (Format::Two, Some(rest)) = (frame.format, after_byte(text, b'c')) {
-        match chain(kept, rest, frame.width, count)? {
+    } else if let (Format::Two, Some(rest)) = (limits.format, after_byte(text, b'c')) {
+        match chain(buffer, rest, limits.width, count)? {
             Some(((cost, side), rest)) => {
-                let set = kept.set.as_slice();
+                let set = buffer.set.as_slice();
                 let node = Node::Chain {
                     claim: Claim { cost, set },
-                    path: &kept.path,
+                    path: &buffer.path,
                     side,
                 };
                 Ok(Some((node, rest)))

@@ -7,7 +7,7 @@ ghost use Rattle.pmap_cert.specs.Packed.{line_of};
 use crate::fault::{CertFault, CertFaultKind};
 use crate::lines::Lines;
 use crate::node::Node;
-use crate::node_line::{Frame, Kept};
+use crate::node_line::{LineLimits, NodeBuffer};
 use crate::nodes_from::NodesFrom;
 
 /// The nodes of a certificate that are still to be read, in the order of their lines: the rest of its text, or of the
@@ -19,30 +19,30 @@ pub enum NodeSource<'a> {
 }
 
 impl<'a> NodeSource<'a> {
-    /// Reads the next node and moves past it. `kept` gets the set and the bits of a node that is read from a text.
+    /// Reads the next node and moves past it. `buffer` gets the set and the bits of a node that is read from a text.
     #[inline(always)]
     pub fn next_node<'s>(
         &mut self,
-        kept: &'s mut Kept,
-        frame: &Frame,
+        buffer: &'s mut NodeBuffer,
+        limits: &LineLimits,
     ) -> Result<Node<'s>, CertFault>
     where
         'a: 's,
-        requires { HasFittingLines (format_number frame.now.format) frame.now.width (length frame.now.labels.now)
+        requires { HasFittingLines (format_number limits.now.format) limits.now.width (length limits.now.labels.now)
             self.old }
-        ensures ok { IfOk result (λ node. line_due_at (format_number frame.now.format) frame.now.width
-            (length frame.now.labels.now) (place_in self.old) ≡ Ok (line_of node, place_in self.new)) }
-        ensures err { IfErr result (λ fault. fault.kind ≢ NoMemory → line_due_at (format_number frame.now.format)
-            frame.now.width (length frame.now.labels.now) (place_in self.old) ≡ Err fault) }
+        ensures ok { IfOk result (λ node. line_due_at (format_number limits.now.format) limits.now.width
+            (length limits.now.labels.now) (place_in self.old) ≡ Ok (line_of node, place_in self.new)) }
+        ensures err { IfErr result (λ fault. fault.kind ≢ NoMemory → line_due_at (format_number limits.now.format)
+            limits.now.width (length limits.now.labels.now) (place_in self.old) ≡ Err fault) }
         ensures memory { IfErr result (λ fault. fault.kind ≡ NoMemory → fault.line ≡ 0) }
-        ensures fits { HasFittingLines (format_number frame.now.format) frame.now.width (length frame.now.labels.now)
+        ensures fits { HasFittingLines (format_number limits.now.format) limits.now.width (length limits.now.labels.now)
             self.new }
     {
         match self {
-            NodeSource::Text(lines) => lines.next_node(kept, frame),
+            NodeSource::Text(lines) => lines.next_node(buffer, limits),
             NodeSource::Nodes(rest) => {
                 // Provides the law that a table has at most 65536 labels.
-                let _count = frame.labels.len();
+                let _count = limits.labels.len();
                 let NodesFrom { nodes, number } = *rest;
                 if number >= nodes.len() {
                     return Err(CertFault {

@@ -7,7 +7,7 @@ ghost use Rattle.pmap_minimise.specs.Numbers.{IsSound};
 ghost use Rattle.pmap_minimise.specs.Opened.{Opens};
 
 use crate::entering::push_own;
-use pmap_cert::{Node, Root, cursor_of};
+use pmap_cert::{Cursor, Node, Root};
 use pmap_text::{Entries, LabelId};
 use prefix_keys::{Block, Version, whole_space};
 use std::alloc::{AllocError, Global};
@@ -19,7 +19,7 @@ pub fn entries_of(alloc: Global, root: &Root, version: Version) -> Result<Entrie
         → IsListedBy version node entries) }
 {
     // Reads the nodes from the first line to the last.
-    let mut at = cursor_of(root);
+    let mut at = Cursor::at_root(root);
     let mut entries = Entries::new(alloc);
     // The blocks whose nodes are still to be read, without the blocks inside them, and the label that each inherits. The
     // block of the next node is the last.

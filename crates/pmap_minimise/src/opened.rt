@@ -7,7 +7,7 @@ ghost use Rattle.pmap_minimise.specs.Numbers.{numbers_of};
 ghost use Rattle.pmap_minimise.specs.Opened.{IsOpenedAt, Opens, cost_above, node_text, path_node, set_above, text_up, with_number};
 
 use crate::entering::has_label;
-use pmap_cert::{Claim, Cursor, Node, Path, Root, cursor_of, push_line};
+use pmap_cert::{Claim, Cursor, Node, Path, Root, push_line};
 use pmap_text::LabelId;
 use std::alloc::{AllocError, Global};
 use std::slice;
@@ -194,6 +194,6 @@ pub fn push_opened(out: &mut Vec<u8>, alloc: Global, root: &Root) -> Result<(), 
         out,
         &mut Vec::new(alloc),
         &mut Vec::new(alloc),
-        &mut cursor_of(root),
+        &mut Cursor::at_root(root),
     )
 }

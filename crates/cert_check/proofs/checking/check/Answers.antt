@@ -10,7 +10,7 @@ use Rattle.prefix_keys.specs.Block.{width_of}
 use Rattle.pmap_cert.specs.Inner.{node_due_at}
 use Rattle.pmap_cert.specs.NodeSource.{place_in}
 use Rattle.pmap_cert.specs.declared.node_source.NodeSource.{NodeSource}
-use Rattle.pmap_cert.specs.declared.node_line.Frame.{Frame}
+use Rattle.pmap_cert.specs.declared.node_line.LineLimits.{LineLimits}
 use Rattle.cert_check.specs.Checking.{first_fault}
 use Rattle.cert_check.proofs.Nodes.{IsNodeFault, first-node}
 use Rattle.cert_check.proofs.Whole.{given-as}
@@ -24,7 +24,7 @@ returns-in-Some c =
     let made = c.in_ok-sources.ensures in
     let given = c.args.certificate.now in
     let version = c.are_one_version.ensures.certificate c.if-not-are_one_version.false ∙ sym (ap (λ (b : Bor MapText). b.now.version) made.map) in
-    given-as c.in_ok-sources.sources made.sources given.format given.labels given.version (ap (λ (f : Frame). f.format) made.frame) (ap (λ (f : Frame). f.labels.now) made.frame) version
+    given-as c.in_ok-sources.sources made.sources given.format given.labels given.version (ap (λ (f : LineLimits). f.format) made.limits) (ap (λ (f : LineLimits). f.labels.now) made.limits) version
     (place_in c.new-walk.result.nodes) c.args.map.now c.args.list.now (ap (λ (b : Bor MapText). b.now) made.map) (ap (λ (b : Bor PrefixList). b.now) made.list) c.check_root.new.walk
     c.in-Ok.ensures.ok (tree_of given.labels given.root) c.nodes.ensures.read.0
     (ap (λ (source : NodeSource). node_due_at given.format (width_of given.version) given.labels (width_of given.version) (place_in source)) c.new-walk.ensures.nodes ∙ c.nodes.ensures.read.1)
@@ -47,7 +47,7 @@ returns c =
     let made = c.in_ok-sources.ensures in
     let given = c.args.certificate.now in
     let version = c.are_one_version.ensures.certificate c.if-not-are_one_version.false ∙ sym (ap (λ (b : Bor MapText). b.now.version) made.map) in
-    given-as c.in_ok-sources.sources made.sources given.format given.labels given.version (ap (λ (f : Frame). f.format) made.frame) (ap (λ (f : Frame). f.labels.now) made.frame) version
+    given-as c.in_ok-sources.sources made.sources given.format given.labels given.version (ap (λ (f : LineLimits). f.format) made.limits) (ap (λ (f : LineLimits). f.labels.now) made.limits) version
     (place_in c.new-walk.result.nodes) c.args.map.now c.args.list.now (ap (λ (b : Bor MapText). b.now) made.map) (ap (λ (b : Bor PrefixList). b.now) made.list) c.check_root.new.walk
     c.in-Ok.ensures.ok (tree_of given.labels given.root) c.nodes.ensures.read.0
     (ap (λ (source : NodeSource). node_due_at given.format (width_of given.version) given.labels (width_of given.version) (place_in source)) c.new-walk.ensures.nodes ∙ c.nodes.ensures.read.1)

@@ -25,53 +25,53 @@ use Rattle.cert_check.proofs.walk.+nodes.Goals as goal
 pub check_node-returns-in_err-id : goal.check_node-returns-in_err-id
 check_node-returns-in_err-id t c =
     let s = c.args.sources.now in
-    let frame = s.frame in
+    let limits = s.limits in
     let p = err_from_is_err_and c.from_residual.result c.from_residual.ensures.1 in
     rw (p.1, p.2) (
-      λ some. node-fault (due_in frame.format frame.width frame.labels.now) frame.labels.now (place_in c.args.walk.now.nodes) (place_in c.args.walk.now.nodes) (frame.width - c.args.block.now.len)
+      λ some. node-fault (due_in limits.format limits.width limits.labels.now) limits.labels.now (place_in c.args.walk.now.nodes) (place_in c.args.walk.now.nodes) (limits.width - c.args.block.now.len)
           c.in_err-id.field-0.0 (c.in_err-id.ensures.err some),
       c.in_err-id.ensures.memory,
     )
 
 pub check_node-returns-in_default : goal.check_node-returns-in_default
 check_node-returns-in_default t c =
-    let frame = c.args.sources.now.frame in
+    let limits = c.args.sources.now.limits in
     let width = c.requires.sources.width ∙ sym (ap width_of c.requires.version) in
-    let room : frame.width - c.args.block.now.len ≡ 0 = omega (arith, width, (c.in_default.ensures.full).0 refl) in
+    let room : limits.width - c.args.block.now.len ≡ 0 = omega (arith, width, (c.in_default.ensures.full).0 refl) in
     rw c.fault-deepest.ensures (
-      λ _. ap (λ (n : ℕ). nodes_at (due_in frame.format frame.width frame.labels.now) frame.labels.now n 0 (place_in c.args.walk.now.nodes)) room
-          ∙ node-deep (due_in frame.format frame.width frame.labels.now) frame.labels.now (place_in c.args.walk.now.nodes) (place_in c.next_node.new.self) c.in-Inner.claim.cost (numbers c.in-Inner.claim.set.now)
+      λ _. ap (λ (n : ℕ). nodes_at (due_in limits.format limits.width limits.labels.now) limits.labels.now n 0 (place_in c.args.walk.now.nodes)) room
+          ∙ node-deep (due_in limits.format limits.width limits.labels.now) limits.labels.now (place_in c.args.walk.now.nodes) (place_in c.next_node.new.self) c.in-Inner.claim.cost (numbers c.in-Inner.claim.set.now)
           (rw c.in-Inner.is at c.in_ok-id.ensures.ok),
       λ e. cc,
     )
 
 pub check_node-check_inner-requires : goal.check_node-check_inner-requires
 check_node-check_inner-requires t c =
-    let frame = c.args.sources.now.frame in
-    let said = line_due-found (format_number frame.format) frame.width (length frame.labels.now) (place_in c.args.walk.now.nodes)
+    let limits = c.args.sources.now.limits in
+    let said = line_due-found (format_number limits.format) limits.width (length limits.labels.now) (place_in c.args.walk.now.nodes)
     (InnerLine c.in-Inner.claim.cost (numbers c.in-Inner.claim.set.now), (place_in c.next_node.new.self)) (rw c.in-Inner.is at c.in_ok-id.ensures.ok) in
     let at = held-at c.args.walk.now.sets.items c.in-Inner.claim.set.now c.hold.new.sets.items c.in_ok-held-in-Inner.held.from c.in_ok-held-in-Inner.ensures.sets c.in_ok-held-in-Inner.ensures.from in
     let held : IsHeld c.args.sources.now c.in_ok-held-in-Inner.held c.hold.new.sets.items =
-    record { within = at.2; ascending = subst (λ (ids : List LabelId). IsAscending (length frame.labels.now) 0 (numbers ids)) (sym at.1) said.1.1 } in
+    record { within = at.2; ascending = subst (λ (ids : List LabelId). IsAscending (length limits.labels.now) 0 (numbers ids)) (sym at.1) said.1.1 } in
     search rules
 
 pub check_node-returns-in_ok-held-in-Inner : goal.check_node-returns-in_ok-held-in-Inner
 check_node-returns-in_ok-held-in-Inner t c =
     let s = c.args.sources.now in
-    let frame = s.frame in
-    let table = frame.labels.now in
+    let limits = s.limits in
+    let table = limits.labels.now in
     let n = c.args.block.now.len in
-    let due = due_in frame.format frame.width table in
+    let due = due_in limits.format limits.width table in
     let numbers' = numbers c.in-Inner.claim.set.now in
     let claim = claim_with table c.in-Inner.claim.cost numbers' in
     let low = c.in-Some.low in
     let high = c.in-Some.high in
     let width = c.requires.sources.width ∙ sym (ap width_of c.requires.version) in
-    let some : n < frame.width = omega (arith, width, c.in-Some.ensures.lens, low.len_in_range, ap width_of c.in-Some.ensures.versions.0) in
-    let less : frame.width - n - 1 ≡ frame.width - (n + 1) = omega arith in
+    let some : n < limits.width = omega (arith, width, c.in-Some.ensures.lens, low.len_in_range, ap width_of c.in-Some.ensures.versions.0) in
+    let less : limits.width - n - 1 ≡ limits.width - (n + 1) = omega arith in
     let held = held-at c.args.walk.now.sets.items c.in-Inner.claim.set.now c.hold.new.sets.items c.in_ok-held-in-Inner.held.from c.in_ok-held-in-Inner.ensures.sets c.in_ok-held-in-Inner.ensures.from in
     let is : reading_at s n (place_in c.args.walk.now.nodes) ≡ halves_reading s n claim (place_in c.next_node.new.self) =
-    deeper due table (place_in c.args.walk.now.nodes) (place_in c.next_node.new.self) c.in-Inner.claim.cost numbers' (rw c.in-Inner.is at c.in_ok-id.ensures.ok) (frame.width - n) (omega (arith, some))
+    deeper due table (place_in c.args.walk.now.nodes) (place_in c.next_node.new.self) c.in-Inner.claim.cost numbers' (rw c.in-Inner.is at c.in_ok-id.ensures.ok) (limits.width - n) (omega (arith, some))
     ∙ ap (λ (m : ℕ). nodes_at due table m 0 (place_in c.next_node.new.self) >>= (λ lower. nodes_at due table m 0 lower.1 >>= (λ upper.
     Ok (InnerNode claim lower.0 upper.0, upper.1)))) less in
     subst (λ (r : Read). IsAnswer s r (fault_of_node s c.args.block.now) c.args.walk.now.number c.args.walk.now.sets.items c.args.walk.now.fault c.check_inner.new.walk c.check_inner.result)
@@ -90,13 +90,13 @@ check_node-returns-then-len-sources t c =
 
 pub check_node-check_chain-requires : goal.check_node-check_chain-requires
 check_node-check_chain-requires t c =
-    let frame = c.args.sources.now.frame in
+    let limits = c.args.sources.now.limits in
     let bits : List Bool = bits_in c.in-Chain.path.now in
-    let said = line_due-found (format_number frame.format) frame.width (length frame.labels.now) (place_in c.args.walk.now.nodes)
+    let said = line_due-found (format_number limits.format) limits.width (length limits.labels.now) (place_in c.args.walk.now.nodes)
     (ChainLine c.in-Chain.claim.cost bits c.in-Chain.side.0 (numbers c.in-Chain.claim.set.now), (place_in c.next_node.new.self)) (rw c.in-Chain.is at c.in_ok-id.ensures.ok) in
     let at = held-at c.args.walk.now.sets.items c.in-Chain.claim.set.now c.hold-in-Chain.new.sets.items c.in_ok-held-in-Chain.held.from c.in_ok-held-in-Chain.ensures.sets c.in_ok-held-in-Chain.ensures.from in
     let held : IsHeld c.args.sources.now c.in_ok-held-in-Chain.held c.hold-in-Chain.new.sets.items =
-    record { within = at.2; ascending = subst (λ (ids : List LabelId). IsAscending (length frame.labels.now) 0 (numbers ids)) (sym at.1) said.1.5 } in
+    record { within = at.2; ascending = subst (λ (ids : List LabelId). IsAscending (length limits.labels.now) 0 (numbers ids)) (sym at.1) said.1.5 } in
     let room : FitsPath c.args.sources.now c.args.block.now c.in-Chain.side.0 bits = record { room = omega (arith, c.len.ensures, c.if-len-sources.false, said.1.2); known = said.1.4 } in
     let some = said.1.2 in
     search rules
@@ -104,18 +104,18 @@ check_node-check_chain-requires t c =
 pub check_node-returns-in_ok-held-in-Chain : goal.check_node-returns-in_ok-held-in-Chain
 check_node-returns-in_ok-held-in-Chain t c =
     let s = c.args.sources.now in
-    let frame = s.frame in
-    let table = frame.labels.now in
+    let limits = s.limits in
+    let table = limits.labels.now in
     let n = c.args.block.now.len in
     let bits : List Bool = bits_in c.in-Chain.path.now in
     let numbers' = numbers c.in-Chain.claim.set.now in
     let claim = claim_with table c.in-Chain.claim.cost numbers' in
-    let less : frame.width - n - c.len.result ≡ frame.width - (n + length bits) = omega (arith, c.len.ensures) in
+    let less : limits.width - n - c.len.result ≡ limits.width - (n + length bits) = omega (arith, c.len.ensures) in
     let held = held-at c.args.walk.now.sets.items c.in-Chain.claim.set.now c.hold-in-Chain.new.sets.items c.in_ok-held-in-Chain.held.from c.in_ok-held-in-Chain.ensures.sets c.in_ok-held-in-Chain.ensures.from in
     let is : reading_at s n (place_in c.args.walk.now.nodes) ≡ chain_reading s n claim bits c.in-Chain.side.0 (place_in c.next_node.new.self) =
-    chain-below frame.format frame.width table (place_in c.args.walk.now.nodes) (place_in c.next_node.new.self) c.in-Chain.claim.cost bits c.in-Chain.side.0 numbers' (rw c.in-Chain.is at c.in_ok-id.ensures.ok)
-    (frame.width - n) c.len.result c.len.ensures (omega (arith, c.if-len-sources.false)) (reading_at s (n + length bits) (place_in c.next_node.new.self))
-    (ap (λ (m : ℕ). nodes_at (due_in frame.format frame.width table) table m 0 (place_in c.next_node.new.self)) less) in
+    chain-below limits.format limits.width table (place_in c.args.walk.now.nodes) (place_in c.next_node.new.self) c.in-Chain.claim.cost bits c.in-Chain.side.0 numbers' (rw c.in-Chain.is at c.in_ok-id.ensures.ok)
+    (limits.width - n) c.len.result c.len.ensures (omega (arith, c.if-len-sources.false)) (reading_at s (n + length bits) (place_in c.next_node.new.self))
+    (ap (λ (m : ℕ). nodes_at (due_in limits.format limits.width table) table m 0 (place_in c.next_node.new.self)) less) in
     subst (λ (r : Read). IsAnswer s r (fault_of_node s c.args.block.now) c.args.walk.now.number c.args.walk.now.sets.items c.args.walk.now.fault c.check_chain.new.walk c.check_chain.result)
     (sym is)
     (subst (λ (x : Claim × List LabelId). IsAnswer s (chain_reading s n x.0 bits c.in-Chain.side.0 (place_in c.next_node.new.self)) (fault_of_node s c.args.block.now) c.args.walk.now.number x.1 c.args.walk.now.fault c.check_chain.new.walk c.check_chain.result)
@@ -124,18 +124,18 @@ check_node-returns-in_ok-held-in-Chain t c =
 pub check_node-returns-in_ok-extend_from_slice-in-Leaf : goal.check_node-returns-in_ok-extend_from_slice-in-Leaf
 check_node-returns-in_ok-extend_from_slice-in-Leaf t c =
     let s = c.args.sources.now in
-    let frame = s.frame in
+    let limits = s.limits in
     let p = c.args.block.now in
     let id = c.in-Leaf.id in
     let walk = c.args.walk.now in
     let due = rw c.in-Leaf.is at c.in_ok-id.ensures.ok in
-    let said = line_due-found (format_number frame.format) frame.width (length frame.labels.now) (place_in walk.nodes) (LeafLine id.0, (place_in c.next_node.new.self)) due in
+    let said = line_due-found (format_number limits.format) limits.width (length limits.labels.now) (place_in walk.nodes) (LeafLine id.0, (place_in c.next_node.new.self)) due in
     rw c.note.ensures
     (record {
-      tree = LeafNode (text_at frame.labels.now id.0);
+      tree = LeafNode (text_at limits.labels.now id.0);
       set = id ∷ [];
       nodes = c.in_ok-id.ensures.fits;
-      read = node-leaf (due_in frame.format frame.width frame.labels.now) frame.labels.now (place_in walk.nodes) (place_in c.next_node.new.self) (frame.width - p.len) id.0 due;
+      read = node-leaf (due_in limits.format limits.width limits.labels.now) limits.labels.now (place_in walk.nodes) (place_in c.next_node.new.self) (limits.width - p.len) id.0 due;
       claim = refl;
       ascending = (omega arith, said.1, tt);
       sets = c.in_ok-extend_from_slice-in-Leaf.ensures.items ∙ ap (λ (ids : List LabelId). walk.sets.items ++ ids) c.from_ref.ensures.value;
@@ -144,9 +144,9 @@ check_node-returns-in_ok-extend_from_slice-in-Leaf t c =
 
 pub check_node-leaf_fault-fault-requires-clause-known : goal.check_node-leaf_fault-fault-requires-clause-known
 check_node-leaf_fault-fault-requires-clause-known t c =
-    let frame = c.args.sources.now.frame in
+    let limits = c.args.sources.now.limits in
     let due = rw c.in-Leaf.is at c.in_ok-id.ensures.ok in
-    (line_due-found (format_number frame.format) frame.width (length frame.labels.now) (place_in c.args.walk.now.nodes) (LeafLine c.in-Leaf.id.0, (place_in c.next_node.new.self)) due).1
+    (line_due-found (format_number limits.format) limits.width (length limits.labels.now) (place_in c.args.walk.now.nodes) (LeafLine c.in-Leaf.id.0, (place_in c.next_node.new.self)) due).1
 
 pub check_inner-returns-in_err-lower_cost : goal.check_inner-returns-in_err-lower_cost
 check_inner-returns-in_err-lower_cost t c =
@@ -167,7 +167,7 @@ check_inner-returns-in_err-upper_cost t c =
 pub check_inner-returns : goal.check_inner-returns
 check_inner-returns t c =
     let s = c.args.sources.now in
-    let table = s.frame.labels.now in
+    let table = s.limits.labels.now in
     let walk = c.args.walk.now in
     let own = drop c.args.held.from walk.sets.items in
     let lower = c.in_ok-lower_cost.ensures in
@@ -209,7 +209,7 @@ check_chain-returns-in_err-end_cost t c =
 pub check_chain-returns : goal.check_chain-returns
 check_chain-returns t c =
     let s = c.args.sources.now in
-    let table = s.frame.labels.now in
+    let table = s.limits.labels.now in
     let walk = c.args.walk.now in
     let own = drop c.args.held.from walk.sets.items in
     let bits = bits_in c.args.path.now in

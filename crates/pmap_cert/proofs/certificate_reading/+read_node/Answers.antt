@@ -44,8 +44,8 @@ returns-then-deep-room-clause-err t c = λ _.
 
 pub read_node-requires-in-Chain : goal.read_node-requires-in-Chain
 read_node-requires-in-Chain t c =
-    let frame = c.args.frame.now in
-    let some = chain-bits frame.format frame.width frame.labels.now c.args.lines.now _ _ _ _ _ (rw c.in-Chain.is at c.in_ok-node.ensures.ok) in
+    let limits = c.args.limits.now in
+    let some = chain-bits limits.format limits.width limits.labels.now c.args.lines.now _ _ _ _ _ (rw c.in-Chain.is at c.in_ok-node.ensures.ok) in
     (omega (arith, some, c.len-deep.ensures, c.if-deep-room.false, c.decreases), tt)
 
 pub returns-in_err-read_node-in-Chain-clause-err : goal.returns-in_err-read_node-in-Chain-clause-err
@@ -57,9 +57,9 @@ returns-in_err-read_node-in-Chain-clause-err t c =
 
 pub returns-in_ok-read_node-in-Chain-clause-ok : goal.returns-in_ok-read_node-in-Chain-clause-ok
 returns-in_ok-read_node-in-Chain-clause-ok t c =
-    let frame = c.args.frame.now in
+    let limits = c.args.limits.now in
     let deep : c.len-deep.result ≡ length (bits_in c.in-Chain.path.now) = c.len-deep.ensures in
-    read-chain frame.format frame.width frame.labels.now c.args.room c.args.lines.now _ _ _ _ _ _ _ _ _ (rw c.in-Chain.is at c.in_ok-node.ensures.ok)
+    read-chain limits.format limits.width limits.labels.now c.args.room c.args.lines.now _ _ _ _ _ _ _ _ _ (rw c.in-Chain.is at c.in_ok-node.ensures.ok)
     (omega (arith, deep, c.if-deep-room.false)) c.in_ok-push-in-Chain.ensures.ok
-    (subst (λ (n : ℕ). IsReadNode frame.format frame.width frame.labels.now (c.args.room - n) c.next_node.new.self c.push-in-Chain.new.self c.read_node-in-Chain.new.nodes c.read_node-in-Chain.new.lines)
+    (subst (λ (n : ℕ). IsReadNode limits.format limits.width limits.labels.now (c.args.room - n) c.next_node.new.self c.push-in-Chain.new.self c.read_node-in-Chain.new.nodes c.read_node-in-Chain.new.lines)
     deep c.in_ok-read_node-in-Chain.ensures.ok)

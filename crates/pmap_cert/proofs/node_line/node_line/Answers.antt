@@ -17,7 +17,7 @@ returns-in-None-2 c =
 
 pub returns-in-Some-3 : goal.returns-in-Some-3
 returns-in-Some-3 c =
-    let chain = c.chain.new.kept in
+    let chain = c.chain.new.buffer in
     rw c.as_slice-set-in-Some-3.ensures.value
     (line-chain _ _ _ _ (sym c.in_default.ensures) (sym c.in_default-after_byte.ensures) (ap format_number c.in-Two-Some.is-0) _ (sym c.in-Two-Some.ensures)
     (Some ((c.in-Some-3.cost, (bits_in chain.path, (c.in-Some-3.side.0, map (λ (id : LabelId). id.0) chain.set.items))), c.in-Some-3.rest.now))

@@ -13,7 +13,7 @@ returns-in-None t c =
     let s = c.args.self.now in
     let m = map_of s.map.now in
     let ps = (list_of s.list.now).prefixes in
-    let x = text_at s.frame.labels.now c.args.side.0 in
+    let x = text_at s.limits.labels.now c.args.side.0 in
     let next = c.in_ok-chosen in
     c.leaf_fault.ensures
     ∙ sym (sides-step m ps x c.args.block.now next.chosen next.beside c.in_ok-bit.bit (bits_in c.args.path.now) (bits_in c.in_ok-bit.rest) c.in_ok-bit.ensures.bits next.ensures.chosen next.ensures.beside
@@ -24,7 +24,7 @@ returns-in_default t c =
     let s = c.args.self.now in
     let m = map_of s.map.now in
     let ps = (list_of s.list.now).prefixes in
-    let x = text_at s.frame.labels.now c.args.side.0 in
+    let x = text_at s.limits.labels.now c.args.side.0 in
     let next = c.in_ok-chosen in
     sym (sides-step m ps x c.args.block.now next.chosen next.beside c.in_ok-bit.bit (bits_in c.args.path.now) (bits_in c.in_ok-bit.rest) c.in_ok-bit.ensures.bits next.ensures.chosen next.ensures.beside
     ∙ ap (λ (o : Option CheckFaultKind). option_or o (leaf_fault m ps next.beside.len (number_of_block next.beside) x)) (sym c.path_fault.ensures)
@@ -33,6 +33,6 @@ returns-in_default t c =
 pub returns-then-is_clear_after : goal.returns-then-is_clear_after
 returns-then-is_clear_after t c =
     let s = c.args.self.now in
-    let x = text_at s.frame.labels.now c.args.side.0 in
+    let x = text_at s.limits.labels.now c.args.side.0 in
     sym (path-clear s x c.args.block.now c.end.result c.requires.version (bits_in c.args.path.now) c.end.ensures
     (c.requires.before c.end.result c.end.ensures c.if-is_clear_before.true) (c.is_clear_after.ensures c.if-is_clear_after.true))

@@ -7,6 +7,6 @@ pub returns-then-has_label : goal.returns-then-has_label
 returns-then-has_label c = λ both.
     let s = c.args.self.now in
     let are = c.requires.sources in
-    range-clear s are (text_at s.frame.labels.now c.args.id.0) c.args.first c.args.last c.requires.within
-    (sym (c.has_label.ensures s.map.now.labels s.frame.labels.now are.of_map c.requires.known) ∙ c.if-has_label.true)
-    (sym (c.has_label-then-has_label.ensures s.list.now.labels s.frame.labels.now are.of_list c.requires.known) ∙ both)
+    range-clear s are (text_at s.limits.labels.now c.args.id.0) c.args.first c.args.last c.requires.within
+    (sym (c.has_label.ensures s.map.now.labels s.limits.labels.now are.of_map c.requires.known) ∙ c.if-has_label.true)
+    (sym (c.has_label-then-has_label.ensures s.list.now.labels s.limits.labels.now are.of_list c.requires.known) ∙ both)

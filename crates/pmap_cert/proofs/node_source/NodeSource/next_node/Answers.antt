@@ -1,13 +1,13 @@
 use Rattle.std.proofs.Common.{arith, length}
 use Rattle.pmap_cert.specs.Format.{format_number}
 use Rattle.pmap_cert.specs.Packed.{line_of}
-use Rattle.pmap_cert.proofs.GivenLines.{given-due}
+use Rattle.pmap_cert.proofs.StoredLines.{stored-due}
 use Rattle.pmap_cert.proofs.node_source.NodeSource.next_node.Goals as goal
 
 pub returns-else-number-len-clause-ok : goal.returns-else-number-len-clause-ok
 returns-else-number-len-clause-ok c =
-    let frame = c.args.frame.now in
+    let limits = c.args.limits.now in
     let rest = c.in-Nodes.rest in
     rw c.in-Nodes.is
-    (given-due (format_number frame.format) frame.width (length frame.labels.now) (omega (arith, c.len-count.ensures.value, c.len-count.ensures.few)) rest.nodes.now rest.number
+    (stored-due (format_number limits.format) limits.width (length limits.labels.now) (omega (arith, c.len-count.ensures.value, c.len-count.ensures.few)) rest.nodes.now rest.number
     (line_of c.node.result) (omega (arith, c.if-number-len.false, c.len.ensures)) c.node.ensures (rw c.in-Nodes.is at c.requires))

@@ -14,11 +14,11 @@ use Rattle.pmap_cert.proofs.FormatTrees.{nodes_at-again}
 use Rattle.pmap_cert.proofs.PrintedLines.{IsNumbered, Passes, due-again, fits-line, line-fits}
 
 -- the next of some lines, at their text
-pub given-due : (format most count : ℕ) → count ≤ 2 ^ 32 → (lines : List DueLine) (number : ℕ) (line : DueLine) → number < length lines → line ≡ get_or lines number (LeafLine 0)
+pub stored-due : (format most count : ℕ) → count ≤ 2 ^ 32 → (lines : List DueLine) (number : ℕ) (line : DueLine) → number < length lines → line ≡ get_or lines number (LeafLine 0)
     → All (Passes format most count) lines
     → line_due_at format most count (record { number = number; pieces = map line_text (drop number lines) ++ [] ∷ [] })
     ≡ Ok (line, record { number = number + 1; pieces = map line_text (drop (number + 1) lines) ++ [] ∷ [] })
-given-due format most count few lines number line below is all =
+stored-due format most count few lines number line below is all =
     let rest = map line_text (drop (number + 1) lines) ++ [] ∷ [] in
     let fits = line-fits format most count line (subst (Passes format most count) (sym is) (all number (LeafLine 0) below)) in
     ap (λ (ls : List DueLine). line_due_at format most count (record { number = number; pieces = map line_text ls ++ [] ∷ [] }))
@@ -60,12 +60,12 @@ plain-in Two node kind one = absurd (omega (arith, one))
 
 -- The nodes of a certificate, from the root on.
 module _ (format : Format) (table : List Label) (ok : IsLabelTable table) (root : Node) (W : ℕ) (form : HasChainForm (length table) root W) (kind : IsNodeOf format root) where
-  pub given-fit : (lines : List DueLine) → lines ≡ lines_of root → All (Passes (format_number format) W (length table)) lines
-  given-fit lines is = subst (All (Passes (format_number format) W (length table))) (sym is) (lines-fit (format_number format) W (length table) root W (omega arith) form (kind-of format root kind))
+  pub stored-fit : (lines : List DueLine) → lines ≡ lines_of root → All (Passes (format_number format) W (length table)) lines
+  stored-fit lines is = subst (All (Passes (format_number format) W (length table))) (sym is) (lines-fit (format_number format) W (length table) root W (omega arith) form (kind-of format root kind))
 
-  pub given-again : (lines : List DueLine) → lines ≡ lines_of root
+  pub stored-again : (lines : List DueLine) → lines ≡ lines_of root
       → (after : Place) × (node_due_at format W table W (record { number = 0; pieces = map line_text lines ++ [] ∷ [] }) ≡ Ok (tree_of table root, after))
-  given-again lines is =
+  stored-again lines is =
       let few = ok.few in
       let again = nodes_at-again table (format_number format) W (omega arith) root W ([] ∷ []) 0 (omega arith) form (numbered-of format) (plain-in format root kind) (omega arith) in
       (_, ap (λ (ls : List DueLine). node_due_at format W table W (record { number = 0; pieces = map line_text ls ++ [] ∷ [] })) is ∙ again.1)

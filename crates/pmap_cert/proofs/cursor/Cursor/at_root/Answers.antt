@@ -1,5 +1,5 @@
 use Rattle.pmap_cert.proofs.NodeWalk.{root-of, tree-whole}
-use Rattle.pmap_cert.proofs.cursor.cursor_of.Goals as goal
+use Rattle.pmap_cert.proofs.cursor.Cursor.at_root.Goals as goal
 
 pub returns : goal.returns
 returns c = root-of c.nodes.result.now c.args.tree.now c.nodes.ensures
