@@ -7,7 +7,7 @@ use Rattle.std.proofs.lemmas.List.Folds.{list_any-append}
 use Rattle.pmap_text.specs.declared.label.LabelId.{LabelId}
 use Rattle.pmap_cert.specs.CertificateText.{IsAscending}
 use Rattle.pmap_cert.proofs.Tables.{ascending-lower}
-use Rattle.pmap_minimise.specs.Numbers.{IsUnion, common_numbers, has_number, numbers_of}
+use Rattle.pmap_minimise.specs.Numbers.{AreApart, IsUnion, common_numbers, has_number, numbers_of}
 
 pub numbers-append : (xs ys : List LabelId) → numbers_of (xs ++ ys) ≡ numbers_of xs ++ numbers_of ys
 numbers-append [] ys = refl
@@ -102,6 +102,32 @@ ascending-append b k low [] ms le top ascending more = ascending-lower b k low m
 ascending-append b k low (n ∷ ns) ms le top ascending more =
     let below = ascending.1 in
     (ascending.0, omega arith, ascending-append b k (n + 1) ns ms (omega arith) top ascending.2 more)
+
+-- ascending numbers are below k if the last one is
+ascending-below : (b k low : ℕ) (ns : List ℕ) (last : ℕ) → IsAscending b low (ns ++ last ∷ []) → last < k → (low ≤ last) × IsAscending k low (ns ++ last ∷ [])
+ascending-below b k low [] last ascending less = (ascending.0, (ascending.0, less, tt))
+ascending-below b k low (n ∷ ns) last ascending less =
+    let rest = ascending-below b k (n + 1) ns last ascending.2 less in
+    (omega (arith, ascending.0, rest.0), (ascending.0, omega (arith, rest.0, less), rest.1))
+
+-- numbers below k are in no list that ascends from k
+common-apart : (b k low : ℕ) (ns ms : List ℕ) → IsAscending k low ns → IsAscending b k ms → common_numbers ns ms ≡ []
+common-apart b k low [] ms below above = refl
+common-apart b k low (n ∷ ns) ms below above =
+    cond-false (has_number ms n) (n ∷ common_numbers ns ms) (common_numbers ns ms) (lacks b k ms n above below.1)
+    ∙ common-apart b k (n + 1) ns ms below.2 above
+
+-- a set that ends before another begins
+pub apart : (low high : List ℕ) (ns ms : List ℕ) (last first : ℕ) → low ≡ ns ++ last ∷ [] → high ≡ first ∷ ms → last < first
+    → IsAscending (2 ^ 32) 0 low → IsAscending (2 ^ 32) 0 high → AreApart low high
+apart low high ns ms last first low_is high_is less low_ascending high_ascending =
+    let above : IsAscending (2 ^ 32) first (first ∷ ms) =
+    let of = rw high_is at high_ascending in (omega arith, of.1, of.2) in
+    let below = (ascending-below (2 ^ 32) first 0 ns last (rw low_is at low_ascending) less).1 in
+    rw (low_is, high_is) (record {
+      common = common-apart (2 ^ 32) first 0 (ns ++ last ∷ []) (first ∷ ms) below above;
+      ascending = ascending-append (2 ^ 32) first 0 (ns ++ last ∷ []) (first ∷ ms) (omega arith) (omega (arith, above.1)) below above;
+    })
 
 -- the set and the rests have the numbers of both sets, and those of the rests are greater than those of the set
 pub record IsUniting (low high : List ℕ) (set : List ℕ) (lower higher : List LabelId) : Type 0 where

@@ -23,6 +23,11 @@ common_numbers low high = filter (has_number high) low
 abbrev pub IsUnion : List ℕ → List ℕ → List ℕ → Type 0
 IsUnion low high set = (p : ℕ → Bool) → list_any p set ≡ (list_any p low || list_any p high)
 
+-- the numbers of the first list ascend, then those of the second, and no number is in both
+pub record AreApart (low high : List ℕ) : Type 0 where
+  pub common : common_numbers low high ≡ []
+  pub ascending : IsAscending (2 ^ 32) 0 (low ++ high)
+
 -- The exact claim of two claims, by the sets' common numbers: the sum of the costs and these numbers, if there are any,
 -- otherwise one more than the sum and the numbers of either set.
 abbrev pub IsExactBy : ClaimOf ℕ → ClaimOf ℕ → List ℕ → ClaimOf ℕ → Type 0

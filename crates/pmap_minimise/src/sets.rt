@@ -1,8 +1,8 @@
 //! Sets of labels, as slices with their numbers in ascending order.
-ghost use Rattle.std.specs.Prelude.{◌≡◌, ◌+◌, ◌^◌, ◌<◌, IfOk};
+ghost use Rattle.std.specs.Prelude.{◌≡◌, ◌+◌, ◌^◌, ◌<◌, IfOk, IsTrue};
 ghost use Rattle.pmap_cert.specs.CertificateText.{IsAscending};
 ghost use Rattle.pmap_cert.specs.Node.{claiming};
-ghost use Rattle.pmap_minimise.specs.Numbers.{IsExact, IsUnion, common_numbers, numbers_of};
+ghost use Rattle.pmap_minimise.specs.Numbers.{AreApart, IsExact, IsUnion, common_numbers, numbers_of};
 
 use pmap_cert::Claim;
 use pmap_text::LabelId;
@@ -67,6 +67,18 @@ fn either(alloc: Global, low: &[LabelId], high: &[LabelId]) -> Result<SmallSet, 
     Ok(set)
 }
 
+// Returns whether it is seen at once that the sets have no common label: the first set ends before the second begins.
+fn are_apart(low: &[LabelId], high: &[LabelId]) -> bool
+    requires low { IsAscending (2 ^ 32) 0 (numbers_of low.now) }
+    requires high { IsAscending (2 ^ 32) 0 (numbers_of high.now) }
+    ensures { IsTrue result → AreApart (numbers_of low.now) (numbers_of high.now) }
+{
+    match (low.split_last(), high.split_first()) {
+        (Some((last, _)), Some((first, _))) => last.0 < first.0,
+        _ => false,
+    }
+}
+
 /// Returns the exact claim of two halves with these claims, its cost and its set: the labels that both have or, if
 /// there are none, those that either has, for one more than the sum of the costs.
 pub fn exact_claim(alloc: Global, low: Claim, high: Claim) -> Result<(u32, SmallSet), AllocError>
@@ -77,6 +89,13 @@ pub fn exact_claim(alloc: Global, low: Claim, high: Claim) -> Result<(u32, Small
         (claiming high.entry.cost (numbers_of high.entry.set.now)) (claiming claim.0 (numbers_of claim.1.items))) }
 {
     let sum = low.cost + high.cost;
+    // An optimisation: neighbouring blocks often have neighbouring labels.
+    if are_apart(low.set, high.set) {
+        let mut all = SmallVec::new(alloc);
+        all.extend_from_slice(low.set)?;
+        all.extend_from_slice(high.set)?;
+        return Ok((sum + 1, all));
+    }
     let shared = common(alloc, low.set, high.set)?;
     if shared.is_empty() {
         let all = either(alloc, low.set, high.set)?;

@@ -1,4 +1,4 @@
-use Rattle.std.proofs.Common.{◌++◌, ◌∷◌, ◌∙◌, length}
+use Rattle.std.proofs.Common.{◌∷◌, ◌∙◌, length}
 use Rattle.pmap_cert.specs.CertificateText.{format_header, text_of_lines}
 use Rattle.pmap_minimise.proofs.Whole.{certified-text}
 use Rattle.pmap_minimise.proofs.minimal.certificate_text.Goals as goal
