@@ -4,8 +4,8 @@ ghost use Rattle.pmap_cert.specs.Packed.{FitsPacked, of_kind, unpacked};
 
 use pmap_text::LabelId;
 
-/// The line of a node: the label of a leaf; the cost and the label of an inner node whose set is one label; the index of
-/// another inner node's cost and set; or that of a chain. The set of a `SideChain` is its side label alone.
+/// The line of a node: the label of a leaf; the cost and the label of an inner node whose set is one label; the index
+/// of another inner node's cost and set; or that of a chain. The set of a `SideChain` is its side label alone.
 #[derive(Clone, Copy)]
 pub enum Unpacked {
     Leaf(LabelId),
@@ -15,8 +15,8 @@ pub enum Unpacked {
     Chain(usize),
 }
 
-/// A line in 8 bytes. The last three bits of `tail` are its kind, and the bits before them a cost or the upper part of an
-/// index. `label` is a label, or the lower 32 bits of the index.
+/// A line in 8 bytes. The last three bits of `tail` are its kind, and the bits before them a cost or the upper part of
+/// an index. `label` is a label, or the lower 32 bits of the index.
 #[derive(Clone, Copy)]
 pub struct Packed {
     pub label: LabelId,
