@@ -14,7 +14,7 @@ use Rattle.ipfix_templates.specs.declared.field.Field.{Field as FieldView}
 use Rattle.ipfix_templates.specs.declared.layout.Place.{Place}
 use Rattle.ipfix_templates.specs.declared.layout.Places.{Places}
 use Rattle.ipfix_templates.specs.declared.layout.RowLayout.{RowLayout}
-use Rattle.ipfix_templates.specs.Layout.{first_places, is_there, layout_of, place, place_or, places_between, second_places}
+use Rattle.ipfix_templates.specs.Layout.{first_places, flow_layout, is_there, layout_of, place, place_or, places_between, second_places}
 use Rattle.ipfix_templates.specs.Runs.{runs_from}
 use Rattle.ipfix_templates.specs.Template.{same_kind}
 use Rattle.ipfix_templates.specs.declared.kind.Kind.{Kind}
@@ -25,14 +25,6 @@ use Rattle.flow_rows.specs.Elements.{RowView, element, count_of, first_row, row_
 use Rattle.flow_rows.specs.Inner.{AreUsable, IsWithin, number_there, row_at, version_of}
 use Rattle.flow_rows.proofs.Reading.{none_there, said_there, within_record}
 use Rattle.flow_rows.proofs.Usable.{IsListed, fields_of, length-place, there-place}
-
--- the first row of a flow record is that of its values
-first_row-flow : (r : Record) → (r.kind ≡ Options → ⊥) → first_row r ≡ row_of_elements (element forward r.fields)
-first_row-flow r is_flow = by r.kind is_flow
-  where
-    by : (kind : Kind) → (kind ≡ Options → ⊥) → cond (same_kind kind Flow) (row_of_elements (element forward r.fields)) None ≡ row_of_elements (element forward r.fields)
-    by Flow h = refl
-    by Options h = absurd (h refl)
 
 -- one of two numbers
 either : (num : Place → ℕ) (p q : Place) (said : Option ℕ) → num p ≡ unwrap_or said 0 → is_there p ≡ is_some said
@@ -210,13 +202,14 @@ module _ (fields : List FieldView) (bytes : List ℕ) (x : List FieldValueView �
       let usable = each first refl in
       subst (λ (l : RowLayout). AreUsable size l.first × AreUsable size l.second) (some_is _ _ is) (usable, usable_second first usable)
 
-  pub layout_usable : (l : RowLayout) → layout_of fields ≡ Some l → AreUsable size l.first × AreUsable size l.second
-  unfolding layout_of
-  layout_usable l found = then_usable (first_places (place_at forward)) of_first l found
+  pub layout_usable : (kind : Kind) (l : RowLayout) → layout_of kind fields ≡ Some l → AreUsable size l.first × AreUsable size l.second
+  unfolding flow_layout
+  layout_usable Flow l found = then_usable (first_places (place_at forward)) of_first l found
+  layout_usable Options l found = absurd (cc)
 
--- ---- a record whose fields and runs are these, with its bytes
+-- ---- a record whose kind, fields and runs are these, with its bytes
 
-module _ (r : Record) (is_flow : r.kind ≡ Options → ⊥) (fields : List FieldView) (runs bytes : List ℕ) (same : fields ≡ fields_of r.fields)
+module _ (r : Record) (kind : Kind) (kind_is : kind ≡ r.kind) (fields : List FieldView) (runs bytes : List ℕ) (same : fields ≡ fields_of r.fields)
     (runs_are : runs ≡ runs_from 0 fields) (read : (rest : List ℕ) × (values_at (fields_of r.fields) bytes ≡ Some (r.fields, rest))) where
   abbrev num : Place → ℕ
   num p = number_there p runs bytes
@@ -228,43 +221,53 @@ module _ (r : Record) (is_flow : r.kind ≡ Options → ⊥) (fields : List Fiel
   of direction number =
       rw (runs_are, same) (said_there direction number (fields_of r.fields) bytes r.fields read.0 read.1, there-place direction number 0 0 r.fields)
 
-  first_there : option_map (λ places. row_at places num) (first_places (at forward)) ≡ first_row r
-  first_there = first_is num (at forward) (element forward r.fields) (of forward) ∙ sym (first_row-flow r is_flow)
+  -- the rows at the places of a layout
+  abbrev first_at : RowLayout → RowView
+  first_at l = row_at l.first num
 
-  then_back : (first : Option Places) (row : Option RowView) → option_map (λ places. row_at places num) first ≡ row
-      → option_and_then (λ (l : RowLayout). cond (num l.second.packets == 0) None (Some (row_at l.second num))) (option_map (layout_with (at back)) first)
-      ≡ option_and_then (row_back (element back r.fields)) row
-  then_back None row is = ap (option_and_then (row_back (element back r.fields))) is
-  then_back (Some first) row is =
-      back_is num (at back) (element back r.fields) (of back) first ∙ ap (option_and_then (row_back (element back r.fields))) is
+  abbrev back_at : RowLayout → Option RowView
+  back_at l = cond (num l.second.packets == 0) None (Some (row_at l.second num))
 
-  to_first : (first : Option Places) → option_map (λ (l : RowLayout). row_at l.first num) (option_map (layout_with (at back)) first)
-      ≡ option_map (λ places. row_at places num) first
+  to_first : (first : Option Places) → option_map first_at (option_map (layout_with (at back)) first) ≡ option_map (λ places. row_at places num) first
   to_first None = refl
   to_first (Some first) = refl
 
-  pub usable : (l : RowLayout) → Some l ≡ layout_of fields → AreUsable (length bytes) l.first × AreUsable (length bytes) l.second
-  usable l found = layout_usable fields bytes (r.fields, read.0) (ap (λ (fs : List FieldView). values_at fs bytes) same ∙ read.1) l (sym found)
+  then_back : (first : Option Places) → option_and_then back_at (option_map (layout_with (at back)) first)
+      ≡ option_and_then (row_back (element back r.fields)) (option_map first_at (option_map (layout_with (at back)) first))
+  then_back None = refl
+  then_back (Some first) = back_is num (at back) (element back r.fields) (of back) first
 
-  pub row_missing : None ≡ layout_of fields → (None ≡ first_row r) × (None ≡ second_row r)
-  unfolding layout_of
+  first_of_kind : (kind : Kind) → option_map first_at (layout_of kind fields) ≡ cond (same_kind kind Flow) (row_of_elements (element forward r.fields)) None
+  unfolding flow_layout
+  first_of_kind Flow = to_first (first_places (at forward)) ∙ first_is num (at forward) (element forward r.fields) (of forward)
+  first_of_kind Options = refl
+
+  back_of_kind : (kind : Kind) → option_and_then back_at (layout_of kind fields)
+      ≡ option_and_then (row_back (element back r.fields)) (option_map first_at (layout_of kind fields))
+  unfolding flow_layout
+  back_of_kind Flow = then_back (first_places (at forward))
+  back_of_kind Options = refl
+
+  first_there : option_map first_at (layout_of kind fields) ≡ first_row r
+  first_there = first_of_kind kind ∙ ap (λ (k : Kind). cond (same_kind k Flow) (row_of_elements (element forward r.fields)) None) kind_is
+
+  pub usable : (l : RowLayout) → Some l ≡ layout_of kind fields → AreUsable (length bytes) l.first × AreUsable (length bytes) l.second
+  usable l found = layout_usable fields bytes (r.fields, read.0) (ap (λ (fs : List FieldView). values_at fs bytes) same ∙ read.1) kind l (sym found)
+
+  pub row_missing : None ≡ layout_of kind fields → (None ≡ first_row r) × (None ≡ second_row r)
   row_missing none =
-      let first : None ≡ first_row r = ap (option_map (λ (l : RowLayout). row_at l.first num)) none ∙ to_first (first_places (at forward)) ∙ first_there in
+      let first : None ≡ first_row r = ap (option_map first_at) none ∙ first_there in
       (first, ap (option_and_then (row_back (element back r.fields))) first)
 
-  pub row_found : (l : RowLayout) → Some l ≡ layout_of fields → Some (row_at l.first num) ≡ first_row r
-  unfolding layout_of
-  row_found l found = ap (option_map (λ (l : RowLayout). row_at l.first num)) found ∙ to_first (first_places (at forward)) ∙ first_there
+  pub row_found : (l : RowLayout) → Some l ≡ layout_of kind fields → Some (first_at l) ≡ first_row r
+  row_found l found = ap (option_map first_at) found ∙ first_there
 
-  pub reverse_found : (l : RowLayout) → Some l ≡ layout_of fields
-      → cond (num l.second.packets == 0) None (Some (row_at l.second num)) ≡ second_row r
-  unfolding layout_of
+  pub reverse_found : (l : RowLayout) → Some l ≡ layout_of kind fields → back_at l ≡ second_row r
   reverse_found l found =
-      ap (option_and_then (λ (l : RowLayout). cond (num l.second.packets == 0) None (Some (row_at l.second num)))) found
-      ∙ then_back (first_places (at forward)) (first_row r) first_there
+      ap (option_and_then back_at) found ∙ back_of_kind kind ∙ ap (option_and_then (row_back (element back r.fields))) first_there
 
   -- without packets of the reverse direction there is no second row
-  pub reverse_missing : (l : RowLayout) → Some l ≡ layout_of fields → l.second.packets.length ≡ 0 → None ≡ second_row r
+  pub reverse_missing : (l : RowLayout) → Some l ≡ layout_of kind fields → l.second.packets.length ≡ 0 → None ≡ second_row r
   reverse_missing l found none =
       ap (λ (n : ℕ). cond {A = Option RowView} (n == 0) None (Some (row_at l.second num))) (sym (none_there l.second.packets runs bytes none))
       ∙ reverse_found l found
@@ -283,26 +286,19 @@ module _ (r : Record) where
   abbrev said_first : ℕ → Option ℕ
   said_first = element forward r.fields
 
-  first_row-there : is_some (first_row r) ≡ (same_kind r.kind Flow && is_some (layout_of (fields_of r.fields)))
-  unfolding layout_of
-  first_row-there =
-      if_flow (same_kind r.kind Flow) (row_of_elements said_first)
-      ∙ ap (λ (b : Bool). same_kind r.kind Flow && b)
-      (sym
-      (
+  -- whether a record of this kind with the values has a first row
+  first_row-of_kind : (kind : Kind) → is_some (layout_of kind (fields_of r.fields)) ≡ is_some (cond (same_kind kind Flow) (row_of_elements said_first) None)
+  unfolding flow_layout
+  first_row-of_kind Options = refl
+  first_row-of_kind Flow =
       mapped (first_places at_first) (λ number. place back number 0 0 (fields_of r.fields))
       ∙ (λ i.
       is_some (cond (of_first 8 i && of_first 12 i) (Some (places_between true (at_first 8) (at_first 12) at_first))
       (cond (of_first 27 i && of_first 28 i) (Some (places_between false (at_first 27) (at_first 28) at_first)) None)))
       ∙ between (said_first 8) (said_first 12) (said_first 27) (said_first 28)
-      ))
     where
       of_first : (number : ℕ) → is_there (at_first number) ≡ is_some (said_first number)
       of_first number = there-place forward number 0 0 r.fields
-
-      if_flow : (b : Bool) (row : Option RowView) → is_some (cond b row None) ≡ (b && is_some row)
-      if_flow true row = refl
-      if_flow false row = refl
 
       between : (a b c d : Option ℕ)
           → is_some (cond (is_some a && is_some b) (Some (places_between true (at_first 8) (at_first 12) at_first))
@@ -315,6 +311,9 @@ module _ (r : Record) where
       between None b (Some c) (Some d) = refl
       between None b (Some c) None = refl
       between None b None d = refl
+
+  first_row-there : is_some (first_row r) ≡ is_some (layout_of r.kind (fields_of r.fields))
+  first_row-there = sym (first_row-of_kind r.kind)
 
 -- without a place for the packets of the reverse direction there is no second row
 or_there : (p q : Place) → is_there (place_or p q) ≡ (is_there p || is_there q)
@@ -330,14 +329,19 @@ packets_there : (first : Option Places) (at : ℕ → Place) (l : RowLayout) →
 packets_there None at l is = absurd (cc)
 packets_there (Some first) at l is = ap (λ (l : RowLayout). is_there l.second.packets) (sym (some_is _ _ is)) ∙ or_there (at 2) (at 86)
 
-no_second : (r : Record) (l : RowLayout) → layout_of (fields_of r.fields) ≡ Some l → is_there l.second.packets ≡ false → is_some (second_row r) ≡ false
-unfolding layout_of
+back_there : (kind : Kind) (fields : List FieldView) (l : RowLayout) → layout_of kind fields ≡ Some l
+    → is_there l.second.packets ≡ (is_there (place back 2 0 0 fields) || is_there (place back 86 0 0 fields))
+unfolding flow_layout
+back_there Flow fields l found = packets_there _ (λ number. place back number 0 0 fields) l found
+back_there Options fields l found = absurd (cc)
+
+no_second : (r : Record) (l : RowLayout) → layout_of r.kind (fields_of r.fields) ≡ Some l → is_there l.second.packets ≡ false → is_some (second_row r) ≡ false
 no_second r l found none =
     without (first_row r)
     (neither (element back r.fields 2) (element back r.fields 86)
     (
     (λ i. sym (there-place back 2 0 0 r.fields) i || sym (there-place back 86 0 0 r.fields) i)
-    ∙ sym (packets_there _ (λ number. place back number 0 0 (fields_of r.fields)) l found) ∙ none
+    ∙ sym (back_there r.kind (fields_of r.fields) l found) ∙ none
     ))
   where
     neither : (a b : Option ℕ) → (is_some a || is_some b) ≡ false → unwrap_or (option_or a b) 0 ≡ 0
@@ -390,18 +394,18 @@ of_kind_counted kind records of all =
 -- records of a kind with these fields
 module _ (fields : List FieldView) (records : List Record) (kind : Kind) (of_kind : All (λ r. r.kind ≡ kind) records)
     (of_fields : All (λ r. fields_of r.fields ≡ fields) records) where
-  first_rows : All (λ r. is_some (first_row r) ≡ (same_kind kind Flow && is_some (layout_of fields))) records
+  first_rows : All (λ r. is_some (first_row r) ≡ is_some (layout_of kind fields)) records
   first_rows = λ k d within.
-      first_row-there (get_or records k d)
-      ∙ (λ i. same_kind (of_kind k d within i) Flow && is_some (layout_of (of_fields k d within i)))
+      first_row-there (get_or records k d) ∙ (λ i. is_some (layout_of (of_kind k d within i) (of_fields k d within i)))
 
-  no_rows : (same_kind kind Flow && is_some (layout_of fields)) ≡ false → length (flat_map rows_of_record records) ≡ 0
-  no_rows none =
+  pub no_layout : None ≡ layout_of kind fields → length (flat_map rows_of_record records) ≡ 0
+  no_layout none =
+      let missing : is_some (layout_of kind fields) ≡ false = ap is_some (sym none) in
       omega (
         arith,
         rows_counted records,
-        count_alike (λ r. is_some (first_row r)) false records (λ k d within. first_rows k d within ∙ none),
-        count_alike (λ r. is_some (second_row r)) false records (λ k d within. without (get_or records k d) (first_rows k d within ∙ none)),
+        count_alike (λ r. is_some (first_row r)) false records (λ k d within. first_rows k d within ∙ missing),
+        count_alike (λ r. is_some (second_row r)) false records (λ k d within. without (get_or records k d) (first_rows k d within ∙ missing)),
       )
     where
       without : (r : Record) → is_some (first_row r) ≡ false → is_some (second_row r) ≡ false
@@ -411,24 +415,14 @@ module _ (fields : List FieldView) (records : List Record) (kind : Kind) (of_kin
           by None none = refl
           by (Some row) none = absurd (cc)
 
-  pub no_layout : None ≡ layout_of fields → length (flat_map rows_of_record records) ≡ 0
-  no_layout none = no_rows (ap (λ (l : Option RowLayout). same_kind kind Flow && is_some l) (sym none) ∙ never (same_kind kind Flow))
-    where
-      never : (b : Bool) → (b && false) ≡ false
-      never true = refl
-      never false = refl
-
-  pub no_flows : same_kind kind Flow ≡ false → length (flat_map rows_of_record records) ≡ 0
-  no_flows other = no_rows (ap (λ b. b && is_some (layout_of fields)) other)
-
-  pub all_rows : (l : RowLayout) → Some l ≡ layout_of fields → same_kind kind Flow ≡ true
+  pub all_rows : (l : RowLayout) → Some l ≡ layout_of kind fields
       → length (flat_map rows_of_record records) ≡ length records + count_by (λ r. is_some (second_row r)) records
-  all_rows l found is_flow =
+  all_rows l found =
       rows_counted records
       ∙ ap (λ n. n + count_by (λ r. is_some (second_row r)) records)
-      (count_alike (λ r. is_some (first_row r)) true records (λ k d within. first_rows k d within ∙ (λ i. is_flow i && is_some (sym found i))))
+      (count_alike (λ r. is_some (first_row r)) true records (λ k d within. first_rows k d within ∙ ap is_some (sym found)))
 
-  pub none_back : (l : RowLayout) → Some l ≡ layout_of fields → is_there l.second.packets ≡ false → count_by (λ r. is_some (second_row r)) records ≡ 0
+  pub none_back : (l : RowLayout) → Some l ≡ layout_of kind fields → is_there l.second.packets ≡ false → count_by (λ r. is_some (second_row r)) records ≡ 0
   none_back l found none =
       count_alike (λ r. is_some (second_row r)) false records
-      (λ k d within. no_second (get_or records k d) l (ap layout_of (of_fields k d within) ∙ sym found) none)
+      (λ k d within. no_second (get_or records k d) l ((λ i. layout_of (of_kind k d within i) (of_fields k d within i)) ∙ sym found) none)

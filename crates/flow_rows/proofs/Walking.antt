@@ -11,7 +11,6 @@ use Rattle.std.proofs.lemmas.List.Concat.{length-flat_map}
 use Rattle.std.proofs.lemmas.List.Elements.{All-head, All-tail}
 use Rattle.std.proofs.lemmas.List.Sums.{sum_by-le-sum_by}
 use Rattle.ipfix_templates.specs.declared.kind.Kind.{Kind}
-use Rattle.ipfix_templates.specs.declared.kind.Kind.TheVariants.{Flow, Options}
 use Rattle.ipfix_templates.specs.declared.layout.RowLayout.{RowLayout}
 use Rattle.ipfix_templates.specs.Layout.{is_there}
 use Rattle.ipfix_read.specs.Message.{message_size, set_size}
@@ -28,20 +27,20 @@ use Rattle.flow_rows.proofs.Usable.{fields_of}
 -- the first of flow records with a layout, and its bytes
 module _ (layout : RowLayout) (runs : List ℕ) (all : List Record) (have : HaveLayout layout runs all) (r : Record) (records : List Record)
     (is : all ≡ r ∷ records) (bytes : Bor (List ℕ)) (read : (rest : List ℕ) × (values_at (fields_of r.fields) bytes.now ≡ Some (r.fields, rest))) where
-  flows : All (λ r. r.kind ≡ Flow) (r ∷ records)
-  flows = subst (All (λ r. r.kind ≡ Flow)) is have.flows
+  of_kind : All (λ r. r.kind ≡ have.kind) (r ∷ records)
+  of_kind = subst (All (λ r. r.kind ≡ have.kind)) is have.of_kind
 
   alike : All (λ r. fields_of r.fields ≡ have.fields) (r ∷ records)
   alike = subst (All (λ r. fields_of r.fields ≡ have.fields)) is have.same
 
-  is_flow : r.kind ≡ Options → ⊥
-  is_flow other = let flow : r.kind ≡ Flow = All-head (λ (x : Record). x.kind ≡ Flow) r records flows in cc
+  kind_is : have.kind ≡ r.kind
+  kind_is = sym (All-head (λ (x : Record). x.kind ≡ have.kind) r records of_kind)
 
   same : have.fields ≡ fields_of r.fields
   same = sym (All-head (λ (x : Record). fields_of x.fields ≡ have.fields) r records alike)
 
   both_usable : AreUsable (length bytes.now) layout.first × AreUsable (length bytes.now) layout.second
-  both_usable = usable r is_flow have.fields runs bytes.now same have.runs_are read layout have.layout_is
+  both_usable = usable r have.kind kind_is have.fields runs bytes.now same have.runs_are read layout have.layout_is
 
   pub first_usable : AreUsable (length bytes.now) layout.first
   first_usable = both_usable.0
@@ -51,10 +50,11 @@ module _ (layout : RowLayout) (runs : List ℕ) (all : List Record) (have : Have
       × IfSome (then_some there bytes) (λ bytes. AreUsable (length bytes.now) layout.second)
   still_usable there = (
     record {
+      kind = have.kind;
       fields = have.fields;
       layout_is = have.layout_is;
       runs_are = have.runs_are;
-      flows = All-tail (λ (x : Record). x.kind ≡ Flow) r records flows;
+      of_kind = All-tail (λ (x : Record). x.kind ≡ have.kind) r records of_kind;
       same = All-tail (λ (x : Record). fields_of x.fields ≡ have.fields) r records alike;
     },
     kept there,
@@ -70,15 +70,15 @@ module _ (layout : RowLayout) (runs : List ℕ) (all : List Record) (have : Have
       ≡ row_at layout.first (λ place. number_there place runs bytes.now)
       ∷ option_to_list (option_and_then (λ bytes. second_at layout runs bytes.now) (then_some there bytes)) ++ flat_map rows_of_record records
   rows_first there counted = ap (flat_map rows_of_record) is ∙ λ i.
-      (option_to_list (sym (row_found r is_flow have.fields runs bytes.now same have.runs_are read layout have.layout_is) i)
+      (option_to_list (sym (row_found r have.kind kind_is have.fields runs bytes.now same have.runs_are read layout have.layout_is) i)
       ++ option_to_list (second there counted i)) ++ flat_map rows_of_record records
     where
       second : (there : Bool) → there ≡ is_there layout.second.packets
           → second_row r ≡ option_and_then (λ bytes. second_at layout runs bytes.now) (then_some there bytes)
-      second true counted = sym (reverse_found r is_flow have.fields runs bytes.now same have.runs_are read layout have.layout_is)
+      second true counted = sym (reverse_found r have.kind kind_is have.fields runs bytes.now same have.runs_are read layout have.layout_is)
       second false counted =
           sym
-          (reverse_missing r is_flow have.fields runs bytes.now same have.runs_are read layout have.layout_is
+          (reverse_missing r have.kind kind_is have.fields runs bytes.now same have.runs_are read layout have.layout_is
           (eqb-true layout.second.packets.length 0 (not-false (layout.second.packets.length == 0) (sym counted))))
 
 -- ---- a message has at most twice as many rows as sets and records

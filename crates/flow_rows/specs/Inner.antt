@@ -2,7 +2,7 @@ use Rattle.std.specs.Prelude.{◌≡◌, ℕ, ◌+◌, ◌≤◌, ◌==◌, All,
 use Rattle.prefix_keys.specs.declared.version.Version.{Version}
 use Rattle.prefix_keys.specs.declared.version.Version.TheVariants.{V4, V6}
 use Rattle.ipfix_templates.specs.declared.field.Field.{Field}
-use Rattle.ipfix_templates.specs.declared.kind.Kind.TheVariants.{Flow}
+use Rattle.ipfix_templates.specs.declared.kind.Kind.{Kind}
 use Rattle.ipfix_templates.specs.declared.layout.Place.{Place}
 use Rattle.ipfix_templates.specs.declared.layout.Places.{Places}
 use Rattle.ipfix_templates.specs.declared.layout.RowLayout.{RowLayout}
@@ -74,10 +74,11 @@ abbrev pub second_at : RowLayout → List ℕ → List ℕ → Option RowView
 second_at layout runs bytes =
     let row = row_at layout.second (λ place. number_there place runs bytes) in if row.packets == 0 then None else Some row
 
--- these are flow records, all with the same fields, which have this layout
+-- these records all have the same kind and the same fields, which have this layout
 pub record HaveLayout (layout : RowLayout) (runs : List ℕ) (records : List Record) : Type 0 where
+  pub kind : Kind
   pub fields : List Field
-  pub layout_is : Some layout ≡ layout_of fields
+  pub layout_is : Some layout ≡ layout_of kind fields
   pub runs_are : runs ≡ runs_from 0 fields
-  pub flows : All (λ r. r.kind ≡ Flow) records
+  pub of_kind : All (λ r. r.kind ≡ kind) records
   pub same : All (λ r. map (λ v. v.field) r.fields ≡ fields) records

@@ -43,20 +43,16 @@ pub fn of_kind(records: &RecordList<'_>, kind: Kind) -> u64
     }
 }
 
-/// Returns the number of rows of the records. Whether they have first rows follows from the fields. If a field counts
-/// packets in the reverse direction, each record is examined for a second row.
+/// Returns the number of rows of the records. Whether they have first rows follows from the kind and the fields. If a
+/// field counts packets in the reverse direction, each record is examined for a second row.
 pub fn row_count(records: &RecordList<'_>) -> u64
     requires { length records.now < 2 ^ 63 }
     ensures value { result ≡ length (flat_map rows_of_record records.now) }
     ensures bound { result ≤ length records.now + length records.now }
 {
-    let kind = records.kind();
-    let Some(layout) = records.fields().row_layout() else {
+    let Some(layout) = records.fields().row_layout(records.kind()) else {
         return 0;
     };
-    if !kind.is(Kind::Flow) {
-        return 0;
-    }
     let mut count = records.len() as u64;
     if layout.second.packets.is_there() {
         for source in records.iter() {

@@ -5,7 +5,7 @@ ghost use Rattle.flow_rows.specs.Inner.{AreUsable, second_at};
 
 use crate::row::Row;
 use ipfix_read::Record;
-use ipfix_templates::{Kind, RowLayout};
+use ipfix_templates::RowLayout;
 
 /// Returns the first row of a data record. Each number is that of the first usable field of its element (RFC 7012). A
 /// field is usable if it has no enterprise number and the template's length fits its element. An options record has no
@@ -14,12 +14,9 @@ use ipfix_templates::{Kind, RowLayout};
 pub fn row_of<'r>(source: &Record<'r, 'r>) -> Option<Row<'r>>
     ensures { result ≡ first_row source.now }
 {
-    if let Kind::Options = source.kind {
-        return None;
-    }
     let fields = source.fields.specifiers();
     let bytes = source.fields.bytes();
-    let layout = fields.row_layout()?;
+    let layout = fields.row_layout(source.kind)?;
     Some(Row::new(&layout.first, fields.runs(), bytes))
 }
 
@@ -49,11 +46,8 @@ pub fn second_row<'r>(
 pub fn reverse_row_of<'r>(source: &Record<'r, 'r>) -> Option<Row<'r>>
     ensures { result ≡ second_row source.now }
 {
-    if let Kind::Options = source.kind {
-        return None;
-    }
     let fields = source.fields.specifiers();
     let bytes = source.fields.bytes();
-    let layout = fields.row_layout()?;
+    let layout = fields.row_layout(source.kind)?;
     second_row(layout, fields.runs(), Some(bytes))
 }

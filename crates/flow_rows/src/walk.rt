@@ -9,7 +9,7 @@ ghost use Rattle.flow_rows.specs.Walk.{HaveRows, rows_left};
 use crate::record::second_row;
 use crate::row::Row;
 use ipfix_read::{Message, Records, Set};
-use ipfix_templates::{Kind, RowLayout};
+use ipfix_templates::RowLayout;
 use std::marker::Model;
 use std::slice::Iter;
 
@@ -33,11 +33,8 @@ impl<'m> SetRows<'m> {
             return None;
         };
         let fields = list.fields();
-        if !list.kind().is(Kind::Flow) {
-            return None;
-        }
         Some(SetRows {
-            layout: fields.row_layout()?,
+            layout: fields.row_layout(list.kind())?,
             runs: fields.runs(),
             records: list.iter(),
         })

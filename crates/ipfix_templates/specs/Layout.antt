@@ -3,6 +3,7 @@
 use Rattle.std.specs.Prelude.{ℕ, ◌+◌, List, [], ◌∷◌, Bool, true, false, not, Option, Some, None, option_map, ◌==◌, ◌&&◌, if◌then◌else◌}
 use Rattle.ipfix_templates.specs.Field.{FieldView, is_variable}
 use Rattle.ipfix_templates.specs.Elements.{back, forward, is_usable}
+use Rattle.ipfix_templates.specs.Template.{Flow, Kind, Options}
 use Rattle.ipfix_templates.specs.declared.layout.Place.{Place}
 use Rattle.ipfix_templates.specs.declared.layout.Places.{Places}
 use Rattle.ipfix_templates.specs.declared.layout.RowLayout.{RowLayout}
@@ -59,8 +60,13 @@ second_places first at = record {
   is_v4 = first.is_v4;
 }
 
--- the places of both rows of records with these fields, if they have rows
-unfoldable pub layout_of : List FieldView → Option RowLayout
-layout_of fields =
+-- the places of both rows of flow records with these fields, if they have rows
+unfoldable pub flow_layout : List FieldView → Option RowLayout
+flow_layout fields =
     option_map (λ first. record { first = first; second = second_places first (λ number. place back number 0 0 fields) })
     (first_places (λ number. place forward number 0 0 fields))
+
+-- the places of both rows of records of this kind with these fields, if they have rows
+abbrev pub layout_of : Kind → List FieldView → Option RowLayout
+layout_of Flow fields = flow_layout fields
+layout_of Options fields = None

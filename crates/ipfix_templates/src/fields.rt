@@ -4,6 +4,7 @@ ghost use Rattle.ipfix_templates.specs.Runs.{runs_from, last_run_from};
 ghost use Rattle.ipfix_templates.specs.Layout.{layout_of};
 
 use crate::field::Field;
+use crate::kind::Kind;
 use crate::layout::RowLayout;
 use std::alloc::AllocError;
 use std::marker::Model;
@@ -30,7 +31,7 @@ impl Model for Fields {
     ghost use Rattle.std.specs.Rc.{rc_value};
     ghost use Rattle.ipfix_templates.specs.Field.{FieldView, least_length};
     ghost use Rattle.ipfix_templates.specs.Runs.{runs_from, last_run_from};
-    ghost use Rattle.ipfix_templates.specs.Layout.{layout_of};
+    ghost use Rattle.ipfix_templates.specs.Layout.{flow_layout};
 
     ghost Value = { List FieldView };
 
@@ -39,7 +40,7 @@ impl Model for Fields {
     ghost invariant = { λ a. let l = rc_value a.shared in
         (length l.items.items ≤ 65535) × (l.runs.items ≡ runs_from 0 l.items.items)
         × (l.last_run ≡ last_run_from 0 l.items.items) × (l.least ≡ least_length l.items.items)
-        × (l.rows ≡ layout_of l.items.items) };
+        × (l.rows ≡ flow_layout l.items.items) };
 }
 
 impl Fields {
@@ -106,11 +107,15 @@ impl Fields {
         self.shared.least
     }
 
-    /// Returns where the numbers of rows are in records with these fields, or `None` if the records have no rows.
+    /// Returns where the numbers of rows are in records of a kind with these fields, or `None` if the records have no
+    /// rows.
     #[inline(always)]
-    pub fn row_layout(&self) -> Option<&RowLayout>
-        ensures { option_map (λ layout. layout.now) result ≡ layout_of self.now }
+    pub fn row_layout(&self, kind: Kind) -> Option<&RowLayout>
+        ensures { option_map (λ layout. layout.now) result ≡ layout_of kind self.now }
     {
-        self.shared.rows.as_ref()
+        match kind {
+            Kind::Flow => self.shared.rows.as_ref(),
+            Kind::Options => None,
+        }
     }
 }

@@ -1,7 +1,7 @@
 //! The places of the numbers of flow rows in the records of a template, determined once.
 ghost use Rattle.std.specs.Prelude.{◌≡◌, ◌≤◌, ◌==◌, find, length};
 ghost use Rattle.ipfix_templates.specs.Elements.{back, fits, forward, is_usable};
-ghost use Rattle.ipfix_templates.specs.Layout.{first_places, is_there, layout_of, place, place_or, places_between, second_places};
+ghost use Rattle.ipfix_templates.specs.Layout.{first_places, flow_layout, is_there, place, place_or, places_between, second_places};
 
 use crate::field::Field;
 
@@ -209,11 +209,11 @@ fn second_places(first: &Places, fields: &[Field]) -> Places
 }
 
 impl RowLayout {
-    // Returns the layout of records with these fields, if they have rows.
-    #[tactic(auto, unfolding(crate::specs::Layout::layout_of))]
+    // Returns the layout of flow records with these fields, if they have rows.
+    #[tactic(auto, unfolding(crate::specs::Layout::flow_layout))]
     pub(crate) fn of_fields(fields: &[Field]) -> Option<RowLayout>
         requires { length fields.now ≤ 65535 }
-        ensures { result ≡ layout_of fields.now }
+        ensures { result ≡ flow_layout fields.now }
     {
         let first = first_places(fields)?;
         let second = second_places(&first, fields);

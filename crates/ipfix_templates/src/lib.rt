@@ -19,7 +19,7 @@
 //! (`in_force`).
 //!
 //! The fields of a template also have a layout (`RowLayout`): the places of a flow row's numbers in its records,
-//! determined once. Records of options templates have no rows, so their layout means nothing.
+//! determined once. Options templates have none.
 #![tactic(auto)]
 
 mod event;

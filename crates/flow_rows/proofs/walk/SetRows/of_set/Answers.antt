@@ -1,15 +1,8 @@
-use Rattle.std.proofs.Common.{◌∙◌, sym}
 use Rattle.std.specs.List.{flat_map}
 use Rattle.flow_rows.specs.Elements.{rows_of_record}
-use Rattle.flow_rows.proofs.LayoutRows.{no_flows, no_layout}
+use Rattle.flow_rows.proofs.LayoutRows.{no_layout}
 use Rattle.flow_rows.proofs.Walking.{empty_of}
 use Rattle.flow_rows.proofs.walk.SetRows.of_set.Goals as goal
-
-pub returns-then-not-is-clause-rows : goal.returns-then-not-is-clause-rows
-returns-then-not-is-clause-rows c =
-    rw c.in-Values.is
-    (empty_of (flat_map rows_of_record c.in-Values.list)
-    (no_flows c.fields-fields.result.now c.in-Values.list c.kind.result c.kind.ensures c.fields-fields.ensures (sym c.is.ensures ∙ c.if-not-is.true)))
 
 pub returns-in_err-row_layout-clause-rows : goal.returns-in_err-row_layout-clause-rows
 returns-in_err-row_layout-clause-rows c =
