@@ -1,8 +1,8 @@
 ghost use Rattle.std.specs.Prelude.{◌+◌, ◌*◌, ◌≤◌};
 
-use crate::counting::{definitions, of_kind, row_count, withdrawals};
-use ipfix_read::{Message, Set};
-use ipfix_templates::Kind;
+use crate::record::reverse_row_of;
+use ipfix_read::{Message, RecordList, Set};
+use ipfix_templates::{Kind, TemplateEvent};
 
 /// The counts of messages, which `info` prints for a File. Each is at most 65,535 for each message, and the rows are at
 /// most twice as many.
@@ -31,10 +31,12 @@ pub struct Counts {
 }
 
 impl Counts {
-    ghost use Rattle.std.specs.Prelude.{◌≡◌, ◌++◌, ◌∷◌, [], ◌<◌, ℕ, List};
+    ghost use Rattle.std.specs.Prelude.{◌≡◌, ◌++◌, ◌∷◌, [], ◌<◌, ◌^◌, ℕ, List, count_by, length};
+    ghost use Rattle.std.specs.List.{flat_map};
     ghost use Rattle.ipfix_read.specs.Message.{MessageView, set_size};
     ghost use Rattle.ipfix_read.specs.declared.set.Set.{Set as SetView};
-    ghost use Rattle.flow_rows.specs.Counts.{counts_in, counts_of, numbers_of, total};
+    ghost use Rattle.flow_rows.specs.Counts.{counts_in, counts_of, defines, is_withdrawal, numbers_of, total};
+    ghost use Rattle.flow_rows.specs.Elements.{rows_of_record};
 
     /// Returns the counts of no messages.
     pub fn new() -> Counts
@@ -65,6 +67,52 @@ impl Counts {
         }
     }
 
+    // Returns the number of events that define a template of the kind.
+    fn definitions(events: &[TemplateEvent], kind: Kind) -> u64
+        ensures { result ≡ count_by (defines kind) events.now }
+    {
+        events
+            .iter()
+            .filter(
+                |event| matches!(event, TemplateEvent::Define(template) if template.kind == kind),
+            )
+            .count() as u64
+    }
+
+    // Returns the number of events that withdraw one or more templates.
+    fn withdrawals(events: &[TemplateEvent]) -> u64
+        ensures { result ≡ count_by is_withdrawal events.now }
+    {
+        events
+            .iter()
+            .filter(|event| matches!(
+                event,
+                TemplateEvent::Withdraw(_) | TemplateEvent::WithdrawAll(_)
+            ))
+            .count() as u64
+    }
+
+    // Returns the number of rows of the records. Whether they have first rows follows from the kind and the fields. If a
+    // field counts packets in the reverse direction, each record is examined for a second row.
+    fn row_count(records: &RecordList<'_>) -> u64
+        requires { length records.now < 2 ^ 63 }
+        ensures value { result ≡ length (flat_map rows_of_record records.now) }
+        ensures bound { result ≤ length records.now + length records.now }
+    {
+        let Some(layout) = records.fields().row_layout(records.kind()) else {
+            return 0;
+        };
+        let mut count = records.len() as u64;
+        if layout.second.packets.is_there() {
+            for source in records.iter() {
+                if reverse_row_of(&source).is_some() {
+                    count += 1;
+                }
+            }
+        }
+        count
+    }
+
     // Adds the counts of one set.
     fn add_set(&mut self, set: &Set<'_>)
         requires few { self.old.messages ≤ 4294967295 }
@@ -76,15 +124,17 @@ impl Counts {
     {
         match set {
             Set::Templates(_, events) => {
-                self.templates += definitions(events.as_slice(), Kind::Flow);
-                self.options_templates += definitions(events.as_slice(), Kind::Options);
-                self.withdrawals += withdrawals(events.as_slice());
+                self.templates += Counts::definitions(events.as_slice(), Kind::Flow);
+                self.options_templates += Counts::definitions(events.as_slice(), Kind::Options);
+                self.withdrawals += Counts::withdrawals(events.as_slice());
             }
             Set::Values(_, records) => {
                 self.data_sets += 1;
-                self.records += of_kind(records, Kind::Flow);
-                self.options_records += of_kind(records, Kind::Options);
-                self.rows += row_count(records);
+                self.rows += Counts::row_count(records);
+                match records.kind() {
+                    Kind::Flow => self.records += records.len() as u64,
+                    Kind::Options => self.options_records += records.len() as u64,
+                }
             }
             Set::Skipped(_) => self.skipped_sets += 1,
         }

@@ -22,7 +22,6 @@
 //! after one more message, those of the list with that message. Nothing here allocates.
 #![tactic(auto)]
 
-mod counting;
 mod counts;
 mod laws;
 mod place;

@@ -1,8 +1,8 @@
 ghost use Rattle.std.specs.Prelude.{◌≡◌};
-ghost use Rattle.ipfix_templates.specs.Template.{same_kind, set_id};
+ghost use Rattle.ipfix_templates.specs.Template.{set_id};
 
 /// The kind of records that a template describes.
-#[derive(Clone, Copy)]
+#[derive(Clone, Copy, PartialEq, Eq)]
 pub enum Kind {
     /// Flow records: a template of a template set (RFC 7011 section 3.4.1).
     Flow,
@@ -19,12 +19,5 @@ impl Kind {
             Kind::Flow => 2,
             Kind::Options => 3,
         }
-    }
-
-    /// Returns `true` if the two kinds are the same.
-    pub fn is(self, other: Kind) -> bool
-        ensures { result ≡ same_kind self other }
-    {
-        self.set_id() == other.set_id()
     }
 }

@@ -2,7 +2,7 @@ use Rattle.std.proofs.Common.{◌∙◌, ap, arith, is_some, sym}
 use Rattle.std.specs.Prelude.{count_by}
 use Rattle.flow_rows.specs.Elements.{second_row}
 use Rattle.flow_rows.proofs.LayoutRows.{all_rows, no_layout, none_back}
-use Rattle.flow_rows.proofs.counting.row_count.Goals as goal
+use Rattle.flow_rows.proofs.counts.Counts.row_count.Goals as goal
 
 pub returns-in_default-clause-value : goal.returns-in_default-clause-value
 returns-in_default-clause-value c =

@@ -1,5 +1,5 @@
 use Rattle.std.proofs.iter.Serving.{serving}
-use Rattle.flow_rows.proofs.counting.withdrawals.Goals as goal
+use Rattle.flow_rows.proofs.counts.Counts.withdrawals.Goals as goal
 
 pub returns : goal.returns
 returns c = grind serving

@@ -2,7 +2,7 @@
 use Rattle.std.proofs.Common.{◌≡◌, ◌+◌, is_some, length}
 use Rattle.std.specs.Prelude.{count_by}
 use Rattle.flow_rows.specs.Elements.{second_row}
-use Rattle.flow_rows.proofs.counting.row_count.Given as goal
+use Rattle.flow_rows.proofs.counts.Counts.row_count.Given as goal
 
 abbrev pub invariant-loop-source : goal.invariant-loop-source
 invariant-loop-source l =
