@@ -90,14 +90,14 @@ module _ (direction : Option ℕ) (number : ℕ) (bytes : List ℕ) where
   abbrev said_at : List ℕ → ℕ → ℕ → List FieldView → ℕ
   said_at front skips offset fields = number_there (place direction number skips offset fields) (front ++ runs_from offset fields) bytes
 
-  said_behind : (fields : List FieldView) (front gap rest : List ℕ) (skips offset : ℕ) (x : List FieldValueView × List ℕ)
+  said_from : (fields : List FieldView) (front gap rest : List ℕ) (skips offset : ℕ) (x : List FieldValueView × List ℕ)
       → skips ≡ length front → offset ≡ length gap → after_values front bytes ≡ Some (gap ++ rest) → values_at fields rest ≡ Some x
       → said_at front skips offset fields ≡ unwrap_or (element direction x.0 number) 0
   unfolding values_at
-  said_behind [] front gap rest skips offset x skips_are offset_is behind read =
+  said_from [] front gap rest skips offset x skips_are offset_is after read =
       none_there (record { offset = 0; skips = 0; length = 0 }) (front ++ runs_from offset []) bytes refl
       ∙ ap (λ (vs : List FieldValueView). unwrap_or (element direction vs number) 0) (ap (λ (y : List FieldValueView × List ℕ). y.0) (some_is ([], rest) x read))
-  said_behind (f ∷ fs) front gap rest skips offset x skips_are offset_is behind read =
+  said_from (f ∷ fs) front gap rest skips offset x skips_are offset_is after read =
       let a = gave (value_at f rest) (λ v. option_and_then (λ vs. Some (record { field = f; value = v.0 } ∷ vs.0, vs.1)) (values_at fs v.1)) x read in
       let b = gave (values_at fs a.0.1) (λ vs. Some (record { field = f; value = a.0.0 } ∷ vs.0, vs.1)) x a.2 in
       let first : FieldValueView = record { field = f; value = a.0.0 } in
@@ -108,7 +108,7 @@ module _ (direction : Option ℕ) (number : ℕ) (bytes : List ℕ) where
             let fixed : is_variable f ≡ false = has_other_length 65535 refl direction number f usable in
             let v = fixed_value f rest a.0 fixed a.1 in
             let there : bytes_there (record { offset = length gap; skips = length front; length = length a.0.0 }) (front ++ runs_from offset (f ∷ fs)) bytes ≡ Some a.0.0 =
-            found_there front (runs_from offset (f ∷ fs)) bytes gap a.0.0 a.0.1 (behind ∙ ap (λ (r : List ℕ). Some (gap ++ r)) v.1) in
+            found_there front (runs_from offset (f ∷ fs)) bytes gap a.0.0 a.0.1 (after ∙ ap (λ (r : List ℕ). Some (gap ++ r)) v.1) in
             rw usable
             ((λ i. number_there (record { offset = offset_is i; skips = skips_are i; length = sym v.0 i }) (front ++ runs_from offset (f ∷ fs)) bytes)
             ∙ ap (λ (o : Option (List ℕ)). big_endian (unwrap_or o [])) there
@@ -122,16 +122,16 @@ module _ (direction : Option ℕ) (number : ℕ) (bytes : List ℕ) where
             ≡ said x.0) [
               | true ↦ λ variable.
                   let next : after_values (front ++ offset ∷ []) bytes ≡ Some a.0.1 =
-                  one_more_value front offset bytes gap rest a.0 behind (sym offset_is) (sym (variable_value f rest variable) ∙ a.1) in
+                  one_more_value front offset bytes gap rest a.0 after (sym offset_is) (sym (variable_value f rest variable) ∙ a.1) in
                   ap (λ (runs : List ℕ). number_there (place direction number (skips + 1) 0 fs) runs bytes) (sym (append_assoc front (offset ∷ []) (runs_from 0 fs)))
-                  ∙ said_behind fs (front ++ offset ∷ []) [] a.0.1 (skips + 1) 0 b.0
+                  ∙ said_from fs (front ++ offset ∷ []) [] a.0.1 (skips + 1) 0 b.0
                   (omega (arith, skips_are, length-append front (offset ∷ []))) refl next b.1
                   ∙ passed
               | false ↦ λ fixed.
                   let v = fixed_value f rest a.0 fixed a.1 in
-                  said_behind fs front (gap ++ a.0.0) a.0.1 skips (offset + f.length) b.0 skips_are
+                  said_from fs front (gap ++ a.0.0) a.0.1 skips (offset + f.length) b.0 skips_are
                   (omega (arith, offset_is, v.0, length-append gap a.0.0))
-                  (behind ∙ ap (λ (r : List ℕ). Some (gap ++ r)) v.1 ∙ ap (λ (r : List ℕ). Some r) (sym (append_assoc gap a.0.0 a.0.1)))
+                  (after ∙ ap (λ (r : List ℕ). Some (gap ++ r)) v.1 ∙ ap (λ (r : List ℕ). Some r) (sym (append_assoc gap a.0.0 a.0.1)))
                   b.1
                   ∙ passed
             ]
@@ -140,10 +140,10 @@ module _ (direction : Option ℕ) (number : ℕ) (bytes : List ℕ) where
       refl
 
 -- a place after values of variable length says so, unless the element is missing
-behind_variable : (direction : Option ℕ) (number skips offset : ℕ) (fields : List FieldView) → 1 ≤ skips → (place direction number skips offset fields).skips ≡ 0
+after_variable : (direction : Option ℕ) (number skips offset : ℕ) (fields : List FieldView) → 1 ≤ skips → (place direction number skips offset fields).skips ≡ 0
     → (place direction number skips offset fields).offset + (place direction number skips offset fields).length ≡ 0
-behind_variable direction number skips offset [] some none = refl
-behind_variable direction number skips offset (f ∷ fs) some none =
+after_variable direction number skips offset [] some none = refl
+after_variable direction number skips offset (f ∷ fs) some none =
     elim (is_usable direction number f) as (λ b.
     let p = cond b (record { offset = offset; skips = skips; length = f.length })
     (cond (is_variable f) (place direction number (skips + 1) 0 fs) (place direction number skips (offset + f.length) fs)) in
@@ -152,8 +152,8 @@ behind_variable direction number skips offset (f ∷ fs) some none =
       | false ↦ elim (is_variable f) as (λ b.
           let p = cond b (place direction number (skips + 1) 0 fs) (place direction number skips (offset + f.length) fs) in
           p.skips ≡ 0 → p.offset + p.length ≡ 0) [
-            | true ↦ behind_variable direction number (skips + 1) 0 fs (omega arith)
-            | false ↦ behind_variable direction number skips (offset + f.length) fs some
+            | true ↦ after_variable direction number (skips + 1) 0 fs (omega arith)
+            | false ↦ after_variable direction number skips (offset + f.length) fs some
           ]
     ]
     none
@@ -177,7 +177,7 @@ within_record direction number offset (f ∷ fs) rest x read none =
       | false ↦ λ _. elim (is_variable f) as (λ c. is_variable f ≡ c →
           let p = cond c (place direction number 1 0 fs) (place direction number 0 (offset + f.length) fs) in
           p.skips ≡ 0 → p.offset + p.length ≤ offset + length rest) [
-            | true ↦ λ _ none. omega (arith, behind_variable direction number 1 0 fs (omega arith) none)
+            | true ↦ λ _ none. omega (arith, after_variable direction number 1 0 fs (omega arith) none)
             | false ↦ λ fixed none. omega (arith, sizes fixed, within_record direction number (offset + f.length) fs a.0.1 b.0 b.1 none)
           ]
           refl
@@ -189,4 +189,4 @@ pub said_there : (direction : Option ℕ) (number : ℕ) (fields : List FieldVie
     → values_at fields bytes ≡ Some (values, rest)
     → number_there (place direction number 0 0 fields) (runs_from 0 fields) bytes ≡ unwrap_or (element direction values number) 0
 said_there direction number fields bytes values rest read =
-    said_behind direction number bytes fields [] [] bytes 0 0 (values, rest) refl refl refl read
+    said_from direction number bytes fields [] [] bytes 0 0 (values, rest) refl refl refl read

@@ -6,11 +6,9 @@ use Rattle.std.specs.Borrow.{Bor}
 use Rattle.std.specs.List.{flat_map}
 use Rattle.std.specs.Option.{IfSome, option_to_list}
 use Rattle.std.proofs.lemmas.Bool.{eqb-true, not-false}
-use Rattle.std.proofs.lemmas.Grind.{flat_map-append}
 use Rattle.std.proofs.lemmas.List.Concat.{length-flat_map}
 use Rattle.std.proofs.lemmas.List.Elements.{All-head, All-tail}
 use Rattle.std.proofs.lemmas.List.Sums.{sum_by-le-sum_by}
-use Rattle.ipfix_templates.specs.declared.kind.Kind.{Kind}
 use Rattle.ipfix_templates.specs.declared.layout.RowLayout.{RowLayout}
 use Rattle.ipfix_templates.specs.Layout.{is_there}
 use Rattle.ipfix_read.specs.Message.{message_size, set_size}
@@ -109,17 +107,6 @@ set_within (Skipped id) = omega arith
 pub empty_of : {A : Type 0} (xs : List A) → length xs ≡ 0 → [] ≡ xs
 empty_of [] none = refl
 empty_of (x ∷ xs) none = absurd (omega (arith, none))
-
-pub none_in : (set : Set) → ((kind : Kind) (records : List Record) → set ≡ Values kind records → ⊥) → records_in set ≡ []
-none_in (Templates kind events) other = refl
-none_in (Values kind records) other = absurd (other kind records refl)
-none_in (Skipped id) other = refl
-
-pub set_rows_within : (set : Set) → length (flat_map rows_of_record (records_in set)) ≤ 2 * set_size set
-set_rows_within set = omega (arith, records_within (records_in set), set_within set)
-
-pub rows_of-cons : (set : Set) (sets : List Set) → rows_of (set ∷ sets) ≡ flat_map rows_of_record (records_in set) ++ rows_of sets
-rows_of-cons set sets = flat_map-append rows_of_record (records_in set) (records_of sets)
 
 pub rows_within : (sets : List Set) → length (rows_of sets) ≤ 2 * message_size sets
 rows_within sets =

@@ -15,8 +15,8 @@ fn find_bytes<'a>(place: &Place, runs: &[u32], bytes: &'a [u8]) -> Option<&'a [u
 {
     let mut rest = bytes;
     for run in &runs[..usize::from(place.skips).min(runs.len())] {
-        let (_fixed, behind) = rest.split_at_checked(*run as usize)?;
-        let (_value, after) = read_variable(behind)?;
+        let (_fixed, from) = rest.split_at_checked(*run as usize)?;
+        let (_value, after) = read_variable(from)?;
         rest = after;
     }
     let (_before, from) = rest.split_at_checked(place.offset as usize)?;

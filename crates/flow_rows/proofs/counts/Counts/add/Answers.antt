@@ -12,7 +12,7 @@ loop-set-preserved c =
     let sets = c.as_slice-set-items.result.now in
     let k = c.loop-set.set-index in
     let set = c.set-item.result in
-    let behind : drop k sets ≡ set ∷ drop (k + 1) sets =
+    let left : drop k sets ≡ set ∷ drop (k + 1) sets =
     drop_more sets k set c.loop-set-test.true ∙ ap (λ (s : Set). s ∷ drop (k + 1) sets) (sym c.set-item.is) in
     let before : take k sets ++ set ∷ [] ≡ take (k + 1) sets =
     ap (λ (s : Set). take k sets ++ s ∷ []) c.set-item.is ∙ sym (take_more sets k set c.loop-set-test.true) in
@@ -22,7 +22,7 @@ loop-set-preserved c =
           ∙ ap (counts_in (length messages + 1))
           (append_assoc (sets_of messages) (take k sets) (set ∷ []) ∙ ap (λ (more : List Set). sets_of messages ++ more) before);
       few = omega arith;
-      room = omega (arith, ap message_size behind, sum_by-cons set_size set (drop (k + 1) sets));
+      room = omega (arith, ap message_size left, sum_by-cons set_size set (drop (k + 1) sets));
     }
 
 pub returns : goal.returns
