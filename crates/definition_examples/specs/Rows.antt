@@ -1,7 +1,7 @@
-use Rattle.std.specs.Prelude.{ℕ, List, [], ◌∷◌, ◌+◌, ◌*◌, ◌==◌, Some, None, filter, length, not}
+use Rattle.std.specs.Prelude.{ℕ, List, [], ◌∷◌, ◌+◌, ◌*◌, ◌==◌, Some, None, codes, filter, length, not}
 use Rattle.std.specs.Fmt.{digits}
 use Rattle.prefix_keys.specs.Text.{hex_digit_value}
-use Rattle.prefix_keys.specs.declared.version.Version.TheVariants.{V4}
+use Rattle.prefix_keys.specs.declared.version.Version.TheVariants.{V4, V6}
 use Rattle.ipfix_templates.specs.declared.field.Field.{Field}
 use Rattle.ipfix_templates.specs.declared.kind.Kind.TheVariants.{Flow}
 use Rattle.ipfix_read.specs.Value.{FieldValueView, value_at, values_at}
@@ -41,7 +41,18 @@ reverse number text = record { field = reverse_field number (length (hex text));
 abbrev pub rows_of : List FieldValueView → List RowView
 rows_of values = rows_of_record (record { kind = Flow; fields = values })
 
--- the row of 10.0.0.1 and 10.0.0.2 without other values
+-- the rows of a flow record from 10.0.0.1 to 10.0.0.2 with these values, too
+abbrev pub rows_with : List FieldValueView → List RowView
+rows_with values = rows_of (value 8 (codes "0a000001") ∷ value 12 (codes "0a000002") ∷ values)
+
+-- the addresses 2001:db8::1 and 2001:db8::2, and the values of a flow between them
+abbrev pub first_ipv6 : FieldValueView
+first_ipv6 = value 27 (codes "20010db8000000000000000000000001")
+
+abbrev pub second_ipv6 : FieldValueView
+second_ipv6 = value 28 (codes "20010db8000000000000000000000002")
+
+-- the row from 10.0.0.1 to 10.0.0.2 without other values
 abbrev pub plain : RowView
 plain = record {
   version = V4;
@@ -56,6 +67,25 @@ plain = record {
   start_ms = 0;
   end_ms = 0;
 }
+
+-- the row of two packets back from 10.0.0.2 to 10.0.0.1
+abbrev pub plain_back : RowView
+plain_back = record plain { src = 0x0a00_0002; dst = 0x0a00_0001; packets = 2 }
+
+-- the row from 2001:db8::1 to 2001:db8::2 without other values
+abbrev pub plain_ipv6 : RowView
+plain_ipv6 = record plain {
+  version = V6;
+  src = 0x2001_0db8_0000_0000_0000_0000_0000_0001;
+  dst = 0x2001_0db8_0000_0000_0000_0000_0000_0002;
+}
+
+-- the values of the flow of TCP below
+abbrev pub tcp_values : List FieldValueView
+tcp_values =
+    value 8 (codes "0a000000") ∷ value 12 (codes "c63364e4") ∷ value 7 (codes "070c") ∷ value 11 (codes "01bb")
+    ∷ value 4 (codes "06") ∷ value 6 (codes "1b") ∷ value 2 (codes "00000005") ∷ value 1 (codes "00000222")
+    ∷ value 152 (codes "0000018bcfe66dd6") ∷ value 153 (codes "0000018bcfe66f22") ∷ []
 
 -- a flow of TCP from 10.0.0.0 to 198.51.100.228, which softflowd reported, and the way back
 abbrev pub tcp : RowView
