@@ -42,43 +42,63 @@ pub fn other_texts_are_no_ipv4_address()
 
 /// The first form of RFC 4291, section 2.2: eight groups of one to four hexadecimal digits.
 pub fn eight_groups_are_an_ipv6_address()
-    ensures of_the_rfc { address_of (codes "ABCD:EF01:2345:6789:ABCD:EF01:2345:6789") ≡ Some (V6, 0xabcd_ef01_2345_6789_abcd_ef01_2345_6789) }
-    ensures without_leading_zeros { address_of (codes "2001:DB8:0:0:8:800:200C:417A") ≡ Some (V6, 0x2001_0db8_0000_0000_0008_0800_200c_417a) }
-    ensures lower_case { address_of (codes "abcd:ef01:2345:6789:abcd:ef01:2345:6789") ≡ Some (V6, 0xabcd_ef01_2345_6789_abcd_ef01_2345_6789) }
-    ensures multicast { address_of (codes "FF01:0:0:0:0:0:0:101") ≡ Some (V6, 0xff01_0000_0000_0000_0000_0000_0000_0101) }
+    ensures of_the_rfc { address_of (codes "ABCD:EF01:2345:6789:ABCD:EF01:2345:6789")
+        ≡ Some (V6, 0xabcd_ef01_2345_6789_abcd_ef01_2345_6789) }
+    ensures without_leading_zeros { address_of (codes "2001:DB8:0:0:8:800:200C:417A")
+        ≡ Some (V6, 0x2001_0db8_0000_0000_0008_0800_200c_417a) }
+    ensures lower_case { address_of (codes "abcd:ef01:2345:6789:abcd:ef01:2345:6789")
+        ≡ Some (V6, 0xabcd_ef01_2345_6789_abcd_ef01_2345_6789) }
+    ensures multicast { address_of (codes "FF01:0:0:0:0:0:0:101")
+        ≡ Some (V6, 0xff01_0000_0000_0000_0000_0000_0000_0101) }
     ensures loopback { address_of (codes "0:0:0:0:0:0:0:1") ≡ Some (V6, 0x0001) }
     ensures unspecified { address_of (codes "0:0:0:0:0:0:0:0") ≡ Some (V6, 0x0000) }
-    ensures leading_zeros { address_of (codes "2001:0db8:0000:0000:0001:0000:0000:0001") ≡ Some (V6, 0x2001_0db8_0000_0000_0001_0000_0000_0001) }
-    ensures the_greatest { address_of (codes "ffff:ffff:ffff:ffff:ffff:ffff:ffff:ffff") ≡ Some (V6, 0xffff_ffff_ffff_ffff_ffff_ffff_ffff_ffff) }
-    ensures the_first_group_is_the_highest { address_of (codes "1:2:3:4:5:6:7:8") ≡ Some (V6, 0x0001_0002_0003_0004_0005_0006_0007_0008) }
-    ensures each_digit { address_of (codes "0123:4567:89ab:cdef:fedc:ba98:7654:3210") ≡ Some (V6, 0x0123_4567_89ab_cdef_fedc_ba98_7654_3210) }
+    ensures leading_zeros { address_of (codes "2001:0db8:0000:0000:0001:0000:0000:0001")
+        ≡ Some (V6, 0x2001_0db8_0000_0000_0001_0000_0000_0001) }
+    ensures the_greatest { address_of (codes "ffff:ffff:ffff:ffff:ffff:ffff:ffff:ffff")
+        ≡ Some (V6, 0xffff_ffff_ffff_ffff_ffff_ffff_ffff_ffff) }
+    ensures the_first_group_is_the_highest { address_of (codes "1:2:3:4:5:6:7:8")
+        ≡ Some (V6, 0x0001_0002_0003_0004_0005_0006_0007_0008) }
+    ensures each_digit { address_of (codes "0123:4567:89ab:cdef:fedc:ba98:7654:3210")
+        ≡ Some (V6, 0x0123_4567_89ab_cdef_fedc_ba98_7654_3210) }
 {}
 
 /// The second form of RFC 4291, section 2.2: one `::` replaces one or more groups of zeros.
 pub fn a_gap_replaces_groups_of_zeros()
-    ensures unicast { address_of (codes "2001:DB8::8:800:200C:417A") ≡ Some (V6, 0x2001_0db8_0000_0000_0008_0800_200c_417a) }
+    ensures unicast { address_of (codes "2001:DB8::8:800:200C:417A")
+        ≡ Some (V6, 0x2001_0db8_0000_0000_0008_0800_200c_417a) }
     ensures multicast { address_of (codes "FF01::101") ≡ Some (V6, 0xff01_0000_0000_0000_0000_0000_0000_0101) }
     ensures loopback { address_of (codes "::1") ≡ Some (V6, 0x0001) }
     ensures unspecified { address_of (codes "::") ≡ Some (V6, 0x0000) }
     ensures at_the_end { address_of (codes "2001:db8::") ≡ Some (V6, 0x2001_0db8_0000_0000_0000_0000_0000_0000) }
     ensures one_group_before { address_of (codes "::2:3:4:5:6:7:8") ≡ Some (V6, 0x0002_0003_0004_0005_0006_0007_0008) }
-    ensures one_group_after { address_of (codes "1:2:3:4:5:6:7::") ≡ Some (V6, 0x0001_0002_0003_0004_0005_0006_0007_0000) }
-    ensures one_group_within { address_of (codes "1:2:3::5:6:7:8") ≡ Some (V6, 0x0001_0002_0003_0000_0005_0006_0007_0008) }
+    ensures one_group_after { address_of (codes "1:2:3:4:5:6:7::")
+        ≡ Some (V6, 0x0001_0002_0003_0004_0005_0006_0007_0000) }
+    ensures one_group_within { address_of (codes "1:2:3::5:6:7:8")
+        ≡ Some (V6, 0x0001_0002_0003_0000_0005_0006_0007_0008) }
     ensures link_local { address_of (codes "fe80::1") ≡ Some (V6, 0xfe80_0000_0000_0000_0000_0000_0000_0001) }
-    ensures a_zero_beside { address_of (codes "2001:db8::0:1:0:0:1") ≡ Some (V6, 0x2001_0db8_0000_0000_0001_0000_0000_0001) }
+    ensures a_zero_beside { address_of (codes "2001:db8::0:1:0:0:1")
+        ≡ Some (V6, 0x2001_0db8_0000_0000_0001_0000_0000_0001) }
 {}
 
 /// The texts of RFC 5952, section 2.1 to 2.3, for one address.
 pub fn variations_are_the_same_address()
     ensures in_full { address_of (codes "2001:db8:0:0:1:0:0:1") ≡ Some (V6, 0x2001_0db8_0000_0000_0001_0000_0000_0001) }
-    ensures a_leading_zero { address_of (codes "2001:0db8:0:0:1:0:0:1") ≡ Some (V6, 0x2001_0db8_0000_0000_0001_0000_0000_0001) }
-    ensures the_first_gap { address_of (codes "2001:db8::1:0:0:1") ≡ Some (V6, 0x2001_0db8_0000_0000_0001_0000_0000_0001) }
-    ensures the_first_gap_and_a_zero { address_of (codes "2001:db8::0:1:0:0:1") ≡ Some (V6, 0x2001_0db8_0000_0000_0001_0000_0000_0001) }
-    ensures a_leading_zero_and_a_gap { address_of (codes "2001:0db8::1:0:0:1") ≡ Some (V6, 0x2001_0db8_0000_0000_0001_0000_0000_0001) }
-    ensures the_second_gap { address_of (codes "2001:db8:0:0:1::1") ≡ Some (V6, 0x2001_0db8_0000_0000_0001_0000_0000_0001) }
-    ensures four_zeros { address_of (codes "2001:db8:0000:0:1::1") ≡ Some (V6, 0x2001_0db8_0000_0000_0001_0000_0000_0001) }
-    ensures capital_letters { address_of (codes "2001:DB8:0:0:1::1") ≡ Some (V6, 0x2001_0db8_0000_0000_0001_0000_0000_0001) }
-    ensures mixed_letters { address_of (codes "2001:Db8::1:0:0:1") ≡ Some (V6, 0x2001_0db8_0000_0000_0001_0000_0000_0001) }
+    ensures a_leading_zero { address_of (codes "2001:0db8:0:0:1:0:0:1")
+        ≡ Some (V6, 0x2001_0db8_0000_0000_0001_0000_0000_0001) }
+    ensures the_first_gap { address_of (codes "2001:db8::1:0:0:1")
+        ≡ Some (V6, 0x2001_0db8_0000_0000_0001_0000_0000_0001) }
+    ensures the_first_gap_and_a_zero { address_of (codes "2001:db8::0:1:0:0:1")
+        ≡ Some (V6, 0x2001_0db8_0000_0000_0001_0000_0000_0001) }
+    ensures a_leading_zero_and_a_gap { address_of (codes "2001:0db8::1:0:0:1")
+        ≡ Some (V6, 0x2001_0db8_0000_0000_0001_0000_0000_0001) }
+    ensures the_second_gap { address_of (codes "2001:db8:0:0:1::1")
+        ≡ Some (V6, 0x2001_0db8_0000_0000_0001_0000_0000_0001) }
+    ensures four_zeros { address_of (codes "2001:db8:0000:0:1::1")
+        ≡ Some (V6, 0x2001_0db8_0000_0000_0001_0000_0000_0001) }
+    ensures capital_letters { address_of (codes "2001:DB8:0:0:1::1")
+        ≡ Some (V6, 0x2001_0db8_0000_0000_0001_0000_0000_0001) }
+    ensures mixed_letters { address_of (codes "2001:Db8::1:0:0:1")
+        ≡ Some (V6, 0x2001_0db8_0000_0000_0001_0000_0000_0001) }
 {}
 
 /// The third form of RFC 4291, section 2.2. Leading zeros are allowed there too.
@@ -87,9 +107,12 @@ pub fn an_ipv4_text_may_end_an_ipv6_address()
     ensures mapped { address_of (codes "0:0:0:0:0:FFFF:129.144.52.38") ≡ Some (V6, 0xffff_8190_3426) }
     ensures compatible_with_a_gap { address_of (codes "::13.1.68.3") ≡ Some (V6, 0x0d01_4403) }
     ensures mapped_with_a_gap { address_of (codes "::FFFF:129.144.52.38") ≡ Some (V6, 0xffff_8190_3426) }
-    ensures after_six_groups { address_of (codes "1:2:3:4:5:6:1.2.3.4") ≡ Some (V6, 0x0001_0002_0003_0004_0005_0006_0102_0304) }
-    ensures after_five_groups_and_a_gap { address_of (codes "1:2:3:4:5::1.2.3.4") ≡ Some (V6, 0x0001_0002_0003_0004_0005_0000_0102_0304) }
-    ensures translated { address_of (codes "64:ff9b::192.0.2.33") ≡ Some (V6, 0x0064_ff9b_0000_0000_0000_0000_c000_0221) }
+    ensures after_six_groups { address_of (codes "1:2:3:4:5:6:1.2.3.4")
+        ≡ Some (V6, 0x0001_0002_0003_0004_0005_0006_0102_0304) }
+    ensures after_five_groups_and_a_gap { address_of (codes "1:2:3:4:5::1.2.3.4")
+        ≡ Some (V6, 0x0001_0002_0003_0004_0005_0000_0102_0304) }
+    ensures translated { address_of (codes "64:ff9b::192.0.2.33")
+        ≡ Some (V6, 0x0064_ff9b_0000_0000_0000_0000_c000_0221) }
     ensures with_leading_zeros { address_of (codes "::ffff:010.001.1.1") ≡ Some (V6, 0xffff_0a01_0101) }
 {}
 
@@ -130,9 +153,12 @@ pub fn a_block_is_an_address_and_a_length()
     ensures half_of_the_ipv4_addresses { block_of_text (codes "192.0.2.9/1") ≡ Ok (V4, 0x8000_0000, 1) }
     ensures within_a_byte { block_of_text (codes "198.51.100.99/27") ≡ Ok (V4, 0xc633_6460, 27) }
     ensures all_ipv6_addresses { block_of_text (codes "ffff::/0") ≡ Ok (V6, 0x0000, 0) }
-    ensures one_ipv6_address { block_of_text (codes "2001:db8::9/128") ≡ Ok (V6, 0x2001_0db8_0000_0000_0000_0000_0000_0009, 128) }
-    ensures two_ipv6_addresses { block_of_text (codes "2001:db8::9/127") ≡ Ok (V6, 0x2001_0db8_0000_0000_0000_0000_0000_0008, 127) }
-    ensures documentation { block_of_text (codes "2001:db8:ffff::1/32") ≡ Ok (V6, 0x2001_0db8_0000_0000_0000_0000_0000_0000, 32) }
+    ensures one_ipv6_address { block_of_text (codes "2001:db8::9/128")
+        ≡ Ok (V6, 0x2001_0db8_0000_0000_0000_0000_0000_0009, 128) }
+    ensures two_ipv6_addresses { block_of_text (codes "2001:db8::9/127")
+        ≡ Ok (V6, 0x2001_0db8_0000_0000_0000_0000_0000_0008, 127) }
+    ensures documentation { block_of_text (codes "2001:db8:ffff::1/32")
+        ≡ Ok (V6, 0x2001_0db8_0000_0000_0000_0000_0000_0000, 32) }
     ensures mapped_with_a_short_length { block_of_text (codes "::ffff:10.0.0.0/8") ≡ Ok (V6, 0x0000, 8) }
     ensures mapped_with_a_long_length { block_of_text (codes "::ffff:10.0.0.0/104") ≡ Ok (V6, 0xffff_0a00_0000, 104) }
 {}
@@ -140,13 +166,19 @@ pub fn a_block_is_an_address_and_a_length()
 /// RFC 4291, section 2.3: three texts of one prefix, a node's address with its prefix, and texts that are wrong for the
 /// prefix.
 pub fn the_blocks_of_rfc_4291()
-    ensures in_full { block_of_text (codes "2001:0DB8:0000:CD30:0000:0000:0000:0000/60") ≡ Ok (V6, 0x2001_0db8_0000_cd30_0000_0000_0000_0000, 60) }
-    ensures a_gap_before { block_of_text (codes "2001:0DB8::CD30:0:0:0:0/60") ≡ Ok (V6, 0x2001_0db8_0000_cd30_0000_0000_0000_0000, 60) }
-    ensures a_gap_after { block_of_text (codes "2001:0DB8:0:CD30::/60") ≡ Ok (V6, 0x2001_0db8_0000_cd30_0000_0000_0000_0000, 60) }
-    ensures a_node { block_of_text (codes "2001:0DB8:0:CD30:123:4567:89AB:CDEF/60") ≡ Ok (V6, 0x2001_0db8_0000_cd30_0000_0000_0000_0000, 60) }
+    ensures in_full { block_of_text (codes "2001:0DB8:0000:CD30:0000:0000:0000:0000/60")
+        ≡ Ok (V6, 0x2001_0db8_0000_cd30_0000_0000_0000_0000, 60) }
+    ensures a_gap_before { block_of_text (codes "2001:0DB8::CD30:0:0:0:0/60")
+        ≡ Ok (V6, 0x2001_0db8_0000_cd30_0000_0000_0000_0000, 60) }
+    ensures a_gap_after { block_of_text (codes "2001:0DB8:0:CD30::/60")
+        ≡ Ok (V6, 0x2001_0db8_0000_cd30_0000_0000_0000_0000, 60) }
+    ensures a_node { block_of_text (codes "2001:0DB8:0:CD30:123:4567:89AB:CDEF/60")
+        ≡ Ok (V6, 0x2001_0db8_0000_cd30_0000_0000_0000_0000, 60) }
     ensures seven_groups_are_missing { block_of_text (codes "2001:0DB8:0:CD3/60") ≡ Err BadAddress }
-    ensures a_gap_that_ends_too_late { block_of_text (codes "2001:0DB8::CD30/60") ≡ Ok (V6, 0x2001_0db8_0000_0000_0000_0000_0000_0000, 60) }
-    ensures a_dropped_trailing_zero { block_of_text (codes "2001:0DB8::CD3/60") ≡ Ok (V6, 0x2001_0db8_0000_0000_0000_0000_0000_0000, 60) }
+    ensures a_gap_that_ends_too_late { block_of_text (codes "2001:0DB8::CD30/60")
+        ≡ Ok (V6, 0x2001_0db8_0000_0000_0000_0000_0000_0000, 60) }
+    ensures a_dropped_trailing_zero { block_of_text (codes "2001:0DB8::CD3/60")
+        ≡ Ok (V6, 0x2001_0db8_0000_0000_0000_0000_0000_0000, 60) }
 {}
 
 /// The address is read before the length.

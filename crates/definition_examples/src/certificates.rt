@@ -10,18 +10,40 @@ ghost use Rattle.std.specs.Prelude.{◌≡◌, ◌∷◌, [], codes, false, Ok, 
 
 /// FORMATS.md, "Certificates" and "Chains".
 pub fn a_text_represents_a_certificate()
-    ensures the_first_of_the_page { format_reading quarters ≡ Ok (record { format = 1; version = V4; table = codes "A" ∷ codes "B" ∷ codes "C" ∷ codes "UNKNOWN" ∷ []; root = (InnerNode (record { cost = 2; labels = codes "A" ∷ [] }) (InnerNode (record { cost = 1; labels = codes "A" ∷ codes "B" ∷ [] }) (LeafNode (codes "A")) (LeafNode (codes "B"))) (InnerNode (record { cost = 1; labels = codes "A" ∷ codes "C" ∷ [] }) (LeafNode (codes "A")) (LeafNode (codes "C")))) }) }
-    ensures the_second_of_the_page { format_reading last ≡ Ok (record { format = 2; version = V4; table = codes "D" ∷ codes "X" ∷ []; root = (ChainNode (record { cost = 1; labels = codes "D" ∷ [] }) (replicate 32 true) (codes "D") (LeafNode (codes "X"))) }) }
-    ensures one_leaf { format_reading (codes "flowlabel-cert 1 ipv4 1\nA\nl 0\n") ≡ Ok (record { format = 1; version = V4; table = codes "A" ∷ []; root = (LeafNode (codes "A")) }) }
-    ensures of_ipv6 { format_reading (codes "flowlabel-cert 1 ipv6 2\nA\nB\nl 1\n") ≡ Ok (record { format = 1; version = V6; table = codes "A" ∷ codes "B" ∷ []; root = (LeafNode (codes "B")) }) }
-    ensures format_2_without_chains { format_reading (codes "flowlabel-cert 2 ipv4 1\nA\nl 0\n") ≡ Ok (record { format = 2; version = V4; table = codes "A" ∷ []; root = (LeafNode (codes "A")) }) }
-    ensures an_empty_set { format_reading (codes "flowlabel-cert 1 ipv4 2\nA\nB\nn 0\nl 0\nl 1\n") ≡ Ok (record { format = 1; version = V4; table = codes "A" ∷ codes "B" ∷ []; root = (InnerNode (record { cost = 0; labels = [] }) (LeafNode (codes "A")) (LeafNode (codes "B"))) }) }
-    ensures the_greatest_cost { format_reading (codes "flowlabel-cert 1 ipv4 2\nA\nB\nn 4294967295 0 1\nl 0\nl 1\n") ≡ Ok (record { format = 1; version = V4; table = codes "A" ∷ codes "B" ∷ []; root = (InnerNode (record { cost = 4294967295; labels = codes "A" ∷ codes "B" ∷ [] }) (LeafNode (codes "A")) (LeafNode (codes "B"))) }) }
-    ensures a_label_of_digits { format_reading (codes "flowlabel-cert 1 ipv4 1\n5\nl 0\n") ≡ Ok (record { format = 1; version = V4; table = codes "5" ∷ []; root = (LeafNode (codes "5")) }) }
-    ensures a_label_with_a_blank { format_reading (codes "flowlabel-cert 1 ipv4 1\nGuest network\nl 0\n") ≡ Ok (record { format = 1; version = V4; table = codes "Guest network" ∷ []; root = (LeafNode (codes "Guest network")) }) }
-    ensures the_lower_half_first { format_reading (codes "flowlabel-cert 1 ipv4 3\nA\nB\nC\nn 2 0 1 2\nn 1 0 1\nl 0\nl 1\nl 2\n") ≡ Ok (record { format = 1; version = V4; table = codes "A" ∷ codes "B" ∷ codes "C" ∷ []; root = (InnerNode (record { cost = 2; labels = codes "A" ∷ codes "B" ∷ codes "C" ∷ [] }) (InnerNode (record { cost = 1; labels = codes "A" ∷ codes "B" ∷ [] }) (LeafNode (codes "A")) (LeafNode (codes "B"))) (LeafNode (codes "C"))) }) }
-    ensures both_bits { format_reading (codes "flowlabel-cert 2 ipv4 2\nA\nB\nc 1 01 0 0 1\nl 1\n") ≡ Ok (record { format = 2; version = V4; table = codes "A" ∷ codes "B" ∷ []; root = (ChainNode (record { cost = 1; labels = codes "A" ∷ codes "B" ∷ [] }) (false ∷ true ∷ []) (codes "A") (LeafNode (codes "B"))) }) }
-    ensures a_chain_below_an_inner_node { format_reading (codes "flowlabel-cert 2 ipv4 2\nA\nB\nn 1 0\nl 0\nc 1 10 0 0\nl 1\n") ≡ Ok (record { format = 2; version = V4; table = codes "A" ∷ codes "B" ∷ []; root = (InnerNode (record { cost = 1; labels = codes "A" ∷ [] }) (LeafNode (codes "A")) (ChainNode (record { cost = 1; labels = codes "A" ∷ [] }) (true ∷ false ∷ []) (codes "A") (LeafNode (codes "B")))) }) }
+    ensures the_first_of_the_page { format_reading quarters
+        ≡ Ok
+        (record { format = 1; version = V4; table = codes "A" ∷ codes "B" ∷ codes "C" ∷ codes "UNKNOWN" ∷ []; root = (InnerNode (record { cost = 2; labels = codes "A" ∷ [] }) (InnerNode (record { cost = 1; labels = codes "A" ∷ codes "B" ∷ [] }) (LeafNode (codes "A")) (LeafNode (codes "B"))) (InnerNode (record { cost = 1; labels = codes "A" ∷ codes "C" ∷ [] }) (LeafNode (codes "A")) (LeafNode (codes "C")))) }) }
+    ensures the_second_of_the_page { format_reading last
+        ≡ Ok
+        (record { format = 2; version = V4; table = codes "D" ∷ codes "X" ∷ []; root = (ChainNode (record { cost = 1; labels = codes "D" ∷ [] }) (replicate 32 true) (codes "D") (LeafNode (codes "X"))) }) }
+    ensures one_leaf { format_reading (codes "flowlabel-cert 1 ipv4 1\nA\nl 0\n")
+        ≡ Ok (record { format = 1; version = V4; table = codes "A" ∷ []; root = (LeafNode (codes "A")) }) }
+    ensures of_ipv6 { format_reading (codes "flowlabel-cert 1 ipv6 2\nA\nB\nl 1\n")
+        ≡ Ok (record { format = 1; version = V6; table = codes "A" ∷ codes "B" ∷ []; root = (LeafNode (codes "B")) }) }
+    ensures format_2_without_chains { format_reading (codes "flowlabel-cert 2 ipv4 1\nA\nl 0\n")
+        ≡ Ok (record { format = 2; version = V4; table = codes "A" ∷ []; root = (LeafNode (codes "A")) }) }
+    ensures an_empty_set { format_reading (codes "flowlabel-cert 1 ipv4 2\nA\nB\nn 0\nl 0\nl 1\n")
+        ≡ Ok
+        (record { format = 1; version = V4; table = codes "A" ∷ codes "B" ∷ []; root = (InnerNode (record { cost = 0; labels = [] }) (LeafNode (codes "A")) (LeafNode (codes "B"))) }) }
+    ensures the_greatest_cost { format_reading (codes "flowlabel-cert 1 ipv4 2\nA\nB\nn 4294967295 0 1\nl 0\nl 1\n")
+        ≡ Ok
+        (record { format = 1; version = V4; table = codes "A" ∷ codes "B" ∷ []; root = (InnerNode (record { cost = 4294967295; labels = codes "A" ∷ codes "B" ∷ [] }) (LeafNode (codes "A")) (LeafNode (codes "B"))) }) }
+    ensures a_label_of_digits { format_reading (codes "flowlabel-cert 1 ipv4 1\n5\nl 0\n")
+        ≡ Ok (record { format = 1; version = V4; table = codes "5" ∷ []; root = (LeafNode (codes "5")) }) }
+    ensures a_label_with_a_blank { format_reading (codes "flowlabel-cert 1 ipv4 1\nGuest network\nl 0\n")
+        ≡ Ok
+        (record { format = 1; version = V4; table = codes "Guest network" ∷ []; root = (LeafNode (codes "Guest network")) }) }
+    ensures the_lower_half_first { format_reading
+        (codes "flowlabel-cert 1 ipv4 3\nA\nB\nC\nn 2 0 1 2\nn 1 0 1\nl 0\nl 1\nl 2\n")
+        ≡ Ok
+        (record { format = 1; version = V4; table = codes "A" ∷ codes "B" ∷ codes "C" ∷ []; root = (InnerNode (record { cost = 2; labels = codes "A" ∷ codes "B" ∷ codes "C" ∷ [] }) (InnerNode (record { cost = 1; labels = codes "A" ∷ codes "B" ∷ [] }) (LeafNode (codes "A")) (LeafNode (codes "B"))) (LeafNode (codes "C"))) }) }
+    ensures both_bits { format_reading (codes "flowlabel-cert 2 ipv4 2\nA\nB\nc 1 01 0 0 1\nl 1\n")
+        ≡ Ok
+        (record { format = 2; version = V4; table = codes "A" ∷ codes "B" ∷ []; root = (ChainNode (record { cost = 1; labels = codes "A" ∷ codes "B" ∷ [] }) (false ∷ true ∷ []) (codes "A") (LeafNode (codes "B"))) }) }
+    ensures a_chain_below_an_inner_node { format_reading
+        (codes "flowlabel-cert 2 ipv4 2\nA\nB\nn 1 0\nl 0\nc 1 10 0 0\nl 1\n")
+        ≡ Ok
+        (record { format = 2; version = V4; table = codes "A" ∷ codes "B" ∷ []; root = (InnerNode (record { cost = 1; labels = codes "A" ∷ [] }) (LeafNode (codes "A")) (ChainNode (record { cost = 1; labels = codes "A" ∷ [] }) (true ∷ false ∷ []) (codes "A") (LeafNode (codes "B")))) }) }
     ensures nodes_of_32_levels { format_reading (nested (codes "flowlabel-cert 1 ipv4 1\n") 32)
         ≡ Ok (record { format = 1; version = V4; table = codes "A" ∷ []; root = nested_tree 32 }) }
     ensures nodes_of_128_levels { format_reading (nested (codes "flowlabel-cert 1 ipv6 1\n") 128)
@@ -30,37 +52,81 @@ pub fn a_text_represents_a_certificate()
 
 /// The same texts, written.
 pub fn a_certificate_has_a_text()
-    ensures the_first_of_the_page { certificate_text (record { format = 1; version = V4; table = codes "A" ∷ codes "B" ∷ codes "C" ∷ codes "UNKNOWN" ∷ []; root = (InnerNode (record { cost = 2; labels = codes "A" ∷ [] }) (InnerNode (record { cost = 1; labels = codes "A" ∷ codes "B" ∷ [] }) (LeafNode (codes "A")) (LeafNode (codes "B"))) (InnerNode (record { cost = 1; labels = codes "A" ∷ codes "C" ∷ [] }) (LeafNode (codes "A")) (LeafNode (codes "C")))) }) ≡ quarters }
-    ensures the_second_of_the_page { certificate_text (record { format = 2; version = V4; table = codes "D" ∷ codes "X" ∷ []; root = (ChainNode (record { cost = 1; labels = codes "D" ∷ [] }) (replicate 32 true) (codes "D") (LeafNode (codes "X"))) }) ≡ last }
-    ensures one_leaf { certificate_text (record { format = 1; version = V4; table = codes "A" ∷ []; root = (LeafNode (codes "A")) }) ≡ codes "flowlabel-cert 1 ipv4 1\nA\nl 0\n" }
-    ensures of_ipv6 { certificate_text (record { format = 1; version = V6; table = codes "A" ∷ codes "B" ∷ []; root = (LeafNode (codes "B")) }) ≡ codes "flowlabel-cert 1 ipv6 2\nA\nB\nl 1\n" }
-    ensures format_2_without_chains { certificate_text (record { format = 2; version = V4; table = codes "A" ∷ []; root = (LeafNode (codes "A")) }) ≡ codes "flowlabel-cert 2 ipv4 1\nA\nl 0\n" }
-    ensures an_empty_set { certificate_text (record { format = 1; version = V4; table = codes "A" ∷ codes "B" ∷ []; root = (InnerNode (record { cost = 0; labels = [] }) (LeafNode (codes "A")) (LeafNode (codes "B"))) }) ≡ codes "flowlabel-cert 1 ipv4 2\nA\nB\nn 0\nl 0\nl 1\n" }
-    ensures the_greatest_cost { certificate_text (record { format = 1; version = V4; table = codes "A" ∷ codes "B" ∷ []; root = (InnerNode (record { cost = 4294967295; labels = codes "A" ∷ codes "B" ∷ [] }) (LeafNode (codes "A")) (LeafNode (codes "B"))) }) ≡ codes "flowlabel-cert 1 ipv4 2\nA\nB\nn 4294967295 0 1\nl 0\nl 1\n" }
-    ensures a_label_of_digits { certificate_text (record { format = 1; version = V4; table = codes "5" ∷ []; root = (LeafNode (codes "5")) }) ≡ codes "flowlabel-cert 1 ipv4 1\n5\nl 0\n" }
-    ensures a_label_with_a_blank { certificate_text (record { format = 1; version = V4; table = codes "Guest network" ∷ []; root = (LeafNode (codes "Guest network")) }) ≡ codes "flowlabel-cert 1 ipv4 1\nGuest network\nl 0\n" }
-    ensures the_lower_half_first { certificate_text (record { format = 1; version = V4; table = codes "A" ∷ codes "B" ∷ codes "C" ∷ []; root = (InnerNode (record { cost = 2; labels = codes "A" ∷ codes "B" ∷ codes "C" ∷ [] }) (InnerNode (record { cost = 1; labels = codes "A" ∷ codes "B" ∷ [] }) (LeafNode (codes "A")) (LeafNode (codes "B"))) (LeafNode (codes "C"))) }) ≡ codes "flowlabel-cert 1 ipv4 3\nA\nB\nC\nn 2 0 1 2\nn 1 0 1\nl 0\nl 1\nl 2\n" }
-    ensures both_bits { certificate_text (record { format = 2; version = V4; table = codes "A" ∷ codes "B" ∷ []; root = (ChainNode (record { cost = 1; labels = codes "A" ∷ codes "B" ∷ [] }) (false ∷ true ∷ []) (codes "A") (LeafNode (codes "B"))) }) ≡ codes "flowlabel-cert 2 ipv4 2\nA\nB\nc 1 01 0 0 1\nl 1\n" }
-    ensures a_chain_below_an_inner_node { certificate_text (record { format = 2; version = V4; table = codes "A" ∷ codes "B" ∷ []; root = (InnerNode (record { cost = 1; labels = codes "A" ∷ [] }) (LeafNode (codes "A")) (ChainNode (record { cost = 1; labels = codes "A" ∷ [] }) (true ∷ false ∷ []) (codes "A") (LeafNode (codes "B")))) }) ≡ codes "flowlabel-cert 2 ipv4 2\nA\nB\nn 1 0\nl 0\nc 1 10 0 0\nl 1\n" }
+    ensures the_first_of_the_page { certificate_text
+        (record { format = 1; version = V4; table = codes "A" ∷ codes "B" ∷ codes "C" ∷ codes "UNKNOWN" ∷ []; root = (InnerNode (record { cost = 2; labels = codes "A" ∷ [] }) (InnerNode (record { cost = 1; labels = codes "A" ∷ codes "B" ∷ [] }) (LeafNode (codes "A")) (LeafNode (codes "B"))) (InnerNode (record { cost = 1; labels = codes "A" ∷ codes "C" ∷ [] }) (LeafNode (codes "A")) (LeafNode (codes "C")))) })
+        ≡ quarters }
+    ensures the_second_of_the_page { certificate_text
+        (record { format = 2; version = V4; table = codes "D" ∷ codes "X" ∷ []; root = (ChainNode (record { cost = 1; labels = codes "D" ∷ [] }) (replicate 32 true) (codes "D") (LeafNode (codes "X"))) })
+        ≡ last }
+    ensures one_leaf { certificate_text
+        (record { format = 1; version = V4; table = codes "A" ∷ []; root = (LeafNode (codes "A")) })
+        ≡ codes "flowlabel-cert 1 ipv4 1\nA\nl 0\n" }
+    ensures of_ipv6 { certificate_text
+        (record { format = 1; version = V6; table = codes "A" ∷ codes "B" ∷ []; root = (LeafNode (codes "B")) })
+        ≡ codes "flowlabel-cert 1 ipv6 2\nA\nB\nl 1\n" }
+    ensures format_2_without_chains { certificate_text
+        (record { format = 2; version = V4; table = codes "A" ∷ []; root = (LeafNode (codes "A")) })
+        ≡ codes "flowlabel-cert 2 ipv4 1\nA\nl 0\n" }
+    ensures an_empty_set { certificate_text
+        (record { format = 1; version = V4; table = codes "A" ∷ codes "B" ∷ []; root = (InnerNode (record { cost = 0; labels = [] }) (LeafNode (codes "A")) (LeafNode (codes "B"))) })
+        ≡ codes "flowlabel-cert 1 ipv4 2\nA\nB\nn 0\nl 0\nl 1\n" }
+    ensures the_greatest_cost { certificate_text
+        (record { format = 1; version = V4; table = codes "A" ∷ codes "B" ∷ []; root = (InnerNode (record { cost = 4294967295; labels = codes "A" ∷ codes "B" ∷ [] }) (LeafNode (codes "A")) (LeafNode (codes "B"))) })
+        ≡ codes "flowlabel-cert 1 ipv4 2\nA\nB\nn 4294967295 0 1\nl 0\nl 1\n" }
+    ensures a_label_of_digits { certificate_text
+        (record { format = 1; version = V4; table = codes "5" ∷ []; root = (LeafNode (codes "5")) })
+        ≡ codes "flowlabel-cert 1 ipv4 1\n5\nl 0\n" }
+    ensures a_label_with_a_blank { certificate_text
+        (record { format = 1; version = V4; table = codes "Guest network" ∷ []; root = (LeafNode (codes "Guest network")) })
+        ≡ codes "flowlabel-cert 1 ipv4 1\nGuest network\nl 0\n" }
+    ensures the_lower_half_first { certificate_text
+        (record { format = 1; version = V4; table = codes "A" ∷ codes "B" ∷ codes "C" ∷ []; root = (InnerNode (record { cost = 2; labels = codes "A" ∷ codes "B" ∷ codes "C" ∷ [] }) (InnerNode (record { cost = 1; labels = codes "A" ∷ codes "B" ∷ [] }) (LeafNode (codes "A")) (LeafNode (codes "B"))) (LeafNode (codes "C"))) })
+        ≡ codes "flowlabel-cert 1 ipv4 3\nA\nB\nC\nn 2 0 1 2\nn 1 0 1\nl 0\nl 1\nl 2\n" }
+    ensures both_bits { certificate_text
+        (record { format = 2; version = V4; table = codes "A" ∷ codes "B" ∷ []; root = (ChainNode (record { cost = 1; labels = codes "A" ∷ codes "B" ∷ [] }) (false ∷ true ∷ []) (codes "A") (LeafNode (codes "B"))) })
+        ≡ codes "flowlabel-cert 2 ipv4 2\nA\nB\nc 1 01 0 0 1\nl 1\n" }
+    ensures a_chain_below_an_inner_node { certificate_text
+        (record { format = 2; version = V4; table = codes "A" ∷ codes "B" ∷ []; root = (InnerNode (record { cost = 1; labels = codes "A" ∷ [] }) (LeafNode (codes "A")) (ChainNode (record { cost = 1; labels = codes "A" ∷ [] }) (true ∷ false ∷ []) (codes "A") (LeafNode (codes "B")))) })
+        ≡ codes "flowlabel-cert 2 ipv4 2\nA\nB\nn 1 0\nl 0\nc 1 10 0 0\nl 1\n" }
 {}
 
 /// FORMATS.md, "Chains": where a path begins, where it goes on and where it ends.
 pub fn paths_are_compacted()
-    ensures the_upper_halves { compacted_text (codes "flowlabel-cert 1 ipv4 2\nA\nB\nn 1 0\nl 0\nn 1 0 1\nl 0\nl 1\n") ≡ Ok (codes "flowlabel-cert 2 ipv4 2\nA\nB\nc 1 11 0 0\nl 1\n") }
-    ensures the_lower_halves { compacted_text (codes "flowlabel-cert 1 ipv4 2\nA\nB\nn 1 0\nn 1 0 1\nl 1\nl 0\nl 0\n") ≡ Ok (codes "flowlabel-cert 2 ipv4 2\nA\nB\nc 1 00 0 0\nl 1\n") }
-    ensures the_lower_halves_twice { compacted_text (codes "flowlabel-cert 1 ipv4 3\nA\nB\nC\nn 2 0\nn 1 0\nn 1 1 2\nl 1\nl 2\nl 0\nl 0\n") ≡ Ok (codes "flowlabel-cert 2 ipv4 3\nA\nB\nC\nc 2 00 0 0\nn 1 1 2\nl 1\nl 2\n") }
-    ensures one_half_after_the_other { compacted_text (codes "flowlabel-cert 1 ipv4 2\nA\nB\nn 1 0\nl 0\nn 1 0 1\nl 1\nl 0\n") ≡ Ok (codes "flowlabel-cert 2 ipv4 2\nA\nB\nc 1 10 0 0\nl 1\n") }
-    ensures two_leaves_with_the_side_label { compacted_text (codes "flowlabel-cert 1 ipv4 1\nA\nn 0 0\nl 0\nn 0 0\nl 0\nl 0\n") ≡ Ok (codes "flowlabel-cert 2 ipv4 1\nA\nc 0 11 0 0\nl 0\n") }
-    ensures one_inner_node_stays { compacted_text (codes "flowlabel-cert 1 ipv4 2\nA\nB\nn 1 0 1\nl 0\nl 1\n") ≡ Ok (codes "flowlabel-cert 2 ipv4 2\nA\nB\nn 1 0 1\nl 0\nl 1\n") }
-    ensures another_side_label_ends_the_path { compacted_text (codes "flowlabel-cert 1 ipv4 3\nA\nB\nC\nn 2 0\nl 0\nn 2 1 2\nl 1\nl 2\n") ≡ Ok (codes "flowlabel-cert 2 ipv4 3\nA\nB\nC\nn 2 0\nl 0\nn 2 1 2\nl 1\nl 2\n") }
-    ensures compacting_goes_on_at_the_end { compacted_text (codes "flowlabel-cert 1 ipv4 3\nA\nB\nC\nn 2 0\nl 0\nn 2 0\nl 0\nn 1 1\nl 1\nn 1 1 2\nl 1\nl 2\n") ≡ Ok (codes "flowlabel-cert 2 ipv4 3\nA\nB\nC\nc 2 11 0 0\nc 1 11 1 1\nl 2\n") }
-    ensures and_in_both_halves { compacted_text (codes "flowlabel-cert 1 ipv4 2\nA\nB\nn 2 0\nn 1 0\nl 0\nn 1 0 1\nl 0\nl 1\nn 1 0\nl 0\nn 1 0 1\nl 0\nl 1\n") ≡ Ok (codes "flowlabel-cert 2 ipv4 2\nA\nB\nn 2 0\nc 1 11 0 0\nl 1\nc 1 11 0 0\nl 1\n") }
-    ensures the_first_of_the_page { compacted_text quarters ≡ Ok (codes "flowlabel-cert 2 ipv4 4\nA\nB\nC\nUNKNOWN\nn 2 0\nn 1 0 1\nl 0\nl 1\nn 1 0 2\nl 0\nl 2\n") }
+    ensures the_upper_halves { compacted_text (codes "flowlabel-cert 1 ipv4 2\nA\nB\nn 1 0\nl 0\nn 1 0 1\nl 0\nl 1\n")
+        ≡ Ok (codes "flowlabel-cert 2 ipv4 2\nA\nB\nc 1 11 0 0\nl 1\n") }
+    ensures the_lower_halves { compacted_text (codes "flowlabel-cert 1 ipv4 2\nA\nB\nn 1 0\nn 1 0 1\nl 1\nl 0\nl 0\n")
+        ≡ Ok (codes "flowlabel-cert 2 ipv4 2\nA\nB\nc 1 00 0 0\nl 1\n") }
+    ensures the_lower_halves_twice { compacted_text
+        (codes "flowlabel-cert 1 ipv4 3\nA\nB\nC\nn 2 0\nn 1 0\nn 1 1 2\nl 1\nl 2\nl 0\nl 0\n")
+        ≡ Ok (codes "flowlabel-cert 2 ipv4 3\nA\nB\nC\nc 2 00 0 0\nn 1 1 2\nl 1\nl 2\n") }
+    ensures one_half_after_the_other { compacted_text
+        (codes "flowlabel-cert 1 ipv4 2\nA\nB\nn 1 0\nl 0\nn 1 0 1\nl 1\nl 0\n")
+        ≡ Ok (codes "flowlabel-cert 2 ipv4 2\nA\nB\nc 1 10 0 0\nl 1\n") }
+    ensures two_leaves_with_the_side_label { compacted_text
+        (codes "flowlabel-cert 1 ipv4 1\nA\nn 0 0\nl 0\nn 0 0\nl 0\nl 0\n")
+        ≡ Ok (codes "flowlabel-cert 2 ipv4 1\nA\nc 0 11 0 0\nl 0\n") }
+    ensures one_inner_node_stays { compacted_text (codes "flowlabel-cert 1 ipv4 2\nA\nB\nn 1 0 1\nl 0\nl 1\n")
+        ≡ Ok (codes "flowlabel-cert 2 ipv4 2\nA\nB\nn 1 0 1\nl 0\nl 1\n") }
+    ensures another_side_label_ends_the_path { compacted_text
+        (codes "flowlabel-cert 1 ipv4 3\nA\nB\nC\nn 2 0\nl 0\nn 2 1 2\nl 1\nl 2\n")
+        ≡ Ok (codes "flowlabel-cert 2 ipv4 3\nA\nB\nC\nn 2 0\nl 0\nn 2 1 2\nl 1\nl 2\n") }
+    ensures compacting_goes_on_at_the_end { compacted_text
+        (codes "flowlabel-cert 1 ipv4 3\nA\nB\nC\nn 2 0\nl 0\nn 2 0\nl 0\nn 1 1\nl 1\nn 1 1 2\nl 1\nl 2\n")
+        ≡ Ok (codes "flowlabel-cert 2 ipv4 3\nA\nB\nC\nc 2 11 0 0\nc 1 11 1 1\nl 2\n") }
+    ensures and_in_both_halves { compacted_text
+        (codes "flowlabel-cert 1 ipv4 2\nA\nB\nn 2 0\nn 1 0\nl 0\nn 1 0 1\nl 0\nl 1\nn 1 0\nl 0\nn 1 0 1\nl 0\nl 1\n")
+        ≡ Ok (codes "flowlabel-cert 2 ipv4 2\nA\nB\nn 2 0\nc 1 11 0 0\nl 1\nc 1 11 0 0\nl 1\n") }
+    ensures the_first_of_the_page { compacted_text quarters
+        ≡ Ok (codes "flowlabel-cert 2 ipv4 4\nA\nB\nC\nUNKNOWN\nn 2 0\nn 1 0 1\nl 0\nl 1\nn 1 0 2\nl 0\nl 2\n") }
     ensures the_second_of_the_page_opened { compacted_text (last_opened (codes "1")) ≡ Ok last }
     ensures format_2_is_unchanged { compacted_text last ≡ Ok last }
-    ensures paths_of_format_2_too { compacted_text (codes "flowlabel-cert 2 ipv4 2\nA\nB\nn 1 0\nl 0\nn 1 0 1\nl 0\nl 1\n") ≡ Ok (codes "flowlabel-cert 2 ipv4 2\nA\nB\nn 1 0\nl 0\nn 1 0 1\nl 0\nl 1\n") }
-    ensures a_single_leaf { compacted_text (codes "flowlabel-cert 1 ipv4 1\nA\nl 0\n") ≡ Ok (codes "flowlabel-cert 2 ipv4 1\nA\nl 0\n") }
-    ensures the_greatest_cost { compacted_text (codes "flowlabel-cert 2 ipv4 1\nA\nc 4294967295 1 0 0\nl 0\n") ≡ Ok (codes "flowlabel-cert 2 ipv4 1\nA\nc 4294967295 1 0 0\nl 0\n") }
+    ensures paths_of_format_2_too { compacted_text
+        (codes "flowlabel-cert 2 ipv4 2\nA\nB\nn 1 0\nl 0\nn 1 0 1\nl 0\nl 1\n")
+        ≡ Ok (codes "flowlabel-cert 2 ipv4 2\nA\nB\nn 1 0\nl 0\nn 1 0 1\nl 0\nl 1\n") }
+    ensures a_single_leaf { compacted_text (codes "flowlabel-cert 1 ipv4 1\nA\nl 0\n")
+        ≡ Ok (codes "flowlabel-cert 2 ipv4 1\nA\nl 0\n") }
+    ensures the_greatest_cost { compacted_text (codes "flowlabel-cert 2 ipv4 1\nA\nc 4294967295 1 0 0\nl 0\n")
+        ≡ Ok (codes "flowlabel-cert 2 ipv4 1\nA\nc 4294967295 1 0 0\nl 0\n") }
 {}
 
 /// FORMATS.md, "Chains": a chain opened into its inner nodes and leaves.

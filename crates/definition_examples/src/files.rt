@@ -12,12 +12,17 @@ ghost use Rattle.std.specs.Prelude.{◌≡◌, ◌++◌, ◌∷◌, [], codes, E
 
 /// RFC 7011, appendix A: one template, one options template, three records and two options records.
 pub fn the_message_of_rfc_7011()
-    ensures counts_of_it { counts (codes "000a0098 00000000 00000000 00000001 0002001c 01000005 00080004 000c0004 000f0004 00020004 00010004 01000040 c000020c c00002fe c0000201 00001391 00518c81 c000021b c0000217 c0000202 000002ec 0005ef46 c0000238 c0000241 c0000203 00000005 00001986 00030018 01010003 0001008d 00040029 0002002a 00020000 01010014 00000001 015927d9 00000002 02b24fb2") ≡ Ok (1 ∷ 1 ∷ 1 ∷ 0 ∷ 2 ∷ 0 ∷ 3 ∷ 2 ∷ 3 ∷ []) }
-    ensures rows_of_it { rows (codes "000a0098 00000000 00000000 00000001 0002001c 01000005 00080004 000c0004 000f0004 00020004 00010004 01000040 c000020c c00002fe c0000201 00001391 00518c81 c000021b c0000217 c0000202 000002ec 0005ef46 c0000238 c0000241 c0000203 00000005 00001986 00030018 01010003 0001008d 00040029 0002002a 00020000 01010014 00000001 015927d9 00000002 02b24fb2")
+    ensures counts_of_it { counts
+        (codes "000a0098 00000000 00000000 00000001 0002001c 01000005 00080004 000c0004 000f0004 00020004 00010004 01000040 c000020c c00002fe c0000201 00001391 00518c81 c000021b c0000217 c0000202 000002ec 0005ef46 c0000238 c0000241 c0000203 00000005 00001986 00030018 01010003 0001008d 00040029 0002002a 00020000 01010014 00000001 015927d9 00000002 02b24fb2")
+        ≡ Ok (1 ∷ 1 ∷ 1 ∷ 0 ∷ 2 ∷ 0 ∷ 3 ∷ 2 ∷ 3 ∷ []) }
+    ensures rows_of_it { rows
+        (codes "000a0098 00000000 00000000 00000001 0002001c 01000005 00080004 000c0004 000f0004 00020004 00010004 01000040 c000020c c00002fe c0000201 00001391 00518c81 c000021b c0000217 c0000202 000002ec 0005ef46 c0000238 c0000241 c0000203 00000005 00001986 00030018 01010003 0001008d 00040029 0002002a 00020000 01010014 00000001 015927d9 00000002 02b24fb2")
         ≡ Ok (record plain { src = 0xc000_020c; dst = 0xc000_02fe; packets = 5009; octets = 5344385 }
         ∷ record plain { src = 0xc000_021b; dst = 0xc000_0217; packets = 748; octets = 388934 }
         ∷ record plain { src = 0xc000_0238; dst = 0xc000_0241; packets = 5; octets = 6534 } ∷ []) }
-    ensures without_its_last_byte { counts (codes "000a0098 00000000 00000000 00000001 0002001c 01000005 00080004 000c0004 000f0004 00020004 00010004 01000040 c000020c c00002fe c0000201 00001391 00518c81 c000021b c0000217 c0000202 000002ec 0005ef46 c0000238 c0000241 c0000203 00000005 00001986 00030018 01010003 0001008d 00040029 0002002a 00020000 01010014 00000001 015927d9 00000002 02b24f") ≡ Err (at_offset TruncatedMessage 0) }
+    ensures without_its_last_byte { counts
+        (codes "000a0098 00000000 00000000 00000001 0002001c 01000005 00080004 000c0004 000f0004 00020004 00010004 01000040 c000020c c00002fe c0000201 00001391 00518c81 c000021b c0000217 c0000202 000002ec 0005ef46 c0000238 c0000241 c0000203 00000005 00001986 00030018 01010003 0001008d 00040029 0002002a 00020000 01010014 00000001 015927d9 00000002 02b24f")
+        ≡ Err (at_offset TruncatedMessage 0) }
 {}
 
 /// RFC 7011, appendix A: the decoded message, and where a reader of it may stop.
@@ -33,80 +38,164 @@ pub fn the_message_of_rfc_7011_is_decoded()
 /// RFC 7011, section 3.1, and RFC 5655: a File is a concatenation of messages.
 pub fn messages_follow_one_another()
     ensures no_message { counts (codes "") ≡ Ok (0 ∷ 0 ∷ 0 ∷ 0 ∷ 0 ∷ 0 ∷ 0 ∷ 0 ∷ 0 ∷ []) }
-    ensures a_message_without_sets { counts (codes "000a0010 00000000 00000000 00000001") ≡ Ok (1 ∷ 0 ∷ 0 ∷ 0 ∷ 0 ∷ 0 ∷ 0 ∷ 0 ∷ 0 ∷ []) }
-    ensures three_messages { counts (codes "000a0010 00000000 00000000 00000001 000a0010 00000000 00000000 00000001 000a0010 00000000 00000000 00000001") ≡ Ok (3 ∷ 0 ∷ 0 ∷ 0 ∷ 0 ∷ 0 ∷ 0 ∷ 0 ∷ 0 ∷ []) }
-    ensures a_template_for_a_later_message { counts (codes "000a0020 00000000 00000000 00000001 00020010 01000002 00080004 000c0004 000a001c 00000000 00000000 00000001 0100000c 0a000001 0a000002") ≡ Ok (2 ∷ 1 ∷ 0 ∷ 0 ∷ 1 ∷ 0 ∷ 1 ∷ 0 ∷ 1 ∷ []) }
-    ensures not_for_another_domain { counts (codes "000a0020 00000000 00000000 00000001 00020010 01000002 00080004 000c0004 000a001c 00000000 00000000 00000002 0100000c 0a000001 0a000002") ≡ Ok (2 ∷ 1 ∷ 0 ∷ 0 ∷ 0 ∷ 1 ∷ 0 ∷ 0 ∷ 0 ∷ []) }
-    ensures not_for_an_earlier_message { counts (codes "000a001c 00000000 00000000 00000001 0100000c 0a000001 0a000002 000a0020 00000000 00000000 00000001 00020010 01000002 00080004 000c0004") ≡ Ok (2 ∷ 1 ∷ 0 ∷ 0 ∷ 0 ∷ 1 ∷ 0 ∷ 0 ∷ 0 ∷ []) }
-    ensures each_domain_has_its_own { counts (codes "000a0020 00000000 00000000 00000001 00020010 01000002 00080004 000c0004 000a001c 00000000 00000000 00000002 0002000c 01000001 00040001 000a001c 00000000 00000000 00000001 0100000c 0a000001 0a000002") ≡ Ok (3 ∷ 2 ∷ 0 ∷ 0 ∷ 1 ∷ 0 ∷ 1 ∷ 0 ∷ 1 ∷ []) }
+    ensures a_message_without_sets { counts (codes "000a0010 00000000 00000000 00000001")
+        ≡ Ok (1 ∷ 0 ∷ 0 ∷ 0 ∷ 0 ∷ 0 ∷ 0 ∷ 0 ∷ 0 ∷ []) }
+    ensures three_messages { counts
+        (codes "000a0010 00000000 00000000 00000001 000a0010 00000000 00000000 00000001 000a0010 00000000 00000000 00000001")
+        ≡ Ok (3 ∷ 0 ∷ 0 ∷ 0 ∷ 0 ∷ 0 ∷ 0 ∷ 0 ∷ 0 ∷ []) }
+    ensures a_template_for_a_later_message { counts
+        (codes "000a0020 00000000 00000000 00000001 00020010 01000002 00080004 000c0004 000a001c 00000000 00000000 00000001 0100000c 0a000001 0a000002")
+        ≡ Ok (2 ∷ 1 ∷ 0 ∷ 0 ∷ 1 ∷ 0 ∷ 1 ∷ 0 ∷ 1 ∷ []) }
+    ensures not_for_another_domain { counts
+        (codes "000a0020 00000000 00000000 00000001 00020010 01000002 00080004 000c0004 000a001c 00000000 00000000 00000002 0100000c 0a000001 0a000002")
+        ≡ Ok (2 ∷ 1 ∷ 0 ∷ 0 ∷ 0 ∷ 1 ∷ 0 ∷ 0 ∷ 0 ∷ []) }
+    ensures not_for_an_earlier_message { counts
+        (codes "000a001c 00000000 00000000 00000001 0100000c 0a000001 0a000002 000a0020 00000000 00000000 00000001 00020010 01000002 00080004 000c0004")
+        ≡ Ok (2 ∷ 1 ∷ 0 ∷ 0 ∷ 0 ∷ 1 ∷ 0 ∷ 0 ∷ 0 ∷ []) }
+    ensures each_domain_has_its_own { counts
+        (codes "000a0020 00000000 00000000 00000001 00020010 01000002 00080004 000c0004 000a001c 00000000 00000000 00000002 0002000c 01000001 00040001 000a001c 00000000 00000000 00000001 0100000c 0a000001 0a000002")
+        ≡ Ok (3 ∷ 2 ∷ 0 ∷ 0 ∷ 1 ∷ 0 ∷ 1 ∷ 0 ∷ 1 ∷ []) }
 {}
 
 /// RFC 7011, section 3.3: the set ID is 2, 3, or 256 or above.
 pub fn sets_follow_one_another()
-    ensures a_template_and_its_records { counts (codes "000a0034 00000000 00000000 00000001 00020010 01000002 00080004 000c0004 01000014 0a000001 0a000002 0a000001 0a000002") ≡ Ok (1 ∷ 1 ∷ 0 ∷ 0 ∷ 1 ∷ 0 ∷ 2 ∷ 0 ∷ 2 ∷ []) }
-    ensures two_templates_in_a_set { counts (codes "000a0028 00000000 00000000 00000001 00020018 01000002 00080004 000c0004 01010001 00040001") ≡ Ok (1 ∷ 2 ∷ 0 ∷ 0 ∷ 0 ∷ 0 ∷ 0 ∷ 0 ∷ 0 ∷ []) }
-    ensures set_0 { counts (codes "000a0018 00000000 00000000 00000001 00000008 00000000") ≡ Ok (1 ∷ 0 ∷ 0 ∷ 0 ∷ 0 ∷ 1 ∷ 0 ∷ 0 ∷ 0 ∷ []) }
-    ensures set_1 { counts (codes "000a0014 00000000 00000000 00000001 00010004") ≡ Ok (1 ∷ 0 ∷ 0 ∷ 0 ∷ 0 ∷ 1 ∷ 0 ∷ 0 ∷ 0 ∷ []) }
-    ensures set_4 { counts (codes "000a0015 00000000 00000000 00000001 00040005 01") ≡ Ok (1 ∷ 0 ∷ 0 ∷ 0 ∷ 0 ∷ 1 ∷ 0 ∷ 0 ∷ 0 ∷ []) }
-    ensures set_255 { counts (codes "000a0015 00000000 00000000 00000001 00ff0005 01") ≡ Ok (1 ∷ 0 ∷ 0 ∷ 0 ∷ 0 ∷ 1 ∷ 0 ∷ 0 ∷ 0 ∷ []) }
-    ensures no_template { counts (codes "000a001c 00000000 00000000 00000001 012c000c 0a000001 0a000002") ≡ Ok (1 ∷ 0 ∷ 0 ∷ 0 ∷ 0 ∷ 1 ∷ 0 ∷ 0 ∷ 0 ∷ []) }
-    ensures an_empty_data_set { counts (codes "000a0024 00000000 00000000 00000001 00020010 01000002 00080004 000c0004 01000004") ≡ Ok (1 ∷ 1 ∷ 0 ∷ 0 ∷ 1 ∷ 0 ∷ 0 ∷ 0 ∷ 0 ∷ []) }
-    ensures options_records { counts (codes "000a0026 00000000 00000000 00000001 0003000e 010100010001 008d0004 01010008 00000001") ≡ Ok (1 ∷ 0 ∷ 1 ∷ 0 ∷ 1 ∷ 0 ∷ 0 ∷ 1 ∷ 0 ∷ []) }
-    ensures a_field_of_an_enterprise { counts (codes "000a0028 00000000 00000000 00000001 00020010 01000001 80080004 00007279 01000008 00000001") ≡ Ok (1 ∷ 1 ∷ 0 ∷ 0 ∷ 1 ∷ 0 ∷ 1 ∷ 0 ∷ 0 ∷ []) }
+    ensures a_template_and_its_records { counts
+        (codes "000a0034 00000000 00000000 00000001 00020010 01000002 00080004 000c0004 01000014 0a000001 0a000002 0a000001 0a000002")
+        ≡ Ok (1 ∷ 1 ∷ 0 ∷ 0 ∷ 1 ∷ 0 ∷ 2 ∷ 0 ∷ 2 ∷ []) }
+    ensures two_templates_in_a_set { counts
+        (codes "000a0028 00000000 00000000 00000001 00020018 01000002 00080004 000c0004 01010001 00040001")
+        ≡ Ok (1 ∷ 2 ∷ 0 ∷ 0 ∷ 0 ∷ 0 ∷ 0 ∷ 0 ∷ 0 ∷ []) }
+    ensures set_0 { counts (codes "000a0018 00000000 00000000 00000001 00000008 00000000")
+        ≡ Ok (1 ∷ 0 ∷ 0 ∷ 0 ∷ 0 ∷ 1 ∷ 0 ∷ 0 ∷ 0 ∷ []) }
+    ensures set_1 { counts (codes "000a0014 00000000 00000000 00000001 00010004")
+        ≡ Ok (1 ∷ 0 ∷ 0 ∷ 0 ∷ 0 ∷ 1 ∷ 0 ∷ 0 ∷ 0 ∷ []) }
+    ensures set_4 { counts (codes "000a0015 00000000 00000000 00000001 00040005 01")
+        ≡ Ok (1 ∷ 0 ∷ 0 ∷ 0 ∷ 0 ∷ 1 ∷ 0 ∷ 0 ∷ 0 ∷ []) }
+    ensures set_255 { counts (codes "000a0015 00000000 00000000 00000001 00ff0005 01")
+        ≡ Ok (1 ∷ 0 ∷ 0 ∷ 0 ∷ 0 ∷ 1 ∷ 0 ∷ 0 ∷ 0 ∷ []) }
+    ensures no_template { counts (codes "000a001c 00000000 00000000 00000001 012c000c 0a000001 0a000002")
+        ≡ Ok (1 ∷ 0 ∷ 0 ∷ 0 ∷ 0 ∷ 1 ∷ 0 ∷ 0 ∷ 0 ∷ []) }
+    ensures an_empty_data_set { counts
+        (codes "000a0024 00000000 00000000 00000001 00020010 01000002 00080004 000c0004 01000004")
+        ≡ Ok (1 ∷ 1 ∷ 0 ∷ 0 ∷ 1 ∷ 0 ∷ 0 ∷ 0 ∷ 0 ∷ []) }
+    ensures options_records { counts
+        (codes "000a0026 00000000 00000000 00000001 0003000e 010100010001 008d0004 01010008 00000001")
+        ≡ Ok (1 ∷ 0 ∷ 1 ∷ 0 ∷ 1 ∷ 0 ∷ 0 ∷ 1 ∷ 0 ∷ []) }
+    ensures a_field_of_an_enterprise { counts
+        (codes "000a0028 00000000 00000000 00000001 00020010 01000001 80080004 00007279 01000008 00000001")
+        ≡ Ok (1 ∷ 1 ∷ 0 ∷ 0 ∷ 1 ∷ 0 ∷ 1 ∷ 0 ∷ 0 ∷ []) }
 {}
 
 /// RFC 7011, section 8.1, and FORMATS.md, "Template in force".
 pub fn the_last_definition_is_in_force()
-    ensures a_second_definition { counts (codes "000a0032 00000000 00000000 00000001 00020010 01000002 00080004 000c0004 0002000c 01000001 00040001 01000006 06 06") ≡ Ok (1 ∷ 2 ∷ 0 ∷ 0 ∷ 1 ∷ 0 ∷ 2 ∷ 0 ∷ 0 ∷ []) }
-    ensures a_withdrawal { counts (codes "000a0034 00000000 00000000 00000001 00020010 01000002 00080004 000c0004 00020008 01000000 0100000c 0a000001 0a000002") ≡ Ok (1 ∷ 1 ∷ 0 ∷ 1 ∷ 0 ∷ 1 ∷ 0 ∷ 0 ∷ 0 ∷ []) }
-    ensures a_withdrawal_of_all { counts (codes "000a0034 00000000 00000000 00000001 00020010 01000002 00080004 000c0004 00020008 00020000 0100000c 0a000001 0a000002") ≡ Ok (1 ∷ 1 ∷ 0 ∷ 1 ∷ 0 ∷ 1 ∷ 0 ∷ 0 ∷ 0 ∷ []) }
-    ensures a_withdrawal_of_all_options_templates { counts (codes "000a0034 00000000 00000000 00000001 00020010 01000002 00080004 000c0004 00030008 00030000 0100000c 0a000001 0a000002") ≡ Ok (1 ∷ 1 ∷ 0 ∷ 1 ∷ 1 ∷ 0 ∷ 1 ∷ 0 ∷ 1 ∷ []) }
-    ensures a_withdrawal_in_a_set_of_the_other_kind { counts (codes "000a0034 00000000 00000000 00000001 00020010 01000002 00080004 000c0004 00030008 01000000 0100000c 0a000001 0a000002") ≡ Ok (1 ∷ 1 ∷ 0 ∷ 1 ∷ 0 ∷ 1 ∷ 0 ∷ 0 ∷ 0 ∷ []) }
-    ensures a_withdrawal_of_none { counts (codes "000a0034 00000000 00000000 00000001 00020008 01010000 00020010 01000002 00080004 000c0004 0100000c 0a000001 0a000002") ≡ Ok (1 ∷ 1 ∷ 0 ∷ 1 ∷ 1 ∷ 0 ∷ 1 ∷ 0 ∷ 1 ∷ []) }
-    ensures in_another_domain { counts (codes "000a0020 00000000 00000000 00000001 00020010 01000002 00080004 000c0004 000a0018 00000000 00000000 00000002 00020008 01000000 000a001c 00000000 00000000 00000001 0100000c 0a000001 0a000002") ≡ Ok (3 ∷ 1 ∷ 0 ∷ 1 ∷ 1 ∷ 0 ∷ 1 ∷ 0 ∷ 1 ∷ []) }
-    ensures a_definition_after_a_withdrawal { counts (codes "000a0044 00000000 00000000 00000001 00020010 01000002 00080004 000c0004 00020008 01000000 00020010 01000002 00080004 000c0004 0100000c 0a000001 0a000002") ≡ Ok (1 ∷ 2 ∷ 0 ∷ 1 ∷ 1 ∷ 0 ∷ 1 ∷ 0 ∷ 1 ∷ []) }
+    ensures a_second_definition { counts
+        (codes "000a0032 00000000 00000000 00000001 00020010 01000002 00080004 000c0004 0002000c 01000001 00040001 01000006 06 06")
+        ≡ Ok (1 ∷ 2 ∷ 0 ∷ 0 ∷ 1 ∷ 0 ∷ 2 ∷ 0 ∷ 0 ∷ []) }
+    ensures a_withdrawal { counts
+        (codes "000a0034 00000000 00000000 00000001 00020010 01000002 00080004 000c0004 00020008 01000000 0100000c 0a000001 0a000002")
+        ≡ Ok (1 ∷ 1 ∷ 0 ∷ 1 ∷ 0 ∷ 1 ∷ 0 ∷ 0 ∷ 0 ∷ []) }
+    ensures a_withdrawal_of_all { counts
+        (codes "000a0034 00000000 00000000 00000001 00020010 01000002 00080004 000c0004 00020008 00020000 0100000c 0a000001 0a000002")
+        ≡ Ok (1 ∷ 1 ∷ 0 ∷ 1 ∷ 0 ∷ 1 ∷ 0 ∷ 0 ∷ 0 ∷ []) }
+    ensures a_withdrawal_of_all_options_templates { counts
+        (codes "000a0034 00000000 00000000 00000001 00020010 01000002 00080004 000c0004 00030008 00030000 0100000c 0a000001 0a000002")
+        ≡ Ok (1 ∷ 1 ∷ 0 ∷ 1 ∷ 1 ∷ 0 ∷ 1 ∷ 0 ∷ 1 ∷ []) }
+    ensures a_withdrawal_in_a_set_of_the_other_kind { counts
+        (codes "000a0034 00000000 00000000 00000001 00020010 01000002 00080004 000c0004 00030008 01000000 0100000c 0a000001 0a000002")
+        ≡ Ok (1 ∷ 1 ∷ 0 ∷ 1 ∷ 0 ∷ 1 ∷ 0 ∷ 0 ∷ 0 ∷ []) }
+    ensures a_withdrawal_of_none { counts
+        (codes "000a0034 00000000 00000000 00000001 00020008 01010000 00020010 01000002 00080004 000c0004 0100000c 0a000001 0a000002")
+        ≡ Ok (1 ∷ 1 ∷ 0 ∷ 1 ∷ 1 ∷ 0 ∷ 1 ∷ 0 ∷ 1 ∷ []) }
+    ensures in_another_domain { counts
+        (codes "000a0020 00000000 00000000 00000001 00020010 01000002 00080004 000c0004 000a0018 00000000 00000000 00000002 00020008 01000000 000a001c 00000000 00000000 00000001 0100000c 0a000001 0a000002")
+        ≡ Ok (3 ∷ 1 ∷ 0 ∷ 1 ∷ 1 ∷ 0 ∷ 1 ∷ 0 ∷ 1 ∷ []) }
+    ensures a_definition_after_a_withdrawal { counts
+        (codes "000a0044 00000000 00000000 00000001 00020010 01000002 00080004 000c0004 00020008 01000000 00020010 01000002 00080004 000c0004 0100000c 0a000001 0a000002")
+        ≡ Ok (1 ∷ 2 ∷ 0 ∷ 1 ∷ 1 ∷ 0 ∷ 1 ∷ 0 ∷ 1 ∷ []) }
 {}
 
 /// RFC 7011, sections 3.3.1 and 3.4.3: fewer bytes than a record has, whatever they are.
 pub fn padding_is_ignored()
-    ensures of_a_template_set { counts (codes "000a002f 00000000 00000000 00000001 00020013 01000002 00080004 000c0004 ffffff 0100000c 0a000001 0a000002") ≡ Ok (1 ∷ 1 ∷ 0 ∷ 0 ∷ 1 ∷ 0 ∷ 1 ∷ 0 ∷ 1 ∷ []) }
-    ensures of_a_data_set { counts (codes "000a0033 00000000 00000000 00000001 00020010 01000002 00080004 000c0004 01000013 0a000001 0a000002 ffffffffffffff") ≡ Ok (1 ∷ 1 ∷ 0 ∷ 0 ∷ 1 ∷ 0 ∷ 1 ∷ 0 ∷ 1 ∷ []) }
-    ensures of_variable_length { counts (codes "000a002a 00000000 00000000 00000001 00020010 01000002 0052ffff 00040001 0100000a 03657468 06 00") ≡ Ok (1 ∷ 1 ∷ 0 ∷ 0 ∷ 1 ∷ 0 ∷ 1 ∷ 0 ∷ 0 ∷ []) }
-    ensures long_form { counts (codes "000a0026 00000000 00000000 00000001 0002000c 01000001 0052ffff 0100000a ff0003657468") ≡ Ok (1 ∷ 1 ∷ 0 ∷ 0 ∷ 1 ∷ 0 ∷ 1 ∷ 0 ∷ 0 ∷ []) }
-    ensures records_of_no_bytes { counts (codes "000a0021 00000000 00000000 00000001 0002000c 01000001 00080000 01000005 00") ≡ Ok (1 ∷ 1 ∷ 0 ∷ 0 ∷ 1 ∷ 0 ∷ 0 ∷ 0 ∷ 0 ∷ []) }
+    ensures of_a_template_set { counts
+        (codes "000a002f 00000000 00000000 00000001 00020013 01000002 00080004 000c0004 ffffff 0100000c 0a000001 0a000002")
+        ≡ Ok (1 ∷ 1 ∷ 0 ∷ 0 ∷ 1 ∷ 0 ∷ 1 ∷ 0 ∷ 1 ∷ []) }
+    ensures of_a_data_set { counts
+        (codes "000a0033 00000000 00000000 00000001 00020010 01000002 00080004 000c0004 01000013 0a000001 0a000002 ffffffffffffff")
+        ≡ Ok (1 ∷ 1 ∷ 0 ∷ 0 ∷ 1 ∷ 0 ∷ 1 ∷ 0 ∷ 1 ∷ []) }
+    ensures of_variable_length { counts
+        (codes "000a002a 00000000 00000000 00000001 00020010 01000002 0052ffff 00040001 0100000a 03657468 06 00")
+        ≡ Ok (1 ∷ 1 ∷ 0 ∷ 0 ∷ 1 ∷ 0 ∷ 1 ∷ 0 ∷ 0 ∷ []) }
+    ensures long_form { counts
+        (codes "000a0026 00000000 00000000 00000001 0002000c 01000001 0052ffff 0100000a ff0003657468")
+        ≡ Ok (1 ∷ 1 ∷ 0 ∷ 0 ∷ 1 ∷ 0 ∷ 1 ∷ 0 ∷ 0 ∷ []) }
+    ensures records_of_no_bytes { counts
+        (codes "000a0021 00000000 00000000 00000001 0002000c 01000001 00080000 01000005 00")
+        ≡ Ok (1 ∷ 1 ∷ 0 ∷ 0 ∷ 1 ∷ 0 ∷ 0 ∷ 0 ∷ 0 ∷ []) }
     ensures a_length_of_254 { variable_at (254 ∷ replicate 255 7) ≡ Some (replicate 254 7, 7 ∷ []) }
 {}
 
 /// FORMATS.md, "IPFIX Files": F1 to F4, at the offset of the message.
 pub fn faults_of_messages()
     ensures fifteen_bytes { counts (codes "000a0010 00000000 00000000 000000") ≡ Err (at_offset TruncatedHeader 0) }
-    ensures one_byte_after_two_messages { counts (codes "000a0010 00000000 00000000 00000001 000a0010 00000000 00000000 00000001 00") ≡ Err (at_offset TruncatedHeader 32) }
+    ensures one_byte_after_two_messages { counts
+        (codes "000a0010 00000000 00000000 00000001 000a0010 00000000 00000000 00000001 00")
+        ≡ Err (at_offset TruncatedHeader 32) }
     ensures version_9 { counts (codes "00090010 00000000 00000000 00000001") ≡ Err (at_offset BadVersion 0) }
-    ensures version_9_of_the_second { counts (codes "000a0010 00000000 00000000 00000001 00090010 00000000 00000000 00000001") ≡ Err (at_offset BadVersion 16) }
+    ensures version_9_of_the_second { counts
+        (codes "000a0010 00000000 00000000 00000001 00090010 00000000 00000000 00000001")
+        ≡ Err (at_offset BadVersion 16) }
     ensures a_length_of_15 { counts (codes "000a000f 00000000 00000000 00000001") ≡ Err (at_offset BadMessageLength 0) }
     ensures a_length_of_17 { counts (codes "000a0011 00000000 00000000 00000001") ≡ Err (at_offset TruncatedMessage 0) }
-    ensures a_version_before_a_length { counts (codes "0009000f 00000000 00000000 00000001") ≡ Err (at_offset BadVersion 0) }
-    ensures in_the_third { counts (codes "000a0010 00000000 00000000 00000001 000a0020 00000000 00000000 00000001 00020010 01000002 00080004 000c0004 000a0028 00000000 00000000 00000001") ≡ Err (at_offset TruncatedMessage 48) }
+    ensures a_version_before_a_length { counts (codes "0009000f 00000000 00000000 00000001")
+        ≡ Err (at_offset BadVersion 0) }
+    ensures in_the_third { counts
+        (codes "000a0010 00000000 00000000 00000001 000a0020 00000000 00000000 00000001 00020010 01000002 00080004 000c0004 000a0028 00000000 00000000 00000001")
+        ≡ Err (at_offset TruncatedMessage 48) }
     ensures the_last_message_of_a_file { own_fault 4294967294 (hex (codes "000a0010")) ≡ None }
     ensures one_message_too_many { own_fault 4294967295 (hex (codes "000a0010")) ≡ Some TooManyMessages }
 {}
 
 /// FORMATS.md, "IPFIX Files": F5 to F7, at the offset of the set or the record.
 pub fn faults_of_sets_and_records()
-    ensures three_bytes_left { counts (codes "000a0013 00000000 00000000 00000001 000200") ≡ Err (at_offset BadSetLength 16) }
-    ensures a_length_of_3 { counts (codes "000a0014 00000000 00000000 00000001 00020003") ≡ Err (at_offset BadSetLength 16) }
-    ensures beyond_the_message { counts (codes "000a0014 00000000 00000000 00000001 01000005") ≡ Err (at_offset BadSetLength 16) }
-    ensures the_second_set { counts (codes "000a0018 00000000 00000000 00000001 012c0004 012d0009") ≡ Err (at_offset BadSetLength 20) }
-    ensures a_template_255 { counts (codes "000a001c 00000000 00000000 00000001 0002000c 00ff0001 00080004") ≡ Err (at_offset (BadTemplate BadTemplateId) 20) }
-    ensures four_zeros_of_padding { counts (codes "000a0020 00000000 00000000 00000001 00020010 01000001 00080004 00000000") ≡ Err (at_offset (BadTemplate BadTemplateId) 28) }
-    ensures a_scope_of_0 { counts (codes "000a001e 00000000 00000000 00000001 0003000e 010000010000 00080004") ≡ Err (at_offset (BadTemplate BadScope) 20) }
-    ensures a_scope_above_the_fields { counts (codes "000a001e 00000000 00000000 00000001 0003000e 010000010002 00080004") ≡ Err (at_offset (BadTemplate BadScope) 20) }
-    ensures a_field_that_is_cut_off { counts (codes "000a001c 00000000 00000000 00000001 0002000c 01000002 00080004") ≡ Err (at_offset (BadTemplate Truncated) 20) }
-    ensures an_enterprise_that_is_cut_off { counts (codes "000a001e 00000000 00000000 00000001 0002000e 01000001 80080004 0000") ≡ Err (at_offset (BadTemplate Truncated) 20) }
-    ensures a_value_beyond_the_set { counts (codes "000a0024 00000000 00000000 00000001 0002000c 01000001 0052ffff 01000008 04657468") ≡ Err (at_offset BadRecord 32) }
-    ensures the_second_record { counts (codes "000a0024 00000000 00000000 00000001 0002000c 01000001 0052ffff 01000008 0165 0265") ≡ Err (at_offset BadRecord 34) }
-    ensures a_set_of_the_second_message { counts (codes "000a0010 00000000 00000000 00000001 000a0014 00000000 00000000 00000001 00020003") ≡ Err (at_offset BadSetLength 32) }
-    ensures a_template_of_the_second_message { counts (codes "000a0010 00000000 00000000 00000001 000a001c 00000000 00000000 00000001 0002000c 00ff0001 00080004") ≡ Err (at_offset (BadTemplate BadTemplateId) 36) }
-    ensures a_record_of_the_second_message { counts (codes "000a0010 00000000 00000000 00000001 000a0024 00000000 00000000 00000001 0002000c 01000001 0052ffff 01000008 04657468") ≡ Err (at_offset BadRecord 48) }
-    ensures the_withdrawal_of_all_of_the_other_kind { counts (codes "000a0018 00000000 00000000 00000001 00020008 00030000") ≡ Err (at_offset (BadTemplate BadTemplateId) 20) }
+    ensures three_bytes_left { counts (codes "000a0013 00000000 00000000 00000001 000200")
+        ≡ Err (at_offset BadSetLength 16) }
+    ensures a_length_of_3 { counts (codes "000a0014 00000000 00000000 00000001 00020003")
+        ≡ Err (at_offset BadSetLength 16) }
+    ensures beyond_the_message { counts (codes "000a0014 00000000 00000000 00000001 01000005")
+        ≡ Err (at_offset BadSetLength 16) }
+    ensures the_second_set { counts (codes "000a0018 00000000 00000000 00000001 012c0004 012d0009")
+        ≡ Err (at_offset BadSetLength 20) }
+    ensures a_template_255 { counts (codes "000a001c 00000000 00000000 00000001 0002000c 00ff0001 00080004")
+        ≡ Err (at_offset (BadTemplate BadTemplateId) 20) }
+    ensures four_zeros_of_padding { counts
+        (codes "000a0020 00000000 00000000 00000001 00020010 01000001 00080004 00000000")
+        ≡ Err (at_offset (BadTemplate BadTemplateId) 28) }
+    ensures a_scope_of_0 { counts (codes "000a001e 00000000 00000000 00000001 0003000e 010000010000 00080004")
+        ≡ Err (at_offset (BadTemplate BadScope) 20) }
+    ensures a_scope_above_the_fields { counts
+        (codes "000a001e 00000000 00000000 00000001 0003000e 010000010002 00080004")
+        ≡ Err (at_offset (BadTemplate BadScope) 20) }
+    ensures a_field_that_is_cut_off { counts (codes "000a001c 00000000 00000000 00000001 0002000c 01000002 00080004")
+        ≡ Err (at_offset (BadTemplate Truncated) 20) }
+    ensures an_enterprise_that_is_cut_off { counts
+        (codes "000a001e 00000000 00000000 00000001 0002000e 01000001 80080004 0000")
+        ≡ Err (at_offset (BadTemplate Truncated) 20) }
+    ensures a_value_beyond_the_set { counts
+        (codes "000a0024 00000000 00000000 00000001 0002000c 01000001 0052ffff 01000008 04657468")
+        ≡ Err (at_offset BadRecord 32) }
+    ensures the_second_record { counts
+        (codes "000a0024 00000000 00000000 00000001 0002000c 01000001 0052ffff 01000008 0165 0265")
+        ≡ Err (at_offset BadRecord 34) }
+    ensures a_set_of_the_second_message { counts
+        (codes "000a0010 00000000 00000000 00000001 000a0014 00000000 00000000 00000001 00020003")
+        ≡ Err (at_offset BadSetLength 32) }
+    ensures a_template_of_the_second_message { counts
+        (codes "000a0010 00000000 00000000 00000001 000a001c 00000000 00000000 00000001 0002000c 00ff0001 00080004")
+        ≡ Err (at_offset (BadTemplate BadTemplateId) 36) }
+    ensures a_record_of_the_second_message { counts
+        (codes "000a0010 00000000 00000000 00000001 000a0024 00000000 00000000 00000001 0002000c 01000001 0052ffff 01000008 04657468")
+        ≡ Err (at_offset BadRecord 48) }
+    ensures the_withdrawal_of_all_of_the_other_kind { counts
+        (codes "000a0018 00000000 00000000 00000001 00020008 00030000")
+        ≡ Err (at_offset (BadTemplate BadTemplateId) 20) }
 {}

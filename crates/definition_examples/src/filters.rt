@@ -63,13 +63,20 @@ pub fn the_address_is_converted_to_the_version_of_the_option()
     ensures all_ipv6_addresses { passes SourceAddress (codes "::/0") tcp ≡ Ok true }
     ensures a_block_of_ipv6 { passes SourceAddress (codes "2001:db8::/32") tcp ≡ Ok false }
     ensures the_same_number_in_ipv6 { passes SourceAddress (codes "::a00:0") tcp ≡ Ok false }
-    ensures ipv6_in_its_block { passes SourceAddress (codes "2001:db8::/32") (record tcp { version = V6; src = 0x2001_0db8_0000_0000_0000_0000_0000_0001 }) ≡ Ok true }
-    ensures ipv6_outside_a_block { passes SourceAddress (codes "2001:db9::/32") (record tcp { version = V6; src = 0x2001_0db8_0000_0000_0000_0000_0000_0001 }) ≡ Ok false }
-    ensures ipv6_in_no_ipv4_block { passes SourceAddress (codes "0.0.0.0/0") (record tcp { version = V6; src = 0x2001_0db8_0000_0000_0000_0000_0000_0001 }) ≡ Ok false }
-    ensures ipv6_in_either { passes SourceAddress (codes "0.0.0.0/0,2001:db8::1") (record tcp { version = V6; src = 0x2001_0db8_0000_0000_0000_0000_0000_0001 }) ≡ Ok true }
-    ensures mapped_in_an_ipv4_block { passes SourceAddress (codes "10.0.0.0/8") (record tcp { version = V6; src = 0xffff_0a00_0000 }) ≡ Ok true }
-    ensures mapped_in_another_ipv4_block { passes SourceAddress (codes "11.0.0.0/8") (record tcp { version = V6; src = 0xffff_0a00_0000 }) ≡ Ok false }
-    ensures mapped_and_its_address { passes SourceAddress (codes "10.0.0.0") (record tcp { version = V6; src = 0xffff_0a00_0000 }) ≡ Ok true }
+    ensures ipv6_in_its_block { passes SourceAddress (codes "2001:db8::/32")
+        (record tcp { version = V6; src = 0x2001_0db8_0000_0000_0000_0000_0000_0001 }) ≡ Ok true }
+    ensures ipv6_outside_a_block { passes SourceAddress (codes "2001:db9::/32")
+        (record tcp { version = V6; src = 0x2001_0db8_0000_0000_0000_0000_0000_0001 }) ≡ Ok false }
+    ensures ipv6_in_no_ipv4_block { passes SourceAddress (codes "0.0.0.0/0")
+        (record tcp { version = V6; src = 0x2001_0db8_0000_0000_0000_0000_0000_0001 }) ≡ Ok false }
+    ensures ipv6_in_either { passes SourceAddress (codes "0.0.0.0/0,2001:db8::1")
+        (record tcp { version = V6; src = 0x2001_0db8_0000_0000_0000_0000_0000_0001 }) ≡ Ok true }
+    ensures mapped_in_an_ipv4_block { passes SourceAddress (codes "10.0.0.0/8")
+        (record tcp { version = V6; src = 0xffff_0a00_0000 }) ≡ Ok true }
+    ensures mapped_in_another_ipv4_block { passes SourceAddress (codes "11.0.0.0/8")
+        (record tcp { version = V6; src = 0xffff_0a00_0000 }) ≡ Ok false }
+    ensures mapped_and_its_address { passes SourceAddress (codes "10.0.0.0")
+        (record tcp { version = V6; src = 0xffff_0a00_0000 }) ≡ Ok true }
 {}
 
 /// FORMATS.md, "Filters": `--packets` and `--bytes`.
@@ -84,8 +91,10 @@ pub fn one_range_of_packets_or_bytes()
     ensures above { passes Packets (codes "1-4") tcp ≡ Ok false }
     ensures any_number { passes Packets (codes "0-") tcp ≡ Ok true }
     ensures the_greatest_number { passes Packets (codes "18446744073709551615") tcp ≡ Ok false }
-    ensures the_greatest_number_of_packets { passes Packets (codes "18446744073709551615") (record tcp { packets = 18446744073709551615 }) ≡ Ok true }
-    ensures at_least_and_the_greatest { passes Packets (codes "5-") (record tcp { packets = 18446744073709551615 }) ≡ Ok true }
+    ensures the_greatest_number_of_packets { passes Packets (codes "18446744073709551615")
+        (record tcp { packets = 18446744073709551615 }) ≡ Ok true }
+    ensures at_least_and_the_greatest { passes Packets (codes "5-") (record tcp { packets = 18446744073709551615 })
+        ≡ Ok true }
     ensures of_20_digits { passes Packets (codes "00000000000000000005") tcp ≡ Ok true }
     ensures not_the_bytes { passes Packets (codes "546") tcp ≡ Ok false }
     ensures bytes { passes Bytes (codes "546") tcp ≡ Ok true }
@@ -98,31 +107,54 @@ pub fn one_range_of_packets_or_bytes()
 /// FORMATS.md, "Filters": labels are compared byte by byte, and are no lists. An address without a label matches no
 /// label.
 pub fn labels()
-    ensures of_the_source { passes_all ((SourceLabel, codes "Inside") ∷ []) (by_map (codes "10.0.0.0/8 Inside\n198.51.100.0/24 Out, far\n")) tcp ≡ Ok true }
-    ensures of_the_destination { passes_all ((DestinationLabel, codes "Out, far") ∷ []) (by_map (codes "10.0.0.0/8 Inside\n198.51.100.0/24 Out, far\n")) tcp ≡ Ok true }
-    ensures not_of_the_source { passes_all ((SourceLabel, codes "Out, far") ∷ []) (by_map (codes "10.0.0.0/8 Inside\n198.51.100.0/24 Out, far\n")) tcp ≡ Ok false }
-    ensures not_of_the_destination { passes_all ((DestinationLabel, codes "Inside") ∷ []) (by_map (codes "10.0.0.0/8 Inside\n198.51.100.0/24 Out, far\n")) tcp ≡ Ok false }
-    ensures any_the_source { passes_all ((AnyLabel, codes "Inside") ∷ []) (by_map (codes "10.0.0.0/8 Inside\n198.51.100.0/24 Out, far\n")) tcp ≡ Ok true }
-    ensures any_the_destination { passes_all ((AnyLabel, codes "Out, far") ∷ []) (by_map (codes "10.0.0.0/8 Inside\n198.51.100.0/24 Out, far\n")) tcp ≡ Ok true }
-    ensures any_neither { passes_all ((AnyLabel, codes "UNKNOWN") ∷ []) (by_map (codes "10.0.0.0/8 Inside\n198.51.100.0/24 Out, far\n")) tcp ≡ Ok false }
-    ensures a_part_of_a_label { passes_all ((DestinationLabel, codes "Out") ∷ []) (by_map (codes "10.0.0.0/8 Inside\n198.51.100.0/24 Out, far\n")) tcp ≡ Ok false }
-    ensures a_small_letter { passes_all ((SourceLabel, codes "inside") ∷ []) (by_map (codes "10.0.0.0/8 Inside\n198.51.100.0/24 Out, far\n")) tcp ≡ Ok false }
-    ensures the_default { passes_all ((SourceLabel, codes "UNKNOWN") ∷ []) (by_map (codes "11.0.0.0/8 A\n")) tcp ≡ Ok true }
-    ensures no_label { passes_all ((SourceLabel, codes "UNKNOWN") ∷ []) (by_map (codes "10.0.0.0/8 Inside\n198.51.100.0/24 Out, far\n")) (record tcp { version = V6; src = 0x2001_0db8_0000_0000_0000_0000_0000_0001 }) ≡ Ok false }
-    ensures the_empty_text { passes_all ((SourceLabel, codes "") ∷ []) (by_map (codes "10.0.0.0/8 Inside\n198.51.100.0/24 Out, far\n")) (record tcp { version = V6; src = 0x2001_0db8_0000_0000_0000_0000_0000_0001 }) ≡ Ok false }
-    ensures any_of_one_address { passes_all ((AnyLabel, codes "Inside") ∷ []) (by_map (codes "10.0.0.0/8 Inside\n198.51.100.0/24 Out, far\n")) tcp_back ≡ Ok true }
-    ensures under_a_labelling { passing_by (codes "10.0.0.0/8 Inside\n") ((SourceLabel, codes "Inside") ∷ []) (tcp ∷ tcp_back ∷ []) ≡ Ok (tcp ∷ []) }
+    ensures of_the_source { passes_all ((SourceLabel, codes "Inside") ∷ [])
+        (by_map (codes "10.0.0.0/8 Inside\n198.51.100.0/24 Out, far\n")) tcp ≡ Ok true }
+    ensures of_the_destination { passes_all ((DestinationLabel, codes "Out, far") ∷ [])
+        (by_map (codes "10.0.0.0/8 Inside\n198.51.100.0/24 Out, far\n")) tcp ≡ Ok true }
+    ensures not_of_the_source { passes_all ((SourceLabel, codes "Out, far") ∷ [])
+        (by_map (codes "10.0.0.0/8 Inside\n198.51.100.0/24 Out, far\n")) tcp ≡ Ok false }
+    ensures not_of_the_destination { passes_all ((DestinationLabel, codes "Inside") ∷ [])
+        (by_map (codes "10.0.0.0/8 Inside\n198.51.100.0/24 Out, far\n")) tcp ≡ Ok false }
+    ensures any_the_source { passes_all ((AnyLabel, codes "Inside") ∷ [])
+        (by_map (codes "10.0.0.0/8 Inside\n198.51.100.0/24 Out, far\n")) tcp ≡ Ok true }
+    ensures any_the_destination { passes_all ((AnyLabel, codes "Out, far") ∷ [])
+        (by_map (codes "10.0.0.0/8 Inside\n198.51.100.0/24 Out, far\n")) tcp ≡ Ok true }
+    ensures any_neither { passes_all ((AnyLabel, codes "UNKNOWN") ∷ [])
+        (by_map (codes "10.0.0.0/8 Inside\n198.51.100.0/24 Out, far\n")) tcp ≡ Ok false }
+    ensures a_part_of_a_label { passes_all ((DestinationLabel, codes "Out") ∷ [])
+        (by_map (codes "10.0.0.0/8 Inside\n198.51.100.0/24 Out, far\n")) tcp ≡ Ok false }
+    ensures a_small_letter { passes_all ((SourceLabel, codes "inside") ∷ [])
+        (by_map (codes "10.0.0.0/8 Inside\n198.51.100.0/24 Out, far\n")) tcp ≡ Ok false }
+    ensures the_default { passes_all ((SourceLabel, codes "UNKNOWN") ∷ []) (by_map (codes "11.0.0.0/8 A\n")) tcp
+        ≡ Ok true }
+    ensures no_label { passes_all ((SourceLabel, codes "UNKNOWN") ∷ [])
+        (by_map (codes "10.0.0.0/8 Inside\n198.51.100.0/24 Out, far\n"))
+        (record tcp { version = V6; src = 0x2001_0db8_0000_0000_0000_0000_0000_0001 }) ≡ Ok false }
+    ensures the_empty_text { passes_all ((SourceLabel, codes "") ∷ [])
+        (by_map (codes "10.0.0.0/8 Inside\n198.51.100.0/24 Out, far\n"))
+        (record tcp { version = V6; src = 0x2001_0db8_0000_0000_0000_0000_0000_0001 }) ≡ Ok false }
+    ensures any_of_one_address { passes_all ((AnyLabel, codes "Inside") ∷ [])
+        (by_map (codes "10.0.0.0/8 Inside\n198.51.100.0/24 Out, far\n")) tcp_back ≡ Ok true }
+    ensures under_a_labelling { passing_by (codes "10.0.0.0/8 Inside\n") ((SourceLabel, codes "Inside") ∷ [])
+        (tcp ∷ tcp_back ∷ []) ≡ Ok (tcp ∷ []) }
     ensures without_a_labelling { passing ((SourceLabel, codes "Inside") ∷ []) None (tcp ∷ []) ≡ [] }
 {}
 
 /// FORMATS.md, "Filters": a row passes if it meets the condition of each option given.
 pub fn a_row_must_pass_each_option()
     ensures no_option { passes_all [] (by_map (codes "10.0.0.0/8 Inside\n198.51.100.0/24 Out, far\n")) tcp ≡ Ok true }
-    ensures both { passes_all ((Protocol, codes "6") ∷ (DestinationPort, codes "443") ∷ []) (by_map (codes "10.0.0.0/8 Inside\n198.51.100.0/24 Out, far\n")) tcp ≡ Ok true }
-    ensures the_first_alone { passes_all ((Protocol, codes "6") ∷ (DestinationPort, codes "80") ∷ []) (by_map (codes "10.0.0.0/8 Inside\n198.51.100.0/24 Out, far\n")) tcp ≡ Ok false }
-    ensures the_second_alone { passes_all ((Protocol, codes "17") ∷ (DestinationPort, codes "443") ∷ []) (by_map (codes "10.0.0.0/8 Inside\n198.51.100.0/24 Out, far\n")) tcp ≡ Ok false }
-    ensures all_of_three { passes_all ((SourceLabel, codes "Inside") ∷ (Packets, codes "5-") ∷ (Bytes, codes "546") ∷ []) (by_map (codes "10.0.0.0/8 Inside\n198.51.100.0/24 Out, far\n")) tcp ≡ Ok true }
-    ensures two_of_three { passes_all ((SourceLabel, codes "Inside") ∷ (Packets, codes "5-") ∷ (Bytes, codes "545") ∷ []) (by_map (codes "10.0.0.0/8 Inside\n198.51.100.0/24 Out, far\n")) tcp ≡ Ok false }
+    ensures both { passes_all ((Protocol, codes "6") ∷ (DestinationPort, codes "443") ∷ [])
+        (by_map (codes "10.0.0.0/8 Inside\n198.51.100.0/24 Out, far\n")) tcp ≡ Ok true }
+    ensures the_first_alone { passes_all ((Protocol, codes "6") ∷ (DestinationPort, codes "80") ∷ [])
+        (by_map (codes "10.0.0.0/8 Inside\n198.51.100.0/24 Out, far\n")) tcp ≡ Ok false }
+    ensures the_second_alone { passes_all ((Protocol, codes "17") ∷ (DestinationPort, codes "443") ∷ [])
+        (by_map (codes "10.0.0.0/8 Inside\n198.51.100.0/24 Out, far\n")) tcp ≡ Ok false }
+    ensures all_of_three { passes_all
+        ((SourceLabel, codes "Inside") ∷ (Packets, codes "5-") ∷ (Bytes, codes "546") ∷ [])
+        (by_map (codes "10.0.0.0/8 Inside\n198.51.100.0/24 Out, far\n")) tcp ≡ Ok true }
+    ensures two_of_three { passes_all
+        ((SourceLabel, codes "Inside") ∷ (Packets, codes "5-") ∷ (Bytes, codes "545") ∷ [])
+        (by_map (codes "10.0.0.0/8 Inside\n198.51.100.0/24 Out, far\n")) tcp ≡ Ok false }
 {}
 
 /// FORMATS.md, "Statuses and fault lines": L1. NUMBERS contain no blanks, and have 1 to 20 digits.
@@ -130,7 +162,8 @@ pub fn l1_bad_number_list()
     ensures a_name { passes Protocol (codes "tcp") tcp ≡ Err (of_option Protocol BadNumberList) }
     ensures a_protocol_above_255 { passes Protocol (codes "256") tcp ≡ Err (of_option Protocol BadNumberList) }
     ensures a_port_above_65535 { passes SourcePort (codes "65536") tcp ≡ Err (of_option SourcePort BadNumberList) }
-    ensures a_port_above_65535_in_a_range { passes DestinationPort (codes "1-65536") tcp ≡ Err (of_option DestinationPort BadNumberList) }
+    ensures a_port_above_65535_in_a_range { passes DestinationPort (codes "1-65536") tcp
+        ≡ Err (of_option DestinationPort BadNumberList) }
     ensures a_blank { passes Protocol (codes "6, 17") tcp ≡ Err (of_option Protocol BadNumberList) }
     ensures a_blank_before { passes Protocol (codes " 6") tcp ≡ Err (of_option Protocol BadNumberList) }
     ensures nothing { passes Protocol (codes "") tcp ≡ Err (of_option Protocol BadNumberList) }
@@ -140,9 +173,11 @@ pub fn l1_bad_number_list()
     ensures an_open_range { passes Protocol (codes "5-") tcp ≡ Err (of_option Protocol BadNumberList) }
     ensures no_lower_end { passes Protocol (codes "-5") tcp ≡ Err (of_option Protocol BadNumberList) }
     ensures three_ends { passes Protocol (codes "1-2-3") tcp ≡ Err (of_option Protocol BadNumberList) }
-    ensures of_21_digits { passes Protocol (codes "000000000000000000006") tcp ≡ Err (of_option Protocol BadNumberList) }
+    ensures of_21_digits { passes Protocol (codes "000000000000000000006") tcp
+        ≡ Err (of_option Protocol BadNumberList) }
     ensures a_sign { passes Protocol (codes "+6") tcp ≡ Err (of_option Protocol BadNumberList) }
-    ensures a_malformed_item_after_one_that_passes { passes Protocol (codes "6,x") tcp ≡ Err (of_option Protocol BadNumberList) }
+    ensures a_malformed_item_after_one_that_passes { passes Protocol (codes "6,x") tcp
+        ≡ Err (of_option Protocol BadNumberList) }
 {}
 
 /// FORMATS.md, "Statuses and fault lines": L2.
@@ -162,8 +197,10 @@ pub fn l2_bad_range()
 pub fn l3_bad_block()
     ensures a_range { passes SourceAddress (codes "10.0.0.0-10.0.0.255") tcp ≡ Err (of_option SourceAddress BadBlock) }
     ensures a_host_name { passes SourceAddress (codes "localhost") tcp ≡ Err (of_option SourceAddress BadBlock) }
-    ensures a_blank { passes DestinationAddress (codes "10.0.0.0, 10.0.0.1") tcp ≡ Err (of_option DestinationAddress BadBlock) }
-    ensures a_length_above_32 { passes SourceAddress (codes "10.0.0.0/33") tcp ≡ Err (of_option SourceAddress BadBlock) }
+    ensures a_blank { passes DestinationAddress (codes "10.0.0.0, 10.0.0.1") tcp
+        ≡ Err (of_option DestinationAddress BadBlock) }
+    ensures a_length_above_32 { passes SourceAddress (codes "10.0.0.0/33") tcp
+        ≡ Err (of_option SourceAddress BadBlock) }
     ensures nothing { passes DestinationAddress (codes "") tcp ≡ Err (of_option DestinationAddress BadBlock) }
     ensures a_comma_at_the_end { passes SourceAddress (codes "10.0.0.0,") tcp ≡ Err (of_option SourceAddress BadBlock) }
     ensures no_length { passes SourceAddress (codes "10.0.0.0/") tcp ≡ Err (of_option SourceAddress BadBlock) }
@@ -171,10 +208,20 @@ pub fn l3_bad_block()
 
 /// FORMATS.md, "Statuses and fault lines": in the order of the table of filters.
 pub fn the_first_malformed_option_is_reported()
-    ensures the_protocol_before_packets { passes_all ((Packets, codes "x") ∷ (Protocol, codes "x") ∷ []) (by_map (codes "10.0.0.0/8 Inside\n198.51.100.0/24 Out, far\n")) tcp ≡ Err (of_option Protocol BadNumberList) }
-    ensures the_source_port_before_the_destination_port { passes_all ((DestinationPort, codes "x") ∷ (SourcePort, codes "x") ∷ []) (by_map (codes "10.0.0.0/8 Inside\n198.51.100.0/24 Out, far\n")) tcp ≡ Err (of_option SourcePort BadNumberList) }
-    ensures a_port_before_an_address { passes_all ((SourceAddress, codes "x") ∷ (DestinationPort, codes "x") ∷ []) (by_map (codes "10.0.0.0/8 Inside\n198.51.100.0/24 Out, far\n")) tcp ≡ Err (of_option DestinationPort BadNumberList) }
-    ensures the_source_before_the_destination { passes_all ((DestinationAddress, codes "x") ∷ (SourceAddress, codes "x") ∷ []) (by_map (codes "10.0.0.0/8 Inside\n198.51.100.0/24 Out, far\n")) tcp ≡ Err (of_option SourceAddress BadBlock) }
-    ensures packets_before_bytes { passes_all ((Bytes, codes "x") ∷ (Packets, codes "x") ∷ []) (by_map (codes "10.0.0.0/8 Inside\n198.51.100.0/24 Out, far\n")) tcp ≡ Err (of_option Packets BadRange) }
-    ensures an_option_before_a_well_formed_one { passes_all ((Protocol, codes "17") ∷ (Bytes, codes "x") ∷ []) (by_map (codes "10.0.0.0/8 Inside\n198.51.100.0/24 Out, far\n")) tcp ≡ Err (of_option Bytes BadRange) }
+    ensures the_protocol_before_packets { passes_all ((Packets, codes "x") ∷ (Protocol, codes "x") ∷ [])
+        (by_map (codes "10.0.0.0/8 Inside\n198.51.100.0/24 Out, far\n")) tcp ≡ Err (of_option Protocol BadNumberList) }
+    ensures the_source_port_before_the_destination_port { passes_all
+        ((DestinationPort, codes "x") ∷ (SourcePort, codes "x") ∷ [])
+        (by_map (codes "10.0.0.0/8 Inside\n198.51.100.0/24 Out, far\n")) tcp
+        ≡ Err (of_option SourcePort BadNumberList) }
+    ensures a_port_before_an_address { passes_all ((SourceAddress, codes "x") ∷ (DestinationPort, codes "x") ∷ [])
+        (by_map (codes "10.0.0.0/8 Inside\n198.51.100.0/24 Out, far\n")) tcp
+        ≡ Err (of_option DestinationPort BadNumberList) }
+    ensures the_source_before_the_destination { passes_all
+        ((DestinationAddress, codes "x") ∷ (SourceAddress, codes "x") ∷ [])
+        (by_map (codes "10.0.0.0/8 Inside\n198.51.100.0/24 Out, far\n")) tcp ≡ Err (of_option SourceAddress BadBlock) }
+    ensures packets_before_bytes { passes_all ((Bytes, codes "x") ∷ (Packets, codes "x") ∷ [])
+        (by_map (codes "10.0.0.0/8 Inside\n198.51.100.0/24 Out, far\n")) tcp ≡ Err (of_option Packets BadRange) }
+    ensures an_option_before_a_well_formed_one { passes_all ((Protocol, codes "17") ∷ (Bytes, codes "x") ∷ [])
+        (by_map (codes "10.0.0.0/8 Inside\n198.51.100.0/24 Out, far\n")) tcp ≡ Err (of_option Bytes BadRange) }
 {}

@@ -10,49 +10,67 @@ ghost use Rattle.std.specs.Prelude.{◌≡◌, ◌∷◌, [], codes, Err, false,
 
 /// FORMATS.md, "Groups of rows": a group is all rows with the same values of the fields.
 pub fn rows_with_the_same_values_are_a_group()
-    ensures by_protocol { uniq (codes "proto") false unlabelled (tcp ∷ record tcp { protocol = 17; packets = 7; octets = 70 } ∷ tcp ∷ [])
+    ensures by_protocol { uniq (codes "proto") false unlabelled
+        (tcp ∷ record tcp { protocol = 17; packets = 7; octets = 70 } ∷ tcp ∷ [])
         ≡ Ok (codes "proto|records|packets|bytes\n6|2|10|1092\n17|1|7|70\n") }
     ensures by_source { uniq (codes "sip") false unlabelled (tcp ∷ tcp_back ∷ tcp ∷ [])
         ≡ Ok (codes "sip|records|packets|bytes\n10.0.0.0|2|10|1092\n198.51.100.228|1|2|80\n") }
     ensures by_destination { uniq (codes "dip") false unlabelled (tcp ∷ tcp_back ∷ [])
         ≡ Ok (codes "dip|records|packets|bytes\n198.51.100.228|1|5|546\n10.0.0.0|1|2|80\n") }
-    ensures by_source_port { uniq (codes "sport") false unlabelled (tcp ∷ tcp_back ∷ record tcp { protocol = 17; packets = 7; octets = 70 } ∷ [])
+    ensures by_source_port { uniq (codes "sport") false unlabelled
+        (tcp ∷ tcp_back ∷ record tcp { protocol = 17; packets = 7; octets = 70 } ∷ [])
         ≡ Ok (codes "sport|records|packets|bytes\n1804|2|12|616\n443|1|2|80\n") }
     ensures by_destination_port { uniq (codes "dport") false unlabelled (tcp ∷ tcp_back ∷ [])
         ≡ Ok (codes "dport|records|packets|bytes\n443|1|5|546\n1804|1|2|80\n") }
-    ensures by_flags { uniq (codes "flags") false unlabelled (tcp ∷ tcp_back ∷ tcp ∷ record tcp { protocol = 17; packets = 7; octets = 70 } ∷ [])
+    ensures by_flags { uniq (codes "flags") false unlabelled
+        (tcp ∷ tcp_back ∷ tcp ∷ record tcp { protocol = 17; packets = 7; octets = 70 } ∷ [])
         ≡ Ok (codes "flags|records|packets|bytes\n27|3|17|1162\n19|1|2|80\n") }
-    ensures by_two_fields { uniq (codes "dport,proto") false unlabelled (tcp ∷ record tcp { protocol = 17; packets = 7; octets = 70 } ∷ tcp_back ∷ tcp ∷ [])
+    ensures by_two_fields { uniq (codes "dport,proto") false unlabelled
+        (tcp ∷ record tcp { protocol = 17; packets = 7; octets = 70 } ∷ tcp_back ∷ tcp ∷ [])
         ≡ Ok (codes "dport|proto|records|packets|bytes\n443|6|2|10|1092\n443|17|1|7|70\n1804|6|1|2|80\n") }
-    ensures by_the_same_fields_in_another_order { uniq (codes "proto,dport") false unlabelled (tcp ∷ record tcp { protocol = 17; packets = 7; octets = 70 } ∷ tcp_back ∷ tcp ∷ [])
+    ensures by_the_same_fields_in_another_order { uniq (codes "proto,dport") false unlabelled
+        (tcp ∷ record tcp { protocol = 17; packets = 7; octets = 70 } ∷ tcp_back ∷ tcp ∷ [])
         ≡ Ok (codes "proto|dport|records|packets|bytes\n6|443|2|10|1092\n17|443|1|7|70\n6|1804|1|2|80\n") }
     ensures no_rows { uniq (codes "proto") false unlabelled ([])
         ≡ Ok (codes "proto|records|packets|bytes\n") }
     ensures one_row { uniq (codes "sip,dip,sport,dport,proto,flags") false unlabelled (tcp ∷ [])
-        ≡ Ok (codes "sip|dip|sport|dport|proto|flags|records|packets|bytes\n10.0.0.0|198.51.100.228|1804|443|6|27|1|5|546\n") }
+        ≡ Ok
+        (codes "sip|dip|sport|dport|proto|flags|records|packets|bytes\n10.0.0.0|198.51.100.228|1804|443|6|27|1|5|546\n") }
     ensures both_directions_count_one_by_one { uniq (codes "proto") false unlabelled (tcp ∷ tcp_back ∷ [])
         ≡ Ok (codes "proto|records|packets|bytes\n6|2|7|626\n") }
-    ensures other_values_do_not_matter { uniq (codes "sport") false unlabelled (tcp ∷ record tcp { dport = 1; flags = 0; packets = 0; octets = 0 } ∷ [])
+    ensures other_values_do_not_matter { uniq (codes "sport") false unlabelled
+        (tcp ∷ record tcp { dport = 1; flags = 0; packets = 0; octets = 0 } ∷ [])
         ≡ Ok (codes "sport|records|packets|bytes\n1804|2|5|546\n") }
-    ensures an_address_of_each_version { uniq (codes "sip") false unlabelled (tcp ∷ record tcp { version = V6; src = 0xffff_0a00_0000 } ∷ tcp ∷ [])
+    ensures an_address_of_each_version { uniq (codes "sip") false unlabelled
+        (tcp ∷ record tcp { version = V6; src = 0xffff_0a00_0000 } ∷ tcp ∷ [])
         ≡ Ok (codes "sip|records|packets|bytes\n10.0.0.0|2|10|1092\n::ffff:a00:0|1|5|546\n") }
-    ensures the_same_number_in_both_versions { uniq (codes "sip") false unlabelled (tcp ∷ record tcp { version = V6; src = 0x0a00_0000 } ∷ [])
+    ensures the_same_number_in_both_versions { uniq (codes "sip") false unlabelled
+        (tcp ∷ record tcp { version = V6; src = 0x0a00_0000 } ∷ [])
         ≡ Ok (codes "sip|records|packets|bytes\n10.0.0.0|1|5|546\n::a00:0|1|5|546\n") }
 {}
 
 /// FORMATS.md, "Groups of rows": an address without a label has the empty label.
 pub fn labels_group_addresses()
-    ensures by_source_label { uniq (codes "src-label") false (by_map (codes "10.0.0.0/8 Inside\n198.51.100.0/24 Out\n")) (tcp ∷ tcp_back ∷ tcp ∷ [])
+    ensures by_source_label { uniq (codes "src-label") false (by_map (codes "10.0.0.0/8 Inside\n198.51.100.0/24 Out\n"))
+        (tcp ∷ tcp_back ∷ tcp ∷ [])
         ≡ Ok (codes "src-label|records|packets|bytes\nInside|2|10|1092\nOut|1|2|80\n") }
-    ensures by_destination_label { uniq (codes "dst-label") false (by_map (codes "10.0.0.0/8 Inside\n198.51.100.0/24 Out\n")) (tcp ∷ tcp_back ∷ tcp ∷ [])
+    ensures by_destination_label { uniq (codes "dst-label") false
+        (by_map (codes "10.0.0.0/8 Inside\n198.51.100.0/24 Out\n")) (tcp ∷ tcp_back ∷ tcp ∷ [])
         ≡ Ok (codes "dst-label|records|packets|bytes\nOut|2|10|1092\nInside|1|2|80\n") }
-    ensures by_both { uniq (codes "src-label,dst-label") false (by_map (codes "10.0.0.0/8 Inside\n198.51.100.0/24 Out\n")) (tcp ∷ tcp_back ∷ record tcp { protocol = 17; packets = 7; octets = 70 } ∷ [])
+    ensures by_both { uniq (codes "src-label,dst-label") false
+        (by_map (codes "10.0.0.0/8 Inside\n198.51.100.0/24 Out\n"))
+        (tcp ∷ tcp_back ∷ record tcp { protocol = 17; packets = 7; octets = 70 } ∷ [])
         ≡ Ok (codes "src-label|dst-label|records|packets|bytes\nInside|Out|2|12|616\nOut|Inside|1|2|80\n") }
-    ensures the_default { uniq (codes "src-label") false (by_map (codes "10.0.0.0/8 Inside\n198.51.100.0/24 Out\n")) (tcp ∷ record tcp { src = 0x0b00_0000 } ∷ [])
+    ensures the_default { uniq (codes "src-label") false (by_map (codes "10.0.0.0/8 Inside\n198.51.100.0/24 Out\n"))
+        (tcp ∷ record tcp { src = 0x0b00_0000 } ∷ [])
         ≡ Ok (codes "src-label|records|packets|bytes\nInside|1|5|546\nUNKNOWN|1|5|546\n") }
-    ensures the_empty_label { uniq (codes "src-label") false (by_map (codes "10.0.0.0/8 Inside\n198.51.100.0/24 Out\n")) (tcp ∷ record tcp { version = V6; src = 0x2001_0db8_0000_0000_0000_0000_0000_0000; dst = 0x2001_0db8_0000_0000_0000_0000_0000_0001 } ∷ [])
+    ensures the_empty_label { uniq (codes "src-label") false (by_map (codes "10.0.0.0/8 Inside\n198.51.100.0/24 Out\n"))
+        (tcp
+        ∷ record tcp { version = V6; src = 0x2001_0db8_0000_0000_0000_0000_0000_0000; dst = 0x2001_0db8_0000_0000_0000_0000_0000_0001 }
+        ∷ [])
         ≡ Ok (codes "src-label|records|packets|bytes\nInside|1|5|546\n|1|5|546\n") }
-    ensures two_addresses_of_one_label { uniq (codes "src-label") false (by_map (codes "10.0.0.0/8 Inside\n198.51.100.0/24 Out\n")) (tcp ∷ record tcp { src = 0x0a00_0001 } ∷ [])
+    ensures two_addresses_of_one_label { uniq (codes "src-label") false
+        (by_map (codes "10.0.0.0/8 Inside\n198.51.100.0/24 Out\n")) (tcp ∷ record tcp { src = 0x0a00_0001 } ∷ [])
         ≡ Ok (codes "src-label|records|packets|bytes\nInside|2|10|1092\n") }
     ensures without_a_map { uniq (codes "src-label") false unlabelled (tcp ∷ tcp_back ∷ [])
         ≡ Ok (codes "src-label|records|packets|bytes\n|2|7|626\n") }
@@ -60,39 +78,70 @@ pub fn labels_group_addresses()
 
 /// FORMATS.md, "Groups of rows": the sums are larger than 2^64 - 1.
 pub fn sums_never_overflow()
-    ensures of_two_rows { uniq (codes "proto") false unlabelled (record tcp { packets = 18446744073709551615; octets = 18446744073709551615 } ∷ record tcp { packets = 18446744073709551615; octets = 18446744073709551615 } ∷ [])
+    ensures of_two_rows { uniq (codes "proto") false unlabelled
+        (record tcp { packets = 18446744073709551615; octets = 18446744073709551615 }
+        ∷ record tcp { packets = 18446744073709551615; octets = 18446744073709551615 } ∷ [])
         ≡ Ok (codes "proto|records|packets|bytes\n6|2|36893488147419103230|36893488147419103230\n") }
-    ensures one_more_packet { uniq (codes "proto") false unlabelled (record tcp { packets = 18446744073709551615; octets = 18446744073709551615 } ∷ record tcp { packets = 1; octets = 1 } ∷ [])
+    ensures one_more_packet { uniq (codes "proto") false unlabelled
+        (record tcp { packets = 18446744073709551615; octets = 18446744073709551615 }
+        ∷ record tcp { packets = 1; octets = 1 } ∷ [])
         ≡ Ok (codes "proto|records|packets|bytes\n6|2|18446744073709551616|18446744073709551616\n") }
-    ensures of_three_rows { uniq (codes "proto") false unlabelled (record tcp { packets = 18446744073709551615; octets = 18446744073709551615 } ∷ record tcp { packets = 18446744073709551615; octets = 18446744073709551615 } ∷ record tcp { packets = 18446744073709551615; octets = 18446744073709551615 } ∷ [])
+    ensures of_three_rows { uniq (codes "proto") false unlabelled
+        (record tcp { packets = 18446744073709551615; octets = 18446744073709551615 }
+        ∷ record tcp { packets = 18446744073709551615; octets = 18446744073709551615 }
+        ∷ record tcp { packets = 18446744073709551615; octets = 18446744073709551615 } ∷ [])
         ≡ Ok (codes "proto|records|packets|bytes\n6|3|55340232221128654845|55340232221128654845\n") }
-    ensures in_two_groups { uniq (codes "proto") false unlabelled (record tcp { packets = 18446744073709551615; octets = 18446744073709551615 } ∷ record tcp { protocol = 17; packets = 18446744073709551615; octets = 0 } ∷ record tcp { packets = 18446744073709551615; octets = 18446744073709551615 } ∷ [])
-        ≡ Ok (codes "proto|records|packets|bytes\n6|2|36893488147419103230|36893488147419103230\n17|1|18446744073709551615|0\n") }
+    ensures in_two_groups { uniq (codes "proto") false unlabelled
+        (record tcp { packets = 18446744073709551615; octets = 18446744073709551615 }
+        ∷ record tcp { protocol = 17; packets = 18446744073709551615; octets = 0 }
+        ∷ record tcp { packets = 18446744073709551615; octets = 18446744073709551615 } ∷ [])
+        ≡ Ok
+        (codes "proto|records|packets|bytes\n6|2|36893488147419103230|36893488147419103230\n17|1|18446744073709551615|0\n") }
 {}
 
 /// FORMATS.md, "Groups of rows".
 pub fn groups_are_in_the_order_of_their_first_rows_or_sorted()
-    ensures of_their_first_rows { uniq (codes "sport") false unlabelled (record tcp { sport = 10 } ∷ record tcp { sport = 9 } ∷ record tcp { sport = 100 } ∷ record tcp { sport = 10 } ∷ [])
+    ensures of_their_first_rows { uniq (codes "sport") false unlabelled
+        (record tcp { sport = 10 } ∷ record tcp { sport = 9 } ∷ record tcp { sport = 100 } ∷ record tcp { sport = 10 }
+        ∷ [])
         ≡ Ok (codes "sport|records|packets|bytes\n10|2|10|1092\n9|1|5|546\n100|1|5|546\n") }
-    ensures numbers_by_value { uniq (codes "sport") true unlabelled (record tcp { sport = 10 } ∷ record tcp { sport = 9 } ∷ record tcp { sport = 100 } ∷ record tcp { sport = 10 } ∷ [])
+    ensures numbers_by_value { uniq (codes "sport") true unlabelled
+        (record tcp { sport = 10 } ∷ record tcp { sport = 9 } ∷ record tcp { sport = 100 } ∷ record tcp { sport = 10 }
+        ∷ [])
         ≡ Ok (codes "sport|records|packets|bytes\n9|1|5|546\n10|2|10|1092\n100|1|5|546\n") }
-    ensures addresses_by_value { uniq (codes "sip") true unlabelled (record tcp { src = 0x0a00_0002 } ∷ record tcp { src = 0x09ff_ffff } ∷ record tcp { src = 0x0a00_0001 } ∷ [])
+    ensures addresses_by_value { uniq (codes "sip") true unlabelled
+        (record tcp { src = 0x0a00_0002 } ∷ record tcp { src = 0x09ff_ffff } ∷ record tcp { src = 0x0a00_0001 } ∷ [])
         ≡ Ok (codes "sip|records|packets|bytes\n9.255.255.255|1|5|546\n10.0.0.1|1|5|546\n10.0.0.2|1|5|546\n") }
-    ensures ipv4_before_ipv6 { uniq (codes "sip") true unlabelled (record tcp { version = V6; src = 0x0001 } ∷ record tcp { src = 0xffff_ffff } ∷ [])
+    ensures ipv4_before_ipv6 { uniq (codes "sip") true unlabelled
+        (record tcp { version = V6; src = 0x0001 } ∷ record tcp { src = 0xffff_ffff } ∷ [])
         ≡ Ok (codes "sip|records|packets|bytes\n255.255.255.255|1|5|546\n::1|1|5|546\n") }
-    ensures by_the_first_field { uniq (codes "sport,dport") true unlabelled (record tcp { sport = 2; dport = 1 } ∷ record tcp { sport = 1; dport = 2 } ∷ [])
+    ensures by_the_first_field { uniq (codes "sport,dport") true unlabelled
+        (record tcp { sport = 2; dport = 1 } ∷ record tcp { sport = 1; dport = 2 } ∷ [])
         ≡ Ok (codes "sport|dport|records|packets|bytes\n1|2|1|5|546\n2|1|1|5|546\n") }
-    ensures then_by_the_second { uniq (codes "sport,dport") true unlabelled (record tcp { sport = 1; dport = 2 } ∷ record tcp { sport = 1; dport = 1 } ∷ record tcp { sport = 0; dport = 3 } ∷ [])
+    ensures then_by_the_second { uniq (codes "sport,dport") true unlabelled
+        (record tcp { sport = 1; dport = 2 } ∷ record tcp { sport = 1; dport = 1 } ∷ record tcp { sport = 0; dport = 3 }
+        ∷ [])
         ≡ Ok (codes "sport|dport|records|packets|bytes\n0|3|1|5|546\n1|1|1|5|546\n1|2|1|5|546\n") }
-    ensures labels_by_their_bytes { uniq (codes "src-label") true (by_map (codes "10.0.0.0/8 B\n11.0.0.0/8 A\n12.0.0.0/8 a\n13.0.0.0/8 AA\n")) (record tcp { src = 0x0c00_0000 } ∷ record tcp { src = 0x0a00_0000 } ∷ record tcp { src = 0x0d00_0000 } ∷ record tcp { src = 0x0b00_0000 } ∷ [])
+    ensures labels_by_their_bytes { uniq (codes "src-label") true
+        (by_map (codes "10.0.0.0/8 B\n11.0.0.0/8 A\n12.0.0.0/8 a\n13.0.0.0/8 AA\n"))
+        (record tcp { src = 0x0c00_0000 } ∷ record tcp { src = 0x0a00_0000 } ∷ record tcp { src = 0x0d00_0000 }
+        ∷ record tcp { src = 0x0b00_0000 } ∷ [])
         ≡ Ok (codes "src-label|records|packets|bytes\nA|1|5|546\nAA|1|5|546\nB|1|5|546\na|1|5|546\n") }
-    ensures the_empty_label_first { uniq (codes "src-label") true (by_map (codes "10.0.0.0/8 B\n11.0.0.0/8 A\n12.0.0.0/8 a\n13.0.0.0/8 AA\n")) (record tcp { src = 0x0b00_0000 } ∷ record tcp { version = V6; src = 0x2001_0db8_0000_0000_0000_0000_0000_0000; dst = 0x2001_0db8_0000_0000_0000_0000_0000_0001 } ∷ [])
+    ensures the_empty_label_first { uniq (codes "src-label") true
+        (by_map (codes "10.0.0.0/8 B\n11.0.0.0/8 A\n12.0.0.0/8 a\n13.0.0.0/8 AA\n"))
+        (record tcp { src = 0x0b00_0000 }
+        ∷ record tcp { version = V6; src = 0x2001_0db8_0000_0000_0000_0000_0000_0000; dst = 0x2001_0db8_0000_0000_0000_0000_0000_0001 }
+        ∷ [])
         ≡ Ok (codes "src-label|records|packets|bytes\n|1|5|546\nA|1|5|546\n") }
-    ensures labels_by_first_rows { uniq (codes "src-label") false (by_map (codes "10.0.0.0/8 B\n11.0.0.0/8 A\n12.0.0.0/8 a\n13.0.0.0/8 AA\n")) (record tcp { src = 0x0c00_0000 } ∷ record tcp { src = 0x0a00_0000 } ∷ record tcp { src = 0x0b00_0000 } ∷ [])
+    ensures labels_by_first_rows { uniq (codes "src-label") false
+        (by_map (codes "10.0.0.0/8 B\n11.0.0.0/8 A\n12.0.0.0/8 a\n13.0.0.0/8 AA\n"))
+        (record tcp { src = 0x0c00_0000 } ∷ record tcp { src = 0x0a00_0000 } ∷ record tcp { src = 0x0b00_0000 } ∷ [])
         ≡ Ok (codes "src-label|records|packets|bytes\na|1|5|546\nB|1|5|546\nA|1|5|546\n") }
-    ensures protocols_by_value { uniq (codes "proto") true unlabelled (record tcp { protocol = 17 } ∷ record tcp { protocol = 6 } ∷ record tcp { protocol = 1 } ∷ [])
+    ensures protocols_by_value { uniq (codes "proto") true unlabelled
+        (record tcp { protocol = 17 } ∷ record tcp { protocol = 6 } ∷ record tcp { protocol = 1 } ∷ [])
         ≡ Ok (codes "proto|records|packets|bytes\n1|1|5|546\n6|1|5|546\n17|1|5|546\n") }
-    ensures flags_by_value { uniq (codes "flags") true unlabelled (record tcp { flags = 27 } ∷ record tcp { flags = 2 } ∷ [])
+    ensures flags_by_value { uniq (codes "flags") true unlabelled
+        (record tcp { flags = 27 } ∷ record tcp { flags = 2 } ∷ [])
         ≡ Ok (codes "flags|records|packets|bytes\n2|1|5|546\n27|1|5|546\n") }
     ensures no_rows { uniq (codes "sport") true unlabelled ([])
         ≡ Ok (codes "sport|records|packets|bytes\n") }

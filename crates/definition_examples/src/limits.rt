@@ -12,16 +12,22 @@ pub fn a_text_has_at_most_65535_labels()
     ensures room { has_room (replicate 65534 (codes "x")) (codes "A") ≡ true }
     ensures no_room { has_room (replicate 65535 (codes "x")) (codes "A") ≡ false }
     ensures a_known_label { has_room (replicate 65535 (codes "x")) (codes "x") ≡ true }
-    ensures of_a_default { content_line form.Map (record no_lines { table = replicate 65535 (codes "x") }) (codes "default A") ≡ Err TooMany }
-    ensures of_a_declaration { content_line form.Map (record no_lines { table = replicate 65535 (codes "x") }) (codes "label 5 A") ≡ Err TooMany }
-    ensures of_a_mapping { content_line form.Map (record no_lines { table = replicate 65535 (codes "x") }) (codes "10.0.0.0/8 A") ≡ Err TooMany }
-    ensures of_an_entry { content_line form.List (record no_lines { table = replicate 65535 (codes "x") }) (codes "10.0.0.0/8 A") ≡ Err TooMany }
+    ensures of_a_default { content_line form.Map (record no_lines { table = replicate 65535 (codes "x") })
+        (codes "default A") ≡ Err TooMany }
+    ensures of_a_declaration { content_line form.Map (record no_lines { table = replicate 65535 (codes "x") })
+        (codes "label 5 A") ≡ Err TooMany }
+    ensures of_a_mapping { content_line form.Map (record no_lines { table = replicate 65535 (codes "x") })
+        (codes "10.0.0.0/8 A") ≡ Err TooMany }
+    ensures of_an_entry { content_line form.List (record no_lines { table = replicate 65535 (codes "x") })
+        (codes "10.0.0.0/8 A") ≡ Err TooMany }
 {}
 
 /// A text has at most 1,000,000 mappings or entries.
 pub fn a_text_has_at_most_1000000_mappings()
-    ensures room { (ms : List Mapping) → length ms ≡ 999999 → is_ok (content_line form.Map (record no_lines { mappings = ms }) (codes "10.0.0.0/8 A")) ≡ true }
-    ensures no_room { (ms : List Mapping) → length ms ≡ 1000000 → content_line form.Map (record no_lines { mappings = ms }) (codes "10.0.0.0/8 A") ≡ Err TooMany }
+    ensures room { (ms : List Mapping) → length ms ≡ 999999
+        → is_ok (content_line form.Map (record no_lines { mappings = ms }) (codes "10.0.0.0/8 A")) ≡ true }
+    ensures no_room { (ms : List Mapping) → length ms ≡ 1000000
+        → content_line form.Map (record no_lines { mappings = ms }) (codes "10.0.0.0/8 A") ≡ Err TooMany }
     ensures room_for_an_entry { (ps : List Prefix) → has_prefix ps 0x0a00_0000 8 ≡ false → length ps ≡ 999999
         → is_ok (content_line form.List (record no_lines { prefixes = ps }) (codes "10.0.0.0/8 A")) ≡ true }
     ensures no_room_for_an_entry { (ps : List Prefix) → has_prefix ps 0x0a00_0000 8 ≡ false → length ps ≡ 1000000

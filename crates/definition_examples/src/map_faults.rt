@@ -15,7 +15,8 @@ pub fn m1_bad_statement()
     ensures a_missing_number { map_reading (codes "label\n") ≡ Err (at_line BadStatement 1) }
     ensures a_number_of_eleven_digits { map_reading (codes "label 00000000005 red\n") ≡ Err (at_line BadStatement 1) }
     ensures a_negative_number { map_reading (codes "label -5 red\n") ≡ Err (at_line BadStatement 1) }
-    ensures in_the_third_line { map_reading (codes "# first\n\nlocalhost A\n10.0.0.0/8 A\n") ≡ Err (at_line BadStatement 3) }
+    ensures in_the_third_line { map_reading (codes "# first\n\nlocalhost A\n10.0.0.0/8 A\n")
+        ≡ Err (at_line BadStatement 3) }
     ensures a_word_that_begins_with_a_keyword { map_reading (codes "map-names A\n") ≡ Err (at_line BadStatement 1) }
     ensures a_no_break_space { map_reading (codes "mode" ++ 194 ∷ 160 ∷ codes "ipv4") ≡ Err (at_line BadStatement 1) }
     ensures a_byte_order_mark { map_reading (239 ∷ 187 ∷ 191 ∷ codes "mode ipv4") ≡ Err (at_line BadStatement 1) }
@@ -68,7 +69,8 @@ pub fn m4_low_above_high()
 /// An IPv6 address in an IPv4 map or list.
 pub fn m5_wrong_version()
     ensures a_block { map_reading (codes "mode ipv4\n2001:db8::/32 A") ≡ Err (at_line WrongVersion 2) }
-    ensures after_an_ipv4_mapping { map_reading (codes "10.0.0.1 A\n::ffff:10.0.0.1 B\n") ≡ Err (at_line WrongVersion 2) }
+    ensures after_an_ipv4_mapping { map_reading (codes "10.0.0.1 A\n::ffff:10.0.0.1 B\n")
+        ≡ Err (at_line WrongVersion 2) }
     ensures the_second_of_a_range { map_reading (codes "10.0.0.1 ::1 A\n") ≡ Err (at_line WrongVersion 1) }
     ensures the_first_of_a_range { map_reading (codes "mode ip\n::1 10.0.0.1 A\n") ≡ Err (at_line WrongVersion 2) }
     ensures an_address { map_reading (codes "mode ipv4\n::1 A\n") ≡ Err (at_line WrongVersion 2) }
@@ -99,7 +101,8 @@ pub fn m7_bad_label()
     ensures of_a_default { map_reading (codes "default A" ++ 1 ∷ []) ≡ Err (at_line BadLabel 1) }
     ensures of_a_name { map_reading (codes "map-name A" ++ 1 ∷ []) ≡ Err (at_line BadLabel 1) }
     ensures of_a_range { map_reading (codes "10.0.0.0 10.0.0.1 A" ++ 11 ∷ []) ≡ Err (at_line BadLabel 1) }
-    ensures lines_that_end_with_a_carriage_return { map_reading (codes "10.0.0.0/8 A\r10.1.0.0/16 B\r") ≡ Err (at_line BadLabel 1) }
+    ensures lines_that_end_with_a_carriage_return { map_reading (codes "10.0.0.0/8 A\r10.1.0.0/16 B\r")
+        ≡ Err (at_line BadLabel 1) }
     ensures a_declared_text_of_eleven_digits { map_reading (codes "label 5 12345678901\n") ≡ Err (at_line BadLabel 1) }
 {}
 
@@ -107,8 +110,10 @@ pub fn m7_bad_label()
 pub fn m8_label_conflict()
     ensures two_numbers { map_reading (codes "label 5 red\nlabel 6 red\n") ≡ Err (at_line LabelConflict 2) }
     ensures two_labels { map_reading (codes "label 5 red\nlabel 5 blue\n") ≡ Err (at_line LabelConflict 2) }
-    ensures the_number_with_a_zero { map_reading (codes "label 5 red\nlabel 05 blue\n") ≡ Err (at_line LabelConflict 2) }
-    ensures two_lines_between { map_reading (codes "label 5 red\nlabel 6 blue\n10.0.0.0/8 5\nlabel 7 red\n") ≡ Err (at_line LabelConflict 4) }
+    ensures the_number_with_a_zero { map_reading (codes "label 5 red\nlabel 05 blue\n")
+        ≡ Err (at_line LabelConflict 2) }
+    ensures two_lines_between { map_reading (codes "label 5 red\nlabel 6 blue\n10.0.0.0/8 5\nlabel 7 red\n")
+        ≡ Err (at_line LabelConflict 4) }
 {}
 
 /// `mode` is not followed by exactly `ipv4`, `ip` or `ipv6`.
@@ -134,7 +139,8 @@ pub fn m10_mode_late()
 pub fn m11_mode_repeated()
     ensures the_other_word { map_reading (codes "mode ipv4\nmode ip") ≡ Err (at_line ModeRepeated 2) }
     ensures the_same_word { map_reading (codes "mode ipv6\nmode ipv6\n") ≡ Err (at_line ModeRepeated 2) }
-    ensures lines_between { map_reading (codes "mode ipv4\nlabel 5 red\ndefault 5\nmode ipv6\n") ≡ Err (at_line ModeRepeated 4) }
+    ensures lines_between { map_reading (codes "mode ipv4\nlabel 5 red\ndefault 5\nmode ipv6\n")
+        ≡ Err (at_line ModeRepeated 4) }
     ensures in_a_list { list_reading (codes "mode ipv6\n\nmode ip\n") ≡ Err (at_line ModeRepeated 3) }
 {}
 
@@ -149,36 +155,50 @@ pub fn m13_not_a_list()
 /// A list has this block already.
 pub fn m14_duplicate_block()
     ensures host_bits { list_reading (codes "1.0.0.0/8 A\n1.2.3.4/8 B") ≡ Err (at_line DuplicateBlock 2) }
-    ensures an_address_and_its_block { list_reading (codes "10.0.0.1 A\n10.0.0.1/32 B") ≡ Err (at_line DuplicateBlock 2) }
-    ensures converted { list_reading (codes "mode ipv6\n10.0.0.0/8 A\n::ffff:10.0.0.0/104 B") ≡ Err (at_line DuplicateBlock 3) }
+    ensures an_address_and_its_block { list_reading (codes "10.0.0.1 A\n10.0.0.1/32 B")
+        ≡ Err (at_line DuplicateBlock 2) }
+    ensures converted { list_reading (codes "mode ipv6\n10.0.0.0/8 A\n::ffff:10.0.0.0/104 B")
+        ≡ Err (at_line DuplicateBlock 3) }
     ensures the_same_line_again { list_reading (codes "10.0.0.0/8 A\n10.0.0.0/8 A\n") ≡ Err (at_line DuplicateBlock 2) }
-    ensures the_first_of_three { list_reading (codes "10.0.0.0/8 A\n11.0.0.0/8 A\n12.0.0.0/8 A\n10.0.0.0/8 B\n") ≡ Err (at_line DuplicateBlock 4) }
+    ensures the_first_of_three { list_reading (codes "10.0.0.0/8 A\n11.0.0.0/8 A\n12.0.0.0/8 A\n10.0.0.0/8 B\n")
+        ≡ Err (at_line DuplicateBlock 4) }
 {}
 
 /// FORMATS.md: the order for each statement, below the table.
 pub fn the_first_fault_of_a_line_is_reported()
     ensures a_late_mode_is_malformed { map_reading (codes "10.0.0.0/8 A\nmode x\n") ≡ Err (at_line BadMode 2) }
-    ensures a_late_mode_is_repeated { map_reading (codes "mode ip\n10.0.0.0/8 A\nmode ip\n") ≡ Err (at_line ModeLate 3) }
+    ensures a_late_mode_is_repeated { map_reading (codes "mode ip\n10.0.0.0/8 A\nmode ip\n")
+        ≡ Err (at_line ModeLate 3) }
     ensures a_malformed_number_without_a_label { map_reading (codes "label x\n") ≡ Err (at_line BadStatement 1) }
     ensures digits_that_conflict { map_reading (codes "label 5 red\nlabel 5 7\n") ≡ Err (at_line BadLabel 2) }
     ensures a_default_in_a_list_without_a_label { list_reading (codes "default\n") ≡ Err (at_line NotAList 1) }
-    ensures a_malformed_address_with_a_malformed_length { map_reading (codes "10.0.0/33 A\n") ≡ Err (at_line BadAddress 1) }
-    ensures a_malformed_length_in_the_wrong_version { map_reading (codes "mode ipv4\n::/129 A\n") ≡ Err (at_line BadLength 2) }
+    ensures a_malformed_address_with_a_malformed_length { map_reading (codes "10.0.0/33 A\n")
+        ≡ Err (at_line BadAddress 1) }
+    ensures a_malformed_length_in_the_wrong_version { map_reading (codes "mode ipv4\n::/129 A\n")
+        ≡ Err (at_line BadLength 2) }
     ensures the_wrong_version_without_a_label { map_reading (codes "mode ipv4\n::/8\n") ≡ Err (at_line WrongVersion 2) }
-    ensures a_known_block_without_a_label { list_reading (codes "10.0.0.0/8 A\n10.0.0.0/8\n") ≡ Err (at_line MissingLabel 2) }
-    ensures a_known_block_with_a_malformed_label { list_reading (codes "10.0.0.0/8 A\n10.0.0.0/8 A\rB\n") ≡ Err (at_line BadLabel 2) }
+    ensures a_known_block_without_a_label { list_reading (codes "10.0.0.0/8 A\n10.0.0.0/8\n")
+        ≡ Err (at_line MissingLabel 2) }
+    ensures a_known_block_with_a_malformed_label { list_reading (codes "10.0.0.0/8 A\n10.0.0.0/8 A\rB\n")
+        ≡ Err (at_line BadLabel 2) }
     ensures a_range_in_the_wrong_version { map_reading (codes "mode ipv4\n::9 ::2 A\n") ≡ Err (at_line WrongVersion 2) }
-    ensures a_range_in_the_wrong_order_without_a_label { map_reading (codes "10.0.0.9 10.0.0.2\n") ≡ Err (at_line LowAboveHigh 1) }
-    ensures a_range_in_a_list_in_the_wrong_version { list_reading (codes "mode ipv4\n::1 ::2 A\n") ≡ Err (at_line NotAList 2) }
-    ensures an_address_in_the_wrong_version_without_a_label { map_reading (codes "mode ipv4\n::1\n") ≡ Err (at_line WrongVersion 2) }
-    ensures a_missing_name_before_a_malformed_one { map_reading (codes "map-name # " ++ 1 ∷ []) ≡ Err (at_line MissingLabel 1) }
+    ensures a_range_in_the_wrong_order_without_a_label { map_reading (codes "10.0.0.9 10.0.0.2\n")
+        ≡ Err (at_line LowAboveHigh 1) }
+    ensures a_range_in_a_list_in_the_wrong_version { list_reading (codes "mode ipv4\n::1 ::2 A\n")
+        ≡ Err (at_line NotAList 2) }
+    ensures an_address_in_the_wrong_version_without_a_label { map_reading (codes "mode ipv4\n::1\n")
+        ≡ Err (at_line WrongVersion 2) }
+    ensures a_missing_name_before_a_malformed_one { map_reading (codes "map-name # " ++ 1 ∷ [])
+        ≡ Err (at_line MissingLabel 1) }
 {}
 
 /// Reading stops at the first faulty line. Lines are counted from 1.
 pub fn the_first_faulty_line_is_reported()
     ensures of_two { map_reading (codes "colour red\n10.0.0 A\n") ≡ Err (at_line BadStatement 1) }
     ensures of_two_the_other_way_round { map_reading (codes "10.0.0 A\ncolour red\n") ≡ Err (at_line BadAddress 1) }
-    ensures after_blank_lines_and_comments { map_reading (codes "\n# x\n \n10.0.0.0/33 A\n") ≡ Err (at_line BadLength 4) }
-    ensures a_last_line_without_a_line_feed { map_reading (codes "10.0.0.0/8 A\n10.1.0.0/16") ≡ Err (at_line MissingLabel 2) }
+    ensures after_blank_lines_and_comments { map_reading (codes "\n# x\n \n10.0.0.0/33 A\n")
+        ≡ Err (at_line BadLength 4) }
+    ensures a_last_line_without_a_line_feed { map_reading (codes "10.0.0.0/8 A\n10.1.0.0/16")
+        ≡ Err (at_line MissingLabel 2) }
     ensures the_tenth { map_reading (codes "\n\n\n\n\n\n\n\n\nmode\n") ≡ Err (at_line BadMode 10) }
 {}

@@ -17,8 +17,10 @@ pub fn an_ipv4_address_is_four_decimal_numbers()
 /// RFC 5952, section 4.1: leading zeros are suppressed, and a group of zeros is one digit.
 pub fn leading_zeros_are_not_printed()
     ensures of_the_rfc { address_text V6 0x2001_0db8_0000_0000_0000_0000_0000_0001 ≡ codes "2001:db8::1" }
-    ensures in_each_group { address_text V6 0x0001_0020_0300_4000_0005_0060_0700_8000 ≡ codes "1:20:300:4000:5:60:700:8000" }
-    ensures a_single_group_of_zeros { address_text V6 0x0001_0002_0003_0000_0005_0006_0007_0008 ≡ codes "1:2:3:0:5:6:7:8" }
+    ensures in_each_group { address_text V6 0x0001_0020_0300_4000_0005_0060_0700_8000
+        ≡ codes "1:20:300:4000:5:60:700:8000" }
+    ensures a_single_group_of_zeros { address_text V6 0x0001_0002_0003_0000_0005_0006_0007_0008
+        ≡ codes "1:2:3:0:5:6:7:8" }
 {}
 
 /// RFC 5952, section 4.2.1: a `::` replaces all groups of zeros that it can.
@@ -55,9 +57,12 @@ pub fn the_longest_run_is_shortened()
 
 /// RFC 5952, section 4.3. The IPv4 address of an IPv4-mapped address isn't printed with dots.
 pub fn digits_are_in_lower_case()
-    ensures each_digit { address_text V6 0xabcd_ef01_2345_6789_abcd_ef01_2345_6789 ≡ codes "abcd:ef01:2345:6789:abcd:ef01:2345:6789" }
-    ensures the_greatest { address_text V6 0xffff_ffff_ffff_ffff_ffff_ffff_ffff_ffff ≡ codes "ffff:ffff:ffff:ffff:ffff:ffff:ffff:ffff" }
-    ensures documentation { address_text V6 0x2001_0db8_0000_0000_0008_0800_200c_417a ≡ codes "2001:db8::8:800:200c:417a" }
+    ensures each_digit { address_text V6 0xabcd_ef01_2345_6789_abcd_ef01_2345_6789
+        ≡ codes "abcd:ef01:2345:6789:abcd:ef01:2345:6789" }
+    ensures the_greatest { address_text V6 0xffff_ffff_ffff_ffff_ffff_ffff_ffff_ffff
+        ≡ codes "ffff:ffff:ffff:ffff:ffff:ffff:ffff:ffff" }
+    ensures documentation { address_text V6 0x2001_0db8_0000_0000_0008_0800_200c_417a
+        ≡ codes "2001:db8::8:800:200c:417a" }
     ensures mapped { address_text V6 0xffff_0a00_0001 ≡ codes "::ffff:a00:1" }
 {}
 

@@ -21,15 +21,19 @@ pub fn rows_are_a_table()
         ≡ codes "sip|dip|sport|dport|proto|flags|packets|bytes|stime|etime\n10.0.0.1|10.0.0.2|0|0|0|0|0|0|0|0\n" }
     ensures in_order { rows false (plain ∷ tcp ∷ plain ∷ [])
         ≡ codes "sip|dip|sport|dport|proto|flags|packets|bytes|stime|etime\n10.0.0.1|10.0.0.2|0|0|0|0|0|0|0|0\n10.0.0.0|198.51.100.228|1804|443|6|27|5|546|1700000067030|1700000067362\n10.0.0.1|10.0.0.2|0|0|0|0|0|0|0|0\n" }
-    ensures the_greatest_numbers { rows false (record plain { packets = 18446744073709551615; octets = 18446744073709551615; sport = 65535; dport = 65535; protocol = 255; flags = 65535 } ∷ [])
+    ensures the_greatest_numbers { rows false
+        (record plain { packets = 18446744073709551615; octets = 18446744073709551615; sport = 65535; dport = 65535; protocol = 255; flags = 65535 }
+        ∷ [])
         ≡ codes "sip|dip|sport|dport|proto|flags|packets|bytes|stime|etime\n10.0.0.1|10.0.0.2|65535|65535|255|65535|18446744073709551615|18446744073709551615|0|0\n" }
-    ensures ipv6 { rows false (record plain { version = V6; src = 0x2001_0db8_0000_0000_0000_0000_0000_0001; dst = 0xffff_0a00_0001 } ∷ [])
+    ensures ipv6 { rows false
+        (record plain { version = V6; src = 0x2001_0db8_0000_0000_0000_0000_0000_0001; dst = 0xffff_0a00_0001 } ∷ [])
         ≡ codes "sip|dip|sport|dport|proto|flags|packets|bytes|stime|etime\n2001:db8::1|::ffff:a00:1|0|0|0|0|0|0|0|0\n" }
     ensures with_labels { rows_text (tcp ∷ []) (Some ((Some (codes "Inside"), Some (codes "Out")) ∷ [])) false
         ≡ codes "sip|dip|sport|dport|proto|flags|packets|bytes|stime|etime|src-label|dst-label\n10.0.0.0|198.51.100.228|1804|443|6|27|5|546|1700000067030|1700000067362|Inside|Out\n" }
     ensures without_a_source_label { rows_text (tcp ∷ []) (Some ((None, Some (codes "Out")) ∷ [])) false
         ≡ codes "sip|dip|sport|dport|proto|flags|packets|bytes|stime|etime|src-label|dst-label\n10.0.0.0|198.51.100.228|1804|443|6|27|5|546|1700000067030|1700000067362||Out\n" }
-    ensures without_labels { rows_text (tcp ∷ plain ∷ []) (Some ((None, None) ∷ (Some (codes "Inside"), None) ∷ [])) false
+    ensures without_labels { rows_text (tcp ∷ plain ∷ [])
+        (Some ((None, None) ∷ (Some (codes "Inside"), None) ∷ [])) false
         ≡ codes "sip|dip|sport|dport|proto|flags|packets|bytes|stime|etime|src-label|dst-label\n10.0.0.0|198.51.100.228|1804|443|6|27|5|546|1700000067030|1700000067362||\n10.0.0.1|10.0.0.2|0|0|0|0|0|0|0|0|Inside|\n" }
     ensures no_rows_with_labels { rows_text ([]) (Some ([])) false
         ≡ codes "sip|dip|sport|dport|proto|flags|packets|bytes|stime|etime|src-label|dst-label\n" }
@@ -45,10 +49,13 @@ pub fn columns_are_padded_on_the_left()
         ≡ codes "     sip|     dip|sport|dport|proto|flags|packets|bytes|stime|etime\n10.0.0.1|10.0.0.2|    0|    0|    0|    0|      0|    0|    0|    0\n" }
     ensures rows_of_different_widths { rows true (plain ∷ tcp ∷ [])
         ≡ codes "     sip|           dip|sport|dport|proto|flags|packets|bytes|        stime|        etime\n10.0.0.1|      10.0.0.2|    0|    0|    0|    0|      0|    0|            0|            0\n10.0.0.0|198.51.100.228| 1804|  443|    6|   27|      5|  546|1700000067030|1700000067362\n" }
-    ensures with_labels { rows_text (tcp ∷ plain ∷ []) (Some ((Some (codes "Guest network"), None) ∷ (Some (codes "A"), Some (codes "B")) ∷ [])) true
+    ensures with_labels { rows_text (tcp ∷ plain ∷ [])
+        (Some ((Some (codes "Guest network"), None) ∷ (Some (codes "A"), Some (codes "B")) ∷ [])) true
         ≡ codes "     sip|           dip|sport|dport|proto|flags|packets|bytes|        stime|        etime|    src-label|dst-label\n10.0.0.0|198.51.100.228| 1804|  443|    6|   27|      5|  546|1700000067030|1700000067362|Guest network|         \n10.0.0.1|      10.0.0.2|    0|    0|    0|    0|      0|    0|            0|            0|            A|        B\n" }
-    ensures groups { groups_in true (codes "proto") false unlabelled (tcp ∷ record tcp { protocol = 17; octets = 123456789 } ∷ [])
-        ≡ Ok (codes "proto|records|packets|    bytes\n    6|      1|      5|      546\n   17|      1|      5|123456789\n") }
+    ensures groups { groups_in true (codes "proto") false unlabelled
+        (tcp ∷ record tcp { protocol = 17; octets = 123456789 } ∷ [])
+        ≡ Ok
+        (codes "proto|records|packets|    bytes\n    6|      1|      5|      546\n   17|      1|      5|123456789\n") }
 {}
 
 /// FORMATS.md, "Printed texts", `shrink`: entries are sorted by first address and then by length.
@@ -77,22 +84,50 @@ pub fn info_counts_nine_kinds()
         ≡ codes "messages 0\ntemplates 0\noptions-templates 0\nwithdrawals 0\ndata-sets 0\nskipped-sets 0\nrecords 0\noptions-records 0\nrows 0\n" }
     ensures two_messages { info (([]) ∷ ([]) ∷ [])
         ≡ codes "messages 2\ntemplates 0\noptions-templates 0\nwithdrawals 0\ndata-sets 0\nskipped-sets 0\nrecords 0\noptions-records 0\nrows 0\n" }
-    ensures templates { info ((Templates Flow (Define (record { id = 256; kind = Flow; scope_count = 0; fields = [] }) ∷ Define (record { id = 256; kind = Flow; scope_count = 0; fields = [] }) ∷ []) ∷ []) ∷ [])
+    ensures templates { info
+        ((Templates Flow
+        (Define (record { id = 256; kind = Flow; scope_count = 0; fields = [] })
+        ∷ Define (record { id = 256; kind = Flow; scope_count = 0; fields = [] }) ∷ []) ∷ []) ∷ [])
         ≡ codes "messages 1\ntemplates 2\noptions-templates 0\nwithdrawals 0\ndata-sets 0\nskipped-sets 0\nrecords 0\noptions-records 0\nrows 0\n" }
-    ensures options_templates { info ((Templates Options (Define (record { id = 257; kind = Options; scope_count = 1; fields = [] }) ∷ []) ∷ []) ∷ [])
+    ensures options_templates { info
+        ((Templates Options (Define (record { id = 257; kind = Options; scope_count = 1; fields = [] }) ∷ []) ∷ [])
+        ∷ [])
         ≡ codes "messages 1\ntemplates 0\noptions-templates 1\nwithdrawals 0\ndata-sets 0\nskipped-sets 0\nrecords 0\noptions-records 0\nrows 0\n" }
-    ensures withdrawals { info ((Templates Flow (Withdraw 256 ∷ WithdrawAll Flow ∷ []) ∷ []) ∷ (Templates Options (WithdrawAll Options ∷ []) ∷ []) ∷ [])
+    ensures withdrawals { info
+        ((Templates Flow (Withdraw 256 ∷ WithdrawAll Flow ∷ []) ∷ [])
+        ∷ (Templates Options (WithdrawAll Options ∷ []) ∷ []) ∷ [])
         ≡ codes "messages 2\ntemplates 0\noptions-templates 0\nwithdrawals 3\ndata-sets 0\nskipped-sets 0\nrecords 0\noptions-records 0\nrows 0\n" }
     ensures data_sets { info ((Values Flow ([]) ∷ Values Options ([]) ∷ []) ∷ [])
         ≡ codes "messages 1\ntemplates 0\noptions-templates 0\nwithdrawals 0\ndata-sets 2\nskipped-sets 0\nrecords 0\noptions-records 0\nrows 0\n" }
     ensures skipped_sets { info ((Skipped 4 ∷ Skipped 300 ∷ []) ∷ [])
         ≡ codes "messages 1\ntemplates 0\noptions-templates 0\nwithdrawals 0\ndata-sets 0\nskipped-sets 2\nrecords 0\noptions-records 0\nrows 0\n" }
-    ensures records_with_a_row { info ((Values Flow (record { kind = Flow; fields = value 8 (codes "0a000001") ∷ value 12 (codes "0a000002") ∷ [] } ∷ record { kind = Flow; fields = value 8 (codes "0a000001") ∷ value 12 (codes "0a000002") ∷ [] } ∷ []) ∷ []) ∷ [])
+    ensures records_with_a_row { info
+        ((Values Flow
+        (record { kind = Flow; fields = value 8 (codes "0a000001") ∷ value 12 (codes "0a000002") ∷ [] }
+        ∷ record { kind = Flow; fields = value 8 (codes "0a000001") ∷ value 12 (codes "0a000002") ∷ [] } ∷ []) ∷ [])
+        ∷ [])
         ≡ codes "messages 1\ntemplates 0\noptions-templates 0\nwithdrawals 0\ndata-sets 1\nskipped-sets 0\nrecords 2\noptions-records 0\nrows 2\n" }
-    ensures records_without_a_row { info ((Values Flow (record { kind = Flow; fields = value 4 (codes "06") ∷ [] } ∷ record { kind = Flow; fields = value 8 (codes "0a000001") ∷ value 12 (codes "0a000002") ∷ [] } ∷ []) ∷ []) ∷ [])
+    ensures records_without_a_row { info
+        ((Values Flow
+        (record { kind = Flow; fields = value 4 (codes "06") ∷ [] }
+        ∷ record { kind = Flow; fields = value 8 (codes "0a000001") ∷ value 12 (codes "0a000002") ∷ [] } ∷ []) ∷ [])
+        ∷ [])
         ≡ codes "messages 1\ntemplates 0\noptions-templates 0\nwithdrawals 0\ndata-sets 1\nskipped-sets 0\nrecords 2\noptions-records 0\nrows 1\n" }
-    ensures options_records { info ((Values Options (record { kind = Options; fields = value 8 (codes "0a000001") ∷ value 12 (codes "0a000002") ∷ [] } ∷ record { kind = Options; fields = value 8 (codes "0a000001") ∷ value 12 (codes "0a000002") ∷ [] } ∷ record { kind = Options; fields = value 8 (codes "0a000001") ∷ value 12 (codes "0a000002") ∷ [] } ∷ []) ∷ []) ∷ [])
+    ensures options_records { info
+        ((Values Options
+        (record { kind = Options; fields = value 8 (codes "0a000001") ∷ value 12 (codes "0a000002") ∷ [] }
+        ∷ record { kind = Options; fields = value 8 (codes "0a000001") ∷ value 12 (codes "0a000002") ∷ [] }
+        ∷ record { kind = Options; fields = value 8 (codes "0a000001") ∷ value 12 (codes "0a000002") ∷ [] } ∷ []) ∷ [])
+        ∷ [])
         ≡ codes "messages 1\ntemplates 0\noptions-templates 0\nwithdrawals 0\ndata-sets 1\nskipped-sets 0\nrecords 0\noptions-records 3\nrows 0\n" }
-    ensures of_each_kind { info ((Templates Flow (Define (record { id = 256; kind = Flow; scope_count = 0; fields = [] }) ∷ []) ∷ Values Flow (record { kind = Flow; fields = value 8 (codes "0a000001") ∷ value 12 (codes "0a000002") ∷ [] } ∷ []) ∷ []) ∷ (Templates Options (Define (record { id = 257; kind = Options; scope_count = 1; fields = [] }) ∷ Withdraw 256 ∷ []) ∷ Values Options (record { kind = Options; fields = value 8 (codes "0a000001") ∷ value 12 (codes "0a000002") ∷ [] } ∷ []) ∷ Skipped 256 ∷ []) ∷ [])
+    ensures of_each_kind { info
+        ((Templates Flow (Define (record { id = 256; kind = Flow; scope_count = 0; fields = [] }) ∷ [])
+        ∷ Values Flow
+        (record { kind = Flow; fields = value 8 (codes "0a000001") ∷ value 12 (codes "0a000002") ∷ [] } ∷ []) ∷ [])
+        ∷ (Templates Options
+        (Define (record { id = 257; kind = Options; scope_count = 1; fields = [] }) ∷ Withdraw 256 ∷ [])
+        ∷ Values Options
+        (record { kind = Options; fields = value 8 (codes "0a000001") ∷ value 12 (codes "0a000002") ∷ [] } ∷ [])
+        ∷ Skipped 256 ∷ []) ∷ [])
         ≡ codes "messages 2\ntemplates 1\noptions-templates 1\nwithdrawals 1\ndata-sets 2\nskipped-sets 1\nrecords 1\noptions-records 1\nrows 1\n" }
 {}
