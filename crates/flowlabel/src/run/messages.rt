@@ -22,6 +22,7 @@ fn fault_of(fault: ReadFault) -> OutputFault
     }
 }
 
+#[inline(always)]
 fn next_of<'b, R: Input>(
     reader: &mut R,
     progress: &mut Progress,
