@@ -74,10 +74,10 @@ module _ {R : Type 0} (input : R → InputView) (old : ByFile (Option (Source R)
 
 -- no file is read after the flows
 none_after_flows : (later : Role) → 3 < turn later → ⊥
-none_after_flows role.Map behind = omega (arith, behind)
-none_after_flows role.List behind = omega (arith, behind)
-none_after_flows role.Certificate behind = omega (arith, behind)
-none_after_flows role.Flows behind = omega (arith, behind)
+none_after_flows role.Map later = omega (arith, later)
+none_after_flows role.List later = omega (arith, later)
+none_after_flows role.Certificate later = omega (arith, later)
+none_after_flows role.Flows later = omega (arith, later)
 
 -- a report under labels that are read
 source_stays : (texts : ByFile Text) (bytes : List ℕ) (labels : Option LabelFile)
@@ -96,8 +96,8 @@ labels_then text (Some (FromList list)) labels flows outcome (l, reads, same) is
 pub then_first : {F A : Type 0} (in_file : F → BytesFault) (rest : A → Outcome → Type 0) (n : ℕ) (reading : Result A F) (fault : BytesFault)
     → ((own : F) → n ≤ turn (role_of (in_file own))) → ((value : A) → rest value (Err fault) → n ≤ turn (role_of fault))
     → Then in_file rest reading (Err fault) → n ≤ turn (role_of fault)
-then_first in_file rest n (Ok value) fault least behind is = behind value is
-then_first in_file rest n (Err own) fault least behind is =
+then_first in_file rest n (Ok value) fault least follows is = follows value is
+then_first in_file rest n (Err own) fault least follows is =
     let same : fault ≡ in_file own = cc in subst (λ (f : BytesFault). n ≤ turn (role_of f)) (sym same) (least own)
 
 pub list_first : (rest : ListModel → Outcome → Type 0) (text : List ℕ) (fault : BytesFault)
@@ -134,9 +134,9 @@ early (Prefixes file) = omega arith
 pub labels_first : (rest : Labelling → Outcome → Type 0) (file : LabelFile) (texts : ByFile Text) (fault : BytesFault)
     → ((labels : Labelling) → rest labels (Err fault) → 1 ≤ turn (role_of fault)) → LabelsThen rest (source_with texts file) (Err fault)
     → turn (role_in file) ≤ turn (role_of fault)
-labels_first rest (Map file) texts fault behind is = omega arith
-labels_first rest (Prefixes file) texts fault behind is =
-    list_first (λ l. rest (labelling_of_list l)) texts.list fault (λ l. behind (labelling_of_list l)) is
+labels_first rest (Map file) texts fault follows is = omega arith
+labels_first rest (Prefixes file) texts fault follows is =
+    list_first (λ l. rest (labelling_of_list l)) texts.list fault (λ l. follows (labelling_of_list l)) is
 
 -- the outcomes of a report over the texts of its files
 abbrev ReportsOver : (Option Labelling → List MessageView → List ℕ) → Option LabelFile → ByFile Text → Outcome → Type 0
@@ -232,11 +232,6 @@ module _ {R : Type 0} (input : R → InputView) where
         subst (λ (f : Option (Source R)). ReadsInput (view_of input (at o old)) (view_of input f) (λ _. ⊤)) (sym (ap (at o) is ∙ still)) ([], gives_none _, tt)
   ]
 
-  -- an allocation failed, and no reader
-  pub memory_made : (Is : ByFile Text → Outcome → Type 0) (old new : ByFile (Option (Source R))) (result : Result (Vec ℕ) OutputFault)
-      → IsErrAnd result (λ fault. fault ≡ NoMemory) → any_failed input new ≡ false → AreReadOn input old new → IsMade input Is old new result
-  memory_made Is old new result is none read = handed_on (IsMade input Is old new) result NoMemory is (record { made = none; read = read })
-
 module _ {R : Type 0} {input : R → InputView} where
   module _ {old : ByFile (Option (Source R))} (none : any_failed input old ≡ false) where
     read_tells : {r : Role} {new : ByFile (Option (Source R))} {result : Result (Vec ℕ) OutputFault} → IsReadOf input r old new result
@@ -288,9 +283,9 @@ module _ {R : Type 0} {input : R → InputView} where
     whole Is r new text (Err (Unread other)) fresh first got returns = absurd (returns (with_at r text.items blank) (at_same r text.items blank))
     whole Is r new text (Err (Faulty fault)) fresh first got returns = (
       λ texts given. returns texts (text_of_read new r fresh got refl texts given),
-      λ later behind.
+      λ later follows.
           let least : turn r ≤ turn (role_of fault) = first _ fault (returns (with_at r text.items blank) (at_same r text.items blank)) in
-          later_untouched old new r (at r new) got.others later (omega (arith, least, behind)),
+          later_untouched old new r (at r new) got.others later (omega (arith, least, follows)),
       read_tells got,
     )
 
@@ -321,7 +316,7 @@ module _ {R : Type 0} {input : R → InputView} where
       then_made new (Err (Unread p)) is later kept =
           let after : turn r + 1 ≤ turn p = later p refl in (
             is.0,
-            λ o behind. is.1 o behind ∙ later_untouched old mid r (at r mid) got.others o (omega (arith, after, behind)),
+            λ o follows. is.1 o follows ∙ later_untouched old mid r (at r mid) got.others o (omega (arith, after, follows)),
             λ texts given fault has. is.2 texts given fault (back texts (Err fault) (text_of_read new r fresh got kept texts given) has),
             is.3,
           )
@@ -329,7 +324,7 @@ module _ {R : Type 0} {input : R → InputView} where
           let has : (texts : ByFile Text) → AreTexts input new texts → Is texts (Err fault) =
           λ texts given. there texts (Err fault) (text_of_read new r fresh got kept texts given) (is.0 texts given) in
           let least : turn r ≤ turn (role_of fault) = first _ fault (has (each (λ file. (view_of input file).returned) new) (read_so_far input new)) in
-          (has, λ o behind. is.1 o behind ∙ later_untouched old mid r (at r mid) got.others o (omega (arith, least, behind)), is.2)
+          (has, λ o follows. is.1 o follows ∙ later_untouched old mid r (at r mid) got.others o (omega (arith, least, follows)), is.2)
 
       pub then_from : {new : ByFile (Option (Source R))} {result : Result (Vec ℕ) OutputFault}
           → (any_failed input mid ≡ false → AreUnreadFrom input (turn r + 1) mid → MadeFrom input (turn r + 1) Is' mid new result)
@@ -412,7 +407,7 @@ module _ {R : Type 0} (input : R → InputView) {old mid : ByFile (Option (Sourc
   report_stopped (Unread other) bytes returns (named_flows, stop, stops) works =
       subst (λ (p : Role). IsFaultOf input (ReportsOver text named) old (with_at role.Flows flows mid) (Unread p)) (sym named_flows) (
         works,
-        λ later behind. absurd (none_after_flows later behind),
+        λ later follows. absurd (none_after_flows later follows),
         λ texts given fault is. flows_last text (option_map (source_with texts) named) (labelling_read found) texts.flows fault (reads_then texts given) is,
         λ is. (stop, subst (λ (l : List ℕ). StopsReading l stop) (sym (all_read fresh returns)) stops),
       )
@@ -421,7 +416,7 @@ module _ {R : Type 0} (input : R → InputView) {old mid : ByFile (Option (Sourc
         let (rest, follows, all) = given role.Flows in
         over texts (bytes ++ rest) (Err (InFlows fault)) given (all ∙ ap (λ (l : List ℕ). l ++ rest) (all_read fresh returns))
         (rw (has rest follows) refl),
-    λ later behind. absurd (none_after_flows later behind),
+    λ later follows. absurd (none_after_flows later follows),
     works_then ∙ works,
   )
   report_stopped (Faulty fault) bytes returns is works = absurd is

@@ -46,5 +46,5 @@ module _ {R O E : Type 0} (answers : Text → Option R → Type 0) (input : R �
     pub between : O
     pub ends : MatchResult words (λ list. IsEndOf answers input output list out between outcome)
         (λ kind. (outcome ≡ Err (Usage (words_fault_of kind))) × (between ≡ out))
-    pub told : IsReported output error outcome between out' err err'
+    pub reported : IsReported output error outcome between out' err err'
     pub status : code ≡ exit_status_of outcome

@@ -23,8 +23,7 @@ pub fn end<O: Output, E: Output>(
     requires output { (text : String Global) → outcome.now ≡ Err (Usage (usage.Help text)) → (O.output output.old).failed ≡ false }
     requires error { (E.output error.old).failed ≡ false }
     ensures status { result ≡ exit_status_of outcome.now }
-    ensures told { IsReported O.output E.output outcome.now output.old output.new
-        error.old error.new }
+    ensures reported { IsReported O.output E.output outcome.now output.old output.new error.old error.new }
 {
     let _ = match outcome {
         Ok(()) => Ok(()),

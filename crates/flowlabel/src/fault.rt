@@ -90,10 +90,10 @@ fn usage_line(alloc: Global, fault: &UsageFault) -> Result<String, AllocError>
     }
 }
 
-fn position_line(alloc: Global, file: &str, name: &str, place: u64) -> Result<String, AllocError>
-    ensures { IfOk result (λ line. string_bytes line ≡ position_text file.now name.now place) }
+fn position_line(alloc: Global, file: &str, name: &str, position: u64) -> Result<String, AllocError>
+    ensures { IfOk result (λ line. string_bytes line ≡ position_text file.now name.now position) }
 {
-    format!(in alloc; "flowlabel: {file}: {name} at {place}\n")
+    format!(in alloc; "flowlabel: {file}: {name} at {position}\n")
 }
 
 fn line_of(alloc: Global, fault: &RunFault<'_>) -> Result<String, AllocError>

@@ -13,6 +13,6 @@ returns g c = record {
     | in-Ok+in-Err-listed w ↦ rw (w.in-Ok.is, w.outcome-is, w.output-is) (tt, refl)
     | in-Err w ↦ rw (w.in-Err.is, w.outcome-is, w.output-is) (ap (λ (fault : UsageFault). Err (Usage fault)) w.words_fault.ensures, refl)
   ];
-  told = c.end.ensures.told;
+  reported = c.end.ensures.reported;
   status = c.end.ensures.status;
 }

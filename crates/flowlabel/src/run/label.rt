@@ -28,7 +28,7 @@ fn line_by<L: Labeller>(alloc: Global, labels: &L, addr: Addr) -> Result<Vec<u8>
         ≡ label_text (addr.version, addr.value) (labelling (L.version_of labels.now) (L.label labels.now))) }
 {
     match convert(addr, labels.version()) {
-        Some(place) => line(alloc, labels.label_of(place)),
+        Some(value) => line(alloc, labels.label_of(value)),
         None => line(alloc, None),
     }
 }

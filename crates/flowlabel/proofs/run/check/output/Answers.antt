@@ -37,13 +37,13 @@ not_checked None count fault is = cc
 not_checked (Some own) count (InCheck fault) is = omega arith
 not_checked (Some own) count fault is = cc
 
-certificate_behind : (m : MapModel) (l : ListModel) (texts : ByFile Text) (fault : BytesFault) → OverCertificate m l texts (Err fault) → 2 ≤ turn (role_of fault)
-certificate_behind m l texts fault =
+certificate_follows : (m : MapModel) (l : ListModel) (texts : ByFile Text) (fault : BytesFault) → OverCertificate m l texts (Err fault) → 2 ≤ turn (role_of fault)
+certificate_follows m l texts fault =
     then_first InCertificate (Checks m l) 2 (format_reading texts.certificate) fault (λ own. omega arith)
     (λ c. not_checked (first_fault m l c) (length l.prefixes) fault)
 
-list_behind : (m : MapModel) (texts : ByFile Text) (fault : BytesFault) → OverList m texts (Err fault) → 1 ≤ turn (role_of fault)
-list_behind m texts fault = list_first (λ l. OverCertificate m l texts) texts.list fault (λ l is. omega (arith, certificate_behind m l texts fault is))
+list_follows : (m : MapModel) (texts : ByFile Text) (fault : BytesFault) → OverList m texts (Err fault) → 1 ≤ turn (role_of fault)
+list_follows m texts fault = list_first (λ l. OverCertificate m l texts) texts.list fault (λ l is. omega (arith, certificate_follows m l texts fault is))
 
 -- what is made once the map is read, and once the list is; a result that passes on the fault of a step
 module _ {R : Type 0} {input : R → InputView} {old mid new : ByFile (Option (Source R))} (none : any_failed input old ≡ false) {text : Vec ℕ}
@@ -56,7 +56,7 @@ module _ {R : Type 0} {input : R → InputView} {old mid new : ByFile (Option (S
   from_list : (l : ListModel) → AreUnreadFrom input 1 old → IsReadOf input role.List old mid (Ok text) → list_reading text.items ≡ Ok l
       → (any_failed input mid ≡ false → AreUnreadFrom input 2 mid → MadeFrom input 2 (OverCertificate m l) mid new result) → MadeFrom input 1 (OverList m) old new result
   from_list l fresh read reads =
-      then_from none (OverList m) (OverCertificate m l) role.List fresh (list_behind m) read (λ texts outcome same is. rw (same, reads) is) (λ texts outcome same is. rw (same, reads) at is)
+      then_from none (OverList m) (OverCertificate m l) role.List fresh (list_follows m) read (λ texts outcome same is. rw (same, reads) is) (λ texts outcome same is. rw (same, reads) at is)
 
 handed : {R : Type 0} {input : R → InputView} {old new : ByFile (Option (Source R))} {fault : OutputFault} (result : Result (Vec ℕ) OutputFault)
     → IsErrAnd result (λ other. other ≡ fault) → MadeFrom input 0 OverMap old new (Err fault) → IsMade input OverMap old new result
@@ -80,7 +80,7 @@ returns-in_err-text-2 g c =
     let m = map_of c.in_ok-map.map in
     handed c.from_residual-in_err-text-2.result c.from_residual-in_err-text-2.ensures.1
     (from_map c.requires.works m (λ q _. c.requires.unread q) c.in_ok-text.ensures c.in_ok-map.ensures (λ none fresh.
-    unread_from none (OverList m) role.List (omega arith) (list_behind m) c.in_err-text-2.ensures))
+    unread_from none (OverList m) role.List (omega arith) (list_follows m) c.in_err-text-2.ensures))
 
 pub returns-in_err-list : goal.returns-in_err-list
 returns-in_err-list g c =
@@ -88,7 +88,7 @@ returns-in_err-list g c =
     let m = map_of c.in_ok-map.map in
     handed c.from_residual-in_err-list.result c.from_residual-in_err-list.ensures.1
     (from_map c.requires.works m (λ q _. c.requires.unread q) c.in_ok-text.ensures c.in_ok-map.ensures (λ none fresh.
-    whole_from none (OverList m) role.List (Err fault) fresh (list_behind m) c.in_ok-text-2.ensures
+    whole_from none (OverList m) role.List (Err fault) fresh (list_follows m) c.in_ok-text-2.ensures
     (λ texts same. subst (λ (t : List ℕ). Returns (ListThen (λ l. OverCertificate m l texts) t) (Err fault)) (sym same)
     (fault_returned InList list_of (λ l. OverCertificate m l texts) (list_reading c.in_ok-text-2.text.items) fault c.in_err-list.ensures))))
 
@@ -98,7 +98,7 @@ returns-in_err-text-3 g c =
     let l = list_of c.in_ok-list.list in
     handed c.from_residual-in_err-text-3.result c.from_residual-in_err-text-3.ensures.1
     (from_map c.requires.works m (λ q _. c.requires.unread q) c.in_ok-text.ensures c.in_ok-map.ensures (λ none fresh. from_list none m l fresh c.in_ok-text-2.ensures c.in_ok-list.ensures (λ none' fresh'.
-    unread_from none' (OverCertificate m l) role.Certificate (omega arith) (certificate_behind m l) c.in_err-text-3.ensures)))
+    unread_from none' (OverCertificate m l) role.Certificate (omega arith) (certificate_follows m l) c.in_err-text-3.ensures)))
 
 pub returns : goal.returns
 returns g c =
@@ -106,5 +106,5 @@ returns g c =
     let l = list_of c.in_ok-list.list in
     let returned = subst (λ (t : List ℕ). Returns (CertificateThen (Checks m l) t) c.checked.result) c.as_slice.ensures.value c.checked.ensures in
     (from_map c.requires.works m (λ q _. c.requires.unread q) c.in_ok-text.ensures c.in_ok-map.ensures (λ none fresh. from_list none m l fresh c.in_ok-text-2.ensures c.in_ok-list.ensures (λ none' fresh'.
-    whole_from none' (OverCertificate m l) role.Certificate c.checked.result fresh' (certificate_behind m l) c.in_ok-text-3.ensures
+    whole_from none' (OverCertificate m l) role.Certificate c.checked.result fresh' (certificate_follows m l) c.in_ok-text-3.ensures
     (λ texts same. subst (λ (t : List ℕ). Returns (CertificateThen (Checks m l) t) c.checked.result) (sym same) returned)))).made
