@@ -76,7 +76,8 @@ fn number_of(option: FilterOption, row: &Row<'_>) -> u128
 // Returns `true` if the address has this label.
 fn has_label<L: Labeller>(label: &str, labeller: Option<&L>, addr: Addr) -> bool
     ensures { result ≡ option_eq bytes_eq
-        (label_where (labelling_borrowed L.version_of L.label labeller.entry) (addr.version, addr.value)) (Some label.now) }
+        (label_where (labelling_borrowed L.version_of L.label labeller.entry) (addr.version, addr.value))
+        (Some label.now) }
 {
     label_row_under(labeller, addr) == Some(label.as_bytes())
 }
@@ -88,7 +89,8 @@ fn add_part<'a>(
     text: &'a str,
     parts: &mut Vec<Part<'a>>,
 ) -> Result<(), FilterFaultKind>
-    ensures ok { OnOk result ((parts.new.items ≡ parts.old.items ++ (option, text.entry.now) ∷ []) × (is_malformed (option, text.entry.now) ≡ false)) }
+    ensures ok { OnOk result ((parts.new.items ≡ parts.old.items ++ (option, text.entry.now) ∷ [])
+        × (is_malformed (option, text.entry.now) ≡ false)) }
     ensures err { IfErr result (IsRefused (option, text.entry.now)) }
 {
     let ranges = read_ranges(alloc, option, text.as_bytes())?;
@@ -104,7 +106,8 @@ impl<'a> Part<'a> {
     // Whether the row meets the condition that the option states. Without a labeller no address has a label.
     #[inline(never)]
     fn meets<L: Labeller>(&self, row: &Row<'_>, labeller: Option<&L>) -> bool
-        ensures { result ≡ meets (label_where (labelling_borrowed L.version_of L.label labeller.entry)) row.now self.now }
+        ensures { result
+            ≡ meets (label_where (labelling_borrowed L.version_of L.label labeller.entry)) row.now self.now }
     {
         if self.option.is_on_labels() {
             return self.meets_label(row, labeller);
@@ -117,7 +120,8 @@ impl<'a> Part<'a> {
     #[inline(never)]
     fn meets_label<L: Labeller>(&self, row: &Row<'_>, labeller: Option<&L>) -> bool
         requires { is_on_labels self.now.0 ≡ true }
-        ensures { result ≡ meets (label_where (labelling_borrowed L.version_of L.label labeller.entry)) row.now self.now }
+        ensures { result
+            ≡ meets (label_where (labelling_borrowed L.version_of L.label labeller.entry)) row.now self.now }
     {
         match self.option {
             FilterOption::SourceLabel => has_label(self.text, labeller, row.src()),

@@ -49,7 +49,8 @@ pub fn mapped_number(addr: Addr) -> u128
 // Reads an item of an address list, and returns the numbers of its addresses. The item is a block if there is a `/`,
 // otherwise an address, which is a block of full length.
 fn read_addresses(text: &[u8]) -> Option<Range>
-    ensures { (address : RowView → ℕ) → option_map (λ range label row. in_range (mapped_number (row.version, address row)) range) result
+    ensures { (address : RowView → ℕ)
+        → option_map (λ range label row. in_range (mapped_number (row.version, address row)) range) result
         ≡ by_address address (address_item text.now) }
 {
     let block = if text.contains(&b'/') {
@@ -67,7 +68,8 @@ fn read_addresses(text: &[u8]) -> Option<Range>
 // Reads an item of an option that isn't on labels.
 fn read_item(option: FilterOption, item: &[u8]) -> Result<Range, FilterFaultKind>
     requires { is_on_labels option ≡ false }
-    ensures { result_map_both (by_range option) (λ kind. kind) result ≡ ok_or (item_test option item.now) (kind_of option) }
+    ensures { result_map_both (by_range option) (λ kind. kind) result
+        ≡ ok_or (item_test option item.now) (kind_of option) }
 {
     match option {
         FilterOption::Protocol => {

@@ -9,7 +9,8 @@ ghost use Rattle.flow_filter.specs.Laws.{rows_left};
 /// those that pass one filter and then the other.
 pub fn options_hold_together()
     ensures each { (condition : Condition) (labels : Option Labelling) (row : RowView) →
-        IsTrue (row_passes condition (label_where labels) row) → All (λ part. IsTrue (meets (label_where labels) row part)) condition }
+        IsTrue (row_passes condition (label_where labels) row) →
+        All (λ part. IsTrue (meets (label_where labels) row part)) condition }
     ensures all { (condition : Condition) (labels : Option Labelling) (row : RowView) →
         All (λ part. IsTrue (meets (label_where labels) row part)) condition →
         IsTrue (row_passes condition (label_where labels) row) }

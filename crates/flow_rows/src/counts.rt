@@ -26,8 +26,8 @@ pub struct Counts {
     pub options_records: u64,
     /// Rows of the records. Each record has none, one or two.
     pub rows: u64,
-    ghost bounded: { templates + options_templates + withdrawals + data_sets + skipped_sets + records + options_records + rows
-        ≤ 589815 * messages },
+    ghost bounded: { templates + options_templates + withdrawals + data_sets + skipped_sets + records + options_records
+        + rows ≤ 589815 * messages },
 }
 
 impl Counts {
@@ -92,8 +92,8 @@ impl Counts {
             .count() as u64
     }
 
-    // Returns the number of rows of the records. Whether they have first rows follows from the kind and the fields. If a
-    // field counts packets in the reverse direction, each record is examined for a second row.
+    // Returns the number of rows of the records. Whether they have first rows follows from the kind and the fields. If
+    // a field counts packets in the reverse direction, each record is examined for a second row.
     fn row_count(records: &RecordList<'_>) -> u64
         requires { length records.now < 2 ^ 63 }
         ensures value { result ≡ length (flat_map rows_of_record records.now) }

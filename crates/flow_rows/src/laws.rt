@@ -7,7 +7,8 @@ ghost use Rattle.flow_rows.specs.Laws.{summed_counts, sums};
 /// The counts of messages are the sums of those of the first messages and of the others, and so of those of each
 /// message. The rows of messages are those of the first messages followed by those of the others.
 pub fn counts_add_up()
-    ensures counts { (front back : List MessageView) → counts_of (front ++ back) ≡ sums (counts_of front) (counts_of back) }
+    ensures counts { (front back : List MessageView)
+        → counts_of (front ++ back) ≡ sums (counts_of front) (counts_of back) }
     ensures each { (messages : List MessageView) → counts_of messages ≡ summed_counts messages }
     ensures rows { (front back : List MessageView) →
         rows_of_messages (front ++ back) ≡ rows_of_messages front ++ rows_of_messages back }

@@ -41,7 +41,8 @@ fn gather<'b, R: Input>(
 ) -> Result<Option<&'b [u8]>, ReadFaultKind>
     requires { length buffer.old ≡ 65535 }
     ensures gathers { ReadsInput (R.input reader.old) (R.input reader.new)
-        (Gathers count (result_map_both (option_map (λ bytes. bytes.now)) (λ kind. kind) result) (has_ended (R.input reader.new))) }
+        (Gathers count (result_map_both (option_map (λ bytes. bytes.now)) (λ kind. kind) result)
+        (has_ended (R.input reader.new))) }
     ensures whole { IfOk result (λ next. IfSome next (λ bytes. HasHeader bytes.now)) }
     ensures counted { IfOk result (λ next. OnSome next (count < 4294967295)) }
     ensures device { (R.input reader.old).failed ≡ false → MatchResult result
@@ -205,7 +206,8 @@ impl<'r, R: Input> Messages<'r, R, Progress, Buffer> {
     /// The errors are those of `Progress::next`.
     pub fn next_message(&mut self) -> Result<Option<Message<'_>>, ReadFault>
         ensures going { self.old.progress.state ≡ Going → (new : ProgressView) × (then : InputView)
-            × ReadsInput (R.input self.old.reader.now) then (AnswersNext self.old.progress result new (has_ended then)) }
+            × ReadsInput (R.input self.old.reader.now) then
+            (AnswersNext self.old.progress result new (has_ended then)) }
         ensures ended { self.old.progress.state ≡ Ended → result ≡ Ok None }
         ensures failed { self.old.progress.state ≡ Failed → result ≡ Err failed_before }
     {

@@ -129,7 +129,8 @@ pub fn read_variable(bytes: &[u8]) -> Option<(&[u8], &[u8])>
 /// values are not complete. The fixed lengths between variable fields are skipped together, so each step but the last
 /// takes at least one byte.
 pub fn skip_values<'a>(fields: &Fields, bytes: &'a [u8]) -> Option<&'a [u8]>
-    ensures { option_map (λ rest. (whole_values fields.now bytes.now, rest.now)) result ≡ values_at fields.now bytes.now }
+    ensures { option_map (λ rest. (whole_values fields.now bytes.now, rest.now)) result
+        ≡ values_at fields.now bytes.now }
 {
     let mut rest = bytes;
     for run in fields.runs() {

@@ -43,8 +43,8 @@ fn read_field(bytes: &[u8]) -> Option<(Field, &[u8])>
     Some((field, rest))
 }
 
-// Reads `count` field specifiers from the start of the bytes, and returns them with the bytes after them. Returns `None`
-// if the input is too short.
+// Reads `count` field specifiers from the start of the bytes, and returns them with the bytes after them. Returns
+// `None` if the input is too short.
 fn read_fields(
     alloc: Global,
     count: u16,

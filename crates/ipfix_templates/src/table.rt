@@ -49,7 +49,8 @@ impl TemplateTable {
         domain: u32,
         template: Template,
     ) -> Result<(), AllocError>
-        ensures ok { OnOk result (stored domains.new ≡ changed_at (stored domains.old) domain template.id (Some template)) }
+        ensures ok { OnOk result (stored domains.new
+            ≡ changed_at (stored domains.old) domain template.id (Some template)) }
         ensures err { OnErr result (stored domains.new ≡ stored domains.old) }
     {
         let templates = domains.entry(domain)?.or_insert(BTreeMap::new(alloc));

@@ -5,8 +5,8 @@ use crate::fields::Fields;
 use crate::kind::Kind;
 use std::marker::Model;
 
-/// A template (RFC 7011 section 3.4). Its ID is at least 256, and it has at least one field. A flow template has no scope
-/// fields. An options template has at least one.
+/// A template (RFC 7011 section 3.4). Its ID is at least 256, and it has at least one field. A flow template has no
+/// scope fields. An options template has at least one.
 #[derive(Clone, Drop)]
 pub struct Template {
     /// The template ID.
