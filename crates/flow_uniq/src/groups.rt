@@ -8,6 +8,7 @@ ghost use Rattle.flow_uniq.specs.Inner.{HasRow, IsKept, group_model, kept_groups
 use crate::codec::{Code, Key, compare_keys, write_key};
 use crate::field::KeyField;
 use crate::keys::Keys;
+use crate::recent::{Recent, mixed};
 use flow_rows::Row;
 use indexmap::IndexMap;
 use label_lookup::Labeller;
@@ -17,9 +18,6 @@ use std::marker::Model;
 
 // The totals of groups by their keys.
 type Entries = IndexMap<Code, Totals, KeyHashing>;
-
-// How many groups are remembered.
-const RECENT: usize = 4096;
 
 /// The totals of the rows of a group.
 #[derive(Clone, Copy, Default)]
@@ -67,8 +65,7 @@ pub struct Groups {
     totals: Entries,
     // The bytes of the key of the last row.
     key: Vec<u8>,
-    // The indices of the groups of recent rows, by the last bytes of their keys: guesses, which are checked before use.
-    recent: [usize; RECENT],
+    recent: Recent,
 }
 
 impl Model for Groups {
@@ -84,25 +81,17 @@ impl Model for Groups {
     ghost invariant = { λ g. All (IsKept (length g.fields.items)) g.totals.entries };
 }
 
-// Returns the index in `recent` for a key with these bytes. The last byte of a label's code is always 0.
+// Adds a row to the group at a guessed index if the group's key has these bytes. Returns whether it has.
 #[inline(always)]
-fn recent_index(key: &[u8]) -> usize
-    ensures { result < 4096 }
-{
-    match key {
-        [.., a, b, c] => (usize::from(*a) * 961 + usize::from(*b) * 31 + usize::from(*c)) % RECENT,
-        _ => 0,
-    }
-}
-
-// Adds a row to the group at an index if the group's key has these bytes. Returns whether it has.
-#[inline(always)]
-fn add_at(totals: &mut Entries, index: usize, key: &[u8], row: &Row<'_>) -> bool
+fn add_at(totals: &mut Entries, guess: Option<usize>, key: &[u8], row: &Row<'_>) -> bool
     requires { (count : ℕ) × All (IsKept count) totals.old.entries
         × (record_count (kept_groups totals.old.entries) < 2 ^ 64 - 1) }
     ensures added { IsTrue result → HasRow (key_in key.now) row.now totals.old.entries totals.new.entries }
     ensures other { result ≡ false → totals.new ≡ totals.old }
 {
+    let Some(index) = guess else {
+        return false;
+    };
     let Some((code, _)) = totals.get_index(index) else {
         return false;
     };
@@ -120,7 +109,7 @@ fn add_at(totals: &mut Entries, index: usize, key: &[u8], row: &Row<'_>) -> bool
 // groups are unchanged.
 fn add_row(
     totals: &mut Entries,
-    recent: &mut [usize; RECENT],
+    recent: &mut Recent,
     alloc: Global,
     key: &[u8],
     row: &Row<'_>,
@@ -131,13 +120,13 @@ fn add_row(
     ensures ok { OnOk result (HasRow (key_in key.now) row.now totals.old.entries totals.new.entries) }
     ensures err { OnErr result (totals.new.entries ≡ totals.old.entries) }
 {
-    let slot = recent_index(key);
-    if add_at(totals, recent[slot], key, row) {
+    let mixed = mixed(key);
+    if add_at(totals, recent.guess(mixed), key, row) {
         return Ok(());
     }
     let code = Code::new(alloc, key)?;
     let entry = totals.entry(code)?;
-    recent[slot] = entry.index();
+    recent.remember(mixed, entry.index());
     entry.or_insert(Totals::default()).add(row);
     Ok(())
 }
@@ -177,7 +166,7 @@ impl Groups {
             fields: Vec::from_slice(alloc, keys.fields())?,
             totals: IndexMap::with_hasher(alloc, hashing),
             key: Vec::new(alloc),
-            recent: [0; RECENT],
+            recent: Recent::new(),
         })
     }
 

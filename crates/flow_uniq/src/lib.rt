@@ -24,6 +24,7 @@ mod field;
 mod groups;
 mod keys;
 mod laws;
+mod recent;
 
 pub use codec::{Key, KeyPart, equal_codes_are_equal_keys};
 pub use fault::KeyFault;

@@ -8,29 +8,29 @@ use Rattle.flow_uniq.proofs.groups.add_at.Goals as goal
 pub add-requires-clause-bounded : goal.add-requires-clause-bounded
 add-requires-clause-bounded c =
     let value =
-    value_at c.args.totals.now.entries c.args.index _ _ c.in-Some-get_index_mut.found.now
-    (sym c.get_index.ensures.entry ∙ ap (option_map deref_pair) c.in-Some.is) c.in-Some-get_index_mut.ensures.value in
-    subst IsBounded (ap (λ o. unwrap_or o none) c.in-Some.ensures.value ∙ sym value)
-    (found c.requires.0 (same_code c.in-Some.code.now) c.args.totals.now.entries c.requires.1).0
+    value_at c.args.totals.now.entries c.in-Some.index _ _ c.in-Some-get_index_mut.found.now
+    (sym c.get_index.ensures.entry ∙ ap (option_map deref_pair) c.in-Some-get_index.is) c.in-Some-get_index_mut.ensures.value in
+    subst IsBounded (ap (λ o. unwrap_or o none) c.in-Some-get_index.ensures.value ∙ sym value)
+    (found c.requires.0 (same_code c.in-Some-get_index.code.now) c.args.totals.now.entries c.requires.1).0
 
 pub add-requires-clause-few : goal.add-requires-clause-few
 add-requires-clause-few c =
     let value =
-    value_at c.args.totals.now.entries c.args.index _ _ c.in-Some-get_index_mut.found.now
-    (sym c.get_index.ensures.entry ∙ ap (option_map deref_pair) c.in-Some.is) c.in-Some-get_index_mut.ensures.value in
+    value_at c.args.totals.now.entries c.in-Some.index _ _ c.in-Some-get_index_mut.found.now
+    (sym c.get_index.ensures.entry ∙ ap (option_map deref_pair) c.in-Some-get_index.is) c.in-Some-get_index_mut.ensures.value in
     omega (
       arith,
-      (found c.requires.0 (same_code c.in-Some.code.now) c.args.totals.now.entries c.requires.1).1,
-      ap (λ t. t.records) (ap (λ o. unwrap_or o none) c.in-Some.ensures.value ∙ sym value),
+      (found c.requires.0 (same_code c.in-Some-get_index.code.now) c.args.totals.now.entries c.requires.1).1,
+      ap (λ t. t.records) (ap (λ o. unwrap_or o none) c.in-Some-get_index.ensures.value ∙ sym value),
       c.requires.2,
     )
 
 pub returns-clause-added : goal.returns-clause-added
 returns-clause-added c =
-    let at = sym c.get_index.ensures.entry ∙ ap (option_map deref_pair) c.in-Some.is in
-    let value = value_at c.args.totals.now.entries c.args.index _ _ c.in-Some-get_index_mut.found.now at c.in-Some-get_index_mut.ensures.value in
+    let at = sym c.get_index.ensures.entry ∙ ap (option_map deref_pair) c.in-Some-get_index.is in
+    let value = value_at c.args.totals.now.entries c.in-Some.index _ _ c.in-Some-get_index_mut.found.now at c.in-Some-get_index_mut.ensures.value in
     λ _.
-    row_at c.in-Some.code.now (key_in c.args.key.now) c.args.row.now c.args.totals.now.entries _ _ c.add.new.self
+    row_at c.in-Some-get_index.code.now (key_in c.args.key.now) c.args.row.now c.args.totals.now.entries _ _ c.add.new.self
     c.get_index_mut.ensures.unique (c.has_bytes.ensures.known c.if-not-has_bytes.false)
-    (c.add.ensures.value ∙ ap (λ t. with_row t c.args.row.now) value) c.add.ensures.packets c.add.ensures.octets c.args.index at
-    c.in-Some.ensures.value (search rules)
+    (c.add.ensures.value ∙ ap (λ t. with_row t c.args.row.now) value) c.add.ensures.packets c.add.ensures.octets c.in-Some.index at
+    c.in-Some-get_index.ensures.value (search rules)
