@@ -3,15 +3,43 @@ ghost use Rattle.pmap_text.specs.Label.{is_label, has_label, number_of, with_lab
 
 use crate::hashing::KeyHashing;
 use crate::label::LabelId;
-use indexmap::IndexSet;
+use indexmap::{Equivalent, IndexSet};
+use smallvec::SmallVec;
 use std::alloc::{AllocError, Global};
 use std::marker::Model;
+
+// A text of a table. Most texts are short, and are stored inline.
+type Text = SmallVec<u8, 16>;
+
+// A text that is looked up.
+#[derive(Clone, Copy, PartialEq, Eq, Hash)]
+struct Sought<'a> {
+    bytes: &'a [u8],
+}
+
+impl Equivalent<Text> for Sought<'_> {
+    ghost use Rattle.std.specs.Prelude.{ℕ, List};
+    ghost use Rattle.std.specs.Cmp.Lexicographic.{bytes_decides, nat_list_eq_equiv};
+    ghost use Rattle.std.specs.Hash.{slice, u8};
+    ghost use Rattle.std.specs.Str.{bytes_eq};
+    ghost use Rattle.std.proofs.Common.{ap};
+
+    ghost equivalent = { λ q k. bytes_eq q.bytes.now k.items };
+
+    ghost respects_hash = { λ q k h. ap (slice u8) ((bytes_decides q.bytes.now k.items).0 h) };
+
+    ghost respects_eq = { λ q x y. nat_list_eq_equiv.congr q.bytes.now x.items y.items };
+
+    fn equivalent(&self, key: &Text) -> bool {
+        self.bytes == key.as_slice()
+    }
+}
 
 /// A table of distinct label texts. The number of a text is its index, from 0 in the order in which the texts were
 /// added.
 pub struct Labels {
     alloc: Global,
-    texts: IndexSet<Vec<u8>, KeyHashing>,
+    texts: IndexSet<Text, KeyHashing>,
 }
 
 // A drop is one call, so the proofs of functions that drop this type have one step instead of one for each part.
@@ -77,7 +105,7 @@ impl Labels {
         ensures text { IfSome result (λ id. slice_get self.now id.0 ≡ Some text.now) }
         ensures label { IfSome result (λ id. IsTrue (is_label text.now)) }
     {
-        Some(LabelId(self.texts.get_index_of(text)? as u32))
+        Some(LabelId(self.texts.get_index_of(Sought { bytes: text })? as u32))
     }
 
     /// Returns `true` if the text is in the table.
@@ -109,10 +137,25 @@ impl Labels {
         ensures known { IsTrue (has_label self.old text.now) → IsOk result }
         ensures err { OnErr result (self.new ≡ self.old) }
     {
-        if let Some(id) = self.id_of(text) {
-            return Ok(id);
+        match self.id_of(text) {
+            Some(id) => Ok(id),
+            None => self.add_new(text),
         }
-        let (index, _) = self.texts.insert_full(Vec::from_slice(self.alloc, text)?)?;
+    }
+
+    /// Adds a text like [`add`](Self::add), by one look-up in place of two. Memory may be allocated for a known text too.
+    pub fn add_new(&mut self, text: &[u8]) -> Result<LabelId, AllocError>
+        requires label { IsTrue (is_label text.now) }
+        requires room { length self.old < 65536 }
+        ensures ok { OnOk result (self.new ≡ with_label self.old text.now) }
+        ensures number { IfOk result (λ id. number_of self.new text.now ≡ Some id.0) }
+        ensures text { IfOk result (λ id. slice_get self.new id.0 ≡ Some text.now) }
+        ensures kept { (i : ℕ) (t : List ℕ) → slice_get self.old i ≡ Some t → slice_get self.new i ≡ Some t }
+        ensures err { OnErr result (self.new ≡ self.old) }
+    {
+        let (index, _) = self
+            .texts
+            .insert_full(SmallVec::from_slice(self.alloc, text)?)?;
         Ok(LabelId(index as u32))
     }
 }

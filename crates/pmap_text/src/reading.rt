@@ -77,8 +77,13 @@ fn known_number(labels: &Labels, recent: &mut Recent, text: &[u8]) -> Option<Lab
     Some(id)
 }
 
-// Returns the number of a text, which is added to the table if it isn't there.
-fn number_for(labels: &mut Labels, text: &[u8]) -> Result<LabelId, MapFaultKind>
+// Returns the number of a text, which is added to the table if it isn't there, and remembers it.
+#[inline(always)]
+fn number_for(
+    labels: &mut Labels,
+    recent: &mut Recent,
+    text: &[u8],
+) -> Result<LabelId, MapFaultKind>
     requires label { IsTrue (is_label_text text.now) }
     requires limit { length labels.old ≤ LABEL_LIMIT }
     ensures room { OnOk result (has_room labels.old text.now ≡ true) }
@@ -90,7 +95,11 @@ fn number_for(labels: &mut Labels, text: &[u8]) -> Result<LabelId, MapFaultKind>
         ⊎ ((kind ≡ TooMany) × (has_room labels.old text.now ≡ false))) }
 {
     if labels.len() < LABEL_LIMIT || labels.contains(text) {
-        labels.add(text).map_err(|_| MapFaultKind::NoMemory)
+        let Ok(id) = labels.add_new(text) else {
+            return Err(MapFaultKind::NoMemory);
+        };
+        recent.remember(text, id);
+        Ok(id)
     } else {
         Err(MapFaultKind::TooMany)
     }

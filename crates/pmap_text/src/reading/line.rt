@@ -111,7 +111,7 @@ impl Reading {
         if self.declared.conflicts(number, text) {
             return Err(MapFaultKind::LabelConflict);
         }
-        number_for(&mut self.labels, text)?;
+        number_for(&mut self.labels, &mut self.recent, text)?;
         let Ok(()) = self.declared.add(number, text) else {
             return Err(MapFaultKind::NoMemory);
         };
@@ -154,7 +154,7 @@ impl Reading {
         if !has_room {
             return Err(MapFaultKind::TooMany);
         }
-        number_for(&mut self.labels, text)
+        number_for(&mut self.labels, &mut self.recent, text)
     }
 
     // Reads a span in the text's version followed by a label, given the text after the span.

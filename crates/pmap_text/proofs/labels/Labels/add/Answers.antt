@@ -1,41 +1,9 @@
-use Rattle.std.proofs.Common.{◌≡◌, map, None, Some, sym, ap, subst, ◌∙◌, true≢false, slice_get}
-use Rattle.std.specs.List.{position_or_len}
-use Rattle.std.specs.Str.{bytes_eq}
-use Rattle.pmap_text.specs.Label.{number_of, with_label, IsLabelTable}
-use Rattle.pmap_text.proofs.LabelTexts.{has_label-number, is_some-number, with_label-known, number_of-added, slice_get-number, slice_get-with_label, position_or_len-map, map-insert_key, IsLabelTable-with_label}
+use Rattle.std.proofs.Common.{None, sym, ◌∙◌, true≢false}
+use Rattle.pmap_text.proofs.LabelTexts.{has_label-number, is_some-number, with_label-known}
 use Rattle.pmap_text.proofs.labels.Labels.add.Goals as goal
 
 pub returns-in-Some-clause-ok : goal.returns-in-Some-clause-ok
 returns-in-Some-clause-ok c = sym (with_label-known c.args.self.now c.args.text.now (has_label-number c.args.self.now c.args.text.now c.in-Some.id.0 (sym c.in-Some.ensures.value)))
 
-pub returns-in_err-from_slice-clause-known : goal.returns-in_err-from_slice-clause-known
-returns-in_err-from_slice-clause-known c = λ h. absurd (true≢false (sym h ∙ sym (is_some-number c.args.self.now c.args.text.now None c.in_default.ensures.value)))
-
-pub returns-in_err-index-clause-known : goal.returns-in_err-index-clause-known
-returns-in_err-index-clause-known c = λ h. absurd (true≢false (sym h ∙ sym (is_some-number c.args.self.now c.args.text.now None c.in_default.ensures.value)))
-
--- the texts after the call
-added : (c : goal.In_ok-index) → map (λ v. v.items) c.insert_full.new.self.keys ≡ with_label c.args.self.now c.args.text.now
-added c =
-    ap (map (λ v. v.items)) c.in_ok-index.ensures.keys ∙ map-insert_key (λ v. v.items) c.self.inside.texts.keys c.in_ok-from_slice.field-0
-    ∙ (λ i. with_label (c.self.view_is i) (c.in_ok-from_slice.ensures.items i))
-
-pub invariant_of-self-2 : goal.invariant_of-self-2
-invariant_of-self-2 c =
-    subst IsLabelTable (sym (added c)) (IsLabelTable-with_label c.args.self.now c.args.text.now (subst IsLabelTable c.self.view_is c.self.invariant) c.requires.label c.requires.room)
-
-pub returns-clause-ok : goal.returns-clause-ok
-returns-clause-ok c = added c
-
-pub returns-clause-number : goal.returns-clause-number
-returns-clause-number c =
-    let first : position_or_len (bytes_eq c.args.text.now) c.args.self.now ≡ c.in_ok-index.index =
-    (λ i. position_or_len (bytes_eq (sym c.in_ok-from_slice.ensures.items i)) (sym c.self.view_is i))
-    ∙ position_or_len-map (λ v. v.items) (bytes_eq c.in_ok-from_slice.field-0.items) c.self.inside.texts.keys ∙ sym c.in_ok-index.ensures.index in
-    ap (λ t. number_of t c.args.text.now) (added c) ∙ number_of-added c.args.self.now c.args.text.now ∙ ap Some first
-
-pub returns-clause-text : goal.returns-clause-text
-returns-clause-text c = slice_get-number _ c.args.text.now c.in_ok-index.index (returns-clause-number c)
-
-pub returns-clause-kept : goal.returns-clause-kept
-returns-clause-kept c = λ i t e. subst (λ ts. slice_get ts i ≡ Some t) (sym (added c)) (slice_get-with_label c.args.self.now c.args.text.now i t e)
+pub returns-in-None-clause-known : goal.returns-in-None-clause-known
+returns-in-None-clause-known c = λ h. absurd (true≢false (sym h ∙ sym (is_some-number c.args.self.now c.args.text.now None c.in-None.ensures.value)))
