@@ -19,7 +19,6 @@ pub mod Entering
 pub mod Orders
 pub mod StartLists
 pub mod OpenNumbers
-pub mod Swept
 pub mod Ranges
 pub mod Seen
 pub mod Winners

@@ -1,4 +1,4 @@
-use Rattle.std.specs.Prelude.{ℕ, ◌*◌, ◌-◌, ◌/◌, ◌%◌, ◌^◌, List, bit_and, bit_or, bit_xor, drop, length, ◌≡◌, ◌||◌, ◌==◌, Bool, true, false, if◌then◌else◌, ◌∷◌, ◌++◌, Some, Ok, ◌+◌, ◌<◌, ◌≤◌, ◌⊎◌, Option, All, Contains, IsSomeAnd, option_and_then, option_map, slice_get, unwrap_or, ◌&&◌, None, take, ◌≢◌, [], Result, Err, IfErr, IfOk, OnErr, OnOk}
+use Rattle.std.specs.Prelude.{ℕ, ◌*◌, ◌-◌, ◌/◌, ◌%◌, ◌^◌, List, bit_and, bit_or, bit_xor, drop, length, ◌≡◌, ◌||◌, ◌==◌, Bool, true, false, if◌then◌else◌, ◌∷◌, ◌++◌, Some, Ok, ◌+◌, ◌<◌, ◌≤◌, ◌⊎◌, Option, All, Contains, IsSomeAnd, option_and_then, slice_get, ◌&&◌, None, take, ◌≢◌, [], Result, Err, IfErr, IfOk, OnErr, OnOk}
 use Rattle.std.specs.Int.{from_le_bytes, w64}
 use Rattle.std.specs.List.{fold, list_any, IsDistinct}
 use Rattle.std.specs.Simd.{first_chunks}
@@ -13,12 +13,10 @@ pub use Rattle.pmap_text.specs.declared.leading.Word.{Word}
 pub use Rattle.pmap_text.specs.declared.leading.Word.TheVariants.{Address}
 use Rattle.pmap_text.specs.declared.leading.Word.TheVariants.{Block as block_word}
 use Rattle.pmap_text.specs.declared.statement.Statement.{Statement}
-use Rattle.pmap_text.specs.Starting.{Start, AreStarts, start_of}
-use Rattle.pmap_text.specs.declared.sweep.Sweep.{Sweep}
+use Rattle.pmap_text.specs.Starting.{IsOrder, Start, number_at}
 use Rattle.pmap_text.specs.declared.ascent.Ascent.{Ascent}
 use Rattle.pmap_text.specs.Stretches.{HasEveryAddress, HasStretch, LabelId, StretchesModel, first_at, label_at, label_seen, last_at}
 use Rattle.prefix_keys.specs.Block.{width_of}
-use Rattle.std.specs.List.Sorted.{IsNonDecreasingBy}
 use Rattle.pmap_text.specs.ListModel.{Prefix}
 use Rattle.pmap_text.specs.Reading.{has_prefix, Earlier, has_room, text_read, MapFault, MapFaultKind, DuplicateBlock, NoMemory, Form}
 use Rattle.pmap_text.specs.MapModel.{Label}
@@ -61,14 +59,10 @@ IsWord word (Address addr) =
 IsWord word (block_word block) =
     (block_of_text word ≡ Ok (block.version, block.value, block.len)) × (list_any (λ b. b == 47) word ≡ true)
 
--- How a sweep from the first address to the last finds the statement that wins.
+-- The statement that wins at an address, by its number.
 
 abbrev pub statement_won : List Statement → Option ℕ → Option Statement
 statement_won ss won = option_and_then (slice_get ss) won
-
--- its last address, or the end if there is no number
-abbrev pub high_won : List Statement → ℕ → Option ℕ → ℕ
-high_won ss end won = unwrap_or (option_map (λ s. s.span.high.value) (statement_won ss won)) end
 
 pub record Covers (ss : List Statement) (a j : ℕ) : Type 0 where
   pub statement : Statement
@@ -82,48 +76,19 @@ pub record IsWinner (ss : List Statement) (a : ℕ) (won : Option ℕ) : Type 0 
   pub covers : ForSome won (Covers ss a)
   pub most : (j : ℕ) → Covers ss a j → IsSomeAnd won (λ k. j ≤ k)
 
--- the number is that of the winner, or one of the others that are open
-abbrev pub IsOpen : Option ℕ → List ℕ → ℕ → Type 0
-IsOpen won opened j = (won ≡ Some j) ⊎ Contains opened j
+-- The numbers of open statements.
 
--- none of the others is later than the winner
-abbrev pub IsTop : Option ℕ → List ℕ → Type 0
-IsTop won opened = (j : ℕ) → Contains opened j → IsSomeAnd won (λ k. j ≤ k)
+-- the number is the greatest of the list; without a number, the list is empty
+pub record IsGreatest (numbers : List ℕ) (greatest : Option ℕ) : Type 0 where
+  pub listed : ForSome greatest (Contains numbers)
+  pub most : (j : ℕ) → Contains numbers j → IsSomeAnd greatest (λ k. j ≤ k)
 
--- Each statement that covers an address from `first` on is open or will be opened. All open statements have begun, and
--- those that will be opened don't begin before `first`.
-pub record IsSwept (ss : List Statement) (starts : List Start) (next : ℕ) (won : Option ℕ) (opened : List ℕ) (first : ℕ) : Type 0 where
-  pub within : next ≤ length starts
-  pub top : IsTop won opened
-  pub begun : (j : ℕ) → IsOpen won opened j → (s : Statement) × (slice_get ss j ≡ Some s) × (s.span.low.value ≤ first)
-  pub pending : (j a : ℕ) (covers : Covers ss a j) → first ≤ a
-      → IsOpen won opened j ⊎ Contains (drop next starts) (start_of j covers.statement)
-  pub later : All (λ start. first ≤ start.low) (drop next starts)
-
--- the last open statement that extends to `first` was removed, and those that are later
-pub record Closes (ss : List Statement) (first : ℕ) (old : List ℕ) (won : Option ℕ) (new : List ℕ) : Type 0 where
-  pub top : IsTop won new
-  pub fewer : (j : ℕ) → IsOpen won new j → Contains old j
-  pub goes_on : first ≤ high_won ss first won
-  pub closed : (j : ℕ) (s : Statement) → slice_get ss j ≡ Some s → first ≤ s.span.high.value → Contains old j → IsOpen won new j
-
-pub record Opens (won : Option ℕ) (old : List ℕ) (number latest : ℕ) (new : List ℕ) : Type 0 where
-  pub top : IsTop (Some latest) new
-  pub which : (latest ≡ number) ⊎ (won ≡ Some latest)
-  pub kept : (j : ℕ) → (j ≡ number) ⊎ IsOpen won old j → IsOpen (Some latest) new j
-  pub fewer : (j : ℕ) → IsOpen (Some latest) new j → (j ≡ number) ⊎ IsOpen won old j
-
--- a sweep knows which statements decide from the address on
-pub record IsReady (ss : List Statement) (first : ℕ) (s : Sweep) : Type 0 where
-  pub starts : AreStarts ss s.starts
-  pub swept : IsSwept ss s.starts s.next s.won s.opened first
-
--- from the address to the sweep's last one, which is at most `end`, its winner wins
-pub record IsSweeping (ss : List Statement) (end first : ℕ) (s : Sweep) : Type 0 where
-  pub ready : IsReady ss (s.last + 1) s
-  pub from : first ≤ s.last
-  pub to : s.last ≤ end
-  pub wins : (a : ℕ) → first ≤ a → a ≤ s.last → IsWinner ss a s.won
+-- a list has the numbers of another, and this one
+pub record HasOneMore (fewer : List ℕ) (number : ℕ) (more : List ℕ) : Type 0 where
+  pub more_than : (j : ℕ) → Contains more j → (j ≡ number) ⊎ Contains fewer j
+  pub has_number : Contains more number
+  pub has_fewer : (j : ℕ) → Contains fewer j → Contains more j
+  pub longer : length fewer < length more
 
 -- How stretches are built from the first address to the last.
 
@@ -146,31 +111,35 @@ pub record AreStretchesTo (ss : List Statement) (default : Option LabelId) (s : 
   pub wins : (a : ℕ) → last_first s ≤ a → a ≤ last → IsWinner ss a won
   pub label : label_at s (length s.firsts - 1) ≡ label_seen default (statement_won ss won)
 
--- Of the first statements, those with these numbers may cover addresses from `first` on. All have begun.
-pub record AreOpen (ss : List Statement) (next first : ℕ) (opened : List ℕ) : Type 0 where
-  pub ascending : IsNonDecreasingBy (λ n. n) opened
-  pub begun : All (λ j. (j < next) × (s : Statement) × (slice_get ss j ≡ Some s) × (s.span.low.value ≤ first)) opened
-  pub every : (j : ℕ) (s : Statement) → j < next → slice_get ss j ≡ Some s → first ≤ s.span.high.value → Contains opened j
+-- Of the statements that come first in an order, those with these numbers may cover addresses from `first` on. All have
+-- begun.
+pub record AreOpen (ss : List Statement) (starts : List Start) (next first : ℕ) (opened : List ℕ) : Type 0 where
+  pub begun : (j : ℕ) → Contains opened j → (s : Statement) × (slice_get ss j ≡ Some s) × (s.span.low.value ≤ first)
+  pub every : (i : ℕ) (s : Statement) → i < next → slice_get ss (number_at starts i) ≡ Some s → first ≤ s.span.high.value
+      → Contains opened (number_at starts i)
 
--- all statements but the first begin after the address
-abbrev pub BeginAfter : List Statement → ℕ → ℕ → Type 0
-BeginAfter ss next last = (j : ℕ) (s : Statement) → next ≤ j → slice_get ss j ≡ Some s → last < s.span.low.value
+-- all statements but those that come first in an order begin after the address
+abbrev pub BeginAfter : List Statement → List Start → ℕ → ℕ → Type 0
+BeginAfter ss starts next last = (i : ℕ) (s : Statement) → next ≤ i → i < length ss → slice_get ss (number_at starts i) ≡ Some s
+    → last < s.span.low.value
 
 -- the labels have numbers below the one that is stored for a missing label
 pub record HaveNumbers (ss : List Statement) (default : Option LabelId) : Type 0 where
   pub labels : All (λ s. s.label.0 < 2 ^ 32 - 1) ss
   pub fallback : ForSome default (λ id. id.0 < 2 ^ 32 - 1)
 
--- the stretches of statements that begin in ascending order are there up to an address, and the open statements known
+-- the stretches of statements are there up to an address, and the open statements known
 pub record IsAscent (ss : List Statement) (a : Ascent) : Type 0 where
   pub are : AreStretchesTo ss a.default a.growing.stretches a.growing.won a.growing.last
-  pub opened : AreOpen ss a.next (a.growing.last + 1) a.opened.items
+  pub order : IsOrder ss a.starts
+  pub opened : AreOpen ss a.starts a.next (a.growing.last + 1) a.opened
 
 -- the stretches may have been extended, and no other statement was opened
 pub record Continues (ss : List Statement) (old new : Ascent) : Type 0 where
   pub ascent : IsAscent ss new
   pub version : new.growing.stretches.version ≡ old.growing.stretches.version
   pub default : new.default ≡ old.default
+  pub starts : new.starts ≡ old.starts
   pub next : new.next ≡ old.next
 
 -- How a repeated block is found. This is private, and callers of the crate need not read it.

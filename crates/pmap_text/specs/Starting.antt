@@ -1,17 +1,15 @@
-use Rattle.std.specs.Prelude.{◌≡◌, ℕ, List, Some, All, Contains, slice_get}
-use Rattle.std.specs.List.Sorted.{IsNonDecreasingBy}
+use Rattle.std.specs.Prelude.{◌≡◌, ℕ, ◌<◌, ◌≤◌, List, Some, length, slice_get}
+use Rattle.std.specs.Option.{option_map_or}
 use Rattle.pmap_text.specs.declared.statement.Statement.{Statement}
 pub use Rattle.pmap_text.specs.declared.start.Start.{Start}
 
-abbrev pub start_of : ℕ → Statement → Start
-start_of number s = record { low = s.span.low.value; number = number }
+-- the number of the statement with an index in the order of these starts; without starts, the order is the given one
+abbrev pub number_at : List Start → ℕ → ℕ
+number_at starts i = option_map_or (λ start. start.number) (slice_get starts i) i
 
-pub record IsStart (ss : List Statement) (start : Start) : Type 0 where
-  pub statement : Statement
-  pub listed : slice_get ss start.number ≡ Some statement
-  pub low : statement.span.low.value ≡ start.low
-
-pub record AreStarts (ss : List Statement) (starts : List Start) : Type 0 where
-  pub each : All (IsStart ss) starts
-  pub every : (j : ℕ) (s : Statement) → slice_get ss j ≡ Some s → Contains starts (start_of j s)
-  pub ascending : IsNonDecreasingBy (λ start. start.low) starts
+-- each statement is in the order of these starts, in which the first addresses ascend
+pub record IsOrder (ss : List Statement) (starts : List Start) : Type 0 where
+  pub within : (i : ℕ) → i < length ss → number_at starts i < length ss
+  pub every : (j : ℕ) → j < length ss → (i : ℕ) × (i < length ss) × (number_at starts i ≡ j)
+  pub ascending : (i k : ℕ) (r s : Statement) → i ≤ k → k < length ss → slice_get ss (number_at starts i) ≡ Some r
+      → slice_get ss (number_at starts k) ≡ Some s → r.span.low.value ≤ s.span.low.value

@@ -1,32 +1,34 @@
-//! The stretches of mappings whose first addresses ascend.
-ghost use Rattle.std.specs.Prelude.{◌≡◌, ◌+◌, ◌^◌, ◌<◌, ◌≤◌, All, IfOk, OnOk, length};
-ghost use Rattle.std.specs.List.Sorted.{IsNonDecreasingBy};
+//! The stretches of mappings, built from the first address to the last.
+ghost use Rattle.std.specs.Prelude.{◌≡◌, ◌+◌, ◌^◌, ◌<◌, ◌≤◌, [], IfOk, OnOk, length};
 ghost use Rattle.std.specs.Option.{ForSome};
 ghost use Rattle.prefix_keys.specs.Block.{width_of};
 ghost use Rattle.pmap_text.specs.Inner.{AreOpen, BeginAfter, Continues, HaveNumbers, IsAscent, statement_won};
+ghost use Rattle.pmap_text.specs.Starting.{IsOrder};
 ghost use Rattle.pmap_text.specs.Stretches.{AreStretches, label_seen};
 
 use crate::growing::Growing;
 use crate::label::LabelId;
 use crate::mappings::Mappings;
-use crate::stretches::Stretches;
-use crate::sweep::last_address;
+use crate::opened::Opened;
+use crate::starts::Starts;
+use crate::stretches::{Stretches, last_address};
 use prefix_keys::Version;
 use std::alloc::{AllocError, Global};
 
-/// The stretches of mappings up to an address, the label of the addresses that no mapping covers, the number of mappings
-/// that have begun, and the numbers of those that may go on.
+/// The stretches of mappings up to an address, the label of the addresses that no mapping covers, the order in which
+/// mappings begin, the number of those that have begun, and the numbers of those that may go on.
 #[derive(Drop)]
 pub struct Ascent {
     pub growing: Growing,
     pub default: Option<LabelId>,
+    pub starts: Starts,
     pub next: usize,
-    pub opened: Vec<usize>,
+    pub opened: Opened,
 }
 
-/// Returns the label where a mapping wins, or the default if none does.
+// Returns the label where a mapping wins, or the default if none does.
 #[inline(always)]
-pub fn label_won<M: Mappings>(
+fn label_won<M: Mappings>(
     mappings: &M,
     won: Option<usize>,
     default: Option<LabelId>,
@@ -40,20 +42,25 @@ pub fn label_won<M: Mappings>(
     }
 }
 
-// Returns the numbers of the mappings that begin at address 0.
-fn opened_at_zero<M: Mappings>(alloc: Global, mappings: &M) -> Result<Vec<usize>, AllocError>
-    requires { IsNonDecreasingBy (λ s. s.span.low.value) (M.all mappings.now) }
-    ensures opened { IfOk result (λ o. AreOpen (M.all mappings.now) (length o.items) 0 o.items) }
-    ensures later { IfOk result (λ o. BeginAfter (M.all mappings.now) (length o.items) 0) }
+// Opens the mappings that begin at address 0, and returns how many these are.
+fn open_at_zero<M: Mappings>(
+    opened: &mut Opened,
+    mappings: &M,
+    starts: &Starts,
+) -> Result<usize, AllocError>
+    requires order { IsOrder (M.all mappings.now) starts.now }
+    requires none { opened.old ≡ [] }
+    ensures opened { IfOk result (λ next. AreOpen (M.all mappings.now) starts.now next 0 opened.new) }
+    ensures later { IfOk result (λ next. BeginAfter (M.all mappings.now) starts.now next 0) }
 {
-    let mut opened = Vec::new(alloc);
-    for number in 0..mappings.count() {
+    for place in 0..mappings.count() {
+        let number = starts.number(place);
         if mappings.mapping(number).span.low.value != 0 {
-            return Ok(opened);
+            return Ok(place);
         }
         opened.push(number)?;
     }
-    Ok(opened)
+    Ok(mappings.count())
 }
 
 impl Ascent {
@@ -63,23 +70,26 @@ impl Ascent {
         version: Version,
         default: Option<LabelId>,
         mappings: &M,
+        starts: Starts,
     ) -> Result<Ascent, AllocError>
         requires known { HaveNumbers (M.all mappings.now) default }
-        requires ascending { IsNonDecreasingBy (λ s. s.span.low.value) (M.all mappings.now) }
+        requires order { IsOrder (M.all mappings.now) starts }
         ensures ascent { IfOk result (IsAscent (M.all mappings.now)) }
         ensures version { IfOk result (λ a. a.growing.stretches.version ≡ version) }
         ensures default { IfOk result (λ a. a.default ≡ default) }
         ensures last { IfOk result (λ a. a.growing.last ≡ 0) }
-        ensures later { IfOk result (λ a. BeginAfter (M.all mappings.now) a.next a.growing.last) }
+        ensures later { IfOk result (λ a. BeginAfter (M.all mappings.now) a.starts a.next a.growing.last) }
     {
-        let opened = opened_at_zero(alloc, mappings)?;
-        let won = opened.last().copied();
+        let mut opened = Opened::new(alloc);
+        let next = open_at_zero(&mut opened, mappings, &starts)?;
+        let won = opened.greatest();
         let label = label_won(mappings, won, default);
         let growing = Growing::new(alloc, version, won, label, 0)?;
         Ok(Ascent {
             growing,
             default,
-            next: opened.len(),
+            starts,
+            next,
             opened,
         })
     }
@@ -89,14 +99,14 @@ impl Ascent {
     fn reach<M: Mappings>(&mut self, mappings: &M, last: u128) -> Result<(), AllocError>
         requires known { HaveNumbers (M.all mappings.now) self.old.default }
         requires ascent { IsAscent (M.all mappings.now) self.old }
-        requires later { BeginAfter (M.all mappings.now) self.old.next last }
+        requires later { BeginAfter (M.all mappings.now) self.old.starts self.old.next last }
         requires from { self.old.growing.last ≤ last }
         requires within { last < 2 ^ width_of self.old.growing.stretches.version }
         ensures continues { OnOk result (Continues (M.all mappings.now) self.old self.new) }
         ensures last { OnOk result (self.new.growing.last ≡ last) }
     {
         while self.growing.last < last {
-            let Some(number) = self.opened.last().copied() else {
+            let Some(number) = self.opened.greatest() else {
                 self.growing.extend(None, self.default, last)?;
                 return Ok(());
             };
@@ -109,7 +119,7 @@ impl Ascent {
             }
             self.growing
                 .extend(Some(number), Some(mapping.label), high)?;
-            self.opened.pop();
+            self.opened.remove(number);
         }
         Ok(())
     }
@@ -117,46 +127,46 @@ impl Ascent {
     // Opens the mappings that begin up to `end`, and extends the stretches to the address before the last of them begins.
     fn open_all<M: Mappings>(&mut self, mappings: &M, end: u128) -> Result<(), AllocError>
         requires known { HaveNumbers (M.all mappings.now) self.old.default }
-        requires ascending { IsNonDecreasingBy (λ s. s.span.low.value) (M.all mappings.now) }
         requires ascent { IsAscent (M.all mappings.now) self.old }
-        requires later { BeginAfter (M.all mappings.now) self.old.next self.old.growing.last }
+        requires later { BeginAfter (M.all mappings.now) self.old.starts self.old.next self.old.growing.last }
         requires from { self.old.growing.last ≤ end }
         requires within { end < 2 ^ width_of self.old.growing.stretches.version }
         ensures ascent { OnOk result (IsAscent (M.all mappings.now) self.new) }
         ensures version { OnOk result
             (self.new.growing.stretches.version ≡ self.old.growing.stretches.version) }
         ensures default { OnOk result (self.new.default ≡ self.old.default) }
-        ensures later { OnOk result (BeginAfter (M.all mappings.now) self.new.next end) }
+        ensures later { OnOk result (BeginAfter (M.all mappings.now) self.new.starts self.new.next end) }
         ensures last { OnOk result (self.new.growing.last ≤ end) }
     {
         while self.next < mappings.count() {
-            let low = mappings.mapping(self.next).span.low.value;
+            let number = self.starts.number(self.next);
+            let low = mappings.mapping(number).span.low.value;
             if end < low {
                 return Ok(());
             }
             self.reach(mappings, low - 1)?;
-            self.opened.push(self.next)?;
+            self.opened.push(number)?;
             self.next += 1;
         }
         Ok(())
     }
 }
 
-/// Returns the stretches of mappings whose first addresses ascend. `default` is the label of the addresses that no
-/// mapping covers.
-pub fn of_ascending<M: Mappings>(
+/// Returns the stretches of mappings with these starts. `default` is the label of the addresses that no mapping covers.
+pub fn of_mappings<M: Mappings>(
     alloc: Global,
     version: Version,
     default: Option<LabelId>,
     mappings: &M,
+    starts: Starts,
 ) -> Result<Stretches, AllocError>
     requires known { HaveNumbers (M.all mappings.now) default }
-    requires ascending { IsNonDecreasingBy (λ s. s.span.low.value) (M.all mappings.now) }
+    requires order { IsOrder (M.all mappings.now) starts }
     ensures version { IfOk result (λ s. s.version ≡ version) }
     ensures stretches { IfOk result (AreStretches (M.all mappings.now) default) }
 {
     let end = last_address(version);
-    let mut ascent = Ascent::new(alloc, version, default, mappings)?;
+    let mut ascent = Ascent::new(alloc, version, default, mappings, starts)?;
     ascent.open_all(mappings, end)?;
     ascent.reach(mappings, end)?;
     Ok(ascent.growing.stretches)

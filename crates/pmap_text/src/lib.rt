@@ -47,7 +47,6 @@ mod starts;
 mod statement;
 mod statements;
 mod stretches;
-mod sweep;
 mod texts;
 mod window;
 

@@ -1,13 +1,13 @@
-ghost use Rattle.std.specs.Prelude.{◌≡◌, ◌<◌, Some, IsTrue, IfOk, length, slice_get};
+ghost use Rattle.std.specs.Prelude.{◌≡◌, [], IsTrue, IfOk};
 ghost use Rattle.std.specs.List.Sorted.{IsNonDecreasingBy};
-ghost use Rattle.pmap_text.specs.Starting.{AreStarts};
+ghost use Rattle.pmap_text.specs.Starting.{IsOrder, number_at};
 
 use crate::start::Start;
 use crate::statements::Statements;
 use std::alloc::{AllocError, Global};
 use std::marker::Model;
 
-/// The starts of statements, in ascending order.
+/// The starts of mappings, in ascending order. There are none if the mappings are in this order as they are.
 #[derive(Drop)]
 pub struct Starts {
     sorted: Vec<Start>,
@@ -22,8 +22,8 @@ impl Model for Starts {
     ghost view = { λ s. s.sorted.items };
 }
 
-/// Returns `true` only if no statement begins before an earlier one.
-pub fn are_ascending(statements: &Statements) -> bool
+// Returns `true` only if no statement begins before an earlier one.
+fn are_ascending(statements: &Statements) -> bool
     ensures { IsTrue result → IsNonDecreasingBy (λ s. s.span.low.value) statements.now }
 {
     for place in 1..statements.len() {
@@ -35,10 +35,22 @@ pub fn are_ascending(statements: &Statements) -> bool
 }
 
 impl Starts {
+    /// Returns no starts, for mappings in ascending order.
+    pub fn none(alloc: Global) -> Starts
+        ensures { result ≡ [] }
+    {
+        Starts {
+            sorted: Vec::new(alloc),
+        }
+    }
+
     /// Returns the starts of these statements.
     pub fn new(alloc: Global, statements: &Statements) -> Result<Starts, AllocError>
-        ensures { IfOk result (λ starts. AreStarts statements.now starts) }
+        ensures { IfOk result (IsOrder statements.now) }
     {
+        if are_ascending(statements) {
+            return Ok(Starts::none(alloc));
+        }
         let mut sorted = Vec::with_capacity(alloc, statements.len())?;
         for number in 0..statements.len() {
             let statement = statements.at(number);
@@ -51,18 +63,14 @@ impl Starts {
         Ok(Starts { sorted })
     }
 
-    /// Returns the number of starts.
-    pub fn len(&self) -> usize
-        ensures { result ≡ length self.now }
+    /// Returns the number of the mapping with an index in this order.
+    #[inline(always)]
+    pub fn number(&self, place: usize) -> usize
+        ensures { result ≡ number_at self.now place }
     {
-        self.sorted.len()
-    }
-
-    /// Returns the start at an index.
-    pub fn at(&self, place: usize) -> Start
-        requires { place < length self.now }
-        ensures { slice_get self.now place ≡ Some result }
-    {
-        self.sorted[place]
+        match self.sorted.get(place) {
+            Some(start) => start.number,
+            None => place,
+        }
     }
 }

@@ -7,18 +7,15 @@ ghost use Rattle.pmap_text.specs.MapModel.{map_label};
 ghost use Rattle.pmap_text.specs.MapText.{map_of};
 ghost use Rattle.pmap_text.specs.PrefixList.{AreShortestFirst, list_of};
 ghost use Rattle.pmap_text.specs.declared.statement.Statement.{Statement};
-ghost use Rattle.pmap_text.specs.Inner.{HaveNumbers};
 
-use crate::ascent::{label_won, of_ascending};
-use crate::growing::Growing;
+use crate::ascent::of_mappings;
 use crate::label::LabelId;
 use crate::labels::Labels;
 use crate::map_text::MapText;
 use crate::order::{in_order, sorted_or};
 use crate::prefix_list::PrefixList;
-use crate::starts::are_ascending;
+use crate::starts::Starts;
 use crate::statements::Statements;
-use crate::sweep::{Sweep, last_address};
 use prefix_keys::Version;
 use std::alloc::{AllocError, Global};
 use std::marker::Model;
@@ -81,31 +78,14 @@ fn given(id: LabelId) -> Option<LabelId>
     if id.0 == NO_LABEL.0 { None } else { Some(id) }
 }
 
-// Returns the stretches of statements.
-fn of_statements(
-    alloc: Global,
-    version: Version,
-    default: Option<LabelId>,
-    statements: &Statements,
-) -> Result<Stretches, AllocError>
-    requires { HaveNumbers statements.now default }
-    ensures version { IfOk result (λ s. s.version ≡ version) }
-    ensures stretches { IfOk result (AreStretches statements.now default) }
+/// Returns the highest address of a version.
+pub fn last_address(version: Version) -> u128
+    ensures { result + 1 ≡ 2 ^ width_of version }
 {
-    if are_ascending(statements) {
-        return of_ascending(alloc, version, default, statements);
+    match version {
+        Version::V4 => u128::from(u32::MAX),
+        Version::V6 => u128::MAX,
     }
-    let end = last_address(version);
-    let mut sweep = Sweep::new(alloc, end, statements)?;
-    let label = label_won(statements, sweep.won, default);
-    let mut growing = Growing::new(alloc, version, sweep.won, label, sweep.last)?;
-    while sweep.last < end {
-        let first = sweep.last + 1;
-        sweep.move_to(statements, end, first)?;
-        let label = label_won(statements, sweep.won, default);
-        growing.extend(sweep.won, label, sweep.last)?;
-    }
-    Ok(growing.stretches)
 }
 
 impl Stretches {
@@ -128,7 +108,8 @@ impl Stretches {
     {
         // Provides the law that the numbers of a table's labels are below the one that is stored for a missing label.
         let _count = labels.len();
-        let stretches = of_statements(alloc, version, default, statements)?;
+        let starts = Starts::new(alloc, statements)?;
+        let stretches = of_mappings(alloc, version, default, statements, starts)?;
         Ok(stretches)
     }
 
@@ -192,7 +173,7 @@ impl Stretches {
         let _count = list.labels.len();
         let sorted = in_order(alloc, &list.entries)?;
         let entries = sorted_or(&sorted, &list.entries);
-        let stretches = of_ascending(alloc, list.version, None, entries)?;
+        let stretches = of_mappings(alloc, list.version, None, entries, Starts::none(alloc))?;
         Ok(stretches)
     }
 

@@ -7,7 +7,7 @@ invariant-loop-self g l = record {
   ascent : IsAscent (g.M.Mappings.all l.mappings) l.self;
   version : l.self.growing.stretches.version ≡ l.initial.self.growing.stretches.version;
   default : l.self.default ≡ l.initial.self.default;
-  later : BeginAfter (g.M.Mappings.all l.mappings) l.self.next l.self.growing.last;
+  later : BeginAfter (g.M.Mappings.all l.mappings) l.self.starts l.self.next l.self.growing.last;
   to : l.self.growing.last ≤ l.end;
 }
 

@@ -9,4 +9,4 @@ invariant-loop-self g l = record {
 }
 
 abbrev pub decreases-loop-self : goal.decreases-loop-self
-decreases-loop-self g l = length l.self.opened.items
+decreases-loop-self g l = length l.self.opened

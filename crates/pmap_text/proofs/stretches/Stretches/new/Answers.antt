@@ -5,8 +5,8 @@ use Rattle.prefix_keys.specs.declared.version.Version.{Version}
 use Rattle.pmap_text.proofs.Stretched.{held_text, stretches_known}
 use Rattle.pmap_text.proofs.stretches.Stretches.new.Goals as goal
 
-pub of_statements-requires : goal.of_statements-requires
-of_statements-requires c = record {
+pub of_mappings-requires-clause-known : goal.of_mappings-requires-clause-known
+of_mappings-requires-clause-known c = record {
   labels = All-weaker (λ s. s.label.0 < length c.args.labels.now) (λ s. s.label.0 < 2 ^ 32 - 1)
       (λ s less. omega (arith, less, c.len-count.ensures.value, c.len-count.ensures.few)) c.args.statements.now c.requires.known;
   fallback = λ id is. omega (arith, c.requires.default id is, c.len-count.ensures.value, c.len-count.ensures.few);

@@ -9,14 +9,15 @@ use Rattle.pmap_text.specs.Mappings.{statement_of}
 use Rattle.pmap_text.specs.Stretches.{LabelId}
 use Rattle.pmap_text.proofs.EntryStatements.{lows_ascend, shortest_first}
 use Rattle.pmap_text.proofs.ListPainted.{statements_of}
+use Rattle.pmap_text.proofs.StartLists.{given_order}
 use Rattle.pmap_text.proofs.Stretched.{held_text, stretches_known}
 use Rattle.pmap_text.proofs.stretches.Stretches.of_list.Goals as goal
 
 no_default : (count : ℕ) → ForSome None (λ (id : LabelId). id.0 < count)
 no_default count id is = absurd (let h : None ≡ Some id = is in cc)
 
-pub of_ascending-requires-clause-known : goal.of_ascending-requires-clause-known
-of_ascending-requires-clause-known c =
+pub of_mappings-requires-clause-known : goal.of_mappings-requires-clause-known
+of_mappings-requires-clause-known c =
     let ss = map statement_of c.sorted_or-entries.result.now in
     let order = shortest_first c.args.list.now.entries _ _ c.sorted_or-entries.ensures c.in_ok-sorted.ensures.same c.in_ok-sorted.ensures.ascending in
     record {
@@ -25,10 +26,10 @@ of_ascending-requires-clause-known c =
       fallback = no_default (2 ^ 32 - 1);
     }
 
-pub of_ascending-requires-clause-ascending : goal.of_ascending-requires-clause-ascending
-of_ascending-requires-clause-ascending c =
-    lows_ascend c.sorted_or-entries.result.now
-    (subst (IsNonDecreasingBy (λ e. rank_of e.block)) (sym c.sorted_or-entries.ensures) c.in_ok-sorted.ensures.ascending)
+pub of_mappings-requires-clause-order : goal.of_mappings-requires-clause-order
+of_mappings-requires-clause-order c =
+    rw c.none.ensures (given_order (map statement_of c.sorted_or-entries.result.now) (lows_ascend c.sorted_or-entries.result.now
+    (subst (IsNonDecreasingBy (λ e. rank_of e.block)) (sym c.sorted_or-entries.ensures) c.in_ok-sorted.ensures.ascending)))
 
 pub returns : goal.returns
 returns c =

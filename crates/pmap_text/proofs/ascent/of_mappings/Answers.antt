@@ -2,7 +2,7 @@ use Rattle.std.proofs.Common.{◌≡◌, ◌∙◌, ◌+◌, ◌^◌, arith, sub
 use Rattle.prefix_keys.specs.Block.{width_of}
 use Rattle.pmap_text.specs.Stretches.{AreStretches}
 use Rattle.pmap_text.proofs.Stretched.{stretches_all}
-use Rattle.pmap_text.proofs.ascent.of_ascending.Goals as goal
+use Rattle.pmap_text.proofs.ascent.of_mappings.Goals as goal
 
 pub returns-clause-stretches : goal.returns-clause-stretches
 returns-clause-stretches g c =
