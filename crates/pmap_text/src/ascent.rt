@@ -84,7 +84,9 @@ impl Ascent {
         let next = open_at_zero(&mut opened, mappings, &starts)?;
         let won = opened.greatest();
         let label = label_won(mappings, won, default);
-        let growing = Growing::new(alloc, version, won, label, 0)?;
+        // A stretch begins at the first address of a mapping, or after the last one.
+        let most = mappings.count().saturating_mul(2).saturating_add(1);
+        let growing = Growing::new(alloc, version, won, label, 0, most)?;
         Ok(Ascent {
             growing,
             default,

@@ -26,6 +26,7 @@ impl Growing {
         won: Option<usize>,
         label: Option<LabelId>,
         last: u128,
+        most: usize,
     ) -> Result<Growing, AllocError>
         requires { ForSome label (λ id. id.0 < 2 ^ 32 - 1) }
         ensures version { IfOk result (λ g. g.stretches.version ≡ version) }
@@ -35,7 +36,7 @@ impl Growing {
             → IfOk result (λ g. AreStretchesTo ss default g.stretches g.won g.last) }
     {
         Ok(Growing {
-            stretches: Stretches::whole(alloc, version, label)?,
+            stretches: Stretches::whole(alloc, version, label, most)?,
             won,
             last,
         })

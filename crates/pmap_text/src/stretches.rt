@@ -149,7 +149,7 @@ impl Stretches {
         ensures labels { IfOk result (λ s. (a : ℕ) → a < 2 ^ width_of self.version → label_held s a ≡ label_held self a) }
     {
         let mut last = self.label(0);
-        let mut joined = Stretches::whole(alloc, self.version(), last)?;
+        let mut joined = Stretches::whole(alloc, self.version(), last, self.len())?;
         for index in 1..self.len() {
             let label = self.label(index);
             if label != last {
@@ -177,11 +177,12 @@ impl Stretches {
         Ok(stretches)
     }
 
-    /// Returns one stretch that has all addresses of the version.
+    /// Returns one stretch that has all addresses of the version, with memory for `most` stretches.
     pub(crate) fn whole(
         alloc: Global,
         version: Version,
         label: Option<LabelId>,
+        most: usize,
     ) -> Result<Stretches, AllocError>
         requires { ForSome label (λ id. id.0 < 2 ^ 32 - 1) }
         ensures version { IfOk result (λ s. s.version ≡ version) }
@@ -191,8 +192,18 @@ impl Stretches {
     {
         let label = kept(label);
         let begins = match version {
-            Version::V4 => Begins::Narrow(vec![in alloc; Begin { first: 0, label }]?),
-            Version::V6 => Begins::Wide(vec![in alloc; 0]?, vec![in alloc; label]?),
+            Version::V4 => {
+                let mut begins = Vec::with_capacity(alloc, most)?;
+                begins.push(Begin { first: 0, label })?;
+                Begins::Narrow(begins)
+            }
+            Version::V6 => {
+                let mut firsts = Vec::with_capacity(alloc, most)?;
+                let mut labels = Vec::with_capacity(alloc, most)?;
+                firsts.push(0)?;
+                labels.push(label)?;
+                Begins::Wide(firsts, labels)
+            }
         };
         Ok(Stretches { begins })
     }
