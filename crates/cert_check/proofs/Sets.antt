@@ -189,6 +189,29 @@ module _ (table : List Label) (ok : IsLabelTable table) (cost left right : ℕ) 
       by [] is ascending some = absurd (false≢true (sym some))
       by (n ∷ ns) is ascending some = claim-by (n ∷ ns) is ∙ ap (fault_by cost (left + right)) (all-texts table ok 0 0 (n ∷ ns) set ascending h)
 
+  -- each half has one label
+  module _ (low high : ℕ) (is-lower : lower ≡ low ∷ []) (is-upper : upper ≡ high ∷ []) where
+    alone : (b : Bool) → (b && true) ≡ b
+    alone true = refl
+    alone false = refl
+
+    pub claim-same : low ≡ high
+        → claim_fault (claim_with table cost set) (exact_claim (claim_with table left lower) (claim_with table right upper))
+        ≡ fault_by cost (left + right) (has_number set low)
+    claim-same same =
+        let here = eq-eqb high low (sym same) in
+        let common : filter (has_number upper) lower ≡ low ∷ [] = rw (is-lower, is-upper, here) refl in
+        claim-common (rw common refl) ∙ ap (fault_by cost (left + right)) (rw common (alone (has_number set low)))
+
+    pub claim-two : (low ≡ high → ⊥)
+        → claim_fault (claim_with table cost set) (exact_claim (claim_with table left lower) (claim_with table right upper))
+        ≡ fault_by cost (left + right + 1) (has_number set low && has_number set high)
+    claim-two other =
+        let absent = ne_eqb high low (λ e. other (sym e)) in
+        let none : filter (has_number upper) lower ≡ [] = rw (is-lower, is-upper, absent) refl in
+        claim-apart (rw none refl)
+        ∙ ap (fault_by cost (left + right + 1)) (rw (is-lower, is-upper) (ap₂ ◌&&◌ (alone (has_number set low)) (alone (has_number set high))))
+
 -- The fault of a chain's claim, by the numbers of its set, its side label and its end's set.
 module _ (table : List Label) (ok : IsLabelTable table) (n cost below side : ℕ) (set ends : List ℕ)
     (h : IsAscending (length table) 0 set) (h' : IsAscending (length table) 0 ends) (known : side < length table) where

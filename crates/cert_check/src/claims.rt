@@ -1,6 +1,6 @@
 //! The check of the claims of inner nodes and chains. Sets are listed by ascending numbers, so one walk compares two
 //! sets.
-ghost use Rattle.std.specs.Prelude.{◌≡◌, ℕ, ◌+◌, ◌^◌, ◌<◌, ◌≤◌, ◌&&◌, ◌||◌, ◌==◌, Some, None, length, map, nat_lt, not, if◌then◌else◌};
+ghost use Rattle.std.specs.Prelude.{◌≡◌, ℕ, ◌+◌, ◌^◌, ◌<◌, ◌≤◌, ◌&&◌, ◌||◌, ◌==◌, ◌∷◌, [], IfSome, Some, None, length, map, nat_lt, not, if◌then◌else◌};
 ghost use Rattle.std.specs.List.{list_all};
 ghost use Rattle.pmap_text.specs.Label.{IsLabelTable};
 ghost use Rattle.pmap_text.specs.MapText.{text_at};
@@ -90,14 +90,9 @@ fn fault_by(cost: u64, exact_cost: u64, has_exact_set: bool) -> Option<CheckFaul
     }
 }
 
-/// Returns the fault of an inner node's claim, if any, by the claims of the nodes of its halves.
+// Returns the fault of an inner node's claim, if any, whatever the sizes of the sets.
 #[tactic(auto, using(crate::proofs::Sets::set_ascending))]
-pub fn claim_fault(
-    labels: &Labels,
-    claim: Claim,
-    left: Claim,
-    right: Claim,
-) -> Option<CheckFaultKind>
+fn sets_fault(labels: &Labels, claim: Claim, left: Claim, right: Claim) -> Option<CheckFaultKind>
     requires claim { IsAscending (length labels.now) 0 (map (λ i. i.0) claim.set.now) }
     requires left { IsAscending (length labels.now) 0 (map (λ i. i.0) left.set.now) }
     requires right { IsAscending (length labels.now) 0 (map (λ i. i.0) right.set.now) }
@@ -114,6 +109,51 @@ pub fn claim_fault(
         fault_by(cost, below + 1, is_full)
     } else {
         fault_by(cost, below, has_common(claim.set, left.set, right.set))
+    }
+}
+
+// Returns the label of a set that has only one.
+#[inline(always)]
+fn single(set: &[LabelId]) -> Option<LabelId>
+    ensures { IfSome result (λ id. set.now ≡ id ∷ []) }
+{
+    match set {
+        [id] => Some(*id),
+        _ => None,
+    }
+}
+
+/// Returns the fault of an inner node's claim, if any, by the claims of the nodes of its halves. Most often each half
+/// claims one label, so there is a short cut for that case.
+#[tactic(auto, using(crate::proofs::Sets::set_ascending))]
+pub fn claim_fault(
+    labels: &Labels,
+    claim: Claim,
+    left: Claim,
+    right: Claim,
+) -> Option<CheckFaultKind>
+    requires claim { IsAscending (length labels.now) 0 (map (λ i. i.0) claim.set.now) }
+    requires left { IsAscending (length labels.now) 0 (map (λ i. i.0) left.set.now) }
+    requires right { IsAscending (length labels.now) 0 (map (λ i. i.0) right.set.now) }
+    ensures { result ≡ claim_fault_of (claim_in labels.now claim.entry)
+        (exact_claim (claim_in labels.now left.entry) (claim_in labels.now right.entry)) }
+{
+    let Some(low) = single(left.set) else {
+        return sets_fault(labels, claim, left, right);
+    };
+    let Some(high) = single(right.set) else {
+        return sets_fault(labels, claim, left, right);
+    };
+    // Provides the laws of a table of labels.
+    let _count = labels.len();
+    let cost = u64::from(claim.cost);
+    let below = u64::from(left.cost) + u64::from(right.cost);
+    let has_low = has_one(claim.set, low);
+    if low.0 == high.0 {
+        fault_by(cost, below, has_low)
+    } else {
+        let has_high = has_one(claim.set, high);
+        fault_by(cost, below + 1, has_low & has_high)
     }
 }
 

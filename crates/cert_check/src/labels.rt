@@ -30,6 +30,7 @@ pub fn numbers_in(
 }
 
 /// Returns whether `own`, a label of the one table, is the label `id` of the other, by the result of [`numbers_in`].
+#[inline(always)]
 pub fn is_label(numbers: &[Option<LabelId>], own: Option<LabelId>, id: LabelId) -> bool
     requires { ForSome own (λ label. label.0 < length numbers.now) }
     ensures { (from to : List Label) → AreNumbers numbers.now from to → id.0 < length to →

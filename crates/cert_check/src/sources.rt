@@ -77,6 +77,7 @@ impl<'a> Sources<'a> {
     }
 
     /// Returns the fault of a leaf in the block with the certificate's label `id`, if any.
+    #[inline(always)]
     pub fn leaf_fault(&self, near: &mut Near, block: &Block, id: LabelId) -> Option<CheckFaultKind>
         requires sources { AreSources self.now }
         requires version { block.now.version ≡ self.now.map.now.version }

@@ -1,5 +1,5 @@
 //! The walk over the nodes of a certificate or of its text, which reads and checks each of them.
-ghost use Rattle.std.specs.Prelude.{◌≡◌, ◌+◌, ◌*◌, ◌++◌, ◌<◌, None, IfOk, OnOk, length, take};
+ghost use Rattle.std.specs.Prelude.{◌≡◌, ◌+◌, ◌*◌, ◌++◌, ◌∷◌, [], ◌<◌, None, IfOk, OnOk, length, take};
 ghost use Rattle.std.specs.Option.{option_or};
 ghost use Rattle.prefix_keys.specs.declared.block.Block.{Block};
 ghost use Rattle.pmap_text.specs.PrefixList.{number_of_block as number_of};
@@ -14,7 +14,6 @@ use pmap_cert::{CertFault, CertFaultKind, Claim, LineLimits, Node, NodeBuffer, N
 use pmap_text::LabelId;
 use prefix_keys::Block;
 use std::alloc::{AllocError, Global};
-use std::slice;
 
 /// The rest of a certificate's nodes, with the last one that was read from a text, the number of the next node, from 1,
 /// the sets of the nodes whose claims are still to be compared, in the order of their lines, the stretches that were
@@ -81,6 +80,15 @@ fn hold(sets: &mut Vec<LabelId>, claim: Claim) -> Result<StoredClaim, AllocError
     })
 }
 
+// Adds the label that a leaf claims to others.
+#[inline(always)]
+fn hold_leaf(sets: &mut Vec<LabelId>, id: LabelId) -> Result<(), AllocError>
+    ensures { OnOk result (sets.new.items ≡ sets.old.items ++ id ∷ []) }
+{
+    sets.push(id)?;
+    Ok(())
+}
+
 // Returns the number of the node after one.
 fn next_number(number: u64) -> u64
     ensures { IsAfter number result }
@@ -103,7 +111,7 @@ pub fn check_node(sources: &Sources, walk: &mut Walk, block: &Block) -> Result<u
     walk.number = next_number(number);
     match walk.nodes.next_node(&mut walk.buffer, &sources.limits)? {
         Node::Leaf(id) => {
-            walk.sets.extend_from_slice(slice::from_ref(&id))?;
+            hold_leaf(&mut walk.sets, id)?;
             let fault = sources.leaf_fault(&mut walk.near, block, id);
             walk.note(fault, number);
             Ok(0)

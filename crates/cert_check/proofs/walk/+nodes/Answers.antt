@@ -1,4 +1,4 @@
-use Rattle.std.proofs.Common.{◌≡◌, ◌∙◌, ◌+◌, ◌++◌, ◌-◌, ◌<◌, ◌∷◌, [], ℕ, Bool, List, Ok, ap, arith, drop, length, refl, rules, subst, sym, take}
+use Rattle.std.proofs.Common.{◌≡◌, ◌∙◌, ◌+◌, ◌-◌, ◌<◌, ◌∷◌, [], ℕ, Bool, List, Ok, ap, arith, drop, length, refl, rules, subst, sym, take}
 use Rattle.std.proofs.lemmas.Result.{err_from_is_err_and}
 use Rattle.std.proofs.lemmas.List.{append-nil}
 use Rattle.prefix_keys.specs.Block.{width_of}
@@ -121,8 +121,8 @@ check_node-returns-in_ok-held-in-Chain t c =
     (subst (λ (x : Claim × List LabelId). IsAnswer s (chain_reading s n x.0 bits c.in-Chain.side.0 (place_in c.next_node.new.self)) (fault_of_node s c.args.block.now) c.args.walk.now.number x.1 c.args.walk.now.fault c.check_chain.new.walk c.check_chain.result)
     (λ i. (claim_with table (c.in_ok-held-in-Chain.ensures.cost i) (numbers (held.1 i)), held.0 i)) c.check_chain.ensures)
 
-pub check_node-returns-in_ok-extend_from_slice-in-Leaf : goal.check_node-returns-in_ok-extend_from_slice-in-Leaf
-check_node-returns-in_ok-extend_from_slice-in-Leaf t c =
+pub check_node-returns-in_ok-hold_leaf-in-Leaf : goal.check_node-returns-in_ok-hold_leaf-in-Leaf
+check_node-returns-in_ok-hold_leaf-in-Leaf t c =
     let s = c.args.sources.now in
     let limits = s.limits in
     let p = c.args.block.now in
@@ -138,7 +138,7 @@ check_node-returns-in_ok-extend_from_slice-in-Leaf t c =
       read = node-leaf (due_in limits.format limits.width limits.labels.now) limits.labels.now (place_in walk.nodes) (place_in c.next_node.new.self) (limits.width - p.len) id.0 due;
       claim = refl;
       ascending = (omega arith, said.1, tt);
-      sets = c.in_ok-extend_from_slice-in-Leaf.ensures.items ∙ ap (λ (ids : List LabelId). walk.sets.items ++ ids) c.from_ref.ensures.value;
+      sets = c.in_ok-hold_leaf-in-Leaf.ensures;
       fault = λ k told_is. ((λ i. option_or walk.fault (fault_with (sym told_is i) (c.leaf_fault-fault.ensures i))), sym (c.next_number-walk.ensures k told_is));
     })
 
