@@ -17,8 +17,8 @@ use Rattle.pmap_cert.specs.FormatReading.{Place}
 use Rattle.pmap_cert.specs.NodeSource.{place_in}
 use Rattle.pmap_cert.specs.Paths.{LeadsTo}
 use Rattle.pmap_cert.specs.declared.fault.CertFault.{CertFault}
-use Rattle.cert_check.specs.Checking.{bits_fault, claim_fault, fault_of_number, node_fault, told, CheckFault, CheckFaultKind}
-use Rattle.cert_check.specs.Inner.{CanBeRead, IsAfter, IsHalf, IsPassed, IsUnread, Read, Sources, Walk, chain_reading, claim_with, fault_of_node, fault_with, halves_reading, reading_at, sides_fault}
+use Rattle.cert_check.specs.Checking.{bits_fault, claim_fault, fault_of_number, node_fault, CheckFault, CheckFaultKind}
+use Rattle.cert_check.specs.Inner.{CanBeRead, IsAfter, IsHalf, IsPassed, IsUnread, Read, Sources, Walk, chain_reading, claim_with, fault_of_node, fault_with, halves_reading, reading_at, sides_fault, told}
 use Rattle.cert_check.proofs.Nodes.{bits-sides, half-is, or-or}
 use Rattle.cert_check.proofs.Sets.{numbers}
 

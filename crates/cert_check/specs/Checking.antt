@@ -50,13 +50,10 @@ claim_fault claim exact =
     if nat_lt exact.cost claim.cost then Some CostTooHigh
     else (if claim.cost == exact.cost && not (list_all (has claim.labels) exact.labels) then Some SetTooSmall else None)
 
--- a node's number in a fault, which is at most 2 ^ 64 - 1
-abbrev pub told : ℕ → ℕ
-told number = if nat_lt number (2 ^ 64) then number else 2 ^ 64 - 1
-
--- a fault of the node with this number, or of no single node if it is 0
+-- a fault of the node with this number, in place of which at most 2 ^ 64 - 1 is reported, or of no single node if it
+-- is 0
 abbrev pub fault_of_number : ℕ → CheckFaultKind → CheckFault
-fault_of_number number kind = record { kind = kind; node = told number }
+fault_of_number number kind = record { kind = kind; node = if nat_lt number (2 ^ 64) then number else 2 ^ 64 - 1 }
 
 -- The first fault along the bits of the chain with this number: first that of its end, then those of the side blocks
 -- from the deepest up.

@@ -1,4 +1,4 @@
-use Rattle.std.specs.Prelude.{ℕ, suc, List, [], ◌∷◌, ◌≡◌, ◌+◌, ◌-◌, ◌==◌, ◌&&◌, Bool, Option, None, Some, map, nat_le, option_map, length, ◌<◌, ◌≤◌, ◌≢◌, ◌++◌, Result, Ok, Err, drop}
+use Rattle.std.specs.Prelude.{ℕ, suc, List, [], ◌∷◌, ◌≡◌, ◌+◌, ◌-◌, ◌==◌, ◌&&◌, ◌^◌, Bool, Option, None, Some, if◌then◌else◌, map, nat_le, nat_lt, option_map, length, ◌<◌, ◌≤◌, ◌≢◌, ◌++◌, Result, Ok, Err, drop}
 use Rattle.std.specs.List.{list_any}
 use Rattle.std.specs.Option.{option_or}
 use Rattle.prefix_keys.specs.Block.{width_of, first_of, last_of}
@@ -25,11 +25,15 @@ use Rattle.pmap_cert.specs.Inner.{node_due_at}
 use Rattle.pmap_cert.specs.NodeSource.{HasFittingLines, place_in}
 use Rattle.pmap_cert.specs.declared.node_source.NodeSource.{NodeSource}
 use Rattle.pmap_text.specs.Reading.{◌>>=◌}
-use Rattle.cert_check.specs.Checking.{is_label_of, first_fault, leaf_fault, node_fault, told, CheckFault, CheckFaultKind}
+use Rattle.cert_check.specs.Checking.{is_label_of, first_fault, leaf_fault, node_fault, CheckFault, CheckFaultKind}
 pub use Rattle.cert_check.specs.declared.source.Source.{Source}
 pub use Rattle.cert_check.specs.declared.sources.Sources.{Sources}
 pub use Rattle.cert_check.specs.declared.walk.StoredClaim.{StoredClaim}
 pub use Rattle.cert_check.specs.declared.walk.Walk.{Walk}
+
+-- a node's number in a fault, which is at most 2 ^ 64 - 1
+abbrev pub told : ℕ → ℕ
+told number = if nat_lt number (2 ^ 64) then number else 2 ^ 64 - 1
 
 -- the numbers of one table's labels in another table, `None` for a label that the other lacks
 pub record AreNumbers (numbers : List (Option LabelId)) (from to : List Label) : Type 0 where

@@ -1,7 +1,7 @@
 //! Verdicts of `check`: FORMATS.md, "What `check` reports".
 #![tactic(auto, unfolding(crate::specs::Certificates::opened))]
 
-ghost use Rattle.cert_check.specs.Checking.{told};
+ghost use Rattle.cert_check.specs.Checking.{fault_of_number};
 ghost use Rattle.cert_check.specs.declared.fault.CheckFaultKind.TheVariants.{BoundNotMet, CostTooHigh, LeafNotUniform, ListDiffers, SetTooSmall, VersionDiffers};
 ghost use Rattle.definition_examples.specs.Certificates.{AreMinimalPair, head, last, last_list, last_map, minimal, quarters, quarters_list, quarters_map, refused, verdict};
 ghost use Rattle.pmap_cert.specs.FormatReading.{format_reading};
@@ -182,7 +182,7 @@ pub fn no_verdict_on_faulty_texts()
 
 /// FORMATS.md, "What `check` reports": the number of the node, or 18446744073709551615 if the number is larger.
 pub fn a_node_has_its_number()
-    ensures above_999 { told 1000 ≡ 1000 }
-    ensures the_greatest { told 18446744073709551615 ≡ 18446744073709551615 }
-    ensures above_the_greatest { told 18446744073709551616 ≡ 18446744073709551615 }
+    ensures above_999 { (fault_of_number 1000 BoundNotMet).node ≡ 1000 }
+    ensures the_greatest { (fault_of_number 18446744073709551615 BoundNotMet).node ≡ 18446744073709551615 }
+    ensures above_the_greatest { (fault_of_number 18446744073709551616 BoundNotMet).node ≡ 18446744073709551615 }
 {}

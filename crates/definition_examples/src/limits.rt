@@ -2,16 +2,18 @@
 
 ghost use Rattle.pmap_text.specs.ListModel.{Prefix};
 ghost use Rattle.pmap_text.specs.MapModel.{Mapping};
-ghost use Rattle.pmap_text.specs.Reading.{content_line, has_prefix, has_room, no_lines};
+ghost use Rattle.pmap_text.specs.Reading.{content_line, no_lines};
+ghost use Rattle.pmap_text.specs.Inner.{has_prefix};
 ghost use Rattle.pmap_text.specs.declared.fault.MapFaultKind.TheVariants.{TooMany};
 ghost use Rattle.pmap_text.specs.declared.form.Form.TheVariants as form;
 ghost use Rattle.std.specs.Prelude.{◌≡◌, codes, Err, false, is_ok, length, List, replicate, true};
 
 /// A text has at most 65,535 different labels. A label that the text has already needs no room.
 pub fn a_text_has_at_most_65535_labels()
-    ensures room { has_room (replicate 65534 (codes "x")) (codes "A") ≡ true }
-    ensures no_room { has_room (replicate 65535 (codes "x")) (codes "A") ≡ false }
-    ensures a_known_label { has_room (replicate 65535 (codes "x")) (codes "x") ≡ true }
+    ensures room { is_ok (content_line form.Map (record no_lines { table = replicate 65534 (codes "x") })
+        (codes "default A")) ≡ true }
+    ensures a_known_label { is_ok (content_line form.Map (record no_lines { table = replicate 65535 (codes "x") })
+        (codes "default x")) ≡ true }
     ensures of_a_default { content_line form.Map (record no_lines { table = replicate 65535 (codes "x") })
         (codes "default A") ≡ Err TooMany }
     ensures of_a_declaration { content_line form.Map (record no_lines { table = replicate 65535 (codes "x") })

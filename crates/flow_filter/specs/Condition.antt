@@ -21,18 +21,14 @@ covers (version, value, len) address =
     let block = block_number (width_of version) len in
     option_map_or (λ found. block found.1 == block value) (converted version address) false
 
--- the number is between the range's low end and its high end, both included
-abbrev pub in_range : ℕ → Range → Bool
-in_range n r = nat_le r.low n && nat_le n r.high
-
 -- a test of a row, by the labels of its addresses
 abbrev pub RowTest : Type 0
 RowTest = (AddressOf → Option (List ℕ)) → RowView → Bool
 
--- the test that a range covers a number of the row, that a block covers an address of the row, and that an address of the
--- row has this label
+-- the test that a range covers a number of the row, its ends included, that a block covers an address of the row, and
+-- that an address of the row has this label
 abbrev pub by_number : (RowView → ℕ) → Option Range → Option RowTest
-by_number number = option_map (λ range label row. in_range (number row) range)
+by_number number = option_map (λ range label row. nat_le range.low (number row) && nat_le (number row) range.high)
 
 abbrev pub by_address : (RowView → ℕ) → Option BlockOf → Option RowTest
 by_address address = option_map (λ block label row. covers block (row.version, address row))
@@ -53,17 +49,14 @@ item_test SourceLabel item = Some (by_label (λ row. row.src) item)
 item_test DestinationLabel item = Some (by_label (λ row. row.dst) item)
 item_test AnyLabel item = Some (λ label row. by_label (λ row. row.src) item label row || by_label (λ row. row.dst) item label row)
 
--- the items of an option's text: those between commas if it is a list, otherwise the whole text
-abbrev pub items_of : FilterOption → List ℕ → List (List ℕ)
-items_of o = slice_split (λ b. is_list o && b == 44)
-
 -- an option that is given, with its text
 abbrev pub Part : Type 0
 Part = FilterOption × List ℕ
 
--- the tests of the items, if all items are well formed
+-- the tests of an option's items, if all items are well formed; the items are those between commas if the text is a
+-- list, otherwise the whole text
 abbrev pub tests_of : Part → Option (List RowTest)
-tests_of (o, text) = all_some (map (item_test o) (items_of o text))
+tests_of (o, text) = all_some (map (item_test o) (slice_split (λ b. is_list o && b == 44) text))
 
 abbrev pub is_malformed : Part → Bool
 is_malformed part = is_none (tests_of part)
@@ -77,17 +70,25 @@ meets label row part = option_map_or (list_any (λ test. test label row)) (tests
 abbrev pub Condition : Type 0
 Condition = List Part
 
--- the row meets each option given, with these labels of addresses
-abbrev pub row_passes : Condition → (AddressOf → Option (List ℕ)) → RowView → Bool
-row_passes condition label row = list_all (meets label row) condition
-
 -- an option on labels is given
 abbrev pub needs_map : Condition → Bool
 needs_map condition = list_any (λ part. is_on_labels part.0) condition
 
+-- the row meets each option given, with these labels of addresses
+abbrev pub row_passes : Condition → (AddressOf → Option (List ℕ)) → RowView → Bool
+row_passes condition label row = list_all (meets label row) condition
+
 -- the rows that meet the condition, under a labelling or without one
 abbrev pub passing : Condition → Option Labelling → List RowView → List RowView
 passing condition labels all = filter (row_passes condition (label_where labels)) all
+
+-- Parts of these definitions: a number in a range, and the items of an option's text.
+
+abbrev pub in_range : ℕ → Range → Bool
+in_range n r = nat_le r.low n && nat_le n r.high
+
+abbrev pub items_of : FilterOption → List ℕ → List (List ℕ)
+items_of o = slice_split (λ b. is_list o && b == 44)
 
 -- the options that have a text, with their texts
 abbrev pub given : List (Option (List ℕ)) → List FilterOption → Condition

@@ -19,17 +19,21 @@ name_of SourceLabel = codes "src-label"
 name_of DestinationLabel = codes "dst-label"
 name_of AnyLabel = codes "any-label"
 
--- the text is a label, and the text is a list of items, separated by commas
+-- the text is a list of items, separated by commas: it is no range, and no label
+abbrev pub is_list : FilterOption → Bool
+is_list Packets = false
+is_list Bytes = false
+is_list SourceLabel = false
+is_list DestinationLabel = false
+is_list AnyLabel = false
+is_list o = true
+
+-- the text is a label
 abbrev pub is_on_labels : FilterOption → Bool
 is_on_labels SourceLabel = true
 is_on_labels DestinationLabel = true
 is_on_labels AnyLabel = true
 is_on_labels o = false
-
-abbrev pub is_list : FilterOption → Bool
-is_list Packets = false
-is_list Bytes = false
-is_list o = not (is_on_labels o)
 
 -- the fault of a text that is malformed; any text is a label
 abbrev pub kind_of : FilterOption → FilterFaultKind

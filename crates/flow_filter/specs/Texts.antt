@@ -12,22 +12,21 @@ abbrev pub range_between : Option ℕ → Option ℕ → Option Range
 range_between (Some low) (Some high) = if nat_le low high then Some (record { low = low; high = high }) else None
 range_between _ _ = None
 
--- the upper end in the text after a `-`, which may be empty if the range may be open
-abbrev pub upper_end : Bool → ℕ → List ℕ → Option ℕ
-upper_end may_be_open limit text = if may_be_open && length text == 0 then Some limit else decimal_number 20 limit text
-
 -- the numbers of a text `N` or `N-M`, or `N-` if the range may be open: all from N to the limit; without a `-` the upper
 -- end is the lower end; a number has up to 20 digits
 abbrev pub number_range : Bool → ℕ → List ℕ → Option Range
 number_range may_be_open limit text =
     let low = decimal_number 20 limit (before_first (λ b. b == 45) text) in
-    range_between low (if list_any (λ b. b == 45) text then upper_end may_be_open limit (after_first (λ b. b == 45) text) else low)
+    let rest = after_first (λ b. b == 45) text in
+    range_between low (if list_any (λ b. b == 45) text
+    then (if may_be_open && length rest == 0 then Some limit else decimal_number 20 limit rest) else low)
+
+-- an item of an address list: a block if there is a `/`, otherwise an address, as the block of this address alone
+abbrev pub address_item : List ℕ → Option BlockOf
+address_item text =
+    if list_any (λ b. b == 47) text then result_ok (block_of_text text)
+    else option_map (λ address. (address.0, address.1, width_of address.0)) (address_of text)
 
 -- the block of one address
 abbrev pub single : AddressOf → BlockOf
 single address = (address.0, address.1, width_of address.0)
-
--- an item of an address list: a block if there is a `/`, otherwise an address
-abbrev pub address_item : List ℕ → Option BlockOf
-address_item text =
-    if list_any (λ b. b == 47) text then result_ok (block_of_text text) else option_map single (address_of text)

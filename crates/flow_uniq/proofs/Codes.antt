@@ -14,7 +14,7 @@ abbrev part_with : List ℕ → KeyPartModel
 part_with [] = LabelPart None
 part_with (kind ∷ []) = LabelPart None
 part_with (kind ∷ first ∷ rest) =
-    if kind == 0 then AddressPart (if first == 4 then V4 else V6, get_or rest 0 0)
+    if kind == 0 then AddressPart (if first == 32 then V4 else V6, get_or rest 0 0)
     else if kind == 1 then NumberPart first
     else LabelPart (Some rest)
 

@@ -59,18 +59,19 @@ pub record AreOfNoRows (asked : List KeyField) (g : GroupsModel) : Type 0 where
 
 -- The order of groups, and groups in this order.
 
--- keys compare by their parts from the left, and parts by their numbers
-abbrev pub key_order : Key → Key → Ordering
-key_order a b = slice_cmp (λ p q. slice_cmp nat_cmp (part_numbers p) (part_numbers q)) a b
-
--- whether the group's key is before that of the other
+-- whether the group's key is before that of the other: keys compare by their parts from the left, and parts by their
+-- numbers
 abbrev pub is_before : GroupModel → GroupModel → Bool
-is_before g h = is_lt (key_order g.key h.key)
-
--- the groups in their order
-abbrev pub sorted_groups : List GroupModel → List GroupModel
-sorted_groups groups = in_order is_before groups
+is_before g h = is_lt (slice_cmp (λ p q. slice_cmp nat_cmp (part_numbers p) (part_numbers q)) g.key h.key)
 
 -- the groups in the order of output: in the order of their first rows, or sorted
 abbrev pub shown_groups : Bool → List GroupModel → List GroupModel
-shown_groups sorted groups = if sorted then sorted_groups groups else groups
+shown_groups sorted groups = if sorted then in_order is_before groups else groups
+
+-- Parts of these definitions: the order of keys, and groups in their order.
+
+abbrev pub key_order : Key → Key → Ordering
+key_order a b = slice_cmp (λ p q. slice_cmp nat_cmp (part_numbers p) (part_numbers q)) a b
+
+abbrev pub sorted_groups : List GroupModel → List GroupModel
+sorted_groups groups = in_order is_before groups

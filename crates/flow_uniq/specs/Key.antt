@@ -1,10 +1,10 @@
 use Rattle.std.specs.Prelude.{ℕ, ◌==◌, Bool, true, false, List, [], ◌∷◌, ◌++◌, Option, Result, Err, codes, find, filter_map, fold, is_none, ok_or, if◌then◌else◌, Some, None, map}
 use Rattle.std.specs.List.{list_any, slice_split}
+use Rattle.std.specs.Option.{option_map_or}
 use Rattle.std.specs.Str.{bytes_eq}
 use Rattle.std.specs.Cmp.Lexicographic.{pointwise}
 use Rattle.prefix_keys.specs.Text.{AddressOf}
-use Rattle.prefix_keys.specs.declared.version.Version.{Version}
-use Rattle.prefix_keys.specs.declared.version.Version.TheVariants.{V4, V6}
+use Rattle.prefix_keys.specs.Block.{width_of}
 use Rattle.pmap_text.specs.MapModel.{Label}
 use Rattle.flow_rows.specs.Elements.{RowView}
 pub use Rattle.flow_uniq.specs.declared.field.KeyField.{KeyField}
@@ -101,20 +101,12 @@ module _ (label : AddressOf → Option Label) where
   abbrev pub key_of : List KeyField → RowView → Key
   key_of fields row = map (key_part row) fields
 
--- the numbers by which parts are distinguished and ordered: the number of the kind, followed by the version and the
+-- the numbers by which parts are distinguished and ordered: the number of the kind, followed by the width and the
 -- value of an address, by the number itself, by nothing for a missing label, or by a zero and the bytes of a label
-abbrev pub version_number : Version → ℕ
-version_number V4 = 4
-version_number V6 = 6
-
-abbrev pub label_numbers : Option Label → List ℕ
-label_numbers None = []
-label_numbers (Some text) = 0 ∷ text
-
 abbrev pub part_numbers : KeyPartModel → List ℕ
-part_numbers (AddressPart address) = 0 ∷ version_number address.0 ∷ address.1 ∷ []
+part_numbers (AddressPart address) = 0 ∷ width_of address.0 ∷ address.1 ∷ []
 part_numbers (NumberPart number) = 1 ∷ number ∷ []
-part_numbers (LabelPart label) = 2 ∷ label_numbers label
+part_numbers (LabelPart label) = 2 ∷ option_map_or (λ text. 0 ∷ text) label []
 
 -- whether the keys have equal parts
 abbrev pub same_key : Key → Key → Bool

@@ -19,18 +19,18 @@ use Rattle.flowlabel.specs.BytesFault.{role_of}
 use Rattle.flowlabel.specs.ByFile.{ByFile, Role, at, each, turn, with_at}
 use Rattle.flowlabel.specs.declared.by_file.Role.TheVariants as role
 use Rattle.flowlabel.specs.declared.bytes_fault.BytesFault.TheVariants.{List as InList, Certificate as InCertificate, Flows as InFlows}
-use Rattle.flowlabel.specs.Output.{BytesFault, Decodes, Faulty, IsOutput, LabelsThen, NoMemory, Outcome, OutputFault, Prints, Returns, Then, Unread}
+use Rattle.flowlabel.specs.Output.{BytesFault, Decodes, Faulty, FlowsThen, IsOutput, LabelsThen, NoMemory, Outcome, OutputFault, Prints, Returns, Then, Unread}
 use Rattle.flowlabel.proofs.Outcomes.{CertificateThen, ListThen, PrintsCompact, ReportsOf}
 use Rattle.pmap_text.specs.ListModel.{ListModel}
 use Rattle.pmap_cert.specs.FormatReading.{format_reading}
 use Rattle.pmap_text.specs.Reading.{list_reading}
 use Rattle.flowlabel.specs.declared.run.labels.LabelsRead.{LabelsRead}
 use Rattle.flowlabel.specs.declared.run.labels.LabelsRead.TheVariants as read
-use Rattle.flowlabel.specs.Reports.{AreLabels, AreLabelsOf, IsMade, IsReadOf, IsReadOut, IsWhole, LabelsMade, Makes, ReadsLabels, ReadsMessages, ReportsThen, labelling_found, labelling_read}
+use Rattle.flowlabel.specs.Reports.{AreLabels, AreLabelsOf, IsMade, IsReadOf, IsReadOut, IsWhole, LabelsMade, Makes, ReadsLabels, ReadsMessages, ReportsThen, SourceThen, labelling_found, labelling_read}
 use Rattle.flowlabel.specs.declared.command.LabelFile.{LabelFile}
 use Rattle.flowlabel.specs.declared.command.LabelFile.TheVariants.{Map, List as Prefixes}
-use Rattle.flowlabel.specs.Request.{Command, FromList, FromMap, LabelSource, Text, role_in, source_by, source_with, with_texts}
-use Rattle.flowlabel.specs.Run.{AreAllFetched, AreLaterUntouched, AreReadOn, AreReported, AreTexts, AreUnread, EndsAs, IsFaultOf, IsNamed, MayHave, RunFault, CannotRead, File, NoMemory as OutOfMemory, Source, any_failed, is_unread, name_in, view_of}
+use Rattle.flowlabel.specs.Request.{Command, FromList, FromMap, LabelSource, Text, role_in, source_by, source_with}
+use Rattle.flowlabel.specs.Run.{AreAllFetched, AreLaterUntouched, AreReadOn, AreTexts, AreUnread, EndsAs, IsFaultOf, IsNamed, MayHave, RunFault, CannotRead, File, NoMemory as OutOfMemory, Source, any_failed, is_unread, name_in, view_of}
 
 -- a result that passes on a fault has the properties of one with this fault
 pub handed_on : {A F : Type 0} (P : Result A F → Type 0) (r : Result A F) (fault : F) → IsErrAnd r (λ y. y ≡ fault) → P (Err fault) → P r
@@ -132,7 +132,7 @@ early (Map file) = omega arith
 early (Prefixes file) = omega arith
 
 pub labels_first : (rest : Labelling → Outcome → Type 0) (file : LabelFile) (texts : ByFile Text) (fault : BytesFault)
-    → ((labels : Labelling) → rest labels (Err fault) → 1 ≤ turn (role_of fault)) → LabelsThen rest (source_with texts file) (Err fault)
+    → ((labels : Labelling) → rest labels (Err fault) → 1 ≤ turn (role_of fault)) → LabelsThen rest file texts (Err fault)
     → turn (role_in file) ≤ turn (role_of fault)
 labels_first rest (Map file) texts fault follows is = omega arith
 labels_first rest (Prefixes file) texts fault follows is =
@@ -144,15 +144,22 @@ ReportsOver report named texts = ReportsThen report (option_map (source_with tex
 
 report_first : (report : Option Labelling → List MessageView → List ℕ) (file : LabelFile) (texts : ByFile Text) (fault : BytesFault)
     → ReportsOver report (Some file) texts (Err fault) → turn (role_in file) ≤ turn (role_of fault)
-report_first report file texts fault =
-    labels_first (λ labels. ReportsOf report (Some labels) texts.flows) file texts fault
-    (λ labels after. omega (arith, flows_only report (Some labels) texts.flows fault after))
+report_first report (Map file) texts fault is = omega arith
+report_first report (Prefixes file) texts fault is =
+    labels_first (λ labels. ReportsOf report (Some labels) texts.flows) (Prefixes file) texts fault
+    (λ labels after. omega (arith, flows_only report (Some labels) texts.flows fault after)) is
 
 -- what holds of the source of labels with a text holds among texts of which this is the file's
 pub of_source : (P : LabelSource → List ℕ → Type 0) (file : LabelFile) (text : Text) (texts : ByFile Text) → at (role_in file) texts ≡ text → P (source_by file text) texts.flows
     → P (source_with texts file) texts.flows
 of_source P (Map file) text texts same is = subst (λ (t : Text). P (FromMap t) texts.flows) (sym same) is
 of_source P (Prefixes file) text texts same is = subst (λ (t : Text). P (FromList t) texts.flows) (sym same) is
+
+-- a result over the text of a file of labels is one over texts of which this is the file's
+pub labels_of : (rest : Labelling → Outcome → Type 0) (file : LabelFile) (text : Text) (texts : ByFile Text) (result : Result (Vec ℕ) OutputFault)
+    → at (role_in file) texts ≡ text → Returns (SourceThen rest (source_by file text)) result → Returns (LabelsThen rest file texts) result
+labels_of rest (Map file) text texts result same is = subst (λ (t : Text). Returns (SourceThen rest (FromMap t)) result) (sym same) is
+labels_of rest (Prefixes file) text texts result same is = subst (λ (t : Text). Returns (SourceThen rest (FromList t)) result) (sym same) is
 
 -- of which file a reader can have failed
 unread_at : (q p : Role) (ended : Bool) (bytes : List ℕ) (fault : OutputFault) → IsWhole q ended (Err fault) bytes
@@ -356,6 +363,13 @@ module _ {R : Type 0} {input : R → InputView} where
         whole_made (ReportsOver report (Some file)) (role_in file) (Err fault) fresh (report_first report file) got
         (λ texts same. of_source (λ source flows. Returns (ReportsThen report (Some source) flows) (Err fault)) file text.items texts same (is report texts.flows))
 
+-- a report under a file of labels
+pub report_labels : {R : Type 0} (input : R → InputView) (report : Option Labelling → List MessageView → List ℕ) (named : Option LabelFile) (old new : ByFile (Option (Source R)))
+    (result : Result (Vec ℕ) OutputFault) → IsMade input (ReportsOver report named) old new result → IsMade input (FlowsThen (λ labels messages. Prints (report labels messages)) named) old new result
+report_labels input report None old new result is = is
+report_labels input report (Some (Map file)) old new result is = is
+report_labels input report (Some (Prefixes file)) old new result is = is
+
 -- no labels are read
 pub no_labels : {R : Type 0} (input : R → InputView) (files : ByFile (Option (Source R))) → any_failed input files ≡ false → LabelsMade input None files files read.None
 no_labels input files none = record { reads = λ texts given. refl; flows = refl; works = none; read = none_read input files }
@@ -454,14 +468,15 @@ reports new text bytes (Some rest) same gone all =
 pub are_fetched : {R : Type 0} (input : R → InputView) (old new : ByFile (Option (Source R))) → AreReadOn input old new → AreAllFetched input old → AreAllFetched input new
 are_fetched input old new read all role = (read role).1.fetched (all role)
 
-pub are_reported : {R : Type 0} (input : R → InputView) (old new : ByFile (Option (Source R))) → AreUnread input old → AreReadOn input old new → AreReported input old new
+pub are_reported : {R : Type 0} (input : R → InputView) (old new : ByFile (Option (Source R))) → AreUnread input old → AreReadOn input old new
+    → (role : Role) (text : Text) → (view_of input (at role old)).left ≡ Some text → MayHave (view_of input (at role new)) text
 are_reported input old new unread read role text is =
     let (bytes, gives, _) = read role in let now = view_of input (at role new) in
     reports now text bytes now.left refl (subst (λ o. Consumes o now.left bytes) is gives.left) (all_read (unread role) gives)
 
 -- a run ends with the fault of its command
 pub run_fault : {R W : Type 0} (input : R → InputView) (output : W → OutputView) (command : Command) (old new : ByFile (Option (Source R))) (writer : W) (made : OutputFault) (fault : RunFault)
-    → IsNamed (each name_in old) made fault → IsFaultOf input (λ texts. IsOutput (with_texts texts command)) old new made → EndsAs input output command old new writer writer (Err fault)
+    → IsNamed (each name_in old) made fault → IsFaultOf input (IsOutput command) old new made → EndsAs input output command old new writer writer (Err fault)
 run_fault input output command old new writer NoMemory OutOfMemory named is = (NoMemory, named, is, refl)
 run_fault input output command old new writer (Unread role) (CannotRead file) named is = (Unread role, named, is, refl)
 run_fault input output command old new writer (Faulty fault) (File file other) named is = (Faulty fault, named, is, refl)

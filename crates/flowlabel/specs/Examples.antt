@@ -20,7 +20,7 @@ use Rattle.flowlabel.specs.BytesFault.{role_of}
 use Rattle.flowlabel.specs.ByFile.{ByFile, at}
 use Rattle.flowlabel.specs.Faults.{exit_status_of, fault_text}
 use Rattle.flowlabel.specs.Output.{IsOutput, Outcome}
-use Rattle.flowlabel.specs.Request.{Check, Command, Info, Label, Recert, Rows, Text, Uniq, files_of, request_of, with_texts}
+use Rattle.flowlabel.specs.Request.{Check, Command, Info, Label, Recert, Rows, Text, Uniq, files_of, request_of}
 use Rattle.flowlabel.specs.Run.{File, RunFault, Usage}
 use Rattle.flowlabel.specs.declared.command.LabelFile.{LabelFile}
 use Rattle.flowlabel.specs.declared.command.LabelFile.TheVariants.{Map, List as Prefixes}
@@ -85,7 +85,7 @@ end_of names (Err fault) = Err (File (named (unwrap_or (at (role_of fault) names
 -- this is seen of a run of the command, if its files have these texts
 abbrev pub Shows : Command → ByFile Text → ℕ × Stream × Text → Type 0
 Shows command texts end =
-    (outcome : Outcome) × IsOutput (with_texts texts command) outcome
+    (outcome : Outcome) × IsOutput command texts outcome
     × (seen (end_of (files_of (request_of command)) outcome) ≡ end)
 
 -- the run writes this text, or it reports this fault of a file

@@ -27,10 +27,13 @@ use Rattle.flowlabel.specs.declared.bytes_fault.BytesFault.TheVariants.{Map as I
 use Rattle.flowlabel.specs.BytesFault.{is_out_of_memory}
 pub use Rattle.flowlabel.specs.declared.output_fault.OutputFault.{OutputFault}
 pub use Rattle.flowlabel.specs.declared.output_fault.OutputFault.TheVariants.{Faulty, NoMemory, Unread}
-use Rattle.flowlabel.specs.Request.{Shrunk, FromList, FromMap, LabelSource, Request, Text, label, info, rows, cat, shrink, check, uniq, recert}
+use Rattle.flowlabel.specs.ByFile.{ByFile}
+use Rattle.flowlabel.specs.Request.{Cat, Check, Command, Info, Label, Recert, Rows, Shrink, Shrunk, Text, Uniq}
+use Rattle.flowlabel.specs.declared.command.LabelFile.{LabelFile}
+use Rattle.flowlabel.specs.declared.command.LabelFile.TheVariants.{Map, List as Prefixes}
 use Rattle.flowlabel.specs.declared.command.Shrunk.TheVariants as shrunk
 
--- The output of a request for the texts of its files: the text that it prints, or the first fault of these texts.
+-- The output of a command for the texts of its files: the text that it prints, or the first fault of these texts.
 
 -- a text, or the first fault
 abbrev pub Outcome : Type 0
@@ -45,16 +48,17 @@ abbrev pub Then : {F A : Type 0} → (F → BytesFault) → (A → Outcome → T
 Then in_file rest (Ok value) outcome = rest value outcome
 Then in_file rest (Err fault) outcome = outcome ≡ Err (in_file fault)
 
--- the outcome over the text of a source of labels: its first fault, or the outcome for its labelling
-abbrev pub LabelsThen : (Labelling → Outcome → Type 0) → LabelSource → Outcome → Type 0
-LabelsThen rest (FromMap text) = Then InMap (λ m. rest (labelling_of_map m)) (map_reading text)
-LabelsThen rest (FromList text) = Then InList (λ l. rest (labelling_of_list l)) (list_reading text)
+-- the outcome over the text of the map or the list that labels come from: its first fault, or the outcome for its
+-- labelling
+abbrev pub LabelsThen : (Labelling → Outcome → Type 0) → LabelFile → ByFile Text → Outcome → Type 0
+LabelsThen rest (Map file) texts = Then InMap (λ m. rest (labelling_of_map m)) (map_reading texts.map)
+LabelsThen rest (Prefixes file) texts = Then InList (λ l. rest (labelling_of_list l)) (list_reading texts.list)
 
--- the outcome over the bytes of an IPFIX File and the text of a source of labels, if there is one: the first fault, or the
--- outcome for the labelling, if there is one, and the messages
-abbrev pub FlowsThen : (Option Labelling → List MessageView → Outcome → Type 0) → Option LabelSource → List ℕ → Outcome → Type 0
-FlowsThen rest None bytes = Then InFlows (rest None) (file_reading bytes)
-FlowsThen rest (Some source) bytes = LabelsThen (λ labels. Then InFlows (rest (Some labels)) (file_reading bytes)) source
+-- the outcome over the bytes of an IPFIX File and the text that labels come from, if there is one: the first fault, or
+-- the outcome for the labelling, if there is one, and the messages
+abbrev pub FlowsThen : (Option Labelling → List MessageView → Outcome → Type 0) → Option LabelFile → ByFile Text → Outcome → Type 0
+FlowsThen rest None texts = Then InFlows (rest None) (file_reading texts.flows)
+FlowsThen rest (Some file) texts = LabelsThen (λ l. Then InFlows (rest (Some l)) (file_reading texts.flows)) file texts
 
 -- the line of the label that a labelling gives an address, which is the line feed alone if there is no label
 abbrev pub label_text : AddressOf → Labelling → List ℕ
@@ -82,21 +86,21 @@ minimal_text count = codes "minimal " ++ decimal count ++ codes "\n"
 abbrev pub Checks : MapModel → ListModel → CertificateModel → Outcome → Type 0
 Checks m l c outcome = outcome ≡ option_map_or (λ fault. Err (InCheck fault)) (first_fault m l c) (Ok (minimal_text (length l.prefixes)))
 
--- the outcome is an output of the request for these texts, read in the order map, list, certificate, flows
-abbrev pub IsOutput : Request → Outcome → Type 0
-IsOutput (label source address) = LabelsThen (λ labels. Prints (label_text address labels)) source
-IsOutput (info flows) = FlowsThen (λ labels messages. Prints (info_text (counts_of messages))) None flows
-IsOutput (rows source condition columns flows) =
-    FlowsThen (λ labels messages. Prints (table_text columns (labelled_row_lines labels (passing condition labels (rows_of_messages messages))))) source flows
-IsOutput (uniq fields source condition sorted columns flows) =
-    FlowsThen (λ labels messages. let groups = groups_of fields (label_where labels) (passing condition labels (rows_of_messages messages)) in
-    Prints (groups_text fields (shown_groups sorted groups) columns)) source flows
-IsOutput (cat source) = LabelsThen (λ labels outcome. (text : Text) × IsRunsText labels.version labels.label text × Prints text outcome) source
-IsOutput (shrink map printed) = Then InMap (λ m outcome. (l : ListModel) × (c : CertificateModel) × IsMinimalPair m l c
-    × Prints (shrunk_text printed l c) outcome) (map_reading map)
-IsOutput (check map list certificate) =
-    Then InMap (λ m. Then InList (λ l. Then InCertificate (Checks m l) (format_reading certificate)) (list_reading list)) (map_reading map)
-IsOutput (recert certificate) = Then InCertificate (λ c. Prints (certificate_text (compact c))) (format_reading certificate)
+-- the outcome is an output of the command for these texts, read in the order map, list, certificate, flows
+abbrev pub IsOutput : Command → ByFile Text → Outcome → Type 0
+IsOutput (Label labels addr) texts = LabelsThen (λ l. Prints (label_text (addr.version, addr.value) l)) labels texts
+IsOutput (Info flows) texts = FlowsThen (λ labels messages. Prints (info_text (counts_of messages))) None texts
+IsOutput (Rows labels condition columns flows) texts =
+    FlowsThen (λ l messages. Prints (table_text columns (labelled_row_lines l (passing condition l (rows_of_messages messages))))) labels texts
+IsOutput (Uniq fields labels condition sorted columns flows) texts =
+    FlowsThen (λ l messages. let groups = groups_of fields (label_where l) (passing condition l (rows_of_messages messages)) in
+    Prints (groups_text fields (shown_groups sorted groups) columns)) labels texts
+IsOutput (Cat labels) texts = LabelsThen (λ l outcome. (text : Text) × IsRunsText l.version l.label text × Prints text outcome) labels texts
+IsOutput (Shrink map printed) texts = Then InMap (λ m outcome. (l : ListModel) × (c : CertificateModel)
+    × IsMinimalPair m l c × Prints (shrunk_text printed l c) outcome) (map_reading texts.map)
+IsOutput (Check map list certificate) texts = Then InMap (λ m. Then InList (λ l. Then InCertificate (Checks m l)
+    (format_reading texts.certificate)) (list_reading texts.list)) (map_reading texts.map)
+IsOutput (Recert certificate) texts = Then InCertificate (λ c. Prints (certificate_text (compact c))) (format_reading texts.certificate)
 
 -- the fault of a command for one of bytes, which is out of memory or says something about the bytes
 abbrev pub IsFaultFor : BytesFault → OutputFault → Type 0

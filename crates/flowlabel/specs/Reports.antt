@@ -14,18 +14,25 @@ use Rattle.ipfix_read.specs.Messages.{IsReadTo, ProgressView, StopsReading, file
 use Rattle.ipfix_read.specs.declared.progress.State.TheVariants.{Going}
 use Rattle.ipfix_read.specs.declared.fault.ReadFault.{ReadFault}
 use Rattle.ipfix_read.specs.Message.{MessageView}
+use Rattle.flow_rows.specs.Counts.{rows_of_messages}
 use Rattle.flow_rows.specs.Elements.{RowView}
+use Rattle.pmap_cert.specs.Acceptance.{IsMinimalPair}
+use Rattle.pmap_cert.specs.CertificateModel.{CertificateModel}
+use Rattle.pmap_cert.specs.CertificateText.{certificate_text}
+use Rattle.pmap_cert.specs.Compacting.{compact}
+use Rattle.pmap_cert.specs.FormatReading.{format_reading}
+use Rattle.pmap_text.specs.RunsText.{IsRunsText}
 use Rattle.flow_filter.specs.Condition.{Condition, passing}
-use Rattle.flow_uniq.specs.Groups.{GroupsModel, groups_of}
+use Rattle.flow_uniq.specs.Groups.{GroupsModel, groups_of, shown_groups}
 use Rattle.flow_uniq.specs.declared.field.KeyField.{KeyField}
-use Rattle.pmap_print.specs.Reports.{column_count}
-use Rattle.pmap_print.specs.Table.{IsTable, has_columns}
+use Rattle.pmap_print.specs.Reports.{column_count, groups_text}
+use Rattle.pmap_print.specs.Table.{IsTable, has_columns, table_text}
 use Rattle.flowlabel.specs.ByFile.{ByFile, Role, at, with_at}
 use Rattle.flowlabel.specs.declared.by_file.Role.TheVariants as roles
-use Rattle.flowlabel.specs.declared.bytes_fault.BytesFault.TheVariants.{Flows as InFlows}
-use Rattle.flowlabel.specs.Output.{Faulty, FlowsThen, IsFaultFor, NoMemory, Outcome, OutputFault, Prints, Returns, Unread, labelled_row_lines}
+use Rattle.flowlabel.specs.declared.bytes_fault.BytesFault.TheVariants.{Map as InMap, List as InList, Flows as InFlows, Certificate as InCertificate}
+use Rattle.flowlabel.specs.Output.{Checks, Faulty, IsFaultFor, NoMemory, Outcome, OutputFault, Prints, Returns, Then, Unread, labelled_row_lines, shrunk_text}
 use Rattle.flowlabel.specs.declared.command.LabelFile.{LabelFile}
-use Rattle.flowlabel.specs.Request.{FromList, FromMap, LabelSource, Text, source_with}
+use Rattle.flowlabel.specs.Request.{FromList, FromMap, LabelSource, Shrunk, Text, source_with}
 use Rattle.flowlabel.specs.Run.{AreReadOn, AreTexts, IsFaultOf, Source, any_failed, is_unread, view_of}
 use Rattle.flowlabel.specs.declared.run.labels.LabelsRead.{LabelsRead}
 use Rattle.flowlabel.specs.declared.run.labels.LabelsRead.TheVariants as read
@@ -49,9 +56,44 @@ ReadsLabels None labels = labels ≡ None
 ReadsLabels (Some (FromMap text)) labels = (m : MapModel) × (map_reading text ≡ Ok m) × (labels ≡ Some (labelling_of_map m))
 ReadsLabels (Some (FromList text)) labels = (l : ListModel) × (list_reading text ≡ Ok l) × (labels ≡ Some (labelling_of_list l))
 
+-- the outcome over the text of a source of labels
+abbrev pub SourceThen : (Labelling → Outcome → Type 0) → LabelSource → Outcome → Type 0
+SourceThen rest (FromMap text) = Then InMap (λ m. rest (labelling_of_map m)) (map_reading text)
+SourceThen rest (FromList text) = Then InList (λ l. rest (labelling_of_list l)) (list_reading text)
+
 -- the report on a File under the labels of a source, or without one: a text that depends on its messages
 abbrev pub ReportsThen : (Option Labelling → List MessageView → List ℕ) → Option LabelSource → List ℕ → Outcome → Type 0
-ReportsThen text source flows = FlowsThen (λ labels messages. Prints (text labels messages)) source flows
+ReportsThen text None flows = Then InFlows (λ messages. Prints (text None messages)) (file_reading flows)
+ReportsThen text (Some source) flows =
+    SourceThen (λ labels. Then InFlows (λ messages. Prints (text (Some labels) messages)) (file_reading flows)) source
+
+-- the outcome is that of `check` for the texts of its files
+abbrev pub ChecksTexts : ByFile Text → Outcome → Type 0
+ChecksTexts texts = Then InMap (λ m. Then InList (λ l. Then InCertificate (Checks m l)
+    (format_reading texts.certificate)) (list_reading texts.list)) (map_reading texts.map)
+
+-- the outcome is the text of the certificate, compacted
+abbrev pub PrintsCompact : CertificateModel → Outcome → Type 0
+PrintsCompact c = Prints (certificate_text (compact c))
+
+-- the outcome is the text of the runs of a labelling
+abbrev pub PrintsRuns : Labelling → Outcome → Type 0
+PrintsRuns labels outcome = (text : Text) × IsRunsText labels.version labels.label text × Prints text outcome
+
+-- the outcome is the text of the list of the map's minimal pair, or of its certificate, compacted or not
+abbrev pub PrintsMinimal : Shrunk → MapModel → Outcome → Type 0
+PrintsMinimal printed m outcome =
+    (l : ListModel) × (c : CertificateModel) × IsMinimalPair m l c × Prints (shrunk_text printed l c) outcome
+
+-- the text of the rows that meet a condition
+abbrev pub report_of_rows : Condition → Bool → Option Labelling → List MessageView → List ℕ
+report_of_rows condition columns labels messages = table_text columns (labelled_row_lines labels (passing condition labels (rows_of_messages messages)))
+
+-- the text of the groups, by fields, of the rows that meet a condition
+abbrev pub report_of_groups : List KeyField → Condition → Bool → Bool → Option Labelling → List MessageView → List ℕ
+report_of_groups fields condition sorted columns labels messages =
+    let groups = groups_of fields (label_where labels) (passing condition labels (rows_of_messages messages)) in
+    groups_text fields (shown_groups sorted groups) columns
 
 -- what a call returns that reads the text of a source: its labels, or any report's fault of this text
 abbrev pub AreLabelsOf : LabelSource → Result LabelsRead OutputFault → Type 0

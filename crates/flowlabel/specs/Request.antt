@@ -13,10 +13,9 @@ use Rattle.flowlabel.specs.declared.command.LabelFile.TheVariants.{Map, List as 
 pub use Rattle.flowlabel.specs.declared.command.Shrunk.{Shrunk}
 pub use Rattle.pmap_print.specs.Table.{Text}
 
--- What a command line may ask for, independent of how the program represents it. A request has the name of a file, as the
--- words name it, or the file's text, as the output depends on it.
+-- What a command line may ask for, independent of how the program represents it.
 
--- the source of labels: a map, or a prefix list
+-- the source of labels: a map, or a prefix list, by its name or its text
 pub data LabelSource : Type 0 where
   FromMap : (file : Text) → LabelSource
   FromList : (file : Text) → LabelSource
@@ -102,18 +101,7 @@ files_of (recert certificate) = record { map = None; list = None; certificate = 
 abbrev pub needs_of : Request → ByFile Bool
 needs_of request = each is_some (files_of request)
 
--- the request of a command with the texts of its files in place of their names
+-- the source of labels with the text of its file
 abbrev pub source_with : ByFile Text → LabelFile → LabelSource
 source_with texts (Map file) = FromMap texts.map
 source_with texts (Prefixes file) = FromList texts.list
-
-abbrev pub with_texts : ByFile Text → Command → Request
-with_texts texts (Label labels addr) = label (source_with texts labels) (addr.version, addr.value)
-with_texts texts (Info flows) = info texts.flows
-with_texts texts (Rows labels filter columns flows) = rows (option_map (source_with texts) labels) filter columns texts.flows
-with_texts texts (Uniq keys labels filter sorted columns flows) =
-    uniq keys (option_map (source_with texts) labels) filter sorted columns texts.flows
-with_texts texts (Cat labels) = cat (source_with texts labels)
-with_texts texts (Shrink map printed) = shrink texts.map printed
-with_texts texts (Check map list certificate) = check texts.map texts.list texts.certificate
-with_texts texts (Recert certificate) = recert texts.certificate

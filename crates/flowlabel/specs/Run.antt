@@ -1,6 +1,7 @@
 use Rattle.std.specs.Prelude.{◌≡◌, ◌≤◌, ◌<◌, ◌||◌, ◌++◌, ⊤, ℕ, List, [], Option, Some, Result, Ok, Err, Bool, true, false}
 use Rattle.std.specs.Option.{option_map_or}
-use Rattle.flow_io.specs.Devices.{AreFetched, InputView, MayFollow, OutputView, ReadsInput, StopsWriting, Writes, has_ended}
+use Rattle.flow_io.specs.Devices.{InputView, OutputView, ReadsInput, StopsWriting, Takes, has_ended}
+use Rattle.flow_io.specs.declared.devices.LastCall.TheVariants.{Flush}
 use Rattle.ipfix_read.specs.Messages.{StopsReading}
 use Rattle.ipfix_read.specs.declared.fault.ReadFault.{ReadFault}
 use Rattle.flowlabel.specs.BytesFault.{role_of}
@@ -8,7 +9,7 @@ use Rattle.flowlabel.specs.ByFile.{ByFile, Role, at, each, turn}
 use Rattle.flowlabel.specs.declared.by_file.Role.TheVariants as roles
 use Rattle.flowlabel.specs.Headline.{IsHeadline}
 use Rattle.flowlabel.specs.Output.{BytesFault, Faulty, IsOutput, NoMemory as OutOfMemory, Outcome, OutputFault, Unread}
-use Rattle.flowlabel.specs.Request.{Command, Text, with_texts}
+use Rattle.flowlabel.specs.Request.{Command, Text}
 pub use Rattle.flowlabel.specs.declared.inputs.Inputs.{Inputs}
 pub use Rattle.flowlabel.specs.declared.inputs.Source.{Source}
 pub use Rattle.flowlabel.specs.declared.fault.RunFault.{RunFault}
@@ -30,11 +31,7 @@ IsNamed names fault run = ⊥
 
 -- the text of an input may be this one: the bytes that reads have returned, and then none after the end, otherwise any
 abbrev pub MayHave : InputView → Text → Type 0
-MayHave input text = (rest : List ℕ) × MayFollow (has_ended input) rest × (text ≡ input.returned ++ rest)
-
--- the name of a file; one that isn't there has an empty name
-abbrev pub name_in : {R : Type 0} → Option (Source R) → Text
-name_in file = option_map_or (λ source. source.name.now) file []
+MayHave input text = (rest : List ℕ) × (has_ended input ≡ true → rest ≡ []) × (text ≡ input.returned ++ rest)
 
 -- the files that are read after this one are untouched
 abbrev pub AreLaterUntouched : {R : Type 0} → Role → ByFile (Option (Source R)) → ByFile (Option (Source R)) → Type 0
@@ -56,7 +53,7 @@ module _ {R : Type 0} (input : R → InputView) where
 
   -- the bytes fetched of the files are the ones that reads have returned, and then the ones ahead
   abbrev pub AreAllFetched : ByFile (Option (Source R)) → Type 0
-  AreAllFetched files = (role : Role) → AreFetched (view_of (at role files))
+  AreAllFetched files = (role : Role) → let view = view_of (at role files) in view.fetched ≡ view.returned ++ view.ahead
 
   -- the files may have these texts
   abbrev pub AreTexts : ByFile (Option (Source R)) → ByFile Text → Type 0
@@ -65,10 +62,6 @@ module _ {R : Type 0} (input : R → InputView) where
   -- reads have returned more of the files
   abbrev pub AreReadOn : ByFile (Option (Source R)) → ByFile (Option (Source R)) → Type 0
   AreReadOn old new = (role : Role) → ReadsInput (view_of (at role old)) (view_of (at role new)) (λ _. ⊤)
-
-  -- the text that a reader reports is one that its file may have
-  abbrev pub AreReported : ByFile (Option (Source R)) → ByFile (Option (Source R)) → Type 0
-  AreReported old new = (role : Role) (text : Text) → (view_of (at role old)).left ≡ Some text → MayHave (view_of (at role new)) text
 
   -- A fault of a command, by the outcomes that it may have over the texts of the files. A fault of a file's bytes is the
   -- outcome over all texts that the files may have. It is a fault of a reader exactly if one failed. Then no earlier file
@@ -91,18 +84,23 @@ module _ {R W : Type 0} (input : R → InputView) (output : W → OutputView) wh
   -- before it is called. A fault of a device comes exactly from a device that failed.
   abbrev pub EndsAs : Command → ByFile (Option (Source R)) → ByFile (Option (Source R)) → W → W → Result (Unit {0}) RunFault → Type 0
   EndsAs command old new writer writer' (Ok done) =
-      (out : Text) × ((texts : ByFile Text) → AreTexts input new texts → IsOutput (with_texts texts command) (Ok out) × IsHeadline (with_texts texts command) out)
-      × Writes (output writer) (output writer') out × (any_failed input new ≡ false)
+      (out : Text) × ((texts : ByFile Text) → AreTexts input new texts → IsOutput command texts (Ok out) × IsHeadline command texts out)
+      × Takes (output writer) (output writer') out × ((output writer').last_call ≡ Flush)
+      × ((output writer').failed ≡ false) × (any_failed input new ≡ false)
   EndsAs command old new writer writer' (Err CannotWrite) =
-      (out : Text) × ((texts : ByFile Text) → AreTexts input new texts → IsOutput (with_texts texts command) (Ok out))
+      (out : Text) × ((texts : ByFile Text) → AreTexts input new texts → IsOutput command texts (Ok out))
       × StopsWriting (output writer) (output writer') out × (any_failed input new ≡ false)
   EndsAs command old new writer writer' (Err fault) =
-      (made : OutputFault) × IsNamed (each name_in old) made fault
-      × IsFaultOf input (λ texts. IsOutput (with_texts texts command)) old new made × (writer' ≡ writer)
+      (made : OutputFault) × IsNamed (each (λ file. option_map_or (λ source. source.name.now) file []) old) made fault
+      × IsFaultOf input (IsOutput command) old new made × (writer' ≡ writer)
 
   -- What a run does; that no other bytes were fetched; and that a text which a reader reports is among those that its file
   -- may have: then the output is the one over this text.
   pub record IsRunOf (command : Command) (old new : ByFile (Option (Source R))) (writer writer' : W) (result : Result (Unit {0}) RunFault) : Type 0 where
     pub ends : EndsAs command old new writer writer' result
     pub fetched : AreAllFetched input old → AreAllFetched input new
-    pub reported : AreReported input old new
+    pub reported : (role : Role) (text : Text) → (view_of input (at role old)).left ≡ Some text → MayHave (view_of input (at role new)) text
+
+-- the name of a file; one that isn't there has an empty name
+abbrev pub name_in : {R : Type 0} → Option (Source R) → Text
+name_in file = option_map_or (λ source. source.name.now) file []

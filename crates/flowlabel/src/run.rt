@@ -1,7 +1,6 @@
 ghost use Rattle.std.specs.Prelude.{◌≡◌, false};
 ghost use Rattle.flowlabel.specs.Output.{IsOutput};
 ghost use Rattle.flowlabel.specs.Reports.{IsMade};
-ghost use Rattle.flowlabel.specs.Request.{with_texts};
 ghost use Rattle.flowlabel.specs.Run.{AreUnread, any_failed, IsRunOf};
 
 use crate::by_file::{ByFile, Role};
@@ -40,7 +39,7 @@ fn output<R: Input>(
 ) -> Result<Vec<u8>, OutputFault>
     requires unread { AreUnread R.input files.old }
     requires works { any_failed R.input files.old ≡ false }
-    ensures { IsMade R.input (λ texts. IsOutput (with_texts texts command.now)) files.old files.new result }
+    ensures { IsMade R.input (IsOutput command.now) files.old files.new result }
 {
     match command {
         Command::Label { labels, addr } => {

@@ -73,10 +73,7 @@ module _ (text : List ℕ) (m : MapModel) (l : ListModel) (c : CertificateModel)
       (λ k d below. limits.table.labels k (get_or m.table k d) (slice_get-get_or m.table k d below)))
 
   printed : All (IsPrintedEntry l.version) l.prefixes
-  printed k d below = record {
-    block = list-has_form.blocks k d below;
-    label = label-known l.table _ table-texts (list-has_form.labels k d below);
-  }
+  printed k d below = (list-has_form.blocks k d below, label-known l.table _ table-texts (list-has_form.labels k d below))
 
   pub well-formed : IsWellFormed l
   well-formed = record {

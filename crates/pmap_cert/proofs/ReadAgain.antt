@@ -18,7 +18,8 @@ use Rattle.prefix_keys.specs.declared.version.Version.TheVariants.{V4, V6}
 use Rattle.prefix_keys.proofs.Printed.{Lacks}
 use Rattle.pmap_cert.specs.Acceptance.{HasBlock}
 use Rattle.pmap_text.specs.Label.{is_label}
-use Rattle.pmap_text.specs.Reading.{◌>>=◌, Earlier, lines_read, list_from, map_from, no_lines, text_read, unknown, map_reading, list_reading}
+use Rattle.pmap_text.specs.Reading.{◌>>=◌, Earlier, lines_read, no_lines, unknown, map_reading, list_reading}
+use Rattle.pmap_text.specs.Inner.{text_read, list_from, map_from}
 use Rattle.pmap_text.specs.ListModel.{ListModel, Prefix, label_below, list_label, CoversAddress, IsLongestMatch, is_same_prefix}
 use Rattle.pmap_text.specs.MapModel.{Label, MapModel, Mapping, last_such, spans}
 use Rattle.pmap_text.specs.declared.fault.MapFault.{MapFault}
@@ -52,7 +53,7 @@ entry-feed : (version : Version) (p : Prefix) → IsPrintedEntry version p → L
 entry-feed version p is =
     line-lacks_feed (block_text version p.start p.bits) p.label
     (omega (arith, length-append (address_text version p.start) (47 ∷ decimal p.bits)))
-    (high-block version p.start p.bits (omega (arith, width-le version, is.block.bits))) is.label
+    (high-block version p.start p.bits (omega (arith, width-le version, is.0.bits))) is.1
 
 lines-feed : (version : Version) (name : Option Label) (ps : List Prefix) → ForSome name (λ n. IsTrue (is_label n)) → All (IsPrintedEntry version) ps
     → All (Lacks 10) (name_lines name ++ mode_text version ∷ map (entry_line version) ps)
@@ -144,7 +145,7 @@ module _ (l : ListModel) (can : CanBeReadAgain l) where
       rw (order-label a)
       (found-label (width_of l.version) a (entries_in_order l.prefixes)
       (last-found (width_of l.version) a (entries_in_order l.prefixes) (in_order-order l.prefixes distinct)
-      (All-weaker (IsPrintedEntry l.version) (HasBlock (width_of l.version)) (λ p is. is.block) (entries_in_order l.prefixes) each)))
+      (All-weaker (IsPrintedEntry l.version) (HasBlock (width_of l.version)) (λ p is. is.0) (entries_in_order l.prefixes) each)))
 
   pub map-again : (m : MapModel) × (map_reading (list_text l) ≡ Ok m) × IsMapAgain l m
   map-again =

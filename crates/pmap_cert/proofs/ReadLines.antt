@@ -100,9 +100,9 @@ module _ (version : Version) (p : Prefix) (is : IsPrintedEntry version p) where
     version = version;
     value = p.start;
     len = p.bits;
-    len_in_range = is.block.bits;
-    in_range = is.block.start;
-    no_host_bit = is.block.no_host_bit;
+    len_in_range = is.0.bits;
+    in_range = is.0.start;
+    no_host_bit = is.0.no_host_bit;
   }
 
   read-block : block_of_text (block_text version p.start p.bits) ≡ Ok (version, p.start, p.bits)
@@ -138,7 +138,7 @@ placed-entry kind earlier version p is decided =
     let word = block_text version p.start p.bits in
     word-line kind earlier word p.label
     (omega (arith, length-append (address_text version p.start) (47 ∷ decimal p.bits)))
-    (high-block version p.start p.bits (omega (arith, width-le version, is.block.bits))) is.label
+    (high-block version p.start p.bits (omega (arith, width-le version, is.0.bits))) is.1
     ∙ block-statement kind earlier word p.label (slash-in (address_text version p.start) (decimal p.bits))
     ∙ ap (λ (r : Result BlockOf BlockFault). block_line kind earlier r p.label) (read-block version p is)
     ∙ own-block kind earlier version p.start p.bits p.label decided

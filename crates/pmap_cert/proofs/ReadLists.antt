@@ -15,7 +15,8 @@ use Rattle.prefix_keys.specs.declared.version.Version.{Version}
 use Rattle.pmap_text.specs.Label.{is_label, with_label}
 use Rattle.pmap_text.specs.ListModel.{Prefix}
 use Rattle.pmap_text.specs.MapModel.{Label, Mapping}
-use Rattle.pmap_text.specs.Reading.{content_line, content_of, Earlier, has_prefix, has_room, label_limit, lines_read, mapping_limit, no_lines}
+use Rattle.pmap_text.specs.Reading.{content_line, content_of, Earlier, label_limit, lines_read, mapping_limit, no_lines}
+use Rattle.pmap_text.specs.Inner.{has_prefix, has_room}
 use Rattle.pmap_text.specs.declared.fault.MapFaultKind.{MapFaultKind}
 use Rattle.pmap_text.specs.declared.form.Form.{Form}
 use Rattle.pmap_text.specs.declared.form.Form.TheVariants as form
@@ -101,13 +102,13 @@ next-entry form.List version name earlier done p ps has is distinct few few_labe
     let limit : nat_lt (length earlier.prefixes) mapping_limit ≡ true = rw has.entries (lt-ltb _ _ (omega (arith, few, length-append done (p ∷ ps)))) in
     let room : has_room earlier.table p.label ≡ true = rw has.table (entry-room done p ps few_labels) in
     placed-entry form.List earlier version p is has.version_is
-    ∙ rw (label_of-label p.label is.label, has.declared, meant-label p.label, new, limit, room) refl
+    ∙ rw (label_of-label p.label is.1, has.declared, meant-label p.label, new, limit, room) refl
 next-entry form.Map version name earlier done p ps has is distinct few few_labels =
     let limit : nat_lt (length earlier.mappings) mapping_limit ≡ true = rw has.entries
     (lt-ltb _ _ (omega (arith, few, length-append done (p ∷ ps), length-map done (mapping_of_prefix (width_of version))))) in
     let room : has_room earlier.table p.label ≡ true = rw has.table (entry-room done p ps few_labels) in
     placed-entry form.Map earlier version p is has.version_is
-    ∙ rw (label_of-label p.label is.label, has.declared, meant-label p.label, limit, room) refl
+    ∙ rw (label_of-label p.label is.1, has.declared, meant-label p.label, limit, room) refl
 
 -- the lines of the other entries are read
 abbrev AllRead : Form → Version → Option Label → Earlier → ℕ → List Prefix → List Prefix → Type 0

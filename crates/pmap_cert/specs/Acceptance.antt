@@ -67,7 +67,7 @@ in_table_order table claim =
 -- for an unsettled block, an inner node with the exact claim of its nodes, which represent the halves, and with its set
 -- in the order of the map's table.
 abbrev pub StandsFor : MapModel → Tree → ℕ → ℕ → Type 0
-StandsFor m (LeafNode x) n q = IsSettled m n q x
+StandsFor m (LeafNode x) n q = settled_label m n q ≡ Some x
 StandsFor m (InnerNode claim lower upper) n q =
     (settled_label m n q ≡ None) × (claim ≡ in_table_order m.table (exact_claim (claim_of lower) (claim_of upper)))
     × StandsFor m lower (suc n) (2 * q) × StandsFor m upper (suc n) (2 * q + 1)

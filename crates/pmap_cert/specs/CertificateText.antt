@@ -13,25 +13,15 @@ use Rattle.pmap_cert.specs.CertificateModel.{CertificateModel, ChainNode, InnerN
 -- The text of a certificate of either format: lines of words with one space between two, each line ended by a line
 -- feed. Labels are numbered by their index in the table.
 
--- the number of a label: its index in the table, or the table's length if the table lacks it
-abbrev pub place_of : List Label → Label → ℕ
-place_of table x = position_or_len (bytes_eq x) table
-
 abbrev pub version_word : Version → List ℕ
 version_word V4 = codes "ipv4"
 version_word V6 = codes "ipv6"
 
-abbrev pub format_word : ℕ → List ℕ
-format_word format = if format == 1 then codes "1" else codes "2"
-
 -- `flowlabel-cert FORMAT VERSION COUNT`
 abbrev pub format_header : ℕ × (Version × ℕ) → List ℕ
 format_header header =
-    join_with_byte 32 (codes "flowlabel-cert" ∷ format_word header.0 ∷ version_word header.1.0 ∷ decimal header.1.1 ∷ [])
-
--- the digits of a chain's bits: 1 if the path continues in the upper half
-abbrev pub bit_digits : List Bool → List ℕ
-bit_digits bits = map (λ bit. if bit then 49 else 48) bits
+    join_with_byte 32 (codes "flowlabel-cert" ∷ (if header.0 == 1 then codes "1" else codes "2")
+    ∷ version_word header.1.0 ∷ decimal header.1.1 ∷ [])
 
 -- a line of a leaf with its label's number, of an inner node with its cost and its set's numbers, or of a chain with its
 -- cost, its bits, and the numbers of its side label and its set
@@ -41,12 +31,12 @@ pub data DueLine : Type 0 where
   ChainLine : (cost : ℕ) (bits : List Bool) (side : ℕ) (numbers : List ℕ) → DueLine
 
 -- The text of a node's line: `l NUMBER`, `n COST NUMBER NUMBER ..`, or `c COST BITS SIDE NUMBER NUMBER ..`. A set's
--- numbers come last.
+-- numbers come last. A bit is 1 if the path continues in the upper half.
 abbrev pub line_text : DueLine → List ℕ
 line_text (LeafLine number) = join_with_byte 32 (codes "l" ∷ decimal number ∷ [])
 line_text (InnerLine cost numbers) = join_with_byte 32 (codes "n" ∷ decimal cost ∷ map decimal numbers)
 line_text (ChainLine cost bits side numbers) =
-    join_with_byte 32 (codes "c" ∷ decimal cost ∷ bit_digits bits ∷ decimal side ∷ map decimal numbers)
+    join_with_byte 32 (codes "c" ∷ decimal cost ∷ map (λ bit. if bit then 49 else 48) bits ∷ decimal side ∷ map decimal numbers)
 
 -- the lines of a tree with label numbers, in preorder: first the node, then all of the lower half, then all of the
 -- upper, or all of a chain's end
@@ -55,18 +45,32 @@ lines_of (LeafNode number) = LeafLine number ∷ []
 lines_of (InnerNode claim lower upper) = InnerLine claim.cost claim.labels ∷ (lines_of lower ++ lines_of upper)
 lines_of (ChainNode claim bits side end) = ChainLine claim.cost bits side claim.labels ∷ lines_of end
 
--- the lines of a certificate: the header, the labels of the table in order, and the nodes
-abbrev pub certificate_lines : CertificateModel → List (List ℕ)
-certificate_lines c =
-    format_header (c.format, (c.version, length c.table))
-    ∷ (c.table ++ map line_text (lines_of (map_tree (place_of c.table) c.root)))
+-- the text of a certificate: the header, the labels of the table in order, and the nodes; the number of a label is its
+-- index in the table
+abbrev pub certificate_text : CertificateModel → List ℕ
+certificate_text c = flat_map (λ line. line ++ 10 ∷ []) (format_header (c.format, (c.version, length c.table))
+    ∷ (c.table ++ map line_text (lines_of (map_tree (λ x. position_or_len (bytes_eq x) c.table) c.root))))
+
+-- Parts of this text.
 
 -- the text of these lines, each ended by a line feed
 abbrev pub text_of_lines : List (List ℕ) → List ℕ
 text_of_lines lines = flat_map (λ line. line ++ 10 ∷ []) lines
 
-abbrev pub certificate_text : CertificateModel → List ℕ
-certificate_text c = text_of_lines (certificate_lines c)
+-- the number of a label, or the table's length if the table lacks it
+abbrev pub place_of : List Label → Label → ℕ
+place_of table x = position_or_len (bytes_eq x) table
+
+abbrev pub format_word : ℕ → List ℕ
+format_word format = if format == 1 then codes "1" else codes "2"
+
+abbrev pub bit_digits : List Bool → List ℕ
+bit_digits bits = map (λ bit. if bit then 49 else 48) bits
+
+abbrev pub certificate_lines : CertificateModel → List (List ℕ)
+certificate_lines c =
+    format_header (c.format, (c.version, length c.table))
+    ∷ (c.table ++ map line_text (lines_of (map_tree (place_of c.table) c.root)))
 
 -- The certificates that have a text: each label is in the table, sets are listed by ascending numbers, costs are below
 -- 2 ^ 32, and no node is deeper than an address has bits.

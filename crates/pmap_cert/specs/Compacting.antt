@@ -39,10 +39,6 @@ run_end same side (InnerNode claim lower upper) =
     else (if is_side same side upper then run_end same side lower else InnerNode claim lower upper)
 run_end same side node = node
 
--- the side label of an inner node's run: that of its lower half if it is a leaf, otherwise that of its upper half
-abbrev pub side_of : {L : Type 0} → TreeOf L → TreeOf L → Option L
-side_of lower upper = option_or (leaf_label lower) (leaf_label upper)
-
 -- An inner node compacted, with `inside` for the nodes below it. If its run has two bits or more, it turns into a chain
 -- with its claim, those bits and the compacted end of the run; otherwise its halves are compacted.
 abbrev pub run_compacted : {L : Type 0} → (L → L → Bool) → (TreeOf L → TreeOf L) → ClaimOf L → TreeOf L → TreeOf L → Option L → TreeOf L
@@ -53,24 +49,30 @@ run_compacted same inside claim lower upper (Some side) =
     (inside (run_end same side (InnerNode claim lower upper)))
     else InnerNode claim (inside lower) (inside upper)
 
--- a node compacted down to this many steps below it
+-- A node compacted down to this many steps below it. The side label of an inner node's run is that of its lower half if
+-- it is a leaf, otherwise that of its upper half.
 unfoldable pub compacted_in : {L : Type 0} → (L → L → Bool) → ℕ → TreeOf L → TreeOf L
 compacted_in same zero node = node
 compacted_in same (suc steps) (LeafNode x) = LeafNode x
 compacted_in same (suc steps) (InnerNode claim lower upper) =
-    run_compacted same (compacted_in same steps) claim lower upper (side_of lower upper)
+    run_compacted same (compacted_in same steps) claim lower upper (option_or (leaf_label lower) (leaf_label upper))
 compacted_in same (suc steps) (ChainNode claim bits side end) = ChainNode claim bits side (compacted_in same steps end)
 
--- a node compacted; it has fewer steps down than lines
-abbrev pub compacted : {L : Type 0} → (L → L → Bool) → TreeOf L → TreeOf L
-compacted same node = compacted_in same (line_count node) node
-
--- a certificate compacted: one of format 1 has its root compacted and gets format 2, one of format 2 is unchanged
+-- a certificate compacted: one of format 1 has its root compacted and gets format 2, one of format 2 is unchanged; a
+-- node has fewer steps down than lines
 abbrev pub compact : CertificateModel → CertificateModel
 compact c =
     if c.format == 1
-    then record { format = 2; version = c.version; table = c.table; root = compacted bytes_eq c.root }
+    then record { format = 2; version = c.version; table = c.table; root = compacted_in bytes_eq (line_count c.root) c.root }
     else c
+
+-- Parts of compacting: the side label of an inner node's run, and a node compacted.
+
+abbrev pub side_of : {L : Type 0} → TreeOf L → TreeOf L → Option L
+side_of lower upper = option_or (leaf_label lower) (leaf_label upper)
+
+abbrev pub compacted : {L : Type 0} → (L → L → Bool) → TreeOf L → TreeOf L
+compacted same node = compacted_in same (line_count node) node
 
 -- The bits are a path down the tree, with a side leaf beside each inner node's chosen half, to a node that meets
 -- `IsEnd`.

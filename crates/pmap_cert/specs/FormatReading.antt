@@ -24,19 +24,10 @@ pub record Place : Type 0 where
   pub number : ℕ
   pub pieces : List (List ℕ)
 
-abbrev pub pieces_of : List ℕ → List (List ℕ)
-pieces_of text = slice_split (λ b. b == 10) text
-
-abbrev pub start_of : List ℕ → Place
-start_of text = record { number = 0; pieces = pieces_of text }
-
 -- the next line, if there is one, and the rest of the text
 abbrev pub line_from : ℕ → List (List ℕ) → Option (List ℕ × Place)
 line_from number (line ∷ piece ∷ pieces) = Some (line, record { number = number + 1; pieces = piece ∷ pieces })
 line_from number _ = None
-
-abbrev pub next_line : Place → Option (List ℕ × Place)
-next_line place = line_from place.number place.pieces
 
 -- the text is at its end
 abbrev pub is_ended : List (List ℕ) → Bool
@@ -50,21 +41,15 @@ fault_at place kind = record { kind = kind; line = place.number + 1 }
 -- reads the value of the next line; a fault of this kind if there is no line or it has no such value
 abbrev pub line_value : {A : Type 0} → CertFaultKind → (List ℕ → Option A) → Place → Result (A × Place) CertFault
 line_value kind value_of place =
-    ok_or (option_and_then (λ next. option_map (λ x. (x, next.1)) (value_of next.0)) (next_line place)) (fault_at place kind)
+    ok_or (option_and_then (λ n. option_map (λ x. (x, n.1)) (value_of n.0)) (line_from place.number place.pieces))
+    (fault_at place kind)
 
--- the value `likely` if it fits and the line is its text
-abbrev pub printed_value : {A : Type 0} → (A → Bool) → (A → List ℕ) → A → List ℕ → Option A
-printed_value fits text_of likely line = if fits likely && bytes_eq line (text_of likely) then Some likely else None
-
--- the label of a line, if it is one that the table doesn't have yet
-abbrev pub new_label : List Label → List ℕ → Option Label
-new_label table line = if is_label line && not (has_label table line) then Some line else None
-
--- reads `left` more labels of a table
+-- reads `left` more labels of a table, each of which is new
 abbrev pub labels_at : ℕ → List Label → Place → Result (List Label × Place) CertFault
 labels_at zero table place = Ok (table, place)
 labels_at (suc left) table place =
-    line_value BadLabelTable (new_label table) place >>= (λ label. labels_at left (table ++ label.0 ∷ []) label.1)
+    line_value BadLabelTable (λ line. if is_label line && not (has_label table line) then Some line else None) place
+    >>= (λ label. labels_at left (table ++ label.0 ∷ []) label.1)
 
 -- the numbers strictly ascend, are below the bound, and not below low
 abbrev pub is_ascending : ℕ → ℕ → List ℕ → Bool
@@ -103,11 +88,8 @@ likely_header _ = (0, (V4, 0))
 -- reads a line as the value that fits and whose text the line is; `likely` is the only one that could have its words,
 -- the pieces between its spaces
 abbrev pub printed_at : {A : Type 0} → CertFaultKind → (A → Bool) → (A → List ℕ) → (List (List ℕ) → A) → Place → Result (A × Place) CertFault
-printed_at kind fits text_of likely place = line_value kind (λ line. printed_value fits text_of (likely (slice_split (λ b. b == 32) line)) line) place
-
--- reads the header
-abbrev pub format_header_at : Place → Result ((ℕ × (Version × ℕ)) × Place) CertFault
-format_header_at place = printed_at BadHeader fits_header format_header likely_header place
+printed_at kind fits text_of likely place = line_value kind (λ line. let x = likely (slice_split (λ b. b == 32) line) in
+    if fits x && bytes_eq line (text_of x) then Some x else None) place
 
 -- reads the line of the next node; if there is no next line because the text has ended, the fault is `NodesMissing`,
 -- otherwise `BadNode`
@@ -138,14 +120,39 @@ nodes_at due table (suc room) zero place =
     due place >>= (λ line. due_node table (suc room) place (nodes_at due table room) line.0 line.1)
 nodes_at due table (suc room) (suc down) place = nodes_at due table room down place
 
+-- the certificate that a text of either format is read as, or the first fault of the text with its line; it is a fault
+-- if something follows the last node
+unfoldable pub format_reading : List ℕ → Result CertificateModel CertFault
+format_reading text =
+    printed_at BadHeader fits_header format_header likely_header (record { number = 0; pieces = slice_split (λ b. b == 10) text })
+    >>= (λ header. labels_at header.0.1.1 [] header.1 >>= (λ labels.
+    nodes_at (line_due_at header.0.0 (width_of header.0.1.0) (length labels.0)) labels.0 (width_of header.0.1.0) 0 labels.1
+    >>= (λ root. if is_ended root.1.pieces
+    then Ok (record { format = header.0.0; version = header.0.1.0; table = labels.0; root = root.0 })
+    else Err (fault_at root.1 NodesLeft))))
+
+-- Parts of this reading.
+
+abbrev pub pieces_of : List ℕ → List (List ℕ)
+pieces_of text = slice_split (λ b. b == 10) text
+
+abbrev pub start_of : List ℕ → Place
+start_of text = record { number = 0; pieces = pieces_of text }
+
+abbrev pub next_line : Place → Option (List ℕ × Place)
+next_line place = line_from place.number place.pieces
+
+-- the value `likely` if it fits and the line is its text
+abbrev pub printed_value : {A : Type 0} → (A → Bool) → (A → List ℕ) → A → List ℕ → Option A
+printed_value fits text_of likely line = if fits likely && bytes_eq line (text_of likely) then Some likely else None
+
+-- the label of a line, if it is one that the table doesn't have yet
+abbrev pub new_label : List Label → List ℕ → Option Label
+new_label table line = if is_label line && not (has_label table line) then Some line else None
+
+abbrev pub format_header_at : Place → Result ((ℕ × (Version × ℕ)) × Place) CertFault
+format_header_at place = printed_at BadHeader fits_header format_header likely_header place
+
 -- the certificate, or a fault if something follows the last node
 abbrev pub ended_by : CertificateModel → Place → Result CertificateModel CertFault
 ended_by c place = if is_ended place.pieces then Ok c else Err (fault_at place NodesLeft)
-
--- the certificate that a text of either format is read as, or the first fault of the text with its line
-unfoldable pub format_reading : List ℕ → Result CertificateModel CertFault
-format_reading text =
-    format_header_at (start_of text) >>= (λ header. labels_at header.0.1.1 [] header.1 >>= (λ labels.
-    nodes_at (line_due_at header.0.0 (width_of header.0.1.0) (length labels.0)) labels.0 (width_of header.0.1.0) 0 labels.1
-    >>= (λ root.
-    ended_by (record { format = header.0.0; version = header.0.1.0; table = labels.0; root = root.0 }) root.1)))

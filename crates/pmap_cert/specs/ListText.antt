@@ -1,6 +1,6 @@
 use Rattle.std.specs.Prelude.{◌&&◌, ◌==◌, Bool, List, [], ◌∷◌, ◌++◌, Option, Some, None, codes, map, ℕ, ◌≡◌, ◌^◌, ◌<◌, ◌≤◌, All, IsTrue, fold, length, unwrap_or}
-use Rattle.std.specs.Option.{ForSome}
-use Rattle.std.specs.List.{IsDistinct}
+use Rattle.std.specs.Option.{ForSome, option_map_or}
+use Rattle.std.specs.List.{IsDistinct, flat_map}
 use Rattle.prefix_keys.specs.Print.{block_text}
 use Rattle.prefix_keys.specs.declared.version.Version.{Version}
 use Rattle.prefix_keys.specs.Block.{width_of}
@@ -9,12 +9,28 @@ use Rattle.pmap_text.specs.MapModel.{Label, MapModel, map_label}
 use Rattle.pmap_text.specs.Label.{is_label, with_label}
 use Rattle.pmap_text.specs.Reading.{label_limit, mapping_limit, unknown}
 use Rattle.pmap_cert.specs.Acceptance.{begins_before, HasBlock}
-use Rattle.pmap_cert.specs.CertificateText.{text_of_lines, version_word}
+use Rattle.pmap_cert.specs.CertificateText.{version_word}
 use Rattle.pmap_text.specs.Sorting.{in_order}
 
--- The order in which a prefix list is printed.
+-- The printed text of a prefix list: `map-name NAME` if there is a name, `mode VERSION`, and `BLOCK LABEL` for each
+-- entry, in order of their first addresses, and the shorter prefix first of two with the same one.
+abbrev pub list_text : ListModel → List ℕ
+list_text l =
+    flat_map (λ line. line ++ 10 ∷ []) (option_map_or (λ name. (codes "map-name" ++ 32 ∷ name) ∷ []) l.name []
+    ++ (codes "mode" ++ 32 ∷ version_word l.version)
+    ∷ map (λ p. block_text l.version p.start p.bits ++ 32 ∷ p.label) (in_order begins_before l.prefixes))
 
--- the entries in order of their first addresses, and the shorter prefix first of two with the same one
+-- Parts of this text.
+
+abbrev pub name_lines : Option Label → List (List ℕ)
+name_lines name = option_map_or (λ name. (codes "map-name" ++ 32 ∷ name) ∷ []) name []
+
+abbrev pub mode_text : Version → List ℕ
+mode_text version = codes "mode" ++ 32 ∷ version_word version
+
+abbrev pub entry_line : Version → Prefix → List ℕ
+entry_line version p = block_text version p.start p.bits ++ 32 ∷ p.label
+
 abbrev pub entries_in_order : List Prefix → List Prefix
 entries_in_order ps = in_order begins_before ps
 
@@ -22,32 +38,11 @@ entries_in_order ps = in_order begins_before ps
 abbrev pub starts_alike : Prefix → Prefix → Bool
 starts_alike p r = p.start == r.start && p.bits == r.bits
 
--- The printed text of a prefix list.
-
--- `map-name NAME`, if there is a name
-abbrev pub name_lines : Option Label → List (List ℕ)
-name_lines None = []
-name_lines (Some name) = (codes "map-name" ++ 32 ∷ name) ∷ []
-
--- `mode VERSION`
-abbrev pub mode_text : Version → List ℕ
-mode_text version = codes "mode" ++ 32 ∷ version_word version
-
--- `BLOCK LABEL`
-abbrev pub entry_line : Version → Prefix → List ℕ
-entry_line version p = block_text version p.start p.bits ++ 32 ∷ p.label
-
--- the text of a list: the lines of its name, its version, and its entries in order
-abbrev pub list_text : ListModel → List ℕ
-list_text l =
-    text_of_lines (name_lines l.name ++ mode_text l.version ∷ map (entry_line l.version) (entries_in_order l.prefixes))
-
 -- A prefix list whose printed text can be read again.
 
 -- the entry has a block of the version and a well-formed label
-pub record IsPrintedEntry (version : Version) (p : Prefix) : Type 0 where
-  pub block : HasBlock (width_of version) p
-  pub label : IsTrue (is_label p.label)
+abbrev pub IsPrintedEntry : Version → Prefix → Type 0
+IsPrintedEntry version p = HasBlock (width_of version) p × IsTrue (is_label p.label)
 
 -- the label texts of entries, in the order of first occurrence
 abbrev pub labels_of : List Prefix → List Label

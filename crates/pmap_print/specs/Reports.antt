@@ -72,18 +72,11 @@ column_count labelled = if labelled then 12 else 10
 abbrev pub labels_at : Option (List LabelTexts) → ℕ → Option LabelTexts
 labels_at labels index = option_map (λ texts. slice_index_or texts index (None, None)) labels
 
--- the fields of the totals of a group
-abbrev pub total_fields : Totals → Line
-total_fields t = decimal t.records ∷ decimal t.packets ∷ decimal t.octets ∷ []
-
 -- The printed text of groups.
 
--- the column names of totals, and of groups by these fields
-abbrev pub total_titles : Line
-total_titles = codes "records" ∷ codes "packets" ∷ codes "bytes" ∷ []
-
+-- the column names of groups by these fields, and of their totals
 abbrev pub group_titles : List KeyField → Line
-group_titles fields = map field_name fields ++ total_titles
+group_titles fields = map field_name fields ++ codes "records" ∷ codes "packets" ∷ codes "bytes" ∷ []
 
 -- the text of a part of a key, which is empty for a missing label
 abbrev pub part_text : KeyPartModel → Text
@@ -93,7 +86,7 @@ part_text (LabelPart label) = unwrap_or label []
 
 -- the fields of a group's line
 abbrev pub group_fields : GroupModel → Line
-group_fields g = map part_text g.key ++ total_fields g.totals
+group_fields g = map part_text g.key ++ decimal g.totals.records ∷ decimal g.totals.packets ∷ decimal g.totals.octets ∷ []
 
 -- the text of groups by these fields, in the order given: the header and the line of each group
 abbrev pub groups_text : List KeyField → List GroupModel → Bool → Text
@@ -101,16 +94,23 @@ groups_text fields groups columns = table_text columns (group_titles fields ∷ 
 
 -- The printed text of counts.
 
--- a line with a name and its number
-abbrev pub count_text : Text → ℕ → Text
-count_text name number = name ++ 32 ∷ decimal number ++ 10 ∷ []
-
 -- the names of counts, in the order in which they are printed
 abbrev pub count_names : Line
 count_names =
     codes "messages" ∷ codes "templates" ∷ codes "options-templates" ∷ codes "withdrawals" ∷ codes "data-sets"
     ∷ codes "skipped-sets" ∷ codes "records" ∷ codes "options-records" ∷ codes "rows" ∷ []
 
--- the lines of all counts
+-- the lines of all counts, each with its name and its number
 abbrev pub info_text : List ℕ → Text
-info_text counts = fold (λ text count. text ++ count_text count.0 count.1) [] (zip count_names counts)
+info_text counts = fold (λ text count. text ++ (count.0 ++ 32 ∷ decimal count.1 ++ 10 ∷ [])) [] (zip count_names counts)
+
+-- Parts of these texts.
+
+abbrev pub total_titles : Line
+total_titles = codes "records" ∷ codes "packets" ∷ codes "bytes" ∷ []
+
+abbrev pub total_fields : Totals → Line
+total_fields t = decimal t.records ∷ decimal t.packets ∷ decimal t.octets ∷ []
+
+abbrev pub count_text : Text → ℕ → Text
+count_text name number = name ++ 32 ∷ decimal number ++ 10 ∷ []

@@ -13,13 +13,9 @@ pub use Rattle.pmap_print.specs.declared.mark.Mark.TheVariants.{End, Length}
 abbrev pub column_width : List Line → ℕ → ℕ
 column_width lines index = fold max 0 (map (λ fields. length (slice_index_or fields index [])) lines)
 
--- a field with spaces on the left that make it this wide
-abbrev pub filled : ℕ → Text → Text
-filled width field = replicate (width - length field) 32 ++ field
-
--- a line with each field filled to the width of its column
+-- a line in which spaces on the left of each field make it as wide as its column
 abbrev pub filled_line : (ℕ → ℕ) → Line → Line
-filled_line width fields = map (λ e. filled (width e.0) e.1) (enumerate_from 0 fields)
+filled_line width fields = map (λ e. replicate (width e.0 - length e.1) 32 ++ e.1) (enumerate_from 0 fields)
 
 -- the text of a table, whose first line is its header: its lines as they are, or with each field filled to the width of
 -- its column
@@ -27,6 +23,10 @@ abbrev pub table_text : Bool → List Line → Text
 table_text columns lines = flat_map line_text (if columns then map (filled_line (column_width lines)) lines else lines)
 
 -- How a table is built: each of its fields follows a byte, which is the field's length if the table will be padded.
+
+-- a field with spaces on the left that make it this wide
+abbrev pub filled : ℕ → Text → Text
+filled width field = replicate (width - length field) 32 ++ field
 
 -- the byte before a field of this length
 abbrev pub mark_byte : Mark → ℕ → ℕ

@@ -14,12 +14,11 @@ use Rattle.std.specs.Ordering.{is_eq, nat_cmp, ordering_then}
 use Rattle.std.specs.Prelude.{nat_lt}
 use Rattle.std.specs.declared.cmp.Ordering.{Ordering}
 use Rattle.std.specs.declared.cmp.Ordering.TheVariants.{Equal, Greater, Less}
-use Rattle.pmap_text.specs.Inner.{HasDistinctKeys, IsFirstRepeat, has_key, key_cmp, same_key}
+use Rattle.pmap_text.specs.Inner.{HasDistinctKeys, IsFirstRepeat, has_key, key_cmp, same_key, has_prefix}
 use Rattle.pmap_text.specs.ListEntries.{HasDistinctBlocks, rank_of, same_block}
 use Rattle.pmap_text.specs.ListModel.{Prefix}
 use Rattle.pmap_text.specs.MapModel.{Label}
 use Rattle.pmap_text.specs.PrefixList.{prefix_of, Entry}
-use Rattle.pmap_text.specs.Reading.{has_prefix}
 
 -- the keys are the starts and lengths of the entries' blocks, no two of which are equal
 pub record AreFiled (prefixes : List Prefix) (keys : List (ℕ × ℕ)) : Type 0 where

@@ -12,16 +12,16 @@ use Rattle.prefix_keys.proofs.Bytes.{all-weaker, apart, lacks, none-passes}
 use Rattle.prefix_keys.proofs.LeadingGroups.{colon-in}
 use Rattle.prefix_keys.proofs.Pieces.{is_point, of_all}
 use Rattle.prefix_keys.specs.Block.{block_number, first_of, width_of}
-use Rattle.prefix_keys.specs.Inner.{BeginsWith, is_colon_byte}
+use Rattle.prefix_keys.specs.Inner.{BeginsWith, is_colon_byte, colon_address, block_from}
 use Rattle.std.specs.Char.{is_ascii_hexdigit}
-use Rattle.prefix_keys.specs.Text.{AddressOf, BlockOf, address_of, block_from, block_of_text, colon_address, decimal_value, dotted_address, four_bytes, is_digit, decimal_number}
+use Rattle.prefix_keys.specs.Text.{AddressOf, BlockOf, address_of, block_of_text, decimal_value, dotted_address, four_bytes, is_digit, decimal_number}
 use Rattle.prefix_keys.specs.declared.addr.Addr.{Addr}
 use Rattle.prefix_keys.specs.declared.block.Block.{Block}
 use Rattle.prefix_keys.specs.declared.text.BlockFault.TheVariants.{BadLength}
 use Rattle.prefix_keys.specs.declared.version.Version.TheVariants.{V4, V6}
 use Rattle.pmap_text.specs.Label.{is_blank}
-use Rattle.pmap_text.specs.Inner.{BeginsWithBlank, IsWord, is_address_byte, is_dotted_byte, Address}
-use Rattle.pmap_text.specs.Reading.{behind_word, first_word, trim_start, Earlier, block_line, content_line, one_or_two, statement_line, Form}
+use Rattle.pmap_text.specs.Inner.{BeginsWithBlank, IsWord, is_address_byte, is_dotted_byte, Address, one_or_two}
+use Rattle.pmap_text.specs.Reading.{behind_word, first_word, trim_start, Earlier, block_line, content_line, statement_line, Form}
 use Rattle.pmap_text.specs.declared.leading.Word.TheVariants.{Block as block_word}
 
 -- one to three digits at the start are a number

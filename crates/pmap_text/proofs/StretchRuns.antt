@@ -13,7 +13,7 @@ use Rattle.pmap_text.specs.Stretches.{AreLabelsBelow, HasEveryAddress, Stretches
 use Rattle.pmap_text.specs.declared.label.LabelId.{LabelId}
 use Rattle.pmap_text.proofs.Orders.{known_text}
 use Rattle.pmap_text.proofs.Ranges.{last_end, next_first, ordered_at, text_at_index}
-use Rattle.pmap_text.specs.Runs.{AreRuns, AreRunsOf, HasOneLabel, Run}
+use Rattle.pmap_text.specs.Runs.{AreRuns, HasOneLabel, Run}
 use Rattle.pmap_text.specs.RunsText.{run_between}
 
 -- the text of a label
@@ -76,7 +76,7 @@ module _ (table : List Label) (s : StretchesModel) (every : HasEveryAddress s) w
   }
 
   pub all_joined : (begin index : ℕ) (runs : List Run) → AreJoinedTo table s begin index runs → length s.firsts ≤ index
-      → AreRunsOf s.version (text_held table s) runs
+      → AreRuns (text_held table s) 0 (2 ^ width_of s.version) runs
   all_joined begin index runs is past =
       subst (AreRuns (text_held table s) 0 (2 ^ width_of s.version)) (append-nil runs) (is.goes_on [] (ends begin (omega (arith, past, is.end past))))
 

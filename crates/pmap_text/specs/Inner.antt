@@ -1,14 +1,14 @@
-use Rattle.std.specs.Prelude.{ℕ, ◌*◌, ◌-◌, ◌/◌, ◌%◌, ◌^◌, List, bit_and, bit_or, bit_xor, drop, length, ◌≡◌, ◌||◌, ◌==◌, Bool, true, false, if◌then◌else◌, ◌∷◌, ◌++◌, Some, Ok, ◌+◌, ◌<◌, ◌≤◌, ◌⊎◌, Option, All, Contains, IsSomeAnd, option_and_then, slice_get, ◌&&◌, None, take, ◌≢◌, [], Result, Err, IfErr, IfOk, OnErr, OnOk}
+use Rattle.std.specs.Prelude.{ℕ, ◌*◌, ◌-◌, ◌/◌, ◌%◌, ◌^◌, List, bit_and, bit_or, bit_xor, drop, length, ◌≡◌, ◌||◌, ◌==◌, Bool, true, false, if◌then◌else◌, ◌∷◌, ◌++◌, Some, Ok, nat_lt, ◌+◌, ◌<◌, ◌≤◌, ◌⊎◌, Option, All, Contains, IsSomeAnd, option_and_then, option_map, slice_get, unwrap_or, ◌&&◌, None, take, ◌≢◌, [], Result, Err, IfErr, IfOk, OnErr, OnOk}
 use Rattle.std.specs.Int.{from_le_bytes, w64}
-use Rattle.std.specs.List.{fold, list_any, IsDistinct}
+use Rattle.std.specs.List.{fold, list_any, suffix_len, IsDistinct}
 use Rattle.std.specs.Simd.{first_chunks}
-use Rattle.std.specs.Option.{ForSome}
+use Rattle.std.specs.Option.{ForSome, option_map_or}
 use Rattle.std.specs.Ordering.{is_eq, nat_cmp, ordering_then}
 use Rattle.std.specs.declared.cmp.Ordering.{Ordering}
 use Rattle.std.specs.Char.{is_ascii_hexdigit}
-use Rattle.prefix_keys.specs.Text.{address_of, block_of_text, is_digit}
+use Rattle.prefix_keys.specs.Text.{AddressOf, address_of, block_of_text, is_digit}
 use Rattle.pmap_text.specs.declared.hashing.KeyHasher.{KeyHasher}
-use Rattle.pmap_text.specs.Label.{is_blank, meant_text}
+use Rattle.pmap_text.specs.Label.{has_label, is_blank, meant_text, with_label}
 pub use Rattle.pmap_text.specs.declared.leading.Word.{Word}
 pub use Rattle.pmap_text.specs.declared.leading.Word.TheVariants.{Address}
 use Rattle.pmap_text.specs.declared.leading.Word.TheVariants.{Block as block_word}
@@ -17,9 +17,10 @@ use Rattle.pmap_text.specs.Starting.{IsOrder, Start, number_at}
 use Rattle.pmap_text.specs.declared.ascent.Ascent.{Ascent}
 use Rattle.pmap_text.specs.Stretches.{HasEveryAddress, HasStretch, LabelId, StretchesModel, first_at, label_at, label_seen, last_at}
 use Rattle.prefix_keys.specs.Block.{width_of}
-use Rattle.pmap_text.specs.ListModel.{Prefix}
-use Rattle.pmap_text.specs.Reading.{has_prefix, Earlier, has_room, text_read, MapFault, MapFaultKind, DuplicateBlock, NoMemory, Form}
-use Rattle.pmap_text.specs.MapModel.{Label}
+use Rattle.prefix_keys.specs.declared.version.Version.TheVariants.{V4}
+use Rattle.pmap_text.specs.ListModel.{ListModel, Prefix}
+use Rattle.pmap_text.specs.Reading.{◌>>=◌, behind_word, block_line, label_limit, label_of, lines_of, lines_read, no_lines, range_line, unknown, Earlier, MapFault, MapFaultKind, DuplicateBlock, NoMemory, Form}
+use Rattle.pmap_text.specs.MapModel.{Label, MapModel}
 
 -- The hash that a `KeyHasher` computes. No other contract depends on it.
 
@@ -141,6 +142,47 @@ pub record Continues (ss : List Statement) (old new : Ascent) : Type 0 where
   pub default : new.default ≡ old.default
   pub starts : new.starts ≡ old.starts
   pub next : new.next ≡ old.next
+
+-- Steps of the reading of a line, and of a text.
+
+abbrev pub trim_end : List ℕ → List ℕ
+trim_end text = take (length text - suffix_len is_blank text) text
+
+-- `map-name NAME`
+abbrev pub name_line : Earlier → List ℕ → Result Earlier MapFaultKind
+name_line earlier rest = label_of rest >>= (λ name. Ok (record earlier { name = Some name }))
+
+-- the text is known, or there is room for one more
+abbrev pub has_room : List Label → Label → Bool
+has_room table text = has_label table text || nat_lt (length table) label_limit
+
+-- whether there is an entry for the block of this length with this first address
+abbrev pub has_prefix : List Prefix → ℕ → ℕ → Bool
+has_prefix prefixes start bits = list_any (λ p. p.start == start && p.bits == bits) prefixes
+
+-- a line that begins with an address, and with a second one if there is one
+abbrev pub one_or_two : Form → Earlier → AddressOf → Option AddressOf → List ℕ → Result Earlier MapFaultKind
+one_or_two form earlier first second rest =
+    option_map_or (λ second. range_line form earlier first second (behind_word rest))
+    second (block_line form earlier (Ok (first.0, first.1, width_of first.0)) rest)
+
+-- the state after the lines of a text
+abbrev pub text_read : Form → List ℕ → Result Earlier MapFault
+text_read form text = lines_read form 0 (Ok no_lines) (lines_of text)
+
+-- the map, and the list, of a whole text
+abbrev pub map_from : Earlier → MapModel
+map_from lines = record {
+  version = unwrap_or lines.version V4;
+  name = lines.name;
+  fallback = unwrap_or lines.fallback unknown;
+  mappings = lines.mappings;
+  table = with_label lines.table (unwrap_or lines.fallback unknown);
+}
+
+abbrev pub list_from : Earlier → ListModel
+list_from lines =
+    record { version = unwrap_or lines.version V4; name = lines.name; prefixes = lines.prefixes; table = lines.table }
 
 -- How a repeated block is found. This is private, and callers of the crate need not read it.
 

@@ -48,10 +48,6 @@ label_number text = decimal_number 10 2147483647 text
 abbrev pub with_declared : List (ℕ × Label) → ℕ × Label → List (ℕ × Label)
 with_declared declared pair = if list_any (λ d. d.0 == pair.0) declared then declared else declared ++ pair ∷ []
 
--- the text that was declared for a number
-abbrev pub declared_text : List (ℕ × Label) → ℕ → Option Label
-declared_text declared number = option_map (λ d. d.1) (find (λ d. d.0 == number) declared)
-
 -- whether the number has another text, or the text another number
 abbrev pub conflicts : List (ℕ × Label) → ℕ → Label → Bool
 conflicts declared number text =
@@ -59,7 +55,12 @@ conflicts declared number text =
 
 -- the text that a label represents: that of the number if the label is a declared number, otherwise the label itself
 abbrev pub meant_text : List (ℕ × Label) → Label → Label
-meant_text declared label = unwrap_or (option_and_then (declared_text declared) (label_number label)) label
+meant_text declared label =
+    unwrap_or (option_and_then (λ n. option_map (λ d. d.1) (find (λ d. d.0 == n) declared)) (label_number label)) label
+
+-- the text that was declared for a number
+abbrev pub declared_text : List (ℕ × Label) → ℕ → Option Label
+declared_text declared number = option_map (λ d. d.1) (find (λ d. d.0 == number) declared)
 
 pub record ArePaired (numbers : List ℕ) (texts : List Label) : Type 0 where
   pub same_count : length texts ≡ length numbers

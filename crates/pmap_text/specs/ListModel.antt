@@ -23,14 +23,10 @@ pub record ListModel : Type 0 where
 abbrev pub covers : ℕ → ℕ → ℕ → Prefix → Bool
 covers W n a p = p.bits == n && block_number W n p.start == block_number W n a
 
--- the label of the first entry of n bits that covers the address
-abbrev pub label_at : ℕ → List Prefix → ℕ → ℕ → Option Label
-label_at W ps n a = option_map (λ p. p.label) (find (covers W n a) ps)
-
 -- the label of the longest entry of fewer than n bits that covers the address, and of equal blocks the first
 abbrev pub label_below : ℕ → List Prefix → ℕ → ℕ → Option Label
 label_below W ps zero a = None
-label_below W ps (suc n) a = option_or (label_at W ps n a) (label_below W ps n a)
+label_below W ps (suc n) a = option_or (option_map (λ p. p.label) (find (covers W n a) ps)) (label_below W ps n a)
 
 -- the label of the longest entry that covers the address, or none if no entry covers it
 abbrev pub list_label : ListModel → ℕ → Option Label
@@ -46,6 +42,10 @@ abbrev pub lies_inside : ℕ → ℕ → ℕ → Prefix → Bool
 lies_inside W n q p = nat_lt n p.bits && block_number W n p.start == q
 
 -- The terms of the laws about prefix lists: the longest entry that covers an address, and lists with the same entries.
+
+-- the label of the first entry of n bits that covers the address
+abbrev pub label_at : ℕ → List Prefix → ℕ → ℕ → Option Label
+label_at W ps n a = option_map (λ p. p.label) (find (covers W n a) ps)
 
 -- among addresses of W bits, the entry's block covers the address
 pub record CoversAddress (W a : ℕ) (p : Prefix) : Type 0 where

@@ -28,13 +28,9 @@ abbrev pub last_such : (Mapping → Bool) → List Mapping → Option Mapping
 last_such p [] = None
 last_such p (m ∷ ms) = option_or (last_such p ms) (if p m then Some m else None)
 
--- the mapping's span covers the address
-abbrev pub spans : ℕ → Mapping → Bool
-spans a m = nat_le m.low a && nat_le a m.high
-
 -- the label of an address: that of the last mapping that covers it, otherwise the default
 abbrev pub map_label : MapModel → ℕ → Label
-map_label m a = option_map_or (λ p. p.label) (last_such (spans a) m.mappings) m.fallback
+map_label m a = option_map_or (λ p. p.label) (last_such (λ p. nat_le p.low a && nat_le a p.high) m.mappings) m.fallback
 
 -- among addresses of W bits, the mapping's span covers some address of the block of n bits with the number q
 abbrev pub meets : ℕ → ℕ → ℕ → Mapping → Bool
@@ -59,3 +55,7 @@ settled_label m n q =
 -- the block of n bits with the number q is settled with the label x
 abbrev pub IsSettled : MapModel → ℕ → ℕ → Label → Type 0
 IsSettled m n q x = settled_label m n q ≡ Some x
+
+-- the mapping's span covers the address
+abbrev pub spans : ℕ → Mapping → Bool
+spans a m = nat_le m.low a && nat_le a m.high

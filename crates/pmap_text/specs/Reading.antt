@@ -1,5 +1,6 @@
-use Rattle.std.specs.Prelude.{ℕ, ◌==◌, ◌-◌, List, [], ◌∷◌, length, take, drop, not, if◌then◌else◌, ◌≡◌, ◌≢◌, ◌≤◌, ◌+◌, ◌&&◌, ◌||◌, Bool, true, ◌++◌, Option, Some, None, Result, Ok, Err, IfErr, IfOk, codes, is_some, nat_le, nat_lt, slice_index, unwrap_or}
+use Rattle.std.specs.Prelude.{ℕ, ◌==◌, ◌-◌, List, [], ◌∷◌, length, take, drop, not, if◌then◌else◌, ◌≡◌, ◌≢◌, ◌≤◌, ◌+◌, ◌&&◌, ◌||◌, Bool, true, ◌++◌, Option, Some, None, Result, Ok, Err, IfErr, IfOk, codes, is_some, nat_le, nat_lt, ok_or, slice_index, unwrap_or}
 use Rattle.std.specs.List.{before_first, onto_first, position_or_len, suffix_len, list_all, list_any}
+use Rattle.std.specs.Option.{option_map_or}
 use Rattle.std.specs.Str.{bytes_eq}
 use Rattle.prefix_keys.specs.Block.{block_number, last_of, width_of}
 use Rattle.prefix_keys.specs.Conversion.{mapped_prefix}
@@ -26,16 +27,14 @@ abbrev pub lines_of : List ℕ → List (List ℕ)
 lines_of [] = []
 lines_of (b ∷ bs) = if b == 10 then [] ∷ lines_of bs else onto_first b (lines_of bs)
 
--- a text without its leading blanks, and without its trailing blanks
+-- a text without its leading blanks
 abbrev pub trim_start : List ℕ → List ℕ
 trim_start text = drop (position_or_len (λ b. not (is_blank b)) text) text
 
-abbrev pub trim_end : List ℕ → List ℕ
-trim_end text = take (length text - suffix_len is_blank text) text
-
 -- the content of a line: the text before the first `#`, without outer blanks
 abbrev pub content_of : List ℕ → List ℕ
-content_of line = trim_end (trim_start (before_first (λ b. b == 35) line))
+content_of line =
+    let text = trim_start (before_first (λ b. b == 35) line) in take (length text - suffix_len is_blank text) text
 
 -- the first word of a line's content, and the text after it
 abbrev pub first_word : List ℕ → List ℕ
@@ -69,10 +68,6 @@ mapping_limit = 1000000
 abbrev pub label_limit : ℕ
 label_limit = 65535
 
--- the text is known, or there is room for one more
-abbrev pub has_room : List Label → Label → Bool
-has_room table text = has_label table text || nat_lt (length table) label_limit
-
 -- the value of a step is passed to the next step, and the first fault is the result
 infixl 10 ◌>>=◌
 abbrev pub ◌>>=◌ : {A B E : Type 0} → Result A E → (A → Result B E) → Result B E
@@ -84,15 +79,12 @@ abbrev pub label_of : List ℕ → Result Label MapFaultKind
 label_of [] = Err MissingLabel
 label_of (b ∷ bs) = if is_label (b ∷ bs) then Ok (b ∷ bs) else Err BadLabel
 
--- a text added to the table, if there is room for what the line says
+-- a text added to the table, if there is room for what the line says, and the text is known or there is room for one
+-- more
 abbrev pub with_text : Bool → Label → Earlier → Result Earlier MapFaultKind
 with_text room text earlier =
-    if room && has_room earlier.table text then Ok (record earlier { table = with_label earlier.table text })
-    else Err TooMany
-
--- `map-name NAME`
-abbrev pub name_line : Earlier → List ℕ → Result Earlier MapFaultKind
-name_line earlier rest = label_of rest >>= (λ name. Ok (record earlier { name = Some name }))
+    if room && (has_label earlier.table text || nat_lt (length earlier.table) label_limit)
+    then Ok (record earlier { table = with_label earlier.table text }) else Err TooMany
 
 -- the version that the word of a mode names
 abbrev pub mode_version : List ℕ → Option Version
@@ -102,19 +94,17 @@ mode_version word =
 
 -- `mode WORD`, at most once and before the first mapping or entry
 abbrev pub mode_line : Earlier → Option Version → Result Earlier MapFaultKind
-mode_line earlier None = Err BadMode
-mode_line earlier (Some version) =
+mode_line earlier named = ok_or named BadMode >>= (λ version.
     if nat_lt 0 (length earlier.mappings + length earlier.prefixes) then Err ModeLate
-    else (if is_some earlier.version then Err ModeRepeated else Ok (record earlier { version = Some version }))
+    else (if is_some earlier.version then Err ModeRepeated else Ok (record earlier { version = Some version })))
 
 -- `label NUMBER TEXT`: the text is a label that doesn't consist of digits alone, no number has two texts, and no text
 -- has two numbers
 abbrev pub label_line : Earlier → Option ℕ → List ℕ → Result Earlier MapFaultKind
-label_line earlier None rest = Err BadStatement
-label_line earlier (Some number) rest =
-    label_of rest >>= (λ text. if list_all is_digit text then Err BadLabel
+label_line earlier named rest = ok_or named BadStatement >>= (λ number. label_of rest >>= (λ text.
+    if list_all is_digit text then Err BadLabel
     else (if conflicts earlier.declared number text then Err LabelConflict
-    else with_text true text (record earlier { declared = with_declared earlier.declared (number, text) })))
+    else with_text true text (record earlier { declared = with_declared earlier.declared (number, text) }))))
 
 -- `default LABEL`, which is not allowed in a list
 abbrev pub default_line : Form → Earlier → List ℕ → Result Earlier MapFaultKind
@@ -132,10 +122,6 @@ span_line earlier version low high rest =
       mappings = earlier.mappings ++ record { low = low; high = high; label = text } ∷ [];
     }))
 
--- whether there is an entry for the block of this length with this first address
-abbrev pub has_prefix : List Prefix → ℕ → ℕ → Bool
-has_prefix prefixes start bits = list_any (λ p. p.start == start && p.bits == bits) prefixes
-
 -- the block of this length with this first address, followed by a label: in a map the span of its addresses, in a list
 -- the block itself, which no earlier entry has
 abbrev pub placed_line : Form → Earlier → Version → ℕ → ℕ → List ℕ → Result Earlier MapFaultKind
@@ -143,7 +129,7 @@ placed_line form.Map earlier version start bits rest =
     span_line earlier version start (last_of (width_of version) bits (block_number (width_of version) bits start)) rest
 placed_line form.List earlier version start bits rest =
     label_of rest >>= (λ label. let text = meant_text earlier.declared label in
-    if has_prefix earlier.prefixes start bits then Err DuplicateBlock
+    if list_any (λ p. p.start == start && p.bits == bits) earlier.prefixes then Err DuplicateBlock
     else with_text (nat_lt (length earlier.prefixes) mapping_limit) text (record earlier {
       version = Some version;
       prefixes = earlier.prefixes ++ record { start = start; bits = bits; label = text } ∷ [];
@@ -173,22 +159,19 @@ range_line form.Map earlier first second rest =
     number_in version first >>= (λ low. number_in version second >>= (λ high.
     if nat_le low high then span_line earlier version low high rest else Err LowAboveHigh))
 
--- a line that begins with an address: a range if a second address follows, otherwise `ADDRESS LABEL`, the block of this
--- address alone
-abbrev pub one_or_two : Form → Earlier → AddressOf → Option AddressOf → List ℕ → Result Earlier MapFaultKind
-one_or_two form earlier first (Some second) rest = range_line form earlier first second (behind_word rest)
-one_or_two form earlier first None rest = block_line form earlier (Ok (first.0, first.1, width_of first.0)) rest
-
--- a line whose first word is an address or begins no statement; the word may look like an address
+-- A line whose first word is an address: a range if a second address follows, otherwise `ADDRESS LABEL`, the block of
+-- this address alone. Any other word begins no statement; it may look like an address.
 abbrev pub address_line : Form → Earlier → List ℕ → Option AddressOf → List ℕ → Result Earlier MapFaultKind
-address_line form earlier word (Some first) rest = one_or_two form earlier first (address_of (first_word rest)) rest
+address_line form earlier word (Some first) rest =
+    option_map_or (λ second. range_line form earlier first second (behind_word rest))
+    (address_of (first_word rest)) (block_line form earlier (Ok (first.0, first.1, width_of first.0)) rest)
 address_line form earlier word None rest =
     Err (if is_digit (slice_index word 0) || list_any (λ b. b == 58) word then BadAddress else BadStatement)
 
 -- a line with a word, by its first word and the text after it
 abbrev pub statement_line : Form → Earlier → List ℕ → List ℕ → Result Earlier MapFaultKind
 statement_line form earlier word rest =
-    if bytes_eq word (codes "map-name") then name_line earlier rest
+    if bytes_eq word (codes "map-name") then label_of rest >>= (λ name. Ok (record earlier { name = Some name }))
     else (if bytes_eq word (codes "mode") then mode_line earlier (mode_version rest)
     else (if bytes_eq word (codes "label") then label_line earlier (label_number (first_word rest)) (behind_word rest)
     else (if bytes_eq word (codes "default") then default_line form earlier rest
@@ -208,35 +191,24 @@ lines_read form number (Ok earlier) [] = Ok earlier
 lines_read form number (Ok earlier) (line ∷ lines) =
     lines_read form (number + 1) (content_line form earlier (content_of line)) lines
 
-abbrev pub text_read : Form → List ℕ → Result Earlier MapFault
-text_read form text = lines_read form 0 (Ok no_lines) (lines_of text)
-
 -- the label of an address that no mapping covers, if the text has no default
 abbrev pub unknown : Label
 unknown = codes "UNKNOWN"
 
--- the map of a whole text; without a mode and a mapping it is of version 4, and without a default the table has the
--- label UNKNOWN too
-abbrev pub map_from : Earlier → MapModel
-map_from lines = record {
+-- The map, or the list, that a text is read as, or the first fault of the text with its line. Without a mode and a
+-- mapping or an entry it is of version 4. A map without a default has the label UNKNOWN in its table too.
+abbrev pub map_reading : List ℕ → Result MapModel MapFault
+map_reading text = lines_read form.Map 0 (Ok no_lines) (lines_of text) >>= (λ lines. Ok (record {
   version = unwrap_or lines.version V4;
   name = lines.name;
   fallback = unwrap_or lines.fallback unknown;
   mappings = lines.mappings;
   table = with_label lines.table (unwrap_or lines.fallback unknown);
-}
-
--- the list of a whole text
-abbrev pub list_from : Earlier → ListModel
-list_from lines =
-    record { version = unwrap_or lines.version V4; name = lines.name; prefixes = lines.prefixes; table = lines.table }
-
--- the map, or the list, that a text is read as, or the first fault of the text with its line
-abbrev pub map_reading : List ℕ → Result MapModel MapFault
-map_reading text = text_read form.Map text >>= (λ lines. Ok (map_from lines))
+}))
 
 abbrev pub list_reading : List ℕ → Result ListModel MapFault
-list_reading text = text_read form.List text >>= (λ lines. Ok (list_from lines))
+list_reading text = lines_read form.List 0 (Ok no_lines) (lines_of text) >>= (λ l.
+    Ok (record { version = unwrap_or l.version V4; name = l.name; prefixes = l.prefixes; table = l.table }))
 
 -- the result of reading a text as a map, or as a list; a failed allocation is reported with line 0
 pub record ReturnsMap (text : List ℕ) (result : Result MapText MapFault) : Type 0 where

@@ -1,6 +1,4 @@
-use Rattle.std.specs.Prelude.{◌≡◌, ◌≢◌, ℕ, ◌+◌, ◌^◌, ◌<◌, ◌≤◌, ◌&&◌, List, [], ◌∷◌, Option, filter, nat_le}
-use Rattle.prefix_keys.specs.Block.{width_of}
-use Rattle.prefix_keys.specs.declared.version.Version.{Version}
+use Rattle.std.specs.Prelude.{◌≡◌, ◌≢◌, ℕ, ◌+◌, ◌<◌, ◌≤◌, ◌&&◌, List, [], ◌∷◌, Option, filter, nat_le}
 use Rattle.pmap_text.specs.MapModel.{Label}
 
 -- Runs: the maximal ranges of consecutive addresses that have one label or no label.
@@ -23,10 +21,6 @@ AreRuns label_of from to [] = from ≡ to
 AreRuns label_of from to (run ∷ runs) =
     (run.low ≡ from) × HasOneLabel label_of run × (run.high + 1 < to → label_of (run.high + 1) ≢ run.label)
     × AreRuns label_of (run.high + 1) to runs
-
--- the runs of the addresses of a version
-abbrev pub AreRunsOf : Version → (ℕ → Option Label) → List Run → Type 0
-AreRunsOf version label_of runs = AreRuns label_of 0 (2 ^ width_of version) runs
 
 -- exactly one of the runs has the address, and it has the address's label
 abbrev pub HasOneRun : (ℕ → Option Label) → List Run → ℕ → Type 0

@@ -1,10 +1,11 @@
-use Rattle.std.specs.Prelude.{◌≡◌, ℕ, List, [], ◌∷◌, ◌++◌, Option, codes, map, unwrap_or, option_and_then, slice_get}
+use Rattle.std.specs.Prelude.{◌≡◌, ◌^◌, ℕ, List, [], ◌∷◌, ◌++◌, Option, codes, map, unwrap_or, option_and_then, slice_get}
 use Rattle.std.specs.List.{flat_map, join_with_byte}
+use Rattle.prefix_keys.specs.Block.{width_of}
 use Rattle.prefix_keys.specs.Print.{address_text}
 use Rattle.prefix_keys.specs.declared.version.Version.{Version}
 use Rattle.pmap_text.specs.MapModel.{Label}
 use Rattle.pmap_text.specs.Stretches.{StretchesModel, first_at, label_at, last_at}
-use Rattle.pmap_text.specs.Runs.{AreRunsOf, Run}
+use Rattle.pmap_text.specs.Runs.{AreRuns, Run}
 
 -- a field, and the fields of a line
 abbrev pub Text : Type 0
@@ -19,30 +20,30 @@ line_text fields = join_with_byte 124 fields ++ 10 ∷ []
 
 -- The printed text of runs.
 
--- the names of the columns
-abbrev pub run_titles : Line
-run_titles = codes "low" ∷ codes "high" ∷ codes "label" ∷ []
-
 -- the fields of a run; the last one is empty if there is no label
 abbrev pub run_fields : Version → Run → Line
 run_fields version run =
     address_text version run.low ∷ address_text version run.high ∷ unwrap_or run.label [] ∷ []
 
--- the line of a run
-abbrev pub run_text : Version → Run → Text
-run_text version run = line_text (run_fields version run)
-
 -- the text of runs: a header, and a line for each run
 abbrev pub runs_text : Version → List Run → Text
-runs_text version runs = flat_map line_text (run_titles ∷ map (run_fields version) runs)
+runs_text version runs =
+    flat_map line_text ((codes "low" ∷ codes "high" ∷ codes "label" ∷ []) ∷ map (run_fields version) runs)
 
 -- the text of the runs of a labelling of the version's addresses
 pub record IsRunsText (version : Version) (label_of : ℕ → Option Label) (text : Text) : Type 0 where
   pub runs : List Run
-  pub are : AreRunsOf version label_of runs
+  pub are : AreRuns label_of 0 (2 ^ width_of version) runs
   pub is : text ≡ runs_text version runs
 
 -- How the runs of stretches are found, one stretch after the other.
+
+abbrev pub run_titles : Line
+run_titles = codes "low" ∷ codes "high" ∷ codes "label" ∷ []
+
+-- the line of a run
+abbrev pub run_text : Version → Run → Text
+run_text version run = line_text (run_fields version run)
 
 -- the run from one stretch to another one, which has the label of the last
 abbrev pub run_between : List Label → StretchesModel → ℕ → ℕ → Run

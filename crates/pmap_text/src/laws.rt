@@ -9,7 +9,7 @@ ghost use Rattle.prefix_keys.specs.declared.version.Version.{Version};
 ghost use Rattle.pmap_text.specs.ListModel.{IsEquivalent, ListModel, Prefix, list_label, CoversAddress, HasSamePrefixes, IsLongestMatch, LabelsBlocksOnce, is_same_prefix};
 ghost use Rattle.pmap_text.specs.MapModel.{IsSettled, Label, MapModel, Mapping, map_label, settled_label};
 ghost use Rattle.pmap_text.specs.PrefixList.{list_of, PrefixList};
-ghost use Rattle.pmap_text.specs.Runs.{AreRunsOf, HasOneRun, Run};
+ghost use Rattle.pmap_text.specs.Runs.{AreRuns, HasOneRun, Run};
 ghost use Rattle.pmap_text.specs.RunsText.{IsRunsText, Text};
 ghost use Rattle.pmap_text.specs.Stretches.{HaveAddresses, IsStretch};
 
@@ -50,8 +50,6 @@ pub fn order_of_entries_is_free()
     ensures distinct { (l : PrefixList) → IsDistinct (is_same_prefix (width_of l.version)) (list_of l).prefixes }
 {}
 
-/// The addresses of a version have exactly one list of runs, whatever their labels are. It depends on these labels
-
 /// The text of the runs of a labelling is unique, and labellings that agree on each address have the same text. So a
 /// list that labels each address as a map does has the map's text.
 pub fn labelling_has_one_runs_text()
@@ -64,22 +62,23 @@ pub fn labelling_has_one_runs_text()
         IsRunsText m.version (λ a. Some (map_label m a)) other → text ≡ other }
 {}
 
+/// The addresses of a version have exactly one list of runs, whatever their labels are. It depends on these labels
 /// alone.
 pub fn labelling_has_its_runs()
-    ensures exist { (v : Version) (f : ℕ → Option Label) → (runs : List Run) × AreRunsOf v f runs }
+    ensures exist { (v : Version) (f : ℕ → Option Label) → (runs : List Run) × AreRuns f 0 (2 ^ width_of v) runs }
     ensures one { (v : Version) (f : ℕ → Option Label) (runs other : List Run) →
-        AreRunsOf v f runs → AreRunsOf v f other → runs ≡ other }
+        AreRuns f 0 (2 ^ width_of v) runs → AreRuns f 0 (2 ^ width_of v) other → runs ≡ other }
     ensures alike { (v : Version) (f g : ℕ → Option Label) (runs : List Run) →
-        ((a : ℕ) → a < 2 ^ width_of v → f a ≡ g a) → AreRunsOf v f runs → AreRunsOf v g runs }
+        ((a : ℕ) → a < 2 ^ width_of v → f a ≡ g a) → AreRuns f 0 (2 ^ width_of v) runs → AreRuns g 0 (2 ^ width_of v) runs }
 {}
 
 /// Each address is in exactly one run, which has its label. The runs ascend, each begins right after the previous one,
 /// and their labels differ.
 pub fn runs_cover_each_address_once()
-    ensures once { (v : Version) (f : ℕ → Option Label) (runs : List Run) → AreRunsOf v f runs →
+    ensures once { (v : Version) (f : ℕ → Option Label) (runs : List Run) → AreRuns f 0 (2 ^ width_of v) runs →
         (a : ℕ) → a < 2 ^ width_of v → HasOneRun f runs a }
-    ensures ascend { (v : Version) (f : ℕ → Option Label) (runs : List Run) → AreRunsOf v f runs →
+    ensures ascend { (v : Version) (f : ℕ → Option Label) (runs : List Run) → AreRuns f 0 (2 ^ width_of v) runs →
         (i : ℕ) (d : Run) → i + 1 < length runs → (slice_index_or runs (i + 1) d).low ≡ (slice_index_or runs i d).high + 1 }
-    ensures differ { (v : Version) (f : ℕ → Option Label) (runs : List Run) → AreRunsOf v f runs →
+    ensures differ { (v : Version) (f : ℕ → Option Label) (runs : List Run) → AreRuns f 0 (2 ^ width_of v) runs →
         (i : ℕ) (d : Run) → i + 1 < length runs → (slice_index_or runs (i + 1) d).label ≢ (slice_index_or runs i d).label }
 {}

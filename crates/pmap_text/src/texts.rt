@@ -1,7 +1,7 @@
 //! Reading map texts and list texts line by line.
 ghost use Rattle.std.specs.Prelude.{◌≡◌, ◌≢◌, Ok, Err, IfOk, IfErr};
-ghost use Rattle.pmap_text.specs.Inner.{HasDistinctKeys, HasRead};
-ghost use Rattle.pmap_text.specs.Reading.{ReturnsList, ReturnsMap, no_lines, text_read, NoMemory};
+ghost use Rattle.pmap_text.specs.Inner.{HasDistinctKeys, HasRead, text_read};
+ghost use Rattle.pmap_text.specs.Reading.{ReturnsList, ReturnsMap, no_lines, NoMemory};
 
 use crate::fault::{MapFault, MapFaultKind};
 use crate::form::Form;

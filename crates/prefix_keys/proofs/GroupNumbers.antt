@@ -79,6 +79,10 @@ whole-some (Some groups) c n h =
     let number = counted-number groups c n h in
     cc
 
+pub whole-none : (x : Option (List ℕ)) → None ≡ more_groups 0 0 x → whole_address x ≡ None
+whole-none None h = refl
+whole-none (Some groups) h = let many = too_many groups h in grind (arith, nat_tests)
+
 pub gap-no_back : (x y : Option (List ℕ)) → None ≡ more_groups 0 0 y → gap_address x y ≡ None
 gap-no_back None y h = refl
 gap-no_back (Some front) None h = refl

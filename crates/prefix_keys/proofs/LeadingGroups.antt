@@ -5,12 +5,12 @@ use Rattle.std.proofs.lemmas.Bool.{and_from, and_right, cond-true, cond-false, c
 use Rattle.std.proofs.lemmas.List.{append_assoc, append-nil, length-append}
 use Rattle.std.proofs.lemmas.List.Folds.{list_all-append}
 use Rattle.std.proofs.lemmas.List.Splits.{slice_split_at, slice_split_none, length-slice_split}
-use Rattle.prefix_keys.specs.Inner.{BeginsWith, BeginsWithSide, behind, is_colon_byte, more_groups}
+use Rattle.prefix_keys.specs.Inner.{BeginsWith, BeginsWithSide, behind, is_colon_byte, more_groups, colon_address, hex_value, last_groups, text_groups}
 use Rattle.std.specs.Char.{is_ascii_hexdigit}
-use Rattle.prefix_keys.specs.Text.{around_gap, around_address, colon_address, groups_of_pieces, hex_group, hex_value, last_groups, side_groups, text_groups, dotted_address}
+use Rattle.prefix_keys.specs.Text.{around_gap, around_address, groups_of_pieces, hex_group, side_groups, dotted_address}
 use Rattle.prefix_keys.proofs.ColonPieces.{is_colon, groups_of-more, more-next, onto_groups}
 use Rattle.prefix_keys.proofs.Gaps.{address-around}
-use Rattle.prefix_keys.proofs.GroupNumbers.{counted-count, gap-some, whole-some, whole_address}
+use Rattle.prefix_keys.proofs.GroupNumbers.{gap-some, whole-some, whole_address}
 use Rattle.prefix_keys.proofs.Bytes.{all-weaker, apart, each-fails, lacks, none-passes}
 use Rattle.prefix_keys.proofs.Printed.{Lacks}
 use Rattle.prefix_keys.proofs.PrintedGaps.{around-piece, behind-behind, behind-nil, colon-begins, skip}
@@ -82,10 +82,6 @@ colon-front (Some sides) = refl
 pub side-some : (dotted : Bool) (text : List ℕ) → 0 < length text → side_groups dotted text ≡ text_groups dotted text
 side-some dotted [] some = absurd (omega arith)
 side-some dotted (b ∷ text) some = refl
-
-eight-groups : (text : List ℕ) (c n : ℕ) → c ≡ 8 → Some (c, n) ≡ more_groups 0 0 (side_groups true text) → Some (c, n) ≡ more_groups 0 0 (text_groups true text)
-eight-groups [] c n eight h = let zero : c ≡ 0 = counted-count [] c n h in absurd (omega arith)
-eight-groups (b ∷ text) c n eight h = h
 
 -- one more group and the colon after it
 pub read-more : (text rest behind-group next : List ℕ) (c n g c' n' : ℕ) → HasRead text rest c n → BeginsWith is_ascii_hexdigit hex_group rest behind-group g
@@ -174,13 +170,14 @@ colon-whole text rest c n side eight =
       bytes = side.bytes;
       reads =
           ap (around_address front) none
-          ∙ whole-some (text_groups true front) c n (eight-groups front c n eight (side.groups true))
+          ∙ whole-some (side_groups true front) c n (side.groups true)
           ∙ cond-true (c == 8) (Some n) None (eq-eqb c 8 eight);
     }
 
 -- a text without a colon is not an IPv6 address, since it has at most two groups
 no-colon : (text : List ℕ) → list_any (λ b. b == 58) text ≡ false → colon_address text ≡ None
-no-colon text none =
+no-colon [] none = refl
+no-colon (b ∷ rest) none =
     let lacks-colon : Lacks 58 text = each-fails (λ b. b == 58) text none in
     let around : around_gap text ≡ None =
     ap around_gap (sym (append-nil text)) ∙ around-piece text [] lacks-colon in
@@ -188,6 +185,9 @@ no-colon text none =
     ∙ ap (λ pieces. whole_address (groups_of_pieces true pieces)) (slice_split_none is_colon text lacks-colon)
     ∙ few (list_any (λ b. b == 46) text)
   where
+    text : List ℕ
+    text = b ∷ rest
+
     two : (x : Option ℕ) → whole_address (option_map (λ value. value / 65536 ∷ value % 65536 ∷ []) x) ≡ None
     two None = refl
     two (Some value) = refl

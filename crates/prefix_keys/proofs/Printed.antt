@@ -9,7 +9,8 @@ use Rattle.std.proofs.lemmas.List.Splits.{slice_split_none, slice_split_at}
 use Rattle.std.proofs.lemmas.List.{length-append}
 use Rattle.prefix_keys.specs.Print.{joined_text}
 use Rattle.std.specs.Char.{is_ascii_hexdigit}
-use Rattle.prefix_keys.specs.Text.{is_digit, hex_digit_value, hex_value, hex_group, decimal_value, decimal_number}
+use Rattle.prefix_keys.specs.Text.{is_digit, hex_digit_value, hex_group, decimal_value, decimal_number}
+use Rattle.prefix_keys.specs.Inner.{hex_value}
 use Rattle.prefix_keys.proofs.Digits.{length-digits-le, fold-digits, All-digits, digits_some}
 
 -- Printed numbers, and texts of them separated by a separator.

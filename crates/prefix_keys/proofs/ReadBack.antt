@@ -9,8 +9,9 @@ use Rattle.prefix_keys.specs.Block.{block_number, first_of, width_of, Version, V
 use Rattle.prefix_keys.specs.declared.text.BlockFault.TheVariants.{BadLength}
 use Rattle.std.proofs.Math.Nat.{div-add-mod'}
 use Rattle.std.proofs.lemmas.List.Sums.{position_or_len_is}
-use Rattle.prefix_keys.specs.Print.{address_text, joined_text, dotted_text, address_bytes, address_groups, address_groups_text, longest_run, shortened_text, AddressIsReadBack, BlockIsReadBack, IsZeroRun}
-use Rattle.prefix_keys.specs.Text.{groups_of_pieces, last_groups, text_groups, side_groups, groups_number, gap_address, around_address, colon_address, hex_group, dotted_address, decimal_number, four_bytes, address_of, block_from}
+use Rattle.prefix_keys.specs.Print.{address_text, joined_text, longest_run, shortened_text, AddressIsReadBack, BlockIsReadBack, IsZeroRun}
+use Rattle.prefix_keys.specs.Text.{groups_of_pieces, side_groups, groups_number, gap_address, around_address, hex_group, dotted_address, decimal_number, four_bytes, address_of}
+use Rattle.prefix_keys.specs.Inner.{last_groups, text_groups, colon_address, address_bytes, address_groups, address_groups_text, block_from}
 use Rattle.prefix_keys.proofs.Pieces.{of_all}
 use Rattle.prefix_keys.proofs.Printed.{Lacks, Lacks-digits, no_colon, no_point, no_slash, split-joined, joined-some, hex_group-digits, short_number-decimal, Lacks-joined}
 use Rattle.prefix_keys.proofs.ColonPieces.{onto_groups}
@@ -64,7 +65,7 @@ whole_back [] eight all = absurd (omega arith)
 whole_back (group ∷ groups) eight all =
     let text : List ℕ = address_groups_text (group ∷ groups) in
     ap (around_address text) (around-none group groups all)
-    ∙ ap whole_address (text_groups-printed true group groups all)
+    ∙ ap whole_address (side_groups-printed true (group ∷ groups) all)
     ∙ cond-true (length (group ∷ groups) == 8) (Some (groups_number (group ∷ groups))) None (eq-eqb _ _ eight)
 
 -- the text of the groups without such a run
@@ -147,7 +148,7 @@ dotted_back a b c d all =
 
 pub address_is_read_back : AddressIsReadBack
 address_is_read_back V4 number h =
-    let text : List ℕ = dotted_text number in
+    let text : List ℕ = address_text V4 number in
     let small : All IsGroup (address_bytes number) =
     All-weaker (λ byte. byte < 256) IsGroup (λ byte h. omega arith) (address_bytes number) (bytes-below number) in
     cond-false (list_any (λ b. b == 58) text) (option_map (λ value. (V6, value)) (colon_address text))

@@ -1,6 +1,7 @@
 use Rattle.std.proofs.Common.{ℕ, zero, suc, ◌≡◌, ◌+◌, ◌<◌, ◌≤◌, ◌∙◌, cond, List, [], ◌∷◌, take, drop, get_or, ap, sym, refl, subst, inl, inr, arith, add-one, eq-eqb}
 use Rattle.std.proofs.lemmas.Bool.{cases_eq, cases_lt, ne_eqb, le-leb, lt-leb}
-use Rattle.prefix_keys.specs.Print.{zeros_ahead, longer_run, longest_run, IsZeroRun, LongestRunIsLongest}
+use Rattle.prefix_keys.specs.Print.{longer_run, longest_run, IsZeroRun, LongestRunIsLongest}
+use Rattle.prefix_keys.specs.Inner.{zeros_ahead}
 
 -- Runs of zeros.
 

@@ -11,29 +11,9 @@ use Rattle.prefix_keys.specs.declared.block.Block.{Block}
 abbrev pub parts_at : ℕ → List ℕ → ℕ → List ℕ
 parts_at bits places number = map (λ place. number / 2 ^ (bits * place) % 2 ^ bits) places
 
--- the four bytes of an IPv4 address, the highest first
-abbrev pub address_bytes : ℕ → List ℕ
-address_bytes = parts_at 8 (3 ∷ 2 ∷ 1 ∷ 0 ∷ [])
-
--- the eight groups of an IPv6 address, the highest first
-abbrev pub address_groups : ℕ → List ℕ
-address_groups = parts_at 16 (7 ∷ 6 ∷ 5 ∷ 4 ∷ 3 ∷ 2 ∷ 1 ∷ 0 ∷ [])
-
 -- numbers in a base, without leading zeros, separated by the separator
 abbrev pub joined_text : ℕ → ℕ → List ℕ → List ℕ
 joined_text base separator numbers = join_with_byte separator (map (digits base false) numbers)
-
--- an IPv4 address: its bytes in decimal, separated by points
-abbrev pub dotted_text : ℕ → List ℕ
-dotted_text number = joined_text 10 46 (address_bytes number)
-
--- groups in lower-case hexadecimal, separated by colons
-abbrev pub address_groups_text : List ℕ → List ℕ
-address_groups_text groups = joined_text 16 58 groups
-
--- the number of zeros at the start of the groups
-abbrev pub zeros_ahead : List ℕ → ℕ
-zeros_ahead groups = prefix_len (λ group. group == 0) groups
 
 -- the longer of two runs, or the first if they are equal; the start of the second is counted from one group later
 abbrev pub longer_run : ℕ → ℕ × ℕ → ℕ × ℕ
@@ -42,22 +22,21 @@ longer_run here (start, len) = if nat_le len here then (0, here) else (start + 1
 -- the start of the first longest run of zeros, and its length: the zeros at the start, unless a later run is longer
 abbrev pub longest_run : List ℕ → ℕ × ℕ
 longest_run [] = (0, 0)
-longest_run (group ∷ groups) = longer_run (zeros_ahead (group ∷ groups)) (longest_run groups)
+longest_run (group ∷ groups) = longer_run (prefix_len (λ g. g == 0) (group ∷ groups)) (longest_run groups)
 
--- groups in which `::` replaces a run of two or more
+-- groups in lower-case hexadecimal, separated by colons, in which `::` replaces a run of two or more
 abbrev pub shortened_text : List ℕ → ℕ × ℕ → List ℕ
 shortened_text groups (start, len) =
     if nat_le 2 len
-    then address_groups_text (take start groups) ++ 58 ∷ 58 ∷ address_groups_text (drop (start + len) groups)
-    else address_groups_text groups
+    then joined_text 16 58 (take start groups) ++ 58 ∷ 58 ∷ joined_text 16 58 (drop (start + len) groups)
+    else joined_text 16 58 groups
 
--- an IPv6 address: its groups, with the first longest run of zeros shortened
-abbrev pub colon_text : ℕ → List ℕ
-colon_text number = shortened_text (address_groups number) (longest_run (address_groups number))
-
+-- an IPv4 address: its four bytes in decimal, separated by points; an IPv6 address: its eight groups, with the first
+-- longest run of zeros shortened
 abbrev pub address_text : Version → ℕ → List ℕ
-address_text V4 number = dotted_text number
-address_text V6 number = colon_text number
+address_text V4 number = joined_text 10 46 (parts_at 8 (3 ∷ 2 ∷ 1 ∷ 0 ∷ []) number)
+address_text V6 number =
+    let groups = parts_at 16 (7 ∷ 6 ∷ 5 ∷ 4 ∷ 3 ∷ 2 ∷ 1 ∷ 0 ∷ []) number in shortened_text groups (longest_run groups)
 
 -- a block: its address, a `/`, and its length in decimal
 abbrev pub block_text : Version → ℕ → ℕ → List ℕ

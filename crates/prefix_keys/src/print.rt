@@ -1,6 +1,8 @@
 //! The texts of addresses and blocks.
 ghost use Rattle.std.specs.Prelude.{◌≡◌, ◌+◌, ◌*◌, ◌/◌, ◌%◌, ◌^◌, ◌<◌, ◌≤◌, ◌++◌, OnOk, OnErr, drop, length};
-ghost use Rattle.prefix_keys.specs.Print.{address_groups, address_text, block_text, colon_text, dotted_text, longest_run};
+ghost use Rattle.prefix_keys.specs.Block.{V4, V6};
+ghost use Rattle.prefix_keys.specs.Inner.{address_groups};
+ghost use Rattle.prefix_keys.specs.Print.{address_text, block_text, longest_run};
 
 mod digits;
 
@@ -67,7 +69,7 @@ fn write_dotted(value: u128, buf: &mut [u8], end: usize) -> usize
     requires within { end ≤ length buf.old }
     ensures start { result ≤ end }
     ensures room { end ≤ result + 15 }
-    ensures written { drop result buf.new ≡ dotted_text value ++ drop end buf.old }
+    ensures written { drop result buf.new ≡ address_text V4 value ++ drop end buf.old }
 {
     let at = write_octet(part(value, 8, 0), buf, end) - 1;
     buf[at] = b'.';
@@ -84,7 +86,7 @@ fn write_colon(value: u128, buf: &mut [u8], end: usize) -> usize
     requires within { end ≤ length buf.old }
     ensures start { result ≤ end }
     ensures room { end ≤ result + 40 }
-    ensures written { drop result buf.new ≡ colon_text value ++ drop end buf.old }
+    ensures written { drop result buf.new ≡ address_text V6 value ++ drop end buf.old }
 {
     let groups = groups_of(value);
     let (start, len) = longest_zeros(&groups);

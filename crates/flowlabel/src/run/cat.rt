@@ -1,6 +1,7 @@
 //! The output of `cat`.
-ghost use Rattle.flowlabel.specs.Output.{IsOutput, Returns};
-ghost use Rattle.flowlabel.specs.Request.{cat, source_by};
+ghost use Rattle.flowlabel.specs.Output.{Returns};
+ghost use Rattle.flowlabel.specs.Reports.{PrintsRuns, SourceThen};
+ghost use Rattle.flowlabel.specs.Request.{source_by};
 
 use crate::command::LabelFile;
 use crate::output_fault::OutputFault;
@@ -16,7 +17,7 @@ pub fn output(
     text: Vec<u8>,
     hashing: KeyHashing,
 ) -> Result<Vec<u8>, OutputFault>
-    ensures { Returns (IsOutput (cat (source_by labels.entry text.items))) result }
+    ensures { Returns (SourceThen PrintsRuns (source_by labels.entry text.items)) result }
 {
     // Provides the law that labellings that agree on each address have one text of their runs.
     labelling_has_one_runs_text();

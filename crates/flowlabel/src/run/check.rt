@@ -4,9 +4,8 @@ ghost use Rattle.pmap_text.specs.MapText.{map_of};
 ghost use Rattle.pmap_text.specs.PrefixList.{list_of};
 ghost use Rattle.pmap_cert.specs.FormatReading.{format_reading};
 ghost use Rattle.flowlabel.specs.declared.bytes_fault.BytesFault.TheVariants.{Certificate as InCertificate};
-ghost use Rattle.flowlabel.specs.Output.{Checks, IsOutput, Returns, Then};
-ghost use Rattle.flowlabel.specs.Reports.{IsMade};
-ghost use Rattle.flowlabel.specs.Request.{check};
+ghost use Rattle.flowlabel.specs.Output.{Checks, Returns, Then};
+ghost use Rattle.flowlabel.specs.Reports.{ChecksTexts, IsMade};
 ghost use Rattle.flowlabel.specs.Run.{AreUnread, any_failed};
 
 use crate::by_file::{ByFile, Role};
@@ -45,8 +44,7 @@ pub fn output<R: Input>(
 ) -> Result<Vec<u8>, OutputFault>
     requires unread { AreUnread R.input files.old }
     requires works { any_failed R.input files.old ≡ false }
-    ensures { IsMade R.input (λ texts. IsOutput (check texts.map texts.list texts.certificate)) files.old files.new
-        result }
+    ensures { IsMade R.input ChecksTexts files.old files.new result }
 {
     let text = read(alloc, Role::Map, files)?;
     let map = map_in(alloc, text, hashing)?;

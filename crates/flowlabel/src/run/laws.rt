@@ -1,11 +1,13 @@
 ghost use Rattle.std.specs.Prelude.{◌≡◌, ℕ, List, Ok};
+ghost use Rattle.std.specs.Borrow.{Bor};
 ghost use Rattle.pmap_text.specs.ListModel.{ListModel};
 ghost use Rattle.pmap_text.specs.MapModel.{MapModel};
 ghost use Rattle.pmap_text.specs.Reading.{map_reading};
 ghost use Rattle.pmap_cert.specs.CertificateModel.{CertificateModel};
 ghost use Rattle.flowlabel.specs.Headline.{AreShrunk, IsHeadline};
 ghost use Rattle.flowlabel.specs.Output.{IsOutput, Outcome};
-ghost use Rattle.flowlabel.specs.Request.{Request, Text};
+ghost use Rattle.flowlabel.specs.ByFile.{ByFile};
+ghost use Rattle.flowlabel.specs.Request.{Command, Text};
 
 use cert_check::no_fault_is_acceptance;
 use flow_filter::options_hold_together;
@@ -21,10 +23,10 @@ use pmap_text::{
     labelling_has_its_runs, labelling_has_one_runs_text, runs_cover_each_address_once,
 };
 
-/// A request has exactly one output over any texts of its files.
+/// A command has exactly one output over any texts of its files.
 pub fn one_output()
-    ensures { (request : Request) → (outcome : Outcome) × IsOutput request outcome
-        × ((other : Outcome) → IsOutput request other → other ≡ outcome) }
+    ensures { (command : Command) (texts : ByFile Text) → (outcome : Outcome) × IsOutput command texts outcome
+        × ((other : Outcome) → IsOutput command texts other → other ≡ outcome) }
 {
     labelling_has_its_runs();
     labelling_has_one_runs_text();
@@ -36,7 +38,8 @@ pub fn one_output()
 /// limits of a text, its text is read again as the same list. Read as a map text, the text gives each address the same
 /// label as the map. `check` accepts the text with the certificate, compacted or not.
 pub fn shrunk_list_is_least()
-    ensures { (map : Text) (m : MapModel) → map_reading map ≡ Ok m → (l : ListModel) × (c : CertificateModel) × AreShrunk map m l c }
+    ensures { (name : Bor Text) (texts : ByFile Text) (m : MapModel) → map_reading texts.map ≡ Ok m →
+        (l : ListModel) × (c : CertificateModel) × AreShrunk name texts m l c }
 {
     map_text_has_a_minimal_pair();
     map_text_has_its_labels();
@@ -53,7 +56,8 @@ pub fn shrunk_list_is_least()
 
 /// The headline holds for each output that is a text.
 pub fn output_keeps_headline()
-    ensures { (request : Request) (out : List ℕ) → IsOutput request (Ok out) → IsHeadline request out }
+    ensures { (command : Command) (texts : ByFile Text) (out : List ℕ) → IsOutput command texts (Ok out) →
+        IsHeadline command texts out }
 {
     one_output();
     shrunk_list_is_least();

@@ -1,6 +1,8 @@
 //! The output of `shrink`.
-ghost use Rattle.flowlabel.specs.Output.{IsOutput, Returns};
-ghost use Rattle.flowlabel.specs.Request.{shrink};
+ghost use Rattle.pmap_text.specs.Reading.{map_reading};
+ghost use Rattle.flowlabel.specs.declared.bytes_fault.BytesFault.TheVariants.{Map as InMap};
+ghost use Rattle.flowlabel.specs.Output.{Returns, Then};
+ghost use Rattle.flowlabel.specs.Reports.{PrintsMinimal};
 
 use crate::command::Shrunk;
 use crate::output_fault::OutputFault;
@@ -17,7 +19,7 @@ pub fn output(
     printed: Shrunk,
     hashing: KeyHashing,
 ) -> Result<Vec<u8>, OutputFault>
-    ensures { Returns (IsOutput (shrink text.items printed)) result }
+    ensures { Returns (Then InMap (PrintsMinimal printed) (map_reading text.items)) result }
 {
     let map = map_in(alloc, text, hashing)?;
     match printed {

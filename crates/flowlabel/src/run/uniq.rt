@@ -4,9 +4,8 @@ ghost use Rattle.flow_rows.specs.Counts.{rows_of, rows_of_messages};
 ghost use Rattle.flow_rows.specs.Elements.{RowView};
 ghost use Rattle.flow_uniq.specs.Groups.{record_count};
 ghost use Rattle.flow_uniq.specs.declared.field.KeyField.{KeyField};
-ghost use Rattle.flowlabel.specs.Output.{IsOutput};
-ghost use Rattle.flowlabel.specs.Reports.{HasGroups, IsMade, ReadsInto, labelling_found};
-ghost use Rattle.flowlabel.specs.Request.{source_with, uniq};
+ghost use Rattle.flowlabel.specs.Reports.{HasGroups, IsMade, ReadsInto, ReportsThen, labelling_found, report_of_groups};
+ghost use Rattle.flowlabel.specs.Request.{source_with};
 ghost use Rattle.flowlabel.specs.Run.{AreUnread, any_failed, view_of};
 
 use crate::by_file::ByFile;
@@ -94,8 +93,9 @@ pub fn output<R: Input>(
     requires unread { AreUnread R.input files.old }
     requires works { any_failed R.input files.old ≡ false }
     ensures { IsMade R.input
-        (λ texts. IsOutput (uniq grouping.entry.keys.now (option_map (source_with texts) labels.entry)
-        grouping.entry.filter.now grouping.entry.sorted grouping.entry.columns texts.flows))
+        (λ texts. ReportsThen
+        (report_of_groups grouping.entry.keys.now grouping.entry.filter.now grouping.entry.sorted grouping.entry.columns)
+        (option_map (source_with texts) labels.entry) texts.flows)
         files.old files.new result }
 {
     let read = LabelsRead::of_files(alloc, labels, files, hashing)?;

@@ -3,9 +3,9 @@ ghost use Rattle.std.specs.Prelude.{◌≡◌, ◌<◌, ◌≤◌, ◌==◌, ◌
 ghost use Rattle.std.specs.List.{list_any};
 ghost use Rattle.prefix_keys.specs.Text.{address_of, block_of_text, is_digit};
 ghost use Rattle.pmap_text.specs.Label.{label_number as number_of_label, meant_text, is_label as is_label_text, with_label};
-ghost use Rattle.pmap_text.specs.Reading.{behind_word, first_word, block_line, content_line, default_line, label_line, label_of, mode_line, mode_version, name_line, one_or_two, placed_line, range_line, span_line, statement_line, BadAddress, BadStatement, NoMemory, TooMany};
+ghost use Rattle.pmap_text.specs.Reading.{behind_word, first_word, block_line, content_line, default_line, label_line, label_of, mode_line, mode_version, placed_line, range_line, span_line, statement_line, BadAddress, BadStatement, NoMemory, TooMany};
 ghost use Rattle.pmap_text.specs.declared.form.Form.TheVariants.{List as list_form};
-ghost use Rattle.pmap_text.specs.Inner.{Reads, has_label_room};
+ghost use Rattle.pmap_text.specs.Inner.{Reads, has_label_room, one_or_two, name_line};
 
 use crate::declarations::label_number;
 use crate::fault::MapFaultKind;

@@ -1,7 +1,7 @@
 ghost use Rattle.std.specs.Prelude.{◌≡◌, ◌≤◌, ◌<◌, ◌+◌, ◌*◌, ◌-◌, ◌^◌, IfSome, Some, None, List, [], ◌∷◌, option_map, nat_le, if◌then◌else◌};
 ghost use Rattle.std.specs.Char.{is_ascii_hexdigit};
-ghost use Rattle.prefix_keys.specs.Text.{hex_digit_value, hex_group, last_groups, text_groups, side_groups, around_gap, colon_address};
-ghost use Rattle.prefix_keys.specs.Inner.{BeginsWith, BeginsWithSide, is_colon_byte, more_groups};
+ghost use Rattle.prefix_keys.specs.Text.{hex_digit_value, hex_group, side_groups, around_gap};
+ghost use Rattle.prefix_keys.specs.Inner.{BeginsWith, BeginsWithSide, colon_address, is_colon_byte, last_groups, more_groups, text_groups};
 
 use crate::cutting::cut;
 use crate::text::dotted::read_dotted;
@@ -158,7 +158,7 @@ pub fn read_colon(text: &[u8]) -> Option<u128>
     ensures { result ≡ colon_address text.now }
 {
     let Some((front, back)) = cut_gap(text) else {
-        let groups = read_groups(text, true)?;
+        let groups = read_side(text, true)?;
         return if groups.count == 8 {
             Some(groups.number)
         } else {

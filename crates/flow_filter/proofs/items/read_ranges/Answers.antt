@@ -1,4 +1,4 @@
-use Rattle.std.proofs.Common.{◌≡◌, ◌∙◌, ◌&&◌, ◌==◌, ◌++◌, ◌∷◌, [], ℕ, true, Option, Some, None, Err, List, refl, ap, arith, get_or, length, map, rules, sym, tests}
+use Rattle.std.proofs.Common.{◌≡◌, ◌∙◌, ◌&&◌, ◌==◌, ◌++◌, ◌∷◌, [], ℕ, true, Option, Some, None, Ok, Err, List, refl, ap, arith, get_or, length, map, rules, sym, tests}
 use Rattle.std.specs.Prelude.{is_none, ok_or}
 use Rattle.std.proofs.lemmas.Iterator.Consumers.{YieldsList-end, YieldsList-turn}
 use Rattle.std.proofs.lemmas.Iterator.Splits.{YieldsList-from_slice_split}
@@ -22,6 +22,11 @@ err_parts : {X E : Type 0} (x : Option X) (kind fault : E) → Err fault ≡ ok_
 err_parts None kind fault is = (refl, cc)
 err_parts (Some x) kind fault is = absurd (cc)
 
+-- an item that exists
+ok_part : {X E : Type 0} (x : Option X) (y : X) (kind : E) → Ok y ≡ ok_or x kind → x ≡ Some y
+ok_part None y kind is = absurd (cc)
+ok_part (Some x) y kind is = cc
+
 pub returns-in_err-range-clause-err : goal.returns-in_err-range-clause-err
 returns-in_err-range-clause-err c =
     let turn =
@@ -43,7 +48,8 @@ returns-in_err-range-clause-err c =
 pub loop-item-preserved : goal.loop-item-preserved
 loop-item-preserved c =
     let o = c.args.option in
-    let read : item_test o c.in-Some.item.now ≡ Some (by_range o c.in_ok-range.range) = grind arith in
+    let read : item_test o c.in-Some.item.now ≡ Some (by_range o c.in_ok-range.range) =
+    ok_part (item_test o c.in-Some.item.now) (by_range o c.in_ok-range.range) (kind_of o) c.in_ok-range.ensures in
     let pushed : c.push.new.self.items ≡ c.loop-item.ranges.items ++ c.in_ok-range.range ∷ [] = search rules in
     let items : List (List ℕ) = map (λ x. x.now) c.loop-item.yielded in
     rw (

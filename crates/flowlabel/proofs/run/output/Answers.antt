@@ -2,9 +2,9 @@ use Rattle.std.proofs.Common.{ℕ, List, arith, subst, sym}
 use Rattle.prefix_keys.specs.Text.{AddressOf}
 use Rattle.flowlabel.specs.declared.by_file.Role.TheVariants as role
 use Rattle.flowlabel.specs.Output.{IsOutput, Prints, Returns, label_text}
-use Rattle.flowlabel.specs.Request.{cat, label, recert, role_in, shrink, source_with}
-use Rattle.flowlabel.proofs.Outcomes.{PrintsRuns}
-use Rattle.flowlabel.proofs.MadeLemmas.{certificate_first, early, labels_first, of_source, unread_made, whole_made}
+use Rattle.flowlabel.specs.Request.{Cat, Label, role_in}
+use Rattle.flowlabel.proofs.Outcomes.{CertificateThen, MapThen, PrintsCompact, PrintsMinimal, PrintsRuns, report_of_groups, report_of_rows}
+use Rattle.flowlabel.proofs.MadeLemmas.{certificate_first, early, labels_first, labels_of, report_labels, unread_made, whole_made}
 use Rattle.flowlabel.proofs.run.output.Goals as goal
 
 pub returns-in_err-text-in-Label : goal.returns-in_err-text-in-Label
@@ -12,7 +12,7 @@ returns-in_err-text-in-Label g c =
     let labels = c.in-Label.labels in
     let address : AddressOf = (c.in-Label.addr.version, c.in-Label.addr.value) in
     rw c.in-Label.is
-    (unread_made c.requires.works (λ texts. IsOutput (label (source_with texts labels) address)) (role_in labels) c.from_residual.result c.from_residual.ensures.1 (early labels)
+    (unread_made c.requires.works (IsOutput (Label labels c.in-Label.addr)) (role_in labels) c.from_residual.result c.from_residual.ensures.1 (early labels)
     (λ texts fault. labels_first (λ l. Prints (label_text address l)) labels texts fault (λ l is. cc)) (rw c.role.ensures at c.in_err-text-in-Label.ensures))
 
 pub returns-in_ok-text-in-Label : goal.returns-in_ok-text-in-Label
@@ -20,52 +20,54 @@ returns-in_ok-text-in-Label g c =
     let labels = c.in-Label.labels in
     let address : AddressOf = (c.in-Label.addr.version, c.in-Label.addr.value) in
     rw c.in-Label.is
-    (whole_made c.requires.works (λ texts. IsOutput (label (source_with texts labels) address)) (role_in labels) c.output.result (λ q _. c.requires.unread q)
+    (whole_made c.requires.works (IsOutput (Label labels c.in-Label.addr)) (role_in labels) c.output.result (λ q _. c.requires.unread q)
     (λ texts fault. labels_first (λ l. Prints (label_text address l)) labels texts fault (λ l is. cc)) (rw c.role.ensures at c.in_ok-text-in-Label.ensures)
-    (λ texts same. of_source (λ source flows. Returns (IsOutput (label source address)) c.output.result) labels _ texts same c.output.ensures))
+    (λ texts same. labels_of (λ l. Prints (label_text address l)) labels _ texts c.output.result same c.output.ensures))
 
 pub returns-in_err-read-in-Cat : goal.returns-in_err-read-in-Cat
 returns-in_err-read-in-Cat g c =
     let labels = c.in-Cat.labels in
     rw c.in-Cat.is
-    (unread_made c.requires.works (λ texts. IsOutput (cat (source_with texts labels))) (role_in labels) c.from_residual-in_err-read-in-Cat.result c.from_residual-in_err-read-in-Cat.ensures.1 (early labels)
+    (unread_made c.requires.works (IsOutput (Cat labels)) (role_in labels) c.from_residual-in_err-read-in-Cat.result c.from_residual-in_err-read-in-Cat.ensures.1 (early labels)
     (λ texts fault. labels_first PrintsRuns labels texts fault (λ l (out, runs, is). cc)) (rw c.role-in-Cat.ensures at c.in_err-read-in-Cat.ensures))
 
 pub returns-in_ok-read-in-Cat : goal.returns-in_ok-read-in-Cat
 returns-in_ok-read-in-Cat g c =
     let labels = c.in-Cat.labels in
     rw c.in-Cat.is
-    (whole_made c.requires.works (λ texts. IsOutput (cat (source_with texts labels))) (role_in labels) c.output-in-Cat.result (λ q _. c.requires.unread q)
+    (whole_made c.requires.works (IsOutput (Cat labels)) (role_in labels) c.output-in-Cat.result (λ q _. c.requires.unread q)
     (λ texts fault. labels_first PrintsRuns labels texts fault (λ l (out, runs, is). cc)) (rw c.role-in-Cat.ensures at c.in_ok-read-in-Cat.ensures)
-    (λ texts same. of_source (λ source flows. Returns (IsOutput (cat source)) c.output-in-Cat.result) labels _ texts same c.output-in-Cat.ensures))
+    (λ texts same. labels_of PrintsRuns labels _ texts c.output-in-Cat.result same c.output-in-Cat.ensures))
 
 pub returns-in_err-read-in-Shrink : goal.returns-in_err-read-in-Shrink
 returns-in_err-read-in-Shrink g c =
     rw c.in-Shrink.is
-    (unread_made c.requires.works (λ texts. IsOutput (shrink texts.map c.in-Shrink.printed)) role.Map c.from_residual-in_err-read-in-Shrink.result c.from_residual-in_err-read-in-Shrink.ensures.1 (omega arith)
+    (unread_made c.requires.works (λ texts. MapThen (PrintsMinimal c.in-Shrink.printed) texts.map) role.Map c.from_residual-in_err-read-in-Shrink.result c.from_residual-in_err-read-in-Shrink.ensures.1 (omega arith)
     (λ texts fault is. omega arith) c.in_err-read-in-Shrink.ensures)
 
 pub returns-in_ok-read-in-Shrink : goal.returns-in_ok-read-in-Shrink
 returns-in_ok-read-in-Shrink g c =
     rw c.in-Shrink.is
-    (whole_made c.requires.works (λ texts. IsOutput (shrink texts.map c.in-Shrink.printed)) role.Map c.output-in-Shrink.result (λ q _. c.requires.unread q) (λ texts fault is. omega arith) c.in_ok-read-in-Shrink.ensures
-    (λ texts same. subst (λ (t : List ℕ). Returns (IsOutput (shrink t c.in-Shrink.printed)) c.output-in-Shrink.result) (sym same) c.output-in-Shrink.ensures))
+    (whole_made c.requires.works (λ texts. MapThen (PrintsMinimal c.in-Shrink.printed) texts.map) role.Map c.output-in-Shrink.result (λ q _. c.requires.unread q) (λ texts fault is. omega arith) c.in_ok-read-in-Shrink.ensures
+    (λ texts same. subst (λ (t : List ℕ). Returns (MapThen (PrintsMinimal c.in-Shrink.printed) t) c.output-in-Shrink.result) (sym same) c.output-in-Shrink.ensures))
 
 pub returns-in_err-read-in-Recert : goal.returns-in_err-read-in-Recert
 returns-in_err-read-in-Recert g c =
     rw c.in-Recert.is
-    (unread_made c.requires.works (λ texts. IsOutput (recert texts.certificate)) role.Certificate c.from_residual-in_err-read-in-Recert.result c.from_residual-in_err-read-in-Recert.ensures.1 (omega arith)
+    (unread_made c.requires.works (λ texts. CertificateThen PrintsCompact texts.certificate) role.Certificate c.from_residual-in_err-read-in-Recert.result c.from_residual-in_err-read-in-Recert.ensures.1 (omega arith)
     (λ texts fault. certificate_first texts.certificate fault) c.in_err-read-in-Recert.ensures)
 
 pub returns-in_ok-read-in-Recert : goal.returns-in_ok-read-in-Recert
 returns-in_ok-read-in-Recert g c =
     rw c.in-Recert.is
-    (whole_made c.requires.works (λ texts. IsOutput (recert texts.certificate)) role.Certificate c.output-in-Recert.result (λ q _. c.requires.unread q) (λ texts fault. certificate_first texts.certificate fault)
+    (whole_made c.requires.works (λ texts. CertificateThen PrintsCompact texts.certificate) role.Certificate c.output-in-Recert.result (λ q _. c.requires.unread q) (λ texts fault. certificate_first texts.certificate fault)
     c.in_ok-read-in-Recert.ensures
-    (λ texts same. subst (λ (t : List ℕ). Returns (IsOutput (recert t)) c.output-in-Recert.result) (sym same) c.output-in-Recert.ensures))
+    (λ texts same. subst (λ (t : List ℕ). Returns (CertificateThen PrintsCompact t) c.output-in-Recert.result) (sym same) c.output-in-Recert.ensures))
 
 pub returns-in-Rows : goal.returns-in-Rows
-returns-in-Rows g c = rw c.in-Rows.is c.output-in-Rows.ensures
+returns-in-Rows g c =
+    rw c.in-Rows.is (report_labels g.R.Input.input (report_of_rows c.in-Rows.filter c.in-Rows.columns) c.in-Rows.labels _ _ _ c.output-in-Rows.ensures)
 
 pub returns-in-Uniq : goal.returns-in-Uniq
-returns-in-Uniq g c = rw c.in-Uniq.is c.output-in-Uniq.ensures
+returns-in-Uniq g c =
+    rw c.in-Uniq.is (report_labels g.R.Input.input (report_of_groups c.in-Uniq.keys c.in-Uniq.filter c.in-Uniq.sorted c.in-Uniq.columns) c.in-Uniq.labels _ _ _ c.output-in-Uniq.ensures)

@@ -1,7 +1,7 @@
 use Rattle.std.proofs.Common.{List, ℕ, subst}
 use Rattle.flow_io.specs.Devices.{StopsWriting, Writes}
 use Rattle.flowlabel.specs.ByFile.{ByFile}
-use Rattle.flowlabel.specs.Request.{Text, with_texts}
+use Rattle.flowlabel.specs.Request.{Text}
 use Rattle.flowlabel.specs.Run.{IsNamed}
 use Rattle.flowlabel.proofs.MadeLemmas.{are_fetched, are_reported, run_fault}
 use Rattle.flowlabel.proofs.run.run.Goals as goal
@@ -16,11 +16,15 @@ returns-in-Err g c = record {
 
 pub returns-in-Ok-write_whole : goal.returns-in-Ok-write_whole
 returns-in-Ok-write_whole g c =
-    let (is, works) = c.in-Ok.ensures.made in record {
+    let (is, works) = c.in-Ok.ensures.made in
+    let (takes, flushed, whole) = subst (λ (bytes : List ℕ). Writes (g.W.Output.output c.args.writer.now) (g.W.Output.output c.write_whole.new.writer) bytes) c.as_slice.ensures.value c.in-Ok-write_whole.ensures.whole in
+    record {
       ends = (
         c.in-Ok.out.items,
-        λ texts given. (is texts given, c.output_keeps_headline.ensures (with_texts texts c.args.command.now) c.in-Ok.out.items (is texts given)),
-        subst (λ (bytes : List ℕ). Writes (g.W.Output.output c.args.writer.now) (g.W.Output.output c.write_whole.new.writer) bytes) c.as_slice.ensures.value c.in-Ok-write_whole.ensures.whole,
+        λ texts given. (is texts given, c.output_keeps_headline.ensures c.args.command.now texts c.in-Ok.out.items (is texts given)),
+        takes,
+        flushed,
+        whole,
         works,
       );
       fetched = are_fetched g.R.Input.input c.args.inputs.now.files c.output.new.files c.output.ensures.read;

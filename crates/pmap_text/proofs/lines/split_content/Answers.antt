@@ -1,7 +1,8 @@
 use Rattle.std.proofs.Common.{◌≡◌, eqb, arith, ap, sym, ◌∙◌}
 use Rattle.std.proofs.lemmas.Grind.{common_steps}
 use Rattle.std.specs.List.{before_first}
-use Rattle.pmap_text.specs.Reading.{trim_end, trim_start}
+use Rattle.pmap_text.specs.Reading.{trim_start}
+use Rattle.pmap_text.specs.Inner.{trim_end}
 use Rattle.pmap_text.proofs.Places.{end_at-feed}
 use Rattle.pmap_text.proofs.lines.split_content.Goals as goal
 

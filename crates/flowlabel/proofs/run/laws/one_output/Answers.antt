@@ -11,11 +11,13 @@ use Rattle.ipfix_read.specs.Messages.{file_reading}
 use Rattle.flow_rows.specs.Counts.{counts_of}
 use Rattle.pmap_print.specs.Reports.{info_text}
 use Rattle.pmap_text.specs.RunsText.{IsRunsText, runs_text}
-use Rattle.flowlabel.specs.Output.{BytesFault, Checks, LabelsThen, Outcome, Prints, Then, label_text, shrunk_text}
+use Rattle.flowlabel.specs.Output.{BytesFault, Checks, FlowsThen, LabelsThen, Outcome, Prints, Then, label_text, shrunk_text}
 use Rattle.flowlabel.proofs.Outcomes.{CertificateThen, ListThen, PrintsCompact, PrintsMinimal, PrintsRuns, ReportsOf, report_of_groups, report_of_rows, checked}
-use Rattle.flowlabel.specs.Reports.{ReportsThen}
+use Rattle.flowlabel.specs.ByFile.{ByFile}
 use Rattle.flowlabel.specs.declared.bytes_fault.BytesFault.TheVariants.{Map as InMap, List as InList, Flows as InFlows, Certificate as InCertificate}
-use Rattle.flowlabel.specs.Request.{FromList, FromMap, LabelSource, label, info, rows, cat, shrink, check, uniq, recert}
+use Rattle.flowlabel.specs.Request.{Cat, Check, Info, Label, Recert, Rows, Shrink, Text, Uniq}
+use Rattle.flowlabel.specs.declared.command.LabelFile.{LabelFile}
+use Rattle.flowlabel.specs.declared.command.LabelFile.TheVariants.{Map, List as Prefixes}
 use Rattle.flowlabel.proofs.run.laws.one_output.Goals as goal
 
 -- exactly one outcome meets the condition
@@ -28,28 +30,28 @@ value_one : {F A : Type 0} (in_file : F → BytesFault) (reading : Result A F) (
 value_one in_file (Ok x) rest one = one x refl
 value_one in_file (Err f) rest one = (Err (in_file f), refl, (λ other is. is))
 
-labels_one : (rest : Labelling → Outcome → Type 0) (source : LabelSource) → ((labels : Labelling) → One (rest labels)) → One (LabelsThen rest source)
-labels_one rest (FromMap text) one = value_one InMap (map_reading text) (λ m. rest (labelling_of_map m)) (λ m reads. one (labelling_of_map m))
-labels_one rest (FromList text) one = value_one InList (list_reading text) (λ l. rest (labelling_of_list l)) (λ l reads. one (labelling_of_list l))
+labels_one : (rest : Labelling → Outcome → Type 0) (file : LabelFile) (texts : ByFile Text) → ((labels : Labelling) → One (rest labels)) → One (LabelsThen rest file texts)
+labels_one rest (Map file) texts one = value_one InMap (map_reading texts.map) (λ m. rest (labelling_of_map m)) (λ m reads. one (labelling_of_map m))
+labels_one rest (Prefixes file) texts one = value_one InList (list_reading texts.list) (λ l. rest (labelling_of_list l)) (λ l reads. one (labelling_of_list l))
 
 prints_one : (text : List ℕ) → One (Prints text)
 prints_one text = (Ok text, refl, (λ other is. is))
 
-reports_one : (text : Option Labelling → List MessageView → List ℕ) (source : Option LabelSource) (flows : List ℕ) → One (ReportsThen text source flows)
-reports_one text None flows = value_one InFlows (file_reading flows) _ (λ messages reads. prints_one (text None messages))
-reports_one text (Some source) flows =
-    labels_one (λ labels. ReportsOf text (Some labels) flows) source (λ labels.
-    value_one InFlows (file_reading flows) _ (λ messages reads. prints_one (text (Some labels) messages)))
+reports_one : (text : Option Labelling → List MessageView → List ℕ) (file : Option LabelFile) (texts : ByFile Text)
+    → One (FlowsThen (λ labels messages. Prints (text labels messages)) file texts)
+reports_one text None texts = value_one InFlows (file_reading texts.flows) _ (λ messages reads. prints_one (text None messages))
+reports_one text (Some file) texts =
+    labels_one (λ labels. ReportsOf text (Some labels) texts.flows) file texts (λ labels.
+    value_one InFlows (file_reading texts.flows) _ (λ messages reads. prints_one (text (Some labels) messages)))
 
 pub returns : goal.returns
-returns c (label source address) = labels_one (λ labels. Prints (label_text address labels)) source (λ labels. prints_one (label_text address labels))
-returns c (info flows) = reports_one (λ labels messages. info_text (counts_of messages)) None flows
-returns c (rows source condition columns flows) =
-    reports_one (report_of_rows condition columns) source flows
-returns c (uniq fields source condition sorted columns flows) =
-    reports_one (report_of_groups fields condition sorted columns) source flows
-returns c (cat source) =
-    labels_one PrintsRuns source (λ labels.
+returns c (Label file addr) texts =
+    labels_one (λ labels. Prints (label_text (addr.version, addr.value) labels)) file texts (λ labels. prints_one (label_text (addr.version, addr.value) labels))
+returns c (Info flows) texts = reports_one (λ labels messages. info_text (counts_of messages)) None texts
+returns c (Rows file condition columns flows) texts = reports_one (report_of_rows condition columns) file texts
+returns c (Uniq fields file condition sorted columns flows) texts = reports_one (report_of_groups fields condition sorted columns) file texts
+returns c (Cat file) texts =
+    labels_one PrintsRuns file texts (λ labels.
     let (runs, are) = c.labelling_has_its_runs.ensures.exist labels.version labels.label in
     let text = runs_text labels.version runs in
     let is : IsRunsText labels.version labels.label text = record { runs = runs; are = are; is = refl } in (
@@ -58,9 +60,9 @@ returns c (cat source) =
       λ other (text', is', prints).
           prints ∙ ap Ok (c.labelling_has_one_runs_text.ensures.one labels.version labels.label text' text is' is),
     ))
-returns c (shrink map printed) =
-    value_one InMap (map_reading map) (PrintsMinimal printed) (λ m reads.
-    let (l, k, pair, form) = c.map_text_has_a_minimal_pair.ensures map m reads in (
+returns c (Shrink map printed) texts =
+    value_one InMap (map_reading texts.map) (PrintsMinimal printed) (λ m reads.
+    let (l, k, pair, form) = c.map_text_has_a_minimal_pair.ensures texts.map m reads in (
       Ok (shrunk_text printed l k),
       (l, k, pair, refl),
       λ other (l', k', pair', prints).
@@ -68,10 +70,10 @@ returns c (shrink map printed) =
           let certificate : k' ≡ k = c.minimal_pair_is_unique.ensures.certificates m l' l k' k pair' pair in
           cc,
     ))
-returns c (check map list certificate) =
-    value_one InMap (map_reading map) (λ m. ListThen (λ l. CertificateThen (Checks m l) certificate) list)
-    (λ m reads. value_one InList (list_reading list) (λ l. CertificateThen (Checks m l) certificate)
-    (λ l reads'. value_one InCertificate (format_reading certificate) (Checks m l)
+returns c (Check map list certificate) texts =
+    value_one InMap (map_reading texts.map) (λ m. ListThen (λ l. CertificateThen (Checks m l) texts.certificate) texts.list)
+    (λ m reads. value_one InList (list_reading texts.list) (λ l. CertificateThen (Checks m l) texts.certificate)
+    (λ l reads'. value_one InCertificate (format_reading texts.certificate) (Checks m l)
     (λ k reads''. (checked (first_fault m l k) (length l.prefixes), refl, (λ other is. is)))))
-returns c (recert certificate) =
-    value_one InCertificate (format_reading certificate) PrintsCompact (λ k reads. prints_one (certificate_text (compact k)))
+returns c (Recert certificate) texts =
+    value_one InCertificate (format_reading texts.certificate) PrintsCompact (λ k reads. prints_one (certificate_text (compact k)))

@@ -28,8 +28,11 @@ use Rattle.pmap_print.specs.Table.{Line, table_text}
 use Rattle.flowlabel.specs.Headline.{IsSameUnder, PrintsEachOnce, PrintsGroups, PrintsList, PrintsRows, row_columns}
 use Rattle.flowlabel.specs.Output.{BytesFault, Checks, IsOutput, LabelsThen, Outcome, Prints, Then, FlowsThen, label_text, labelled_row_lines, minimal_text, row_labels}
 use Rattle.flowlabel.proofs.Outcomes.{CertificateThen, ListThen, PrintsCompact, PrintsMinimal, PrintsRuns, ReportsOf, passing_rows, report_of_groups, report_of_rows, checked}
-use Rattle.flowlabel.specs.Reports.{ReportsThen}
-use Rattle.flowlabel.specs.Request.{FromList, FromMap, LabelSource, Request, Text, cat, check, info, label, recert, rows, shrink, uniq}
+use Rattle.std.specs.Borrow.{Bor}
+use Rattle.flowlabel.specs.ByFile.{ByFile}
+use Rattle.flowlabel.specs.Request.{Cat, Check, Command, Info, Label, Recert, Rows, Shrink, Text, Uniq}
+use Rattle.flowlabel.specs.declared.command.LabelFile.{LabelFile}
+use Rattle.flowlabel.specs.declared.command.LabelFile.TheVariants.{Map, List as Prefixes}
 use Rattle.flowlabel.specs.declared.command.Shrunk.TheVariants as shrunk
 use Rattle.flowlabel.specs.declared.bytes_fault.BytesFault.TheVariants.{Map as InMap, List as InList, Certificate as InCertificate, Flows as InFlows}
 use Rattle.flowlabel.proofs.run.laws.output_keeps_headline.Goals as goal
@@ -45,35 +48,37 @@ faultless : (found : Option CheckFault) (count : ℕ) (out : List ℕ) → Ok ou
 faultless None count out is = (refl, cc)
 faultless (Some fault) count out is = cc
 
-checked_of : (map list certificate : Text) (out : List ℕ) → IsOutput (check map list certificate) (Ok out)
-    → (m : MapModel) × (l : ListModel) × (c : CertificateModel) × (map_reading map ≡ Ok m) × (list_reading list ≡ Ok l) × (format_reading certificate ≡ Ok c)
+checked_of : (name : Bor Text) (texts : ByFile Text) (out : List ℕ) → IsOutput (Check name name name) texts (Ok out)
+    → (m : MapModel) × (l : ListModel) × (c : CertificateModel) × (map_reading texts.map ≡ Ok m) × (list_reading texts.list ≡ Ok l) × (format_reading texts.certificate ≡ Ok c)
     × (first_fault m l c ≡ None) × (out ≡ minimal_text (length l.prefixes))
-checked_of map list certificate out is =
-    let (m, map_is, listed) = printed_of InMap (λ m. ListThen (λ l. CertificateThen (Checks m l) certificate) list) (map_reading map) out is in
-    let (l, list_is, certified) = printed_of InList (λ l. CertificateThen (Checks m l) certificate) (list_reading list) out listed in
-    let (c, certificate_is, found) = printed_of InCertificate (Checks m l) (format_reading certificate) out certified in
+checked_of name texts out is =
+    let (m, map_is, listed) = printed_of InMap (λ m. ListThen (λ l. CertificateThen (Checks m l) texts.certificate) texts.list) (map_reading texts.map) out is in
+    let (l, list_is, certified) = printed_of InList (λ l. CertificateThen (Checks m l) texts.certificate) (list_reading texts.list) out listed in
+    let (c, certificate_is, found) = printed_of InCertificate (Checks m l) (format_reading texts.certificate) out certified in
     let (none, text) = faultless (first_fault m l c) (length l.prefixes) out found in (m, l, c, map_is, list_is, certificate_is, none, text)
 
--- a text under a source of labels is the same under an equivalent one, since the labellings are equal
-same_under : (rest : Labelling → Outcome → Type 0) (request : LabelSource → Request)
-    → ((source : LabelSource) (outcome : Outcome) → LabelsThen rest source outcome → IsOutput (request source) outcome)
-    → (source : LabelSource) (out : List ℕ) → LabelsThen rest source (Ok out) → IsSameUnder request source out
-same_under rest request there (FromMap map) out is =
+-- a text under a file of labels is the same under an equivalent one, since the labellings are equal
+same_under : (rest : Labelling → Outcome → Type 0) (command : LabelFile → Command) (texts : ByFile Text)
+    → ((file : LabelFile) (map list : Text) (outcome : Outcome) → LabelsThen rest file (record texts { map = map; list = list }) outcome
+    → IsOutput (command file) (record texts { map = map; list = list }) outcome)
+    → (file : LabelFile) (out : List ℕ) → LabelsThen rest file texts (Ok out) → IsSameUnder command file texts out
+same_under rest command texts there (Map file) out is =
     λ m l list reads_map reads_list equivalent.
-    there (FromList list) (Ok out) (rw reads_list (subst (λ (k : Labelling). rest k (Ok out)) (sym (same_labelling l m equivalent)) (rw reads_map at is)))
-same_under rest request there (FromList list) out is =
+    there (Prefixes file) texts.map list (Ok out) (rw reads_list (subst (λ (k : Labelling). rest k (Ok out)) (sym (same_labelling l m equivalent)) (rw reads_map at is)))
+same_under rest command texts there (Prefixes file) out is =
     λ m l map reads_list reads_map equivalent.
-    there (FromMap map) (Ok out) (rw reads_map (subst (λ (k : Labelling). rest k (Ok out)) (same_labelling l m equivalent) (rw reads_list at is)))
+    there (Map file) map texts.list (Ok out) (rw reads_map (subst (λ (k : Labelling). rest k (Ok out)) (same_labelling l m equivalent) (rw reads_list at is)))
 
--- a report under the labels of a source is the same under an equivalent one
-same_report : (text : Option Labelling → List MessageView → List ℕ) (flows : Text) (request : Option LabelSource → Request)
-    → ((source : Option LabelSource) (outcome : Outcome) → ReportsThen text source flows outcome → IsOutput (request source) outcome)
-    → (source : Option LabelSource) (out : List ℕ) → ReportsThen text source flows (Ok out)
-    → ForSome source (λ given. IsSameUnder (λ other. request (Some other)) given out)
-same_report text flows request there source out is =
+-- a report under the labels of a file is the same under an equivalent one
+same_report : (text : Option Labelling → List MessageView → List ℕ) (texts : ByFile Text) (command : Option LabelFile → Command)
+    → ((file : Option LabelFile) (map list : Text) (outcome : Outcome) → FlowsThen (λ labels messages. Prints (text labels messages)) file (record texts { map = map; list = list }) outcome
+    → IsOutput (command file) (record texts { map = map; list = list }) outcome)
+    → (file : Option LabelFile) (out : List ℕ) → FlowsThen (λ labels messages. Prints (text labels messages)) file texts (Ok out)
+    → ForSome file (λ given. IsSameUnder (λ other. command (Some other)) given texts out)
+same_report text texts command there file out is =
     λ given same.
-    same_under (λ labels. ReportsOf text (Some labels) flows) (λ other. request (Some other)) (λ other outcome found. there (Some other) outcome found)
-    given out (subst (λ (s : Option LabelSource). ReportsThen text s flows (Ok out)) same is)
+    same_under (λ labels. ReportsOf text (Some labels) texts.flows) (λ other. command (Some other)) texts (λ other map list outcome found. there (Some other) map list outcome found)
+    given out (subst (λ (f : Option LabelFile). FlowsThen (λ labels messages. Prints (text labels messages)) f texts (Ok out)) same is)
 
 -- a text that meets one condition meets another that follows for each value
 then_keep : {F A : Type 0} (in_file : F → BytesFault) (this that : A → Outcome → Type 0)
@@ -83,19 +88,19 @@ then_keep in_file this that keep (Ok value) out is = keep value out is
 then_keep in_file this that keep (Err fault) out is = is
 
 labels_keep : (this that : Labelling → Outcome → Type 0) → ((labels : Labelling) (out : List ℕ) → this labels (Ok out) → that labels (Ok out))
-    → (source : LabelSource) (out : List ℕ) → LabelsThen this source (Ok out) → LabelsThen that source (Ok out)
-labels_keep this that keep (FromMap text) out is =
-    then_keep InMap (λ m. this (labelling_of_map m)) (λ m. that (labelling_of_map m)) (λ m. keep (labelling_of_map m)) (map_reading text) out is
-labels_keep this that keep (FromList text) out is =
-    then_keep InList (λ l. this (labelling_of_list l)) (λ l. that (labelling_of_list l)) (λ l. keep (labelling_of_list l)) (list_reading text) out is
+    → (file : LabelFile) (texts : ByFile Text) (out : List ℕ) → LabelsThen this file texts (Ok out) → LabelsThen that file texts (Ok out)
+labels_keep this that keep (Map file) texts out is =
+    then_keep InMap (λ m. this (labelling_of_map m)) (λ m. that (labelling_of_map m)) (λ m. keep (labelling_of_map m)) (map_reading texts.map) out is
+labels_keep this that keep (Prefixes file) texts out is =
+    then_keep InList (λ l. this (labelling_of_list l)) (λ l. that (labelling_of_list l)) (λ l. keep (labelling_of_list l)) (list_reading texts.list) out is
 
 flows_keep : (this that : Option Labelling → List MessageView → Outcome → Type 0)
     → ((labels : Option Labelling) (messages : List MessageView) (out : List ℕ) → this labels messages (Ok out) → that labels messages (Ok out))
-    → (source : Option LabelSource) (flows out : List ℕ) → FlowsThen this source flows (Ok out) → FlowsThen that source flows (Ok out)
-flows_keep this that keep None flows out is = then_keep InFlows (this None) (that None) (keep None) (file_reading flows) out is
-flows_keep this that keep (Some source) flows out is =
-    labels_keep (λ labels. Then InFlows (this (Some labels)) (file_reading flows)) (λ labels. Then InFlows (that (Some labels)) (file_reading flows))
-    (λ labels. then_keep InFlows (this (Some labels)) (that (Some labels)) (keep (Some labels)) (file_reading flows)) source out is
+    → (file : Option LabelFile) (texts : ByFile Text) (out : List ℕ) → FlowsThen this file texts (Ok out) → FlowsThen that file texts (Ok out)
+flows_keep this that keep None texts out is = then_keep InFlows (this None) (that None) (keep None) (file_reading texts.flows) out is
+flows_keep this that keep (Some file) texts out is =
+    labels_keep (λ labels. Then InFlows (this (Some labels)) (file_reading texts.flows)) (λ labels. Then InFlows (that (Some labels)) (file_reading texts.flows))
+    (λ labels. then_keep InFlows (this (Some labels)) (that (Some labels)) (keep (Some labels)) (file_reading texts.flows)) file texts out is
 
 -- the lines of rows have their fields, with their labels or without
 lines_of_rows : (labels : Option Labelling) (shown : List RowView) → labelled_row_lines labels shown
@@ -127,22 +132,22 @@ in_order_if : (sorted : Bool) (groups : List GroupModel) → IsSortedBy is_befor
 in_order_if true groups up e = up
 in_order_if false groups up e = absurd (true≢false (sym e))
 
--- two texts that a request prints are equal
-only : (request : Request) → (outcome : Outcome) × IsOutput request outcome × ((other : Outcome) → IsOutput request other → other ≡ outcome)
-    → {this that : List ℕ} → IsOutput request (Ok this) → IsOutput request (Ok that) → this ≡ that
-only request (outcome, made, one) {this} {that} first second =
+-- two texts that a command prints are equal
+only : (command : Command) (texts : ByFile Text) → (outcome : Outcome) × IsOutput command texts outcome × ((other : Outcome) → IsOutput command texts other → other ≡ outcome)
+    → {this that : List ℕ} → IsOutput command texts (Ok this) → IsOutput command texts (Ok that) → this ≡ that
+only command texts (outcome, made, one) {this} {that} first second =
     let left : Ok this ≡ outcome = one (Ok this) first in
     let right : Ok that ≡ outcome = one (Ok that) second in
     cc
 
 pub returns : goal.returns
-returns c (label source address) out is =
-    same_under (λ labels. Prints (label_text address labels)) (λ other. label other address) (λ other outcome found. found) source out is
-returns c (info flows) out is =
+returns c (Label file addr) texts out is =
+    same_under (λ labels. Prints (label_text (addr.version, addr.value) labels)) (λ other. Label other addr) texts (λ other map list outcome found. found) file out is
+returns c (Info flows) texts out is =
     flows_keep (λ labels messages. Prints (info_text (counts_of messages))) (λ labels messages. Prints (info_text (summed_counts messages)))
-    (λ labels messages text made. made ∙ ap (λ counts. Ok (info_text counts)) (c.counts_add_up.ensures.each messages)) None flows out is
-returns c (rows source condition columns flows) out is = (
-  same_report (report_of_rows condition columns) flows (λ other. rows other condition columns flows) (λ other outcome found. found) source out is,
+    (λ labels messages text made. made ∙ ap (λ counts. Ok (info_text counts)) (c.counts_add_up.ensures.each messages)) None texts out is
+returns c (Rows file condition columns flows) texts out is = (
+  same_report (report_of_rows condition columns) texts (λ other. Rows other condition columns flows) (λ other map list outcome found. found) file out is,
   flows_keep (λ labels messages. Prints (report_of_rows condition columns labels messages))
       (λ labels messages. PrintsRows columns labels (rows_left condition labels (rows_of_messages messages)))
       (λ labels messages text made.
@@ -150,11 +155,11 @@ returns c (rows source condition columns flows) out is = (
       (made
       ∙ ap (λ (shown : List RowView). Ok (table_text columns (labelled_row_lines labels shown)))
       (c.options_hold_together.ensures.left condition labels (rows_of_messages messages))))
-      source flows out is,
+      file texts out is,
 )
-returns c (uniq fields source condition sorted columns flows) out is = (
-  same_report (report_of_groups fields condition sorted columns) flows (λ other. uniq fields other condition sorted columns flows)
-      (λ other outcome found. found) source out is,
+returns c (Uniq fields file condition sorted columns flows) texts out is = (
+  same_report (report_of_groups fields condition sorted columns) texts (λ other. Uniq fields other condition sorted columns flows)
+      (λ other map list outcome found. found) file out is,
   flows_keep (λ labels messages. Prints (report_of_groups fields condition sorted columns labels messages))
       (λ labels messages. PrintsGroups fields sorted columns labels (rows_left condition labels (rows_of_messages messages)))
       (λ labels messages text made.
@@ -167,41 +172,41 @@ returns c (uniq fields source condition sorted columns flows) out is = (
         in_order_if sorted groups (c.sorted_groups_are_in_order.ensures.ascends groups),
         made,
       ))
-      source flows out is,
+      file texts out is,
 )
-returns c (cat source) out is = (
-  same_under PrintsRuns cat (λ other outcome found. found) source out is,
+returns c (Cat file) texts out is = (
+  same_under PrintsRuns Cat texts (λ other map list outcome found. found) file out is,
   labels_keep PrintsRuns PrintsEachOnce
       (λ labels text (lines, runs, made). (
         runs.runs,
         (λ a below. c.runs_cover_each_address_once.ensures.once labels.version labels.label runs.runs runs.are a below),
         made ∙ ap Ok runs.is,
       ))
-      source out is,
+      file texts out is,
 )
-returns c (shrink map shrunk.List) out is =
-    let (m, reads, found) = printed_of InMap (PrintsMinimal shrunk.List) (map_reading map) out is in
-    let (l, k, all) = c.shrunk_list_is_least.ensures map m reads in
+returns c (Shrink map shrunk.List) texts out is =
+    let (m, reads, found) = printed_of InMap (PrintsMinimal shrunk.List) (map_reading texts.map) out is in
+    let (l, k, all) = c.shrunk_list_is_least.ensures map texts m reads in
     let (text, printed, again) = all.prints_list in
-    (m, l, reads, all.shortest, subst (PrintsList m l) (only (shrink map shrunk.List) (c.one_output.ensures (shrink map shrunk.List)) printed is) again)
-returns c (shrink map shrunk.Certificate) out is =
-    let (m, reads, found) = printed_of InMap (PrintsMinimal shrunk.Certificate) (map_reading map) out is in
-    let (l, k, all) = c.shrunk_list_is_least.ensures map m reads in
+    (m, l, reads, all.shortest, subst (PrintsList l) (only (Shrink map shrunk.List) texts (c.one_output.ensures (Shrink map shrunk.List) texts) printed is) again)
+returns c (Shrink map shrunk.Certificate) texts out is =
+    let (m, reads, found) = printed_of InMap (PrintsMinimal shrunk.Certificate) (map_reading texts.map) out is in
+    let (l, k, all) = c.shrunk_list_is_least.ensures map texts m reads in
     let (text, printed, again) = all.prints in
-    (m, l, k, reads, all.shortest, all.certificate, ap format_reading (only (shrink map shrunk.Certificate) (c.one_output.ensures (shrink map shrunk.Certificate)) is printed) ∙ again)
-returns c (shrink map shrunk.Compact) out is =
-    let (m, reads, found) = printed_of InMap (PrintsMinimal shrunk.Compact) (map_reading map) out is in
-    let (l, k, all) = c.shrunk_list_is_least.ensures map m reads in
+    (m, l, k, reads, all.shortest, all.certificate, ap format_reading (only (Shrink map shrunk.Certificate) texts (c.one_output.ensures (Shrink map shrunk.Certificate) texts) is printed) ∙ again)
+returns c (Shrink map shrunk.Compact) texts out is =
+    let (m, reads, found) = printed_of InMap (PrintsMinimal shrunk.Compact) (map_reading texts.map) out is in
+    let (l, k, all) = c.shrunk_list_is_least.ensures map texts m reads in
     let (text, printed, again) = all.prints_compact in
-    (m, l, k, reads, all.shortest, all.certificate, ap format_reading (only (shrink map shrunk.Compact) (c.one_output.ensures (shrink map shrunk.Compact)) is printed) ∙ again)
-returns c (check map list certificate) out is =
-    let (m, l, k, reads_map, reads_list, reads, none, text) = checked_of map list certificate out is in
-    let form = ((c.text_of_format_is_read_or_has_a_fault.ensures.read certificate k).0 reads).0 in
+    (m, l, k, reads, all.shortest, all.certificate, ap format_reading (only (Shrink map shrunk.Compact) texts (c.one_output.ensures (Shrink map shrunk.Compact) texts) is printed) ∙ again)
+returns c (Check map list certificate) texts out is =
+    let (m, l, k, reads_map, reads_list, reads, none, text) = checked_of map texts out is in
+    let form = ((c.text_of_format_is_read_or_has_a_fault.ensures.read texts.certificate k).0 reads).0 in
     let accepted = c.no_fault_is_acceptance.ensures.accepted m l k form none in
     (m, l, reads_map, reads_list, c.acceptance_is_enough.ensures.equivalent m l k accepted, c.acceptance_is_enough.ensures.least m l k accepted, text)
-returns c (recert before) out is =
-    let (old, reads, prints) = printed_of InCertificate PrintsCompact (format_reading before) out is in
-    let form = ((c.text_of_format_is_read_or_has_a_fault.ensures.read before old).0 reads).0 in
+returns c (Recert certificate) texts out is =
+    let (old, reads, prints) = printed_of InCertificate PrintsCompact (format_reading texts.certificate) out is in
+    let form = ((c.text_of_format_is_read_or_has_a_fault.ensures.read texts.certificate old).0 reads).0 in
     let same : out ≡ certificate_text (compact old) = cc in
     let after : format_reading out ≡ Ok (compact old) =
     (c.text_of_format_is_read_or_has_a_fault.ensures.read out (compact old)).1 (c.compact_has_a_text.ensures.text old form, same) in
@@ -211,11 +216,7 @@ returns c (recert before) out is =
       reads_new = after;
       lines = c.compact_has_no_more_lines.ensures.lines old form.format;
       again = rw after (ap (λ (t : List ℕ). Ok t) (same ∙ ap certificate_text (sym (c.compact_gives_back_equal.ensures.twice old form.format))));
-      checks = λ map list number reported.
-          let (m, l, k, reads_map, reads_list, reads', none, text) = checked_of map list before number reported in
-          let one : k ≡ old = cc in
-          let accepted = c.no_fault_is_acceptance.ensures.accepted m l old form (subst (λ (x : CertificateModel). first_fault m l x ≡ None) one none) in
-          let kept : first_fault m l (compact old) ≡ None =
-          c.no_fault_is_acceptance.ensures.no_fault m l (compact old) (c.compact_keeps_acceptance.ensures m l old form.format accepted) in
-          rw (reads_map, reads_list, after) (ap (λ (t : List ℕ). Ok t) text ∙ sym (ap (λ (f : Option CheckFault). checked f (length l.prefixes)) kept));
+      checks = λ m l none.
+          c.no_fault_is_acceptance.ensures.no_fault m l (compact old)
+          (c.compact_keeps_acceptance.ensures m l old form.format (c.no_fault_is_acceptance.ensures.accepted m l old form none));
     }

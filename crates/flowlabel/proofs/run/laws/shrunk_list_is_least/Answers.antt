@@ -1,4 +1,4 @@
-use Rattle.std.proofs.Common.{◌≡◌, ◌∙◌, ◌^◌, ◌<◌, ℕ, Ok, None, Option, ap, inl, inr, length, refl, subst, sym, unwrap_or}
+use Rattle.std.proofs.Common.{◌≡◌, ◌∙◌, ◌^◌, ◌<◌, ℕ, Ok, None, Option, Some, ap, inl, inr, length, refl, subst, sym, unwrap_or}
 use Rattle.prefix_keys.specs.Block.{width_of}
 use Rattle.prefix_keys.specs.declared.version.Version.{Version}
 use Rattle.pmap_text.specs.ListModel.{IsEquivalent}
@@ -17,14 +17,14 @@ use Rattle.flowlabel.proofs.Outcomes.{checked}
 use Rattle.flowlabel.proofs.run.laws.shrunk_list_is_least.Goals as goal
 
 pub returns : goal.returns
-returns c map m reads =
-    let (l, k, pair, has_form) = c.map_text_has_a_minimal_pair.ensures map m reads in
+returns c name texts m reads =
+    let (l, k, pair, has_form) = c.map_text_has_a_minimal_pair.ensures texts.map m reads in
     let formed : HasFormatText k = c.compact_has_a_text.ensures.first k has_form in
     let read = c.text_of_format_is_read_or_has_a_fault.ensures.read in
     let faultless = c.no_fault_is_acceptance.ensures.no_fault in
     let accepted : IsAccepted m l k = c.minimal_pair_is_accepted.ensures.accepted m l k pair in
     let alike : IsEquivalent l m = c.acceptance_is_enough.ensures.equivalent m l k accepted in
-    let printed_again = c.minimal_list_can_be_read_again.ensures.again map m l k reads pair in (
+    let printed_again = c.minimal_list_can_be_read_again.ensures.again texts.map m l k reads pair in (
       l,
       k,
       record {
@@ -32,8 +32,8 @@ returns c map m reads =
           equivalent = alike;
           least = c.acceptance_is_enough.ensures.least m l k accepted;
           name = pair.list_name;
-          form = c.minimal_list_can_be_read_again.ensures.form map m l k reads pair;
-          order = (c.minimal_list_is_in_order.ensures m l k pair (c.map_text_has_its_labels.ensures map m reads)).order;
+          entries = (c.minimal_list_can_be_read_again.ensures.form texts.map m l k reads pair).entries;
+          order = (c.minimal_list_is_in_order.ensures m l k pair (c.map_text_has_its_labels.ensures texts.map m reads)).order;
         };
         certificate = record {
           accepted = faultless m l k accepted;
@@ -54,9 +54,13 @@ returns c map m reads =
                   reads = reads_list ∙ (λ i. Ok (record { version = is.version i; name = is.name i; prefixes = same i; table = again.table }));
                   again = other;
                   reads_map = reads_map;
-                  version = is_map.version ∙ alike.version;
-                  labels = λ a below. is_map.labels a (subst (λ (v : Version). a < 2 ^ width_of v) (sym alike.version) below)
-                      ∙ ap (λ (o : Option Label). unwrap_or o unknown) (alike.labels a below);
+                  equivalent = record {
+                    version = sym is_map.version;
+                    labels = λ a below.
+                        let labelled = alike.labels a (subst (λ (v : Version). a < 2 ^ width_of v) (is_map.version ∙ alike.version) below) in
+                        labelled ∙ ap Some (sym (is_map.labels a (subst (λ (v : Version). a < 2 ^ width_of v) is_map.version below)
+                        ∙ ap (λ (o : Option Label). unwrap_or o unknown) labelled));
+                  };
                 },
           ),
         );

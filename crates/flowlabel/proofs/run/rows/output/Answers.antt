@@ -4,16 +4,16 @@ use Rattle.flow_filter.specs.Condition.{Condition}
 use Rattle.label_lookup.specs.Labelling.{Labelling}
 use Rattle.pmap_print.specs.Reports.{column_count}
 use Rattle.pmap_print.specs.Table.{Line, table_text}
-use Rattle.flowlabel.specs.Output.{IsOutput, labelled_row_lines}
+use Rattle.flowlabel.specs.Output.{labelled_row_lines}
 use Rattle.flowlabel.proofs.Outcomes.{passing_rows, report_of_rows}
-use Rattle.flowlabel.specs.Reports.{IsMade, labelling_found, labelling_read}
-use Rattle.flowlabel.specs.Request.{rows, source_with}
+use Rattle.flowlabel.specs.Reports.{IsMade, ReportsThen, labelling_found, labelling_read}
+use Rattle.flowlabel.specs.Request.{source_with}
 use Rattle.flowlabel.proofs.MadeLemmas.{found_is, handed_on, report_done, report_fault, report_memory}
 use Rattle.flowlabel.proofs.run.rows.output.Goals as goal
 
 pub returns-in_err-read : goal.returns-in_err-read
 returns-in_err-read g c =
-    handed_on (IsMade g.R.Input.input (λ texts. IsOutput (rows (option_map (source_with texts) c.args.labels) c.args.filter.now c.args.columns texts.flows)) c.args.files.now c.of_files.new.files)
+    handed_on (IsMade g.R.Input.input (λ texts. ReportsThen (report_of_rows c.args.filter.now c.args.columns) (option_map (source_with texts) c.args.labels) texts.flows) c.args.files.now c.of_files.new.files)
     c.from_residual.result c.in_err-read.field-0.0 c.from_residual.ensures.1
     (c.in_err-read.ensures (report_of_rows c.args.filter.now c.args.columns))
 

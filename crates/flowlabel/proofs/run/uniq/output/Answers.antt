@@ -3,16 +3,15 @@ use Rattle.std.specs.Prelude.{option_map}
 use Rattle.flow_uniq.specs.Groups.{shown_groups}
 use Rattle.label_lookup.specs.Labelling.{Labelling}
 use Rattle.pmap_print.specs.Reports.{groups_text}
-use Rattle.flowlabel.specs.Output.{IsOutput}
 use Rattle.flowlabel.proofs.Outcomes.{report_of_groups}
-use Rattle.flowlabel.specs.Reports.{IsMade, labelling_found, labelling_read}
-use Rattle.flowlabel.specs.Request.{source_with, uniq}
+use Rattle.flowlabel.specs.Reports.{IsMade, ReportsThen, labelling_found, labelling_read}
+use Rattle.flowlabel.specs.Request.{source_with}
 use Rattle.flowlabel.proofs.MadeLemmas.{found_is, handed_on, report_done, report_fault, report_memory}
 use Rattle.flowlabel.proofs.run.uniq.output.Goals as goal
 
 pub returns-in_err-read : goal.returns-in_err-read
 returns-in_err-read g c =
-    handed_on (IsMade g.R.Input.input (λ texts. IsOutput (uniq c.args.grouping.keys.now (option_map (source_with texts) c.args.labels) c.args.grouping.filter.now c.args.grouping.sorted c.args.grouping.columns texts.flows)) c.args.files.now c.of_files.new.files)
+    handed_on (IsMade g.R.Input.input (λ texts. ReportsThen (report_of_groups c.args.grouping.keys.now c.args.grouping.filter.now c.args.grouping.sorted c.args.grouping.columns) (option_map (source_with texts) c.args.labels) texts.flows) c.args.files.now c.of_files.new.files)
     c.from_residual.result c.in_err-read.field-0.0 c.from_residual.ensures.1
     (c.in_err-read.ensures (report_of_groups c.args.grouping.keys.now c.args.grouping.filter.now c.args.grouping.sorted c.args.grouping.columns))
 

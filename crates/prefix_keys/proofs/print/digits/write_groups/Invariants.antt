@@ -1,5 +1,5 @@
 use Rattle.std.proofs.Common.{◌≡◌, ◌+◌, ◌*◌, ◌≤◌, ◌++◌, drop, length}
-use Rattle.prefix_keys.specs.Print.{address_groups_text}
+use Rattle.prefix_keys.specs.Inner.{address_groups_text}
 use Rattle.prefix_keys.proofs.print.digits.write_groups.Given as goal
 
 -- the groups from i on are written

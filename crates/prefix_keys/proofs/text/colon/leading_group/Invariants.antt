@@ -1,7 +1,7 @@
 use Rattle.std.proofs.Common.{◌≡◌, ◌≤◌, ◌<◌, ◌^◌, true, take}
 use Rattle.std.specs.List.{list_all}
 use Rattle.std.specs.Char.{is_ascii_hexdigit}
-use Rattle.prefix_keys.specs.Text.{hex_value}
+use Rattle.prefix_keys.specs.Inner.{hex_value}
 use Rattle.prefix_keys.proofs.text.colon.leading_group.Given as goal
 
 -- the number of the at most four digits so far
