@@ -5,7 +5,7 @@ ghost use Rattle.pmap_text.specs.MapModel.{Mapping};
 ghost use Rattle.pmap_text.specs.Reading.{content_line, no_lines};
 ghost use Rattle.pmap_text.specs.Inner.{has_prefix};
 ghost use Rattle.pmap_text.specs.declared.fault.MapFaultKind.TheVariants.{TooMany};
-ghost use Rattle.pmap_text.specs.declared.form.Form.TheVariants as form;
+ghost use Rattle.pmap_text.specs.declared.reading.form.Form.TheVariants as form;
 ghost use Rattle.std.specs.Prelude.{◌≡◌, codes, Err, false, is_ok, length, List, replicate, true};
 
 /// A text has at most 65,535 different labels. A label that the text has already needs no room.

@@ -11,7 +11,7 @@ use Rattle.pmap_text.specs.Stretches.{AreStretches, HasEveryAddress, HoldsAddres
 use Rattle.pmap_text.specs.Windows.{IsWindow, number_at}
 use Rattle.pmap_text.specs.declared.label.LabelId.{LabelId}
 use Rattle.pmap_text.specs.declared.statement.Statement.{Statement}
-use Rattle.pmap_text.specs.declared.window.Window.{Window}
+use Rattle.pmap_text.specs.declared.stretches.window.Window.{Window}
 use Rattle.pmap_text.proofs.BlockHalves.{has_halves}
 use Rattle.pmap_text.proofs.Blocks.{address-first, address-last, first_of-lower, pow-half}
 use Rattle.pmap_text.proofs.Ends.{ends-halves, ends-unsettled_by, ends_most, halves-most}

@@ -13,7 +13,7 @@ use Rattle.pmap_text.specs.Stretches.{AreStretches, HoldsAddress, StretchesModel
 use Rattle.pmap_text.specs.Windows.{IsWindow, number_at}
 use Rattle.pmap_text.specs.declared.prefix_list.PrefixList.{PrefixList}
 use Rattle.pmap_text.specs.declared.statement.Statement.{Statement}
-use Rattle.pmap_text.specs.declared.window.Window.{Window}
+use Rattle.pmap_text.specs.declared.stretches.window.Window.{Window}
 use Rattle.label_trie.specs.Leaves.{leaves_in}
 use Rattle.label_trie.specs.TrieModel.{IsDecidedLeaf, LeafModel}
 use Rattle.pmap_text.proofs.Blocks.{block_number-half}

@@ -5,7 +5,7 @@ use Rattle.prefix_keys.specs.declared.version.Version.{Version}
 use Rattle.pmap_text.specs.Stretches.{StretchesModel, label_held}
 use Rattle.pmap_text.specs.Windows.{number_at}
 use Rattle.pmap_text.specs.declared.label.LabelId.{LabelId}
-use Rattle.pmap_text.specs.declared.window.Window.{Window}
+use Rattle.pmap_text.specs.declared.stretches.window.Window.{Window}
 use Rattle.label_trie.specs.Leaves.{in_one, labelled_leaf, leaves_in}
 use Rattle.label_trie.specs.Stored.{IsNodeAt, IsStoredAs}
 use Rattle.label_trie.specs.TrieModel.{LeafModel, NodeModel, TrieModel, number_of}

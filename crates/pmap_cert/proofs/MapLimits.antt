@@ -20,7 +20,7 @@ use Rattle.pmap_text.specs.Inner.{has_room, one_or_two, text_read, map_from, nam
 use Rattle.pmap_text.specs.MapModel.{Label, MapModel, Mapping}
 use Rattle.pmap_text.specs.declared.fault.MapFault.{MapFault}
 use Rattle.pmap_text.specs.declared.fault.MapFaultKind.{MapFaultKind}
-use Rattle.pmap_text.specs.declared.form.Form.TheVariants as form
+use Rattle.pmap_text.specs.declared.reading.form.Form.TheVariants as form
 use Rattle.pmap_cert.specs.Acceptance.{HasItsLabels}
 use Rattle.pmap_cert.proofs.FormatWhole.{no_labels}
 use Rattle.pmap_cert.proofs.Sets.{has-append}

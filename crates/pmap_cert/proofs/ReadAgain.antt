@@ -23,8 +23,8 @@ use Rattle.pmap_text.specs.Inner.{text_read, list_from, map_from}
 use Rattle.pmap_text.specs.ListModel.{ListModel, Prefix, label_below, list_label, CoversAddress, IsLongestMatch, is_same_prefix}
 use Rattle.pmap_text.specs.MapModel.{Label, MapModel, Mapping, last_such, spans}
 use Rattle.pmap_text.specs.declared.fault.MapFault.{MapFault}
-use Rattle.pmap_text.specs.declared.form.Form.{Form}
-use Rattle.pmap_text.specs.declared.form.Form.TheVariants as form
+use Rattle.pmap_text.specs.declared.reading.form.Form.{Form}
+use Rattle.pmap_text.specs.declared.reading.form.Form.TheVariants as form
 use Rattle.pmap_text.proofs.ListLabels.{label-longest, label-same_prefixes, longest-match, once-distinct, same_prefixes-permuted}
 use Rattle.pmap_cert.specs.ListText.{entry_line, list_text, mode_text, name_lines, entries_in_order, starts_alike, CanBeReadAgain, IsListAgain, IsMapAgain, IsPrintedEntry}
 use Rattle.pmap_cert.proofs.LastMatch.{last-found, match-in, mapping_of_prefix}

@@ -21,8 +21,8 @@ use Rattle.pmap_text.specs.Label.{declared_text, label_number, meant_text, is_la
 use Rattle.pmap_text.specs.Reading.{behind_word, content_of, first_word, Earlier, block_line, content_line, label_of, no_lines, number_in, placed_line, statement_line}
 use Rattle.pmap_text.specs.ListModel.{Prefix}
 use Rattle.pmap_text.specs.MapModel.{Label}
-use Rattle.pmap_text.specs.declared.form.Form.{Form}
-use Rattle.pmap_text.specs.declared.form.Form.TheVariants as form
+use Rattle.pmap_text.specs.declared.reading.form.Form.{Form}
+use Rattle.pmap_text.specs.declared.reading.form.Form.TheVariants as form
 use Rattle.pmap_cert.proofs.LastMatch.{mapping_of_prefix}
 use Rattle.pmap_cert.specs.ListText.{entry_line, mode_text, IsPrintedEntry}
 use Rattle.prefix_keys.proofs.Groups.{width-le}

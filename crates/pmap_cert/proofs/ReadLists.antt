@@ -18,8 +18,8 @@ use Rattle.pmap_text.specs.MapModel.{Label, Mapping}
 use Rattle.pmap_text.specs.Reading.{content_line, content_of, Earlier, label_limit, lines_read, mapping_limit, no_lines}
 use Rattle.pmap_text.specs.Inner.{has_prefix, has_room}
 use Rattle.pmap_text.specs.declared.fault.MapFaultKind.{MapFaultKind}
-use Rattle.pmap_text.specs.declared.form.Form.{Form}
-use Rattle.pmap_text.specs.declared.form.Form.TheVariants as form
+use Rattle.pmap_text.specs.declared.reading.form.Form.{Form}
+use Rattle.pmap_text.specs.declared.reading.form.Form.TheVariants as form
 use Rattle.pmap_text.proofs.ProgressSteps.{length-with_label}
 use Rattle.pmap_cert.proofs.LastMatch.{mapping_of_prefix}
 use Rattle.pmap_cert.specs.ListText.{entry_line, mode_text, name_lines, starts_alike, IsPrintedEntry, labels_of}

@@ -23,7 +23,7 @@ use Rattle.pmap_text.proofs.Ends.{ends_most}
 use Rattle.pmap_text.proofs.Settling.{map_is}
 use Rattle.pmap_minimise.specs.Runs.{AreCountable, AreCountedHalves, IsCounted, IsChoice, IsMade, IsMapOn, IsRun, IsRunTo, IsStop, own_label}
 use Rattle.pmap_text.specs.Windows.{IsWindow, number_at}
-use Rattle.pmap_text.specs.declared.window.Window.{Window}
+use Rattle.pmap_text.specs.declared.stretches.window.Window.{Window}
 use Rattle.pmap_minimise.specs.Built.{AddsInner, AreHalves, IsBuilt, IsBuiltIn, claim_at, last_claim}
 use Rattle.pmap_minimise.specs.Opened.{Opens, claim_above, cost_above, path_node}
 use Rattle.pmap_cert.specs.Paths.{path_to}

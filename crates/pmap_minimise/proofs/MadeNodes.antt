@@ -18,7 +18,7 @@ use Rattle.pmap_cert.specs.Inner.{side_below}
 use Rattle.pmap_text.specs.Settled.{Settles, divisions}
 use Rattle.pmap_text.proofs.Settling.{window_divided, window_most, window_settled, window_unsettled}
 use Rattle.pmap_text.specs.Windows.{AreHalvesOf, IsWindow, number_at}
-use Rattle.pmap_text.specs.declared.window.Window.{Window}
+use Rattle.pmap_text.specs.declared.stretches.window.Window.{Window}
 use Rattle.pmap_text.proofs.Windows.{one_index, ordered_window}
 use Rattle.pmap_minimise.specs.Runs.{AreCountedHalves, IsCounted, IsChoice, IsMade, IsRun, IsRunTo, IsStep, IsStop, own_label}
 use Rattle.pmap_cert.specs.Paths.{digit, path_to}

@@ -15,7 +15,7 @@ use Rattle.prefix_keys.proofs.Quotients.{above_first, below_end, half_split, quo
 use Rattle.pmap_text.specs.Stretches.{HasEveryAddress, HoldsAddress, StretchesModel, first_at, last_at}
 use Rattle.pmap_text.proofs.Ranges.{ends_before, held_order, next_first, ordered_at}
 use Rattle.pmap_text.specs.Windows.{IsBlock, number_at}
-use Rattle.pmap_text.specs.declared.window.Window.{Window}
+use Rattle.pmap_text.specs.declared.stretches.window.Window.{Window}
 use Rattle.pmap_text.proofs.Windows.{are_halves, divided_window, first_number, one_index}
 use Rattle.pmap_minimise.specs.Runs.{AreCountedHalves, HasLabel, IsCounted, IsRun, IsRunTo, IsStop, own_label}
 use Rattle.prefix_keys.proofs.Groups.{width-le}

@@ -5,7 +5,7 @@ use Rattle.pmap_text.specs.MapModel.{MapModel}
 use Rattle.pmap_text.specs.Settled.{IsMapOf, divisions}
 use Rattle.pmap_text.specs.Stretches.{AreStretches, StretchesModel, label_at}
 use Rattle.pmap_text.specs.Windows.{AreHalvesOf, IsWindow, number_at}
-use Rattle.pmap_text.specs.declared.window.Window.{Window}
+use Rattle.pmap_text.specs.declared.stretches.window.Window.{Window}
 use Rattle.pmap_text.specs.declared.label.LabelId.{LabelId}
 use Rattle.pmap_text.specs.declared.statement.Statement.{Statement}
 use Rattle.pmap_cert.specs.CertificateText.{IsAscending}

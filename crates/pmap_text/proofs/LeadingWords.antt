@@ -22,7 +22,7 @@ use Rattle.prefix_keys.specs.declared.version.Version.TheVariants.{V4, V6}
 use Rattle.pmap_text.specs.Label.{is_blank}
 use Rattle.pmap_text.specs.Inner.{BeginsWithBlank, IsWord, is_address_byte, is_dotted_byte, Address, one_or_two}
 use Rattle.pmap_text.specs.Reading.{behind_word, first_word, trim_start, Earlier, block_line, content_line, statement_line, Form}
-use Rattle.pmap_text.specs.declared.leading.Word.TheVariants.{Block as block_word}
+use Rattle.pmap_text.specs.declared.reading.leading.Word.TheVariants.{Block as block_word}
 
 -- one to three digits at the start are a number
 pub number-some : (limit : ℕ) (text : List ℕ) (at n : ℕ) → n ≡ decimal_value (take at text) → list_all is_digit (take at text) ≡ true

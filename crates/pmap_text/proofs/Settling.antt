@@ -9,7 +9,7 @@ use Rattle.pmap_text.specs.Settled.{IsMapOf, IsUnsettled, Settles, divisions}
 use Rattle.pmap_text.specs.Stretches.{AreStretches, HasStretch, LabelId, StretchesModel, first_at, label_at, label_seen, last_at, mappings_of}
 use Rattle.pmap_text.specs.Windows.{AreHalvesOf, IsWindow, number_at}
 use Rattle.pmap_text.specs.declared.map_text.MapText.{MapText}
-use Rattle.pmap_text.specs.declared.window.Window.{Window}
+use Rattle.pmap_text.specs.declared.stretches.window.Window.{Window}
 use Rattle.pmap_text.proofs.BlockHalves.{has_halves}
 use Rattle.pmap_text.proofs.Ends.{divided-most}
 use Rattle.pmap_text.proofs.SeenBlocks.{IsWhole, ordered_of, stretch_split, stretch_whole}

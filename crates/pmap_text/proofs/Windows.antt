@@ -4,7 +4,7 @@ use Rattle.std.proofs.Math.Nat.{zero-div}
 use Rattle.prefix_keys.specs.Block.{block_number, first_of, last_of, width_of}
 use Rattle.pmap_text.specs.Stretches.{HasEveryAddress, HoldsAddress, StretchesModel, count_begun, last_at}
 use Rattle.pmap_text.specs.Windows.{AreHalvesOf, IsBlock, IsWindow, number_at}
-use Rattle.pmap_text.specs.declared.window.Window.{Window}
+use Rattle.pmap_text.specs.declared.stretches.window.Window.{Window}
 use Rattle.pmap_text.proofs.BlockHalves.{halves_ends, has_halves}
 use Rattle.pmap_text.proofs.Ranges.{held_apart, held_fits, held_index, held_order, holder, last_end, ordered_at}
 

@@ -9,12 +9,12 @@ use Rattle.std.specs.Char.{is_ascii_hexdigit}
 use Rattle.prefix_keys.specs.Text.{AddressOf, address_of, block_of_text, is_digit}
 use Rattle.pmap_text.specs.declared.hashing.KeyHasher.{KeyHasher}
 use Rattle.pmap_text.specs.Label.{has_label, is_blank, meant_text, with_label}
-pub use Rattle.pmap_text.specs.declared.leading.Word.{Word}
-pub use Rattle.pmap_text.specs.declared.leading.Word.TheVariants.{Address}
-use Rattle.pmap_text.specs.declared.leading.Word.TheVariants.{Block as block_word}
+pub use Rattle.pmap_text.specs.declared.reading.leading.Word.{Word}
+pub use Rattle.pmap_text.specs.declared.reading.leading.Word.TheVariants.{Address}
+use Rattle.pmap_text.specs.declared.reading.leading.Word.TheVariants.{Block as block_word}
 use Rattle.pmap_text.specs.declared.statement.Statement.{Statement}
 use Rattle.pmap_text.specs.Starting.{IsOrder, Start, number_at}
-use Rattle.pmap_text.specs.declared.ascent.Ascent.{Ascent}
+use Rattle.pmap_text.specs.declared.stretches.ascent.Ascent.{Ascent}
 use Rattle.pmap_text.specs.Stretches.{HasEveryAddress, HasStretch, LabelId, StretchesModel, first_at, label_at, label_seen, last_at}
 use Rattle.prefix_keys.specs.Block.{width_of}
 use Rattle.prefix_keys.specs.declared.version.Version.TheVariants.{V4}

@@ -16,9 +16,9 @@ use Rattle.pmap_text.specs.PrefixList.{list_of, PrefixList}
 pub use Rattle.pmap_text.specs.declared.fault.MapFault.{MapFault}
 pub use Rattle.pmap_text.specs.declared.fault.MapFaultKind.{MapFaultKind}
 pub use Rattle.pmap_text.specs.declared.fault.MapFaultKind.TheVariants.{BadAddress, BadLabel, BadLength, BadMode, BadStatement, DuplicateBlock, LabelConflict, LowAboveHigh, MissingLabel, ModeLate, ModeRepeated, NoMemory, NotAList, TooMany, WrongVersion}
-pub use Rattle.pmap_text.specs.declared.form.Form.{Form}
+pub use Rattle.pmap_text.specs.declared.reading.form.Form.{Form}
 use Rattle.prefix_keys.specs.declared.text.BlockFault.TheVariants as block_faults
-use Rattle.pmap_text.specs.declared.form.Form.TheVariants as form
+use Rattle.pmap_text.specs.declared.reading.form.Form.TheVariants as form
 
 -- The lines of a text and the words of a line.
 

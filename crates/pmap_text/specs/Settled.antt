@@ -5,7 +5,7 @@ use Rattle.pmap_text.specs.MapModel.{IsSettled, Label, Mapping, MapModel, last_s
 use Rattle.pmap_text.specs.MapText.{text_at, Statement}
 use Rattle.pmap_text.specs.Stretches.{LabelId, StretchesModel, mappings_of}
 use Rattle.pmap_text.specs.Windows.{number_at}
-use Rattle.pmap_text.specs.declared.window.Window.{Window}
+use Rattle.pmap_text.specs.declared.stretches.window.Window.{Window}
 
 -- Which blocks statements settle, and how often they divide a block.
 

@@ -1,7 +1,7 @@
 use Rattle.std.specs.Prelude.{◌≡◌, ℕ, ◌<◌, ◌≤◌, List, Some, length, slice_get}
 use Rattle.std.specs.Option.{option_map_or}
 use Rattle.pmap_text.specs.declared.statement.Statement.{Statement}
-pub use Rattle.pmap_text.specs.declared.start.Start.{Start}
+pub use Rattle.pmap_text.specs.declared.stretches.start.Start.{Start}
 
 -- the number of the statement with an index in the order of these starts; without starts, the order is the given one
 abbrev pub number_at : List Start → ℕ → ℕ

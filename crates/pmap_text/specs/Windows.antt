@@ -1,7 +1,7 @@
 use Rattle.std.specs.Prelude.{◌≡◌, ℕ, ◌+◌, ◌-◌, ◌*◌, ◌/◌, ◌≤◌}
 use Rattle.prefix_keys.specs.Block.{block_number, first_of, last_of, width_of}
 use Rattle.pmap_text.specs.Stretches.{HoldsAddress, StretchesModel}
-use Rattle.pmap_text.specs.declared.window.Window.{Window}
+use Rattle.pmap_text.specs.declared.stretches.window.Window.{Window}
 
 -- Blocks with the stretches at their ends.
 

@@ -8,9 +8,11 @@
 //! assert!(rt; map.labels.text(map.default) == Some(b"UNKNOWN".as_slice()));
 //! ```
 //!
-//! This crate uses `prefix_keys` (addresses and blocks), `indexmap` for the tables of labels and of declared numbers,
-//! and `memchr` to find the end of a line. Callers may rely on this: `read_map` and `read_list` return exactly the map
-//! or the list of the text, or the text's first fault with its line, counted from 1. A failed allocation has line 0.
+//! The folder `reading` has the modules that read texts, and `stretches` those that find stretches. This crate uses
+//! `prefix_keys` (addresses and blocks), `indexmap` for the tables of labels and of declared numbers, `smallvec` for the
+//! texts of labels, and `memchr` to find the end of a line. Callers may rely on this: `read_map` and `read_list` return
+//! exactly the map or the list of the text, or the text's first fault with its line, counted from 1. A failed allocation
+//! has line 0.
 //! The number of a label is its index in the order in which label texts first occur, so the number and the text
 //! determine each other. The type of a `MapText` guarantees that its statements are of its version and at most
 //! 1,000,000, and that their labels are in its table. The type of a `PrefixList` guarantees that its entries are of its
@@ -18,42 +20,26 @@
 //! cite, including the label that a map gives an address and settled blocks, are in `specs`.
 #![tactic(auto)]
 
-mod ascent;
-mod declarations;
 mod entries;
 mod entry;
 mod fault;
-mod form;
-mod growing;
 mod hashing;
-mod in_version;
 mod label;
 mod labels;
 mod laws;
-mod leading;
-mod lines;
 mod map_text;
-mod mappings;
 mod name;
-mod opened;
 mod order;
 mod packed;
 mod prefix_list;
 mod reading;
-mod recent;
-mod repeats;
-mod start;
-mod starts;
 mod statement;
 mod statements;
 mod stretches;
-mod texts;
-mod window;
 
 pub use entries::Entries;
 pub use entry::Entry;
 pub use fault::{MapFault, MapFaultKind};
-pub use form::Form;
 pub use hashing::{KeyHasher, KeyHashing};
 pub use label::{LabelId, is_label};
 pub use labels::Labels;
@@ -66,9 +52,10 @@ pub use map_text::MapText;
 pub use name::Name;
 pub use order::{in_order, sorted_or};
 pub use prefix_list::PrefixList;
+pub use reading::form::Form;
+pub use reading::texts::{read_list, read_list_with_hashing, read_map, read_map_with_hashing};
 pub use reading::{LABEL_LIMIT, MAPPING_LIMIT};
 pub use statement::Statement;
 pub use statements::Statements;
 pub use stretches::Stretches;
-pub use texts::{read_list, read_list_with_hashing, read_map, read_map_with_hashing};
-pub use window::Window;
+pub use stretches::window::Window;

@@ -6,7 +6,6 @@ ghost use Rattle.pmap_text.specs.PrefixList.{list_of};
 ghost use Rattle.pmap_text.specs.Reading.{Earlier, no_lines, NoMemory, TooMany};
 ghost use Rattle.pmap_text.specs.declared.reading.TheConstants.{LABEL_LIMIT, MAPPING_LIMIT};
 
-use crate::declarations::Declarations;
 use crate::entries::Entries;
 use crate::entry::Entry;
 use crate::fault::MapFaultKind;
@@ -16,15 +15,24 @@ use crate::labels::Labels;
 use crate::map_text::MapText;
 use crate::name::Name;
 use crate::prefix_list::PrefixList;
-use crate::recent::Recent;
-use crate::repeats::{first_repeat, has_block};
+use crate::reading::declarations::Declarations;
+use crate::reading::recent::Recent;
+use crate::reading::repeats::{first_repeat, has_block};
 use crate::statement::Statement;
 use crate::statements::Statements;
 use prefix_keys::{Block, Span, Version};
 use std::alloc::{AllocError, Global};
 use std::marker::Model;
 
+pub mod declarations;
+pub mod form;
+pub mod in_version;
+pub mod leading;
 mod line;
+pub mod lines;
+pub mod recent;
+pub mod repeats;
+pub mod texts;
 
 /// The maximum number of mappings of a map text, and of entries of a list text.
 pub const MAPPING_LIMIT: usize = 1_000_000;

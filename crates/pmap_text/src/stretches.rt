@@ -8,14 +8,22 @@ ghost use Rattle.pmap_text.specs.MapText.{map_of};
 ghost use Rattle.pmap_text.specs.PrefixList.{AreShortestFirst, list_of};
 ghost use Rattle.pmap_text.specs.declared.statement.Statement.{Statement};
 
-use crate::ascent::of_mappings;
+pub mod ascent;
+pub mod growing;
+pub mod mappings;
+pub mod opened;
+pub mod start;
+pub mod starts;
+pub mod window;
+
 use crate::label::LabelId;
 use crate::labels::Labels;
 use crate::map_text::MapText;
 use crate::order::{in_order, sorted_or};
 use crate::prefix_list::PrefixList;
-use crate::starts::Starts;
 use crate::statements::Statements;
+use crate::stretches::ascent::of_mappings;
+use crate::stretches::starts::Starts;
 use prefix_keys::Version;
 use std::alloc::{AllocError, Global};
 use std::marker::Model;

@@ -4,17 +4,17 @@ ghost use Rattle.std.specs.List.{list_any};
 ghost use Rattle.prefix_keys.specs.Text.{address_of, block_of_text, is_digit};
 ghost use Rattle.pmap_text.specs.Label.{label_number as number_of_label, meant_text, is_label as is_label_text, with_label};
 ghost use Rattle.pmap_text.specs.Reading.{behind_word, first_word, block_line, content_line, default_line, label_line, label_of, mode_line, mode_version, placed_line, range_line, span_line, statement_line, BadAddress, BadStatement, NoMemory, TooMany};
-ghost use Rattle.pmap_text.specs.declared.form.Form.TheVariants.{List as list_form};
+ghost use Rattle.pmap_text.specs.declared.reading.form.Form.TheVariants.{List as list_form};
 ghost use Rattle.pmap_text.specs.Inner.{Reads, has_label_room, one_or_two, name_line};
 
-use crate::declarations::label_number;
 use crate::fault::MapFaultKind;
-use crate::form::Form;
-use crate::in_version::{addr_in, block_in};
 use crate::label::{LabelId, is_label};
-use crate::leading::{Word, leading_word};
-use crate::lines::split_word;
 use crate::name::Name;
+use crate::reading::declarations::label_number;
+use crate::reading::form::Form;
+use crate::reading::in_version::{addr_in, block_in};
+use crate::reading::leading::{Word, leading_word};
+use crate::reading::lines::split_word;
 use crate::reading::{MAPPING_LIMIT, Reading, known_number, number_for};
 use prefix_keys::{
     Addr, Block, BlockFault, Span, Version, are_digits, block_of, read_addr, read_block,

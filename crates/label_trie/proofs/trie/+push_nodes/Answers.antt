@@ -4,7 +4,7 @@ use Rattle.std.proofs.Math.Seq.{set-append_seam}
 use Rattle.std.proofs.lemmas.List.{append_assoc}
 use Rattle.std.proofs.lemmas.Result.{on_ok_weaker}
 use Rattle.pmap_text.specs.Stretches.{StretchesModel, label_at}
-use Rattle.pmap_text.specs.declared.window.Window.{Window}
+use Rattle.pmap_text.specs.declared.stretches.window.Window.{Window}
 use Rattle.prefix_keys.specs.Block.{width_of}
 use Rattle.pmap_text.specs.Windows.{number_at}
 use Rattle.pmap_text.proofs.Windows.{window_some}

@@ -1,7 +1,7 @@
 use Rattle.std.proofs.Common.{◌≡◌, ℕ, arith, inl, inr, refl, true≢false, sym, ◌∙◌}
 use Rattle.pmap_text.specs.Stretches.{StretchesModel}
 use Rattle.pmap_text.specs.Windows.{AreHalvesOf}
-use Rattle.pmap_text.specs.declared.window.Window.{Window}
+use Rattle.pmap_text.specs.declared.stretches.window.Window.{Window}
 use Rattle.pmap_text.proofs.Windows.{window_some}
 use Rattle.pmap_minimise.specs.Runs.{AreCountedHalves, IsChoice, IsCounted, IsStep}
 use Rattle.pmap_minimise.proofs.MadeNodes.{counted-halves, step-by, step-to}

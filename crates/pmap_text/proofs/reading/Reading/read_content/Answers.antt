@@ -1,7 +1,7 @@
 use Rattle.std.proofs.Common.{subst}
 use Rattle.pmap_text.specs.Inner.{IsWord, Word, Address}
 use Rattle.pmap_text.specs.Reading.{first_word}
-use Rattle.pmap_text.specs.declared.leading.Word.TheVariants.{Block as block_word}
+use Rattle.pmap_text.specs.declared.reading.leading.Word.TheVariants.{Block as block_word}
 use Rattle.pmap_text.proofs.LeadingWords.{content-address, content-block}
 use Rattle.pmap_text.proofs.reading.Reading.read_content.Goals as goal
 
