@@ -24,6 +24,7 @@ mod fault;
 mod filter;
 mod items;
 mod laws;
+pub mod names;
 mod option;
 mod ranges;
 

@@ -6,6 +6,10 @@ ghost use Rattle.flowlabel.specs.Definition.{IsArgument, IsCommand, app_for, flo
 
 use Argument::{Flag, Needed, Optional, Word};
 use clap::{Arg, ArgAction, Command};
+use flow_filter::names::{
+    ANY_LABEL, BYTES, DESTINATION_ADDRESS, DESTINATION_LABEL, DESTINATION_PORT, PACKETS, PROTOCOL,
+    SOURCE_ADDRESS, SOURCE_LABEL, SOURCE_PORT,
+};
 use std::alloc::{AllocError, Global};
 
 // Appends the version, which is written only here, to a text.
@@ -22,9 +26,9 @@ macro_rules! example {
     };
 }
 
-// A table of arguments: the kind and the texts of each.
+// A table of arguments: the kind, the name and the texts of each.
 macro_rules! arguments {
-    ($($kind:ident $($text:literal)+;)*) => { [$($kind($($text),+)),*] };
+    ($($kind:ident $name:tt $($text:literal)+;)*) => { [$($kind($name, $($text),+)),*] };
 }
 
 // A table of subcommands: the name, what the subcommand does, its words, an example with its words, and its arguments.
@@ -77,16 +81,16 @@ const SOURCES: [Argument<'static>; 2] = arguments! {
 const REPORT: [Argument<'static>; 12] = arguments! {
     Optional "pmap" "FILE" "Labels" "The prefix map";
     Optional "list" "FILE" "Labels" "The prefix list";
-    Optional "protocol" "NUMBERS" "Filters" "Flows of these protocols, such as 6,17 or 1-16";
-    Optional "sport" "NUMBERS" "Filters" "Flows from these ports";
-    Optional "dport" "NUMBERS" "Filters" "Flows to these ports";
-    Optional "saddress" "BLOCKS" "Filters" "Flows from these addresses: 10.0.0.1,2001:db8::/32";
-    Optional "daddress" "BLOCKS" "Filters" "Flows to these addresses";
-    Optional "packets" "RANGE" "Filters" "Flows with this many packets, such as 5, 5- or 5-9";
-    Optional "bytes" "RANGE" "Filters" "Flows with this many bytes";
-    Optional "src-label" "LABEL" "Filters" "Flows whose source has this label";
-    Optional "dst-label" "LABEL" "Filters" "Flows whose destination has this label";
-    Optional "any-label" "LABEL" "Filters" "Flows whose source or destination has this label";
+    Optional PROTOCOL "NUMBERS" "Filters" "Flows of these protocols, such as 6,17 or 1-16";
+    Optional SOURCE_PORT "NUMBERS" "Filters" "Flows from these ports";
+    Optional DESTINATION_PORT "NUMBERS" "Filters" "Flows to these ports";
+    Optional SOURCE_ADDRESS "BLOCKS" "Filters" "Flows from these addresses: 10.0.0.1,2001:db8::/32";
+    Optional DESTINATION_ADDRESS "BLOCKS" "Filters" "Flows to these addresses";
+    Optional PACKETS "RANGE" "Filters" "Flows with this many packets, such as 5, 5- or 5-9";
+    Optional BYTES "RANGE" "Filters" "Flows with this many bytes";
+    Optional SOURCE_LABEL "LABEL" "Filters" "Flows whose source has this label";
+    Optional DESTINATION_LABEL "LABEL" "Filters" "Flows whose destination has this label";
+    Optional ANY_LABEL "LABEL" "Filters" "Flows whose source or destination has this label";
 };
 
 const SORTED: [Argument<'static>; 3] = arguments! {
