@@ -3,10 +3,10 @@
 ghost use Rattle.pmap_text.specs.ListModel.{Prefix};
 ghost use Rattle.pmap_text.specs.MapModel.{Mapping};
 ghost use Rattle.pmap_text.specs.Reading.{content_line, no_lines};
-ghost use Rattle.pmap_text.specs.Inner.{has_prefix};
 ghost use Rattle.pmap_text.specs.declared.fault.MapFaultKind.TheVariants.{TooMany};
 ghost use Rattle.pmap_text.specs.declared.reading.form.Form.TheVariants as form;
-ghost use Rattle.std.specs.Prelude.{◌≡◌, codes, Err, false, is_ok, length, List, replicate, true};
+ghost use Rattle.std.specs.List.{list_any};
+ghost use Rattle.std.specs.Prelude.{◌≡◌, ◌==◌, ◌&&◌, codes, Err, false, is_ok, length, List, replicate, true};
 
 /// A text has at most 65,535 different labels. A label that the text has already needs no room.
 pub fn a_text_has_at_most_65535_labels()
@@ -30,8 +30,10 @@ pub fn a_text_has_at_most_1000000_mappings()
         → is_ok (content_line form.Map (record no_lines { mappings = ms }) (codes "10.0.0.0/8 A")) ≡ true }
     ensures no_room { (ms : List Mapping) → length ms ≡ 1000000
         → content_line form.Map (record no_lines { mappings = ms }) (codes "10.0.0.0/8 A") ≡ Err TooMany }
-    ensures room_for_an_entry { (ps : List Prefix) → has_prefix ps 0x0a00_0000 8 ≡ false → length ps ≡ 999999
+    ensures room_for_an_entry { (ps : List Prefix)
+        → list_any (λ p. p.start == 0x0a00_0000 && p.bits == 8) ps ≡ false → length ps ≡ 999999
         → is_ok (content_line form.List (record no_lines { prefixes = ps }) (codes "10.0.0.0/8 A")) ≡ true }
-    ensures no_room_for_an_entry { (ps : List Prefix) → has_prefix ps 0x0a00_0000 8 ≡ false → length ps ≡ 1000000
+    ensures no_room_for_an_entry { (ps : List Prefix)
+        → list_any (λ p. p.start == 0x0a00_0000 && p.bits == 8) ps ≡ false → length ps ≡ 1000000
         → content_line form.List (record no_lines { prefixes = ps }) (codes "10.0.0.0/8 A") ≡ Err TooMany }
 {}
