@@ -42,7 +42,7 @@ impl<'a> StretchIndex<'a> {
     pub fn of_map(alloc: Global, map: &'a MapText) -> Result<StretchIndex<'a>, AllocError>
         ensures { IfOk result (λ index. labelling_of_stretches index ≡ labelling_of_map (map_of map.now)) }
     {
-        let stretches = Stretches::of_map(alloc, map)?;
+        let stretches = Stretches::runs_of_map(alloc, map)?;
         Ok(StretchIndex {
             labels: &map.labels,
             tops: tops_of(alloc, &stretches)?,
@@ -54,7 +54,7 @@ impl<'a> StretchIndex<'a> {
     pub fn of_list(alloc: Global, list: &'a PrefixList) -> Result<StretchIndex<'a>, AllocError>
         ensures { IfOk result (λ index. labelling_of_stretches index ≡ labelling_of_list (list_of list.now)) }
     {
-        let stretches = Stretches::of_list(alloc, list)?;
+        let stretches = Stretches::runs_of_list(alloc, list)?;
         Ok(StretchIndex {
             labels: &list.labels,
             tops: tops_of(alloc, &stretches)?,

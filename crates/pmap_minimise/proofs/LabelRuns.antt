@@ -1,6 +1,6 @@
 -- The list that is built from runs of one label is the map's: runs are the stretches of another map with the same labels.
-use Rattle.std.proofs.Common.{◌≡◌, ℕ, ◌+◌, ◌*◌, ◌^◌, ◌<◌, ◌≤◌, ◌∙◌, All, IsSome, IsTrue, List, Option, Some, None, length, option_map, slice_get, refl, sym, ap, subst, arith}
-use Rattle.std.specs.Option.{option_or, option_map_or}
+use Rattle.std.proofs.Common.{◌≡◌, ℕ, ◌^◌, ◌<◌, ◌∙◌, [], All, IsSome, IsTrue, List, Option, Some, None, length, option_and_then, slice_get, unwrap_or, refl, sym, ap, subst, arith}
+use Rattle.std.specs.Option.{option_map_or}
 use Rattle.std.proofs.lemmas.List.{length-map}
 use Rattle.std.proofs.lemmas.List.Elements.{All-map, All-weaker}
 use Rattle.std.proofs.lemmas.Option.{option_and_then_some, same_Some, slice_get_within}
@@ -9,17 +9,16 @@ use Rattle.prefix_keys.specs.declared.version.Version.{Version}
 use Rattle.pmap_text.specs.Label.{IsLabelTable}
 use Rattle.pmap_text.specs.ListEntries.{HasDistinctBlocks}
 use Rattle.pmap_text.specs.ListModel.{ListModel}
-use Rattle.pmap_text.specs.MapModel.{Label, MapModel, Mapping, last_such, map_label, spans}
+use Rattle.pmap_text.specs.MapModel.{Label, MapModel, Mapping, map_label}
 use Rattle.pmap_text.specs.MapText.{map_of, mapping_of, text_at}
 use Rattle.pmap_text.specs.Settled.{IsMapOf}
-use Rattle.pmap_text.specs.Stretches.{AreStretches, HasEveryAddress, StretchesModel, first_at, label_at, mappings_of, text_held}
+use Rattle.pmap_text.specs.Stretches.{AreRunsOf, AreStretches, StretchesModel, first_at, label_at, mappings_of, text_held}
 use Rattle.pmap_text.specs.declared.entry.Entry.{Entry}
 use Rattle.pmap_text.specs.declared.label.LabelId.{LabelId}
 use Rattle.pmap_text.specs.declared.map_text.MapText.{MapText}
 use Rattle.pmap_text.specs.declared.statement.Statement.{Statement}
-use Rattle.pmap_text.proofs.Layers.{are-layers, layers, layers-known, length-layers_to}
-use Rattle.pmap_text.proofs.Ranges.{ordered_at, text_at_index}
-use Rattle.pmap_text.proofs.Stretched.{held_text, stretches_known}
+use Rattle.pmap_text.proofs.Layers.{are-layers, layer-wins, layers, layers-known, length-layers_to}
+use Rattle.pmap_text.proofs.Ranges.{holder, ordered_at, text_at_index}
 use Rattle.pmap_cert.specs.Acceptance.{HasItsLabels, IsMinimalPair}
 use Rattle.pmap_cert.specs.CertificateModel.{CertificateModel, has}
 use Rattle.pmap_cert.specs.CertificateText.{HasTextForm}
@@ -34,11 +33,7 @@ use Rattle.pmap_minimise.proofs.Distinct.{order-distinct}
 use Rattle.pmap_minimise.proofs.Texts.{table-has}
 use Rattle.pmap_minimise.proofs.Whole.{AreEntriesOf, list_with, listed-entries, own-labels}
 
-won-label : (o : Option Mapping) (x : Label) → option_or (option_map (λ p. p.label) o) (Some x) ≡ Some (option_map_or (λ (p : Mapping). p.label) o x)
-won-label None x = refl
-won-label (Some p) x = refl
-
-module _ (m : MapText) (s : StretchesModel) (version : s.version ≡ m.version) (every : HasEveryAddress s) (few : length s.firsts ≤ 2 * length m.statements + 1)
+module _ (m : MapText) (s : StretchesModel) (version : s.version ≡ m.version) (runs : AreRunsOf m.statements s)
     (labels : (a : ℕ) → a < 2 ^ width_of m.version → text_held m.labels s a ≡ Some (map_label (map_of m) a)) where
   fits : (a : ℕ) → a < 2 ^ width_of s.version → a < 2 ^ width_of m.version
   fits a = subst (λ (v : Version). a < 2 ^ width_of v) version
@@ -47,14 +42,14 @@ module _ (m : MapText) (s : StretchesModel) (version : s.version ≡ m.version) 
   pub run-label : (i : ℕ) → i < length s.firsts → (id : LabelId) × (label_at s i ≡ Some id) × (id.0 < length m.labels)
   run-label i below =
       let a = first_at s i in
-      let text = sym (text_at_index s every m.labels a i (record { index = below; from = omega arith; to = ordered_at s every i below })) ∙ labels a (fits a (every.within i below)) in
+      let text = sym (text_at_index s runs.every m.labels a i (record { index = below; from = omega arith; to = ordered_at s runs.every i below })) ∙ labels a (fits a (runs.every.within i below)) in
       option_and_then_some (λ (id : LabelId). slice_get m.labels id.0) (label_at s i) (map_label (map_of m) a) text (λ id is there. (id, is, slice_get_within m.labels id.0 _ there))
 
   abbrev default : LabelId
-  default = (run-label 0 every.some).0
+  default = (run-label 0 runs.every.some).0
 
   default-known : default.0 < length m.labels
-  default-known = (run-label 0 every.some).2
+  default-known = (run-label 0 runs.every.some).2
 
   known : All (λ (x : Statement). x.label.0 < length m.labels) (layers s)
   known =
@@ -62,7 +57,7 @@ module _ (m : MapText) (s : StretchesModel) (version : s.version ≡ m.version) 
       (λ i below id is. subst (λ (x : LabelId). x.0 < length m.labels) (same_Some _ id (sym (run-label i below).1 ∙ is)) (run-label i below).2) (omega (arith, default-known))
 
   are : AreStretches (layers s) (Some default) s
-  are = are-layers s every (Some default) (λ i below. subst IsSome (sym (run-label i below).1) refl)
+  are = are-layers s runs.every (Some default) (λ i below. subst IsSome (sym (run-label i below).1) refl)
 
   -- the map of which the runs are the stretches
   abbrev runs_map : MapModel
@@ -87,9 +82,13 @@ module _ (m : MapText) (s : StretchesModel) (version : s.version ≡ m.version) 
   runs-same : (a : ℕ) → a < 2 ^ width_of m.version → map_label runs_map a ≡ map_label (map_of m) a
   runs-same a below =
       let below' : a < 2 ^ width_of s.version = subst (λ (v : Version). a < 2 ^ width_of v) (sym version) below in
-      let held = held_text (layers s) (Some default) m.labels s are
-      (stretches_known (layers s) (Some default) (length m.labels) s are known (λ id is. subst (λ (x : LabelId). x.0 < length m.labels) (same_Some default id is) default-known)) a below' in
-      same_Some _ _ (sym (won-label (last_such (spans a) (mappings_of m.labels (layers s))) (text_at m.labels default.0)) ∙ sym held ∙ labels a below)
+      let holds = holder s runs.every a below' in
+      let (id, is, _) = run-label _ holds.index in
+      let text : slice_get m.labels id.0 ≡ Some (map_label (map_of m) a) =
+      ap (option_and_then (λ (x : LabelId). slice_get m.labels x.0)) (sym is) ∙ labels a below in
+      ap (λ (o : Option Mapping). option_map_or (λ p. p.label) o (text_at m.labels default.0))
+      (layer-wins s runs.every m.labels a _ (length s.firsts) holds holds.index (omega arith))
+      ∙ ap (λ (x : Option LabelId). text_at m.labels (unwrap_or x (record { 0 = 0 })).0) is ∙ ap (λ (o : Option Label). unwrap_or o []) text
 
   pub runs-countable : AreCountable s
   runs-countable = record {
@@ -97,7 +96,7 @@ module _ (m : MapText) (s : StretchesModel) (version : s.version ≡ m.version) 
     default = Some default;
     labelled = refl;
     stretches = are;
-    few = omega (arith, length-layers_to s (length s.firsts), few, m.within_limit);
+    few = omega (arith, length-layers_to s (length s.firsts), runs.few, m.within_limit);
   }
 
   module _ (ok : IsLabelTable m.labels) (root : Node) (built : (map : MapModel) → IsMapOn s map → IsBuiltIn map root) where

@@ -15,9 +15,10 @@ use Rattle.pmap_text.specs.Stretches.{AreStretches, HasEveryAddress, HoldsAddres
 use Rattle.pmap_text.proofs.Ends.{ends-few}
 use Rattle.pmap_text.proofs.LastSuch.{last_such-push}
 use Rattle.pmap_text.proofs.Ranges.{ends_before, holder, last_before, last_end, ordered_at}
+use Rattle.pmap_text.proofs.Seen.{seen_at}
 
 -- the first address of a stretch, in a form that fits the version for each index
-abbrev low_at : StretchesModel → ℕ → ℕ
+abbrev pub low_at : StretchesModel → ℕ → ℕ
 low_at s i = min (first_at s i) (2 ^ width_of s.version - 1)
 
 pub fits-low : (s : StretchesModel) (i : ℕ) → low_at s i < 2 ^ width_of s.version
@@ -30,7 +31,7 @@ pub low-high : (s : StretchesModel) (i : ℕ) → low_at s i ≤ 2 ^ width_of s.
 low-high s i = omega arith
 
 -- the statement of a stretch, and those of the first n stretches
-abbrev layer : StretchesModel → ℕ → Statement
+abbrev pub layer : StretchesModel → ℕ → Statement
 layer s i = record {
   span = record {
     low = record { version = s.version; value = low_at s i; in_range = fits-low s i };
@@ -72,7 +73,7 @@ layers-known s count (suc n) known some =
     given None is = some
 
 module _ (s : StretchesModel) (every : HasEveryAddress s) where
-  last-within : (i : ℕ) → i < length s.firsts → last_at s i < 2 ^ width_of s.version
+  pub last-within : (i : ℕ) → i < length s.firsts → last_at s i < 2 ^ width_of s.version
   last-within i below = elim (cases_lt (i + 1) (length s.firsts)) [
     | inl more ↦ omega (arith, last_before s i more, every.within (i + 1) more)
     | inr end ↦ omega (arith, last_end s i end, every.within i below)
@@ -82,7 +83,7 @@ module _ (s : StretchesModel) (every : HasEveryAddress s) where
   low-is i below = omega (arith, every.within i below)
 
   -- the last statement that covers an address is that of the address's stretch
-  layer-wins : (table : List Label) (a i n : ℕ) → HoldsAddress s a i → i < n → n ≤ length s.firsts
+  pub layer-wins : (table : List Label) (a i n : ℕ) → HoldsAddress s a i → i < n → n ≤ length s.firsts
       → last_such (spans a) (mappings_of table (layers_to s n)) ≡ Some (mapping_of table (layer s i))
   layer-wins table a i zero holds less most = absurd (omega arith)
   layer-wins table a i (suc n) holds less most =
@@ -133,7 +134,7 @@ module _ (s : StretchesModel) (every : HasEveryAddress s) where
       within = subst (λ w. last_at s i < 2 ^ w) (sym width) (last-within i below);
       same = λ a from to. layer-winner a i (record { index = below; from = from; to = to });
       before = λ a at. layer-other a i (omega (arith, at, ordered_at s every i below, last-within i below)) below (λ holds. omega (arith, at, holds.from));
-      behind = λ more.
+      after = λ more.
           layer-other (last_at s i + 1) i (subst (λ w. last_at s i + 1 < 2 ^ w) width more) below (λ holds. omega (arith, holds.to));
     }
 
@@ -189,23 +190,19 @@ ends-none a (m ∷ ms) none =
     let rest = ends-none a ms (omega (arith, none)) in
     rw (here, rest) refl
 
--- there are at most two more stretches for each statement
-module _ (ss : List Statement) (default : Option LabelId) (s : StretchesModel) (are : AreStretches ss default s) where
+-- there are at most two more stretches for each statement, if another one is seen where a stretch begins
+module _ (ss : List Statement) (s : StretchesModel) (every : HasEveryAddress s)
+    (other : (i : ℕ) → 0 < i → i < length s.firsts → seen_at [] ss (first_at s i - 1) ≢ seen_at [] ss (first_at s i)) where
   abbrev ms : List Mapping
   ms = mappings_of [] ss
 
   counted : (i : ℕ) → i < length s.firsts → i ≤ ends 0 (first_at s i) ms
   counted zero below = omega arith
   counted (suc i) below =
-      let m : MapModel = record { version = s.version; name = None; fallback = []; mappings = ms; table = [] } in
-      let stretch = (are.each (suc i) below).stretch m refl refl in
-      let order = are.every.ascending i (suc i) (omega arith) below in
-      by (first_at s (suc i) - 1) (omega (arith, order)) (omega (arith, order))
-      (λ same. stretch.before (first_at s (suc i) - 1) (omega (arith, order)) (same ∙ stretch.same (first_at s (suc i)) (omega arith) stretch.ordered))
-      (counted i (omega (arith, below)))
+      let order = every.ascending i (suc i) (omega arith) below in
+      by (first_at s (suc i) - 1) (omega (arith, order)) (omega (arith, order)) (other (suc i) (omega arith) below) (counted i (omega (arith, below)))
     where
-      by : (a : ℕ) → a + 1 ≡ first_at s (suc i) → first_at s i ≤ a
-          → (last_such (spans a) ms ≡ last_such (spans (first_at s (suc i))) ms → ⊥)
+      by : (a : ℕ) → a + 1 ≡ first_at s (suc i) → first_at s i ≤ a → seen_at [] ss a ≢ seen_at [] ss (first_at s (suc i))
           → i ≤ ends 0 (first_at s i) ms → suc i ≤ ends 0 (first_at s (suc i)) ms
       by a next from other before =
           let here = ends-shared 0 (first_at s i) a ms (omega arith) from in
@@ -220,5 +217,5 @@ module _ (ss : List Statement) (default : Option LabelId) (s : StretchesModel) (
   pub stretches-few : length s.firsts ≤ 2 * length ss + 1
   stretches-few =
       let last = length s.firsts - 1 in
-      let some = are.every.some in
+      let some = every.some in
       omega (arith, some, counted last (omega (arith, some)), ends-few 0 (first_at s last) ms, length-map ss (mapping_of []))

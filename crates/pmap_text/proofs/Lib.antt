@@ -23,7 +23,6 @@ pub mod Ranges
 pub mod Seen
 pub mod Winners
 pub mod Stretched
-pub mod Joined
 pub mod Layers
 pub mod SeenBlocks
 pub mod Painted

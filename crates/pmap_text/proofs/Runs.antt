@@ -106,9 +106,9 @@ runs-more f from to (r ∷ rs) are = runs-before f from to r rs are (label-cases
 runs-count : (f : ℕ → Option Label) (count from : ℕ) → (rs : List Run) × AreRuns f from (from + count) rs
 runs-count f zero from = ([], omega arith)
 runs-count f (suc count) from =
-    let behind = runs-count f count (from + 1) in
+    let rest = runs-count f count (from + 1) in
     let end : from + 1 + count ≡ from + suc count = omega arith in
-    runs-more f from (from + suc count) behind.0 (subst (λ to. AreRuns f (from + 1) to behind.0) end behind.1)
+    runs-more f from (from + suc count) rest.0 (subst (λ to. AreRuns f (from + 1) to rest.0) end rest.1)
 
 pub runs-exist : (f : ℕ → Option Label) (from to : ℕ) → from ≤ to → (rs : List Run) × AreRuns f from to rs
 runs-exist f from to le =

@@ -54,4 +54,4 @@ seen_last table (x ∷ xs) a zero s listed low high none =
     let covers : spans a (mapping_of table x) ≡ true = subst (λ (r : Statement). spans a (mapping_of table r) ≡ true) (sym same) (le_both s.span.low.value a a s.span.high.value low high) in
     rw (rest, covers) (ap (λ (r : Statement). Some (mapping_of table r)) same)
 seen_last table (x ∷ xs) a (suc j) s listed low high none =
-    rw (seen_last table xs a j s listed low high (λ i r at behind from to. none (suc i) r at (omega (arith, behind)) from to))
+    rw (seen_last table xs a j s listed low high (λ i r at later from to. none (suc i) r at (omega (arith, later)) from to))

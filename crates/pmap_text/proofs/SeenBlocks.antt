@@ -122,7 +122,7 @@ stretch_split m n q first last top stretch from to more fits =
     let ms = m.mappings in
     let o = last_such (meets W n q) ms in
     split-step W n q last (last + 1) m.fallback ms to (omega (arith, more)) (omega (arith, to)) (omega (arith, more))
-    (λ same. stretch.behind (omega (arith, more, fits)) (same ∙ stretch.same last stretch.ordered (omega arith)))
+    (λ same. stretch.after (omega (arith, more, fits)) (same ∙ stretch.same last stretch.ordered (omega arith)))
     o refl (all_of W n q o) (all_is W n q o)
 
 -- so a block is settled if one stretch contains it

@@ -1,7 +1,6 @@
--- The runs of the labels are the stretches, with neighbours of the same label joined.
-use Rattle.std.proofs.Common.{◌≡◌, ◌≢◌, ℕ, ◌+◌, ◌-◌, ◌^◌, ◌<◌, ◌≤◌, ◌⊎◌, inl, inr, List, [], ◌∷◌, ◌++◌, Option, Some, None, refl, sym, ◌∙◌, ap, subst, arith, cond, length, option_and_then, slice_get, append_assoc}
+-- Stretches are the runs of their labels if neighbours have different labels.
+use Rattle.std.proofs.Common.{◌≡◌, ◌≢◌, ℕ, zero, suc, ◌+◌, ◌^◌, ◌<◌, ◌≤◌, inl, inr, List, [], ◌∷◌, Option, Some, None, refl, sym, ◌∙◌, ap, subst, arith, cond, length, option_and_then, slice_get}
 use Rattle.std.specs.Prelude.{nat_lt}
-use Rattle.std.proofs.lemmas.List.{append-nil}
 use Rattle.std.specs.Option.{ForSome}
 use Rattle.std.proofs.lemmas.Bool.{cases_lt, le-ltb, lt-ltb}
 use Rattle.std.proofs.lemmas.Nat.{pow_pos}
@@ -9,12 +8,12 @@ use Rattle.prefix_keys.specs.Block.{width_of}
 use Rattle.pmap_text.specs.Label.{IsLabelTable}
 use Rattle.pmap_text.specs.MapModel.{Label}
 use Rattle.pmap_text.specs.MapText.{text_at}
-use Rattle.pmap_text.specs.Stretches.{AreLabelsBelow, HasEveryAddress, StretchesModel, first_at, label_at, last_at, text_held}
+use Rattle.pmap_text.specs.Stretches.{AreJoined, AreLabelsBelow, HasEveryAddress, StretchesModel, first_at, label_at, last_at, text_held}
 use Rattle.pmap_text.specs.declared.label.LabelId.{LabelId}
 use Rattle.pmap_text.proofs.Orders.{known_text}
 use Rattle.pmap_text.proofs.Ranges.{last_end, next_first, ordered_at, text_at_index}
-use Rattle.pmap_text.specs.Runs.{AreRuns, HasOneLabel, Run}
-use Rattle.pmap_text.specs.RunsText.{run_between}
+use Rattle.pmap_text.specs.Runs.{AreRuns, Run}
+use Rattle.pmap_text.specs.RunsText.{run_at}
 
 -- the text of a label
 abbrev pub label_text : List Label → Option LabelId → Option Label
@@ -36,120 +35,59 @@ other-label table is (Some i) (Some j) kx ky other = λ same.
     let number : i.0 ≡ j.0 = cc in
     other (ap (λ (n : ℕ). Some (record { 0 = n })) number)
 
--- two neighbouring ranges with the same label are one with that label
-one-joined : (f : ℕ → Option Label) (low middle next high : ℕ) (x : Option Label) → HasOneLabel f (record { low = low; high = middle; label = x })
-    → HasOneLabel f (record { low = next; high = high; label = x }) → next ≡ middle + 1 → HasOneLabel f (record { low = low; high = high; label = x })
-one-joined f low middle next high x one more follows =
-    record { some = omega (arith, one.some, more.some, follows); each = λ a ge le. by a ge le (cases_lt middle a) }
-  where
-    by : (a : ℕ) → low ≤ a → a ≤ high → (middle < a) ⊎ (a ≤ middle) → f a ≡ x
-    by a ge le (inl behind) = more.each a (omega (arith, follows, behind)) le
-    by a ge le (inr within) = one.each a ge within
-
 -- where the stretch with an index begins; after the last one the addresses end
 abbrev pub begin_at : StretchesModel → ℕ → ℕ
 begin_at s i = cond (nat_lt i (length s.firsts)) (first_at s i) (2 ^ width_of s.version)
 
--- The runs before the stretch `begin`, followed by any runs from there on, are the labelling's runs. The stretches from
--- `begin` to the one before `index` have the label of the stretch `index`, if there is one.
-pub record AreJoinedTo (table : List Label) (s : StretchesModel) (begin index : ℕ) (runs : List Run) : Type 0 where
-  pub order : begin ≤ index
-  pub end : length s.firsts ≤ index → begin ≡ index
-  pub one : (i : ℕ) → i + 1 ≡ index → begin ≤ i
-      → HasOneLabel (text_held table s) (record { low = first_at s begin; high = last_at s i; label = label_text table (label_at s index) })
-  pub goes_on : (rest : List Run) → AreRuns (text_held table s) (begin_at s begin) (2 ^ width_of s.version) rest
-      → AreRuns (text_held table s) 0 (2 ^ width_of s.version) (runs ++ rest)
+-- `count` stretches from an index on
+abbrev pub runs_from : List Label → StretchesModel → ℕ → ℕ → List Run
+runs_from table s i zero = []
+runs_from table s i (suc count) = run_at table s i ∷ runs_from table s (i + 1) count
 
-module _ (table : List Label) (s : StretchesModel) (every : HasEveryAddress s) where
+module _ (table : List Label) (distinct : IsLabelTable table) (s : StretchesModel) (every : HasEveryAddress s) (known : AreLabelsBelow (length table) s)
+    (joined : AreJoined s) where
   begins : (i : ℕ) → i < length s.firsts → begin_at s i ≡ first_at s i
   begins i within = ap (λ b. cond b (first_at s i) (2 ^ width_of s.version)) (lt-ltb i (length s.firsts) within)
 
   ends : (i : ℕ) → length s.firsts ≤ i → begin_at s i ≡ 2 ^ width_of s.version
   ends i past = ap (λ b. cond b (first_at s i) (2 ^ width_of s.version)) (le-ltb i (length s.firsts) past)
 
-  pub none_joined : AreJoinedTo table s 0 0 []
-  none_joined = record {
-    order = omega arith;
-    end = λ none. refl;
-    one = λ i before. absurd (omega (arith, before));
-    goes_on = λ rest are. subst (λ (from : ℕ). AreRuns (text_held table s) from (2 ^ width_of s.version) rest) (begins 0 every.some ∙ every.zero) are;
-  }
+  label_known : (i : ℕ) → i < length s.firsts → ForSome (label_at s i) (λ id. id.0 < length table)
+  label_known i inside = known i None (omega (arith, inside, every.paired))
 
-  pub all_joined : (begin index : ℕ) (runs : List Run) → AreJoinedTo table s begin index runs → length s.firsts ≤ index
-      → AreRuns (text_held table s) 0 (2 ^ width_of s.version) runs
-  all_joined begin index runs is past =
-      subst (AreRuns (text_held table s) 0 (2 ^ width_of s.version)) (append-nil runs) (is.goes_on [] (ends begin (omega (arith, past, is.end past))))
+  text_in : (a i : ℕ) → i < length s.firsts → first_at s i ≤ a → a ≤ last_at s i → text_held table s a ≡ label_text table (label_at s i)
+  text_in a i within from to = text_at_index s every table a i (record { index = within; from = from; to = to })
 
-  -- the stretch with the index is the next one
-  module _ (begin index : ℕ) (within : index < length s.firsts) (runs : List Run) (is : AreJoinedTo table s begin index runs) where
-    stretch_one : HasOneLabel (text_held table s) (run_between table s index index)
-    stretch_one = record {
-      some = ordered_at s every index within;
-      each = λ a ge le. text_at_index s every table a index (record { index = within; from = ge; to = le });
-    }
+  after : (i : ℕ) → i < length s.firsts → last_at s i + 1 ≡ begin_at s (i + 1)
+  after i within = elim (cases_lt (i + 1) (length s.firsts)) [
+    | inl more ↦ sym (begins (i + 1) more ∙ next_first s every i more)
+    | inr end ↦ omega (arith, last_end s i end, ends (i + 1) end, pow_pos (width_of s.version))
+  ]
 
-    run_one : HasOneLabel (text_held table s) (run_between table s begin index)
-    run_one = by (cases_lt begin index)
-      where
-        by : (begin < index) ⊎ (index ≤ begin) → HasOneLabel (text_held table s) (run_between table s begin index)
-        by (inl less) =
-            let (i, next) : (i : ℕ) × (i + 1 ≡ index) = (index - 1, omega (arith, less)) in
-            let first : first_at s index ≡ last_at s i + 1 =
-            ap (first_at s) (sym next) ∙ next_first s every i (omega (arith, next, within)) in
-            one-joined (text_held table s) (first_at s begin) (last_at s i) (first_at s index) (last_at s index) (label_text table (label_at s index))
-            (is.one i next (omega (arith, less, next))) stretch_one first
-        by (inr same) =
-            let here : index ≡ begin = omega (arith, same, is.order) in
-            subst (λ k. HasOneLabel (text_held table s) (record { low = first_at s k; high = last_at s index; label = label_text table (label_at s index) })) here stretch_one
+  differs : (i : ℕ) → i < length s.firsts → last_at s i + 1 < 2 ^ width_of s.version
+      → text_held table s (last_at s i + 1) ≢ label_text table (label_at s i)
+  differs i within inside = elim (cases_lt (i + 1) (length s.firsts)) [
+    | inl more ↦ λ same.
+        let next = next_first s every i more in
+        other-label table distinct (label_at s (i + 1)) (label_at s i) (label_known (i + 1) more) (label_known i within) (joined i more)
+        (sym (text_in (last_at s i + 1) (i + 1) more (omega (arith, next)) (omega (arith, next, ordered_at s every (i + 1) more))) ∙ same)
+    | inr end ↦ absurd (omega (arith, last_end s i end, inside))
+  ]
 
-    after : last_at s index + 1 ≡ begin_at s (index + 1)
-    after = by (cases_lt (index + 1) (length s.firsts))
-      where
-        by : (index + 1 < length s.firsts) ⊎ (length s.firsts ≤ index + 1) → last_at s index + 1 ≡ begin_at s (index + 1)
-        by (inl more) = sym (begins (index + 1) more ∙ next_first s every index more)
-        by (inr end) = omega (arith, last_end s index end, ends (index + 1) end, pow_pos (width_of s.version))
+  runs_after : (i count : ℕ) → i + count ≡ length s.firsts
+      → AreRuns (text_held table s) (begin_at s i) (2 ^ width_of s.version) (runs_from table s i count)
+  runs_after i zero all = ends i (omega (arith, all))
+  runs_after i (suc count) all =
+      let within : i < length s.firsts = omega (arith, all) in (
+        sym (begins i within),
+        record { some = ordered_at s every i within; each = λ a from to. text_in a i within from to },
+        differs i within,
+        subst (λ (from : ℕ). AreRuns (text_held table s) from (2 ^ width_of s.version) (runs_from table s (i + 1) count)) (sym (after i within))
+            (runs_after (i + 1) count (omega (arith, all))),
+      )
 
-    -- if the next stretch has the same label, the run goes on
-    pub run_goes_on : index + 1 ≢ length s.firsts → label_at s (index + 1) ≡ label_at s index → AreJoinedTo table s begin (index + 1) runs
-    run_goes_on more e = record {
-      order = omega (arith, is.order);
-      end = λ past. absurd (omega (arith, past, more, within));
-      one = λ i next ge.
-          let here : index ≡ i = omega (arith, next) in
-          let same : label_at s index ≡ label_at s (index + 1) = sym e in
-          subst (λ (x : Option LabelId). HasOneLabel (text_held table s) (record { low = first_at s begin; high = last_at s i; label = label_text table x })) same
-          (subst (λ k. HasOneLabel (text_held table s) (record { low = first_at s begin; high = last_at s k; label = label_text table (label_at s index) })) here run_one);
-      goes_on = is.goes_on;
-    }
-
-    -- the run ends unless the next stretch has the same label
-    pub run_ends : IsLabelTable table → AreLabelsBelow (length table) s → (index + 1 < length s.firsts → label_at s (index + 1) ≢ label_at s index)
-        → AreJoinedTo table s (index + 1) (index + 1) (runs ++ run_between table s begin index ∷ [])
-    run_ends distinct known other = record {
-      order = omega arith;
-      end = λ _. refl;
-      one = λ i next ge. absurd (omega (arith, next, ge));
-      goes_on = λ rest are. subst (AreRuns (text_held table s) 0 (2 ^ width_of s.version)) (sym (append_assoc runs (run_between table s begin index ∷ []) rest))
-          (is.goes_on (run_between table s begin index ∷ rest) (
-            sym (begins begin (omega (arith, is.order, within))),
-            run_one,
-            differs,
-            subst (λ (from : ℕ). AreRuns (text_held table s) from (2 ^ width_of s.version) rest) (sym after) are,
-          ));
-    }
-      where
-        label_known : (i : ℕ) → i < length s.firsts → ForSome (label_at s i) (λ id. id.0 < length table)
-        label_known i inside = known i None (omega (arith, inside, every.paired))
-
-        differs : last_at s index + 1 < 2 ^ width_of s.version → text_held table s (last_at s index + 1) ≢ label_text table (label_at s index)
-        differs inside = by (cases_lt (index + 1) (length s.firsts))
-          where
-            by : (index + 1 < length s.firsts) ⊎ (length s.firsts ≤ index + 1) → text_held table s (last_at s index + 1) ≢ label_text table (label_at s index)
-            by (inr end) = absurd (omega (arith, last_end s index end, inside))
-            by (inl more) = λ same.
-                other-label table distinct (label_at s (index + 1)) (label_at s index) (label_known (index + 1) more) (label_known index within) (other more)
-                (sym (text_at_index s every table (last_at s index + 1) (index + 1) (record {
-                  index = more;
-                  from = omega (arith, next_first s every index more);
-                  to = omega (arith, next_first s every index more, ordered_at s every (index + 1) more);
-                })) ∙ same)
+  -- stretches with different labels are the runs of the labelling
+  pub all_runs : AreRuns (text_held table s) 0 (2 ^ width_of s.version) (runs_from table s 0 (length s.firsts))
+  all_runs =
+      subst (λ (from : ℕ). AreRuns (text_held table s) from (2 ^ width_of s.version) (runs_from table s 0 (length s.firsts)))
+      (begins 0 every.some ∙ every.zero) (runs_after 0 (length s.firsts) (omega arith))

@@ -1,129 +1,209 @@
 -- Building the stretches of statements, one after another.
-use Rattle.std.proofs.Common.{◌≡◌, ◌≢◌, ◌∙◌, ℕ, ◌+◌, ◌-◌, ◌^◌, ◌<◌, ◌≤◌, inl, inr, List, [], ◌∷◌, Option, None, All, get_or, length, refl, sym, ap, subst, arith}
+use Rattle.std.proofs.Common.{◌≡◌, ◌≢◌, ◌∙◌, ℕ, ◌+◌, ◌-◌, ◌^◌, ◌<◌, ◌≤◌, inl, inr, Bool, true, false, List, [], ◌∷◌, Option, Some, None, All, get_or, length, option_map, refl, sym, ap, subst, arith}
 use Rattle.std.specs.Option.{ForSome}
 use Rattle.std.proofs.lemmas.Bool.{cases_lt}
 use Rattle.std.proofs.lemmas.List.{get_or_default}
+use Rattle.std.proofs.lemmas.Option.{same_Some}
 use Rattle.prefix_keys.specs.Block.{width_of}
 use Rattle.pmap_text.specs.MapModel.{Label}
-use Rattle.pmap_text.specs.Stretches.{AreLabelsBelow, AreStretches, HasEveryAddress, HasStretch, StretchesModel, count_begun, first_at, label_at, label_seen, last_at, text_held, text_won, LabelId}
-use Rattle.pmap_text.specs.Inner.{AreStretchesTo, IsWinner, WinsOther, last_first, statement_won}
+use Rattle.pmap_text.specs.Stretches.{AreLabelsBelow, HasEveryAddress, StretchesModel, first_at, label_at, label_seen, last_at, text_held, text_won, LabelId}
+use Rattle.pmap_text.specs.Inner.{AreAlike, AreStretchesTo, AreSwept, HasTop, HaveLabelsWon, IsBegin, IsWinner, last_first, statement_won, top_of}
 use Rattle.pmap_text.specs.declared.statement.Statement.{Statement}
-use Rattle.pmap_text.proofs.Ranges.{Adds, first_early, first_late, holder, label_early, label_late, last_early, last_end, last_late, length_added}
-use Rattle.pmap_text.proofs.Winners.{known_label, stretch_of, stretch_text}
+use Rattle.pmap_text.specs.declared.stretches.growing.Growing.{Growing}
+use Rattle.pmap_text.proofs.Layers.{last-within, stretches-few}
+use Rattle.pmap_text.proofs.Ranges.{Adds, first_early, first_late, held_index, holder, label_early, label_late, last_early, last_end, last_late, length_added, next_first, ordered_at}
+use Rattle.pmap_text.proofs.Seen.{seen_at}
+use Rattle.pmap_text.proofs.Winners.{known_won, stretch_of, winner_one, winner_text, winners_apart}
 
--- two equal stretches
-same_stretch : (ss : List Statement) (default : Option LabelId) (W W' f f' l l' : ℕ) (o o' : Option LabelId) → W' ≡ W → f' ≡ f → l' ≡ l → o' ≡ o
-    → HasStretch W ss default f l o → HasStretch W' ss default f' l' o'
-same_stretch ss default W W' f f' l l' o o' width first last label has = rw (width, first, last, label) has
+number_one : (x y : Option LabelId) → option_map (λ id. id.0) x ≡ option_map (λ id. id.0) y → x ≡ y
+number_one None None e = refl
+number_one None (Some y) e = absurd (let h : None ≡ Some y.0 = e in cc)
+number_one (Some x) None e = absurd (let h : Some x.0 ≡ None = e in cc)
+number_one (Some x) (Some y) e = ap (λ n. Some (record { 0 = n })) (same_Some x.0 y.0 e)
 
 module _ (ss : List Statement) (default : Option LabelId) where
+  -- the numbers determine the labels
+  top_label : (joins : Bool) (t u : Option ℕ) (x y : Option LabelId) (a b : ℕ) → HasTop ss default joins t x a → HasTop ss default joins u y b
+      → t ≡ u → x ≡ y
+  top_label true t u x y a b has other same = number_one x y (sym has.top_is ∙ same ∙ other.top_is)
+  top_label false t u x y a b has other same =
+      has.label_is ∙ ap (λ won. label_seen default (statement_won ss won)) (sym has.top_is ∙ same ∙ other.top_is) ∙ sym other.label_is
+
+  -- an address has one label
+  label_one : (joins : Bool) (t u : Option ℕ) (x y : Option LabelId) (a : ℕ) → HasTop ss default joins t x a → HasTop ss default joins u y a → x ≡ y
+  label_one joins t u x y a has other =
+      has.label_is ∙ ap (λ won. label_seen default (statement_won ss won)) (winner_one ss a has.won other.won has.wins other.wins) ∙ sym other.label_is
+
+  -- where a stretch begins another statement is seen
+  begin_seen : (joins : Bool) (a : ℕ) → IsBegin ss default joins a → (table : List Label) → seen_at table ss (a - 1) ≢ seen_at table ss a
+  begin_seen joins a begin table =
+      winners_apart table ss (a - 1) a begin.has.won begin.next_has.won begin.has.wins begin.next_has.wins
+      (λ same. begin.other (top begin.next begin.next_label a begin.next_has ∙ ap top_won (sym same) ∙ sym (top begin.top begin.label (a - 1) begin.has)))
+    where
+      top_won : Option ℕ → Option ℕ
+      top_won won = top_of joins won (label_seen default (statement_won ss won))
+
+      top : (t : Option ℕ) (x : Option LabelId) (b : ℕ) (has : HasTop ss default joins t x b) → t ≡ top_won has.won
+      top t x b has = has.top_is ∙ ap (top_of joins has.won) has.label_is
+
+  alike : (joins : Bool) (f g l k : ℕ) (x y : Option LabelId) → g ≡ f → k ≡ l → y ≡ x → AreAlike ss default joins x f l → AreAlike ss default joins y g k
+  alike joins f g l k x y first last label are = rw (first, last, label) are
+
   -- the first one begins at 0
-  pub stretches_from : (s : StretchesModel) (won : Option ℕ) (label : Option LabelId) (last : ℕ) → HasEveryAddress s → s.firsts ≡ 0 ∷ []
-      → s.labels ≡ label ∷ [] → label ≡ label_seen default (statement_won ss won) → ((a : ℕ) → 0 ≤ a → a ≤ last → IsWinner ss a won)
-      → AreStretchesTo ss default s won last
-  stretches_from s won label last every firsts labels label_is wins =
-      let one : length s.firsts ≡ 1 = ap (λ (l : List ℕ). length l) firsts in
-      let zero : last_first s ≡ 0 = ap (λ (n : ℕ). first_at s (n - 1)) one ∙ every.zero in
+  pub stretches_from : (joins : Bool) (g : Growing) (label : Option LabelId) → HasEveryAddress g.stretches → g.stretches.firsts ≡ 0 ∷ []
+      → g.stretches.labels ≡ label ∷ [] → ((a : ℕ) → 0 ≤ a → a ≤ g.last → HasTop ss default joins g.top label a) → AreStretchesTo joins ss default g
+  stretches_from joins g label every firsts labels has =
+      let one : length g.stretches.firsts ≡ 1 = ap (λ (l : List ℕ). length l) firsts in
+      let zero : last_first g.stretches ≡ 0 = ap (λ (n : ℕ). first_at g.stretches (n - 1)) one ∙ every.zero in
       record {
         every = every;
-        settled = λ i more. absurd (omega (arith, more, one));
-        before = λ a at. absurd (omega (arith, at, zero));
+        each = λ i more. absurd (omega (arith, more, one));
+        begins = λ i some below. absurd (omega (arith, some, below, one));
         from = omega (arith, zero);
-        wins = λ a from to. wins a (omega arith) to;
-        label = ap (λ (n : ℕ). label_at s (n - 1)) one ∙ label_first s.labels labels ∙ label_is;
+        last_each = λ a from to.
+            subst (λ x. HasTop ss default joins g.top x a) (sym (ap (λ (n : ℕ). label_at g.stretches (n - 1)) one ∙ label_first g.stretches.labels labels))
+            (has a (omega arith) to);
       }
     where
       label_first : (l : List (Option LabelId)) → l ≡ label ∷ [] → get_or l 0 None ≡ label
       label_first l is = rw is refl
 
-  module _ (s : StretchesModel) (won : Option ℕ) (last : ℕ) (are : AreStretchesTo ss default s won last) where
-    -- the same statement still wins
-    pub stretches_longer : (won' : Option ℕ) (last' : ℕ) → won' ≡ won → last + 1 ≤ last' → ((a : ℕ) → last + 1 ≤ a → a ≤ last' → IsWinner ss a won')
-        → AreStretchesTo ss default s won last'
-    stretches_longer won' last' same more wins = record {
+  module _ (joins : Bool) (g : Growing) (are : AreStretchesTo joins ss default g) (top : Option ℕ) (label : Option LabelId) (last : ℕ) (more : g.last + 1 ≤ last)
+      (has : (a : ℕ) → g.last + 1 ≤ a → a ≤ last → HasTop ss default joins top label a) where
+    -- the last one goes on
+    pub stretches_longer : top ≡ g.top → AreStretchesTo joins ss default (record g { last = last })
+    stretches_longer same = record {
       every = are.every;
-      settled = are.settled;
-      before = are.before;
+      each = are.each;
+      begins = are.begins;
       from = omega (arith, are.from, more);
-      wins = λ a from to. elim (cases_lt last a) [
-        | inl above ↦ subst (IsWinner ss a) same (wins a (omega (arith, above)) to)
-        | inr below ↦ are.wins a from below
+      last_each = λ a from to. elim (cases_lt g.last a) [
+        | inl above ↦
+            let here = has a (omega (arith, above)) to in
+            let label_is = top_label joins top g.top label _ a g.last here (are.last_each g.last are.from (omega arith)) same in
+            rw (sym same, sym label_is) here
+        | inr below ↦ are.last_each a from below
       ];
-      label = are.label;
     }
 
-    -- the last stretch, if another statement wins after it, or if it ends at the last address
-    last_stretch : last < 2 ^ width_of s.version → (last + 1 < 2 ^ width_of s.version → WinsOther ss (last + 1) won)
-        → HasStretch (width_of s.version) ss default (last_first s) last (label_at s (length s.firsts - 1))
-    last_stretch fits after =
-        stretch_of (width_of s.version) ss default (last_first s) last won (label_at s (length s.firsts - 1)) are.from fits are.wins are.before after are.label
-
-    -- another statement wins, and begins a stretch
-    pub stretches_more : (s' : StretchesModel) (won' : Option ℕ) (label : Option LabelId) (last' : ℕ) → HasEveryAddress s'
-        → Adds s (last + 1) label s' → last + 1 < 2 ^ width_of s.version → won' ≢ won → last + 1 ≤ last'
-        → ((a : ℕ) → last + 1 ≤ a → a ≤ last' → IsWinner ss a won') → label ≡ label_seen default (statement_won ss won')
-        → AreStretchesTo ss default s' won' last'
-    stretches_more s' won' label last' every adds fits other more wins label_is = record {
-      every = every;
-      settled = λ i within. elim (cases_lt (i + 1) (length s.firsts)) [
-        | inl early ↦
-            let version = adds.version in
-            let first = first_early s (last + 1) label s' are.every adds i (omega (arith, early)) in
-            let end = last_early s (last + 1) label s' are.every adds i early in
-            let of = label_early s (last + 1) label s' are.every adds i (omega (arith, early)) in
-            same_stretch ss default _ _ _ _ _ _ _ _ (ap (λ v. width_of v) version) first end of (are.settled i early)
-        | inr late ↦
-            let here : i + 1 ≡ length s.firsts = omega (arith, late, within, longer) in
-            let place : i ≡ length s.firsts - 1 = omega (arith, here) in
-            let version = adds.version in
-            let first = first_early s (last + 1) label s' are.every adds i (omega (arith, here)) ∙ ap (first_at s) place in
-            let end : last_at s' i ≡ last = last_late s (last + 1) label s' are.every adds i here ∙ omega arith in
-            let of = label_early s (last + 1) label s' are.every adds i (omega (arith, here)) ∙ ap (label_at s) place in
-            same_stretch ss default _ _ _ _ _ _ _ _ (ap (λ v. width_of v) version) first end of (last_stretch (omega (arith, fits)) (λ _. record { other = won'; wins = wins (last + 1) (omega arith) more; is_other = other }))
-      ];
-      before = λ a at.
-          let here : a ≡ last = omega (arith, at, begins) in
-          record { other = won; wins = are.wins a (omega (arith, here, are.from)) (omega (arith, here)); is_other = λ same. other (sym same) };
-      from = omega (arith, begins, more);
-      wins = λ a from to. wins a (omega (arith, begins, from)) to;
-      label = label_late s (last + 1) label s' are.every adds (length s'.firsts - 1) (omega (arith, longer)) ∙ label_is;
-    }
+    -- another one begins
+    pub stretches_more : (s : StretchesModel) → HasEveryAddress s → Adds g.stretches (g.last + 1) label s → top ≢ g.top
+        → AreStretchesTo joins ss default (record { stretches = s; top = top; last = last })
+    stretches_more s every adds other =
+        let longer = length_added g.stretches (g.last + 1) label s are.every adds in
+        let first : last_first s ≡ g.last + 1 = first_late g.stretches (g.last + 1) label s are.every adds (length s.firsts - 1) (omega (arith, longer)) in
+        record {
+          every = every;
+          each = λ i within. elim (cases_lt (i + 1) (length g.stretches.firsts)) [
+            | inl early ↦
+                alike joins _ _ _ _ _ _ (first_early g.stretches (g.last + 1) label s are.every adds i (omega (arith, early)))
+                (last_early g.stretches (g.last + 1) label s are.every adds i early)
+                (label_early g.stretches (g.last + 1) label s are.every adds i (omega (arith, early))) (are.each i early)
+            | inr late ↦
+                let here : i + 1 ≡ length g.stretches.firsts = omega (arith, late, within, longer) in
+                let place : i ≡ length g.stretches.firsts - 1 = omega (arith, here) in
+                let below : i < length g.stretches.firsts = omega (arith, here) in
+                alike joins (last_first g.stretches) _ g.last _ _ _
+                (first_early g.stretches (g.last + 1) label s are.every adds i below ∙ ap (first_at g.stretches) place)
+                (last_late g.stretches (g.last + 1) label s are.every adds i here ∙ omega arith)
+                (label_early g.stretches (g.last + 1) label s are.every adds i below ∙ ap (label_at g.stretches) place) (g.top, are.last_each)
+          ];
+          begins = λ i some within. elim (cases_lt i (length g.stretches.firsts)) [
+            | inl early ↦
+                subst (IsBegin ss default joins) (sym (first_early g.stretches (g.last + 1) label s are.every adds i early)) (are.begins i some early)
+            | inr late ↦
+                subst (IsBegin ss default joins) (sym (first_late g.stretches (g.last + 1) label s are.every adds i (omega (arith, late, within, longer))))
+                begins
+          ];
+          from = omega (arith, first, more);
+          last_each = λ a from to.
+              subst (λ x. HasTop ss default joins top x a)
+              (sym (label_late g.stretches (g.last + 1) label s are.every adds (length s.firsts - 1) (omega (arith, longer)))) (has a (omega (arith, first, from)) to);
+        }
       where
-        longer : length s'.firsts ≡ length s.firsts + 1
-        longer = length_added s (last + 1) label s' are.every adds
+        begins : IsBegin ss default joins (g.last + 1)
+        begins = record {
+          top = g.top;
+          label = label_at g.stretches (length g.stretches.firsts - 1);
+          has = are.last_each (g.last + 1 - 1) (omega (arith, are.from)) (omega arith);
+          next = top;
+          next_label = label;
+          next_has = has (g.last + 1) (omega arith) more;
+          other = other;
+        }
 
-        begins : last_first s' ≡ last + 1
-        begins = first_late s (last + 1) label s' are.every adds (length s'.firsts - 1) (omega (arith, longer))
+  all_swept : (joins : Bool) (s : StretchesModel) → HasEveryAddress s
+      → ((i : ℕ) → i < length s.firsts → AreAlike ss default joins (label_at s i) (first_at s i) (last_at s i))
+      → ((i : ℕ) → 0 < i → i < length s.firsts → IsBegin ss default joins (first_at s i)) → AreSwept joins ss default s
+  all_swept false s every each begins = record {
+    every = every;
+    each = λ i below.
+        let (top, has) = each i below in
+        stretch_of (width_of s.version) ss default (first_at s i) (last_at s i) top (label_at s i) (ordered_at s every i below) (last-within s every i below)
+        (λ a from to. subst (IsWinner ss a) (sym (has a from to).top_is) (has a from to).wins)
+        (λ some. begin_seen false (first_at s i) (begins i (elim (cases_lt 0 i) [
+          | inl later ↦ later
+          | inr none ↦ absurd (let zero : first_at s i ≡ first_at s 0 = ap (first_at s) (let e : i ≡ 0 = omega (arith, none) in e) in omega (arith, some, zero, every.zero))
+        ]) below))
+        (λ inside. elim (cases_lt (i + 1) (length s.firsts)) [
+          | inl more ↦ λ table same.
+              let next = next_first s every i more in
+              begin_seen false (first_at s (i + 1)) (begins (i + 1) (omega arith) more) table
+              (ap (seen_at table ss) (let here : first_at s (i + 1) - 1 ≡ last_at s i = omega (arith, next) in here) ∙ same ∙ ap (seen_at table ss) (sym next))
+          | inr end ↦ absurd (omega (arith, last_end s i end, inside))
+        ])
+        (let here = has (first_at s i) (omega arith) (ordered_at s every i below) in here.label_is ∙ ap (λ won. label_seen default (statement_won ss won)) (sym here.top_is));
+  }
+  all_swept true s every each begins = record {
+    every = every;
+    few = stretches-few ss s every (λ i some below. begin_seen true (first_at s i) (begins i some below) []);
+    joined = λ i more same.
+        let begin = begins (i + 1) (omega arith) more in
+        let next = next_first s every i more in
+        let before = (each i (omega (arith, more))).1 (first_at s (i + 1) - 1) (omega (arith, next, ordered_at s every i (omega (arith, more)))) (omega (arith, next)) in
+        let here = (each (i + 1) more).1 (first_at s (i + 1)) (omega arith) (ordered_at s every (i + 1) more) in
+        let label = label_one true _ _ _ _ _ begin.has before in
+        let next_label = label_one true _ _ _ _ _ begin.next_has here in
+        begin.other (begin.next_has.top_is ∙ ap (option_map (λ id. id.0)) (next_label ∙ same ∙ sym label) ∙ sym begin.has.top_is);
+  }
+
+  module _ (joins : Bool) (g : Growing) (are : AreStretchesTo joins ss default g) (end : g.last + 1 ≡ 2 ^ width_of g.stretches.version) where
+    each_alike : (i : ℕ) → i < length g.stretches.firsts
+        → AreAlike ss default joins (label_at g.stretches i) (first_at g.stretches i) (last_at g.stretches i)
+    each_alike i below = elim (cases_lt (i + 1) (length g.stretches.firsts)) [
+      | inl early ↦ are.each i early
+      | inr late ↦
+          let place : i ≡ length g.stretches.firsts - 1 = omega (arith, late, below) in
+          alike joins (last_first g.stretches) _ g.last _ _ _ (ap (first_at g.stretches) place) (last_end g.stretches i late ∙ omega (arith, end))
+          (ap (label_at g.stretches) place) (g.top, are.last_each)
+    ]
 
     -- all stretches are there
-    pub stretches_all : last + 1 ≡ 2 ^ width_of s.version → AreStretches ss default s
-    stretches_all end = record {
+    pub stretches_all : AreSwept joins ss default g.stretches
+    stretches_all = all_swept joins g.stretches are.every each_alike are.begins
+
+    pub labels_won : HaveLabelsWon ss default g.stretches
+    labels_won = record {
       every = are.every;
-      each = λ i within. elim (cases_lt (i + 1) (length s.firsts)) [
-        | inl early ↦ are.settled i early
-        | inr late ↦
-            let place : i ≡ length s.firsts - 1 = omega (arith, late, within) in
-            let to : last_at s i ≡ last = last_end s i late ∙ omega (arith, end) in
-            let first : first_at s i ≡ last_first s = ap (first_at s) place in
-            let of : label_at s i ≡ label_at s (length s.firsts - 1) = ap (label_at s) place in
-            same_stretch ss default _ (width_of s.version) _ _ _ _ _ _ refl first to of (last_stretch (omega (arith, end)) (λ more. absurd (omega (arith, more, end))))
-      ];
+      each = λ a fits.
+          let holds = holder g.stretches are.every a fits in
+          let has = (each_alike _ holds.index).1 a holds.from holds.to in
+          (has.won, has.wins, has.label_is);
     }
 
--- the text that the stretches have at an address is the one that the statements have there
-pub held_text : (ss : List Statement) (default : Option LabelId) (table : List Label) (s : StretchesModel) → AreStretches ss default s
-    → AreLabelsBelow (length table) s → (a : ℕ) → a < 2 ^ width_of s.version → text_held table s a ≡ text_won table default ss a
-held_text ss default table s are known a fits =
-    let holds = holder s are.every a fits in
-    let i = count_begun s.firsts a - 1 in
-    sym (stretch_text s.version ss default table (first_at s i) (last_at s i) (label_at s i) (are.each i holds.index)
-    (known i None (omega (arith, holds.index, are.every.paired))) a holds.from holds.to)
+-- the labels of stretches are known if those of the statements and the default are, and their texts are those that the
+-- statements have
+module _ (ss : List Statement) (default : Option LabelId) (s : StretchesModel) (won : HaveLabelsWon ss default s) where
+  pub won_known : (count : ℕ) → All (λ s. s.label.0 < count) ss → ForSome default (λ id. id.0 < count) → AreLabelsBelow count s
+  won_known count known fallback i d within =
+      let below : i < length s.firsts = omega (arith, within, won.every.paired) in
+      let first = won.each (first_at s i) (won.every.within i below) in
+      let at = held_index s won.every (first_at s i) i (record { index = below; from = omega arith; to = ordered_at s won.every i below }) in
+      let same : get_or s.labels i d ≡ label_at s i = get_or_default s.labels i d None within in
+      rw same (known_won count ss default first.0 (label_at s i) known fallback (sym (ap (label_at s) at) ∙ first.2))
 
--- the labels are known if those of the statements and the default are
-pub stretches_known : (ss : List Statement) (default : Option LabelId) (count : ℕ) (s : StretchesModel) → AreStretches ss default s
-    → All (λ s. s.label.0 < count) ss → ForSome default (λ id. id.0 < count) → AreLabelsBelow count s
-stretches_known ss default count s are known fallback i d within =
-    let stretch = are.each i (omega (arith, within, are.every.paired)) in
-    let is = stretch.label_is in
-    let same : get_or s.labels i d ≡ label_at s i = get_or_default s.labels i d None within in
-    rw (same, is) (known_label count ss default stretch.top known fallback stretch.listed)
+  pub won_text : (table : List Label) → All (λ s. s.label.0 < length table) ss → ForSome default (λ id. id.0 < length table)
+      → (a : ℕ) → a < 2 ^ width_of s.version → text_held table s a ≡ text_won table default ss a
+  won_text table known fallback a fits =
+      let (top, wins, label) = won.each a fits in
+      rw label (sym (winner_text table ss default a top wins known fallback))

@@ -1,16 +1,14 @@
 -- The statement that wins at an address, by its number, and as contracts see it.
-use Rattle.std.proofs.Common.{◌≡◌, ◌≢◌, ◌∙◌, ℕ, ◌+◌, ◌^◌, ◌<◌, ◌≤◌, Bool, true, false, not, List, [], Some, None, Option, All, Contains, length, option_and_then, option_map, slice_get, refl, sym, ap, subst, arith}
+use Rattle.std.proofs.Common.{◌≡◌, ◌≢◌, ◌∙◌, ℕ, ◌+◌, ◌-◌, ◌^◌, ◌<◌, ◌≤◌, Bool, true, false, not, List, Some, None, Option, All, Contains, length, option_and_then, option_map, slice_get, refl, sym, ap, subst, arith}
 use Rattle.std.specs.Option.{ForSome, option_eq, option_or}
 use Rattle.std.specs.Prelude.{nat_eq}
 use Rattle.std.proofs.lemmas.Bool.{eq-eqb, eqb-true}
 use Rattle.std.proofs.lemmas.List.Elements.{All-contains}
 use Rattle.std.proofs.lemmas.Option.{get_or_from_slice_get, same_Some, slice_get_within}
-use Rattle.prefix_keys.specs.Block.{width_of}
-use Rattle.prefix_keys.specs.declared.version.Version.{Version}
-use Rattle.pmap_text.specs.MapModel.{Label, MapModel, Mapping}
+use Rattle.pmap_text.specs.MapModel.{Label, Mapping}
 use Rattle.pmap_text.specs.MapText.{mapping_of, text_at, Statement}
-use Rattle.pmap_text.specs.Stretches.{HasStretch, label_seen, mappings_of, text_won, LabelId}
-use Rattle.pmap_text.specs.Inner.{IsWinner, WinsOther, statement_won}
+use Rattle.pmap_text.specs.Stretches.{HasStretch, label_seen, text_won, LabelId}
+use Rattle.pmap_text.specs.Inner.{IsWinner, statement_won}
 use Rattle.pmap_text.proofs.Orders.{known_text}
 use Rattle.pmap_text.proofs.Seen.{none_at, seen_at, seen_last}
 
@@ -23,9 +21,9 @@ winner_seen table ss a (Some j) wins =
     let covers = wins.covers j refl in
     let listed = covers.listed in
     rw listed (seen_last table ss a j covers.statement covers.listed covers.low covers.high
-    (λ i r at behind low high.
+    (λ i r at later low high.
     let most : i ≤ j = wins.most i (record { statement = r; listed = at; low = low; high = high }) in
-    omega (arith, most, behind)))
+    omega (arith, most, later)))
 
 -- two winners are seen as two, even if their statements are equal: of two equal statements the earlier one never wins
 pub winners_apart : (table : List Label) (ss : List Statement) (a b : ℕ) (v w : Option ℕ) → IsWinner ss a v → IsWinner ss b w → v ≢ w
@@ -59,10 +57,19 @@ listed_won : (ss : List Statement) (won : Option ℕ) (s : Statement) → statem
 listed_won ss None s is = absurd (let h : None ≡ Some s = is in cc)
 listed_won ss (Some j) s is = (j, slice_get_within ss j s is, get_or_from_slice_get ss j s s is)
 
--- a stretch, if one statement wins there, and others before and after it
+-- one statement wins at an address
+pub winner_one : (ss : List Statement) (a : ℕ) (v w : Option ℕ) → IsWinner ss a v → IsWinner ss a w → v ≡ w
+winner_one ss a None None first second = refl
+winner_one ss a None (Some j) first second = absurd (first.most j (second.covers j refl))
+winner_one ss a (Some i) None first second = absurd (second.most i (first.covers i refl))
+winner_one ss a (Some i) (Some j) first second =
+    ap (λ (k : ℕ). Some k) (omega (arith, first.most j (second.covers j refl), second.most i (first.covers i refl)))
+
+-- a stretch, if one statement wins there, and not at the address before, nor at the one after
 pub stretch_of : (W : ℕ) (ss : List Statement) (default : Option LabelId) (first last : ℕ) (won : Option ℕ) (label : Option LabelId)
     → first ≤ last → last < 2 ^ W → ((a : ℕ) → first ≤ a → a ≤ last → IsWinner ss a won)
-    → ((a : ℕ) → a + 1 ≡ first → WinsOther ss a won) → (last + 1 < 2 ^ W → WinsOther ss (last + 1) won)
+    → (0 < first → (table : List Label) → seen_at table ss (first - 1) ≢ seen_at table ss first)
+    → (last + 1 < 2 ^ W → (table : List Label) → seen_at table ss last ≢ seen_at table ss (last + 1))
     → label ≡ label_seen default (statement_won ss won) → HasStretch W ss default first last label
 stretch_of W ss default first last won label ordered fits wins before after label_is = record {
   ordered = ordered;
@@ -75,13 +82,11 @@ stretch_of W ss default first last won label ordered fits wins before after labe
     within = rw w fits;
     same = λ a from to. rw is (winner_seen m.table ss a won (wins a from to));
     before = λ a at e.
-        let o = before a at in
-        winners_apart m.table ss a first o.other won o.wins (wins first (omega arith) ordered) o.is_other
-        ((rw is at e) ∙ sym (winner_seen m.table ss first won (wins first (omega arith) ordered)));
-    behind = λ more e.
-        let o = after (rw w at more) in
-        winners_apart m.table ss (last + 1) first o.other won o.wins (wins first (omega arith) ordered) o.is_other
-        ((rw is at e) ∙ sym (winner_seen m.table ss first won (wins first (omega arith) ordered)));
+        before (omega (arith, at)) m.table
+        (ap (seen_at m.table ss) (let same : first - 1 ≡ a = omega (arith, at) in same)
+        ∙ (rw is at e) ∙ sym (winner_seen m.table ss first won (wins first (omega arith) ordered)));
+    after = λ more e.
+        after (rw w at more) m.table (winner_seen m.table ss last won (wins last ordered (omega arith)) ∙ sym (rw is at e));
   };
 }
 
@@ -105,15 +110,12 @@ label_text table None None known = refl
 label_text table (Some id) None known = sym (known_text table id.0 (known id refl))
 label_text table default (Some s) known = sym (known_text table s.label.0 (known s.label refl))
 
-pub stretch_text : (version : Version) (ss : List Statement) (default : Option LabelId) (table : List Label) (first last : ℕ) (label : Option LabelId)
-    → HasStretch (width_of version) ss default first last label → ForSome label (λ id. id.0 < length table)
-    → (a : ℕ) → first ≤ a → a ≤ last → text_won table default ss a ≡ option_and_then (λ id. slice_get table id.0) label
-stretch_text version ss default table first last label has known a ge le =
-    let m : MapModel = record { version = version; name = None; fallback = []; mappings = mappings_of table ss; table = table } in
-    let is = has.label_is in
-    let seen : seen_at table ss a ≡ option_map (mapping_of table) has.top = (has.stretch m refl refl).same a ge le in
-    let known' = rw is at known in
-    rw (seen, is) (label_text table default has.top known')
+pub winner_text : (table : List Label) (ss : List Statement) (default : Option LabelId) (a : ℕ) (won : Option ℕ) → IsWinner ss a won
+    → All (λ s. s.label.0 < length table) ss → ForSome default (λ id. id.0 < length table)
+    → text_won table default ss a ≡ option_and_then (λ id. slice_get table id.0) (label_seen default (statement_won ss won))
+winner_text table ss default a won wins known fallback =
+    rw (winner_seen table ss a won wins)
+    (label_text table default (statement_won ss won) (known_label (length table) ss default (statement_won ss won) known fallback (listed_won ss won)))
 
 -- two numbers that a test finds to be different are different
 pub differ : (v w : Option ℕ) → true ≡ not (option_eq nat_eq v w) → v ≢ w

@@ -15,7 +15,8 @@ use Rattle.pmap_text.specs.declared.reading.leading.Word.TheVariants.{Block as b
 use Rattle.pmap_text.specs.declared.statement.Statement.{Statement}
 use Rattle.pmap_text.specs.Starting.{IsOrder, Start, number_at}
 use Rattle.pmap_text.specs.declared.stretches.ascent.Ascent.{Ascent}
-use Rattle.pmap_text.specs.Stretches.{HasEveryAddress, HasStretch, LabelId, StretchesModel, first_at, label_at, label_seen, last_at}
+use Rattle.pmap_text.specs.declared.stretches.growing.Growing.{Growing}
+use Rattle.pmap_text.specs.Stretches.{AreRunsOf, AreStretches, HasEveryAddress, LabelId, StretchesModel, first_at, label_at, label_held, label_seen, last_at}
 use Rattle.prefix_keys.specs.Block.{width_of}
 use Rattle.prefix_keys.specs.declared.version.Version.TheVariants.{V4}
 use Rattle.pmap_text.specs.ListModel.{ListModel, Prefix}
@@ -97,20 +98,52 @@ pub record HasOneMore (fewer : List ℕ) (number : ℕ) (more : List ℕ) : Type
 abbrev pub last_first : StretchesModel → ℕ
 last_first s = first_at s (length s.firsts - 1)
 
--- another statement wins at an address, or none does
-pub record WinsOther (ss : List Statement) (a : ℕ) (won : Option ℕ) : Type 0 where
-  pub other : Option ℕ
-  pub wins : IsWinner ss a other
-  pub is_other : other ≢ won
+-- the number that all addresses of a stretch share: that of the statement that wins, or that of the label if neighbours
+-- with the same label are joined
+abbrev pub top_of : Bool → Option ℕ → Option LabelId → Option ℕ
+top_of joins won label = if joins then option_map (λ id. id.0) label else won
 
--- The stretches before the last one are there, and the last one extends to `last` at least: there the statement wins.
-pub record AreStretchesTo (ss : List Statement) (default : Option LabelId) (s : StretchesModel) (won : Option ℕ) (last : ℕ) : Type 0 where
+-- the address has this label, and the number that the stretch of the address shares
+pub record HasTop (ss : List Statement) (default : Option LabelId) (joins : Bool) (top : Option ℕ) (label : Option LabelId) (a : ℕ) : Type 0 where
+  pub won : Option ℕ
+  pub wins : IsWinner ss a won
+  pub label_is : label ≡ label_seen default (statement_won ss won)
+  pub top_is : top ≡ top_of joins won label
+
+-- a stretch ends before the address: the address and the one before it have different numbers
+pub record IsBegin (ss : List Statement) (default : Option LabelId) (joins : Bool) (a : ℕ) : Type 0 where
+  pub top : Option ℕ
+  pub label : Option LabelId
+  pub has : HasTop ss default joins top label (a - 1)
+  pub next : Option ℕ
+  pub next_label : Option LabelId
+  pub next_has : HasTop ss default joins next next_label a
+  pub other : next ≢ top
+
+abbrev pub AreAlike : List Statement → Option LabelId → Bool → Option LabelId → ℕ → ℕ → Type 0
+AreAlike ss default joins label first last =
+    (top : Option ℕ) × ((a : ℕ) → first ≤ a → a ≤ last → HasTop ss default joins top label a)
+
+-- The stretches before the last one are there, and the last one extends to `last` at least.
+pub record AreStretchesTo (joins : Bool) (ss : List Statement) (default : Option LabelId) (g : Growing) : Type 0 where
+  pub every : HasEveryAddress g.stretches
+  pub each : (i : ℕ) → i + 1 < length g.stretches.firsts
+      → AreAlike ss default joins (label_at g.stretches i) (first_at g.stretches i) (last_at g.stretches i)
+  pub begins : (i : ℕ) → 0 < i → i < length g.stretches.firsts → IsBegin ss default joins (first_at g.stretches i)
+  pub from : last_first g.stretches ≤ g.last
+  pub last_each : (a : ℕ) → last_first g.stretches ≤ a → a ≤ g.last
+      → HasTop ss default joins g.top (label_at g.stretches (length g.stretches.firsts - 1)) a
+
+-- each address has the label of the statement that wins there, or the default
+pub record HaveLabelsWon (ss : List Statement) (default : Option LabelId) (s : StretchesModel) : Type 0 where
   pub every : HasEveryAddress s
-  pub settled : (i : ℕ) → i + 1 < length s.firsts → HasStretch (width_of s.version) ss default (first_at s i) (last_at s i) (label_at s i)
-  pub before : (a : ℕ) → a + 1 ≡ last_first s → WinsOther ss a won
-  pub from : last_first s ≤ last
-  pub wins : (a : ℕ) → last_first s ≤ a → a ≤ last → IsWinner ss a won
-  pub label : label_at s (length s.firsts - 1) ≡ label_seen default (statement_won ss won)
+  pub each : (a : ℕ) → a < 2 ^ width_of s.version
+      → (won : Option ℕ) × IsWinner ss a won × (label_held s a ≡ label_seen default (statement_won ss won))
+
+-- the stretches of the statements, with neighbours with the same label joined if `joins`
+abbrev pub AreSwept : Bool → List Statement → Option LabelId → StretchesModel → Type 0
+AreSwept true ss default s = AreRunsOf ss s
+AreSwept false ss default s = AreStretches ss default s
 
 -- Of the statements that come first in an order, those with these numbers may cover addresses from `first` on. All have
 -- begun.
@@ -130,14 +163,14 @@ pub record HaveNumbers (ss : List Statement) (default : Option LabelId) : Type 0
   pub fallback : ForSome default (λ id. id.0 < 2 ^ 32 - 1)
 
 -- the stretches of statements are there up to an address, and the open statements known
-pub record IsAscent (ss : List Statement) (a : Ascent) : Type 0 where
-  pub are : AreStretchesTo ss a.default a.growing.stretches a.growing.won a.growing.last
+pub record IsAscent (joins : Bool) (ss : List Statement) (a : Ascent) : Type 0 where
+  pub are : AreStretchesTo joins ss a.default a.growing
   pub order : IsOrder ss a.starts
   pub opened : AreOpen ss a.starts a.next (a.growing.last + 1) a.opened
 
 -- the stretches may have been extended, and no other statement was opened
-pub record Continues (ss : List Statement) (old new : Ascent) : Type 0 where
-  pub ascent : IsAscent ss new
+pub record Continues (joins : Bool) (ss : List Statement) (old new : Ascent) : Type 0 where
+  pub ascent : IsAscent joins ss new
   pub version : new.growing.stretches.version ≡ old.growing.stretches.version
   pub default : new.default ≡ old.default
   pub starts : new.starts ≡ old.starts

@@ -36,7 +36,7 @@ pub record IsRunsText (version : Version) (label_of : ℕ → Option Label) (tex
   pub are : AreRuns label_of 0 (2 ^ width_of version) runs
   pub is : text ≡ runs_text version runs
 
--- How the runs of stretches are found, one stretch after the other.
+-- How the runs of stretches are printed, one after the other.
 
 abbrev pub run_titles : Line
 run_titles = codes "low" ∷ codes "high" ∷ codes "label" ∷ []
@@ -45,10 +45,10 @@ run_titles = codes "low" ∷ codes "high" ∷ codes "label" ∷ []
 abbrev pub run_text : Version → Run → Text
 run_text version run = line_text (run_fields version run)
 
--- the run from one stretch to another one, which has the label of the last
-abbrev pub run_between : List Label → StretchesModel → ℕ → ℕ → Run
-run_between table s begin end = record {
-  low = first_at s begin;
-  high = last_at s end;
-  label = option_and_then (λ id. slice_get table id.0) (label_at s end);
+-- a stretch as a run
+abbrev pub run_at : List Label → StretchesModel → ℕ → Run
+run_at table s i = record {
+  low = first_at s i;
+  high = last_at s i;
+  label = option_and_then (λ id. slice_get table id.0) (label_at s i);
 }

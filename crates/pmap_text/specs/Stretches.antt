@@ -1,4 +1,4 @@
-use Rattle.std.specs.Prelude.{◌≡◌, ◌≢◌, ℕ, ◌+◌, ◌-◌, ◌<◌, ◌≤◌, ◌^◌, List, Option, Some, None, All, Contains, length, map, nat_le, nat_lt, option_and_then, option_map, slice_get, slice_index, slice_index_or, if◌then◌else◌, ◌==◌}
+use Rattle.std.specs.Prelude.{◌≡◌, ◌≢◌, ℕ, ◌+◌, ◌-◌, ◌*◌, ◌<◌, ◌≤◌, ◌^◌, List, Option, Some, None, All, Contains, length, map, nat_le, nat_lt, option_and_then, option_map, slice_get, slice_index, slice_index_or, if◌then◌else◌, ◌==◌}
 use Rattle.std.specs.List.{prefix_len}
 use Rattle.std.specs.Option.{ForSome, option_or}
 use Rattle.prefix_keys.specs.Block.{width_of}
@@ -23,7 +23,7 @@ pub record IsStretch (m : MapModel) (first last : ℕ) (top : Option Mapping) : 
   pub within : last < 2 ^ width_of m.version
   pub same : (a : ℕ) → first ≤ a → a ≤ last → winner m a ≡ top
   pub before : (a : ℕ) → a + 1 ≡ first → winner m a ≢ top
-  pub behind : last + 1 < 2 ^ width_of m.version → winner m (last + 1) ≢ top
+  pub after : last + 1 < 2 ^ width_of m.version → winner m (last + 1) ≢ top
 
 abbrev pub HaveAddresses : List Mapping → Type 0
 HaveAddresses ms = All (λ s. s.low ≤ s.high) ms
@@ -88,6 +88,16 @@ pub record AreStretches (ss : List Statement) (default : Option LabelId) (s : St
   pub every : HasEveryAddress s
   pub each : (i : ℕ) → i < length s.firsts
       → HasStretch (width_of s.version) ss default (first_at s i) (last_at s i) (label_at s i)
+
+-- neighbouring stretches have different labels
+abbrev pub AreJoined : StretchesModel → Type 0
+AreJoined s = (i : ℕ) → i + 1 < length s.firsts → label_at s (i + 1) ≢ label_at s i
+
+-- the stretches of statements, with neighbours with the same label joined
+pub record AreRunsOf (ss : List Statement) (s : StretchesModel) : Type 0 where
+  pub every : HasEveryAddress s
+  pub few : length s.firsts ≤ 2 * length ss + 1
+  pub joined : AreJoined s
 
 abbrev pub AreLabelsBelow : ℕ → StretchesModel → Type 0
 AreLabelsBelow count s = All (λ label. ForSome label (λ id. id.0 < count)) s.labels

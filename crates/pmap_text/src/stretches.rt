@@ -1,7 +1,8 @@
-ghost use Rattle.std.specs.Prelude.{◌≡◌, ◌↔◌, ℕ, IsTrue, ◌+◌, ◌-◌, ◌*◌, ◌^◌, ◌<◌, ◌≤◌, ◌++◌, ◌∷◌, [], List, None, Some, All, IfOk, OnOk, length};
+ghost use Rattle.std.specs.Prelude.{◌≡◌, ◌↔◌, ℕ, IsTrue, ◌+◌, ◌-◌, ◌^◌, ◌<◌, ◌≤◌, ◌++◌, ◌∷◌, [], List, None, Some, IfOk, OnOk, length};
 ghost use Rattle.std.specs.Option.{ForSome};
 ghost use Rattle.prefix_keys.specs.Block.{width_of};
-ghost use Rattle.pmap_text.specs.Stretches.{label_kept, AreLabelsBelow, AreStretches, HasEveryAddress, HoldsAddress, count_begun, first_at, label_at, label_held, last_at, text_held, text_won};
+ghost use Rattle.pmap_text.specs.Inner.{AreSwept};
+ghost use Rattle.pmap_text.specs.Stretches.{label_kept, AreJoined, AreLabelsBelow, AreRunsOf, AreStretches, HasEveryAddress, HoldsAddress, count_begun, first_at, label_at, last_at, text_held};
 ghost use Rattle.pmap_text.specs.ListModel.{list_label};
 ghost use Rattle.pmap_text.specs.MapModel.{map_label};
 ghost use Rattle.pmap_text.specs.MapText.{map_of};
@@ -10,19 +11,21 @@ ghost use Rattle.pmap_text.specs.declared.statement.Statement.{Statement};
 
 pub mod ascent;
 pub mod growing;
+pub mod joining;
 pub mod mappings;
 pub mod opened;
 pub mod start;
 pub mod starts;
 pub mod window;
 
+use crate::entries::Entries;
 use crate::label::LabelId;
-use crate::labels::Labels;
 use crate::map_text::MapText;
 use crate::order::{in_order, sorted_or};
 use crate::prefix_list::PrefixList;
 use crate::statements::Statements;
 use crate::stretches::ascent::of_mappings;
+use crate::stretches::joining::{Apart, Joined, Joining};
 use crate::stretches::starts::Starts;
 use prefix_keys::Version;
 use std::alloc::{AllocError, Global};
@@ -48,7 +51,7 @@ enum Begins {
 
 /// The stretches of statements over the addresses of a version, in ascending order. A stretch is a maximal range of
 /// addresses at which one statement wins (the last that covers them), or none does. It has the label of that statement,
-/// or the default.
+/// or the default. If neighbours with the same label are joined, the stretches are the runs.
 pub struct Stretches {
     begins: Begins,
 }
@@ -97,27 +100,25 @@ pub fn last_address(version: Version) -> u128
 }
 
 impl Stretches {
-    /// Returns the stretches of statements. `default` is the label of the addresses that no statement covers. The
-    /// labels must be in the table.
-    pub fn new(
-        alloc: Global,
-        version: Version,
-        default: Option<LabelId>,
-        labels: &Labels,
-        statements: &Statements,
-    ) -> Result<Stretches, AllocError>
-        requires known { All (λ s. s.label.0 < length labels.now) statements.now }
-        requires default { ForSome default (λ id. id.0 < length labels.now) }
-        ensures version { IfOk result (λ s. s.version ≡ version) }
-        ensures stretches { IfOk result (AreStretches statements.now default) }
-        ensures known { IfOk result (AreLabelsBelow (length labels.now)) }
-        ensures labels { IfOk result (λ s. (a : ℕ) → a < 2 ^ width_of version →
-            text_held labels.now s a ≡ text_won labels.now default statements.now a) }
+    // Returns the stretches of a map.
+    fn swept_of_map<J: Joining>(alloc: Global, map: &MapText) -> Result<Stretches, AllocError>
+        ensures version { IfOk result (λ s. s.version ≡ map.now.version) }
+        ensures stretches { IfOk result (AreSwept J.joins map.now.statements (Some map.now.default)) }
+        ensures known { IfOk result (AreLabelsBelow (length map.now.labels)) }
+        ensures labels { IfOk result (λ s. (a : ℕ) → a < 2 ^ width_of map.now.version →
+            text_held map.now.labels s a ≡ Some (map_label (map_of map.now) a)) }
     {
         // Provides the law that the numbers of a table's labels are below the one that is stored for a missing label.
-        let _count = labels.len();
-        let starts = Starts::new(alloc, statements)?;
-        let stretches = of_mappings(alloc, version, default, statements, starts)?;
+        let _count = map.labels.len();
+        let starts = Starts::new(alloc, &map.statements)?;
+        let default = Some(map.default);
+        let stretches = of_mappings::<Statements, J>(
+            alloc,
+            map.version,
+            default,
+            &map.statements,
+            starts,
+        )?;
         Ok(stretches)
     }
 
@@ -129,43 +130,36 @@ impl Stretches {
         ensures labels { IfOk result (λ s. (a : ℕ) → a < 2 ^ width_of map.now.version →
             text_held map.now.labels s a ≡ Some (map_label (map_of map.now) a)) }
     {
-        let default = Some(map.default);
-        Stretches::new(alloc, map.version, default, &map.labels, &map.statements)
+        Stretches::swept_of_map::<Apart>(alloc, map)
     }
 
-    /// Returns the stretches of a map, with neighbours that have one label joined.
+    /// Returns the runs of a map: its stretches, with neighbours with the same label joined.
     pub fn runs_of_map(alloc: Global, map: &MapText) -> Result<Stretches, AllocError>
         ensures version { IfOk result (λ s. s.version ≡ map.now.version) }
-        ensures every { IfOk result HasEveryAddress }
-        ensures few { IfOk result (λ s. length s.firsts ≤ 2 * length map.now.statements + 1) }
+        ensures runs { IfOk result (AreRunsOf map.now.statements) }
+        ensures known { IfOk result (AreLabelsBelow (length map.now.labels)) }
         ensures labels { IfOk result (λ s. (a : ℕ) → a < 2 ^ width_of map.now.version →
             text_held map.now.labels s a ≡ Some (map_label (map_of map.now) a)) }
     {
-        // Provides the law that a table has at most 65536 labels.
-        let _count = map.labels.len();
-        let stretches = Stretches::of_map(alloc, map)?;
-        let runs = stretches.joined(alloc)?;
-        Ok(runs)
+        Stretches::swept_of_map::<Joined>(alloc, map)
     }
 
-    // Joins neighbouring stretches that have one label.
-    fn joined(self, alloc: Global) -> Result<Stretches, AllocError>
-        requires { AreLabelsBelow (2 ^ 32 - 1) self }
-        ensures version { IfOk result (λ s. s.version ≡ self.version) }
-        ensures every { IfOk result HasEveryAddress }
-        ensures fewer { IfOk result (λ s. length s.firsts ≤ length self.firsts) }
-        ensures labels { IfOk result (λ s. (a : ℕ) → a < 2 ^ width_of self.version → label_held s a ≡ label_held self a) }
+    // Returns the stretches of a prefix list.
+    fn swept_of_list<J: Joining>(alloc: Global, list: &PrefixList) -> Result<Stretches, AllocError>
+        ensures version { IfOk result (λ s. s.version ≡ list.now.version) }
+        ensures stretches { IfOk result (λ s. (ss : List Statement) ×
+            AreShortestFirst list.now.entries ss × AreSwept J.joins ss None s) }
+        ensures known { IfOk result (AreLabelsBelow (length list.now.labels)) }
+        ensures labels { IfOk result (λ s. (a : ℕ) → a < 2 ^ width_of list.now.version →
+            text_held list.now.labels s a ≡ list_label (list_of list.now) a) }
     {
-        let mut last = self.label(0);
-        let mut joined = Stretches::whole(alloc, self.version(), last, self.len())?;
-        for index in 1..self.len() {
-            let label = self.label(index);
-            if label != last {
-                joined.push(self.first(index), label)?;
-                last = label;
-            }
-        }
-        Ok(joined)
+        // Provides the law that the numbers of a table's labels are below the one that is stored for a missing label.
+        let _count = list.labels.len();
+        let sorted = in_order(alloc, &list.entries)?;
+        let entries = sorted_or(&sorted, &list.entries);
+        let starts = Starts::none(alloc);
+        let stretches = of_mappings::<Entries, J>(alloc, list.version, None, entries, starts)?;
+        Ok(stretches)
     }
 
     /// Returns the stretches of a prefix list.
@@ -177,12 +171,18 @@ impl Stretches {
         ensures labels { IfOk result (λ s. (a : ℕ) → a < 2 ^ width_of list.now.version →
             text_held list.now.labels s a ≡ list_label (list_of list.now) a) }
     {
-        // Provides the law that the numbers of a table's labels are below the one that is stored for a missing label.
-        let _count = list.labels.len();
-        let sorted = in_order(alloc, &list.entries)?;
-        let entries = sorted_or(&sorted, &list.entries);
-        let stretches = of_mappings(alloc, list.version, None, entries, Starts::none(alloc))?;
-        Ok(stretches)
+        Stretches::swept_of_list::<Apart>(alloc, list)
+    }
+
+    /// Returns the runs of a prefix list: its stretches, with neighbours with the same label or none joined.
+    pub fn runs_of_list(alloc: Global, list: &PrefixList) -> Result<Stretches, AllocError>
+        ensures version { IfOk result (λ s. s.version ≡ list.now.version) }
+        ensures joined { IfOk result AreJoined }
+        ensures known { IfOk result (AreLabelsBelow (length list.now.labels)) }
+        ensures labels { IfOk result (λ s. (a : ℕ) → a < 2 ^ width_of list.now.version →
+            text_held list.now.labels s a ≡ list_label (list_of list.now) a) }
+    {
+        Stretches::swept_of_list::<Joined>(alloc, list)
     }
 
     /// Returns one stretch that has all addresses of the version, with memory for `most` stretches.

@@ -24,13 +24,13 @@ pub fn output(
     match labels {
         LabelFile::Map(_) => {
             let map = map_in(alloc, text, hashing)?;
-            let stretches = Stretches::of_map(alloc, &map)?;
-            Ok(print_runs(alloc, &stretches, &map.labels)?)
+            let runs = Stretches::runs_of_map(alloc, &map)?;
+            Ok(print_runs(alloc, &runs, &map.labels)?)
         }
         LabelFile::List(_) => {
             let list = list_in(alloc, text, hashing)?;
-            let stretches = Stretches::of_list(alloc, &list)?;
-            Ok(print_runs(alloc, &stretches, &list.labels)?)
+            let runs = Stretches::runs_of_list(alloc, &list)?;
+            Ok(print_runs(alloc, &runs, &list.labels)?)
         }
     }
 }

@@ -2,12 +2,13 @@
 ghost use Rattle.std.specs.Prelude.{◌≡◌, ◌+◌, ◌^◌, ◌<◌, ◌≤◌, [], IfOk, OnOk, length};
 ghost use Rattle.std.specs.Option.{ForSome};
 ghost use Rattle.prefix_keys.specs.Block.{width_of};
-ghost use Rattle.pmap_text.specs.Inner.{AreOpen, BeginAfter, Continues, HaveNumbers, IsAscent, statement_won};
+ghost use Rattle.pmap_text.specs.Inner.{AreOpen, AreSwept, BeginAfter, Continues, HaveLabelsWon, HaveNumbers, IsAscent, statement_won};
 ghost use Rattle.pmap_text.specs.Starting.{IsOrder};
-ghost use Rattle.pmap_text.specs.Stretches.{AreStretches, label_seen};
+ghost use Rattle.pmap_text.specs.Stretches.{label_seen};
 
 use crate::label::LabelId;
 use crate::stretches::growing::Growing;
+use crate::stretches::joining::Joining;
 use crate::stretches::mappings::Mappings;
 use crate::stretches::opened::Opened;
 use crate::stretches::starts::Starts;
@@ -65,7 +66,7 @@ fn open_at_zero<M: Mappings>(
 
 impl Ascent {
     // Returns the stretches up to address 0.
-    fn new<M: Mappings>(
+    fn new<M: Mappings, J: Joining>(
         alloc: Global,
         version: Version,
         default: Option<LabelId>,
@@ -74,7 +75,7 @@ impl Ascent {
     ) -> Result<Ascent, AllocError>
         requires known { HaveNumbers (M.all mappings.now) default }
         requires order { IsOrder (M.all mappings.now) starts }
-        ensures ascent { IfOk result (IsAscent (M.all mappings.now)) }
+        ensures ascent { IfOk result (IsAscent J.joins (M.all mappings.now)) }
         ensures version { IfOk result (λ a. a.growing.stretches.version ≡ version) }
         ensures default { IfOk result (λ a. a.default ≡ default) }
         ensures last { IfOk result (λ a. a.growing.last ≡ 0) }
@@ -86,7 +87,7 @@ impl Ascent {
         let label = label_won(mappings, won, default);
         // A stretch begins at the first address of a mapping, or after the last one.
         let most = mappings.count().saturating_mul(2).saturating_add(1);
-        let growing = Growing::new(alloc, version, won, label, 0, most)?;
+        let growing = Growing::new::<J>(alloc, version, won, label, 0, most)?;
         Ok(Ascent {
             growing,
             default,
@@ -98,42 +99,46 @@ impl Ascent {
 
     // Extends the stretches to an address before the next mapping begins, and closes open mappings that end up to there.
     #[inline(always)]
-    fn reach<M: Mappings>(&mut self, mappings: &M, last: u128) -> Result<(), AllocError>
+    fn reach<M: Mappings, J: Joining>(&mut self, mappings: &M, last: u128) -> Result<(), AllocError>
         requires known { HaveNumbers (M.all mappings.now) self.old.default }
-        requires ascent { IsAscent (M.all mappings.now) self.old }
+        requires ascent { IsAscent J.joins (M.all mappings.now) self.old }
         requires later { BeginAfter (M.all mappings.now) self.old.starts self.old.next last }
         requires from { self.old.growing.last ≤ last }
         requires within { last < 2 ^ width_of self.old.growing.stretches.version }
-        ensures continues { OnOk result (Continues (M.all mappings.now) self.old self.new) }
+        ensures continues { OnOk result (Continues J.joins (M.all mappings.now) self.old self.new) }
         ensures last { OnOk result (self.new.growing.last ≡ last) }
     {
         while self.growing.last < last {
             let Some(number) = self.opened.greatest() else {
-                self.growing.extend(None, self.default, last)?;
+                self.growing.extend::<J>(None, self.default, last)?;
                 return Ok(());
             };
             let mapping = mappings.mapping(number);
             let high = mapping.span.high.value;
             if last < high {
                 self.growing
-                    .extend(Some(number), Some(mapping.label), last)?;
+                    .extend::<J>(Some(number), Some(mapping.label), last)?;
                 return Ok(());
             }
             self.growing
-                .extend(Some(number), Some(mapping.label), high)?;
+                .extend::<J>(Some(number), Some(mapping.label), high)?;
             self.opened.remove(number);
         }
         Ok(())
     }
 
     // Opens the mappings that begin up to `end`, and extends the stretches to the address before the last of them begins.
-    fn open_all<M: Mappings>(&mut self, mappings: &M, end: u128) -> Result<(), AllocError>
+    fn open_all<M: Mappings, J: Joining>(
+        &mut self,
+        mappings: &M,
+        end: u128,
+    ) -> Result<(), AllocError>
         requires known { HaveNumbers (M.all mappings.now) self.old.default }
-        requires ascent { IsAscent (M.all mappings.now) self.old }
+        requires ascent { IsAscent J.joins (M.all mappings.now) self.old }
         requires later { BeginAfter (M.all mappings.now) self.old.starts self.old.next self.old.growing.last }
         requires from { self.old.growing.last ≤ end }
         requires within { end < 2 ^ width_of self.old.growing.stretches.version }
-        ensures ascent { OnOk result (IsAscent (M.all mappings.now) self.new) }
+        ensures ascent { OnOk result (IsAscent J.joins (M.all mappings.now) self.new) }
         ensures version { OnOk result
             (self.new.growing.stretches.version ≡ self.old.growing.stretches.version) }
         ensures default { OnOk result (self.new.default ≡ self.old.default) }
@@ -146,7 +151,7 @@ impl Ascent {
             if end < low {
                 return Ok(());
             }
-            self.reach(mappings, low - 1)?;
+            self.reach::<M, J>(mappings, low - 1)?;
             self.opened.push(number)?;
             self.next += 1;
         }
@@ -155,7 +160,7 @@ impl Ascent {
 }
 
 /// Returns the stretches of mappings with these starts. `default` is the label of the addresses that no mapping covers.
-pub fn of_mappings<M: Mappings>(
+pub fn of_mappings<M: Mappings, J: Joining>(
     alloc: Global,
     version: Version,
     default: Option<LabelId>,
@@ -165,11 +170,12 @@ pub fn of_mappings<M: Mappings>(
     requires known { HaveNumbers (M.all mappings.now) default }
     requires order { IsOrder (M.all mappings.now) starts }
     ensures version { IfOk result (λ s. s.version ≡ version) }
-    ensures stretches { IfOk result (AreStretches (M.all mappings.now) default) }
+    ensures stretches { IfOk result (AreSwept J.joins (M.all mappings.now) default) }
+    ensures labels { IfOk result (HaveLabelsWon (M.all mappings.now) default) }
 {
     let end = last_address(version);
-    let mut ascent = Ascent::new(alloc, version, default, mappings, starts)?;
-    ascent.open_all(mappings, end)?;
-    ascent.reach(mappings, end)?;
+    let mut ascent = Ascent::new::<M, J>(alloc, version, default, mappings, starts)?;
+    ascent.open_all::<M, J>(mappings, end)?;
+    ascent.reach::<M, J>(mappings, end)?;
     Ok(ascent.growing.stretches)
 }

@@ -1,22 +1,25 @@
-use Rattle.std.proofs.Common.{◌∙◌, arith, sym}
+use Rattle.std.proofs.Common.{◌∙◌, ◌+◌, ◌≤◌, ℕ, arith, sym}
+use Rattle.pmap_text.specs.Inner.{HasTop}
 use Rattle.pmap_text.proofs.Stretched.{stretches_longer, stretches_more}
 use Rattle.pmap_text.proofs.Winners.{agree, differ}
 use Rattle.pmap_text.proofs.stretches.growing.Growing.extend.Goals as goal
 use Rattle.pmap_text.proofs.stretches.growing.Growing.extend.Goals.{then-ne+in_ok-push, else-ne}
 
 pub returns-clause-are : goal.returns-clause-are
-returns-clause-are c = λ ss default are label wins.
+returns-clause-are g c = λ ss default are label wins.
     let old = c.args.self.now in
-    let above = c.if-last-self.false in
+    let above : old.last + 1 ≤ c.args.last = omega (arith, c.if-last-self.false) in
+    let top = c.number-top.result in
+    let has : (a : ℕ) → old.last + 1 ≤ a → a ≤ c.args.last → HasTop ss default g.J.Joining.joins top c.args.label a =
+    λ a from to. record { won = c.args.won; wins = wins a from to; label_is = label; top_is = c.number-top.ensures } in
     elim c.if-ne.branch [
       | then-ne+in_ok-push w ↦
           let self = w.self-is in
           let pushed = w.in_ok-push.ensures in
-          rw self (stretches_more ss default old.stretches old.won old.last are w.push.new.self c.args.won c.args.label c.args.last pushed.every
-          (record { version = pushed.version; firsts = pushed.firsts; labels = pushed.labels }) (omega (arith, above, c.requires.within))
-          (differ c.args.won old.won (sym w.if-ne.true ∙ c.ne.ensures)) (omega (arith, above)) wins label)
+          rw self (stretches_more ss default g.J.Joining.joins old are top c.args.label c.args.last above has w.push.new.self pushed.every
+          (record { version = pushed.version; firsts = pushed.firsts; labels = pushed.labels })
+          (differ top old.top (sym w.if-ne.true ∙ c.ne.ensures)))
       | else-ne w ↦
           let self = w.self-is in
-          rw self (stretches_longer ss default old.stretches old.won old.last are c.args.won c.args.last
-          (agree c.args.won old.won (sym w.if-ne.false ∙ c.ne.ensures)) (omega (arith, above)) wins)
+          rw self (stretches_longer ss default g.J.Joining.joins old are top c.args.label c.args.last above has (agree top old.top (sym w.if-ne.false ∙ c.ne.ensures)))
     ]

@@ -10,14 +10,14 @@ use Rattle.pmap_text.specs.Stretches.{LabelId}
 use Rattle.pmap_text.proofs.EntryStatements.{lows_ascend, shortest_first}
 use Rattle.pmap_text.proofs.ListPainted.{statements_of}
 use Rattle.pmap_text.proofs.StartLists.{given_order}
-use Rattle.pmap_text.proofs.Stretched.{held_text, stretches_known}
-use Rattle.pmap_text.proofs.stretches.Stretches.of_list.Goals as goal
+use Rattle.pmap_text.proofs.Stretched.{won_known, won_text}
+use Rattle.pmap_text.proofs.stretches.Stretches.swept_of_list.Goals as goal
 
 no_default : (count : ℕ) → ForSome None (λ (id : LabelId). id.0 < count)
 no_default count id is = absurd (let h : None ≡ Some id = is in cc)
 
 pub of_mappings-requires-clause-known : goal.of_mappings-requires-clause-known
-of_mappings-requires-clause-known c =
+of_mappings-requires-clause-known g c =
     let ss = map statement_of c.sorted_or-entries.result.now in
     let order = shortest_first c.args.list.now.entries _ _ c.sorted_or-entries.ensures c.in_ok-sorted.ensures.same c.in_ok-sorted.ensures.ascending in
     record {
@@ -27,23 +27,23 @@ of_mappings-requires-clause-known c =
     }
 
 pub of_mappings-requires-clause-order : goal.of_mappings-requires-clause-order
-of_mappings-requires-clause-order c =
-    rw c.none.ensures (given_order (map statement_of c.sorted_or-entries.result.now) (lows_ascend c.sorted_or-entries.result.now
+of_mappings-requires-clause-order g c =
+    rw c.none-starts.ensures (given_order (map statement_of c.sorted_or-entries.result.now) (lows_ascend c.sorted_or-entries.result.now
     (subst (IsNonDecreasingBy (λ e. rank_of e.block)) (sym c.sorted_or-entries.ensures) c.in_ok-sorted.ensures.ascending)))
 
 pub returns : goal.returns
-returns c =
+returns g c =
     let l = c.args.list.now in
     let ss = map statement_of c.sorted_or-entries.result.now in
     let order = shortest_first l.entries _ _ c.sorted_or-entries.ensures c.in_ok-sorted.ensures.same c.in_ok-sorted.ensures.ascending in
     let facts = statements_of l ss order in
+    let s = c.in_ok-stretches.stretches in
     let made = c.in_ok-stretches.ensures in
-    let known = stretches_known ss None (length l.labels) c.in_ok-stretches.stretches made.stretches facts.known (no_default (length l.labels)) in
     record {
       version = made.version;
       stretches = (ss, order, made.stretches);
-      known = known;
+      known = won_known ss None s made.labels (length l.labels) facts.known (no_default (length l.labels));
       labels = λ a below.
-          held_text ss None l.labels c.in_ok-stretches.stretches made.stretches known a
+          won_text ss None s made.labels l.labels facts.known (no_default (length l.labels)) a
           (subst (λ (v : Version). a < 2 ^ width_of v) (sym made.version) below) ∙ facts.labels a;
     }
