@@ -12,7 +12,7 @@
 //!
 //! It depends on the crates of what it prints. `print_rows` returns the text of flow rows, with or without labels and
 //! columns, and a `Table` builds it row by row. `print_groups` returns the text of groups, `print_info` that of counts,
-//! `print_list` that of a prefix list, and `print_runs` that of the runs of stretches. The layer above may rely on
+//! `print_list` that of a prefix list, and `print_runs` that of runs. The layer above may rely on
 //! this: the text is, byte for byte, what the definitions state for the printed value, and the only error is out of
 //! memory.
 #![tactic(auto)]

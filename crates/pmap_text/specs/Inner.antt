@@ -120,6 +120,7 @@ pub record IsBegin (ss : List Statement) (default : Option LabelId) (joins : Boo
   pub next_has : HasTop ss default joins next next_label a
   pub other : next ≢ top
 
+-- all addresses of a range have the label, and share a number
 abbrev pub AreAlike : List Statement → Option LabelId → Bool → Option LabelId → ℕ → ℕ → Type 0
 AreAlike ss default joins label first last =
     (top : Option ℕ) × ((a : ℕ) → first ≤ a → a ≤ last → HasTop ss default joins top label a)

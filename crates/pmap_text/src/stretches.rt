@@ -89,6 +89,15 @@ fn given(id: LabelId) -> Option<LabelId>
     if id.0 == NO_LABEL.0 { None } else { Some(id) }
 }
 
+// Returns a vector with one value, and with memory for `most` of them.
+fn vec_with<T: Drop>(alloc: Global, value: T, most: usize) -> Result<Vec<T>, AllocError>
+    ensures { IfOk result (λ values. values.items ≡ value ∷ []) }
+{
+    let mut values = Vec::with_capacity(alloc, most)?;
+    values.push(value)?;
+    Ok(values)
+}
+
 /// Returns the highest address of a version.
 pub fn last_address(version: Version) -> u128
     ensures { result + 1 ≡ 2 ^ width_of version }
@@ -200,18 +209,8 @@ impl Stretches {
     {
         let label = kept(label);
         let begins = match version {
-            Version::V4 => {
-                let mut begins = Vec::with_capacity(alloc, most)?;
-                begins.push(Begin { first: 0, label })?;
-                Begins::Narrow(begins)
-            }
-            Version::V6 => {
-                let mut firsts = Vec::with_capacity(alloc, most)?;
-                let mut labels = Vec::with_capacity(alloc, most)?;
-                firsts.push(0)?;
-                labels.push(label)?;
-                Begins::Wide(firsts, labels)
-            }
+            Version::V4 => Begins::Narrow(vec_with(alloc, Begin { first: 0, label }, most)?),
+            Version::V6 => Begins::Wide(vec_with(alloc, 0, most)?, vec_with(alloc, label, most)?),
         };
         Ok(Stretches { begins })
     }
