@@ -6,7 +6,7 @@ ghost use Rattle.pmap_text.specs.Stretches.{HoldsAddress, first_at};
 ghost use Rattle.label_lookup.specs.Labelling.{labelling_of_list, labelling_of_map, AreTops, labelling_of_stretches};
 
 use crate::labeller::Labeller;
-use pmap_text::{Labels, MapText, PrefixList, Stretches};
+use pmap_text::{Labels, MapText, PrefixList, Runs, Stretches};
 use prefix_keys::{Addr, Version};
 use std::alloc::{AllocError, Global};
 use std::marker::Model;
@@ -42,11 +42,11 @@ impl<'a> StretchIndex<'a> {
     pub fn of_map(alloc: Global, map: &'a MapText) -> Result<StretchIndex<'a>, AllocError>
         ensures { IfOk result (λ index. labelling_of_stretches index ≡ labelling_of_map (map_of map.now)) }
     {
-        let stretches = Stretches::runs_of_map(alloc, map)?;
+        let runs = Runs::of_map(alloc, map)?;
         Ok(StretchIndex {
             labels: &map.labels,
-            tops: tops_of(alloc, &stretches)?,
-            stretches,
+            tops: tops_of(alloc, &runs.stretches)?,
+            stretches: runs.stretches,
         })
     }
 
@@ -54,11 +54,11 @@ impl<'a> StretchIndex<'a> {
     pub fn of_list(alloc: Global, list: &'a PrefixList) -> Result<StretchIndex<'a>, AllocError>
         ensures { IfOk result (λ index. labelling_of_stretches index ≡ labelling_of_list (list_of list.now)) }
     {
-        let stretches = Stretches::runs_of_list(alloc, list)?;
+        let runs = Runs::of_list(alloc, list)?;
         Ok(StretchIndex {
             labels: &list.labels,
-            tops: tops_of(alloc, &stretches)?,
-            stretches,
+            tops: tops_of(alloc, &runs.stretches)?,
+            stretches: runs.stretches,
         })
     }
 }

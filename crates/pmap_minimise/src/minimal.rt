@@ -17,7 +17,7 @@ use crate::entries::entries_of;
 use crate::opened::push_opened;
 use label_trie::Trie;
 use pmap_cert::{Certificate, Format, Root, head_text, minimal_pair_is_accepted, write_cert};
-use pmap_text::{Entries, Labels, MapText, Name, PrefixList, Stretches};
+use pmap_text::{Entries, Labels, MapText, Name, PrefixList, Runs, Stretches};
 use prefix_keys::Version;
 use std::alloc::{AllocError, Global};
 
@@ -82,10 +82,10 @@ pub fn shortest(alloc: Global, map: MapText) -> Result<PrefixList, AllocError>
     // Provides the laws that a minimal pair is accepted, and that the table's labels are distinct.
     minimal_pair_is_accepted();
     let _labels = map.labels.len();
-    let runs = Stretches::runs_of_map(alloc, &map)?;
+    let runs = Runs::of_map(alloc, &map)?;
     // Frees their memory before the certificate is built.
     drop(map.statements);
-    let root = built_of(alloc, runs)?;
+    let root = built_of(alloc, runs.stretches)?;
     let items = entries_of(alloc, &root, map.version)?;
     Ok(list_with(map.version, map.name, map.labels, items))
 }

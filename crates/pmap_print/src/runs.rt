@@ -1,10 +1,10 @@
 ghost use Rattle.std.specs.Prelude.{◌≡◌, ◌<◌, ◌++◌, ◌∷◌, [], IfOk, OnOk, length};
-ghost use Rattle.pmap_text.specs.Stretches.{AreJoined, AreLabelsBelow, text_held};
+ghost use Rattle.pmap_text.specs.Stretches.{AreLabelsBelow, text_held};
 ghost use Rattle.pmap_text.specs.RunsText.{IsRunsText, run_at, run_text};
 
 use crate::mark::Mark;
 use crate::text::Text;
-use pmap_text::{Labels, Stretches};
+use pmap_text::{Labels, Runs, Stretches};
 use prefix_keys::Addr;
 use std::alloc::{AllocError, Global};
 
@@ -41,17 +41,17 @@ fn print_run(
 
 /// Returns the text of runs: a header, and a line for each maximal range of consecutive addresses with the same label or
 /// with none. The line has the first and the last address and the label.
-pub fn print_runs(alloc: Global, runs: &Stretches, labels: &Labels) -> Result<Vec<u8>, AllocError>
-    requires known { AreLabelsBelow (length labels.now) runs.now }
-    requires joined { AreJoined runs.now }
-    ensures { IfOk result (λ out. IsRunsText runs.now.version (text_held labels.now runs.now) out.items) }
+pub fn print_runs(alloc: Global, runs: &Runs, labels: &Labels) -> Result<Vec<u8>, AllocError>
+    requires { AreLabelsBelow (length labels.now) runs.now.stretches }
+    ensures { IfOk result (λ out. IsRunsText runs.now.stretches.version
+        (text_held labels.now runs.now.stretches) out.items) }
 {
     // Provides the law that no two texts of the table are equal.
     let _count = labels.len();
     let mut out = Text::new(alloc);
     out.push_bytes(b"low|high|label")?;
-    for index in 0..runs.len() {
-        print_run(&mut out, runs, index, labels)?;
+    for index in 0..runs.stretches.len() {
+        print_run(&mut out, &runs.stretches, index, labels)?;
     }
     out.push_bytes(b"\n")?;
     Ok(out.into_bytes())

@@ -4,7 +4,7 @@ use Rattle.std.specs.Prelude.{slice_index_or}
 use Rattle.std.proofs.lemmas.Bool.{and_from, cases_lt, le-leb, lt-leb}
 use Rattle.pmap_text.specs.MapModel.{Label}
 use Rattle.pmap_text.specs.Runs.{AreRuns, HasOneRun, Run}
-use Rattle.pmap_text.proofs.Runs.{first-label, ordered}
+use Rattle.pmap_text.proofs.RunLists.{first-label, ordered}
 
 abbrev has : ℕ → Run → Bool
 has a r = nat_le r.low a && nat_le a r.high

@@ -33,7 +33,7 @@ pub mod Windows
 pub mod Ends
 pub mod Settling
 pub mod Decided
-pub mod Runs
+pub mod RunLists
 pub mod Covered
 pub mod Sorting
 pub mod StretchRuns

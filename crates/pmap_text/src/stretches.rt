@@ -109,8 +109,8 @@ pub fn last_address(version: Version) -> u128
 }
 
 impl Stretches {
-    // Returns the stretches of a map.
-    fn swept_of_map<J: Joining>(alloc: Global, map: &MapText) -> Result<Stretches, AllocError>
+    /// Returns the stretches of a map, with neighbours joined as `J` says.
+    pub(crate) fn swept_of_map<J: Joining>(alloc: Global, map: &MapText) -> Result<Stretches, AllocError>
         ensures version { IfOk result (λ s. s.version ≡ map.now.version) }
         ensures stretches { IfOk result (AreSwept J.joins map.now.statements (Some map.now.default)) }
         ensures known { IfOk result (AreLabelsBelow (length map.now.labels)) }
@@ -142,19 +142,8 @@ impl Stretches {
         Stretches::swept_of_map::<Apart>(alloc, map)
     }
 
-    /// Returns the runs of a map: its stretches, with neighbours with the same label joined.
-    pub fn runs_of_map(alloc: Global, map: &MapText) -> Result<Stretches, AllocError>
-        ensures version { IfOk result (λ s. s.version ≡ map.now.version) }
-        ensures runs { IfOk result (AreRunsOf map.now.statements) }
-        ensures known { IfOk result (AreLabelsBelow (length map.now.labels)) }
-        ensures labels { IfOk result (λ s. (a : ℕ) → a < 2 ^ width_of map.now.version →
-            text_held map.now.labels s a ≡ Some (map_label (map_of map.now) a)) }
-    {
-        Stretches::swept_of_map::<Joined>(alloc, map)
-    }
-
-    // Returns the stretches of a prefix list.
-    fn swept_of_list<J: Joining>(alloc: Global, list: &PrefixList) -> Result<Stretches, AllocError>
+    /// Returns the stretches of a prefix list, with neighbours joined as `J` says.
+    pub(crate) fn swept_of_list<J: Joining>(alloc: Global, list: &PrefixList) -> Result<Stretches, AllocError>
         ensures version { IfOk result (λ s. s.version ≡ list.now.version) }
         ensures stretches { IfOk result (λ s. (ss : List Statement) ×
             AreShortestFirst list.now.entries ss × AreSwept J.joins ss None s) }
@@ -181,17 +170,6 @@ impl Stretches {
             text_held list.now.labels s a ≡ list_label (list_of list.now) a) }
     {
         Stretches::swept_of_list::<Apart>(alloc, list)
-    }
-
-    /// Returns the runs of a prefix list: its stretches, with neighbours with the same label or none joined.
-    pub fn runs_of_list(alloc: Global, list: &PrefixList) -> Result<Stretches, AllocError>
-        ensures version { IfOk result (λ s. s.version ≡ list.now.version) }
-        ensures joined { IfOk result AreJoined }
-        ensures known { IfOk result (AreLabelsBelow (length list.now.labels)) }
-        ensures labels { IfOk result (λ s. (a : ℕ) → a < 2 ^ width_of list.now.version →
-            text_held list.now.labels s a ≡ list_label (list_of list.now) a) }
-    {
-        Stretches::swept_of_list::<Joined>(alloc, list)
     }
 
     /// Returns one stretch that has all addresses of the version, with memory for `most` stretches.

@@ -7,7 +7,7 @@ use crate::command::LabelFile;
 use crate::output_fault::OutputFault;
 use crate::run::reading::{list_in, map_in};
 use pmap_print::print_runs;
-use pmap_text::{KeyHashing, Stretches, labelling_has_one_runs_text};
+use pmap_text::{KeyHashing, Runs, labelling_has_one_runs_text};
 use std::alloc::Global;
 
 /// Returns the ranges of addresses with the same label under the text of a map or a list.
@@ -24,12 +24,12 @@ pub fn output(
     match labels {
         LabelFile::Map(_) => {
             let map = map_in(alloc, text, hashing)?;
-            let runs = Stretches::runs_of_map(alloc, &map)?;
+            let runs = Runs::of_map(alloc, &map)?;
             Ok(print_runs(alloc, &runs, &map.labels)?)
         }
         LabelFile::List(_) => {
             let list = list_in(alloc, text, hashing)?;
-            let runs = Stretches::runs_of_list(alloc, &list)?;
+            let runs = Runs::of_list(alloc, &list)?;
             Ok(print_runs(alloc, &runs, &list.labels)?)
         }
     }

@@ -9,7 +9,7 @@ use Rattle.pmap_print.proofs.runs.print_runs.Goals as goal
 
 pub loop-index-init : goal.loop-index-init
 loop-index-init c =
-    let s : StretchesModel = c.args.runs.now in
+    let s : StretchesModel = c.args.runs.now.stretches in
     let text : ℕ → Text = λ count. flat_map (run_text s.version) (runs_from c.args.labels.now s 0 count) in
     ap (λ (l : Text). (l ++ 10 ∷ []) ++ text (length s.firsts - 0))
     (c.in_ok-push_bytes.ensures ∙ ap (λ (l : Text). l ++ join_with_byte 124 run_titles) c.new-out.ensures)
@@ -17,7 +17,7 @@ loop-index-init c =
 
 pub loop-index-preserved : goal.loop-index-preserved
 loop-index-preserved c =
-    let s : StretchesModel = c.args.runs.now in
+    let s : StretchesModel = c.args.runs.now.stretches in
     let i : ℕ = c.loop-index.index in
     let left : length s.firsts - i ≡ suc (length s.firsts - (i + 1)) = omega (arith, c.loop-index-test.true, c.len-index-end.ensures.value) in
     let rest : Text = flat_map (run_text s.version) (runs_from c.args.labels.now s (i + 1) (length s.firsts - (i + 1))) in
@@ -28,12 +28,12 @@ loop-index-preserved c =
 
 pub returns : goal.returns
 returns c =
-    let s : StretchesModel = c.args.runs.now in
+    let s : StretchesModel = c.args.runs.now.stretches in
     let runs = runs_from c.args.labels.now s 0 (length s.firsts) in
     let none : length s.firsts - c.loop-index.index ≡ 0 = omega (arith, c.loop-index-test.false, c.len-index-end.ensures.value) in
     record {
       runs = runs;
-      are = all_runs c.args.labels.now c.len-count.ensures.table s c.len-index-end.ensures.every c.requires.known c.requires.joined;
+      are = all_runs c.args.labels.now c.len-count.ensures.table s c.len-index-end.ensures.every c.requires c.args.runs.now.joined;
       is =
           c.into_bytes.ensures ∙ c.in_ok-push_bytes-2.ensures ∙ sym (append-nil (c.loop-index.out ++ 10 ∷ []))
           ∙ sym (ap (λ (n : ℕ). (c.loop-index.out ++ 10 ∷ []) ++ flat_map (run_text s.version) (runs_from c.args.labels.now s c.loop-index.index n)) none)

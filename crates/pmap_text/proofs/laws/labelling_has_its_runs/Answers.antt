@@ -1,6 +1,6 @@
 use Rattle.std.proofs.Common.{◌^◌, arith}
 use Rattle.prefix_keys.specs.Block.{width_of}
-use Rattle.pmap_text.proofs.Runs.{runs-alike, runs-exist, runs-one}
+use Rattle.pmap_text.proofs.RunLists.{runs-alike, runs-exist, runs-one}
 use Rattle.pmap_text.proofs.laws.labelling_has_its_runs.Goals as goal
 
 pub returns-clause-exist : goal.returns-clause-exist

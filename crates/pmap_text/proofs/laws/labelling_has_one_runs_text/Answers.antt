@@ -3,7 +3,7 @@ use Rattle.prefix_keys.specs.Block.{width_of}
 use Rattle.prefix_keys.specs.declared.version.Version.{Version}
 use Rattle.pmap_text.specs.ListModel.{list_label}
 use Rattle.pmap_text.specs.MapModel.{Label, map_label}
-use Rattle.pmap_text.proofs.Runs.{runs-alike, runs-one}
+use Rattle.pmap_text.proofs.RunLists.{runs-alike, runs-one}
 use Rattle.pmap_text.specs.RunsText.{IsRunsText, Text, runs_text}
 use Rattle.pmap_text.proofs.laws.labelling_has_one_runs_text.Goals as goal
 

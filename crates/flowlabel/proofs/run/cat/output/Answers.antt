@@ -17,7 +17,7 @@ returns-in_ok-print_runs-in-Map c =
     rw (c.in-Map.is, c.in_ok-map-in-Map.ensures) (
       out,
       alike map.version label _ out (same_at_addresses map.version label)
-          (alike map.version (text_held map.labels runs.runs) label out runs.ensures.labels
+          (alike map.version (text_held map.labels runs.runs.stretches) label out runs.ensures.labels
           (rw runs.ensures.version at c.in_ok-print_runs-in-Map.ensures)),
       refl,
     )
@@ -32,7 +32,7 @@ returns-in_ok-print_runs-in-List c =
     rw (c.in-List.is, c.in_ok-list-in-List.ensures) (
       out,
       alike list.version label _ out (same_at_addresses list.version label)
-          (alike list.version (text_held list.labels runs.runs) label out runs.ensures.labels
+          (alike list.version (text_held list.labels runs.runs.stretches) label out runs.ensures.labels
           (rw runs.ensures.version at c.in_ok-print_runs-in-List.ensures)),
       refl,
     )

@@ -8,5 +8,5 @@ use Rattle.label_lookup.proofs.stretch_index.StretchIndex.of_map.Goals as goal
 pub returns : goal.returns
 returns c =
     let map = c.args.map.now in
-    let version = c.in_ok-stretches.ensures.version in
-    rw version (alike map.version (text_held map.labels c.in_ok-stretches.stretches) (λ a. Some (map_label (map_of map) a)) c.in_ok-stretches.ensures.labels)
+    let version = c.in_ok-runs.ensures.version in
+    rw version (alike map.version (text_held map.labels c.in_ok-runs.runs.stretches) (λ a. Some (map_label (map_of map) a)) c.in_ok-runs.ensures.labels)
