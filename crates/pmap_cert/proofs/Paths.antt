@@ -15,6 +15,13 @@ pub path-length : (value bits : ℕ) → length (path_to value bits) ≡ bits
 path-length value zero = refl
 path-length value (suc bits) = let rest = path-length value bits in omega arith
 
+-- what is left of a number without its last digits, with one digit less
+pub digits-left : (value rest place : ℕ) → rest ≡ value / 2 ^ place → rest / 2 ≡ value / 2 ^ (place + 1)
+digits-left value rest place is =
+    let next : place + 1 ≡ suc place = omega arith in
+    ap (λ (n : ℕ). n / 2) is ∙ div-div-eq-div-mul value (2 ^ place) 2
+    ∙ ap (λ (n : ℕ). value / n) (sym (ap (λ (n : ℕ). 2 ^ n) next ∙ pow-suc 2 place))
+
 -- the digits of a number that one more digit follows
 digit-moved : (value bit place : ℕ) → bit < 2 → place < 127 → digit (value * 2 % 2 ^ 128 + bit) (suc place) ≡ digit value place
 digit-moved value bit place small few =

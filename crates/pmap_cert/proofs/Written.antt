@@ -3,7 +3,7 @@ use Rattle.std.proofs.Common.{◌≡◌, ℕ, zero, suc, ◌+◌, ◌/◌, ◌%�
 use Rattle.std.specs.Fmt.{decimal}
 use Rattle.std.specs.List.{flat_map, join_with_byte}
 use Rattle.std.proofs.lemmas.Fmt.{decimal_digit, decimal_step}
-use Rattle.std.proofs.lemmas.List.{append-nil, append_assoc, length-take, take-append-drop, take-append-le}
+use Rattle.std.proofs.lemmas.List.{append-nil, length-take, take-append-drop, take-append-le}
 use Rattle.std.proofs.lemmas.List.Concat.{flat_map-append}
 use Rattle.prefix_keys.specs.declared.version.Version.{Version}
 use Rattle.pmap_text.specs.Label.{IsLabelTable}
@@ -26,20 +26,14 @@ pub joined-numbers : (word : List ℕ) (ns : List ℕ) → join_with_byte 32 (wo
 joined-numbers word [] = sym (append-nil word)
 joined-numbers word (n ∷ ns) = ap (λ text. word ++ 32 ∷ text) (joined-numbers (decimal n) ns)
 
--- a space and a digit are a number of one digit after a space
-pub pushed-digit : (out o1 o2 : List ℕ) (n d : ℕ) → n < 10 → d ≡ 48 + n → o1 ≡ out ++ 32 ∷ [] → o2 ≡ o1 ++ d ∷ [] → o2 ≡ out ++ 32 ∷ decimal n
-pushed-digit out o1 o2 n d small digit e1 e2 =
-    e2 ∙ ap (λ t. t ++ d ∷ []) e1 ∙ append_assoc out (32 ∷ []) (d ∷ [])
-    ∙ ap (λ t. out ++ 32 ∷ t) (ap (λ (x : ℕ). x ∷ []) digit ∙ sym (decimal_digit n small))
+-- the digits of a number of two digits, and of one more digit after them
+pub two-digits : (n : ℕ) → 10 ≤ n → n < 100 → decimal n ≡ (48 + n / 10) ∷ (48 + n % 10) ∷ []
+two-digits n low high =
+    decimal_step n low (omega (arith, high)) ∙ ap (λ t. t ++ (48 + n % 10) ∷ []) (decimal_digit (n / 10) (omega (arith, high)))
 
--- so are two digits
-pub pushed-digits : (out o1 o2 o3 : List ℕ) (n : ℕ) → 10 ≤ n → n < 100 → o1 ≡ out ++ 32 ∷ [] → o2 ≡ o1 ++ (48 + n / 10) ∷ [] → o3 ≡ o2 ++ (48 + n % 10) ∷ []
-    → o3 ≡ out ++ 32 ∷ decimal n
-pushed-digits out o1 o2 o3 n low high e1 e2 e3 =
-    e3 ∙ ap (λ t. t ++ (48 + n % 10) ∷ []) (e2 ∙ ap (λ t. t ++ (48 + n / 10) ∷ []) e1 ∙ append_assoc out (32 ∷ []) ((48 + n / 10) ∷ []))
-    ∙ append_assoc out (32 ∷ (48 + n / 10) ∷ []) ((48 + n % 10) ∷ [])
-    ∙ ap (λ t. out ++ 32 ∷ t)
-    (sym (decimal_step n low (omega (arith, high)) ∙ ap (λ t. t ++ (48 + n % 10) ∷ []) (decimal_digit (n / 10) (omega (arith, high)))))
+pub three-digits : (n : ℕ) → 100 ≤ n → n < 1000 → decimal n ≡ (48 + n / 10 / 10) ∷ (48 + n / 10 % 10) ∷ (48 + n % 10) ∷ []
+three-digits n low high =
+    decimal_step n (omega (arith, low)) (omega (arith, high)) ∙ ap (λ t. t ++ (48 + n % 10) ∷ []) (two-digits (n / 10) (omega (arith, low)) (omega (arith, high)))
 
 -- the text of joined lines is that of the first and then that of the others
 pub text_of_lines-append : (lines more : List (List ℕ)) → text_of_lines (lines ++ more) ≡ text_of_lines lines ++ text_of_lines more

@@ -17,25 +17,40 @@ use pmap_text::{LabelId, Labels};
 use prefix_keys::Version;
 use std::alloc::{AllocError, Global};
 
-// Appends a space and a number.
-fn push_number(out: &mut Vec<u8>, number: u32) -> Result<(), AllocError>
+// Appends a space and a number of four digits or more.
+#[inline(never)]
+fn push_long(out: &mut Vec<u8>, number: u32) -> Result<(), AllocError>
     ensures ok { OnOk result (out.new.items ≡ out.old.items ++ 32 ∷ decimal number) }
     ensures kept { take (length out.old.items) out.new.items ≡ out.old.items }
 {
     out.push(b' ')?;
-    if number < 10 {
-        out.push(b'0' + number as u8)?;
-        return Ok(());
-    }
-    // An optimisation: most labels and costs have at most two digits.
-    if number < 100 {
-        out.push(b'0' + (number / 10) as u8)?;
-        out.push(b'0' + (number % 10) as u8)?;
-        return Ok(());
-    }
     let mut buffer = Buffer::new();
     out.extend_from_slice(buffer.format(number).as_bytes())?;
     Ok(())
+}
+
+// Appends a space and a number.
+#[inline(always)]
+fn push_number(out: &mut Vec<u8>, number: u32) -> Result<(), AllocError>
+    ensures ok { OnOk result (out.new.items ≡ out.old.items ++ 32 ∷ decimal number) }
+    ensures kept { take (length out.old.items) out.new.items ≡ out.old.items }
+{
+    // An optimisation: most labels and costs have at most three digits.
+    if number < 10 {
+        out.extend_from_slice(&[b' ', b'0' + number as u8])?;
+        return Ok(());
+    }
+    let (rest, last) = (number / 10, b'0' + (number % 10) as u8);
+    if number < 100 {
+        out.extend_from_slice(&[b' ', b'0' + rest as u8, last])?;
+        return Ok(());
+    }
+    if number < 1000 {
+        let (first, middle) = (rest / 10, rest % 10);
+        out.extend_from_slice(&[b' ', b'0' + first as u8, b'0' + middle as u8, last])?;
+        return Ok(());
+    }
+    push_long(out, number)
 }
 
 // Appends the numbers of a set, with a space before each.
@@ -80,12 +95,15 @@ fn push_bits(out: &mut Vec<u8>, path: &Path) -> Result<(), AllocError>
     ensures ok { OnOk result (out.new.items ≡ out.old.items ++ 32 ∷ bit_digits (bits_in path.now)) }
     ensures kept { take (length out.old.items) out.new.items ≡ out.old.items }
 {
-    out.push(b' ')?;
-    let mut rest = *path;
-    while let Some((bit, after)) = rest.split_first() {
-        out.push(if bit { b'1' } else { b'0' })?;
-        rest = after;
+    let mut digits = [b'0'; 128];
+    let mut rest = path.value;
+    for place in 0..path.count {
+        digits[127 - place as usize] = b'0' + (rest % 2) as u8;
+        rest >>= 1;
     }
+    let start = 128 - path.count as usize;
+    out.push(b' ')?;
+    out.extend_from_slice(&digits[start..])?;
     Ok(())
 }
 
@@ -134,6 +152,8 @@ pub fn push_line(out: &mut Vec<u8>, node: Node) -> Result<(), AllocError>
 pub fn push_nodes(out: &mut Vec<u8>, nodes: &Nodes) -> Result<(), AllocError>
     ensures { OnOk result (out.new.items ≡ out.old.items ++ text_of_lines (map line_text nodes.now)) }
 {
+    // Usual lines take less. Memory that isn't written to isn't used.
+    out.reserve(nodes.len().saturating_mul(32))?;
     for number in 0..nodes.len() {
         push_whole(out, nodes.node(number))?;
     }

@@ -188,8 +188,8 @@ pub fn push_opened(out: &mut Vec<u8>, alloc: Global, root: &Root) -> Result<(), 
     requires { (node : AnyNode) × Opens root.now node }
     ensures { OnOk result ((node : AnyNode) → Opens root.now node → out.new.items ≡ out.old.items ++ node_text node) }
 {
-    // A line takes some 16 bytes.
-    out.reserve(root.nodes().len().saturating_mul(16))?;
+    // Usual lines take less. Memory that isn't written to isn't used.
+    out.reserve(root.nodes().len().saturating_mul(32))?;
     push_node(
         out,
         &mut Vec::new(alloc),

@@ -1,13 +1,11 @@
-use Rattle.std.proofs.Common.{◌≡◌, ◌++◌, ◌∷◌, length, take}
+use Rattle.std.proofs.Common.{◌≡◌, ◌-◌, ◌/◌, ◌^◌, drop, length}
 use Rattle.pmap_cert.specs.CertificateText.{bit_digits}
-use Rattle.pmap_cert.specs.Packed.{bits_in}
+use Rattle.pmap_cert.specs.Paths.{path_to}
 use Rattle.pmap_cert.proofs.writing.push_bits.Given as goal
 
-abbrev pub invariant-loop-bit : goal.invariant-loop-bit
-invariant-loop-bit l = record {
-  is : l.out.items ++ bit_digits (bits_in l.rest) ≡ l.fn.out.items ++ 32 ∷ bit_digits (bits_in l.fn.path);
-  kept : take (length l.fn.out.items) l.out.items ≡ l.fn.out.items;
+abbrev pub invariant-loop-place : goal.invariant-loop-place
+invariant-loop-place l = record {
+  len : length l.digits ≡ 128;
+  rest : l.rest ≡ l.fn.path.value / 2 ^ l.place;
+  done : drop (128 - l.place) l.digits ≡ bit_digits (path_to l.fn.path.value l.place);
 }
-
-abbrev pub decreases-loop-bit : goal.decreases-loop-bit
-decreases-loop-bit l = l.rest.count

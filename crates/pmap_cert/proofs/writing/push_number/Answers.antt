@@ -1,14 +1,18 @@
-use Rattle.std.proofs.Common.{◌+◌, arith, refl}
-use Rattle.pmap_cert.proofs.Written.{pushed-digit, pushed-digits}
+use Rattle.std.proofs.Common.{◌∙◌, ◌∷◌, ◌++◌, arith, ap, sym}
+use Rattle.std.proofs.lemmas.Fmt.{decimal_digit}
+use Rattle.pmap_cert.proofs.Written.{three-digits, two-digits}
 use Rattle.pmap_cert.proofs.writing.push_number.Goals as goal
 
 pub returns-then-number-lt10-clause-ok : goal.returns-then-number-lt10-clause-ok
 returns-then-number-lt10-clause-ok c =
-    pushed-digit c.args.out.now.items c.push.new.self.items c.push-then-number-lt10.new.self.items c.args.number (48 + c.args.number) c.if-number-lt10.true refl
-    c.in_ok-push.ensures.items c.in_ok-push-2.ensures.items
+    c.in_ok-extend_from_slice.ensures.items ∙ ap (λ t. c.args.out.now.items ++ 32 ∷ t) (sym (decimal_digit c.args.number c.if-number-lt10.true))
 
 pub returns-then-number-lt100-clause-ok : goal.returns-then-number-lt100-clause-ok
 returns-then-number-lt100-clause-ok c =
-    pushed-digits c.args.out.now.items c.push.new.self.items c.push-then-number-lt100.new.self.items c.push-then-number-lt100-2.new.self.items c.args.number
-    (omega (arith, c.if-number-lt10.false)) c.if-number-lt100.true
-    c.in_ok-push.ensures.items c.in_ok-push-3.ensures.items c.in_ok-push-4.ensures.items
+    c.in_ok-extend_from_slice-2.ensures.items
+    ∙ ap (λ t. c.args.out.now.items ++ 32 ∷ t) (sym (two-digits c.args.number (omega (arith, c.if-number-lt10.false)) c.if-number-lt100.true))
+
+pub returns-then-number-lt1000-clause-ok : goal.returns-then-number-lt1000-clause-ok
+returns-then-number-lt1000-clause-ok c =
+    c.in_ok-extend_from_slice-3.ensures.items
+    ∙ ap (λ t. c.args.out.now.items ++ 32 ∷ t) (sym (three-digits c.args.number (omega (arith, c.if-number-lt100.false)) c.if-number-lt1000.true))
