@@ -107,10 +107,12 @@ fn push_up(out: &mut Vec<u8>, path: &Path, side: LabelId, leaf: &[u8]) -> Result
     requires { leaf.now ≡ line_text (LeafLine side.0) ++ 10 ∷ [] }
     ensures { OnOk result (out.new.items ≡ out.old.items ++ text_up side.0 path.now.value path.now.count) }
 {
+    let mut rest = path.value;
     for place in 0..path.count {
-        if (path.value >> place) % 2 == 0 {
+        if rest % 2 == 0 {
             out.extend_from_slice(leaf)?;
         }
+        rest >>= 1;
     }
     Ok(())
 }

@@ -1,8 +1,8 @@
 //! Runs: steps down to the half whose sibling has the side label alone.
-ghost use Rattle.std.specs.Prelude.{◌≡◌, ◌+◌, ◌^◌, ◌<◌, ◌≤◌, ◌↔◌, IsTrue, Some, length, option_map};
+ghost use Rattle.std.specs.Prelude.{◌≡◌, ◌+◌, ◌^◌, ◌<◌, ◌≤◌, ◌↔◌, IsTrue, MatchOption, Some, length, option_map};
 ghost use Rattle.prefix_keys.specs.Block.{width_of};
 ghost use Rattle.pmap_text.specs.Windows.{IsWindow};
-ghost use Rattle.pmap_minimise.specs.Runs.{HasLabel, IsCounted, IsRunTo, own_label};
+ghost use Rattle.pmap_minimise.specs.Runs.{HasLabel, IsCounted, IsRunTo, IsStep, IsStop, own_label};
 
 use pmap_text::{LabelId, Stretches, Window};
 use prefix_keys::{Addr, block_of};
@@ -37,23 +37,36 @@ fn has_side(stretches: &Stretches, window: &Window, side: LabelId) -> bool
     window.from == window.to && is_side(stretches, window.from, side)
 }
 
+// Returns the half that is the next step of the run of the side label, or `None` if the run ends at the block.
+#[inline(always)]
+fn step(stretches: &Stretches, window: &Window, side: LabelId) -> Option<Window>
+    requires { IsCounted stretches.now window.now }
+    ensures { MatchOption result (IsStop stretches.now side.0 window.now) (IsStep stretches.now side.0 window.now) }
+{
+    if window.from == window.to {
+        return None;
+    }
+    let (low, high) = window.halves(stretches);
+    if has_side(stretches, &low, side) {
+        Some(high)
+    } else if has_side(stretches, &high, side) {
+        Some(low)
+    } else {
+        None
+    }
+}
+
 // Returns the block at the end of the run of the side label, found bit by bit.
 #[inline(never)]
 fn stepwise_end(stretches: &Stretches, window: &Window, side: LabelId) -> Window
     requires { IsCounted stretches.now window.now }
     ensures { IsRunTo stretches.now side.0 window.now result }
 {
-    if window.from == window.to {
-        return *window;
+    let mut end = *window;
+    while let Some(chosen) = step(stretches, &end, side) {
+        end = chosen;
     }
-    let (low, high) = window.halves(stretches);
-    if has_side(stretches, &low, side) {
-        stepwise_end(stretches, &high, side)
-    } else if has_side(stretches, &high, side) {
-        stepwise_end(stretches, &low, side)
-    } else {
-        *window
-    }
+    end
 }
 
 /// The block at the end of the run of the side label from a block with addresses of two stretches or more. It is found

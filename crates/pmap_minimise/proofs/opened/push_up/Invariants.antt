@@ -1,6 +1,9 @@
-use Rattle.std.proofs.Common.{◌≡◌, ◌++◌}
+use Rattle.std.proofs.Common.{◌≡◌, ◌++◌, ◌/◌, ◌^◌}
 use Rattle.pmap_minimise.specs.Opened.{text_up}
 use Rattle.pmap_minimise.proofs.opened.push_up.Given as goal
 
 abbrev pub invariant-loop-place : goal.invariant-loop-place
-invariant-loop-place l = l.out.items ≡ l.initial.out.items ++ text_up l.fn.side.0 l.path.value l.place
+invariant-loop-place l = record {
+  rest : l.rest ≡ l.fn.path.value / 2 ^ l.place;
+  is : l.out.items ≡ l.initial.out.items ++ text_up l.fn.side.0 l.fn.path.value l.place;
+}
