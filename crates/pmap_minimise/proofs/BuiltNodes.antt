@@ -21,7 +21,7 @@ use Rattle.pmap_text.specs.MapModel.{MapModel}
 use Rattle.pmap_text.specs.Label.{IsLabelTable}
 use Rattle.pmap_text.proofs.Ends.{ends_most}
 use Rattle.pmap_text.proofs.Settling.{map_is}
-use Rattle.pmap_minimise.specs.Runs.{AreCountable, AreCountedHalves, IsCounted, IsChoice, IsMade, IsMapOn, IsRun, IsRunTo, IsStop, own_label}
+use Rattle.pmap_minimise.specs.Runs.{AreCountable, AreCountedHalves, HasNoLongRun, IsCounted, IsChoice, IsMade, IsMapOn, IsRun, IsRunTo, IsStep, IsStop, own_label}
 use Rattle.pmap_text.specs.Windows.{IsWindow, number_at}
 use Rattle.pmap_text.specs.declared.stretches.window.Window.{Window}
 use Rattle.pmap_minimise.specs.Built.{AddsInner, AreHalves, IsBuilt, IsBuiltIn, claim_at, last_claim}
@@ -29,7 +29,7 @@ use Rattle.pmap_minimise.specs.Opened.{Opens, claim_above, cost_above, path_node
 use Rattle.pmap_cert.specs.Paths.{path_to}
 use Rattle.pmap_cert.proofs.Paths.{path-length}
 use Rattle.pmap_minimise.specs.Numbers.{IsExact, IsSound}
-use Rattle.pmap_minimise.proofs.MadeNodes.{AreSameHalves, halves-made, leaf-made, made-side, made-stop, run-below, run-down, run-made, same-halves}
+use Rattle.pmap_minimise.proofs.MadeNodes.{AreSameHalves, halves-made, leaf-made, made-side, made-stop, run-below, run-down, run-made, same-halves, step-by}
 use Rattle.pmap_minimise.proofs.Joined.{moved}
 use Rattle.pmap_minimise.proofs.Texts.{exact-ascending}
 use Rattle.prefix_keys.proofs.Groups.{width-le}
@@ -179,6 +179,22 @@ module _ (s : StretchesModel) (a low high : Window) (lower upper : Node) (are : 
 abbrev pub IsShortRun : StretchesModel → Window → Option ℕ → Type 0
 IsShortRun s a None = Unit {0}
 IsShortRun s a (Some side) = (end : Window) × (run : IsRunTo s side a end) × (run.count < 2)
+
+-- a run has at most one step if both halves of the block are in one stretch
+pub short-halves : (s : StretchesModel) (a low high : Window) → AreCountedHalves s a low high → HasNoLongRun s low high → IsShortRun s a (option_or (own_label s low) (own_label s high))
+short-halves s a low high halves (inl none) = subst (IsShortRun s a) (sym none) tt
+short-halves s a low high halves (inr single) = by (own_label s low) (own_label s high) refl refl
+  where
+    one : (side : ℕ) (chosen : Window) → IsChoice s side low high chosen → chosen.from ≡ chosen.to → IsCounted s chosen → IsShortRun s a (Some side)
+    one side chosen choice end counted =
+        let step : IsStep s side a chosen = record { low = low; high = high; halves = halves; choice = choice } in
+        let len = (step-by s side a chosen step).len in
+        (chosen, record { count = suc zero; run = (chosen, step, refl); stop = inl end; counted = counted; len = omega arith }, omega arith)
+
+    by : (o p : Option ℕ) → own_label s low ≡ o → own_label s high ≡ p → IsShortRun s a (option_or o p)
+    by (Some side) p low_is high_is = one side high (inl (refl, low_is)) single.1 halves.high_counted
+    by None (Some side) low_is high_is = one side low (inr (refl, (λ own. absurd (none-some side (sym low_is ∙ own))), high_is)) single.0 halves.low_counted
+    by None None low_is high_is = tt
 
 -- an inner node's line completes a block with two halves and a short run
 pub halves-built : (s : StretchesModel) (a low high : Window) (old middle after new : List DueLine) → IsCounted s a → AreCountedHalves s a low high

@@ -1,4 +1,5 @@
 use Rattle.std.specs.Prelude.{◌≡◌, ◌≢◌, ℕ, zero, suc, ◌+◌, ◌-◌, ◌^◌, ◌<◌, ◌≤◌, ◌==◌, ◌⊎◌, List, Option, None, Some, IsSome, length, if◌then◌else◌, option_map}
+use Rattle.std.specs.Option.{option_or}
 use Rattle.prefix_keys.specs.Block.{width_of}
 use Rattle.pmap_text.specs.Label.{IsLabelTable}
 use Rattle.pmap_text.specs.MapModel.{MapModel}
@@ -53,6 +54,10 @@ pub record AreCountedHalves (s : StretchesModel) (a low high : Window) : Type 0 
 -- the number of the label of a block in one stretch, or `None` for a block with addresses of two stretches or more
 abbrev pub own_label : StretchesModel → Window → Option ℕ
 own_label s a = if a.from == a.to then option_map (λ id. id.0) (label_at s a.from) else None
+
+-- no half of a block has a label alone, or both have, so that a run from the block has at most one step
+abbrev pub HasNoLongRun : StretchesModel → Window → Window → Type 0
+HasNoLongRun s low high = (option_or (own_label s low) (own_label s high) ≡ None) ⊎ ((low.from ≡ low.to) × (high.from ≡ high.to))
 
 abbrev pub HasLabel : StretchesModel → ℕ → ℕ → Type 0
 HasLabel s label i = option_map (λ id. id.0) (label_at s i) ≡ Some label

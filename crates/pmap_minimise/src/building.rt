@@ -1,5 +1,5 @@
 //! Builds the compact certificate of a map's minimal pair from the map's stretches, from the leaves up.
-ghost use Rattle.std.specs.Prelude.{◌≡◌, ◌+◌, ◌-◌, ◌^◌, ◌<◌, ◌++◌, ◌∷◌, [], IfOk, OnOk, if◌then◌else◌, length, option_map};
+ghost use Rattle.std.specs.Prelude.{◌≡◌, ◌+◌, ◌-◌, ◌^◌, ◌<◌, ◌++◌, ◌∷◌, [], IfOk, OnOk, if◌then◌else◌, length, MatchOption, Some};
 ghost use Rattle.std.specs.Option.{option_or};
 ghost use Rattle.pmap_cert.specs.FormatReading.{ChainLine};
 ghost use Rattle.pmap_cert.specs.Paths.{path_to};
@@ -8,7 +8,7 @@ ghost use Rattle.pmap_text.specs.Windows.{IsWindow, number_at};
 ghost use Rattle.pmap_minimise.specs.Built.{AddsInner, AreHalves, IsBuilt, IsBuiltIn, last_claim};
 ghost use Rattle.pmap_minimise.specs.Numbers.{has_number, numbers_of};
 ghost use Rattle.pmap_minimise.specs.Opened.{cost_above};
-ghost use Rattle.pmap_minimise.specs.Runs.{AreCountable, IsCounted, IsMapOn, own_label};
+ghost use Rattle.pmap_minimise.specs.Runs.{AreCountable, HasNoLongRun, IsCounted, IsMapOn, own_label};
 
 use crate::entering::has_label;
 use crate::runs::{own_label, run_end};
@@ -124,14 +124,18 @@ fn number_of(stretches: &Stretches, window: &Window) -> u128
     window.first >> (stretches.version().width() - window.len)
 }
 
-// Returns the side label of the run from the block with these halves: the first label that a half has alone.
+// Returns the side label of the run from the block with these halves: the first label that a half has alone. Returns
+// `None` if no half has one, or if both do, so that the run has at most one step.
 #[inline(always)]
 fn side_of(stretches: &Stretches, low: &Window, high: &Window) -> Option<LabelId>
     requires low { IsWindow stretches.now low.now }
     requires high { IsWindow stretches.now high.now }
-    ensures { option_map (λ id. id.0) result
-        ≡ option_or (own_label stretches.now low.now) (own_label stretches.now high.now) }
+    ensures { MatchOption result (HasNoLongRun stretches.now low.now high.now)
+        (λ id. option_or (own_label stretches.now low.now) (own_label stretches.now high.now) ≡ Some id.0) }
 {
+    if low.from == low.to && high.from == high.to {
+        return None;
+    }
     own_label(stretches, low).or_else(|| own_label(stretches, high))
 }
 

@@ -7,7 +7,7 @@ use Rattle.prefix_keys.proofs.Groups.{width-le}
 use Rattle.pmap_minimise.specs.Runs.{own_label}
 use Rattle.pmap_minimise.specs.Built.{AddsInner, AreHalves}
 use Rattle.pmap_minimise.proofs.MadeNodes.{both-cost, counted-halves, own-is}
-use Rattle.pmap_minimise.proofs.BuiltNodes.{IsShortRun, are-halves, before-claim, built-claim, chain-built, end-smaller, halves-built, leaf-built}
+use Rattle.pmap_minimise.proofs.BuiltNodes.{IsShortRun, are-halves, before-claim, built-claim, chain-built, end-smaller, halves-built, leaf-built, short-halves}
 use Rattle.pmap_minimise.proofs.building.+window.Goals as goal
 use Rattle.pmap_minimise.proofs.building.+window.Goals.{push_divided-in-Some+else-count-ge2, push_divided-in_default}
 
@@ -83,7 +83,7 @@ push_divided-returns-then-count-ge2 t c =
     on_ok_weaker c.push_chain.result
     (chain-built s c.args.window.now c.halves.result.0 c.halves.result.1 c.run_end-end.result c.args.nodes.now c.push_window.new.nodes c.push_chain.new.nodes
     c.in-Some.side.0 c.number_of-value.result (c.run_end-end.result.len - c.args.window.now.len) c.requires.counted (counted-halves s c.args.window.now c.requires.counted c.requires.divided _ _ c.halves.ensures)
-    (sym c.in-Some.ensures) (omega arith) run (omega arith) refl c.number_of-value.ensures c.in_ok-push_window.ensures) c.push_chain.ensures
+    c.in-Some.ensures (omega arith) run (omega arith) refl c.number_of-value.ensures c.in_ok-push_window.ensures) c.push_chain.ensures
 
 pub push_divided-overflow_sub-upper : goal.push_divided-overflow_sub-upper
 push_divided-overflow_sub-upper t c =
@@ -114,16 +114,17 @@ push_divided-returns t c =
     let s = c.args.stretches.now in
     let low = c.halves.result.0 in
     let high = c.halves.result.1 in
+    let halves = counted-halves s c.args.window.now c.requires.counted c.requires.divided low high c.halves.ensures in
     let short : IsShortRun s c.args.window.now (option_or (own_label s low) (own_label s high)) =
     elim c.match-side_of.branch [
       | push_divided-in-Some+else-count-ge2 w ↦
           let len = w.run_end-end.ensures.len in
           let few = w.if-count-ge2.false in
           let run : IsShortRun s c.args.window.now (Some w.in-Some.side.0) = (w.run_end-end.result, w.run_end-end.ensures, omega arith) in
-          subst (IsShortRun s c.args.window.now) w.in-Some.ensures run
-      | push_divided-in_default w ↦ subst (IsShortRun s c.args.window.now) w.in_default.ensures tt
+          subst (IsShortRun s c.args.window.now) (sym w.in-Some.ensures) run
+      | push_divided-in_default w ↦ short-halves s c.args.window.now low high halves w.in_default.ensures
     ] in
     on_ok_weaker c.push_inner.result
     (λ adds. halves-built s c.args.window.now low high c.args.nodes.now c.push_window-2.new.nodes c.push_window-3.new.nodes c.push_inner.new.nodes
-    c.requires.counted (counted-halves s c.args.window.now c.requires.counted c.requires.divided _ _ c.halves.ensures) short c.in_ok-push_window-2.ensures c.in_ok-push_window-3.ensures
+    c.requires.counted halves short c.in_ok-push_window-2.ensures c.in_ok-push_window-3.ensures
     (subst (λ (n : ℕ). AddsInner (n - 1) c.push_window-3.new.nodes c.push_inner.new.nodes) c.len-upper.ensures adds)) c.push_inner.ensures

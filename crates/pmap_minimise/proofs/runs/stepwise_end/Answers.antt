@@ -1,4 +1,4 @@
-use Rattle.std.proofs.Common.{arith, refl}
+use Rattle.std.proofs.Common.{arith}
 use Rattle.pmap_minimise.proofs.MadeNodes.{step-by, step-to}
 use Rattle.pmap_minimise.proofs.runs.stepwise_end.Goals as goal
 
