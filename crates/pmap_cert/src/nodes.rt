@@ -62,8 +62,8 @@ fn hold(sets: &mut Vec<LabelId>, set: &[LabelId]) -> Result<usize, AllocError>
     ensures set { IfOk result (λ place. set_at sets.new.items place ≡ map (λ id. id.0) set.now) }
 {
     let place = sets.len();
-    sets.push(LabelId((set.len() % HALF) as u32))?;
-    sets.push(LabelId((set.len() / HALF) as u32))?;
+    let (low, high) = (set.len() % HALF, set.len() / HALF);
+    sets.extend_from_slice(&[LabelId(low as u32), LabelId(high as u32)])?;
     sets.extend_from_slice(set)?;
     Ok(place)
 }

@@ -30,11 +30,15 @@ pub record AreHalves (lines : List DueLine) (upper : ℕ) : Type 0 where
   pub high : IsAscending (2 ^ 32) 0 (claim_at lines upper).labels
   pub few : (last_claim lines).cost + (claim_at lines upper).cost + 1 < 2 ^ 32
 
--- a line was added that claims the exact claim of those of the last line and of this line
-pub record AddsInner (upper : ℕ) (old new : List DueLine) : Type 0 where
+-- the line of an inner node was added that claims the exact claim of these
+pub record AddsExact (low high : ClaimOf ℕ) (old new : List DueLine) : Type 0 where
   pub claim : ClaimOf ℕ
-  pub exact : IsExact (last_claim old) (claim_at old upper) claim
+  pub exact : IsExact low high claim
   pub lines_are : new ≡ old ++ InnerLine claim.cost claim.labels ∷ []
+
+-- .. of those of the last line and of this line
+abbrev pub AddsInner : ℕ → List DueLine → List DueLine → Type 0
+AddsInner upper old new = AddsExact (last_claim old) (claim_at old upper) old new
 
 -- the lines of the block's node, compacted, were added
 pub record IsBuilt (s : StretchesModel) (a : Window) (old new : List DueLine) : Type 0 where

@@ -2,10 +2,11 @@
 ghost use Rattle.std.specs.Prelude.{◌≡◌, ◌+◌, ◌-◌, ◌^◌, ◌<◌, ◌++◌, ◌∷◌, [], IfOk, OnOk, if◌then◌else◌, length, MatchOption, Some};
 ghost use Rattle.std.specs.Option.{option_or};
 ghost use Rattle.pmap_cert.specs.FormatReading.{ChainLine};
+ghost use Rattle.pmap_cert.specs.Node.{claiming};
 ghost use Rattle.pmap_cert.specs.Paths.{path_to};
 ghost use Rattle.pmap_text.specs.MapModel.{MapModel};
 ghost use Rattle.pmap_text.specs.Windows.{IsWindow, number_at};
-ghost use Rattle.pmap_minimise.specs.Built.{AddsInner, AreHalves, IsBuilt, IsBuiltIn, last_claim};
+ghost use Rattle.pmap_minimise.specs.Built.{AddsExact, AddsInner, AreHalves, IsBuilt, IsBuiltIn, last_claim};
 ghost use Rattle.pmap_minimise.specs.Numbers.{has_number, numbers_of};
 ghost use Rattle.pmap_minimise.specs.Opened.{cost_above};
 ghost use Rattle.pmap_minimise.specs.Runs.{AreCountable, HasNoLongRun, IsCounted, IsMapOn, own_label};
@@ -18,6 +19,29 @@ use pmap_text::{LabelId, Stretches, Window};
 use std::alloc::{AllocError, Global};
 use std::slice;
 
+// Adds the line of an inner node over two nodes that each claim a cost and one label. The node claims their exact claim.
+#[inline(always)]
+fn push_over_labels(
+    nodes: &mut Nodes,
+    low: (u32, LabelId),
+    high: (u32, LabelId),
+) -> Result<(), AllocError>
+    requires { low.0 + high.0 + 1 < 2 ^ 32 }
+    ensures { OnOk result (AddsExact (claiming low.0 (low.1.0 ∷ [])) (claiming high.0 (high.1.0 ∷ [])) nodes.old nodes.new) }
+{
+    let (sum, x, y) = (low.0 + high.0, low.1, high.1);
+    if x.0 == y.0 {
+        let set = &[x];
+        return nodes.push(Node::Inner(Claim { cost: sum, set }));
+    }
+    if x.0 < y.0 {
+        let set = &[x, y];
+        return nodes.push(Node::Inner(Claim { cost: sum + 1, set }));
+    }
+    let set = &[y, x];
+    nodes.push(Node::Inner(Claim { cost: sum + 1, set }))
+}
+
 /// Adds the line of an inner node over two nodes, of which the lower one has the last line and the upper one the line
 /// `upper`. The node claims their exact claim.
 pub fn push_inner(alloc: Global, nodes: &mut Nodes, upper: usize) -> Result<(), AllocError>
@@ -26,13 +50,10 @@ pub fn push_inner(alloc: Global, nodes: &mut Nodes, upper: usize) -> Result<(), 
 {
     let lower = nodes.len() - 1;
     let (low, high) = (nodes.claim(lower), nodes.claim(upper));
-    // An optimisation: halves that claim one and the same label are frequent.
-    if let ([x], [y]) = (low.set, high.set)
-        && x.0 == y.0
-    {
-        let (id, cost) = (*x, low.cost + high.cost);
-        let set = slice::from_ref(&id);
-        return nodes.push(Node::Inner(Claim { cost, set }));
+    // An optimisation: most halves claim one label each.
+    if let ([x], [y]) = (low.set, high.set) {
+        let (low, high) = ((low.cost, *x), (high.cost, *y));
+        return push_over_labels(nodes, low, high);
     }
     let (cost, set) = exact_claim(alloc, low, high)?;
     let set = set.as_slice();
