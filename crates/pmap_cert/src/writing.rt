@@ -152,7 +152,7 @@ pub fn push_line(out: &mut Vec<u8>, node: Node) -> Result<(), AllocError>
 pub fn push_nodes(out: &mut Vec<u8>, nodes: &Nodes) -> Result<(), AllocError>
     ensures { OnOk result (out.new.items ≡ out.old.items ++ text_of_lines (map line_text nodes.now)) }
 {
-    // Usual lines take less. Memory that isn't written to isn't used.
+    // Usual nodes take less. Memory that isn't written to isn't used.
     out.reserve(nodes.len().saturating_mul(32))?;
     for number in 0..nodes.len() {
         push_whole(out, nodes.node(number))?;

@@ -190,7 +190,7 @@ pub fn push_opened(out: &mut Vec<u8>, alloc: Global, root: &Root) -> Result<(), 
     requires { (node : AnyNode) × Opens root.now node }
     ensures { OnOk result ((node : AnyNode) → Opens root.now node → out.new.items ≡ out.old.items ++ node_text node) }
 {
-    // Usual lines take less. Memory that isn't written to isn't used.
+    // Usual nodes take less. Memory that isn't written to isn't used.
     out.reserve(root.nodes().len().saturating_mul(32))?;
     push_node(
         out,
