@@ -1,7 +1,7 @@
-ghost use Rattle.std.specs.Prelude.{◌≡◌, ◌≢◌, Err, IfErr, IfOk, Ok, length, option_map};
-ghost use Rattle.pmap_cert.specs.Format.{format_number, header_of};
-ghost use Rattle.pmap_cert.specs.FormatReading.{fault_at, format_header_at, is_ended, line_due_at, next_line, start_of, NoMemory};
-ghost use Rattle.pmap_cert.specs.Packed.{line_of};
+ghost use Rattle.std.specs.Prelude.{◌≡◌, Err, IfErr, IfOk, Ok, option_map};
+ghost use Rattle.pmap_cert.specs.Format.{header_of};
+ghost use Rattle.pmap_cert.specs.FormatReading.{fault_at, format_header_at, is_ended, next_line, start_of};
+ghost use Rattle.pmap_cert.specs.NodeSource.{IsNextNode};
 
 use crate::fault::{CertFault, CertFaultKind};
 use crate::format::Format;
@@ -77,11 +77,7 @@ impl<'a> Lines<'a> {
         buffer: &'s mut NodeBuffer,
         limits: &LineLimits,
     ) -> Result<Node<'s>, CertFault>
-        ensures ok { IfOk result (λ node. line_due_at (format_number limits.now.format) limits.now.width
-            (length limits.now.labels.now) self.old ≡ Ok (line_of node, self.new)) }
-        ensures err { IfErr result (λ fault. fault.kind ≢ NoMemory → line_due_at (format_number limits.now.format)
-            limits.now.width (length limits.now.labels.now) self.old ≡ Err fault) }
-        ensures memory { IfErr result (λ fault. fault.kind ≡ NoMemory → fault.line ≡ 0) }
+        ensures { IsNextNode limits.now self.old self.new result }
     {
         let count = limits.labels.len() as u64;
         match node_line(buffer, limits, self.rest, count)? {

@@ -1,8 +1,7 @@
-ghost use Rattle.std.specs.Prelude.{◌≡◌, ◌≢◌, Err, IfErr, IfOk, Ok, length};
+ghost use Rattle.std.specs.Prelude.{◌≡◌, length};
 ghost use Rattle.pmap_cert.specs.Format.{format_number};
-ghost use Rattle.pmap_cert.specs.FormatReading.{fault_at, is_ended, line_due_at, NoMemory};
-ghost use Rattle.pmap_cert.specs.NodeSource.{HasFittingLines, place_in};
-ghost use Rattle.pmap_cert.specs.Packed.{line_of};
+ghost use Rattle.pmap_cert.specs.FormatReading.{fault_at, is_ended};
+ghost use Rattle.pmap_cert.specs.NodeSource.{HasFittingLines, IsNextNode, place_in};
 
 use crate::fault::{CertFault, CertFaultKind};
 use crate::lines::Lines;
@@ -30,11 +29,7 @@ impl<'a> NodeSource<'a> {
         'a: 's,
         requires { HasFittingLines (format_number limits.now.format) limits.now.width (length limits.now.labels.now)
             self.old }
-        ensures ok { IfOk result (λ node. line_due_at (format_number limits.now.format) limits.now.width
-            (length limits.now.labels.now) (place_in self.old) ≡ Ok (line_of node, place_in self.new)) }
-        ensures err { IfErr result (λ fault. fault.kind ≢ NoMemory → line_due_at (format_number limits.now.format)
-            limits.now.width (length limits.now.labels.now) (place_in self.old) ≡ Err fault) }
-        ensures memory { IfErr result (λ fault. fault.kind ≡ NoMemory → fault.line ≡ 0) }
+        ensures next { IsNextNode limits.now (place_in self.old) (place_in self.new) result }
         ensures fits { HasFittingLines (format_number limits.now.format) limits.now.width (length limits.now.labels.now)
             self.new }
     {

@@ -29,8 +29,8 @@ check_node-returns-in_err-id t c =
     let p = err_from_is_err_and c.from_residual.result c.from_residual.ensures.1 in
     rw (p.1, p.2) (
       λ some. node-fault (due_in limits.format limits.width limits.labels.now) limits.labels.now (place_in c.args.walk.now.nodes) (place_in c.args.walk.now.nodes) (limits.width - c.args.block.now.len)
-          c.in_err-id.field-0.0 (c.in_err-id.ensures.err some),
-      c.in_err-id.ensures.memory,
+          c.in_err-id.field-0.0 (c.in_err-id.ensures.next.err some),
+      c.in_err-id.ensures.next.memory,
     )
 
 pub check_node-returns-in_default : goal.check_node-returns-in_default
@@ -41,7 +41,7 @@ check_node-returns-in_default t c =
     rw c.fault-deepest.ensures (
       λ _. ap (λ (n : ℕ). nodes_at (due_in limits.format limits.width limits.labels.now) limits.labels.now n 0 (place_in c.args.walk.now.nodes)) room
           ∙ node-deep (due_in limits.format limits.width limits.labels.now) limits.labels.now (place_in c.args.walk.now.nodes) (place_in c.next_node.new.self) c.in-Inner.claim.cost (numbers c.in-Inner.claim.set.now)
-          (rw c.in-Inner.is at c.in_ok-id.ensures.ok),
+          (rw c.in-Inner.is at c.in_ok-id.ensures.next.ok),
       λ e. cc,
     )
 
@@ -49,7 +49,7 @@ pub check_node-check_inner-requires : goal.check_node-check_inner-requires
 check_node-check_inner-requires t c =
     let limits = c.args.sources.now.limits in
     let said = line_due-found (format_number limits.format) limits.width (length limits.labels.now) (place_in c.args.walk.now.nodes)
-    (InnerLine c.in-Inner.claim.cost (numbers c.in-Inner.claim.set.now), (place_in c.next_node.new.self)) (rw c.in-Inner.is at c.in_ok-id.ensures.ok) in
+    (InnerLine c.in-Inner.claim.cost (numbers c.in-Inner.claim.set.now), (place_in c.next_node.new.self)) (rw c.in-Inner.is at c.in_ok-id.ensures.next.ok) in
     let at = held-at c.args.walk.now.sets.items c.in-Inner.claim.set.now c.hold.new.sets.items c.in_ok-held-in-Inner.held.from c.in_ok-held-in-Inner.ensures.sets c.in_ok-held-in-Inner.ensures.from in
     let held : IsHeld c.args.sources.now c.in_ok-held-in-Inner.held c.hold.new.sets.items =
     record { within = at.2; ascending = subst (λ (ids : List LabelId). IsAscending (length limits.labels.now) 0 (numbers ids)) (sym at.1) said.1.1 } in
@@ -71,7 +71,7 @@ check_node-returns-in_ok-held-in-Inner t c =
     let less : limits.width - n - 1 ≡ limits.width - (n + 1) = omega arith in
     let held = held-at c.args.walk.now.sets.items c.in-Inner.claim.set.now c.hold.new.sets.items c.in_ok-held-in-Inner.held.from c.in_ok-held-in-Inner.ensures.sets c.in_ok-held-in-Inner.ensures.from in
     let is : reading_at s n (place_in c.args.walk.now.nodes) ≡ halves_reading s n claim (place_in c.next_node.new.self) =
-    deeper due table (place_in c.args.walk.now.nodes) (place_in c.next_node.new.self) c.in-Inner.claim.cost numbers' (rw c.in-Inner.is at c.in_ok-id.ensures.ok) (limits.width - n) (omega (arith, some))
+    deeper due table (place_in c.args.walk.now.nodes) (place_in c.next_node.new.self) c.in-Inner.claim.cost numbers' (rw c.in-Inner.is at c.in_ok-id.ensures.next.ok) (limits.width - n) (omega (arith, some))
     ∙ ap (λ (m : ℕ). nodes_at due table m 0 (place_in c.next_node.new.self) >>= (λ lower. nodes_at due table m 0 lower.1 >>= (λ upper.
     Ok (InnerNode claim lower.0 upper.0, upper.1)))) less in
     subst (λ (r : Read). IsAnswer s r (fault_of_node s c.args.block.now) c.args.walk.now.number c.args.walk.now.sets.items c.args.walk.now.fault c.check_inner.new.walk c.check_inner.result)
@@ -84,7 +84,7 @@ check_node-returns-in_ok-held-in-Inner t c =
 pub check_node-returns-then-len-sources : goal.check_node-returns-then-len-sources
 check_node-returns-then-len-sources t c =
     rw c.fault-deepest.ensures (
-      λ _. chain-over _ _ _ _ _ _ _ _ _ (rw c.in-Chain.is at c.in_ok-id.ensures.ok) _ c.len.result c.len.ensures (omega (arith, c.if-len-sources.true)),
+      λ _. chain-over _ _ _ _ _ _ _ _ _ (rw c.in-Chain.is at c.in_ok-id.ensures.next.ok) _ c.len.result c.len.ensures (omega (arith, c.if-len-sources.true)),
       λ e. cc,
     )
 
@@ -93,7 +93,7 @@ check_node-check_chain-requires t c =
     let limits = c.args.sources.now.limits in
     let bits : List Bool = bits_in c.in-Chain.path.now in
     let said = line_due-found (format_number limits.format) limits.width (length limits.labels.now) (place_in c.args.walk.now.nodes)
-    (ChainLine c.in-Chain.claim.cost bits c.in-Chain.side.0 (numbers c.in-Chain.claim.set.now), (place_in c.next_node.new.self)) (rw c.in-Chain.is at c.in_ok-id.ensures.ok) in
+    (ChainLine c.in-Chain.claim.cost bits c.in-Chain.side.0 (numbers c.in-Chain.claim.set.now), (place_in c.next_node.new.self)) (rw c.in-Chain.is at c.in_ok-id.ensures.next.ok) in
     let at = held-at c.args.walk.now.sets.items c.in-Chain.claim.set.now c.hold-in-Chain.new.sets.items c.in_ok-held-in-Chain.held.from c.in_ok-held-in-Chain.ensures.sets c.in_ok-held-in-Chain.ensures.from in
     let held : IsHeld c.args.sources.now c.in_ok-held-in-Chain.held c.hold-in-Chain.new.sets.items =
     record { within = at.2; ascending = subst (λ (ids : List LabelId). IsAscending (length limits.labels.now) 0 (numbers ids)) (sym at.1) said.1.5 } in
@@ -113,7 +113,7 @@ check_node-returns-in_ok-held-in-Chain t c =
     let less : limits.width - n - c.len.result ≡ limits.width - (n + length bits) = omega (arith, c.len.ensures) in
     let held = held-at c.args.walk.now.sets.items c.in-Chain.claim.set.now c.hold-in-Chain.new.sets.items c.in_ok-held-in-Chain.held.from c.in_ok-held-in-Chain.ensures.sets c.in_ok-held-in-Chain.ensures.from in
     let is : reading_at s n (place_in c.args.walk.now.nodes) ≡ chain_reading s n claim bits c.in-Chain.side.0 (place_in c.next_node.new.self) =
-    chain-below limits.format limits.width table (place_in c.args.walk.now.nodes) (place_in c.next_node.new.self) c.in-Chain.claim.cost bits c.in-Chain.side.0 numbers' (rw c.in-Chain.is at c.in_ok-id.ensures.ok)
+    chain-below limits.format limits.width table (place_in c.args.walk.now.nodes) (place_in c.next_node.new.self) c.in-Chain.claim.cost bits c.in-Chain.side.0 numbers' (rw c.in-Chain.is at c.in_ok-id.ensures.next.ok)
     (limits.width - n) c.len.result c.len.ensures (omega (arith, c.if-len-sources.false)) (reading_at s (n + length bits) (place_in c.next_node.new.self))
     (ap (λ (m : ℕ). nodes_at (due_in limits.format limits.width table) table m 0 (place_in c.next_node.new.self)) less) in
     subst (λ (r : Read). IsAnswer s r (fault_of_node s c.args.block.now) c.args.walk.now.number c.args.walk.now.sets.items c.args.walk.now.fault c.check_chain.new.walk c.check_chain.result)
@@ -128,7 +128,7 @@ check_node-returns-in_ok-hold_leaf-in-Leaf t c =
     let p = c.args.block.now in
     let id = c.in-Leaf.id in
     let walk = c.args.walk.now in
-    let due = rw c.in-Leaf.is at c.in_ok-id.ensures.ok in
+    let due = rw c.in-Leaf.is at c.in_ok-id.ensures.next.ok in
     let said = line_due-found (format_number limits.format) limits.width (length limits.labels.now) (place_in walk.nodes) (LeafLine id.0, (place_in c.next_node.new.self)) due in
     rw c.note.ensures
     (record {
@@ -145,7 +145,7 @@ check_node-returns-in_ok-hold_leaf-in-Leaf t c =
 pub check_node-leaf_fault-fault-requires-clause-known : goal.check_node-leaf_fault-fault-requires-clause-known
 check_node-leaf_fault-fault-requires-clause-known t c =
     let limits = c.args.sources.now.limits in
-    let due = rw c.in-Leaf.is at c.in_ok-id.ensures.ok in
+    let due = rw c.in-Leaf.is at c.in_ok-id.ensures.next.ok in
     (line_due-found (format_number limits.format) limits.width (length limits.labels.now) (place_in c.args.walk.now.nodes) (LeafLine c.in-Leaf.id.0, (place_in c.next_node.new.self)) due).1
 
 pub check_inner-returns-in_err-lower_cost : goal.check_inner-returns-in_err-lower_cost
