@@ -8,28 +8,35 @@ use std::alloc::AllocError;
 use thiserror::Error;
 
 /// Why a certificate is not accepted for a map and a prefix list.
-#[derive(Clone, Copy, Debug, PartialEq, Eq)]
+#[derive(Clone, Copy, Debug, PartialEq, Eq, Error)]
 pub enum CheckFaultKind {
-    /// Map, list and certificate are not of one version.
+    /// The map, the list and the certificate aren't of one version.
+    #[error("the map, the list and the certificate aren't of one version")]
     VersionDiffers,
     /// The map doesn't settle the block of a leaf with its label.
+    #[error("the map doesn't settle the block with the leaf's label")]
     LeafNotUniform,
     /// The list doesn't decide the block of a leaf alike by its label.
+    #[error("the list doesn't decide the whole block by the leaf's label")]
     ListDiffers,
     /// A set lacks a label of the sets below.
+    #[error("the set lacks a label of the exact set")]
     SetTooSmall,
     /// A cost is above those below.
+    #[error("the cost is above the exact cost")]
     CostTooHigh,
     /// The list has more entries than the certificate's cost and one.
+    #[error("the list has more entries than the root's cost plus one")]
     BoundNotMet,
     /// An allocation failed.
+    #[error("out of memory")]
     NoMemory,
 }
 
 /// The first fault of a certificate: its kind, and the number of the node, from 1 in the order of the certificate's
 /// node lines. A fault of no single node, such as `NoMemory`, has the number 0.
 #[derive(Clone, Copy, Debug, Error)]
-#[error("node {node}: {kind:?}")]
+#[error("node {node}: {kind}")]
 pub struct CheckFault {
     pub kind: CheckFaultKind,
     pub node: u64,
