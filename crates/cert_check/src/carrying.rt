@@ -94,8 +94,8 @@ fn longest_covering(entries: &[Entry], block: &Block) -> u32
     longest
 }
 
-// Whether the entry lies inside the block, or covers it and is no shorter than `longest`.
-fn has_say(entry: &Entry, block: &Block, longest: u32) -> bool
+// Returns whether the entry lies inside the block, or covers it and is no shorter than `longest`.
+fn affects(entry: &Entry, block: &Block, longest: u32) -> bool
     ensures { result ≡ (covers_whole_of block.now entry.now && nat_le longest entry.now.block.len
         || is_inside_of block.now entry.now) }
 {
@@ -115,7 +115,7 @@ pub fn carried_entries(
     let longest = longest_covering(entries, block);
     let mut kept = Vec::new(alloc);
     for entry in entries {
-        if has_say(entry, block, longest) {
+        if affects(entry, block, longest) {
             kept.push(*entry)?;
         }
     }
