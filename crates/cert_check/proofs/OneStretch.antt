@@ -42,6 +42,12 @@ in-within from s i last x le = ap (λ (b : Bool). b && is_label_of (text_of from
 in-beyond : (from : List Label) (s : StretchesModel) (i last : ℕ) (x : Label) → last_at s i < last → is_in from s i last x ≡ false
 in-beyond from s i last x less = ap (λ (b : Bool). b && is_label_of (text_of from (label_at s i)) x) (lt-leb last (last_at s i) less)
 
+-- the label of a range that is in the stretch i
+pub held_label : (from : List Label) (s : StretchesModel) (every : HasEveryAddress s) (i first last : ℕ) (x : Label) → HoldsAddress s first i → last ≤ last_at s i
+    → is_label_of (text_of from (label_at s i)) x ≡ has_one_label from s first last x
+held_label from s every i first last x holds within =
+    sym (in-within from s i last x within) ∙ ap (λ (k : ℕ). is_in from s k last x) (sym (held_index s every first i holds))
+
 settled-text : (m : MapModel) (n q : ℕ) (label : Option LabelId) → IsSome label → Settles m label n q → settled_label m n q ≡ text_of m.table label
 settled-text m n q None some h = absurd cc
 settled-text m n q (Some id) some h = h.1

@@ -1,9 +1,9 @@
 //! A map or a list that a certificate is checked against.
-ghost use Rattle.std.specs.Prelude.{◌≡◌, ◌^◌, ◌<◌, List, IfOk, length};
+ghost use Rattle.std.specs.Prelude.{◌≡◌, ◌^◌, ◌<◌, ◌≤◌, List, IfOk, IfSome, IsTrue, length};
 ghost use Rattle.prefix_keys.specs.Block.{width_of};
 ghost use Rattle.pmap_text.specs.MapModel.{Label};
 ghost use Rattle.pmap_text.specs.MapText.{text_at};
-ghost use Rattle.pmap_text.specs.Stretches.{AreLabelsBelow};
+ghost use Rattle.pmap_text.specs.Stretches.{AreLabelsBelow, HasEveryAddress, HoldsAddress, last_at};
 ghost use Rattle.cert_check.specs.Inner.{IsSource, has_one_label};
 
 use crate::labels::{is_label, numbers_in};
@@ -36,10 +36,40 @@ impl Source {
         })
     }
 
-    /// Returns whether one stretch has all addresses from `first` to `last`, and has the certificate's label `id`. The
-    /// search for it begins at `near`, which is then the stretch with the first address.
+    // Returns `true` only if there is a stretch with this index that has all addresses from `first` to `last`.
     #[inline(always)]
-    pub fn has_label(&self, near: &mut usize, first: u128, last: u128, id: LabelId) -> bool
+    fn has_range(&self, index: usize, first: u128, last: u128) -> bool
+        requires order { first ≤ last }
+        ensures first { IsTrue result → HoldsAddress self.now.stretches first index }
+        ensures last { IsTrue result → last ≤ last_at self.now.stretches index }
+        ensures every { HasEveryAddress self.now.stretches }
+    {
+        index < self.stretches.len()
+            && last <= self.stretches.last(index)
+            && self.stretches.first(index) <= first
+    }
+
+    // Returns whether the stretch with this index has the certificate's label `id`. Returns `None` unless the stretch
+    // exists and has all addresses from `first` to `last`.
+    #[inline(always)]
+    fn has_label_at(&self, index: usize, first: u128, last: u128, id: LabelId) -> Option<bool>
+        requires known { AreLabelsBelow (length self.now.numbers.items) self.now.stretches }
+        requires order { first ≤ last }
+        ensures { IfSome result (λ holds. (from to : List Label) → IsSource from to self.now → id.0 < length to →
+            holds ≡ has_one_label from self.now.stretches first last (text_at to id.0)) }
+    {
+        if self.has_range(index, first, last) {
+            Some(is_label(self.numbers.as_slice(), self.stretches.label(index), id))
+        } else {
+            None
+        }
+    }
+
+    // Returns whether one stretch has all addresses from `first` to `last`, and has the certificate's label `id`. The
+    // search for it begins at `near`, which is then the stretch with the first address.
+    #[cold]
+    #[inline(never)]
+    fn has_label_beyond(&self, near: &mut usize, first: u128, last: u128, id: LabelId) -> bool
         requires known { AreLabelsBelow (length self.now.numbers.items) self.now.stretches }
         requires within { first < 2 ^ width_of self.now.stretches.version }
         ensures { (from to : List Label) → IsSource from to self.now → id.0 < length to →
@@ -50,5 +80,27 @@ impl Source {
             && is_label(self.numbers.as_slice(), self.stretches.label(index), id);
         *near = index;
         holds
+    }
+
+    /// Returns whether one stretch has all addresses from `first` to `last`, and has the certificate's label `id`. Most
+    /// often this is the stretch with the index `near` or the next one. `near` is then the stretch with the first
+    /// address.
+    #[inline(always)]
+    pub fn has_label(&self, near: &mut usize, first: u128, last: u128, id: LabelId) -> bool
+        requires known { AreLabelsBelow (length self.now.numbers.items) self.now.stretches }
+        requires within { first < 2 ^ width_of self.now.stretches.version }
+        requires order { first ≤ last }
+        ensures { (from to : List Label) → IsSource from to self.now → id.0 < length to →
+            result ≡ has_one_label from self.now.stretches first last (text_at to id.0) }
+    {
+        if let Some(holds) = self.has_label_at(*near, first, last, id) {
+            return holds;
+        }
+        let next = near.saturating_add(1);
+        if let Some(holds) = self.has_label_at(next, first, last, id) {
+            *near = next;
+            return holds;
+        }
+        self.has_label_beyond(near, first, last, id)
     }
 }

@@ -99,6 +99,7 @@ impl<'a> Sources<'a> {
     fn is_clear(&self, near: &mut Near, first: u128, last: u128, id: LabelId) -> bool
         requires sources { AreSources self.now }
         requires within { first < 2 ^ width_of self.now.map.now.version }
+        requires order { first ≤ last }
         requires known { id.0 < length self.now.limits.labels.now }
         ensures { IsTrue result → IsClear self.now first (last + 1) (text_at self.now.limits.labels.now id.0) }
     {

@@ -99,6 +99,7 @@ fn next_number(number: u64) -> u64
 /// Reads the next node and those below it, and checks them for the block. Adds the set that the node claims to the
 /// walk's, and returns the cost.
 #[cycle(nodes)]
+#[inline(always)]
 pub fn check_node(sources: &Sources, walk: &mut Walk, block: &Block) -> Result<u32, CertFault>
     requires sources { AreSources sources.now }
     requires nodes { CanBeRead sources.now walk.old.nodes }
