@@ -34,9 +34,6 @@ whole-number b first = ap (block_number (width_of b.version) b.len) first ∙ ze
 abbrev pub bound : Option CheckFault → Bool → Option CheckFault
 bound nodes many = option_or nodes (cond many (Some (fault_of_number 0 BoundNotMet)) None)
 
-pub root-unread : (s : Sources) (n : ℕ) → n ≡ 0 → (place : Place) (f : CertFault) → IsUnread (reading_at s n place) f → IsUnread (reading_at s 0 place) f
-root-unread s n none place f unread = (λ some. ap (λ (m : ℕ). reading_at s m place) (sym none) ∙ unread.0 some, unread.1)
-
 -- the first fault of the certificate with a root that was checked for the whole address space
 pub root-checked : (s : Sources) (are : AreSources s) (b : Block) (place : Place) (number cost : ℕ) (old : List LabelId) (before : Option CheckFault) (last new : Walk)
     → b.value ≡ 0 → b.len ≡ 0 → number ≡ 1 → before ≡ None

@@ -158,10 +158,10 @@ pub record IsPassed (s : Sources) (reading : Read) (fault_at : Tree → ℕ → 
 abbrev pub IsUnread : {A : Type 0} → Result A CertFault → CertFault → Type 0
 IsUnread read found = (found.kind ≢ NoMemoryForText → read ≡ Err found) × (found.kind ≡ NoMemoryForText → found.line ≡ 0)
 
--- the result of a walk over a tree: its claimed cost, or the first fault of its text
-abbrev pub IsAnswer : Sources → Read → (Tree → ℕ → Option CheckFault) → ℕ → List LabelId → Option CheckFault → Walk → Result ℕ CertFault → Type 0
-IsAnswer s read fault number old before new (Ok cost) = IsPassed s read fault number old before new cost
-IsAnswer s read fault number old before new (Err found) = IsUnread read found
+-- the result of a walk over a tree: its claimed cost, or `None` if the walk has the first fault of its text
+abbrev pub IsAnswer : Sources → Read → (Tree → ℕ → Option CheckFault) → ℕ → List LabelId → Option CheckFault → Walk → Option ℕ → Type 0
+IsAnswer s read fault number old before new (Some cost) = IsPassed s read fault number old before new cost
+IsAnswer s read fault number old before new None = (found : CertFault) × (new.stop ≡ Some found) × IsUnread read found
 
 -- the certificate whose root is this tree
 abbrev pub certificate_with : Format → Version → List Label → Tree → CertificateModel

@@ -42,7 +42,12 @@ fn check_root(sources: &Sources, walk: &mut Walk) -> Result<(), CertFault>
     ensures ok { OnOk result (IsRootChecked sources.now (place_in walk.old.nodes) walk.new) }
     ensures err { IfErr result (IsUnread (reading_at sources.now 0 (place_in walk.old.nodes))) }
 {
-    let cost = check_node(sources, walk, &whole_space(sources.map.version))?;
+    let Some(cost) = check_node(sources, walk, &whole_space(sources.map.version)) else {
+        return match walk.stop {
+            Some(fault) => Err(fault),
+            None => unreachable!(),
+        };
+    };
     if sources.list.entries.len() as u64 > u64::from(cost) + 1 {
         walk.note(Some(CheckFaultKind::BoundNotMet), 0);
     }

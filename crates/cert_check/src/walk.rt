@@ -1,5 +1,5 @@
 //! The walk over the nodes of a certificate or of its text, which reads and checks each of them.
-ghost use Rattle.std.specs.Prelude.{◌≡◌, ◌+◌, ◌*◌, ◌++◌, ◌∷◌, [], ◌<◌, None, IfOk, OnOk, length, take};
+ghost use Rattle.std.specs.Prelude.{◌≡◌, ◌+◌, ◌*◌, ◌++◌, ◌∷◌, [], ◌<◌, None, Some, IfOk, OnOk, length, take};
 ghost use Rattle.std.specs.Option.{option_or};
 ghost use Rattle.prefix_keys.specs.declared.block.Block.{Block};
 ghost use Rattle.pmap_text.specs.PrefixList.{number_of_block as number_of};
@@ -17,7 +17,7 @@ use std::alloc::{AllocError, Global};
 
 /// The rest of a certificate's nodes, with the last one that was read from a text, the number of the next node, from 1,
 /// the sets of the nodes whose claims are still to be compared, in the order of their lines, the stretches that were
-/// found last, and the first fault of the nodes so far.
+/// found last, the first fault of the nodes so far, and the fault that has ended the walk.
 #[derive(Drop)]
 pub struct Walk<'a> {
     pub nodes: NodeSource<'a>,
@@ -26,6 +26,7 @@ pub struct Walk<'a> {
     sets: Vec<LabelId>,
     near: Near,
     pub fault: Option<CheckFault>,
+    pub stop: Option<CertFault>,
 }
 
 impl<'a> Walk<'a> {
@@ -42,6 +43,7 @@ impl<'a> Walk<'a> {
             sets: Vec::new(alloc),
             near: Near { map: 0, list: 0 },
             fault: None,
+            stop: None,
         }
     }
 
@@ -52,6 +54,16 @@ impl<'a> Walk<'a> {
         if let (None, Some(kind)) = (self.fault, kind) {
             self.fault = Some(CheckFault { kind, node });
         }
+    }
+
+    // Keeps the fault that ends the walk, and returns `None`. A result that has the fault wouldn't fit into registers.
+    #[cold]
+    fn stop(&mut self, fault: CertFault) -> Option<u32>
+        ensures stop { self.new ≡ record self.old { stop = Some fault } }
+        ensures none { result ≡ None }
+    {
+        self.stop = Some(fault);
+        None
     }
 }
 
@@ -97,10 +109,10 @@ fn next_number(number: u64) -> u64
 }
 
 /// Reads the next node and those below it, and checks them for the block. Adds the set that the node claims to the
-/// walk's, and returns the cost.
+/// walk's, and returns the cost. Returns `None` if a fault has ended the walk.
 #[cycle(nodes)]
 #[inline(always)]
-pub fn check_node(sources: &Sources, walk: &mut Walk, block: &Block) -> Result<u32, CertFault>
+pub fn check_node(sources: &Sources, walk: &mut Walk, block: &Block) -> Option<u32>
     requires sources { AreSources sources.now }
     requires nodes { CanBeRead sources.now walk.old.nodes }
     requires version { block.now.version ≡ sources.now.map.now.version }
@@ -110,26 +122,36 @@ pub fn check_node(sources: &Sources, walk: &mut Walk, block: &Block) -> Result<u
     let deepest = walk.nodes.fault(CertFaultKind::TooDeep);
     let number = walk.number;
     walk.number = next_number(number);
-    match walk.nodes.next_node(&mut walk.buffer, &sources.limits)? {
+    let node = match walk.nodes.next_node(&mut walk.buffer, &sources.limits) {
+        Ok(node) => node,
+        Err(fault) => return walk.stop(fault),
+    };
+    match node {
         Node::Leaf(id) => {
-            hold_leaf(&mut walk.sets, id)?;
+            let Ok(()) = hold_leaf(&mut walk.sets, id) else {
+                return walk.stop(CertFault::from(AllocError));
+            };
             let fault = sources.leaf_fault(&mut walk.near, block, id);
             walk.note(fault, number);
-            Ok(0)
+            Some(0)
         }
         Node::Inner(claim) => {
             let Some((low, high)) = block.halves() else {
-                return Err(deepest);
+                return walk.stop(deepest);
             };
-            let held = hold(&mut walk.sets, claim)?;
+            let Ok(held) = hold(&mut walk.sets, claim) else {
+                return walk.stop(CertFault::from(AllocError));
+            };
             check_inner(sources, walk, &low, &high, number, held)
         }
         Node::Chain { claim, path, side } => {
             if path.len() > sources.limits.width - block.len {
-                return Err(deepest);
+                return walk.stop(deepest);
             }
             let path = *path;
-            let held = hold(&mut walk.sets, claim)?;
+            let Ok(held) = hold(&mut walk.sets, claim) else {
+                return walk.stop(CertFault::from(AllocError));
+            };
             check_chain(sources, walk, block, number, held, &path, side)
         }
     }
@@ -144,7 +166,7 @@ fn check_inner(
     high: &Block,
     number: u64,
     held: StoredClaim,
-) -> Result<u32, CertFault>
+) -> Option<u32>
     requires sources { AreSources sources.now }
     requires nodes { CanBeRead sources.now walk.old.nodes }
     requires low { low.now.version ≡ sources.now.map.now.version }
@@ -180,7 +202,7 @@ fn check_inner(
     );
     walk.sets.truncate(lower);
     walk.note(fault, number);
-    Ok(held.cost)
+    Some(held.cost)
 }
 
 // Checks the node at the end of a chain with these bits and this side label, then the blocks beside its path, and then
@@ -194,7 +216,7 @@ fn check_chain(
     held: StoredClaim,
     path: &Path,
     side: LabelId,
-) -> Result<u32, CertFault>
+) -> Option<u32>
     requires sources { AreSources sources.now }
     requires nodes { CanBeRead sources.now walk.old.nodes }
     requires version { block.now.version ≡ sources.now.map.now.version }
@@ -230,5 +252,5 @@ fn check_chain(
     );
     walk.sets.truncate(start);
     walk.note(fault, number);
-    Ok(held.cost)
+    Some(held.cost)
 }

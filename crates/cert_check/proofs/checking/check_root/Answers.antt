@@ -1,25 +1,19 @@
 use Rattle.std.proofs.Common.{◌∙◌, ◌+◌, ap, arith, length, nat_lt, refl, sym}
 use Rattle.std.proofs.lemmas.Bool.{false_from_ne_true, lt-ltb, ltb-true}
-use Rattle.std.proofs.lemmas.Result.{err_from_is_err_and}
 use Rattle.cert_check.proofs.Nodes.{or-none}
 use Rattle.pmap_cert.specs.NodeSource.{place_in}
-use Rattle.cert_check.proofs.Whole.{bound, root-checked, root-unread}
+use Rattle.cert_check.proofs.Whole.{bound, root-checked}
 use Rattle.cert_check.proofs.checking.check_root.Goals as goal
-
-pub returns-in_err-cost-clause-err : goal.returns-in_err-cost-clause-err
-returns-in_err-cost-clause-err c =
-    let e = err_from_is_err_and c.from_residual.result c.from_residual.ensures.1 in
-    rw (e.1, e.2) (root-unread c.args.sources.now c.whole_space.result.len c.whole_space.ensures.len (place_in c.args.walk.now.nodes) _ c.in_err-cost.ensures)
 
 pub returns-then-len-from-clause-ok : goal.returns-then-len-from-clause-ok
 returns-then-len-from-clause-ok c =
     let s = c.args.sources.now in
     let last = c.check_node.new.walk in
     let count = length s.list.now.entries in
-    let cost = c.in_ok-cost.cost in
+    let cost = c.in-Some.cost in
     rw c.note.ensures
     (root-checked s c.requires.sources c.whole_space.result (place_in c.args.walk.now.nodes) c.args.walk.now.number cost c.args.walk.now.sets.items c.args.walk.now.fault last _
-    c.whole_space.ensures.value c.whole_space.ensures.len c.requires.number c.requires.fault c.in_ok-cost.ensures refl
+    c.whole_space.ensures.value c.whole_space.ensures.len c.requires.number c.requires.fault c.in-Some.ensures refl
     (ap (bound last.fault) (sym (lt-ltb (cost + 1) count (omega (arith, c.if-len-from.true, c.len.ensures, c.from.ensures))))))
 
 pub returns-else-len-from-clause-ok : goal.returns-else-len-from-clause-ok
@@ -27,8 +21,8 @@ returns-else-len-from-clause-ok c =
     let s = c.args.sources.now in
     let last = c.check_node.new.walk in
     let count = length s.list.now.entries in
-    let cost = c.in_ok-cost.cost in
+    let cost = c.in-Some.cost in
     root-checked s c.requires.sources c.whole_space.result (place_in c.args.walk.now.nodes) c.args.walk.now.number cost c.args.walk.now.sets.items c.args.walk.now.fault last last
-    c.whole_space.ensures.value c.whole_space.ensures.len c.requires.number c.requires.fault c.in_ok-cost.ensures refl
+    c.whole_space.ensures.value c.whole_space.ensures.len c.requires.number c.requires.fault c.in-Some.ensures refl
     (sym (or-none last.fault)
     ∙ ap (bound last.fault) (sym (false_from_ne_true (nat_lt (cost + 1) count) (λ t. absurd (omega (arith, ltb-true (cost + 1) count t, c.if-len-from.false, c.len.ensures, c.from.ensures))))))

@@ -1,5 +1,4 @@
 use Rattle.std.proofs.Common.{◌≡◌, ◌∙◌, ◌+◌, ◌-◌, ◌<◌, ◌∷◌, [], ℕ, Bool, List, Ok, ap, arith, drop, length, refl, rules, subst, sym, take}
-use Rattle.std.proofs.lemmas.Result.{err_from_is_err_and}
 use Rattle.std.proofs.lemmas.List.{append-nil}
 use Rattle.prefix_keys.specs.Block.{width_of}
 use Rattle.std.specs.Option.{option_or}
@@ -22,41 +21,47 @@ use Rattle.cert_check.proofs.Sets.{numbers}
 use Rattle.cert_check.proofs.Walks.{chain-passed, end-unread, halves-passed, held-at, low-piece, lower-unread, own-piece, sets-kept, up-piece, upper-unread}
 use Rattle.cert_check.proofs.walk.+nodes.Goals as goal
 
-pub check_node-returns-in_err-id : goal.check_node-returns-in_err-id
-check_node-returns-in_err-id t c =
-    let s = c.args.sources.now in
-    let limits = s.limits in
-    let p = err_from_is_err_and c.from_residual.result c.from_residual.ensures.1 in
-    rw (p.1, p.2) (
-      λ some. node-fault (due_in limits.format limits.width limits.labels.now) limits.labels.now (place_in c.args.walk.now.nodes) (place_in c.args.walk.now.nodes) (limits.width - c.args.block.now.len)
-          c.in_err-id.field-0.0 (c.in_err-id.ensures.next.err some),
-      c.in_err-id.ensures.next.memory,
+pub check_node-returns-in-Err : goal.check_node-returns-in-Err
+check_node-returns-in-Err t c =
+    let limits = c.args.sources.now.limits in
+    rw (c.stop.ensures.none, c.stop.ensures.stop) (
+      c.in-Err.fault,
+      refl,
+      (
+        λ some. node-fault (due_in limits.format limits.width limits.labels.now) limits.labels.now (place_in c.args.walk.now.nodes) (place_in c.args.walk.now.nodes) (limits.width - c.args.block.now.len)
+            c.in-Err.fault (c.in-Err.ensures.next.err some),
+        c.in-Err.ensures.next.memory,
+      ),
     )
 
-pub check_node-returns-in_default : goal.check_node-returns-in_default
-check_node-returns-in_default t c =
+pub check_node-returns-in_default-halves : goal.check_node-returns-in_default-halves
+check_node-returns-in_default-halves t c =
     let limits = c.args.sources.now.limits in
     let width = c.requires.sources.width ∙ sym (ap width_of c.requires.version) in
-    let room : limits.width - c.args.block.now.len ≡ 0 = omega (arith, width, (c.in_default.ensures.full).0 refl) in
-    rw c.fault-deepest.ensures (
-      λ _. ap (λ (n : ℕ). nodes_at (due_in limits.format limits.width limits.labels.now) limits.labels.now n 0 (place_in c.args.walk.now.nodes)) room
-          ∙ node-deep (due_in limits.format limits.width limits.labels.now) limits.labels.now (place_in c.args.walk.now.nodes) (place_in c.next_node.new.self) c.in-Inner.claim.cost (numbers c.in-Inner.claim.set.now)
-          (rw c.in-Inner.is at c.in_ok-id.ensures.next.ok),
-      λ e. cc,
+    let room : limits.width - c.args.block.now.len ≡ 0 = omega (arith, width, (c.in_default-halves.ensures.full).0 refl) in
+    rw (c.stop-in_default-halves.ensures.none, c.stop-in_default-halves.ensures.stop) (
+      c.fault-deepest.result,
+      refl,
+      rw c.fault-deepest.ensures (
+        λ _. ap (λ (n : ℕ). nodes_at (due_in limits.format limits.width limits.labels.now) limits.labels.now n 0 (place_in c.args.walk.now.nodes)) room
+            ∙ node-deep (due_in limits.format limits.width limits.labels.now) limits.labels.now (place_in c.args.walk.now.nodes) (place_in c.next_node.new.self) c.in-Inner.claim.cost (numbers c.in-Inner.claim.set.now)
+            (rw c.in-Inner.is at c.in-Ok.ensures.next.ok),
+        λ e. cc,
+      ),
     )
 
 pub check_node-check_inner-requires : goal.check_node-check_inner-requires
 check_node-check_inner-requires t c =
     let limits = c.args.sources.now.limits in
     let said = line_due-found (format_number limits.format) limits.width (length limits.labels.now) (place_in c.args.walk.now.nodes)
-    (InnerLine c.in-Inner.claim.cost (numbers c.in-Inner.claim.set.now), (place_in c.next_node.new.self)) (rw c.in-Inner.is at c.in_ok-id.ensures.next.ok) in
-    let at = held-at c.args.walk.now.sets.items c.in-Inner.claim.set.now c.hold.new.sets.items c.in_ok-held-in-Inner.held.from c.in_ok-held-in-Inner.ensures.sets c.in_ok-held-in-Inner.ensures.from in
-    let held : IsHeld c.args.sources.now c.in_ok-held-in-Inner.held c.hold.new.sets.items =
+    (InnerLine c.in-Inner.claim.cost (numbers c.in-Inner.claim.set.now), (place_in c.next_node.new.self)) (rw c.in-Inner.is at c.in-Ok.ensures.next.ok) in
+    let at = held-at c.args.walk.now.sets.items c.in-Inner.claim.set.now c.hold.new.sets.items c.in-Ok-hold.held.from c.in-Ok-hold.ensures.sets c.in-Ok-hold.ensures.from in
+    let held : IsHeld c.args.sources.now c.in-Ok-hold.held c.hold.new.sets.items =
     record { within = at.2; ascending = subst (λ (ids : List LabelId). IsAscending (length limits.labels.now) 0 (numbers ids)) (sym at.1) said.1.1 } in
     search rules
 
-pub check_node-returns-in_ok-held-in-Inner : goal.check_node-returns-in_ok-held-in-Inner
-check_node-returns-in_ok-held-in-Inner t c =
+pub check_node-returns-in-Ok-hold : goal.check_node-returns-in-Ok-hold
+check_node-returns-in-Ok-hold t c =
     let s = c.args.sources.now in
     let limits = s.limits in
     let table = limits.labels.now in
@@ -69,23 +74,27 @@ check_node-returns-in_ok-held-in-Inner t c =
     let width = c.requires.sources.width ∙ sym (ap width_of c.requires.version) in
     let some : n < limits.width = omega (arith, width, c.in-Some.ensures.lens, low.len_in_range, ap width_of c.in-Some.ensures.versions.0) in
     let less : limits.width - n - 1 ≡ limits.width - (n + 1) = omega arith in
-    let held = held-at c.args.walk.now.sets.items c.in-Inner.claim.set.now c.hold.new.sets.items c.in_ok-held-in-Inner.held.from c.in_ok-held-in-Inner.ensures.sets c.in_ok-held-in-Inner.ensures.from in
+    let held = held-at c.args.walk.now.sets.items c.in-Inner.claim.set.now c.hold.new.sets.items c.in-Ok-hold.held.from c.in-Ok-hold.ensures.sets c.in-Ok-hold.ensures.from in
     let is : reading_at s n (place_in c.args.walk.now.nodes) ≡ halves_reading s n claim (place_in c.next_node.new.self) =
-    deeper due table (place_in c.args.walk.now.nodes) (place_in c.next_node.new.self) c.in-Inner.claim.cost numbers' (rw c.in-Inner.is at c.in_ok-id.ensures.next.ok) (limits.width - n) (omega (arith, some))
+    deeper due table (place_in c.args.walk.now.nodes) (place_in c.next_node.new.self) c.in-Inner.claim.cost numbers' (rw c.in-Inner.is at c.in-Ok.ensures.next.ok) (limits.width - n) (omega (arith, some))
     ∙ ap (λ (m : ℕ). nodes_at due table m 0 (place_in c.next_node.new.self) >>= (λ lower. nodes_at due table m 0 lower.1 >>= (λ upper.
     Ok (InnerNode claim lower.0 upper.0, upper.1)))) less in
     subst (λ (r : Read). IsAnswer s r (fault_of_node s c.args.block.now) c.args.walk.now.number c.args.walk.now.sets.items c.args.walk.now.fault c.check_inner.new.walk c.check_inner.result)
     (sym is)
     (subst (λ (x : Claim × List LabelId). IsAnswer s (halves_reading s n x.0 (place_in c.next_node.new.self)) (fault_of_node s c.args.block.now) c.args.walk.now.number x.1 c.args.walk.now.fault c.check_inner.new.walk c.check_inner.result)
-    (λ i. (claim_with table (c.in_ok-held-in-Inner.ensures.cost i) (numbers (held.1 i)), held.0 i)) (c.check_inner.ensures c.args.block.now
+    (λ i. (claim_with table (c.in-Ok-hold.ensures.cost i) (numbers (held.1 i)), held.0 i)) (c.check_inner.ensures c.args.block.now
     (half-by c.args.block.now low _ c.in-Some.ensures.versions.0 c.in-Some.ensures.lens.0 c.in-Some.ensures.lower_number)
     (half-by c.args.block.now high _ c.in-Some.ensures.versions.1 c.in-Some.ensures.lens.1 c.in-Some.ensures.upper_number)))
 
 pub check_node-returns-then-len-sources : goal.check_node-returns-then-len-sources
 check_node-returns-then-len-sources t c =
-    rw c.fault-deepest.ensures (
-      λ _. chain-over _ _ _ _ _ _ _ _ _ (rw c.in-Chain.is at c.in_ok-id.ensures.next.ok) _ c.len.result c.len.ensures (omega (arith, c.if-len-sources.true)),
-      λ e. cc,
+    rw (c.stop-then-len-sources.ensures.none, c.stop-then-len-sources.ensures.stop) (
+      c.fault-deepest.result,
+      refl,
+      rw c.fault-deepest.ensures (
+        λ _. chain-over _ _ _ _ _ _ _ _ _ (rw c.in-Chain.is at c.in-Ok.ensures.next.ok) _ c.len.result c.len.ensures (omega (arith, c.if-len-sources.true)),
+        λ e. cc,
+      ),
     )
 
 pub check_node-check_chain-requires : goal.check_node-check_chain-requires
@@ -93,16 +102,16 @@ check_node-check_chain-requires t c =
     let limits = c.args.sources.now.limits in
     let bits : List Bool = bits_in c.in-Chain.path.now in
     let said = line_due-found (format_number limits.format) limits.width (length limits.labels.now) (place_in c.args.walk.now.nodes)
-    (ChainLine c.in-Chain.claim.cost bits c.in-Chain.side.0 (numbers c.in-Chain.claim.set.now), (place_in c.next_node.new.self)) (rw c.in-Chain.is at c.in_ok-id.ensures.next.ok) in
-    let at = held-at c.args.walk.now.sets.items c.in-Chain.claim.set.now c.hold-in-Chain.new.sets.items c.in_ok-held-in-Chain.held.from c.in_ok-held-in-Chain.ensures.sets c.in_ok-held-in-Chain.ensures.from in
-    let held : IsHeld c.args.sources.now c.in_ok-held-in-Chain.held c.hold-in-Chain.new.sets.items =
+    (ChainLine c.in-Chain.claim.cost bits c.in-Chain.side.0 (numbers c.in-Chain.claim.set.now), (place_in c.next_node.new.self)) (rw c.in-Chain.is at c.in-Ok.ensures.next.ok) in
+    let at = held-at c.args.walk.now.sets.items c.in-Chain.claim.set.now c.hold-in-Chain.new.sets.items c.in-Ok-hold-2.held.from c.in-Ok-hold-2.ensures.sets c.in-Ok-hold-2.ensures.from in
+    let held : IsHeld c.args.sources.now c.in-Ok-hold-2.held c.hold-in-Chain.new.sets.items =
     record { within = at.2; ascending = subst (λ (ids : List LabelId). IsAscending (length limits.labels.now) 0 (numbers ids)) (sym at.1) said.1.5 } in
     let room : FitsPath c.args.sources.now c.args.block.now c.in-Chain.side.0 bits = record { room = omega (arith, c.len.ensures, c.if-len-sources.false, said.1.2); known = said.1.4 } in
     let some = said.1.2 in
     search rules
 
-pub check_node-returns-in_ok-held-in-Chain : goal.check_node-returns-in_ok-held-in-Chain
-check_node-returns-in_ok-held-in-Chain t c =
+pub check_node-returns-in-Ok-hold-2 : goal.check_node-returns-in-Ok-hold-2
+check_node-returns-in-Ok-hold-2 t c =
     let s = c.args.sources.now in
     let limits = s.limits in
     let table = limits.labels.now in
@@ -111,58 +120,64 @@ check_node-returns-in_ok-held-in-Chain t c =
     let numbers' = numbers c.in-Chain.claim.set.now in
     let claim = claim_with table c.in-Chain.claim.cost numbers' in
     let less : limits.width - n - c.len.result ≡ limits.width - (n + length bits) = omega (arith, c.len.ensures) in
-    let held = held-at c.args.walk.now.sets.items c.in-Chain.claim.set.now c.hold-in-Chain.new.sets.items c.in_ok-held-in-Chain.held.from c.in_ok-held-in-Chain.ensures.sets c.in_ok-held-in-Chain.ensures.from in
+    let held = held-at c.args.walk.now.sets.items c.in-Chain.claim.set.now c.hold-in-Chain.new.sets.items c.in-Ok-hold-2.held.from c.in-Ok-hold-2.ensures.sets c.in-Ok-hold-2.ensures.from in
     let is : reading_at s n (place_in c.args.walk.now.nodes) ≡ chain_reading s n claim bits c.in-Chain.side.0 (place_in c.next_node.new.self) =
-    chain-below limits.format limits.width table (place_in c.args.walk.now.nodes) (place_in c.next_node.new.self) c.in-Chain.claim.cost bits c.in-Chain.side.0 numbers' (rw c.in-Chain.is at c.in_ok-id.ensures.next.ok)
+    chain-below limits.format limits.width table (place_in c.args.walk.now.nodes) (place_in c.next_node.new.self) c.in-Chain.claim.cost bits c.in-Chain.side.0 numbers' (rw c.in-Chain.is at c.in-Ok.ensures.next.ok)
     (limits.width - n) c.len.result c.len.ensures (omega (arith, c.if-len-sources.false)) (reading_at s (n + length bits) (place_in c.next_node.new.self))
     (ap (λ (m : ℕ). nodes_at (due_in limits.format limits.width table) table m 0 (place_in c.next_node.new.self)) less) in
     subst (λ (r : Read). IsAnswer s r (fault_of_node s c.args.block.now) c.args.walk.now.number c.args.walk.now.sets.items c.args.walk.now.fault c.check_chain.new.walk c.check_chain.result)
     (sym is)
     (subst (λ (x : Claim × List LabelId). IsAnswer s (chain_reading s n x.0 bits c.in-Chain.side.0 (place_in c.next_node.new.self)) (fault_of_node s c.args.block.now) c.args.walk.now.number x.1 c.args.walk.now.fault c.check_chain.new.walk c.check_chain.result)
-    (λ i. (claim_with table (c.in_ok-held-in-Chain.ensures.cost i) (numbers (held.1 i)), held.0 i)) c.check_chain.ensures)
+    (λ i. (claim_with table (c.in-Ok-hold-2.ensures.cost i) (numbers (held.1 i)), held.0 i)) c.check_chain.ensures)
 
-pub check_node-returns-in_ok-hold_leaf-in-Leaf : goal.check_node-returns-in_ok-hold_leaf-in-Leaf
-check_node-returns-in_ok-hold_leaf-in-Leaf t c =
+pub check_node-returns-in-Ok-hold_leaf : goal.check_node-returns-in-Ok-hold_leaf
+check_node-returns-in-Ok-hold_leaf t c =
     let s = c.args.sources.now in
     let limits = s.limits in
     let p = c.args.block.now in
     let id = c.in-Leaf.id in
     let walk = c.args.walk.now in
-    let due = rw c.in-Leaf.is at c.in_ok-id.ensures.next.ok in
+    let due = rw c.in-Leaf.is at c.in-Ok.ensures.next.ok in
     let said = line_due-found (format_number limits.format) limits.width (length limits.labels.now) (place_in walk.nodes) (LeafLine id.0, (place_in c.next_node.new.self)) due in
     rw c.note.ensures
     (record {
       tree = LeafNode (text_at limits.labels.now id.0);
       set = id ∷ [];
-      nodes = c.in_ok-id.ensures.fits;
+      nodes = c.in-Ok.ensures.fits;
       read = node-leaf (due_in limits.format limits.width limits.labels.now) limits.labels.now (place_in walk.nodes) (place_in c.next_node.new.self) (limits.width - p.len) id.0 due;
       claim = refl;
       ascending = (omega arith, said.1, tt);
-      sets = c.in_ok-hold_leaf-in-Leaf.ensures;
+      sets = c.in-Ok-hold_leaf.ensures;
       fault = λ k told_is. ((λ i. option_or walk.fault (fault_with (sym told_is i) (c.leaf_fault-fault.ensures i))), sym (c.next_number-walk.ensures k told_is));
     })
 
 pub check_node-leaf_fault-fault-requires-clause-known : goal.check_node-leaf_fault-fault-requires-clause-known
 check_node-leaf_fault-fault-requires-clause-known t c =
     let limits = c.args.sources.now.limits in
-    let due = rw c.in-Leaf.is at c.in_ok-id.ensures.next.ok in
+    let due = rw c.in-Leaf.is at c.in-Ok.ensures.next.ok in
     (line_due-found (format_number limits.format) limits.width (length limits.labels.now) (place_in c.args.walk.now.nodes) (LeafLine c.in-Leaf.id.0, (place_in c.next_node.new.self)) due).1
 
 pub check_inner-returns-in_err-lower_cost : goal.check_inner-returns-in_err-lower_cost
 check_inner-returns-in_err-lower_cost t c =
     let walk = c.args.walk.now in
-    let e = err_from_is_err_and c.from_residual.result c.from_residual.ensures.1 in
-    λ whole low high. rw (e.1, e.2)
-    (lower-unread c.args.sources.now whole c.args.low.now c.args.high.now low high c.args.held.cost (drop c.args.held.from walk.sets.items) (place_in walk.nodes) c.args.number walk.number c.requires.number
-    c.in_err-lower_cost.field-0.0 c.in_err-lower_cost.ensures)
+    let stopped = c.in_err-lower_cost.ensures in
+    λ whole low high. rw c.from_residual.ensures (
+      stopped.0,
+      stopped.1,
+      lower-unread c.args.sources.now whole c.args.low.now c.args.high.now low high c.args.held.cost (drop c.args.held.from walk.sets.items) (place_in walk.nodes) c.args.number walk.number c.requires.number
+          stopped.0 stopped.2,
+    )
 
 pub check_inner-returns-in_err-upper_cost : goal.check_inner-returns-in_err-upper_cost
 check_inner-returns-in_err-upper_cost t c =
     let walk = c.args.walk.now in
-    let e = err_from_is_err_and c.from_residual-in_err-upper_cost.result c.from_residual-in_err-upper_cost.ensures.1 in
-    λ whole low high. rw (e.1, e.2)
-    (upper-unread c.args.sources.now whole c.args.low.now c.args.high.now low high c.args.held.cost (drop c.args.held.from walk.sets.items) (place_in walk.nodes) c.args.number walk.number c.requires.number
-    walk.sets.items walk.fault c.check_node.new.walk c.in_ok-lower_cost.lower_cost c.in_ok-lower_cost.ensures c.in_err-upper_cost.field-0.0 c.in_err-upper_cost.ensures)
+    let stopped = c.in_err-upper_cost.ensures in
+    λ whole low high. rw c.from_residual-in_err-upper_cost.ensures (
+      stopped.0,
+      stopped.1,
+      upper-unread c.args.sources.now whole c.args.low.now c.args.high.now low high c.args.held.cost (drop c.args.held.from walk.sets.items) (place_in walk.nodes) c.args.number walk.number c.requires.number
+          walk.sets.items walk.fault c.check_node.new.walk c.in_ok-lower_cost.lower_cost c.in_ok-lower_cost.ensures stopped.0 stopped.2,
+    )
 
 pub check_inner-returns : goal.check_inner-returns
 check_inner-returns t c =
@@ -201,10 +216,13 @@ check_chain-path_fault-beside-requires-clause-room t c =
 pub check_chain-returns-in_err-end_cost : goal.check_chain-returns-in_err-end_cost
 check_chain-returns-in_err-end_cost t c =
     let walk = c.args.walk.now in
-    let e = err_from_is_err_and c.from_residual.result c.from_residual.ensures.1 in
-    rw (e.1, e.2)
-    (end-unread c.args.sources.now c.args.block.now c.end-end.result c.args.held.cost (drop c.args.held.from walk.sets.items) (bits_in c.args.path.now) c.args.side.0 c.end-end.ensures (place_in walk.nodes) c.args.number walk.number c.requires.number
-    c.in_err-end_cost.field-0.0 c.in_err-end_cost.ensures)
+    let stopped = c.in_err-end_cost.ensures in
+    rw c.from_residual.ensures (
+      stopped.0,
+      stopped.1,
+      end-unread c.args.sources.now c.args.block.now c.end-end.result c.args.held.cost (drop c.args.held.from walk.sets.items) (bits_in c.args.path.now) c.args.side.0 c.end-end.ensures (place_in walk.nodes) c.args.number walk.number c.requires.number
+          stopped.0 stopped.2,
+    )
 
 pub check_chain-returns : goal.check_chain-returns
 check_chain-returns t c =
