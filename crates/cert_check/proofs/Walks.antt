@@ -17,8 +17,8 @@ use Rattle.pmap_cert.specs.FormatReading.{Place}
 use Rattle.pmap_cert.specs.NodeSource.{place_in}
 use Rattle.pmap_cert.specs.Paths.{LeadsTo}
 use Rattle.pmap_cert.specs.declared.fault.CertFault.{CertFault}
-use Rattle.cert_check.specs.Checking.{bits_fault, claim_fault, fault_of_number, node_fault, CheckFault, CheckFaultKind}
-use Rattle.cert_check.specs.Inner.{CanBeRead, IsAfter, IsHalf, IsPassed, IsUnread, Read, Sources, Walk, chain_reading, claim_with, fault_of_node, fault_with, halves_reading, reading_at, sides_fault, told}
+use Rattle.cert_check.specs.Checking.{bits_fault, claim_fault, fault_of_number, node_fault, BoundNotMet, CheckFault, CheckFaultKind}
+use Rattle.cert_check.specs.Inner.{CanBeRead, IsAfter, IsHalf, IsPassed, IsUnread, Read, Sources, Walk, chain_reading, claim_with, fault_of_node, fault_with, halves_reading, reading_at, sides_fault}
 use Rattle.cert_check.proofs.Nodes.{bits-sides, half-is, or-or}
 use Rattle.cert_check.proofs.Sets.{numbers}
 
@@ -93,7 +93,7 @@ module _ (s : Sources) (b low high : Block) (low_half : IsHalf b low (2 * number
                 ∙ or-or before (fault_of_node s low lower.tree (k + 1)) (option_or (faults upper.tree j (suc n) (2 * q + 1)) own_fault)
                 ∙ (λ i. option_or before (option_or (half-is b low (2 * q) low_half (faults lower.tree (k + 1)) i)
                 (option_or (faults upper.tree j (suc n) (2 * q + 1)) own_fault))),
-            numbered ∙ second.1 ∙ ap told count,
+            numbered ∙ second.1 ∙ ap (λ (j : ℕ). (fault_of_number j BoundNotMet).node) count,
           );
     }
 
@@ -157,7 +157,7 @@ module _ (s : Sources) (b end : Block) (cost : ℕ) (own : List LabelId) (bits :
               ∙ ap (λ (f : Option CheckFault). option_or f at_claim) (or-or before at_end at_sides)
               ∙ or-or before (option_or at_end at_sides) at_claim
               ∙ ap (λ (f : Option CheckFault). option_or before (option_or f at_claim)) (sym (along below.tree k)),
-          numbered ∙ there.1 ∙ ap told count,
+          numbered ∙ there.1 ∙ ap (λ (j : ℕ). (fault_of_number j BoundNotMet).node) count,
         );
   }
 

@@ -1,4 +1,4 @@
-use Rattle.std.specs.Prelude.{ℕ, suc, List, [], ◌∷◌, ◌≡◌, ◌+◌, ◌-◌, ◌==◌, ◌&&◌, ◌^◌, Bool, Option, None, Some, if◌then◌else◌, map, nat_le, nat_lt, option_map, length, ◌<◌, ◌≤◌, ◌≢◌, ◌++◌, Result, Ok, Err, drop}
+use Rattle.std.specs.Prelude.{ℕ, suc, List, [], ◌∷◌, ◌≡◌, ◌+◌, ◌-◌, ◌==◌, ◌&&◌, Bool, Option, None, Some, map, nat_le, option_map, length, ◌<◌, ◌≤◌, ◌≢◌, ◌++◌, Result, Ok, Err, drop}
 use Rattle.std.specs.List.{list_any}
 use Rattle.std.specs.Option.{option_or}
 use Rattle.prefix_keys.specs.Block.{width_of, first_of, last_of}
@@ -25,15 +25,11 @@ use Rattle.pmap_cert.specs.Inner.{node_due_at}
 use Rattle.pmap_cert.specs.NodeSource.{HasFittingLines, place_in}
 use Rattle.pmap_cert.specs.declared.node_source.NodeSource.{NodeSource}
 use Rattle.pmap_text.specs.Reading.{◌>>=◌}
-use Rattle.cert_check.specs.Checking.{is_label_of, first_fault, leaf_fault, node_fault, CheckFault, CheckFaultKind}
+use Rattle.cert_check.specs.Checking.{is_label_of, fault_of_number, first_fault, leaf_fault, node_fault, BoundNotMet, CheckFault, CheckFaultKind}
 pub use Rattle.cert_check.specs.declared.source.Source.{Source}
 pub use Rattle.cert_check.specs.declared.sources.Sources.{Sources}
 pub use Rattle.cert_check.specs.declared.walk.StoredClaim.{StoredClaim}
 pub use Rattle.cert_check.specs.declared.walk.Walk.{Walk}
-
--- a node's number in a fault, which is at most 2 ^ 64 - 1
-abbrev pub told : ℕ → ℕ
-told number = if nat_lt number (2 ^ 64) then number else 2 ^ 64 - 1
 
 -- the numbers of one table's labels in another table, `None` for a label that the other lacks
 pub record AreNumbers (numbers : List (Option LabelId)) (from to : List Label) : Type 0 where
@@ -125,9 +121,10 @@ pub record IsHalf (whole half : Block) (q : ℕ) : Type 0 where
   pub len : half.len ≡ whole.len + 1
   pub number : number_of_block half ≡ q
 
--- the next node has the number after this one
+-- the next node has the number after this one, as faults have them
 abbrev pub IsAfter : ℕ → ℕ → Type 0
-IsAfter number next = (k : ℕ) → told k ≡ number → told (k + 1) ≡ next
+IsAfter number next =
+    (k : ℕ) → (fault_of_number k BoundNotMet).node ≡ number → (fault_of_number (k + 1) BoundNotMet).node ≡ next
 
 -- the block has room for the chain's bits, and the table has the chain's side label
 pub record FitsPath (s : Sources) (b : Block) (side : ℕ) (bits : List Bool) : Type 0 where
@@ -152,7 +149,8 @@ pub record IsPassed (s : Sources) (reading : Read) (fault_at : Tree → ℕ → 
   pub claim : claim_of tree ≡ claim_with s.limits.labels.now cost (map (λ i. i.0) set)
   pub ascending : IsAscending (length s.limits.labels.now) 0 (map (λ i. i.0) set)
   pub sets : new.sets.items ≡ old ++ set
-  pub fault : (k : ℕ) → told k ≡ number → (new.fault ≡ option_or before (fault_at tree k)) × (new.number ≡ told (k + line_count tree))
+  pub fault : (k : ℕ) → (fault_of_number k BoundNotMet).node ≡ number
+      → (new.fault ≡ option_or before (fault_at tree k)) × (new.number ≡ (fault_of_number (k + line_count tree) BoundNotMet).node)
 
 -- the text has this fault, or an allocation failed
 abbrev pub IsUnread : {A : Type 0} → Result A CertFault → CertFault → Type 0

@@ -10,7 +10,7 @@ use Rattle.pmap_text.specs.MapModel.{Label}
 use Rattle.pmap_text.specs.MapText.{text_at}
 use Rattle.pmap_text.specs.Reading.{◌>>=◌}
 use Rattle.pmap_cert.specs.Certificate.{certificate_of, Certificate}
-use Rattle.pmap_cert.specs.CertificateText.{HasChainForm, HasFormatText, HasNodeForm, certificate_lines, certificate_text, format_header, lines_of, place_of}
+use Rattle.pmap_cert.specs.CertificateText.{HasChainForm, HasFormatText, HasNodeForm, certificate_text, format_header, lines_of, place_of}
 use Rattle.pmap_cert.specs.Node.{Node}
 use Rattle.pmap_cert.specs.CertificateModel.{CertificateModel, Tree, ChainNode, InnerNode, LeafNode, IsOfFormat, IsPlain, map_tree}
 use Rattle.pmap_cert.specs.FormatReading.{ChainLine, DueLine, InnerLine, LeafLine, Place, ended_by, fault_at, fits_header, format_header_at, format_reading, is_ended, labels_at, likely_header, line_due_at, line_text, nodes_at, pieces_of, start_of, CertFault, CertFaultKind, BadHeader, BadLabelTable, BadNode, NoMemory, NodesLeft, NodesMissing, TooDeep}
@@ -102,6 +102,12 @@ of-format c (inl first) plain = inl (first, plain first)
 of-format c (inr second) plain = inr second
 
 -- pieces that are read are the lines of their certificate, which is well formed, and an empty piece
+-- the lines of a certificate's text
+abbrev certificate_lines : CertificateModel → List (List ℕ)
+certificate_lines c =
+    format_header (c.format, (c.version, length c.table))
+    ∷ (c.table ++ map line_text (lines_of (map_tree (place_of c.table) c.root)))
+
 pub pieces-found : (pieces : List (List ℕ)) (c : CertificateModel) → header_then (format_header_at (record { number = 0; pieces = pieces })) ≡ Ok c
     → HasFormatText c × (pieces ≡ certificate_lines c ++ [] ∷ [])
 pieces-found pieces c e =

@@ -1,5 +1,5 @@
 -- Lines that are read as the value whose text they are.
-use Rattle.std.proofs.Common.{◌≡◌, ℕ, suc, zero, ◌+◌, ◌^◌, ◌<◌, ◌≤◌, ◌==◌, ◌&&◌, ◌∙◌, ◌⊎◌, inl, inr, Bool, true, false, not, List, [], ◌∷◌, ◌++◌, Option, None, Some, Result, Ok, Err, cond, length, map, refl, sym, ap, subst, arith, codes}
+use Rattle.std.proofs.Common.{◌≡◌, ℕ, suc, zero, ◌+◌, ◌^◌, ◌<◌, ◌≤◌, ◌==◌, ◌&&◌, if◌then◌else◌, ◌∙◌, ◌⊎◌, inl, inr, Bool, true, false, not, List, [], ◌∷◌, ◌++◌, Option, None, Some, Result, Ok, Err, cond, length, map, refl, sym, ap, subst, arith, codes}
 use Rattle.std.specs.Fmt.{decimal}
 use Rattle.std.specs.List.{AllByRecursion, join_with_byte, list_all}
 use Rattle.std.specs.Str.{bytes_eq}
@@ -13,7 +13,7 @@ use Rattle.prefix_keys.specs.Text.{decimal_value}
 use Rattle.prefix_keys.specs.declared.version.Version.{Version}
 use Rattle.prefix_keys.specs.declared.version.Version.TheVariants.{V4, V6}
 use Rattle.pmap_cert.specs.CertificateText.{IsAscending, bit_digits, format_header}
-use Rattle.pmap_cert.specs.FormatReading.{ChainLine, DueLine, InnerLine, LeafLine, Place, fault_at, fits_header, fits_line, is_ended, likely_header, likely_line, line_due_at, line_text, pieces_of, printed_at, printed_value, line_value, CertFault, CertFaultKind, BadNode, NodesMissing}
+use Rattle.pmap_cert.specs.FormatReading.{ChainLine, DueLine, InnerLine, LeafLine, Place, fault_at, fits_header, fits_line, is_ended, likely_header, likely_line, line_due_at, line_text, pieces_of, printed_at, line_value, CertFault, CertFaultKind, BadNode, NodesMissing}
 use Rattle.pmap_cert.specs.Inner.{BeginsWith, Reads}
 use Rattle.pmap_cert.proofs.ChainWords.{Lacks-bits, bits-back}
 use Rattle.pmap_cert.proofs.Headers.{Lacks-line, Lacks-tested}
@@ -26,7 +26,7 @@ at number pieces = record { number = number; pieces = pieces }
 
 module _ {A : Type 0} (fits : A → Bool) (text_of : A → List ℕ) (likely : List (List ℕ) → A) where
   abbrev pub value_of : List ℕ → Option A
-  value_of line = printed_value fits text_of (likely (words_of line)) line
+  value_of line = let x = likely (words_of line) in if fits x && bytes_eq line (text_of x) then Some x else None
 
   pub value-found : (line : List ℕ) (x : A) → value_of line ≡ Some x → (line ≡ text_of x) × (fits x ≡ true)
   value-found line x e =
@@ -45,7 +45,7 @@ module _ {A : Type 0} (fits : A → Bool) (text_of : A → List ℕ) (likely : L
   module _ (lacks : (x : A) → fits x ≡ true → Lacks 10 (text_of x)) (back : (x : A) → fits x ≡ true → likely (words_of (text_of x)) ≡ x) where
     pub value-again : (x : A) → fits x ≡ true → value_of (text_of x) ≡ Some x
     value-again x h =
-        ap (λ (y : A). printed_value fits text_of y (text_of x)) (back x h)
+        ap (λ (y : A). if fits y && bytes_eq (text_of x) (text_of y) then Some y else None) (back x h)
         ∙ cond-true (fits x && bytes_eq (text_of x) (text_of x)) (Some x) None (and_from _ _ h ((bytes_eq-Decides (text_of x) (text_of x)).1 refl))
 
     pub printed-again : (kind : CertFaultKind) (x : A) (number : ℕ) (rest : List (List ℕ)) → fits x ≡ true → 0 < length rest

@@ -2,6 +2,7 @@
 use Rattle.std.proofs.Common.{List, ◌≡◌, ℕ, ◌+◌, ◌-◌, ◌<◌, ◌≤◌, ◌==◌, ◌∙◌, true, false, [], ◌∷◌, ◌++◌, All, Option, Some, None, Result, Ok, codes, length, nat_le, option_and_then, unwrap_or, refl, ap, subst, arith}
 use Rattle.std.specs.Fmt.{decimal}
 use Rattle.std.specs.List.{list_any}
+use Rattle.std.specs.Option.{option_map_or}
 use Rattle.std.specs.Str.{bytes_eq}
 use Rattle.std.proofs.lemmas.Bool.{both_ways, false_from_ne_true, leb-true}
 use Rattle.std.proofs.lemmas.List.Elements.{All-weaker}
@@ -24,9 +25,17 @@ use Rattle.pmap_text.specs.MapModel.{Label}
 use Rattle.pmap_text.specs.declared.reading.form.Form.{Form}
 use Rattle.pmap_text.specs.declared.reading.form.Form.TheVariants as form
 use Rattle.pmap_cert.proofs.LastMatch.{mapping_of_prefix}
-use Rattle.pmap_cert.specs.ListText.{entry_line, mode_text, IsPrintedEntry}
+use Rattle.pmap_cert.specs.CertificateText.{version_word}
+use Rattle.pmap_cert.specs.ListText.{entry_line, IsPrintedEntry}
 use Rattle.prefix_keys.proofs.Groups.{width-le}
 use Rattle.pmap_cert.proofs.WordLines.{high-block, line-behind_word, line-content, line-first_word}
+
+-- the lines of a list's text before those of its entries
+abbrev pub name_lines : Option Label → List (List ℕ)
+name_lines name = option_map_or (λ name. (codes "map-name" ++ 32 ∷ name) ∷ []) name []
+
+abbrev pub mode_text : Version → List ℕ
+mode_text version = codes "mode" ++ 32 ∷ version_word version
 
 -- a line of a word and a label is read by its words
 content-word : (kind : Form) (earlier : Earlier) (text : List ℕ) → 0 < length text

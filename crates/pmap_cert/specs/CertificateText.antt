@@ -67,11 +67,6 @@ format_word format = if format == 1 then codes "1" else codes "2"
 abbrev pub bit_digits : List Bool → List ℕ
 bit_digits bits = map (λ bit. if bit then 49 else 48) bits
 
-abbrev pub certificate_lines : CertificateModel → List (List ℕ)
-certificate_lines c =
-    format_header (c.format, (c.version, length c.table))
-    ∷ (c.table ++ map line_text (lines_of (map_tree (place_of c.table) c.root)))
-
 -- The certificates that have a text: each label is in the table, sets are listed by ascending numbers, costs are below
 -- 2 ^ 32, and no node is deeper than an address has bits.
 

@@ -58,21 +58,20 @@ compacted_in same (suc steps) (InnerNode claim lower upper) =
     run_compacted same (compacted_in same steps) claim lower upper (option_or (leaf_label lower) (leaf_label upper))
 compacted_in same (suc steps) (ChainNode claim bits side end) = ChainNode claim bits side (compacted_in same steps end)
 
--- a certificate compacted: one of format 1 has its root compacted and gets format 2, one of format 2 is unchanged; a
--- node has fewer steps down than lines
+-- a node compacted, which has fewer steps down than lines
+abbrev pub compacted : {L : Type 0} → (L → L → Bool) → TreeOf L → TreeOf L
+compacted same node = compacted_in same (line_count node) node
+
+-- a certificate compacted: one of format 1 has its root compacted and gets format 2, one of format 2 is unchanged
 abbrev pub compact : CertificateModel → CertificateModel
 compact c =
     if c.format == 1
-    then record { format = 2; version = c.version; table = c.table; root = compacted_in bytes_eq (line_count c.root) c.root }
+    then record { format = 2; version = c.version; table = c.table; root = compacted bytes_eq c.root }
     else c
 
--- Parts of compacting: the side label of an inner node's run, and a node compacted.
-
+-- the side label of an inner node's run, by its halves, as `compacted_in` has it
 abbrev pub side_of : {L : Type 0} → TreeOf L → TreeOf L → Option L
 side_of lower upper = option_or (leaf_label lower) (leaf_label upper)
-
-abbrev pub compacted : {L : Type 0} → (L → L → Bool) → TreeOf L → TreeOf L
-compacted same node = compacted_in same (line_count node) node
 
 -- The bits are a path down the tree, with a side leaf beside each inner node's chosen half, to a node that meets
 -- `IsEnd`.

@@ -120,16 +120,17 @@ nodes_at due table (suc room) zero place =
     due place >>= (λ line. due_node table (suc room) place (nodes_at due table room) line.0 line.1)
 nodes_at due table (suc room) (suc down) place = nodes_at due table room down place
 
--- the certificate that a text of either format is read as, or the first fault of the text with its line; it is a fault
--- if something follows the last node
+-- the certificate, or a fault if something follows the last node
+abbrev pub ended_by : CertificateModel → Place → Result CertificateModel CertFault
+ended_by c place = if is_ended place.pieces then Ok c else Err (fault_at place NodesLeft)
+
+-- the certificate that a text of either format is read as, or the first fault of the text with its line
 unfoldable pub format_reading : List ℕ → Result CertificateModel CertFault
 format_reading text =
     printed_at BadHeader fits_header format_header likely_header (record { number = 0; pieces = slice_split (λ b. b == 10) text })
     >>= (λ header. labels_at header.0.1.1 [] header.1 >>= (λ labels.
     nodes_at (line_due_at header.0.0 (width_of header.0.1.0) (length labels.0)) labels.0 (width_of header.0.1.0) 0 labels.1
-    >>= (λ root. if is_ended root.1.pieces
-    then Ok (record { format = header.0.0; version = header.0.1.0; table = labels.0; root = root.0 })
-    else Err (fault_at root.1 NodesLeft))))
+    >>= (λ root. ended_by (record { format = header.0.0; version = header.0.1.0; table = labels.0; root = root.0 }) root.1)))
 
 -- Parts of this reading.
 
@@ -139,20 +140,9 @@ pieces_of text = slice_split (λ b. b == 10) text
 abbrev pub start_of : List ℕ → Place
 start_of text = record { number = 0; pieces = pieces_of text }
 
-abbrev pub next_line : Place → Option (List ℕ × Place)
-next_line place = line_from place.number place.pieces
-
--- the value `likely` if it fits and the line is its text
-abbrev pub printed_value : {A : Type 0} → (A → Bool) → (A → List ℕ) → A → List ℕ → Option A
-printed_value fits text_of likely line = if fits likely && bytes_eq line (text_of likely) then Some likely else None
-
 -- the label of a line, if it is one that the table doesn't have yet
 abbrev pub new_label : List Label → List ℕ → Option Label
 new_label table line = if is_label line && not (has_label table line) then Some line else None
 
 abbrev pub format_header_at : Place → Result ((ℕ × (Version × ℕ)) × Place) CertFault
 format_header_at place = printed_at BadHeader fits_header format_header likely_header place
-
--- the certificate, or a fault if something follows the last node
-abbrev pub ended_by : CertificateModel → Place → Result CertificateModel CertFault
-ended_by c place = if is_ended place.pieces then Ok c else Err (fault_at place NodesLeft)

@@ -1,4 +1,4 @@
-use Rattle.std.specs.Prelude.{◌&&◌, ◌==◌, Bool, List, [], ◌∷◌, ◌++◌, Option, Some, None, codes, map, ℕ, ◌≡◌, ◌^◌, ◌<◌, ◌≤◌, All, IsTrue, fold, length, unwrap_or}
+use Rattle.std.specs.Prelude.{List, [], ◌∷◌, ◌++◌, codes, map, ℕ, ◌≡◌, ◌^◌, ◌<◌, ◌≤◌, All, IsTrue, fold, length, unwrap_or}
 use Rattle.std.specs.Option.{ForSome, option_map_or}
 use Rattle.std.specs.List.{IsDistinct, flat_map}
 use Rattle.prefix_keys.specs.Print.{block_text}
@@ -22,21 +22,11 @@ list_text l =
 
 -- Parts of this text.
 
-abbrev pub name_lines : Option Label → List (List ℕ)
-name_lines name = option_map_or (λ name. (codes "map-name" ++ 32 ∷ name) ∷ []) name []
-
-abbrev pub mode_text : Version → List ℕ
-mode_text version = codes "mode" ++ 32 ∷ version_word version
-
 abbrev pub entry_line : Version → Prefix → List ℕ
 entry_line version p = block_text version p.start p.bits ++ 32 ∷ p.label
 
 abbrev pub entries_in_order : List Prefix → List Prefix
 entries_in_order ps = in_order begins_before ps
-
--- both entries begin at the same address and have the same length
-abbrev pub starts_alike : Prefix → Prefix → Bool
-starts_alike p r = p.start == r.start && p.bits == r.bits
 
 -- A prefix list whose printed text can be read again.
 

@@ -1,6 +1,6 @@
 ghost use Rattle.std.specs.Prelude.{◌≡◌, Err, IfErr, IfOk, Ok, option_map};
 ghost use Rattle.pmap_cert.specs.Format.{header_of};
-ghost use Rattle.pmap_cert.specs.FormatReading.{fault_at, format_header_at, is_ended, next_line, start_of};
+ghost use Rattle.pmap_cert.specs.FormatReading.{fault_at, format_header_at, is_ended, line_from, start_of};
 ghost use Rattle.pmap_cert.specs.NodeSource.{IsNextNode};
 
 use crate::fault::{CertFault, CertFaultKind};
@@ -42,7 +42,7 @@ impl<'a> Lines<'a> {
 
     /// Returns the next line without its line feed, and the lines that follow, or `None` if no line feed is left.
     pub fn next(&self) -> Option<(&'a [u8], Lines<'a>)>
-        ensures { option_map (λ x. (x.0.now, x.1)) result ≡ next_line self.now }
+        ensures { option_map (λ x. (x.0.now, x.1)) result ≡ line_from self.now.number self.now.pieces }
     {
         let end = find_byte(self.rest, b'\n')?;
         let after = Lines {

@@ -3,18 +3,19 @@
 ghost use Rattle.std.specs.Prelude.{◌≡◌, ◌≤◌, ℕ, List, length, Ok};
 ghost use Rattle.std.specs.List.{IsDistinct};
 ghost use Rattle.std.specs.List.Sorted.{IsPermutation};
+ghost use Rattle.pmap_text.specs.Inner.{same_key};
 ghost use Rattle.pmap_text.specs.ListModel.{ListModel, Prefix};
 ghost use Rattle.pmap_text.specs.MapModel.{MapModel};
 ghost use Rattle.pmap_text.specs.Reading.{label_limit, mapping_limit, map_reading, list_reading};
 ghost use Rattle.pmap_cert.specs.Acceptance.{IsAccepted, IsInOrder, IsMinimalPair};
 ghost use Rattle.pmap_cert.specs.CertificateModel.{CertificateModel};
-ghost use Rattle.pmap_cert.specs.ListText.{list_text, entries_in_order, starts_alike, CanBeReadAgain, IsListAgain, IsMapAgain, IsWellFormed, labels_of};
+ghost use Rattle.pmap_cert.specs.ListText.{list_text, entries_in_order, CanBeReadAgain, IsListAgain, IsMapAgain, IsWellFormed, labels_of};
 
 /// A list is printed in the only order in which each entry precedes all that follow it. A list in that order keeps it.
 pub fn printed_order_is_one()
     ensures entries { (ps : List Prefix) → IsPermutation ps (entries_in_order ps) }
-    ensures order { (ps : List Prefix) → IsDistinct starts_alike ps → IsInOrder (entries_in_order ps) }
-    ensures one { (ps rs : List Prefix) → IsDistinct starts_alike ps → IsPermutation ps rs → IsInOrder rs →
+    ensures order { (ps : List Prefix) → IsDistinct same_key ps → IsInOrder (entries_in_order ps) }
+    ensures one { (ps rs : List Prefix) → IsDistinct same_key ps → IsPermutation ps rs → IsInOrder rs →
         rs ≡ entries_in_order ps }
     ensures kept { (ps : List Prefix) → IsInOrder ps → entries_in_order ps ≡ ps }
 {}

@@ -1,7 +1,6 @@
 //! The printed text of a prefix list.
-ghost use Rattle.std.specs.Prelude.{◌≡◌, ◌++◌, ◌∷◌, [], All, IfOk, OnOk, map};
-ghost use Rattle.pmap_cert.specs.CertificateText.{text_of_lines};
-ghost use Rattle.pmap_cert.specs.ListText.{entry_line, list_text, mode_text, name_lines};
+ghost use Rattle.std.specs.Prelude.{◌≡◌, ◌++◌, ◌∷◌, [], IfOk, OnOk};
+ghost use Rattle.pmap_cert.specs.ListText.{entry_line, list_text};
 ghost use Rattle.pmap_text.specs.PrefixList.{list_of, prefix_of};
 
 use pmap_text::{Entry, Labels, PrefixList, in_order, sorted_or};

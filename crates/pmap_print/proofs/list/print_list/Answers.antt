@@ -8,7 +8,8 @@ use Rattle.std.proofs.lemmas.Option.{get_or_from_slice_get, slice_get_within}
 use Rattle.pmap_cert.specs.CertificateText.{text_of_lines}
 use Rattle.pmap_text.specs.ListModel.{Prefix}
 use Rattle.pmap_text.specs.PrefixList.{prefix_of}
-use Rattle.pmap_cert.specs.ListText.{entry_line, mode_text, name_lines}
+use Rattle.pmap_cert.specs.ListText.{entry_line}
+use Rattle.pmap_cert.proofs.ReadLines.{mode_text, name_lines}
 use Rattle.pmap_text.specs.declared.entry.Entry.{Entry}
 use Rattle.pmap_cert.proofs.EntryOrder.{sorted-order}
 use Rattle.pmap_print.proofs.list.print_list.Goals as goal

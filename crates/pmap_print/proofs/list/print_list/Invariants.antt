@@ -1,6 +1,7 @@
 use Rattle.std.proofs.Common.{◌≡◌, ◌++◌, ◌∷◌, All, map, take}
 use Rattle.pmap_cert.specs.CertificateText.{text_of_lines}
-use Rattle.pmap_cert.specs.ListText.{entry_line, mode_text, name_lines}
+use Rattle.pmap_cert.specs.ListText.{entry_line}
+use Rattle.pmap_cert.proofs.ReadLines.{mode_text, name_lines}
 use Rattle.pmap_text.specs.PrefixList.{prefix_of}
 use Rattle.pmap_print.proofs.list.print_list.Given as goal
 
