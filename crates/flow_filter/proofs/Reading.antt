@@ -1,7 +1,7 @@
 -- The items of a text that is read item by item, and the options that are read one by one.
 use Rattle.std.proofs.Common.{◌≡◌, ◌∙◌, inl, inr, ℕ, zero, suc, ◌+◌, ◌<◌, ◌==◌, ◌&&◌, ◌||◌, true, false, List, [], ◌∷◌, ◌++◌, Option, Some, None, Ok, add-one, append_assoc, arith, drop, get_or, length, map, option_map, refl, sym, ap}
 use Rattle.std.specs.Prelude.{find, is_none}
-use Rattle.std.specs.List.{list_any}
+use Rattle.std.specs.List.{list_any, slice_split}
 use Rattle.std.specs.Option.{option_map_or, option_to_list}
 use Rattle.std.proofs.lemmas.List.{append-nil}
 use Rattle.std.proofs.lemmas.List.Folds.{find-append}
@@ -9,7 +9,7 @@ use Rattle.std.proofs.lemmas.List.Splits.{slice_split_none}
 use Rattle.std.proofs.lemmas.Option.{same_Some}
 use Rattle.prefix_keys.specs.Text.{AddressOf, all_some}
 use Rattle.flow_rows.specs.Elements.{RowView}
-use Rattle.flow_filter.specs.Condition.{Condition, Part, Range, RowTest, filter_of, given, in_range, is_malformed, item_test, items_of, meets, tests_of, unless_malformed}
+use Rattle.flow_filter.specs.Condition.{Condition, Part, Range, RowTest, filter_of, given, in_range, is_malformed, item_test, meets, tests_of, unless_malformed}
 use Rattle.flow_filter.specs.Filters.{IsFault, IsRefused, by_range, in_ranges, number_of}
 use Rattle.flow_filter.specs.Options.{FilterFaultKind, FilterOption, is_list, is_on_labels, AnyLabel, DestinationLabel, SourceLabel}
 use Rattle.flow_filter.specs.declared.option.TheConstants.{ALL_OPTIONS}
@@ -34,7 +34,7 @@ all_some-none (None ∷ os) (suc k) d within is = refl
 all_some-none (Some y ∷ os) (suc k) d within is = rw (all_some-none os k d (omega (arith, within)) is) refl
 
 -- the whole text is the only item of an option without a list
-only_item : (o : FilterOption) (text : List ℕ) → is_list o ≡ false → items_of o text ≡ text ∷ []
+only_item : (o : FilterOption) (text : List ℕ) → is_list o ≡ false → slice_split (λ b. is_list o && b == 44) text ≡ text ∷ []
 only_item o text single = slice_split_none (λ b. is_list o && b == 44) text (λ k d within. rw single refl)
 
 pub meets_one : (o : FilterOption) (text : List ℕ) (label : AddressOf → Option (List ℕ)) (row : RowView) → is_list o ≡ false

@@ -82,13 +82,9 @@ row_passes condition label row = list_all (meets label row) condition
 abbrev pub passing : Condition → Option Labelling → List RowView → List RowView
 passing condition labels all = filter (row_passes condition (label_where labels)) all
 
--- Parts of these definitions: a number in a range, and the items of an option's text.
-
+-- the number is in the range, as `by_number` tests it
 abbrev pub in_range : ℕ → Range → Bool
 in_range n r = nat_le r.low n && nat_le n r.high
-
-abbrev pub items_of : FilterOption → List ℕ → List (List ℕ)
-items_of o = slice_split (λ b. is_list o && b == 44)
 
 -- the options that have a text, with their texts
 abbrev pub given : List (Option (List ℕ)) → List FilterOption → Condition

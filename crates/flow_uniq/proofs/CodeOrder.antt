@@ -11,7 +11,6 @@ use Rattle.std.specs.Ordering.{MatchOrdering, nat_cmp, ordering_then}
 use Rattle.std.specs.declared.cmp.Ordering.{Ordering}
 use Rattle.prefix_keys.specs.declared.version.Version.TheVariants.{V4, V6}
 use Rattle.flow_uniq.specs.Codes.{AreSmall, IsCode, IsSmall, key_code, key_in, part_code}
-use Rattle.flow_uniq.specs.Groups.{key_order}
 use Rattle.flow_uniq.specs.Key.{Key, KeyPartModel, AddressPart, NumberPart, LabelPart, part_numbers}
 use Rattle.flow_uniq.proofs.Cutting.{LacksZero, label-lacks_zero}
 
@@ -168,7 +167,7 @@ code_first (AddressPart (V6, v)) r = (refl, refl)
 code_first (NumberPart n) r = (refl, refl)
 code_first (LabelPart t) r = (refl, refl)
 
-key_code-order : (a b : Key) → AreSmall a → AreSmall b → bytes_cmp (key_code a) (key_code b) ≡ key_order a b
+key_code-order : (a b : Key) → AreSmall a → AreSmall b → bytes_cmp (key_code a) (key_code b) ≡ slice_cmp parts_cmp a b
 key_code-order [] [] h k = refl
 key_code-order [] (q ∷ b) h k = (code_first q (key_code b)).0
 key_code-order (p ∷ a) [] h k = (code_first p (key_code a)).1
@@ -176,5 +175,5 @@ key_code-order (p ∷ a) (q ∷ b) h k =
     part_order p q (key_code a) (key_code b) h.0 k.0 ∙ ap (ordering_then (parts_cmp p q)) (key_code-order a b h.1 k.1)
 
 -- the order of codes is that of their keys
-pub codes_in_order : (a b : List ℕ) → IsCode a → IsCode b → slice_cmp nat_cmp a b ≡ key_order (key_in a) (key_in b)
+pub codes_in_order : (a b : List ℕ) → IsCode a → IsCode b → slice_cmp nat_cmp a b ≡ slice_cmp parts_cmp (key_in a) (key_in b)
 codes_in_order a b is_a is_b = (λ i. bytes_cmp (is_a.same i) (is_b.same i)) ∙ key_code-order (key_in a) (key_in b) is_a.small is_b.small

@@ -11,7 +11,7 @@ use Rattle.std.proofs.lemmas.Map.Keys.{IsDistinct-head, IsDistinct-tail}
 use Rattle.std.proofs.lemmas.Simd.{map-map}
 use Rattle.flow_rows.specs.Elements.{RowView}
 use Rattle.flow_uniq.specs.Key.{Key, same_key}
-use Rattle.flow_uniq.specs.Groups.{GroupModel, KeyedRow, distinct_keys, groups_of_keyed, totals_of}
+use Rattle.flow_uniq.specs.Groups.{GroupModel, distinct_keys, groups_of_keyed, totals_of}
 use Rattle.flow_uniq.specs.Laws.{SumsItsRows}
 use Rattle.flow_uniq.proofs.Grouping.{rows_with, same_key-equiv, any-distinct_keys}
 
@@ -44,7 +44,7 @@ distinct-distinct_keys (k ∷ ks) = (
   distinct-filter (λ o. not (same_key k o)) same_key (distinct_keys ks) (distinct-distinct_keys ks),
 )
 
-pub groups-distinct : (rows : List KeyedRow) → IsDistinct same_key (map (λ g. g.key) (groups_of_keyed rows))
+pub groups-distinct : (rows : List (Key × RowView)) → IsDistinct same_key (map (λ g. g.key) (groups_of_keyed rows))
 groups-distinct rows =
     let keys : List Key = map (λ r. r.0) rows in
     let group : Key → GroupModel = λ key. record { key = key; totals = totals_of (rows_with key rows) } in
@@ -54,16 +54,16 @@ groups-distinct rows =
 -- Each group sums the rows that have its key.
 
 -- a sum over rows with keys is that over the rows
-abbrev keyed_by : (RowView → Key) → List RowView → List KeyedRow
+abbrev keyed_by : (RowView → Key) → List RowView → List (Key × RowView)
 keyed_by key rows = map (λ row. (key row, row)) rows
 
 pub sum_by-keyed : (key : RowView → Key) (f : RowView → ℕ) (rows : List RowView)
-    → sum_by (λ r. f r.1) (map (λ row. let R : KeyedRow = (key row, row) in R) rows) ≡ sum_by f rows
+    → sum_by (λ r. f r.1) (map (λ row. let R : Key × RowView = (key row, row) in R) rows) ≡ sum_by f rows
 sum_by-keyed key f [] = refl
 sum_by-keyed key f (row ∷ rows) =
     omega (
       arith,
-      sum_by-cons (λ (r : KeyedRow). f r.1) (key row, row) (map (λ x. let R : KeyedRow = (key x, x) in R) rows),
+      sum_by-cons (λ (r : Key × RowView). f r.1) (key row, row) (map (λ x. let R : Key × RowView = (key x, x) in R) rows),
       sum_by-cons f row rows,
       sum_by-keyed key f rows,
     )
@@ -82,7 +82,7 @@ have-rows (k ∷ ks) =
     )
 
 -- a key of a row has a row
-has-row : (d : Key) (rows : List KeyedRow) → list_any (same_key d) (map (λ r. r.0) rows) ≡ true → 0 < length (rows_with d rows)
+has-row : (d : Key) (rows : List (Key × RowView)) → list_any (same_key d) (map (λ r. r.0) rows) ≡ true → 0 < length (rows_with d rows)
 has-row d [] none = absurd (true≢false (sym none))
 has-row d (r ∷ rows) some = by (same_key d r.0) (has-row d rows) some
   where
@@ -103,7 +103,7 @@ rows_with-keyed key d (row ∷ rows) = by (same_key d (key row)) (rows_with-keye
     by : (b : Bool) → rows_with d (keyed_by key rows) ≡ keyed_by key (filter (λ row. same_key d (key row)) rows)
         → cond b ((key row, row) ∷ rows_with d (keyed_by key rows)) (rows_with d (keyed_by key rows))
         ≡ keyed_by key (cond b (row ∷ filter (λ row. same_key d (key row)) rows) (filter (λ row. same_key d (key row)) rows))
-    by true ih = ap (λ (l : List KeyedRow). (key row, row) ∷ l) ih
+    by true ih = ap (λ (l : List (Key × RowView)). (key row, row) ∷ l) ih
     by false ih = ih
 
 pub groups-sum_their_rows : (key : RowView → Key) (rows : List RowView) → All (SumsItsRows key rows) (groups_of_keyed (keyed_by key rows))
@@ -125,26 +125,26 @@ groups-sum_their_rows key rows = All-map (SumsItsRows key rows) group ds (All-we
     sums d has =
         let own : List RowView = filter (λ row. same_key d (key row)) rows in
         let same : rows_with d (keyed_by key rows) ≡ keyed_by key own = rows_with-keyed key d rows in
-        let count : length (rows_with d (keyed_by key rows)) ≡ length own = ap length same ∙ length-map own (λ row. let R : KeyedRow = (key row, row) in R) in
+        let count : length (rows_with d (keyed_by key rows)) ≡ length own = ap length same ∙ length-map own (λ row. let R : Key × RowView = (key row, row) in R) in
         record {
           own = own;
           have_its_key = refl;
           some = subst (λ n. 0 < n) count (has-row d (keyed_by key rows) has);
           records = count;
-          packets = ap (sum_by (λ (r : KeyedRow). r.1.packets)) same ∙ sum_by-keyed key (λ row. row.packets) own;
-          octets = ap (sum_by (λ (r : KeyedRow). r.1.octets)) same ∙ sum_by-keyed key (λ row. row.octets) own;
+          packets = ap (sum_by (λ (r : Key × RowView). r.1.packets)) same ∙ sum_by-keyed key (λ row. row.packets) own;
+          octets = ap (sum_by (λ (r : Key × RowView). r.1.octets)) same ∙ sum_by-keyed key (λ row. row.octets) own;
         }
 
 -- What all rows have, added up, is the sum over the groups.
 
-abbrev other_rows : Key → List KeyedRow → List KeyedRow
+abbrev other_rows : Key → List (Key × RowView) → List (Key × RowView)
 other_rows d rows = filter (λ r. not (same_key d r.0)) rows
 
 -- each row has one of the keys
-abbrev HaveKeys : List Key → List KeyedRow → Type 0
+abbrev HaveKeys : List Key → List (Key × RowView) → Type 0
 HaveKeys ds rows = AllByRecursion (λ r. list_any (same_key r.0) ds ≡ true) rows
 
-have-more : (all : List Key) (rows : List KeyedRow)
+have-more : (all : List Key) (rows : List (Key × RowView))
     → ((k : Key) → list_any (same_key k) (map (λ r. r.0) rows) ≡ true → list_any (same_key k) all ≡ true) → HaveKeys all rows
 have-more all [] up = tt
 have-more all (r ∷ rows) up = (
@@ -152,7 +152,7 @@ have-more all (r ∷ rows) up = (
   have-more all rows (λ k h. up k (grind (arith, h))),
 )
 
-have-others : (d : Key) (ds : List Key) (rows : List KeyedRow) → HaveKeys (d ∷ ds) rows → HaveKeys ds (other_rows d rows)
+have-others : (d : Key) (ds : List Key) (rows : List (Key × RowView)) → HaveKeys (d ∷ ds) rows → HaveKeys ds (other_rows d rows)
 have-others d ds [] all = tt
 have-others d ds (r ∷ rows) all = by (same_key d r.0) refl (have-others d ds rows all.1)
   where
@@ -163,7 +163,7 @@ have-others d ds (r ∷ rows) all = by (same_key d r.0) refl (have-others d ds r
         (sym (ap (λ b. b || list_any (same_key r.0) ds) (same_key-equiv.symm r.0 d ∙ e)) ∙ all.0, rest)
 
 -- the rows with another key are among the others
-with-others : (d e : Key) → same_key d e ≡ false → (rows : List KeyedRow) → rows_with e (other_rows d rows) ≡ rows_with e rows
+with-others : (d e : Key) → same_key d e ≡ false → (rows : List (Key × RowView)) → rows_with e (other_rows d rows) ≡ rows_with e rows
 with-others d e apart [] = refl
 with-others d e apart (r ∷ rows) = by (same_key d r.0) (same_key e r.0) refl refl (with-others d e apart rows)
   where
@@ -174,15 +174,15 @@ with-others d e apart (r ∷ rows) = by (same_key d r.0) (same_key e r.0) refl r
     by true false s t ih = ih
     by false b s t ih =
         ap (λ c. cond c (r ∷ rows_with e (other_rows d rows)) (rows_with e (other_rows d rows))) t
-        ∙ ap (λ (l : List KeyedRow). cond b (r ∷ l) l) ih
+        ∙ ap (λ (l : List (Key × RowView)). cond b (r ∷ l) l) ih
 
 -- a sum over rows that is that of the rows with a key and of the others
-module _ (F : List KeyedRow → ℕ) (empty : F [] ≡ 0)
-    (both : (d : Key) (rows : List KeyedRow) → F (rows_with d rows) + F (other_rows d rows) ≡ F rows) where
-  abbrev by_key : List Key → List KeyedRow → ℕ
+module _ (F : List (Key × RowView) → ℕ) (empty : F [] ≡ 0)
+    (both : (d : Key) (rows : List (Key × RowView)) → F (rows_with d rows) + F (other_rows d rows) ≡ F rows) where
+  abbrev by_key : List Key → List (Key × RowView) → ℕ
   by_key ds rows = sum_by (λ d. F (rows_with d rows)) ds
 
-  by_key-others : (d : Key) (ds : List Key) (rows : List KeyedRow) → AllByRecursion (λ e. same_key d e ≡ false) ds
+  by_key-others : (d : Key) (ds : List Key) (rows : List (Key × RowView)) → AllByRecursion (λ e. same_key d e ≡ false) ds
       → by_key ds (other_rows d rows) ≡ by_key ds rows
   by_key-others d [] rows apart = refl
   by_key-others d (e ∷ ds) rows apart =
@@ -194,7 +194,7 @@ module _ (F : List KeyedRow → ℕ) (empty : F [] ≡ 0)
         by_key-others d ds rows apart.1,
       )
 
-  by_key-all : (ds : List Key) (rows : List KeyedRow) → IsDistinct same_key ds → HaveKeys ds rows → by_key ds rows ≡ F rows
+  by_key-all : (ds : List Key) (rows : List (Key × RowView)) → IsDistinct same_key ds → HaveKeys ds rows → by_key ds rows ≡ F rows
   by_key-all [] [] apart all = sym empty
   by_key-all [] (r ∷ rows) apart all = absurd (true≢false (sym all.0))
   by_key-all (d ∷ ds) rows apart all =
@@ -207,8 +207,8 @@ module _ (F : List KeyedRow → ℕ) (empty : F [] ≡ 0)
       )
 
   -- the sum over the groups, if `part` of the totals of rows is their sum
-  pub groups-sum : (part : GroupModel → ℕ) → ((key : Key) (rows : List KeyedRow) → part (record { key = key; totals = totals_of rows }) ≡ F rows)
-      → (rows : List KeyedRow) → sum_by part (groups_of_keyed rows) ≡ F rows
+  pub groups-sum : (part : GroupModel → ℕ) → ((key : Key) (rows : List (Key × RowView)) → part (record { key = key; totals = totals_of rows }) ≡ F rows)
+      → (rows : List (Key × RowView)) → sum_by part (groups_of_keyed rows) ≡ F rows
   groups-sum part is rows =
       over (distinct_keys keys)
       ∙ by_key-all (distinct_keys keys) rows (distinct-distinct_keys keys)
@@ -229,15 +229,15 @@ module _ (F : List KeyedRow → ℕ) (empty : F [] ≡ 0)
             over ds,
           )
 
-pub groups-records : (rows : List KeyedRow) → sum_by (λ g. g.totals.records) (groups_of_keyed rows) ≡ length rows
+pub groups-records : (rows : List (Key × RowView)) → sum_by (λ g. g.totals.records) (groups_of_keyed rows) ≡ length rows
 groups-records =
-    groups-sum length refl (λ d. length-filter_both (λ (r : KeyedRow). same_key d r.0) (λ r. not (same_key d r.0)) (λ r. refl))
+    groups-sum length refl (λ d. length-filter_both (λ (r : Key × RowView). same_key d r.0) (λ r. not (same_key d r.0)) (λ r. refl))
     (λ g. g.totals.records) (λ key rows. refl)
 
 module _ (f : RowView → ℕ) where
   pub groups-numbers : (part : GroupModel → ℕ)
-      → ((key : Key) (rows : List KeyedRow) → part (record { key = key; totals = totals_of rows }) ≡ sum_by (λ r. f r.1) rows)
-      → (rows : List KeyedRow) → sum_by part (groups_of_keyed rows) ≡ sum_by (λ r. f r.1) rows
+      → ((key : Key) (rows : List (Key × RowView)) → part (record { key = key; totals = totals_of rows }) ≡ sum_by (λ r. f r.1) rows)
+      → (rows : List (Key × RowView)) → sum_by part (groups_of_keyed rows) ≡ sum_by (λ r. f r.1) rows
   groups-numbers =
       groups-sum (sum_by (λ r. f r.1)) refl
-      (λ d. sum_by-filter_both (λ (r : KeyedRow). same_key d r.0) (λ r. not (same_key d r.0)) (λ r. refl) (λ (r : KeyedRow). f r.1))
+      (λ d. sum_by-filter_both (λ (r : Key × RowView). same_key d r.0) (λ r. not (same_key d r.0)) (λ r. refl) (λ (r : Key × RowView). f r.1))

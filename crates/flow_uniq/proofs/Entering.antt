@@ -14,7 +14,7 @@ use Rattle.indexmap.proofs.MapLemmas.{insert_entry-first}
 use Rattle.indexmap.proofs.RemoveLemmas.{own_first}
 use Rattle.indexmap.specs.IndexMap.{insert_entry, set_value_at}
 use Rattle.flow_rows.specs.Elements.{RowView}
-use Rattle.flow_uniq.specs.Groups.{Totals, GroupModel, KeyedRow, groups_of_keyed, record_count}
+use Rattle.flow_uniq.specs.Groups.{Totals, GroupModel, groups_of_keyed, record_count}
 use Rattle.flow_uniq.specs.Codes.{AreSmall, key_code, same_code}
 use Rattle.flow_uniq.specs.Inner.{HasRow, IsBounded, IsKept, kept_groups, none, with_row}
 use Rattle.flow_uniq.specs.Key.{Key, same_key}
@@ -141,7 +141,7 @@ module _ (k key : Key) (row : RowView) (es new : Entries) (t w : Totals) (once :
 pub row_later : (key : Key) (row : RowView) (es old new : Entries) → es ≡ old → HasRow key row es new → HasRow key row old new
 row_later key row es old new same has = subst (λ l. HasRow key row l new) same has
 
-pub then_groups : (rows : List KeyedRow) (k given : Key) (row : RowView) (kept old new : List GroupModel) → new ≡ entered k row kept → k ≡ given
+pub then_groups : (rows : List (Key × RowView)) (k given : Key) (row : RowView) (kept old new : List GroupModel) → new ≡ entered k row kept → k ≡ given
     → kept ≡ old → old ≡ groups_of_keyed rows → new ≡ groups_of_keyed (rows ++ (given, row) ∷ [])
 then_groups rows k given row kept old new h key view e =
     h ∙ (λ i. entered (key i) row ((view ∙ e) i)) ∙ sym (groups-push rows given row)

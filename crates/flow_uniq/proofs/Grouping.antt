@@ -13,17 +13,17 @@ use Rattle.pmap_text.specs.MapModel.{Label}
 use Rattle.pmap_text.proofs.LabelTexts.{list_any-map}
 use Rattle.flow_rows.specs.Elements.{RowView}
 use Rattle.flow_uniq.specs.Key.{Key, KeyField, key_of, part_numbers, same_key}
-use Rattle.flow_uniq.specs.Groups.{Totals, GroupModel, KeyedRow, distinct_keys, groups_of_keyed, totals_of}
+use Rattle.flow_uniq.specs.Groups.{Totals, GroupModel, distinct_keys, groups_of_keyed, totals_of}
 use Rattle.flow_uniq.specs.Inner.{none, with_row}
 
 pub same_key-equiv : IsEquivalence same_key
 same_key-equiv = lists_equiv (on_equiv part_numbers nat_list_eq_equiv)
 
 -- the rows with this key, and rows with their keys by these fields
-abbrev pub rows_with : Key → List KeyedRow → List KeyedRow
+abbrev pub rows_with : Key → List (Key × RowView) → List (Key × RowView)
 rows_with key rows = filter (λ r. same_key key r.0) rows
 
-abbrev pub keyed : List KeyField → (AddressOf → Option Label) → List RowView → List KeyedRow
+abbrev pub keyed : List KeyField → (AddressOf → Option Label) → List RowView → List (Key × RowView)
 keyed fields label rows = map (λ row. (key_of label fields row, row)) rows
 
 -- the group of a new key, a group with one more row if it is of its key, and groups with one more row
@@ -67,18 +67,18 @@ distinct-push (x ∷ ks) k =
     last false false e = ap (λ (c : Bool). let R : List Key = cond (not c) (k ∷ []) [] in R) (same_key-equiv.symm x k ∙ e)
 
 -- the group of a key among rows
-abbrev group_of : List KeyedRow → Key → GroupModel
+abbrev group_of : List (Key × RowView) → Key → GroupModel
 group_of rows key = record { key = key; totals = totals_of (rows_with key rows) }
 
-totals-push : (rows : List KeyedRow) (r : KeyedRow) → totals_of (rows ++ r ∷ []) ≡ with_row (totals_of rows) r.1
+totals-push : (rows : List (Key × RowView)) (r : Key × RowView) → totals_of (rows ++ r ∷ []) ≡ with_row (totals_of rows) r.1
 totals-push rows r = λ i. record {
   records = length_push rows r i;
-  packets = sum_by_push (λ (x : KeyedRow). x.1.packets) rows r i;
-  octets = sum_by_push (λ (x : KeyedRow). x.1.octets) rows r i;
+  packets = sum_by_push (λ (x : Key × RowView). x.1.packets) rows r i;
+  octets = sum_by_push (λ (x : Key × RowView). x.1.octets) rows r i;
 }
 
-module _ (rows : List KeyedRow) (k : Key) (row : RowView) where
-  abbrev more : List KeyedRow
+module _ (rows : List (Key × RowView)) (k : Key) (row : RowView) where
+  abbrev more : List (Key × RowView)
   more = rows ++ (k, row) ∷ []
 
   abbrev keys : List Key
@@ -86,7 +86,7 @@ module _ (rows : List KeyedRow) (k : Key) (row : RowView) where
 
   with-more : (d : Key) (b : Bool) → same_key k d ≡ b → rows_with d more ≡ rows_with d rows ++ cond b ((k, row) ∷ []) []
   with-more d b e =
-      filter-append (λ (r : KeyedRow). same_key d r.0) rows ((k, row) ∷ [])
+      filter-append (λ (r : Key × RowView). same_key d r.0) rows ((k, row) ∷ [])
       ∙ ap (λ c. rows_with d rows ++ cond c ((k, row) ∷ []) []) (same_key-equiv.symm d k ∙ e)
 
   group-more : (d : Key) (b : Bool) → same_key k d ≡ b
@@ -94,10 +94,10 @@ module _ (rows : List KeyedRow) (k : Key) (row : RowView) where
   group-more d true e =
       ap (λ (t : Totals). record { key = d; totals = t }) (ap totals_of (with-more d true e) ∙ totals-push (rows_with d rows) (k, row))
   group-more d false e =
-      ap (λ (l : List KeyedRow). record { key = d; totals = totals_of l }) (with-more d false e ∙ append-nil (rows_with d rows))
+      ap (λ (l : List (Key × RowView)). record { key = d; totals = totals_of l }) (with-more d false e ∙ append-nil (rows_with d rows))
 
   -- if no row has the key, there are no rows with it
-  with-none : (rs : List KeyedRow) → list_any (same_key k) (map (λ r. r.0) rs) ≡ false → rows_with k rs ≡ []
+  with-none : (rs : List (Key × RowView)) → list_any (same_key k) (map (λ r. r.0) rs) ≡ false → rows_with k rs ≡ []
   with-none [] h = refl
   with-none (r ∷ rs) h = by (same_key k r.0) h (with-none rs)
     where
@@ -110,13 +110,13 @@ module _ (rows : List KeyedRow) (k : Key) (row : RowView) where
       → map (group_of more) (if b then [] else k ∷ []) ≡ (if b then [] else fresh k row ∷ [])
   groups-last true h = refl
   groups-last false h =
-      ap (λ (l : List KeyedRow). record { key = k; totals = totals_of l } ∷ [])
-      (with-more k true (same_key-equiv.refl k) ∙ ap (λ (l : List KeyedRow). l ++ (k, row) ∷ []) (with-none rows h))
+      ap (λ (l : List (Key × RowView)). record { key = k; totals = totals_of l } ∷ [])
+      (with-more k true (same_key-equiv.refl k) ∙ ap (λ (l : List (Key × RowView)). l ++ (k, row) ∷ []) (with-none rows h))
 
   -- the groups of rows followed by one more
   pub groups-push : groups_of_keyed more ≡ entered k row (groups_of_keyed rows)
   groups-push =
-      ap (map (group_of more)) (ap distinct_keys (map_push (λ (r : KeyedRow). r.0) rows (k, row)) ∙ distinct-push keys k)
+      ap (map (group_of more)) (ap distinct_keys (map_push (λ (r : Key × RowView). r.0) rows (k, row)) ∙ distinct-push keys k)
       ∙ map-append (group_of more) (distinct_keys keys) (if list_any (same_key k) keys then [] else k ∷ [])
       ∙ (λ i. map (λ d. group-more d (same_key k d) refl i) (distinct_keys keys) ++ groups-last (list_any (same_key k) keys) refl i)
       ∙ (λ i. sym (map-map (grown k row) (group_of rows) (distinct_keys keys)) i ++ (if known i then [] else fresh k row ∷ []))

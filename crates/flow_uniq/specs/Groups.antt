@@ -1,7 +1,6 @@
 use Rattle.std.specs.Prelude.{◌≡◌, ℕ, List, [], ◌∷◌, Option, not, length, map, filter, sum_by, Bool, if◌then◌else◌}
 use Rattle.std.specs.Cmp.Lexicographic.{slice_cmp}
 use Rattle.std.specs.Ordering.{is_lt, nat_cmp}
-use Rattle.std.specs.declared.cmp.Ordering.{Ordering}
 use Rattle.prefix_keys.specs.Text.{AddressOf}
 use Rattle.pmap_text.specs.MapModel.{Label}
 use Rattle.pmap_text.specs.Sorting.{in_order}
@@ -20,10 +19,6 @@ pub record GroupModel : Type 0 where
 pub record GroupsModel : Type 0 where
   pub fields : List KeyField
   pub groups : List GroupModel
-
--- a row with its key
-abbrev pub KeyedRow : Type 0
-KeyedRow = Key × RowView
 
 -- the number of rows, and the sums of their packets and octets
 abbrev pub totals_of : List (Key × RowView) → Totals
@@ -67,11 +62,3 @@ is_before g h = is_lt (slice_cmp (λ p q. slice_cmp nat_cmp (part_numbers p) (pa
 -- the groups in the order of output: in the order of their first rows, or sorted
 abbrev pub shown_groups : Bool → List GroupModel → List GroupModel
 shown_groups sorted groups = if sorted then in_order is_before groups else groups
-
--- Parts of these definitions: the order of keys, and groups in their order.
-
-abbrev pub key_order : Key → Key → Ordering
-key_order a b = slice_cmp (λ p q. slice_cmp nat_cmp (part_numbers p) (part_numbers q)) a b
-
-abbrev pub sorted_groups : List GroupModel → List GroupModel
-sorted_groups groups = in_order is_before groups

@@ -1,10 +1,11 @@
 //! Keys as bytes, which are in the order of the keys. The bytes that are written for the key of a row are read back as
 //! this key, part by part.
 ghost use Rattle.std.specs.Prelude.{bytes_eq, ◌≡◌, ◌++◌, ◌∷◌, ◌↔◌, [], IfNone, IfOk, IfSome, IsTrue, OnOk, option_copied, option_map};
+ghost use Rattle.std.specs.Cmp.Lexicographic.{slice_cmp};
+ghost use Rattle.std.specs.Ordering.{nat_cmp};
 ghost use Rattle.label_lookup.specs.Labelling.{label_where, labelling_borrowed};
-ghost use Rattle.flow_uniq.specs.Key.{AddressPart, Key as Parts, key_of, key_part};
+ghost use Rattle.flow_uniq.specs.Key.{AddressPart, Key as Parts, key_of, key_part, part_numbers};
 ghost use Rattle.flow_uniq.specs.Codes.{AreSmall, IsCode, IsCode-prop, IsSmall, first_part, front_label, key_code, key_in, part_code, part_model};
-ghost use Rattle.flow_uniq.specs.Groups.{key_order};
 
 use crate::field::KeyField;
 use flow_rows::Row;
@@ -268,7 +269,8 @@ impl<'a> Key<'a> {
 /// addresses are before those of IPv6, and no label is before any label. Otherwise addresses and numbers compare by
 /// value, and labels by their bytes. The codes of keys compare in the same way.
 pub fn compare_keys(a: Key<'_>, b: Key<'_>) -> Ordering
-    ensures { result ≡ key_order (key_in a.entry.code.now) (key_in b.entry.code.now) }
+    ensures { result
+        ≡ slice_cmp (λ p q. slice_cmp nat_cmp (part_numbers p) (part_numbers q)) (key_in a.entry.code.now) (key_in b.entry.code.now) }
 {
     a.code.cmp(b.code)
 }

@@ -1,7 +1,9 @@
 ghost use Rattle.std.specs.Prelude.{All, ◌≡◌, ◌++◌, ℕ, ◌∷◌, [], ◌+◌, ◌-◌, ◌^◌, ◌<◌, ◌≤◌, false, IsTrue, List, IfOk, OnOk, OnErr, length, map, option_map, slice_get};
+ghost use Rattle.pmap_text.specs.Sorting.{in_order};
 ghost use Rattle.label_lookup.specs.Labelling.{label_where, labelling_borrowed};
-ghost use Rattle.flow_uniq.specs.Groups.{AreOfNoRows, KeyedRow, groups_of_keyed, record_count, sorted_groups};
-ghost use Rattle.flow_uniq.specs.Key.{key_of};
+ghost use Rattle.flow_rows.specs.Elements.{RowView};
+ghost use Rattle.flow_uniq.specs.Groups.{AreOfNoRows, groups_of_keyed, is_before, record_count};
+ghost use Rattle.flow_uniq.specs.Key.{Key as Parts, key_of};
 ghost use Rattle.flow_uniq.specs.Codes.{IsCode, key_in};
 ghost use Rattle.flow_uniq.specs.Inner.{HasRow, IsKept, group_model, kept_groups};
 
@@ -182,7 +184,7 @@ impl Groups {
         // If these were the groups of some rows with their keys, they are now those of the rows followed by this one.
         ensures ok { let label = label_where (labelling_borrowed L.version_of L.label labeller.entry) in
             let added = row.now in
-            OnOk result ((rows : List KeyedRow) → self.old.groups ≡ groups_of_keyed rows → self.new.groups
+            OnOk result ((rows : List (Parts × RowView)) → self.old.groups ≡ groups_of_keyed rows → self.new.groups
             ≡ groups_of_keyed (rows ++ (key_of label self.old.fields added, added) ∷ [])) }
         ensures count { OnOk result (record_count self.new.groups ≡ record_count self.old.groups + 1) }
         ensures err { OnErr result (self.new ≡ self.old) }
@@ -221,7 +223,7 @@ impl Groups {
 
     /// Returns the groups in the order of their keys.
     pub fn sorted(&self) -> Result<Vec<Group<'_>>, AllocError>
-        ensures { IfOk result (λ groups. map group_model groups.items ≡ sorted_groups self.now.groups) }
+        ensures { IfOk result (λ groups. map group_model groups.items ≡ in_order is_before self.now.groups) }
     {
         let mut groups = listed(self.alloc, self)?;
         groups.sort_by(|a, b| compare_keys(a.key, b.key))?;

@@ -3,9 +3,10 @@ ghost use Rattle.std.specs.Prelude.{Bool, List, Option};
 ghost use Rattle.std.specs.List.Sorted.{IsPermutation, IsSortedBy};
 ghost use Rattle.prefix_keys.specs.Text.{AddressOf};
 ghost use Rattle.pmap_text.specs.MapModel.{Label};
+ghost use Rattle.pmap_text.specs.Sorting.{in_order};
 ghost use Rattle.flow_rows.specs.Elements.{RowView};
 ghost use Rattle.flow_uniq.specs.Key.{KeyField, key_of};
-ghost use Rattle.flow_uniq.specs.Groups.{GroupModel, groups_of, is_before, shown_groups, sorted_groups};
+ghost use Rattle.flow_uniq.specs.Groups.{GroupModel, groups_of, is_before, shown_groups};
 ghost use Rattle.flow_uniq.specs.Laws.{DivideRows};
 
 /// The groups of rows have distinct keys, and each sums exactly the rows that have its key. Their records, packets and
@@ -17,6 +18,6 @@ pub fn groups_divide_the_rows()
 
 /// Sorted groups are the same groups, and no key is before the key of the previous group.
 pub fn sorted_groups_are_in_order()
-    ensures same { (groups : List GroupModel) → IsPermutation groups (sorted_groups groups) }
-    ensures ascends { (groups : List GroupModel) → IsSortedBy is_before (sorted_groups groups) }
+    ensures same { (groups : List GroupModel) → IsPermutation groups (in_order is_before groups) }
+    ensures ascends { (groups : List GroupModel) → IsSortedBy is_before (in_order is_before groups) }
 {}

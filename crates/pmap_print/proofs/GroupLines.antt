@@ -1,16 +1,16 @@
 -- The lines of groups, one by one.
 use Rattle.std.proofs.Common.{ℕ, subst, ◌≡◌, ◌+◌, ◌∙◌, List, [], ◌∷◌, ◌++◌, All, Some, length, map, take, slice_get, ap, sym, refl, arith, ◌<◌}
-use Rattle.std.specs.Prelude.{decimal}
+use Rattle.std.specs.Prelude.{codes, decimal}
 use Rattle.std.proofs.lemmas.List.{length-append, length-map, map_push, take_more}
 use Rattle.std.proofs.lemmas.Option.{get_or_from_slice_get, slice_get_within}
 use Rattle.flow_uniq.specs.declared.field.KeyField.{KeyField}
 use Rattle.flow_uniq.specs.Key.{field_name}
 use Rattle.flow_uniq.specs.Groups.{GroupModel}
-use Rattle.pmap_print.specs.Reports.{group_fields, group_titles, part_text, total_titles}
+use Rattle.pmap_print.specs.Reports.{group_fields, group_titles, part_text}
 use Rattle.pmap_print.specs.Table.{Line}
 
 pub length-group_titles : (fields : List KeyField) → length (group_titles fields) ≡ length fields + 3
-length-group_titles fields = omega (arith, length-append (map field_name fields) total_titles, length-map fields field_name)
+length-group_titles fields = omega (arith, length-append (map field_name fields) (codes "records" ∷ codes "packets" ∷ codes "bytes" ∷ []), length-map fields field_name)
 
 pub length-group_fields : (g : GroupModel) (count : ℕ) → length g.key ≡ count → length (group_fields g) ≡ count + 3
 length-group_fields g count h = omega (arith, length-append (map part_text g.key) (decimal g.totals.records ∷ decimal g.totals.packets ∷ decimal g.totals.octets ∷ []), length-map g.key part_text, h)

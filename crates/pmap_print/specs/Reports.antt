@@ -3,7 +3,6 @@ use Rattle.std.specs.Borrow.{Bor}
 use Rattle.std.specs.List.{zip}
 use Rattle.prefix_keys.specs.Print.{address_text}
 use Rattle.flow_rows.specs.Elements.{RowView}
-use Rattle.flow_uniq.specs.declared.groups.Totals.{Totals}
 use Rattle.flow_uniq.specs.declared.field.KeyField.{KeyField}
 use Rattle.flow_uniq.specs.Key.{field_name, KeyPartModel, AddressPart, NumberPart, LabelPart}
 use Rattle.flow_uniq.specs.Groups.{GroupModel}
@@ -103,14 +102,3 @@ count_names =
 -- the lines of all counts, each with its name and its number
 abbrev pub info_text : List ℕ → Text
 info_text counts = fold (λ text count. text ++ (count.0 ++ 32 ∷ decimal count.1 ++ 10 ∷ [])) [] (zip count_names counts)
-
--- Parts of these texts.
-
-abbrev pub total_titles : Line
-total_titles = codes "records" ∷ codes "packets" ∷ codes "bytes" ∷ []
-
-abbrev pub total_fields : Totals → Line
-total_fields t = decimal t.records ∷ decimal t.packets ∷ decimal t.octets ∷ []
-
-abbrev pub count_text : Text → ℕ → Text
-count_text name number = name ++ 32 ∷ decimal number ++ 10 ∷ []

@@ -1,7 +1,7 @@
 //! The printed text of counts.
-ghost use Rattle.std.specs.Prelude.{◌≡◌, ◌++◌, IfOk, OnOk};
+ghost use Rattle.std.specs.Prelude.{◌≡◌, ◌++◌, ◌∷◌, [], IfOk, OnOk, decimal};
 ghost use Rattle.flow_rows.specs.Counts.{numbers_of};
-ghost use Rattle.pmap_print.specs.Reports.{count_text, info_text};
+ghost use Rattle.pmap_print.specs.Reports.{info_text};
 
 use crate::mark::Mark;
 use crate::text::Text;
@@ -10,7 +10,7 @@ use std::alloc::{AllocError, Global};
 
 // Appends the line of a count: its name and its number.
 fn print_count(out: &mut Text, name: &[u8], number: u64) -> Result<(), AllocError>
-    ensures { OnOk result (out.new ≡ out.old ++ count_text name.now number) }
+    ensures { OnOk result (out.new ≡ out.old ++ (name.now ++ 32 ∷ decimal number ++ 10 ∷ [])) }
 {
     out.push_bytes(name)?;
     out.push_number(Mark::End(b' '), number)?;

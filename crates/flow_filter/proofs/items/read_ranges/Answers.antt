@@ -1,9 +1,10 @@
 use Rattle.std.proofs.Common.{◌≡◌, ◌∙◌, ◌&&◌, ◌==◌, ◌++◌, ◌∷◌, [], ℕ, true, Option, Some, None, Ok, Err, List, refl, ap, arith, get_or, length, map, rules, sym, tests}
 use Rattle.std.specs.Prelude.{is_none, ok_or}
+use Rattle.std.specs.List.{slice_split}
 use Rattle.std.proofs.lemmas.Iterator.Consumers.{YieldsList-end, YieldsList-turn}
 use Rattle.std.proofs.lemmas.Iterator.Splits.{YieldsList-from_slice_split}
 use Rattle.std.proofs.lemmas.List.{get_or-map, length-map, map_push}
-use Rattle.flow_filter.specs.Condition.{RowTest, is_malformed, item_test, items_of}
+use Rattle.flow_filter.specs.Condition.{RowTest, is_malformed, item_test}
 use Rattle.flow_filter.specs.Filters.{by_range, number_of}
 use Rattle.flow_filter.specs.Options.{is_list, kind_of}
 use Rattle.prefix_keys.specs.Text.{all_some}
@@ -34,7 +35,7 @@ returns-in_err-range-clause-err c =
     (YieldsList-from_slice_split _ (λ b. is_list c.args.option && b == 44) c.args.text.now (cc) (cc)
     (ap (λ s. s.pred) c.into_iter-item-iterator.ensures.into_iter_gives ∙ c.split-item-items.ensures.closure) (λ x b q k. search (rules, tests)))
     c.loop-item.yielded _ c.loop-item.yielded_by _ _ c.in-Some.item c.in-Some.is c.next.ensures.steps in
-    let items = items_of c.args.option c.args.text.now in
+    let items = slice_split (λ b. is_list c.args.option && b == 44) c.args.text.now in
     let fault = err_parts (item_test c.args.option c.in-Some.item.now) (kind_of c.args.option) c.in_err-range.field-0.0 c.in_err-range.ensures in
     let missing : get_or (map (item_test c.args.option) items) (length c.loop-item.yielded) None ≡ None =
     get_or-map (item_test c.args.option) items (length c.loop-item.yielded) c.in-Some.item.now None turn.0

@@ -4,20 +4,21 @@ use Rattle.std.proofs.lemmas.List.Sorted.{All-permutation, IsPermutation-map, su
 use Rattle.std.proofs.lemmas.Map.Keys.{IsDistinct-IsPermutation}
 use Rattle.flow_rows.specs.Elements.{RowView}
 use Rattle.flow_uniq.specs.Key.{Key, key_of, same_key}
-use Rattle.flow_uniq.specs.Groups.{GroupModel, KeyedRow, groups_of, is_before, shown_groups, sorted_groups}
+use Rattle.flow_uniq.specs.Groups.{GroupModel, groups_of, is_before, shown_groups}
 use Rattle.flow_uniq.specs.Laws.{DivideRows, SumsItsRows}
 use Rattle.flow_uniq.proofs.Dividing.{groups-distinct, groups-numbers, groups-records, groups-sum_their_rows, sum_by-keyed}
 use Rattle.flow_uniq.proofs.Grouping.{keyed, same_key-equiv}
+use Rattle.pmap_text.specs.Sorting.{in_order}
 use Rattle.pmap_text.proofs.Sorting.{same-in_order}
 use Rattle.flow_uniq.proofs.laws.groups_divide_the_rows.Goals as goal
 
 -- sorted groups divide what the groups divide
-divide-sorted : (key : RowView → Key) (rows : List RowView) (groups : List GroupModel) → DivideRows key rows groups → DivideRows key rows (sorted_groups groups)
+divide-sorted : (key : RowView → Key) (rows : List RowView) (groups : List GroupModel) → DivideRows key rows groups → DivideRows key rows (in_order is_before groups)
 divide-sorted key rows groups d =
     let same = same-in_order is_before groups in
     record {
       keys = IsDistinct-IsPermutation same_key same_key-equiv.symm _ _ (IsPermutation-map (λ (g : GroupModel). g.key) groups _ same) d.keys;
-      each = All-permutation (SumsItsRows key rows) groups (sorted_groups groups) same d.each;
+      each = All-permutation (SumsItsRows key rows) groups (in_order is_before groups) same d.each;
       records = sum_by-IsPermutation (λ (g : GroupModel). g.totals.records) groups _ same ∙ d.records;
       packets = sum_by-IsPermutation (λ (g : GroupModel). g.totals.packets) groups _ same ∙ d.packets;
       octets = sum_by-IsPermutation (λ (g : GroupModel). g.totals.octets) groups _ same ∙ d.octets;
@@ -33,7 +34,7 @@ returns c fields label sorted rows = by sorted
     of = record {
       keys = groups-distinct (keyed fields label rows);
       each = groups-sum_their_rows key rows;
-      records = groups-records (keyed fields label rows) ∙ length-map rows (λ (row : RowView). let R : KeyedRow = (key row, row) in R);
+      records = groups-records (keyed fields label rows) ∙ length-map rows (λ (row : RowView). let R : Key × RowView = (key row, row) in R);
       packets = groups-numbers (λ row. row.packets) (λ g. g.totals.packets) (λ k rs. refl) (keyed fields label rows)
           ∙ sum_by-keyed key (λ row. row.packets) rows;
       octets = groups-numbers (λ row. row.octets) (λ g. g.totals.octets) (λ k rs. refl) (keyed fields label rows)

@@ -4,6 +4,7 @@ use Rattle.std.specs.List.Sorted.{IsSortedBy}
 use Rattle.std.specs.List.{zip}
 use Rattle.std.specs.Option.{ForSome, option_map_or}
 use Rattle.pmap_text.specs.ListModel.{ListModel}
+use Rattle.pmap_text.specs.Sorting.{in_order}
 use Rattle.pmap_text.specs.MapModel.{MapModel}
 use Rattle.pmap_cert.specs.FormatReading.{format_reading}
 use Rattle.pmap_text.specs.Reading.{list_reading, map_reading}
@@ -20,7 +21,7 @@ use Rattle.flow_rows.specs.Counts.{counts_of, rows_of_messages}
 use Rattle.flow_rows.specs.Elements.{RowView}
 use Rattle.flow_rows.specs.Laws.{summed_counts}
 use Rattle.flow_filter.specs.Laws.{rows_left}
-use Rattle.flow_uniq.specs.Groups.{GroupModel, groups_of, is_before, shown_groups, sorted_groups}
+use Rattle.flow_uniq.specs.Groups.{GroupModel, groups_of, is_before, shown_groups}
 use Rattle.flow_uniq.specs.Key.{key_of}
 use Rattle.flow_uniq.specs.Laws.{DivideRows}
 use Rattle.pmap_print.specs.Reports.{info_text, label_fields, label_titles, row_fields, row_titles}
@@ -127,7 +128,7 @@ prints_rows columns labels shown outcome made = record {
 }
 
 -- groups are in order if they are sorted
-in_order_if : (sorted : Bool) (groups : List GroupModel) → IsSortedBy is_before (sorted_groups groups) → sorted ≡ true
+in_order_if : (sorted : Bool) (groups : List GroupModel) → IsSortedBy is_before (in_order is_before groups) → sorted ≡ true
     → IsSortedBy is_before (shown_groups sorted groups)
 in_order_if true groups up e = up
 in_order_if false groups up e = absurd (true≢false (sym e))
