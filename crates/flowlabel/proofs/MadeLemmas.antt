@@ -19,17 +19,18 @@ use Rattle.flowlabel.specs.BytesFault.{role_of}
 use Rattle.flowlabel.specs.ByFile.{ByFile, Role, at, each, turn, with_at}
 use Rattle.flowlabel.specs.declared.by_file.Role.TheVariants as role
 use Rattle.flowlabel.specs.declared.bytes_fault.BytesFault.TheVariants.{List as InList, Certificate as InCertificate, Flows as InFlows}
-use Rattle.flowlabel.specs.Output.{BytesFault, Decodes, Faulty, FlowsThen, IsOutput, LabelsThen, NoMemory, Outcome, OutputFault, Prints, Returns, Then, Unread}
-use Rattle.flowlabel.proofs.Outcomes.{CertificateThen, ListThen, PrintsCompact, ReportsOf}
+use Rattle.flowlabel.specs.Output.{BytesFault, Decodes, Faulty, IsOutput, LabelsThen, NoMemory, Outcome, OutputFault, Prints, Returns, Then, Unread}
+use Rattle.flowlabel.proofs.Outcomes.{CertificateThen, ListThen, ReportsOf}
 use Rattle.pmap_text.specs.ListModel.{ListModel}
+use Rattle.pmap_cert.specs.CertificateModel.{CertificateModel}
 use Rattle.pmap_cert.specs.FormatReading.{format_reading}
-use Rattle.pmap_text.specs.Reading.{list_reading}
+use Rattle.pmap_text.specs.Reading.{list_reading, map_reading}
 use Rattle.flowlabel.specs.declared.run.labels.LabelsRead.{LabelsRead}
 use Rattle.flowlabel.specs.declared.run.labels.LabelsRead.TheVariants as read
-use Rattle.flowlabel.specs.Reports.{AreLabels, AreLabelsOf, IsMade, IsReadOf, IsReadOut, IsWhole, LabelsMade, Makes, ReadsLabels, ReadsMessages, ReportsThen, SourceThen, labelling_found, labelling_read}
+use Rattle.flowlabel.specs.Reports.{AreLabels, AreLabelsOf, IsMade, IsReadOf, IsReadOut, IsWhole, LabelsMade, Makes, ReadsLabels, ReadsMessages, ReportsThen, everywhere, labelling_found, labelling_read}
 use Rattle.flowlabel.specs.declared.command.LabelFile.{LabelFile}
 use Rattle.flowlabel.specs.declared.command.LabelFile.TheVariants.{Map, List as Prefixes}
-use Rattle.flowlabel.specs.Request.{Command, FromList, FromMap, LabelSource, Text, role_in, source_by, source_with}
+use Rattle.flowlabel.specs.Request.{Command, Text, role_in}
 use Rattle.flowlabel.specs.Run.{AreAllFetched, AreLaterUntouched, AreReadOn, AreTexts, AreUnread, EndsAs, IsFaultOf, IsNamed, MayHave, RunFault, CannotRead, File, NoMemory as OutOfMemory, Source, any_failed, is_unread, name_in, view_of}
 
 -- a result that passes on a fault has the properties of one with this fault
@@ -54,9 +55,6 @@ at_same role.List x files = refl
 at_same role.Certificate x files = refl
 at_same role.Flows x files = refl
 
-blank : ByFile Text
-blank = record { map = []; list = []; certificate = []; flows = [] }
-
 module _ {R : Type 0} (input : R → InputView) (old : ByFile (Option (Source R))) (none : any_failed input old ≡ false) where
   none_failed : ((view_of input old.map).failed ≡ false) × ((view_of input old.list).failed ≡ false)
       × ((view_of input old.certificate).failed ≡ false) × ((view_of input old.flows).failed ≡ false)
@@ -80,17 +78,17 @@ none_after_flows role.Certificate later = omega (arith, later)
 none_after_flows role.Flows later = omega (arith, later)
 
 -- a report under labels that are read
-source_stays : (texts : ByFile Text) (bytes : List ℕ) (labels : Option LabelFile)
-    → option_map (source_with (with_at role.Flows bytes texts)) labels ≡ option_map (source_with texts) labels
-source_stays texts bytes None = refl
-source_stays texts bytes (Some (Map file)) = refl
-source_stays texts bytes (Some (Prefixes file)) = refl
+reads_stay : (texts : ByFile Text) (bytes : List ℕ) (named : Option LabelFile) (labels : Option Labelling)
+    → ReadsLabels named (with_at role.Flows bytes texts) labels → ReadsLabels named texts labels
+reads_stay texts bytes None labels is = is
+reads_stay texts bytes (Some (Map file)) labels is = is
+reads_stay texts bytes (Some (Prefixes file)) labels is = is
 
-labels_then : (text : Option Labelling → List MessageView → List ℕ) (source : Option LabelSource) (labels : Option Labelling) (flows : List ℕ) (outcome : Outcome)
-    → ReadsLabels source labels → ReportsOf text labels flows outcome → ReportsThen text source flows outcome
-labels_then text None labels flows outcome reads is = subst (λ (l : Option Labelling). ReportsOf text l flows outcome) reads is
-labels_then text (Some (FromMap map)) labels flows outcome (m, reads, same) is = rw reads (subst (λ (l : Option Labelling). ReportsOf text l flows outcome) same is)
-labels_then text (Some (FromList list)) labels flows outcome (l, reads, same) is = rw reads (subst (λ (l : Option Labelling). ReportsOf text l flows outcome) same is)
+labels_then : (text : Option Labelling → List MessageView → List ℕ) (named : Option LabelFile) (labels : Option Labelling) (texts : ByFile Text) (outcome : Outcome)
+    → ReadsLabels named texts labels → ReportsOf text labels texts.flows outcome → ReportsThen text named texts outcome
+labels_then text None labels texts outcome reads is = subst (λ (l : Option Labelling). ReportsOf text l texts.flows outcome) reads is
+labels_then text (Some (Map file)) labels texts outcome (m, reads, same) is = rw reads (subst (λ (l : Option Labelling). ReportsOf text l texts.flows outcome) same is)
+labels_then text (Some (Prefixes file)) labels texts outcome (l, reads, same) is = rw reads (subst (λ (l : Option Labelling). ReportsOf text l texts.flows outcome) same is)
 
 -- a fault of a text, or of what comes after it, is of no earlier file
 pub then_first : {F A : Type 0} (in_file : F → BytesFault) (rest : A → Outcome → Type 0) (n : ℕ) (reading : Result A F) (fault : BytesFault)
@@ -104,8 +102,10 @@ pub list_first : (rest : ListModel → Outcome → Type 0) (text : List ℕ) (fa
     → ((l : ListModel) → rest l (Err fault) → 1 ≤ turn (role_of fault)) → ListThen rest text (Err fault) → 1 ≤ turn (role_of fault)
 list_first rest text fault = then_first InList rest 1 (list_reading text) fault (λ own. omega arith)
 
-pub certificate_first : (text : List ℕ) (fault : BytesFault) → CertificateThen PrintsCompact text (Err fault) → 2 ≤ turn (role_of fault)
-certificate_first text fault = then_first InCertificate PrintsCompact 2 (format_reading text) fault (λ own. omega arith) (λ c is. cc)
+pub certificate_first : (out_of : CertificateModel → List ℕ) (text : List ℕ) (fault : BytesFault)
+    → CertificateThen (λ c. Prints (out_of c)) text (Err fault) → 2 ≤ turn (role_of fault)
+certificate_first out_of text fault =
+    then_first InCertificate (λ c. Prints (out_of c)) 2 (format_reading text) fault (λ own. omega arith) (λ c is. cc)
 
 -- its faults are those of the flows
 flows_only : (text : Option Labelling → List MessageView → List ℕ) (labels : Option Labelling) (flows : List ℕ) (fault : BytesFault)
@@ -113,11 +113,11 @@ flows_only : (text : Option Labelling → List MessageView → List ℕ) (labels
 flows_only text labels flows fault =
     then_first InFlows (λ messages. Prints (text labels messages)) 3 (file_reading flows) fault (λ own. omega arith) (λ messages is. cc)
 
-flows_last : (text : Option Labelling → List MessageView → List ℕ) (source : Option LabelSource) (labels : Option Labelling) (flows : List ℕ) (fault : BytesFault)
-    → ReadsLabels source labels → ReportsThen text source flows (Err fault) → 3 ≤ turn (role_of fault)
-flows_last text None labels flows fault reads is = flows_only text None flows fault is
-flows_last text (Some (FromMap map)) labels flows fault (m, reads, same) is = flows_only text (Some (labelling_of_map m)) flows fault (rw reads at is)
-flows_last text (Some (FromList list)) labels flows fault (l, reads, same) is = flows_only text (Some (labelling_of_list l)) flows fault (rw reads at is)
+flows_last : (text : Option Labelling → List MessageView → List ℕ) (named : Option LabelFile) (labels : Option Labelling) (texts : ByFile Text) (fault : BytesFault)
+    → ReadsLabels named texts labels → ReportsThen text named texts (Err fault) → 3 ≤ turn (role_of fault)
+flows_last text None labels texts fault reads is = flows_only text None texts.flows fault is
+flows_last text (Some (Map file)) labels texts fault (m, reads, same) is = flows_only text (Some (labelling_of_map m)) texts.flows fault (rw reads at is)
+flows_last text (Some (Prefixes file)) labels texts fault (l, reads, same) is = flows_only text (Some (labelling_of_list l)) texts.flows fault (rw reads at is)
 
 -- what comes of a text that has a fault
 pub fault_returned : {F A V : Type 0} (in_file : F → BytesFault) (model : V → A) (rest : A → Outcome → Type 0) (reading : Result A F) (fault : OutputFault)
@@ -138,28 +138,28 @@ labels_first rest (Map file) texts fault follows is = omega arith
 labels_first rest (Prefixes file) texts fault follows is =
     list_first (λ l. rest (labelling_of_list l)) texts.list fault (λ l. follows (labelling_of_list l)) is
 
--- the outcomes of a report over the texts of its files
-abbrev ReportsOver : (Option Labelling → List MessageView → List ℕ) → Option LabelFile → ByFile Text → Outcome → Type 0
-ReportsOver report named texts = ReportsThen report (option_map (source_with texts) named) texts.flows
-
 report_first : (report : Option Labelling → List MessageView → List ℕ) (file : LabelFile) (texts : ByFile Text) (fault : BytesFault)
-    → ReportsOver report (Some file) texts (Err fault) → turn (role_in file) ≤ turn (role_of fault)
-report_first report (Map file) texts fault is = omega arith
-report_first report (Prefixes file) texts fault is =
-    labels_first (λ labels. ReportsOf report (Some labels) texts.flows) (Prefixes file) texts fault
-    (λ labels after. omega (arith, flows_only report (Some labels) texts.flows fault after)) is
+    → ReportsThen report (Some file) texts (Err fault) → turn (role_in file) ≤ turn (role_of fault)
+report_first report file texts fault =
+    labels_first (λ labels. ReportsOf report (Some labels) texts.flows) file texts fault
+    (λ labels after. omega (arith, flows_only report (Some labels) texts.flows fault after))
 
--- what holds of the source of labels with a text holds among texts of which this is the file's
-pub of_source : (P : LabelSource → List ℕ → Type 0) (file : LabelFile) (text : Text) (texts : ByFile Text) → at (role_in file) texts ≡ text → P (source_by file text) texts.flows
-    → P (source_with texts file) texts.flows
-of_source P (Map file) text texts same is = subst (λ (t : Text). P (FromMap t) texts.flows) (sym same) is
-of_source P (Prefixes file) text texts same is = subst (λ (t : Text). P (FromList t) texts.flows) (sym same) is
+-- the labels of a file's text, and a result over it, are those over texts of which this is the file's
+reads_of : (labels : Option Labelling) (file : LabelFile) (text : Text) (texts : ByFile Text)
+    → at (role_in file) texts ≡ text → ReadsLabels (Some file) (everywhere text) labels → ReadsLabels (Some file) texts labels
+reads_of labels (Map file) text texts same (m, reads, is) = (m, ap map_reading same ∙ reads, is)
+reads_of labels (Prefixes file) text texts same (l, reads, is) = (l, ap list_reading same ∙ reads, is)
 
--- a result over the text of a file of labels is one over texts of which this is the file's
 pub labels_of : (rest : Labelling → Outcome → Type 0) (file : LabelFile) (text : Text) (texts : ByFile Text) (result : Result (Vec ℕ) OutputFault)
-    → at (role_in file) texts ≡ text → Returns (SourceThen rest (source_by file text)) result → Returns (LabelsThen rest file texts) result
-labels_of rest (Map file) text texts result same is = subst (λ (t : Text). Returns (SourceThen rest (FromMap t)) result) (sym same) is
-labels_of rest (Prefixes file) text texts result same is = subst (λ (t : Text). Returns (SourceThen rest (FromList t)) result) (sym same) is
+    → at (role_in file) texts ≡ text → Returns (LabelsThen rest file (everywhere text)) result → Returns (LabelsThen rest file texts) result
+labels_of rest (Map file) text texts result same is = subst (λ (t : Text). Returns (LabelsThen rest (Map file) (everywhere t)) result) (sym same) is
+labels_of rest (Prefixes file) text texts result same is = subst (λ (t : Text). Returns (LabelsThen rest (Prefixes file) (everywhere t)) result) (sym same) is
+
+report_of : (report : Option Labelling → List MessageView → List ℕ) (file : LabelFile) (text : Text) (texts : ByFile Text) (result : Result (Vec ℕ) OutputFault)
+    → at (role_in file) texts ≡ text → Returns (ReportsThen report (Some file) (with_at role.Flows texts.flows (everywhere text))) result
+    → Returns (ReportsThen report (Some file) texts) result
+report_of report (Map file) text texts = labels_of (λ labels. ReportsOf report (Some labels) texts.flows) (Map file) text texts
+report_of report (Prefixes file) text texts = labels_of (λ labels. ReportsOf report (Some labels) texts.flows) (Prefixes file) text texts
 
 -- of which file a reader can have failed
 unread_at : (q p : Role) (ended : Bool) (bytes : List ℕ) (fault : OutputFault) → IsWhole q ended (Err fault) bytes
@@ -287,11 +287,11 @@ module _ {R : Type 0} {input : R → InputView} where
         → ((texts : ByFile Text) → at r texts ≡ text.items → Returns (Is texts) result) → Makes input Is old new result
     whole Is r new text (Ok out) fresh first got returns = (λ texts given. returns texts (text_of_read new r fresh got refl texts given), read_tells got)
     whole Is r new text (Err NoMemory) fresh first got returns = read_tells got
-    whole Is r new text (Err (Unread other)) fresh first got returns = absurd (returns (with_at r text.items blank) (at_same r text.items blank))
+    whole Is r new text (Err (Unread other)) fresh first got returns = absurd (returns (with_at r text.items (everywhere [])) (at_same r text.items (everywhere [])))
     whole Is r new text (Err (Faulty fault)) fresh first got returns = (
       λ texts given. returns texts (text_of_read new r fresh got refl texts given),
       λ later follows.
-          let least : turn r ≤ turn (role_of fault) = first _ fault (returns (with_at r text.items blank) (at_same r text.items blank)) in
+          let least : turn r ≤ turn (role_of fault) = first _ fault (returns (with_at r text.items (everywhere [])) (at_same r text.items (everywhere []))) in
           later_untouched old new r (at r new) got.others later (omega (arith, least, follows)),
       read_tells got,
     )
@@ -301,7 +301,7 @@ module _ {R : Type 0} {input : R → InputView} where
         → ((texts : ByFile Text) → at r texts ≡ text.items → Returns (Is texts) result) → MadeFrom input (turn r) Is old new result
     whole_from {new = new} {text = text} Is r result fresh first got returns = record {
       made = record { made = whole Is r new text result fresh first got returns; read = read_of got };
-      later = λ p same. absurd (subst (Returns (Is (with_at r text.items blank))) same (returns (with_at r text.items blank) (at_same r text.items blank)));
+      later = λ p same. absurd (subst (Returns (Is (with_at r text.items (everywhere [])))) same (returns (with_at r text.items (everywhere [])) (at_same r text.items (everywhere []))));
       kept = kept_before old new r (at r new) got.others;
     }
 
@@ -348,27 +348,20 @@ module _ {R : Type 0} {input : R → InputView} where
     -- The labels of a report from a map or a list: they can't be read, or they are those of the text, or it has a fault.
     pub labels_unread : {new : ByFile (Option (Source R))} {fault : OutputFault} (file : LabelFile) → IsReadOf input (role_in file) old new (Err fault)
         → AreLabels input (Some file) old new (Err fault)
-    labels_unread file got report = (unread_from (ReportsOver report (Some file)) (role_in file) (early file) (report_first report file) got).made
+    labels_unread file got report = (unread_from (ReportsThen report (Some file)) (role_in file) (early file) (report_first report file) got).made
 
     pub labels_made : (file : LabelFile) (new : ByFile (Option (Source R))) (text : Vec ℕ) (result : Result LabelsRead OutputFault)
-        → AreUnreadFrom input (turn (role_in file)) old → IsReadOf input (role_in file) old new (Ok text) → AreLabelsOf (source_by file text.items) result
+        → AreUnreadFrom input (turn (role_in file)) old → IsReadOf input (role_in file) old new (Ok text) → AreLabelsOf file text.items result
         → AreLabels input (Some file) old new result
     labels_made file new text (Ok labels) fresh got is = record {
-      reads = λ texts given. of_source (λ source flows. ReadsLabels (Some source) (labelling_read labels)) file text.items texts (text_of_read new (role_in file) fresh got refl texts given) is;
+      reads = λ texts given. reads_of (labelling_read labels) file text.items texts (text_of_read new (role_in file) fresh got refl texts given) is;
       flows = later_untouched old new (role_in file) (at (role_in file) new) got.others role.Flows (early file);
       works = read_tells got;
       read = read_of got;
     }
     labels_made file new text (Err fault) fresh got is = λ report.
-        whole_made (ReportsOver report (Some file)) (role_in file) (Err fault) fresh (report_first report file) got
-        (λ texts same. of_source (λ source flows. Returns (ReportsThen report (Some source) flows) (Err fault)) file text.items texts same (is report texts.flows))
-
--- a report under a file of labels
-pub report_labels : {R : Type 0} (input : R → InputView) (report : Option Labelling → List MessageView → List ℕ) (named : Option LabelFile) (old new : ByFile (Option (Source R)))
-    (result : Result (Vec ℕ) OutputFault) → IsMade input (ReportsOver report named) old new result → IsMade input (FlowsThen (λ labels messages. Prints (report labels messages)) named) old new result
-report_labels input report None old new result is = is
-report_labels input report (Some (Map file)) old new result is = is
-report_labels input report (Some (Prefixes file)) old new result is = is
+        whole_made (ReportsThen report (Some file)) (role_in file) (Err fault) fresh (report_first report file) got
+        (λ texts same. report_of report file text.items texts (Err fault) same (is report texts.flows))
 
 -- no labels are read
 pub no_labels : {R : Type 0} (input : R → InputView) (files : ByFile (Option (Source R))) → any_failed input files ≡ false → LabelsMade input None files files read.None
@@ -384,15 +377,15 @@ module _ {R : Type 0} (input : R → InputView) {old mid : ByFile (Option (Sourc
   works_then = one_tells input mid had.works role.Flows flows
 
   -- the same labels, and what comes of the File under them
-  reads_then : (texts : ByFile Text) → AreTexts input (with_at role.Flows flows mid) texts → ReadsLabels (option_map (source_with texts) named) (labelling_read found)
+  reads_then : (texts : ByFile Text) → AreTexts input (with_at role.Flows flows mid) texts → ReadsLabels named texts (labelling_read found)
   reads_then texts given =
-      subst (λ (s : Option LabelSource). ReadsLabels s (labelling_read found)) (source_stays texts (view_of input mid.flows).returned named)
+      reads_stay texts (view_of input mid.flows).returned named (labelling_read found)
       (had.reads (with_at role.Flows (view_of input mid.flows).returned texts) (texts_before input mid flows texts given))
 
   over : (texts : ByFile Text) (bytes : List ℕ) (outcome : Outcome) → AreTexts input (with_at role.Flows flows mid) texts → texts.flows ≡ bytes
-      → ReportsOf text (labelling_read found) bytes outcome → ReportsOver text named texts outcome
+      → ReportsOf text (labelling_read found) bytes outcome → ReportsThen text named texts outcome
   over texts bytes outcome given same is =
-      labels_then text (option_map (source_with texts) named) (labelling_read found) texts.flows outcome (reads_then texts given)
+      labels_then text named (labelling_read found) texts outcome (reads_then texts given)
       (subst (λ (l : List ℕ). ReportsOf text (labelling_read found) l outcome) (sym same) is)
 
   -- reads returned more of the flows alone
@@ -400,7 +393,7 @@ module _ {R : Type 0} (input : R → InputView) {old mid : ByFile (Option (Sourc
   flows_read more = read_more input had.read (one_read input role.Flows flows mid (with_at role.Flows flows mid) refl more)
 
   pub report_done : (messages : List MessageView) (out : Vec ℕ) → IsReadOut (view_of input mid.flows) (view_of input flows) (Ok messages)
-      → out.items ≡ text (labelling_read found) messages → IsMade input (ReportsOver text named) old (with_at role.Flows flows mid) (Ok out)
+      → out.items ≡ text (labelling_read found) messages → IsMade input (ReportsThen text named) old (with_at role.Flows flows mid) (Ok out)
   report_done messages out is says =
       let (bytes, returns, (end, whole)) = is.read in
       record {
@@ -416,13 +409,13 @@ module _ {R : Type 0} (input : R → InputView) {old mid : ByFile (Option (Sourc
   report_stopped : (fault : OutputFault) (bytes : List ℕ)
       → Gives (view_of input mid.flows) (view_of input flows) bytes → ReadsMessages (has_ended (view_of input flows)) (Err fault) bytes
       → (view_of input flows).failed ≡ is_unread {A = List MessageView} (Err fault)
-      → IsFaultOf input (ReportsOver text named) old (with_at role.Flows flows mid) fault
+      → IsFaultOf input (ReportsThen text named) old (with_at role.Flows flows mid) fault
   report_stopped NoMemory bytes returns is works = works_then ∙ works
   report_stopped (Unread other) bytes returns (named_flows, stop, stops) works =
-      subst (λ (p : Role). IsFaultOf input (ReportsOver text named) old (with_at role.Flows flows mid) (Unread p)) (sym named_flows) (
+      subst (λ (p : Role). IsFaultOf input (ReportsThen text named) old (with_at role.Flows flows mid) (Unread p)) (sym named_flows) (
         works,
         λ later follows. absurd (none_after_flows later follows),
-        λ texts given fault is. flows_last text (option_map (source_with texts) named) (labelling_read found) texts.flows fault (reads_then texts given) is,
+        λ texts given fault is. flows_last text named (labelling_read found) texts fault (reads_then texts given) is,
         λ is. (stop, subst (λ (l : List ℕ). StopsReading l stop) (sym (all_read fresh returns)) stops),
       )
   report_stopped (Faulty (InFlows fault)) bytes returns has works = (
@@ -436,15 +429,15 @@ module _ {R : Type 0} (input : R → InputView) {old mid : ByFile (Option (Sourc
   report_stopped (Faulty fault) bytes returns is works = absurd is
 
   pub report_fault : (fault : OutputFault) (result : Result (Vec ℕ) OutputFault) → IsErrAnd result (λ other. other ≡ fault)
-      → IsReadOut (view_of input mid.flows) (view_of input flows) (Err fault) → IsMade input (ReportsOver text named) old (with_at role.Flows flows mid) result
+      → IsReadOut (view_of input mid.flows) (view_of input flows) (Err fault) → IsMade input (ReportsThen text named) old (with_at role.Flows flows mid) result
   report_fault fault result same is =
       let (bytes, returns, stops) = is.read in
-      handed_on (IsMade input (ReportsOver text named) old (with_at role.Flows flows mid)) result fault same
+      handed_on (IsMade input (ReportsThen text named) old (with_at role.Flows flows mid)) result fault same
       (record { made = report_stopped fault bytes returns stops is.works; read = flows_read (bytes, returns, tt) })
 
   -- no more memory after the flows
   pub report_memory : (messages : List MessageView) (result : Result (Vec ℕ) OutputFault) → IsErrAnd result (λ fault. fault ≡ NoMemory)
-      → IsReadOut (view_of input mid.flows) (view_of input flows) (Ok messages) → IsMade input (ReportsOver text named) old (with_at role.Flows flows mid) result
+      → IsReadOut (view_of input mid.flows) (view_of input flows) (Ok messages) → IsMade input (ReportsThen text named) old (with_at role.Flows flows mid) result
   report_memory messages result same is = report_fault NoMemory result same (record { read = (is.read.0, is.read.1, tt); works = is.works })
 
 -- an index that is borrowed has the labelling of the index

@@ -23,7 +23,7 @@ use Rattle.pmap_print.specs.Table.{table_text}
 use Rattle.label_lookup.specs.Labelling.{Labelling, label_where}
 use Rattle.flowlabel.specs.declared.bytes_fault.BytesFault.TheVariants.{Map as InMap, List as InList, Flows as InFlows, Certificate as InCertificate, Check as InCheck}
 use Rattle.flowlabel.specs.Output.{Outcome, Prints, Then, labelled_row_lines, minimal_text, shrunk_text}
-pub use Rattle.flowlabel.specs.Reports.{PrintsCompact, PrintsMinimal, PrintsRuns, report_of_groups, report_of_rows}
+use Rattle.flowlabel.specs.Request.{Shrunk, Text}
 
 abbrev pub MapThen : (MapModel → Outcome → Type 0) → List ℕ → Outcome → Type 0
 MapThen rest text = Then InMap rest (map_reading text)
@@ -34,6 +34,19 @@ ListThen rest text = Then InList rest (list_reading text)
 abbrev pub CertificateThen : (CertificateModel → Outcome → Type 0) → List ℕ → Outcome → Type 0
 CertificateThen rest text = Then InCertificate rest (format_reading text)
 
+-- the outcome is the text of the certificate, compacted
+abbrev pub PrintsCompact : CertificateModel → Outcome → Type 0
+PrintsCompact c = Prints (certificate_text (compact c))
+
+-- the outcome is the text of the runs of a labelling
+abbrev pub PrintsRuns : Labelling → Outcome → Type 0
+PrintsRuns labels outcome = (text : Text) × IsRunsText labels.version labels.label text × Prints text outcome
+
+-- the outcome is the text of the list of the map's minimal pair, or of its certificate, compacted or not
+abbrev pub PrintsMinimal : Shrunk → MapModel → Outcome → Type 0
+PrintsMinimal printed m outcome =
+    (l : ListModel) × (c : CertificateModel) × IsMinimalPair m l c × Prints (shrunk_text printed l c) outcome
+
 -- the report on a File under a labelling or without one
 abbrev pub ReportsOf : (Option Labelling → List MessageView → List ℕ) → Option Labelling → List ℕ → Outcome → Type 0
 ReportsOf text labels bytes = Then InFlows (λ messages. Prints (text labels messages)) (file_reading bytes)
@@ -41,6 +54,15 @@ ReportsOf text labels bytes = Then InFlows (λ messages. Prints (text labels mes
 -- the rows of messages that meet a condition
 abbrev pub passing_rows : Condition → Option Labelling → List MessageView → List RowView
 passing_rows condition labels messages = passing condition labels (rows_of_messages messages)
+
+-- the text of the rows that meet a condition
+abbrev pub report_of_rows : Condition → Bool → Option Labelling → List MessageView → List ℕ
+report_of_rows condition columns labels messages = table_text columns (labelled_row_lines labels (passing_rows condition labels messages))
+
+-- the text of the groups, by fields, of the rows that meet a condition
+abbrev pub report_of_groups : List KeyField → Condition → Bool → Bool → Option Labelling → List MessageView → List ℕ
+report_of_groups fields condition sorted columns labels messages =
+    groups_text fields (shown_groups sorted (groups_of fields (label_where labels) (passing_rows condition labels messages))) columns
 
 -- what `check` prints for the first fault, if there is one, and for the number of entries
 abbrev pub checked : Option CheckFault → ℕ → Outcome

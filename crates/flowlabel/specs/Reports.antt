@@ -14,25 +14,19 @@ use Rattle.ipfix_read.specs.Messages.{IsReadTo, ProgressView, StopsReading, file
 use Rattle.ipfix_read.specs.declared.progress.State.TheVariants.{Going}
 use Rattle.ipfix_read.specs.declared.fault.ReadFault.{ReadFault}
 use Rattle.ipfix_read.specs.Message.{MessageView}
-use Rattle.flow_rows.specs.Counts.{rows_of_messages}
 use Rattle.flow_rows.specs.Elements.{RowView}
-use Rattle.pmap_cert.specs.Acceptance.{IsMinimalPair}
-use Rattle.pmap_cert.specs.CertificateModel.{CertificateModel}
-use Rattle.pmap_cert.specs.CertificateText.{certificate_text}
-use Rattle.pmap_cert.specs.Compacting.{compact}
-use Rattle.pmap_cert.specs.FormatReading.{format_reading}
-use Rattle.pmap_text.specs.RunsText.{IsRunsText}
 use Rattle.flow_filter.specs.Condition.{Condition, passing}
-use Rattle.flow_uniq.specs.Groups.{GroupsModel, groups_of, shown_groups}
+use Rattle.flow_uniq.specs.Groups.{GroupsModel, groups_of}
 use Rattle.flow_uniq.specs.declared.field.KeyField.{KeyField}
-use Rattle.pmap_print.specs.Reports.{column_count, groups_text}
-use Rattle.pmap_print.specs.Table.{IsTable, has_columns, table_text}
+use Rattle.pmap_print.specs.Reports.{column_count}
+use Rattle.pmap_print.specs.Table.{IsTable, has_columns}
 use Rattle.flowlabel.specs.ByFile.{ByFile, Role, at, with_at}
 use Rattle.flowlabel.specs.declared.by_file.Role.TheVariants as roles
-use Rattle.flowlabel.specs.declared.bytes_fault.BytesFault.TheVariants.{Map as InMap, List as InList, Flows as InFlows, Certificate as InCertificate}
-use Rattle.flowlabel.specs.Output.{Checks, Faulty, IsFaultFor, NoMemory, Outcome, OutputFault, Prints, Returns, Then, Unread, labelled_row_lines, shrunk_text}
+use Rattle.flowlabel.specs.declared.bytes_fault.BytesFault.TheVariants.{Flows as InFlows}
+use Rattle.flowlabel.specs.Output.{Faulty, FlowsThen, IsFaultFor, NoMemory, Outcome, OutputFault, Prints, Returns, Unread, labelled_row_lines}
 use Rattle.flowlabel.specs.declared.command.LabelFile.{LabelFile}
-use Rattle.flowlabel.specs.Request.{FromList, FromMap, LabelSource, Shrunk, Text, source_with}
+use Rattle.flowlabel.specs.declared.command.LabelFile.TheVariants.{Map, List as Prefixes}
+use Rattle.flowlabel.specs.Request.{Text}
 use Rattle.flowlabel.specs.Run.{AreReadOn, AreTexts, IsFaultOf, Source, any_failed, is_unread, view_of}
 use Rattle.flowlabel.specs.declared.run.labels.LabelsRead.{LabelsRead}
 use Rattle.flowlabel.specs.declared.run.labels.LabelsRead.TheVariants as read
@@ -50,56 +44,25 @@ labelling_read (read.List list) = Some (labelling_of_list (list_of list))
 abbrev pub labelling_found : Option (Bor StretchModel) → Option Labelling
 labelling_found = option_map (λ index. labelling_of_stretches index.now)
 
--- the texts of a source, if there is one, are read as this labelling
-abbrev pub ReadsLabels : Option LabelSource → Option Labelling → Type 0
-ReadsLabels None labels = labels ≡ None
-ReadsLabels (Some (FromMap text)) labels = (m : MapModel) × (map_reading text ≡ Ok m) × (labels ≡ Some (labelling_of_map m))
-ReadsLabels (Some (FromList text)) labels = (l : ListModel) × (list_reading text ≡ Ok l) × (labels ≡ Some (labelling_of_list l))
+-- the text of the map or the list that labels come from, if there is one, is read as this labelling
+abbrev pub ReadsLabels : Option LabelFile → ByFile Text → Option Labelling → Type 0
+ReadsLabels None texts labels = labels ≡ None
+ReadsLabels (Some (Map file)) texts labels = (m : MapModel) × (map_reading texts.map ≡ Ok m) × (labels ≡ Some (labelling_of_map m))
+ReadsLabels (Some (Prefixes file)) texts labels = (l : ListModel) × (list_reading texts.list ≡ Ok l) × (labels ≡ Some (labelling_of_list l))
 
--- the outcome over the text of a source of labels
-abbrev pub SourceThen : (Labelling → Outcome → Type 0) → LabelSource → Outcome → Type 0
-SourceThen rest (FromMap text) = Then InMap (λ m. rest (labelling_of_map m)) (map_reading text)
-SourceThen rest (FromList text) = Then InList (λ l. rest (labelling_of_list l)) (list_reading text)
+-- the outcome of a report: a text that depends on the labelling, if there is one, and on the messages of a File
+abbrev pub ReportsThen : (Option Labelling → List MessageView → List ℕ) → Option LabelFile → ByFile Text → Outcome → Type 0
+ReportsThen text = FlowsThen (λ labels messages. Prints (text labels messages))
 
--- the report on a File under the labels of a source, or without one: a text that depends on its messages
-abbrev pub ReportsThen : (Option Labelling → List MessageView → List ℕ) → Option LabelSource → List ℕ → Outcome → Type 0
-ReportsThen text None flows = Then InFlows (λ messages. Prints (text None messages)) (file_reading flows)
-ReportsThen text (Some source) flows =
-    SourceThen (λ labels. Then InFlows (λ messages. Prints (text (Some labels) messages)) (file_reading flows)) source
+-- each file has this text, for a command that reads one file
+abbrev pub everywhere : Text → ByFile Text
+everywhere text = record { map = text; list = text; certificate = text; flows = text }
 
--- the outcome is that of `check` for the texts of its files
-abbrev pub ChecksTexts : ByFile Text → Outcome → Type 0
-ChecksTexts texts = Then InMap (λ m. Then InList (λ l. Then InCertificate (Checks m l)
-    (format_reading texts.certificate)) (list_reading texts.list)) (map_reading texts.map)
-
--- the outcome is the text of the certificate, compacted
-abbrev pub PrintsCompact : CertificateModel → Outcome → Type 0
-PrintsCompact c = Prints (certificate_text (compact c))
-
--- the outcome is the text of the runs of a labelling
-abbrev pub PrintsRuns : Labelling → Outcome → Type 0
-PrintsRuns labels outcome = (text : Text) × IsRunsText labels.version labels.label text × Prints text outcome
-
--- the outcome is the text of the list of the map's minimal pair, or of its certificate, compacted or not
-abbrev pub PrintsMinimal : Shrunk → MapModel → Outcome → Type 0
-PrintsMinimal printed m outcome =
-    (l : ListModel) × (c : CertificateModel) × IsMinimalPair m l c × Prints (shrunk_text printed l c) outcome
-
--- the text of the rows that meet a condition
-abbrev pub report_of_rows : Condition → Bool → Option Labelling → List MessageView → List ℕ
-report_of_rows condition columns labels messages = table_text columns (labelled_row_lines labels (passing condition labels (rows_of_messages messages)))
-
--- the text of the groups, by fields, of the rows that meet a condition
-abbrev pub report_of_groups : List KeyField → Condition → Bool → Bool → Option Labelling → List MessageView → List ℕ
-report_of_groups fields condition sorted columns labels messages =
-    let groups = groups_of fields (label_where labels) (passing condition labels (rows_of_messages messages)) in
-    groups_text fields (shown_groups sorted groups) columns
-
--- what a call returns that reads the text of a source: its labels, or any report's fault of this text
-abbrev pub AreLabelsOf : LabelSource → Result LabelsRead OutputFault → Type 0
-AreLabelsOf source (Ok read) = ReadsLabels (Some source) (labelling_read read)
-AreLabelsOf source (Err fault) =
-    (text : Option Labelling → List MessageView → List ℕ) (flows : List ℕ) → Returns (ReportsThen text (Some source) flows) (Err fault)
+-- what a call returns that reads the text of a file of labels: its labels, or any report's fault of this text
+abbrev pub AreLabelsOf : LabelFile → Text → Result LabelsRead OutputFault → Type 0
+AreLabelsOf file text (Ok read) = ReadsLabels (Some file) (everywhere text) (labelling_read read)
+AreLabelsOf file text (Err fault) = (report : Option Labelling → List MessageView → List ℕ) (flows : Text)
+    → Returns (ReportsThen report (Some file) (with_at roles.Flows flows (everywhere text))) (Err fault)
 
 -- the fault of a command for that of a call for a message
 abbrev pub IsFaultOfCall : ReadFault → OutputFault → Type 0
@@ -162,17 +125,17 @@ module _ {R : Type 0} (input : R → InputView) where
     pub made : Makes Is old new result
     pub read : AreReadOn input old new
 
-  -- The labels of a report are read, if it has labels. A report under a source of labels ends with any fault of them.
+  -- The labels of a report are read, if it has labels. A report under a file of labels ends with any fault of them.
   pub record LabelsMade (labels : Option LabelFile) (old new : ByFile (Option (Source R))) (found : LabelsRead) : Type 0 where
-    pub reads : (texts : ByFile Text) → AreTexts input new texts → ReadsLabels (option_map (source_with texts) labels) (labelling_read found)
+    pub reads : (texts : ByFile Text) → AreTexts input new texts → ReadsLabels labels texts (labelling_read found)
     pub flows : new.flows ≡ old.flows
     pub works : any_failed input new ≡ false
     pub read : AreReadOn input old new
 
   abbrev pub AreLabels : Option LabelFile → ByFile (Option (Source R)) → ByFile (Option (Source R)) → Result LabelsRead OutputFault → Type 0
   AreLabels labels old new (Ok found) = LabelsMade labels old new found
-  AreLabels labels old new (Err fault) = (text : Option Labelling → List MessageView → List ℕ)
-      → IsMade (λ texts. ReportsThen text (option_map (source_with texts) labels) texts.flows) old new (Err fault)
+  AreLabels labels old new (Err fault) =
+      (text : Option Labelling → List MessageView → List ℕ) → IsMade (ReportsThen text labels) old new (Err fault)
 
 -- Groups and tables of the rows that meet a condition.
 

@@ -23,7 +23,7 @@ pub data LabelSource : Type 0 where
 -- `label`: the label that a file's labels give an address. `info`: the counts of a File. `rows`: the rows of a File
 -- that meet a condition, with the labels of their addresses if there is a source of labels, padded to columns or not.
 -- `uniq`: the groups of such rows by fields, with their totals, sorted or in the order of their first rows. `cat`: the
--- runs of a file's labels. `shrink`: the shortest list of a map, or its certificate, compacted or not. `check`: whether
+-- runs of a file's labels. `shrink`: a shortest list of a map, or its certificate, compacted or not. `check`: whether
 -- a certificate shows that a list is a shortest one for a map. `recert`: a certificate, compacted.
 pub data Request : Type 0 where
   label : (source : LabelSource) (address : AddressOf) → Request
@@ -49,11 +49,6 @@ source_of (Prefixes file) = FromList file.now
 abbrev pub role_in : LabelFile → Role
 role_in (Map file) = role.Map
 role_in (Prefixes file) = role.List
-
--- a file of labels as a source of labels, with this text
-abbrev pub source_by : LabelFile → Text → LabelSource
-source_by (Map file) = FromMap
-source_by (Prefixes file) = FromList
 
 -- the request of a command
 abbrev pub request_of : Command → Request
@@ -100,8 +95,3 @@ files_of (recert certificate) = record { map = None; list = None; certificate = 
 -- a request reads the files that it names
 abbrev pub needs_of : Request → ByFile Bool
 needs_of request = each is_some (files_of request)
-
--- the source of labels with the text of its file
-abbrev pub source_with : ByFile Text → LabelFile → LabelSource
-source_with texts (Map file) = FromMap texts.map
-source_with texts (Prefixes file) = FromList texts.list

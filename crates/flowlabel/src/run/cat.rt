@@ -1,7 +1,7 @@
 //! The output of `cat`.
-ghost use Rattle.flowlabel.specs.Output.{Returns};
-ghost use Rattle.flowlabel.specs.Reports.{PrintsRuns, SourceThen};
-ghost use Rattle.flowlabel.specs.Request.{source_by};
+ghost use Rattle.flowlabel.specs.Output.{IsOutput, Returns};
+ghost use Rattle.flowlabel.specs.Reports.{everywhere};
+ghost use Rattle.flowlabel.specs.Request.{Cat};
 
 use crate::command::LabelFile;
 use crate::output_fault::OutputFault;
@@ -17,7 +17,7 @@ pub fn output(
     text: Vec<u8>,
     hashing: KeyHashing,
 ) -> Result<Vec<u8>, OutputFault>
-    ensures { Returns (SourceThen PrintsRuns (source_by labels.entry text.items)) result }
+    ensures { Returns (IsOutput (Cat labels.entry) (everywhere text.items)) result }
 {
     // Provides the law that labellings that agree on each address have one text of their runs.
     labelling_has_one_runs_text();

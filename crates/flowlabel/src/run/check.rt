@@ -1,11 +1,13 @@
 //! The output of `check`.
 ghost use Rattle.std.specs.Prelude.{◌≡◌, false};
+ghost use Rattle.std.specs.Borrow.{Bor};
 ghost use Rattle.pmap_text.specs.MapText.{map_of};
 ghost use Rattle.pmap_text.specs.PrefixList.{list_of};
 ghost use Rattle.pmap_cert.specs.FormatReading.{format_reading};
 ghost use Rattle.flowlabel.specs.declared.bytes_fault.BytesFault.TheVariants.{Certificate as InCertificate};
-ghost use Rattle.flowlabel.specs.Output.{Checks, Returns, Then};
-ghost use Rattle.flowlabel.specs.Reports.{ChecksTexts, IsMade};
+ghost use Rattle.flowlabel.specs.Output.{Checks, IsOutput, Returns, Then};
+ghost use Rattle.flowlabel.specs.Reports.{IsMade};
+ghost use Rattle.flowlabel.specs.Request.{Check, Text};
 ghost use Rattle.flowlabel.specs.Run.{AreUnread, any_failed};
 
 use crate::by_file::{ByFile, Role};
@@ -44,7 +46,8 @@ pub fn output<R: Input>(
 ) -> Result<Vec<u8>, OutputFault>
     requires unread { AreUnread R.input files.old }
     requires works { any_failed R.input files.old ≡ false }
-    ensures { IsMade R.input ChecksTexts files.old files.new result }
+    ensures { (map list certificate : Bor Text) →
+        IsMade R.input (IsOutput (Check map list certificate)) files.old files.new result }
 {
     let text = read(alloc, Role::Map, files)?;
     let map = map_in(alloc, text, hashing)?;

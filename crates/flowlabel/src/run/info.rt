@@ -1,8 +1,10 @@
 //! The output of `info`.
-ghost use Rattle.std.specs.Prelude.{◌≡◌, None, false};
+ghost use Rattle.std.specs.Prelude.{◌≡◌, false};
+ghost use Rattle.std.specs.Borrow.{Bor};
 ghost use Rattle.flow_rows.specs.Counts.{counts_of, numbers_of};
-ghost use Rattle.pmap_print.specs.Reports.{info_text};
-ghost use Rattle.flowlabel.specs.Reports.{IsMade, ReadsInto, ReportsThen};
+ghost use Rattle.flowlabel.specs.Output.{IsOutput};
+ghost use Rattle.flowlabel.specs.Reports.{IsMade, ReadsInto};
+ghost use Rattle.flowlabel.specs.Request.{Info, Text};
 ghost use Rattle.flowlabel.specs.Run.{AreUnread, any_failed, view_of};
 
 use crate::by_file::ByFile;
@@ -40,8 +42,7 @@ pub fn output<R: Input>(
 ) -> Result<Vec<u8>, OutputFault>
     requires unread { AreUnread R.input files.old }
     requires works { any_failed R.input files.old ≡ false }
-    ensures { IsMade R.input (λ texts. ReportsThen (λ labels messages. info_text (counts_of messages)) None texts.flows) files.old
-        files.new result }
+    ensures { (flows : Bor Text) → IsMade R.input (IsOutput (Info flows)) files.old files.new result }
 {
     let counts = counts_of(alloc, &mut files.flows)?;
     Ok(print_info(alloc, &counts)?)

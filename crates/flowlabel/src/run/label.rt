@@ -1,9 +1,9 @@
 //! The output of `label`.
 ghost use Rattle.std.specs.Prelude.{◌≡◌, ◌++◌, ◌∷◌, [], IfOk, option_map, unwrap_or};
 ghost use Rattle.label_lookup.specs.Labelling.{labelling};
-ghost use Rattle.flowlabel.specs.Output.{Prints, Returns, label_text};
-ghost use Rattle.flowlabel.specs.Reports.{SourceThen};
-ghost use Rattle.flowlabel.specs.Request.{source_by};
+ghost use Rattle.flowlabel.specs.Output.{IsOutput, Returns, label_text};
+ghost use Rattle.flowlabel.specs.Reports.{everywhere};
+ghost use Rattle.flowlabel.specs.Request.{Label};
 
 use crate::command::LabelFile;
 use crate::output_fault::OutputFault;
@@ -43,7 +43,7 @@ pub fn output(
     addr: Addr,
     hashing: KeyHashing,
 ) -> Result<Vec<u8>, OutputFault>
-    ensures { Returns (SourceThen (λ l. Prints (label_text (addr.version, addr.value) l)) (source_by labels.entry text.items)) result }
+    ensures { Returns (IsOutput (Label labels.entry addr) (everywhere text.items)) result }
 {
     match labels {
         LabelFile::Map(_) => {

@@ -2,7 +2,6 @@
 ghost use Rattle.std.specs.Prelude.{◌≡◌, IfOk, false, option_map};
 ghost use Rattle.label_lookup.specs.Labelling.{labelling_of_stretches};
 ghost use Rattle.flowlabel.specs.Reports.{AreLabels, AreLabelsOf, labelling_read};
-ghost use Rattle.flowlabel.specs.Request.{source_by};
 ghost use Rattle.flowlabel.specs.Run.{AreUnread, any_failed};
 
 use crate::by_file::ByFile;
@@ -56,7 +55,7 @@ impl LabelsRead {
         text: Vec<u8>,
         hashing: KeyHashing,
     ) -> Result<LabelsRead, OutputFault>
-        ensures { AreLabelsOf (source_by labels.entry text.items) result }
+        ensures { AreLabelsOf labels.entry text.items result }
     {
         match labels {
             LabelFile::Map(_) => Ok(LabelsRead::Map(map_in(alloc, text, hashing)?)),

@@ -1,8 +1,8 @@
 //! The output of `recert`.
-ghost use Rattle.pmap_cert.specs.FormatReading.{format_reading};
-ghost use Rattle.flowlabel.specs.declared.bytes_fault.BytesFault.TheVariants.{Certificate as InCertificate};
-ghost use Rattle.flowlabel.specs.Output.{Returns, Then};
-ghost use Rattle.flowlabel.specs.Reports.{PrintsCompact};
+ghost use Rattle.std.specs.Borrow.{Bor};
+ghost use Rattle.flowlabel.specs.Output.{IsOutput, Returns};
+ghost use Rattle.flowlabel.specs.Reports.{everywhere};
+ghost use Rattle.flowlabel.specs.Request.{Recert, Text};
 
 use crate::output_fault::OutputFault;
 use crate::run::reading::certificate_in;
@@ -12,7 +12,7 @@ use std::alloc::Global;
 
 /// Returns the text of a certificate's text, compacted.
 pub fn output(alloc: Global, text: Vec<u8>, hashing: KeyHashing) -> Result<Vec<u8>, OutputFault>
-    ensures { Returns (Then InCertificate PrintsCompact (format_reading text.items)) result }
+    ensures { (certificate : Bor Text) → Returns (IsOutput (Recert certificate) (everywhere text.items)) result }
 {
     let certificate = certificate_in(alloc, text, hashing)?;
     Ok(write_compact(alloc, &certificate)?)

@@ -1,11 +1,12 @@
 //! The output of `rows`.
 ghost use Rattle.std.specs.Prelude.{◌≡◌, ◌++◌, Bool, List, OnOk, false, option_map};
+ghost use Rattle.std.specs.Borrow.{Bor};
 ghost use Rattle.flow_rows.specs.Counts.{rows_of, rows_of_messages};
 ghost use Rattle.flow_rows.specs.Elements.{RowView};
 ghost use Rattle.pmap_print.specs.Reports.{label_texts};
-ghost use Rattle.flowlabel.specs.Output.{row_labels};
-ghost use Rattle.flowlabel.specs.Reports.{HasRows, IsMade, ReadsInto, ReportsThen, labelling_found, report_of_rows};
-ghost use Rattle.flowlabel.specs.Request.{source_with};
+ghost use Rattle.flowlabel.specs.Output.{IsOutput, row_labels};
+ghost use Rattle.flowlabel.specs.Reports.{HasRows, IsMade, ReadsInto, labelling_found};
+ghost use Rattle.flowlabel.specs.Request.{Rows, Text};
 ghost use Rattle.flowlabel.specs.Run.{AreUnread, any_failed, view_of};
 
 use crate::by_file::ByFile;
@@ -90,9 +91,8 @@ pub fn output<R: Input>(
 ) -> Result<Vec<u8>, OutputFault>
     requires unread { AreUnread R.input files.old }
     requires works { any_failed R.input files.old ≡ false }
-    ensures { IsMade R.input
-        (λ texts. ReportsThen (report_of_rows filter.now columns) (option_map (source_with texts) labels.entry) texts.flows)
-        files.old files.new result }
+    ensures { (flows : Bor Text) →
+        IsMade R.input (IsOutput (Rows labels.entry filter.now columns flows)) files.old files.new result }
 {
     let read = LabelsRead::of_files(alloc, labels, files, hashing)?;
     let index = read.index(alloc)?;

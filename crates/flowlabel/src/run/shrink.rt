@@ -1,8 +1,8 @@
 //! The output of `shrink`.
-ghost use Rattle.pmap_text.specs.Reading.{map_reading};
-ghost use Rattle.flowlabel.specs.declared.bytes_fault.BytesFault.TheVariants.{Map as InMap};
-ghost use Rattle.flowlabel.specs.Output.{Returns, Then};
-ghost use Rattle.flowlabel.specs.Reports.{PrintsMinimal};
+ghost use Rattle.std.specs.Borrow.{Bor};
+ghost use Rattle.flowlabel.specs.Output.{IsOutput, Returns};
+ghost use Rattle.flowlabel.specs.Reports.{everywhere};
+ghost use Rattle.flowlabel.specs.Request.{Shrink, Text};
 
 use crate::command::Shrunk;
 use crate::output_fault::OutputFault;
@@ -12,14 +12,14 @@ use pmap_print::print_list;
 use pmap_text::KeyHashing;
 use std::alloc::Global;
 
-/// Returns the text of the shortest list of a map's text, or of its certificate, compacted or not.
+/// Returns the text of a shortest list of a map's text, or of its certificate, compacted or not.
 pub fn output(
     alloc: Global,
     text: Vec<u8>,
     printed: Shrunk,
     hashing: KeyHashing,
 ) -> Result<Vec<u8>, OutputFault>
-    ensures { Returns (Then InMap (PrintsMinimal printed) (map_reading text.items)) result }
+    ensures { (map : Bor Text) → Returns (IsOutput (Shrink map printed) (everywhere text.items)) result }
 {
     let map = map_in(alloc, text, hashing)?;
     match printed {

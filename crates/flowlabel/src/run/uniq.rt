@@ -1,11 +1,13 @@
 //! The output of `uniq`.
-ghost use Rattle.std.specs.Prelude.{◌≡◌, ◌≤◌, ◌<◌, ◌^◌, ◌+◌, ◌++◌, List, OnOk, false, option_map};
+ghost use Rattle.std.specs.Prelude.{◌≡◌, ◌≤◌, ◌<◌, ◌^◌, ◌+◌, ◌++◌, List, OnOk, false};
+ghost use Rattle.std.specs.Borrow.{Bor};
 ghost use Rattle.flow_rows.specs.Counts.{rows_of, rows_of_messages};
 ghost use Rattle.flow_rows.specs.Elements.{RowView};
 ghost use Rattle.flow_uniq.specs.Groups.{record_count};
 ghost use Rattle.flow_uniq.specs.declared.field.KeyField.{KeyField};
-ghost use Rattle.flowlabel.specs.Reports.{HasGroups, IsMade, ReadsInto, ReportsThen, labelling_found, report_of_groups};
-ghost use Rattle.flowlabel.specs.Request.{source_with};
+ghost use Rattle.flowlabel.specs.Output.{IsOutput};
+ghost use Rattle.flowlabel.specs.Reports.{HasGroups, IsMade, ReadsInto, labelling_found};
+ghost use Rattle.flowlabel.specs.Request.{Text, Uniq};
 ghost use Rattle.flowlabel.specs.Run.{AreUnread, any_failed, view_of};
 
 use crate::by_file::ByFile;
@@ -92,10 +94,9 @@ pub fn output<R: Input>(
 ) -> Result<Vec<u8>, OutputFault>
     requires unread { AreUnread R.input files.old }
     requires works { any_failed R.input files.old ≡ false }
-    ensures { IsMade R.input
-        (λ texts. ReportsThen
-        (report_of_groups grouping.entry.keys.now grouping.entry.filter.now grouping.entry.sorted grouping.entry.columns)
-        (option_map (source_with texts) labels.entry) texts.flows)
+    ensures { (flows : Bor Text) →
+        IsMade R.input
+        (IsOutput (Uniq grouping.entry.keys.now labels.entry grouping.entry.filter.now grouping.entry.sorted grouping.entry.columns flows))
         files.old files.new result }
 {
     let read = LabelsRead::of_files(alloc, labels, files, hashing)?;

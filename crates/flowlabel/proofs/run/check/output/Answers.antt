@@ -63,12 +63,12 @@ handed : {R : Type 0} {input : R → InputView} {old new : ByFile (Option (Sourc
 handed {input = input} {old = old} {new = new} {fault = fault} result is made = handed_on (IsMade input OverMap old new) result fault is made.made
 
 pub returns-in_err-text : goal.returns-in_err-text
-returns-in_err-text g c =
+returns-in_err-text g c map list certificate =
     handed c.from_residual.result c.from_residual.ensures.1
     (unread_from c.requires.works OverMap role.Map (omega arith) (λ texts fault is. omega arith) c.in_err-text.ensures)
 
 pub returns-in_err-map : goal.returns-in_err-map
-returns-in_err-map g c =
+returns-in_err-map g c map list certificate =
     let fault = c.in_err-map.field-0.0 in
     handed c.from_residual-in_err-map.result c.from_residual-in_err-map.ensures.1
     (whole_from c.requires.works OverMap role.Map (Err fault) (λ q _. c.requires.unread q) (λ texts fault is. omega arith) c.in_ok-text.ensures
@@ -76,14 +76,14 @@ returns-in_err-map g c =
     (fault_returned InMap map_of (λ m. OverList m texts) (map_reading c.in_ok-text.text.items) fault c.in_err-map.ensures)))
 
 pub returns-in_err-text-2 : goal.returns-in_err-text-2
-returns-in_err-text-2 g c =
+returns-in_err-text-2 g c map list certificate =
     let m = map_of c.in_ok-map.map in
     handed c.from_residual-in_err-text-2.result c.from_residual-in_err-text-2.ensures.1
     (from_map c.requires.works m (λ q _. c.requires.unread q) c.in_ok-text.ensures c.in_ok-map.ensures (λ none fresh.
     unread_from none (OverList m) role.List (omega arith) (list_follows m) c.in_err-text-2.ensures))
 
 pub returns-in_err-list : goal.returns-in_err-list
-returns-in_err-list g c =
+returns-in_err-list g c map list certificate =
     let fault = c.in_err-list.field-0.0 in
     let m = map_of c.in_ok-map.map in
     handed c.from_residual-in_err-list.result c.from_residual-in_err-list.ensures.1
@@ -93,7 +93,7 @@ returns-in_err-list g c =
     (fault_returned InList list_of (λ l. OverCertificate m l texts) (list_reading c.in_ok-text-2.text.items) fault c.in_err-list.ensures))))
 
 pub returns-in_err-text-3 : goal.returns-in_err-text-3
-returns-in_err-text-3 g c =
+returns-in_err-text-3 g c map list certificate =
     let m = map_of c.in_ok-map.map in
     let l = list_of c.in_ok-list.list in
     handed c.from_residual-in_err-text-3.result c.from_residual-in_err-text-3.ensures.1
@@ -101,7 +101,7 @@ returns-in_err-text-3 g c =
     unread_from none' (OverCertificate m l) role.Certificate (omega arith) (certificate_follows m l) c.in_err-text-3.ensures)))
 
 pub returns : goal.returns
-returns g c =
+returns g c map list certificate =
     let m = map_of c.in_ok-map.map in
     let l = list_of c.in_ok-list.list in
     let returned = subst (λ (t : List ℕ). Returns (CertificateThen (Checks m l) t) c.checked.result) c.as_slice.ensures.value c.checked.ensures in

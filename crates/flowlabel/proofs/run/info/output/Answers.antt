@@ -10,16 +10,16 @@ abbrev text : Option Labelling → List MessageView → List ℕ
 text labels messages = info_text (counts_of messages)
 
 pub returns-in_err-counts : goal.returns-in_err-counts
-returns-in_err-counts g c =
+returns-in_err-counts g c flows =
     report_fault g.R.Input.input text (no_labels g.R.Input.input c.args.files.now c.requires.works) c.requires.unread c.counts_of.new.flows
     c.in_err-counts.field-0.0 c.from_residual.result c.from_residual.ensures.1 c.in_err-counts.ensures
 
 pub returns-in_err-print_info : goal.returns-in_err-print_info
-returns-in_err-print_info g c =
+returns-in_err-print_info g c flows =
     report_memory g.R.Input.input text (no_labels g.R.Input.input c.args.files.now c.requires.works) c.requires.unread c.counts_of.new.flows
     c.in_ok-counts.ensures.0 c.from_residual-in_err-print_info.result c.from_residual-in_err-print_info.ensures.1 c.in_ok-counts.ensures.1
 
 pub returns : goal.returns
-returns g c =
+returns g c flows =
     report_done g.R.Input.input text (no_labels g.R.Input.input c.args.files.now c.requires.works) c.requires.unread c.counts_of.new.flows
     c.in_ok-counts.ensures.0 c.in_ok-print_info.field-0 c.in_ok-counts.ensures.1 (c.in_ok-print_info.ensures ∙ ap info_text c.in_ok-counts.ensures.2)

@@ -1,34 +1,33 @@
 use Rattle.std.proofs.Common.{◌≡◌, ◌∙◌, List, Option, ap, is_some}
-use Rattle.std.specs.Prelude.{option_map}
 use Rattle.flow_filter.specs.Condition.{Condition}
 use Rattle.label_lookup.specs.Labelling.{Labelling}
 use Rattle.pmap_print.specs.Reports.{column_count}
 use Rattle.pmap_print.specs.Table.{Line, table_text}
-use Rattle.flowlabel.specs.Output.{labelled_row_lines}
+use Rattle.flowlabel.specs.Output.{IsOutput, labelled_row_lines}
 use Rattle.flowlabel.proofs.Outcomes.{passing_rows, report_of_rows}
-use Rattle.flowlabel.specs.Reports.{IsMade, ReportsThen, labelling_found, labelling_read}
-use Rattle.flowlabel.specs.Request.{source_with}
+use Rattle.flowlabel.specs.Reports.{IsMade, labelling_found, labelling_read}
+use Rattle.flowlabel.specs.Request.{Rows}
 use Rattle.flowlabel.proofs.MadeLemmas.{found_is, handed_on, report_done, report_fault, report_memory}
 use Rattle.flowlabel.proofs.run.rows.output.Goals as goal
 
 pub returns-in_err-read : goal.returns-in_err-read
-returns-in_err-read g c =
-    handed_on (IsMade g.R.Input.input (λ texts. ReportsThen (report_of_rows c.args.filter.now c.args.columns) (option_map (source_with texts) c.args.labels) texts.flows) c.args.files.now c.of_files.new.files)
+returns-in_err-read g c flows =
+    handed_on (IsMade g.R.Input.input (IsOutput (Rows c.args.labels c.args.filter.now c.args.columns flows)) c.args.files.now c.of_files.new.files)
     c.from_residual.result c.in_err-read.field-0.0 c.from_residual.ensures.1
     (c.in_err-read.ensures (report_of_rows c.args.filter.now c.args.columns))
 
 pub returns-in_err-table : goal.returns-in_err-table
-returns-in_err-table g c =
+returns-in_err-table g c flows =
     report_fault g.R.Input.input (report_of_rows c.args.filter.now c.args.columns) c.in_ok-read.ensures c.requires.unread c.table_of.new.flows
     c.in_err-table.field-0.0 c.from_residual-in_err-table.result c.from_residual-in_err-table.ensures.1 c.in_err-table.ensures
 
 pub returns-in_err-into_text : goal.returns-in_err-into_text
-returns-in_err-into_text g c =
+returns-in_err-into_text g c flows =
     report_memory g.R.Input.input (report_of_rows c.args.filter.now c.args.columns) c.in_ok-read.ensures c.requires.unread c.table_of.new.flows
     c.in_ok-table.ensures.0 c.from_residual-in_err-into_text.result c.from_residual-in_err-into_text.ensures.1 c.in_ok-table.ensures.1
 
 pub returns : goal.returns
-returns g c =
+returns g c flows =
     let condition : Condition = c.args.filter.now in
     let labels : Option Labelling = labelling_read c.in_ok-read.read in
     let found : Option Labelling = labelling_found c.as_ref.result in
