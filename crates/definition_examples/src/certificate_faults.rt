@@ -81,12 +81,6 @@ pub fn c3_bad_node()
         (head ++ codes "n 4294967296 0\nn 1 0 1\nl 0\nl 1\nn 1 0 2\nl 0\nl 2\n") ≡ Err (at_certificate_line BadNode 6) }
     ensures no_line_feed { format_reading (codes "flowlabel-cert 1 ipv4 1\nA\nl 0")
         ≡ Err (at_certificate_line BadNode 3) }
-    ensures a_chain_in_format_1 { format_reading
-        (codes "flowlabel-cert 1 ipv4 2\nD\nX\nc 1 11111111111111111111111111111111 0 0\nl 1\n")
-        ≡ Err (at_certificate_line BadNode 4) }
-    ensures a_chain_of_33_digits { format_reading
-        (codes "flowlabel-cert 2 ipv4 2\nD\nX\nc 1 111111111111111111111111111111111 0 0\nl 1\n")
-        ≡ Err (at_certificate_line BadNode 4) }
     ensures a_number_twice { format_reading (head ++ codes "n 1 0 0\nn 1 0 1\nl 0\nl 1\nn 1 0 2\nl 0\nl 2\n")
         ≡ Err (at_certificate_line BadNode 6) }
     ensures a_number_of_a_set_above_the_labels { format_reading
@@ -115,6 +109,17 @@ pub fn c3_bad_node()
         ≡ Err (at_certificate_line BadNode 8) }
     ensures a_carriage_return { format_reading (head ++ codes "n 2 0\nn 1 0 1\nl 0\nl 1\nn 1 0 2\nl 0\nl 2\r\n")
         ≡ Err (at_certificate_line BadNode 12) }
+    ensures no_labels { format_reading (codes "flowlabel-cert 1 ipv4 0\nl 0\n") ≡ Err (at_certificate_line BadNode 2) }
+{}
+
+/// The line of a chain is malformed, or the format has no chains.
+pub fn c3_bad_chain()
+    ensures a_chain_in_format_1 { format_reading
+        (codes "flowlabel-cert 1 ipv4 2\nD\nX\nc 1 11111111111111111111111111111111 0 0\nl 1\n")
+        ≡ Err (at_certificate_line BadNode 4) }
+    ensures a_chain_of_33_digits { format_reading
+        (codes "flowlabel-cert 2 ipv4 2\nD\nX\nc 1 111111111111111111111111111111111 0 0\nl 1\n")
+        ≡ Err (at_certificate_line BadNode 4) }
     ensures the_digit_2 { format_reading (codes "flowlabel-cert 2 ipv4 1\nA\nc 0 12 0 0\nl 0\n")
         ≡ Err (at_certificate_line BadNode 3) }
     ensures no_digits { format_reading (codes "flowlabel-cert 2 ipv4 1\nA\nc 0  0 0\nl 0\n")
@@ -128,7 +133,6 @@ pub fn c3_bad_node()
         ≡ Err (at_certificate_line BadNode 3) }
     ensures format_1_has_no_chain_of_one_digit { format_reading (codes "flowlabel-cert 1 ipv4 1\nA\nc 0 1 0 0\nl 0\n")
         ≡ Err (at_certificate_line BadNode 3) }
-    ensures no_labels { format_reading (codes "flowlabel-cert 1 ipv4 0\nl 0\n") ≡ Err (at_certificate_line BadNode 2) }
     ensures a_cost_of_a_chain_that_is_too_large { format_reading
         (codes "flowlabel-cert 2 ipv4 1\nA\nc 4294967296 1 0 0\nl 0\n") ≡ Err (at_certificate_line BadNode 3) }
 {}

@@ -101,6 +101,20 @@ pub fn info_counts_nine_kinds()
         ≡ codes "messages 1\ntemplates 0\noptions-templates 0\nwithdrawals 0\ndata-sets 2\nskipped-sets 0\nrecords 0\noptions-records 0\nrows 0\n" }
     ensures skipped_sets { info ((Skipped 4 ∷ Skipped 300 ∷ []) ∷ [])
         ≡ codes "messages 1\ntemplates 0\noptions-templates 0\nwithdrawals 0\ndata-sets 0\nskipped-sets 2\nrecords 0\noptions-records 0\nrows 0\n" }
+    ensures of_each_kind { info
+        ((Templates Flow (Define (record { id = 256; kind = Flow; scope_count = 0; fields = [] }) ∷ [])
+        ∷ Values Flow
+        (record { kind = Flow; fields = value 8 (codes "0a000001") ∷ value 12 (codes "0a000002") ∷ [] } ∷ []) ∷ [])
+        ∷ (Templates Options
+        (Define (record { id = 257; kind = Options; scope_count = 1; fields = [] }) ∷ Withdraw 256 ∷ [])
+        ∷ Values Options
+        (record { kind = Options; fields = value 8 (codes "0a000001") ∷ value 12 (codes "0a000002") ∷ [] } ∷ [])
+        ∷ Skipped 256 ∷ []) ∷ [])
+        ≡ codes "messages 2\ntemplates 1\noptions-templates 1\nwithdrawals 1\ndata-sets 2\nskipped-sets 1\nrecords 1\noptions-records 1\nrows 1\n" }
+{}
+
+/// Each data record counts, and each row of one.
+pub fn info_counts_records_and_rows()
     ensures records_with_a_row { info
         ((Values Flow
         (record { kind = Flow; fields = value 8 (codes "0a000001") ∷ value 12 (codes "0a000002") ∷ [] }
@@ -120,14 +134,4 @@ pub fn info_counts_nine_kinds()
         ∷ record { kind = Options; fields = value 8 (codes "0a000001") ∷ value 12 (codes "0a000002") ∷ [] } ∷ []) ∷ [])
         ∷ [])
         ≡ codes "messages 1\ntemplates 0\noptions-templates 0\nwithdrawals 0\ndata-sets 1\nskipped-sets 0\nrecords 0\noptions-records 3\nrows 0\n" }
-    ensures of_each_kind { info
-        ((Templates Flow (Define (record { id = 256; kind = Flow; scope_count = 0; fields = [] }) ∷ [])
-        ∷ Values Flow
-        (record { kind = Flow; fields = value 8 (codes "0a000001") ∷ value 12 (codes "0a000002") ∷ [] } ∷ []) ∷ [])
-        ∷ (Templates Options
-        (Define (record { id = 257; kind = Options; scope_count = 1; fields = [] }) ∷ Withdraw 256 ∷ [])
-        ∷ Values Options
-        (record { kind = Options; fields = value 8 (codes "0a000001") ∷ value 12 (codes "0a000002") ∷ [] } ∷ [])
-        ∷ Skipped 256 ∷ []) ∷ [])
-        ≡ codes "messages 2\ntemplates 1\noptions-templates 1\nwithdrawals 1\ndata-sets 2\nskipped-sets 1\nrecords 1\noptions-records 1\nrows 1\n" }
 {}
