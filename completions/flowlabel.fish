@@ -25,7 +25,7 @@ complete -c flowlabel -n "not $of $commands" -a info -d 'Print the counts of an 
 complete -c flowlabel -n "not $of $commands" -a rows -d 'Print the flows of an IPFIX File'
 complete -c flowlabel -n "not $of $commands" -a uniq -d 'Print the sums of the flows of an IPFIX File'
 complete -c flowlabel -n "not $of $commands" -a cat -d 'Print the ranges of a map or a list'
-complete -c flowlabel -n "not $of $commands" -a shrink -d "Print a map's shortest prefix list"
+complete -c flowlabel -n "not $of $commands" -a shrink -d "Print a shortest prefix list of a map"
 complete -c flowlabel -n "not $of $commands" -a check -d 'Verify that a list is minimal'
 complete -c flowlabel -n "not $of $commands" -a recert -d 'Print a certificate in compact form'
 

@@ -30,7 +30,7 @@ impl LabelFile<'_> {
 /// The output of `shrink` for a map.
 #[derive(Clone, Copy)]
 pub enum Shrunk {
-    /// The shortest prefix list that labels every address as the map does.
+    /// A shortest prefix list that labels every address as the map does.
     List,
     /// `--certificate`: the certificate of that list.
     Certificate,
@@ -70,7 +70,7 @@ pub enum Command<'a> {
     Cat {
         labels: LabelFile<'a>,
     },
-    /// `shrink`: the shortest prefix list that labels every address as the map does, or its certificate.
+    /// `shrink`: a shortest prefix list that labels every address as the map does, or its certificate.
     Shrink {
         map: &'a str,
         printed: Shrunk,

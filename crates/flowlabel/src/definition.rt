@@ -139,7 +139,7 @@ const SUBCOMMANDS: [Subcommand<'static>; 8] = subcommands! {
     "cat" "Print the ranges of a map or a list" "(--pmap FILE | --list FILE)";
         "the addresses of each label" "--pmap customers.txt";
         &SOURCES, &[], &[];
-    "shrink" "Print a map's shortest prefix list" "--pmap FILE [--certificate [--compact]]";
+    "shrink" "Print a shortest prefix list of a map" "--pmap FILE [--certificate [--compact]]";
         "the list of a map" "--pmap customers.txt >list.txt";
         &SHRINK, &[], &[];
     "check" "Verify that a list is minimal" "--pmap FILE --list FILE --cert FILE";
