@@ -1,6 +1,6 @@
 ghost use Rattle.std.specs.Prelude.{◌≡◌, ◌<◌, ◌++◌, ◌∷◌, [], IfOk, OnOk, length};
 ghost use Rattle.pmap_text.specs.Stretches.{AreLabelsBelow, text_held};
-ghost use Rattle.pmap_text.specs.RunsText.{IsRunsText, run_at, run_text};
+ghost use Rattle.pmap_text.specs.RunsText.{IsRunsText, line_text, run_at, run_fields};
 
 use crate::mark::Mark;
 use crate::text::Text;
@@ -17,7 +17,7 @@ fn print_run(
 ) -> Result<(), AllocError>
     requires { index < length runs.now.firsts }
     ensures { OnOk result (out.new ++ 10 ∷ [] ≡ (out.old ++ 10 ∷ [])
-        ++ run_text runs.now.version (run_at labels.now runs.now index)) }
+        ++ line_text (run_fields runs.now.version (run_at labels.now runs.now index))) }
 {
     // Provides the law that the runs cover every address of the version.
     let _count = runs.len();

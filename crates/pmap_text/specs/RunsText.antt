@@ -36,15 +36,6 @@ pub record IsRunsText (version : Version) (label_of : ℕ → Option Label) (tex
   pub are : AreRuns label_of 0 (2 ^ width_of version) runs
   pub is : text ≡ runs_text version runs
 
--- How the runs of stretches are printed, one after the other.
-
-abbrev pub run_titles : Line
-run_titles = codes "low" ∷ codes "high" ∷ codes "label" ∷ []
-
--- the line of a run
-abbrev pub run_text : Version → Run → Text
-run_text version run = line_text (run_fields version run)
-
 -- a stretch as a run
 abbrev pub run_at : List Label → StretchesModel → ℕ → Run
 run_at table s i = record {
