@@ -15,7 +15,7 @@ use Rattle.pmap_text.specs.MapModel.{Label, MapModel, last_such, meets, settled_
 use Rattle.pmap_text.specs.declared.statement.Statement.{Statement}
 use Rattle.pmap_text.specs.MapText.{map_of, text_at}
 use Rattle.pmap_text.specs.PrefixList.{AreShortestFirst, list_of, number_of_block}
-use Rattle.pmap_text.specs.Settled.{IsMapOf, Settles}
+use Rattle.pmap_text.specs.Settled.{IsMapOf}
 use Rattle.pmap_text.specs.Stretches.{AreLabelsBelow, AreStretches, HasEveryAddress, HoldsAddress, StretchesModel, count_begun, label_at, last_at, mappings_of}
 use Rattle.pmap_text.specs.declared.label.LabelId.{LabelId}
 use Rattle.pmap_text.specs.declared.map_text.MapText.{MapText}
@@ -26,7 +26,7 @@ use Rattle.pmap_text.proofs.Longest.{AreBlocks, known_seen, label_seen, none_ins
 use Rattle.pmap_text.proofs.Orders.{known_text}
 use Rattle.pmap_text.proofs.Painted.{IsSeen}
 use Rattle.pmap_text.proofs.Ranges.{held_fits, held_index, holder}
-use Rattle.pmap_text.proofs.Settling.{map_is, stretch_labelled}
+use Rattle.pmap_text.proofs.Settling.{Settles, map_is, stretch_labelled}
 use Rattle.pmap_text.proofs.Windows.{block_some}
 use Rattle.cert_check.specs.Checking.{is_decided, is_label_of, leaf_fault, CheckFaultKind, LeafNotUniform, ListDiffers}
 use Rattle.cert_check.specs.Inner.{AreSources, IsClear, IsSource, Source, Sources, has_one_label, text_of}

@@ -15,8 +15,8 @@ use Rattle.pmap_cert.specs.CertificateModel.{ClaimOf, InnerNode, LeafNode, claim
 use Rattle.pmap_cert.specs.Compacting.{leaf_label, run_bits, run_end}
 use Rattle.pmap_cert.specs.Node.{Node}
 use Rattle.pmap_cert.specs.Inner.{side_below}
-use Rattle.pmap_text.specs.Settled.{Settles, divisions}
-use Rattle.pmap_text.proofs.Settling.{window_divided, window_most, window_settled, window_unsettled}
+use Rattle.pmap_text.specs.Settled.{divisions}
+use Rattle.pmap_text.proofs.Settling.{Settles, window_divided, window_most, window_settled, window_unsettled}
 use Rattle.pmap_text.specs.Windows.{AreHalvesOf, IsWindow, number_at}
 use Rattle.pmap_text.specs.declared.stretches.window.Window.{Window}
 use Rattle.pmap_text.proofs.Windows.{one_index, ordered_window}

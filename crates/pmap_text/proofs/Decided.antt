@@ -10,7 +10,7 @@ use Rattle.prefix_keys.specs.declared.version.Version.{Version}
 use Rattle.pmap_text.specs.ListModel.{Prefix, lies_inside}
 use Rattle.pmap_text.specs.MapModel.{Label, Mapping, MapModel, last_such, meets, settled_by, spans_all}
 use Rattle.pmap_text.specs.PrefixList.{prefix_of, AreShortestFirst}
-use Rattle.pmap_text.specs.Settled.{IsMapOf, IsUnsettled, Settles}
+use Rattle.pmap_text.specs.Settled.{IsMapOf}
 use Rattle.pmap_text.specs.Stretches.{AreStretches, HoldsAddress, StretchesModel, first_at, label_at, last_at, mappings_of}
 use Rattle.pmap_text.specs.MapText.{text_at, mapping_of, Statement}
 use Rattle.pmap_text.specs.declared.label.LabelId.{LabelId}
@@ -24,7 +24,8 @@ use Rattle.pmap_text.proofs.Longest.{AreBlocks}
 use Rattle.pmap_text.proofs.Orders.{both_le, le_both}
 use Rattle.pmap_text.proofs.Painted.{IsAscending, IsSeen, painted, painting, ascending, seen_by, seen_permuted, unmet}
 use Rattle.pmap_text.proofs.SeenBlocks.{met_address, stretch_split}
-use Rattle.pmap_text.proofs.Settling.{stretch_settles}
+use Rattle.pmap_text.proofs.Ends.{IsUnsettled}
+use Rattle.pmap_text.proofs.Settling.{Settles, stretch_settles}
 use Rattle.pmap_text.proofs.Windows.{block_some}
 
 -- The block of n bits with the number q, whose first address is in the stretch i.

@@ -6,10 +6,15 @@ use Rattle.std.proofs.lemmas.List.{length-map}
 use Rattle.prefix_keys.specs.Block.{first_of, last_of}
 use Rattle.pmap_text.specs.MapModel.{Label, Mapping, last_such, meets, settled_by, spans_all}
 use Rattle.pmap_text.specs.MapText.{mapping_of, Statement}
-use Rattle.pmap_text.specs.Settled.{IsUnsettled, ends, ends_inside, ends_of, one_if}
+use Rattle.pmap_text.specs.Settled.{ends, ends_inside, ends_of, one_if}
 use Rattle.pmap_text.specs.Stretches.{mappings_of}
 use Rattle.pmap_text.proofs.Blocks.{first_of-lower, pow-half}
 use Rattle.pmap_text.proofs.LastSuch.{last_such-cases, last_such-passes}
+
+-- no map of the statements settles the block
+abbrev pub IsUnsettled : ℕ → List Statement → ℕ → ℕ → Type 0
+IsUnsettled W ss n q =
+    (table : List Label) (x : Label) → settled_by W n q x (last_such (meets W n q) (mappings_of table ss)) ≡ None
 
 ends_of-split : (first middle last : ℕ) (m : Mapping) → first ≤ middle → middle + 1 ≤ last
     → ends_of first middle m + ends_of (middle + 1) last m ≤ ends_of first last m

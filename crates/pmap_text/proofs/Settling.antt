@@ -3,17 +3,23 @@ use Rattle.std.proofs.Common.{◌≡◌, ℕ, suc, ◌+◌, ◌<◌, ◌≤◌, 
 use Rattle.std.proofs.lemmas.List.Elements.{All-contains}
 use Rattle.std.proofs.lemmas.Option.{same_Some}
 use Rattle.prefix_keys.specs.Block.{first_of, last_of, width_of}
-use Rattle.pmap_text.specs.MapModel.{MapModel}
+use Rattle.pmap_text.specs.MapModel.{IsSettled, MapModel, last_such, meets}
 use Rattle.pmap_text.specs.MapText.{map_of, mapping_of, text_at, Statement}
-use Rattle.pmap_text.specs.Settled.{IsMapOf, IsUnsettled, Settles, divisions}
+use Rattle.pmap_text.specs.Settled.{IsMapOf, divisions}
 use Rattle.pmap_text.specs.Stretches.{AreStretches, HasStretch, LabelId, StretchesModel, first_at, label_at, label_seen, last_at, mappings_of}
 use Rattle.pmap_text.specs.Windows.{AreHalvesOf, IsWindow, number_at}
 use Rattle.pmap_text.specs.declared.map_text.MapText.{MapText}
 use Rattle.pmap_text.specs.declared.stretches.window.Window.{Window}
 use Rattle.pmap_text.proofs.BlockHalves.{has_halves}
-use Rattle.pmap_text.proofs.Ends.{divided-most}
+use Rattle.pmap_text.proofs.Ends.{IsUnsettled, divided-most}
 use Rattle.pmap_text.proofs.SeenBlocks.{IsWhole, ordered_of, stretch_split, stretch_whole}
 use Rattle.pmap_text.proofs.Windows.{block_some, window_beyond}
+
+-- The block is settled by the map with the text of the label, which is in the map's label table. Without a label, no
+-- mapping of the map meets the block.
+abbrev pub Settles : MapModel → Option LabelId → ℕ → ℕ → Type 0
+Settles m None n q = last_such (meets (width_of m.version) n q) m.mappings ≡ None
+Settles m (Some id) n q = (id.0 < length m.table) × IsSettled m n q (text_at m.table id.0)
 
 -- a map text's map has its statements and its default
 pub map_is : (text : MapText) → IsMapOf (width_of text.version) text.statements (Some text.default) (map_of text)

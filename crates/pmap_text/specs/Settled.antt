@@ -1,7 +1,7 @@
-use Rattle.std.specs.Prelude.{◌≡◌, ℕ, ◌+◌, ◌-◌, ◌*◌, ◌<◌, ◌&&◌, Bool, List, [], ◌∷◌, Option, Some, None, All, length, nat_le, nat_lt, if◌then◌else◌}
+use Rattle.std.specs.Prelude.{◌≡◌, ℕ, ◌+◌, ◌-◌, ◌*◌, ◌<◌, ◌&&◌, Bool, List, [], ◌∷◌, Option, All, length, nat_le, nat_lt, if◌then◌else◌}
 use Rattle.std.specs.Option.{ForSome}
 use Rattle.prefix_keys.specs.Block.{first_of, last_of, width_of}
-use Rattle.pmap_text.specs.MapModel.{IsSettled, Label, Mapping, MapModel, last_such, meets, settled_by}
+use Rattle.pmap_text.specs.MapModel.{Mapping, MapModel}
 use Rattle.pmap_text.specs.MapText.{text_at, Statement}
 use Rattle.pmap_text.specs.Stretches.{LabelId, StretchesModel, mappings_of}
 use Rattle.pmap_text.specs.Windows.{number_at}
@@ -15,17 +15,6 @@ pub record IsMapOf (W : ℕ) (ss : List Statement) (default : Option LabelId) (m
   pub mappings : m.mappings ≡ mappings_of m.table ss
   pub known : All (λ s. s.label.0 < length m.table) ss
   pub fallback : ForSome default (λ id. (id.0 < length m.table) × (text_at m.table id.0 ≡ m.fallback))
-
--- The block is settled by the map with the text of the label, which is in the map's label table. Without a label, no
--- mapping of the map meets the block.
-abbrev pub Settles : MapModel → Option LabelId → ℕ → ℕ → Type 0
-Settles m None n q = last_such (meets (width_of m.version) n q) m.mappings ≡ None
-Settles m (Some id) n q = (id.0 < length m.table) × IsSettled m n q (text_at m.table id.0)
-
--- no map of the statements settles the block
-abbrev pub IsUnsettled : ℕ → List Statement → ℕ → ℕ → Type 0
-IsUnsettled W ss n q =
-    (table : List Label) (x : Label) → settled_by W n q x (last_such (meets W n q) (mappings_of table ss)) ≡ None
 
 abbrev pub one_if : Bool → ℕ
 one_if b = if b then 1 else 0

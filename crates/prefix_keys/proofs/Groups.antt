@@ -1,7 +1,7 @@
 use Rattle.std.proofs.Common.{ℕ, zero, suc, ◌≡◌, ◌+◌, ◌*◌, ◌/◌, ◌%◌, ◌^◌, ◌<◌, ◌≤◌, ◌∙◌, List, [], ◌∷◌, All, fold, arith, ap, sym}
 use Rattle.std.proofs.Math.Nat.{mod-lt, div-one, div-eq_of_lt, div-div-eq-div-mul, div-add-mod'}
 use Rattle.prefix_keys.specs.Print.{parts_at}
-use Rattle.prefix_keys.specs.Inner.{address_bytes, address_groups}
+use Rattle.prefix_keys.specs.Inner.{address_groups}
 use Rattle.prefix_keys.specs.Text.{groups_number}
 use Rattle.std.proofs.lemmas.Nat.{pow-add}
 use Rattle.prefix_keys.specs.Block.{width_of, Version, V4, V6}
@@ -21,6 +21,10 @@ groups-below number = parts-below 16 (7 ∷ 6 ∷ 5 ∷ 4 ∷ 3 ∷ 2 ∷ 1 ∷ 
 pub width-le : (version : Version) → width_of version ≤ 128
 width-le V4 = omega arith
 width-le V6 = omega arith
+
+-- the four bytes of an IPv4 address, the highest first
+abbrev pub address_bytes : ℕ → List ℕ
+address_bytes = parts_at 8 (3 ∷ 2 ∷ 1 ∷ 0 ∷ [])
 
 pub bytes-below : (number : ℕ) → All (λ byte. byte < 256) (address_bytes number)
 bytes-below number = parts-below 8 (3 ∷ 2 ∷ 1 ∷ 0 ∷ []) number (omega arith)

@@ -1,13 +1,13 @@
 -- The groups at the start of a text.
-use Rattle.std.proofs.Common.{◌/◌, ◌%◌, ◌≡◌, ℕ, ◌+◌, ◌-◌, ◌*◌, ◌^◌, ◌<◌, ◌&&◌, ◌==◌, Bool, true, false, List, [], ◌∷◌, ◌++◌, Option, Some, None, length, ap, sym, refl, ◌∙◌, arith, inl, inr, nat_le, option_map, if◌then◌else◌}
+use Rattle.std.proofs.Common.{fold, ◌/◌, ◌%◌, ◌≡◌, ℕ, ◌+◌, ◌-◌, ◌*◌, ◌^◌, ◌<◌, ◌&&◌, ◌==◌, Bool, true, false, List, [], ◌∷◌, ◌++◌, Option, Some, None, length, ap, sym, refl, ◌∙◌, arith, inl, inr, nat_le, option_map, if◌then◌else◌}
 use Rattle.std.specs.List.{list_all, list_any, slice_split}
 use Rattle.std.proofs.lemmas.Bool.{and_from, and_right, cond-true, cond-false, cases_Bool, eq-eqb, true_from_ne_false}
 use Rattle.std.proofs.lemmas.List.{append_assoc, append-nil, length-append}
 use Rattle.std.proofs.lemmas.List.Folds.{list_all-append}
 use Rattle.std.proofs.lemmas.List.Splits.{slice_split_at, slice_split_none, length-slice_split}
-use Rattle.prefix_keys.specs.Inner.{BeginsWith, BeginsWithSide, behind, is_colon_byte, more_groups, colon_address, hex_value, last_groups, text_groups}
+use Rattle.prefix_keys.specs.Inner.{BeginsWith, BeginsWithSide, behind, is_colon_byte, more_groups, colon_address, last_groups, text_groups}
 use Rattle.std.specs.Char.{is_ascii_hexdigit}
-use Rattle.prefix_keys.specs.Text.{around_gap, around_address, groups_of_pieces, hex_group, side_groups, dotted_address}
+use Rattle.prefix_keys.specs.Text.{around_gap, around_address, groups_of_pieces, hex_digit_value, hex_group, side_groups, dotted_address}
 use Rattle.prefix_keys.proofs.ColonPieces.{is_colon, groups_of-more, more-next, onto_groups}
 use Rattle.prefix_keys.proofs.Gaps.{address-around}
 use Rattle.prefix_keys.proofs.GroupNumbers.{gap-some, whole-some, whole_address}
@@ -21,7 +21,7 @@ group-digits text g reads = elim (cases_Bool (list_all is_ascii_hexdigit text)) 
   | inl all ↦ all
   | inr some ↦
       let none : hex_group text ≡ None =
-      cond-false (nat_le 1 (length text) && (nat_le (length text) 4 && list_all is_ascii_hexdigit text)) (Some (hex_value text)) None
+      cond-false (nat_le 1 (length text) && (nat_le (length text) 4 && list_all is_ascii_hexdigit text)) (Some (fold (λ n b. n * 16 + hex_digit_value b) 0 text)) None
       (and_right _ _ (and_right _ _ some)) in
       let no : None ≡ Some g = sym none ∙ reads in absurd cc
 ]

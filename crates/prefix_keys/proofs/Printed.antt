@@ -1,4 +1,4 @@
-use Rattle.std.proofs.Common.{ℕ, ◌≡◌, ◌-◌, ◌^◌, ◌<◌, ◌≤◌, ◌==◌, ◌∙◌, Bool, true, false, List, [], ◌∷◌, Some, None, All, length, map, ap, sym, refl, arith, not, eqb-true, eq-eqb, nat_le, le-leb}
+use Rattle.std.proofs.Common.{ℕ, ◌+◌, ◌*◌, fold, ◌≡◌, ◌-◌, ◌^◌, ◌<◌, ◌≤◌, ◌==◌, ◌∙◌, Bool, true, false, List, [], ◌∷◌, Some, None, All, length, map, ap, sym, refl, arith, not, eqb-true, eq-eqb, nat_le, le-leb}
 use Rattle.std.specs.List.{list_all, slice_split, range_with_len}
 use Rattle.std.specs.Fmt.{decimal, digits, digit_glyph}
 use Rattle.std.proofs.lemmas.Bool.{and_from, cond-true, not-true}
@@ -10,7 +10,6 @@ use Rattle.std.proofs.lemmas.List.{length-append}
 use Rattle.prefix_keys.specs.Print.{joined_text}
 use Rattle.std.specs.Char.{is_ascii_hexdigit}
 use Rattle.prefix_keys.specs.Text.{is_digit, hex_digit_value, hex_group, decimal_value, decimal_number}
-use Rattle.prefix_keys.specs.Inner.{hex_value}
 use Rattle.prefix_keys.proofs.Digits.{length-digits-le, fold-digits, All-digits, digits_some}
 
 -- Printed numbers, and texts of them separated by a separator.
@@ -48,7 +47,7 @@ hex_group-digits n h =
     let short : nat_le (length text) 4 ≡ true = le-leb _ _ (length-digits-le 16 (omega arith) 3 n (omega arith) small) in
     let all : list_all is_ascii_hexdigit text ≡ true =
     list_all-from_AllPass is_ascii_hexdigit text (All-digits 16 (omega arith) (λ b. is_ascii_hexdigit b ≡ true) hex_digit n small) in
-    cond-true _ (Some (hex_value text)) None (and_from _ _ some (and_from _ _ short all))
+    cond-true _ (Some (fold (λ n b. n * 16 + hex_digit_value b) 0 text)) None (and_from _ _ some (and_from _ _ short all))
     ∙ ap (λ m. Some m) (fold-digits 16 (omega arith) hex_digit_value hex_value_of n small)
 
 -- a number of at most three decimal digits is read back

@@ -1,22 +1,24 @@
-use Rattle.std.proofs.Common.{ℕ, ◌≡◌, ◌+◌, ◌-◌, ◌*◌, ◌/◌, ◌%◌, ◌^◌, ◌<◌, ◌≤◌, ◌==◌, ◌∙◌, Bool, true, false, cond, List, [], ◌∷◌, ◌++◌, Some, None, Ok, All, fold, length, map, take, drop, replicate, ap, sym, refl, inl, inr, arith, ok_or, option_map, nat_le, le-leb, eq-eqb}
+use Rattle.std.proofs.Common.{ℕ, ◌≡◌, ◌+◌, ◌-◌, ◌*◌, ◌/◌, ◌%◌, ◌^◌, ◌<◌, ◌≤◌, ◌==◌, ◌∙◌, Bool, true, false, cond, List, [], ◌∷◌, ◌++◌, Option, Some, None, Result, Ok, Err, All, fold, length, map, take, drop, replicate, ap, sym, refl, inl, inr, arith, ok_or, option_map, nat_le, le-leb, eq-eqb}
 use Rattle.std.specs.List.{list_any, before_first, after_first, position_or_len}
+use Rattle.std.specs.Option.{option_map_or}
 use Rattle.std.specs.Fmt.{decimal}
 use Rattle.std.proofs.lemmas.Bool.{cases_lt, or_right, lt-leb, cond-true, cond-false}
 use Rattle.std.proofs.lemmas.List.{get_or_append_left, get_or_at, take_at, drop_at, length-drop, length-take, length-take-le, length-append, length-replicate, take-append-drop, drop-drop}
 use Rattle.std.proofs.lemmas.List.Elements.{All-head, All-tail, All-take, All-drop, All-weaker, All-same, All-append, All-cons}
 use Rattle.std.proofs.lemmas.List.Folds.{list_any_none, list_any-append}
 use Rattle.prefix_keys.specs.Block.{block_number, first_of, width_of, Version, V4, V6}
-use Rattle.prefix_keys.specs.declared.text.BlockFault.TheVariants.{BadLength}
+use Rattle.prefix_keys.specs.declared.text.BlockFault.{BlockFault}
+use Rattle.prefix_keys.specs.declared.text.BlockFault.TheVariants.{BadAddress, BadLength}
 use Rattle.std.proofs.Math.Nat.{div-add-mod'}
 use Rattle.std.proofs.lemmas.List.Sums.{position_or_len_is}
 use Rattle.prefix_keys.specs.Print.{address_text, joined_text, longest_run, shortened_text, AddressIsReadBack, BlockIsReadBack, IsZeroRun}
-use Rattle.prefix_keys.specs.Text.{groups_of_pieces, side_groups, groups_number, gap_address, around_address, hex_group, dotted_address, decimal_number, four_bytes, address_of}
-use Rattle.prefix_keys.specs.Inner.{last_groups, text_groups, colon_address, address_bytes, address_groups, address_groups_text, block_from}
+use Rattle.prefix_keys.specs.Text.{groups_of_pieces, side_groups, groups_number, gap_address, around_address, hex_group, dotted_address, decimal_number, four_bytes, address_of, AddressOf, BlockOf}
+use Rattle.prefix_keys.specs.Inner.{last_groups, text_groups, colon_address, address_groups, address_groups_text}
 use Rattle.prefix_keys.proofs.Pieces.{of_all}
 use Rattle.prefix_keys.proofs.Printed.{Lacks, Lacks-digits, no_colon, no_point, no_slash, split-joined, joined-some, hex_group-digits, short_number-decimal, Lacks-joined}
 use Rattle.prefix_keys.proofs.ColonPieces.{onto_groups}
 use Rattle.prefix_keys.proofs.GroupNumbers.{whole_address}
-use Rattle.prefix_keys.proofs.Groups.{bytes-below, bytes-number, groups-below, groups-number, width-le}
+use Rattle.prefix_keys.proofs.Groups.{address_bytes, bytes-below, bytes-number, groups-below, groups-number, width-le}
 use Rattle.prefix_keys.proofs.LeadingGroups.{side-some}
 use Rattle.prefix_keys.proofs.PrintedGaps.{IsGroup, around-gap, around-none, hex}
 use Rattle.prefix_keys.proofs.Runs.{longest_is_run}
@@ -210,6 +212,13 @@ address_lacks_slash V6 number =
 -- a number without host bits is the number of its block
 whole_quotient : (number size : ℕ) → number % size ≡ 0 → number / size * size ≡ number
 whole_quotient number size h = omega (arith, div-add-mod' number size)
+
+-- the block of an address and the text of a length
+abbrev pub block_from : Option AddressOf → List ℕ → Result BlockOf BlockFault
+block_from address text = option_map_or (λ address. let W = width_of address.0 in
+    ok_or (option_map (λ len. (address.0, first_of W len (block_number W len address.1), len))
+    (decimal_number 3 W text)) BadLength)
+    address (Err BadAddress)
 
 pub block_is_read_back : BlockIsReadBack
 block_is_read_back block =

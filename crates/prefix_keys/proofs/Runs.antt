@@ -1,9 +1,13 @@
-use Rattle.std.proofs.Common.{ℕ, zero, suc, ◌≡◌, ◌+◌, ◌<◌, ◌≤◌, ◌∙◌, cond, List, [], ◌∷◌, take, drop, get_or, ap, sym, refl, subst, inl, inr, arith, add-one, eq-eqb}
+use Rattle.std.proofs.Common.{ℕ, zero, suc, ◌≡◌, ◌==◌, ◌+◌, ◌<◌, ◌≤◌, ◌∙◌, cond, List, [], ◌∷◌, take, drop, get_or, ap, sym, refl, subst, inl, inr, arith, add-one, eq-eqb}
 use Rattle.std.proofs.lemmas.Bool.{cases_eq, cases_lt, ne_eqb, le-leb, lt-leb}
 use Rattle.prefix_keys.specs.Print.{longer_run, longest_run, IsZeroRun, LongestRunIsLongest}
-use Rattle.prefix_keys.specs.Inner.{zeros_ahead}
+use Rattle.std.specs.List.{prefix_len}
 
 -- Runs of zeros.
+
+-- the number of zeros at the start of groups
+abbrev pub zeros_ahead : List ℕ → ℕ
+zeros_ahead groups = prefix_len (λ group. group == 0) groups
 
 ahead-zero : (group : ℕ) (groups : List ℕ) → group ≡ 0 → zeros_ahead (group ∷ groups) ≡ suc (zeros_ahead groups)
 ahead-zero group groups e = ap (λ t. cond t (1 + zeros_ahead groups) 0) (eq-eqb group 0 e) ∙ omega arith

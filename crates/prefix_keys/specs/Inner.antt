@@ -1,33 +1,18 @@
-use Rattle.std.specs.Prelude.{ℕ, ◌+◌, ◌*◌, List, [], ◌∷◌, Option, Some, None, Result, Err, ok_or, fold, length, nat_le, if◌then◌else◌, ◌≡◌, ◌||◌, ◌==◌, Bool, true, ◌++◌, option_map}
-use Rattle.std.specs.List.{list_all, prefix_len, slice_split}
+use Rattle.std.specs.Prelude.{ℕ, ◌+◌, ◌*◌, List, [], ◌∷◌, Option, Some, None, fold, length, nat_le, if◌then◌else◌, ◌≡◌, ◌||◌, ◌==◌, Bool, true, ◌++◌, option_map}
+use Rattle.std.specs.List.{list_all, slice_split}
 use Rattle.std.specs.Char.{is_ascii_hexdigit}
-use Rattle.std.specs.Option.{option_map_or}
-use Rattle.prefix_keys.specs.Block.{block_number, first_of, width_of}
-use Rattle.prefix_keys.specs.declared.text.BlockFault.{BlockFault}
-use Rattle.prefix_keys.specs.declared.text.BlockFault.TheVariants.{BadAddress, BadLength}
 use Rattle.prefix_keys.specs.Print.{joined_text, parts_at}
-use Rattle.prefix_keys.specs.Text.{AddressOf, BlockOf, around_address, decimal_number, around_gap, groups_of_pieces, hex_digit_value, side_groups}
+use Rattle.prefix_keys.specs.Text.{around_address, around_gap, groups_of_pieces, side_groups}
 
 -- Steps of the code, for the contracts of private functions. Callers of the crate need not read them.
 
--- the four bytes of an IPv4 address, and the eight groups of an IPv6 address, the highest first
-abbrev pub address_bytes : ℕ → List ℕ
-address_bytes = parts_at 8 (3 ∷ 2 ∷ 1 ∷ 0 ∷ [])
-
+-- the eight groups of an IPv6 address, the highest first
 abbrev pub address_groups : ℕ → List ℕ
 address_groups = parts_at 16 (7 ∷ 6 ∷ 5 ∷ 4 ∷ 3 ∷ 2 ∷ 1 ∷ 0 ∷ [])
-
--- the number of zeros at the start of groups
-abbrev pub zeros_ahead : List ℕ → ℕ
-zeros_ahead groups = prefix_len (λ group. group == 0) groups
 
 -- groups in lower-case hexadecimal, separated by colons
 abbrev pub address_groups_text : List ℕ → List ℕ
 address_groups_text groups = joined_text 16 58 groups
-
--- the number that hexadecimal digits represent
-abbrev pub hex_value : List ℕ → ℕ
-hex_value digits = fold (λ n b. n * 16 + hex_digit_value b) 0 digits
 
 -- the groups of the last piece of a text, of any pieces, and of a text with a colon or of one group
 abbrev pub last_groups : Bool → List ℕ → Option (List ℕ)
@@ -39,13 +24,6 @@ text_groups dotted text = groups_of_pieces dotted (slice_split (λ b. b == 58) t
 -- the IPv6 address of a text
 abbrev pub colon_address : List ℕ → Option ℕ
 colon_address text = around_address text (around_gap text)
-
--- the block of an address and the text of a length
-abbrev pub block_from : Option AddressOf → List ℕ → Result BlockOf BlockFault
-block_from address text = option_map_or (λ address. let W = width_of address.0 in
-    ok_or (option_map (λ len. (address.0, first_of W len (block_number W len address.1), len))
-    (decimal_number 3 W text)) BadLength)
-    address (Err BadAddress)
 
 -- groups appended to other groups, given by their count and their number: the count and the number of all, if they are
 -- at most eight

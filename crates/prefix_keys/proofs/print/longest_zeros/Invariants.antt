@@ -1,6 +1,6 @@
 use Rattle.std.proofs.Common.{◌≡◌, ◌+◌, ◌≤◌, drop, length}
 use Rattle.prefix_keys.specs.Print.{longest_run}
-use Rattle.prefix_keys.specs.Inner.{zeros_ahead}
+use Rattle.prefix_keys.proofs.Runs.{zeros_ahead}
 use Rattle.prefix_keys.proofs.print.longest_zeros.Given as goal
 
 -- the run found so far is the longest of the groups from i on
