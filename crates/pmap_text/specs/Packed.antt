@@ -1,6 +1,6 @@
 use Rattle.prefix_keys.specs.declared.version.Version.TheVariants.{V4}
-pub use Rattle.pmap_text.specs.declared.packed.Narrow.{Narrow}
-pub use Rattle.pmap_text.specs.declared.packed.Wide.{Wide}
+pub use Rattle.pmap_text.specs.declared.packed.NarrowStatement.{NarrowStatement}
+pub use Rattle.pmap_text.specs.declared.packed.WideStatement.{WideStatement}
 pub use Rattle.pmap_text.specs.declared.packed.NarrowEntry.{NarrowEntry}
 use Rattle.pmap_text.specs.declared.entry.Entry.{Entry}
 use Rattle.pmap_text.specs.declared.statement.Statement.{Statement}
@@ -8,7 +8,7 @@ use Rattle.std.proofs.Common.{refl}
 
 -- How mappings and entries are stored. This is private, and callers of the crate need not read it.
 
-abbrev pub narrow_statement : Narrow → Statement
+abbrev pub narrow_statement : NarrowStatement → Statement
 narrow_statement n = record {
   span = record {
     low = record { version = V4; value = n.low; in_range = n.low_fits };
@@ -19,7 +19,7 @@ narrow_statement n = record {
   label = n.label;
 }
 
-abbrev pub wide_statement : Wide → Statement
+abbrev pub wide_statement : WideStatement → Statement
 wide_statement w = record {
   span = record {
     low = record { version = w.version; value = w.low; in_range = w.low_fits };

@@ -31,6 +31,7 @@ mod map_text;
 mod name;
 mod order;
 mod packed;
+mod packed_list;
 mod prefix_list;
 mod reading;
 mod runs;
@@ -52,6 +53,7 @@ pub use laws::{
 pub use map_text::MapText;
 pub use name::Name;
 pub use order::{in_order, sorted_or};
+pub use packed_list::{Packable, PackedList};
 pub use prefix_list::PrefixList;
 pub use reading::form::Form;
 pub use reading::texts::{read_list, read_list_with_hashing, read_map, read_map_with_hashing};

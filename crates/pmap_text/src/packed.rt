@@ -6,7 +6,7 @@ use prefix_keys::Version;
 
 /// A mapping of IPv4 addresses, in 12 bytes.
 #[derive(Clone, Copy)]
-pub struct Narrow {
+pub struct NarrowStatement {
     pub low: u32,
     pub high: u32,
     pub label: LabelId,
@@ -17,7 +17,7 @@ pub struct Narrow {
 
 /// A mapping of addresses of any version, in 48 bytes.
 #[derive(Clone, Copy)]
-pub struct Wide {
+pub struct WideStatement {
     pub low: u128,
     pub high: u128,
     pub label: LabelId,

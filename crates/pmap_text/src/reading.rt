@@ -178,7 +178,7 @@ impl Reading {
         ensures kept { OnErr result (self.new.prefixes ≡ self.old.prefixes) }
     {
         self.version = Some(span.low.version);
-        let Ok(()) = self.statements.push(Statement { span, label }) else {
+        let Ok(()) = self.statements.push_inline(Statement { span, label }) else {
             return Err(MapFaultKind::NoMemory);
         };
         Ok(())
