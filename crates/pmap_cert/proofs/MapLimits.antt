@@ -15,7 +15,7 @@ use Rattle.prefix_keys.specs.declared.version.Version.{Version}
 use Rattle.pmap_text.proofs.Finds.{find_passes}
 use Rattle.pmap_text.proofs.LabelTexts.{IsLabelTable-with_label, has_label-with_label, with_label-known, with_label-new}
 use Rattle.pmap_text.specs.Label.{conflicts, declared_text, label_number, meant_text, with_declared, IsLabelTable, has_label, is_label, with_label}
-use Rattle.pmap_text.specs.Reading.{◌>>=◌, behind_word, content_of, first_word, lines_of, Earlier, address_line, block_line, content_line, default_line, label_limit, label_line, label_of, lines_read, mapping_limit, mode_line, mode_version, no_lines, number_in, span_line, statement_line, unknown, with_text, map_reading}
+use Rattle.pmap_text.specs.Reading.{◌>>=◌, after_word, content_of, first_word, lines_of, Earlier, address_line, block_line, content_line, default_line, label_limit, label_line, label_of, lines_read, mapping_limit, mode_line, mode_version, no_lines, number_in, span_line, statement_line, unknown, with_text, map_reading}
 use Rattle.pmap_text.specs.Inner.{has_room, one_or_two, text_read, map_from, name_line}
 use Rattle.pmap_text.specs.MapModel.{Label, MapModel, Mapping}
 use Rattle.pmap_text.specs.declared.fault.MapFault.{MapFault}
@@ -204,7 +204,7 @@ module _ (e : Earlier) (so_far : AreWithin e) where
       let version : Version = unwrap_or e.version first.0 in
       whatever AreWithin (number_in version first) _
       (λ low. whatever AreWithin (number_in version second) _
-      (λ high. either AreWithin (nat_le low high) (span_line e version low high (behind_word rest)) _ (λ _. span-within version low high (behind_word rest)) tt))
+      (λ high. either AreWithin (nat_le low high) (span_line e version low high (after_word rest)) _ (λ _. span-within version low high (after_word rest)) tt))
 
   address-within : (word : List ℕ) (o : Option AddressOf) (rest : List ℕ) → IfOk (address_line form.Map e word o rest) AreWithin
   address-within word None rest = tt
@@ -214,8 +214,8 @@ module _ (e : Earlier) (so_far : AreWithin e) where
   statement-within word rest =
       either AreWithin (bytes_eq word (codes "map-name")) (name_line e rest) _ (λ _. name-within rest)
       (either AreWithin (bytes_eq word (codes "mode")) (mode_line e (mode_version rest)) _ (λ _. mode-within (mode_version rest))
-      (either AreWithin (bytes_eq word (codes "label")) (label_line e (label_number (first_word rest)) (behind_word rest)) _
-      (λ _. label-within (label_number (first_word rest)) (behind_word rest))
+      (either AreWithin (bytes_eq word (codes "label")) (label_line e (label_number (first_word rest)) (after_word rest)) _
+      (λ _. label-within (label_number (first_word rest)) (after_word rest))
       (either AreWithin (bytes_eq word (codes "default")) (default_line form.Map e rest) _ (λ _. default-within rest)
       (either AreWithin (list_any (λ b. b == 47) word) (block_line form.Map e (block_of_text word) rest)
       (address_line form.Map e word (address_of word) rest) (λ _. block-within (block_of_text word) rest)
@@ -223,7 +223,7 @@ module _ (e : Earlier) (so_far : AreWithin e) where
 
   line-within : (content : List ℕ) → IfOk (content_line form.Map e content) AreWithin
   line-within [] = so_far
-  line-within (b ∷ bs) = statement-within (first_word (b ∷ bs)) (behind_word (b ∷ bs))
+  line-within (b ∷ bs) = statement-within (first_word (b ∷ bs)) (after_word (b ∷ bs))
 
   -- the table of the whole map, with the default, is a label table
   whole-table : (o : Option Label) → e.fallback ≡ o → IsLabelTable (with_label e.table (unwrap_or o unknown))

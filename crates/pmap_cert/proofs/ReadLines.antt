@@ -19,7 +19,7 @@ use Rattle.prefix_keys.specs.declared.version.Version.{Version}
 use Rattle.prefix_keys.specs.declared.version.Version.TheVariants.{V4, V6}
 use Rattle.prefix_keys.proofs.ReadBack.{block_is_read_back}
 use Rattle.pmap_text.specs.Label.{declared_text, label_number, meant_text, is_label, with_label}
-use Rattle.pmap_text.specs.Reading.{behind_word, content_of, first_word, Earlier, block_line, content_line, label_of, no_lines, number_in, placed_line, statement_line}
+use Rattle.pmap_text.specs.Reading.{after_word, content_of, first_word, Earlier, block_line, content_line, label_of, no_lines, number_in, placed_line, statement_line}
 use Rattle.pmap_text.specs.ListModel.{Prefix}
 use Rattle.pmap_text.specs.MapModel.{Label}
 use Rattle.pmap_text.specs.declared.reading.form.Form.{Form}
@@ -28,7 +28,7 @@ use Rattle.pmap_cert.proofs.LastMatch.{mapping_of_prefix}
 use Rattle.pmap_cert.specs.CertificateText.{version_word}
 use Rattle.pmap_cert.specs.ListText.{entry_line, IsPrintedEntry}
 use Rattle.prefix_keys.proofs.Groups.{width-le}
-use Rattle.pmap_cert.proofs.WordLines.{high-block, line-behind_word, line-content, line-first_word}
+use Rattle.pmap_cert.proofs.WordLines.{high-block, line-after_word, line-content, line-first_word}
 
 -- the lines of a list's text before those of its entries
 abbrev pub name_lines : Option Label → List (List ℕ)
@@ -39,7 +39,7 @@ mode_text version = codes "mode" ++ 32 ∷ version_word version
 
 -- a line of a word and a label is read by its words
 content-word : (kind : Form) (earlier : Earlier) (text : List ℕ) → 0 < length text
-    → content_line kind earlier text ≡ statement_line kind earlier (first_word text) (behind_word text)
+    → content_line kind earlier text ≡ statement_line kind earlier (first_word text) (after_word text)
 content-word kind earlier [] some = absurd (omega (arith, some))
 content-word kind earlier (b ∷ bs) some = refl
 
@@ -48,8 +48,8 @@ pub word-line : (kind : Form) (earlier : Earlier) (word label : List ℕ) → 0 
 word-line kind earlier word label some high is =
     ap (content_line kind earlier) (line-content word label some high is)
     ∙ content-word kind earlier (word ++ 32 ∷ label) (omega (arith, some, length-append word (32 ∷ label)))
-    ∙ ap (λ w. statement_line kind earlier w (behind_word (word ++ 32 ∷ label))) (line-first_word word label some high is)
-    ∙ ap (statement_line kind earlier word) (line-behind_word word label some high is)
+    ∙ ap (λ w. statement_line kind earlier w (after_word (word ++ 32 ∷ label))) (line-first_word word label some high is)
+    ∙ ap (statement_line kind earlier word) (line-after_word word label some high is)
 
 -- a label is read as itself if no number is declared
 pub label_of-label : (label : Label) → is_label label ≡ true → label_of label ≡ Ok label

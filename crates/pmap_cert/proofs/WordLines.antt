@@ -16,9 +16,9 @@ use Rattle.prefix_keys.proofs.Groups.{address_bytes, bytes-below, groups-below}
 use Rattle.prefix_keys.proofs.Printed.{Lacks}
 use Rattle.pmap_cert.specs.CertificateText.{text_of_lines}
 use Rattle.pmap_text.specs.Label.{is_blank, is_label, is_label_byte}
-use Rattle.pmap_text.specs.Reading.{behind_word, content_of, first_word, lines_of, trim_start}
+use Rattle.pmap_text.specs.Reading.{after_word, content_of, first_word, lines_of, trim_start}
 use Rattle.pmap_text.specs.Inner.{trim_end}
-use Rattle.pmap_text.proofs.LeadingWords.{first-behind}
+use Rattle.pmap_text.proofs.LeadingWords.{first-after}
 
 -- each printed line is read as one line
 one-line : (line rest : List ℕ) → Lacks 10 line → lines_of ((line ++ 10 ∷ []) ++ rest) ≡ line ∷ lines_of rest
@@ -92,7 +92,7 @@ module _ (word label : List ℕ) (some : 0 < length word) (high : All (λ b. 45 
   line-lacks_feed = line-lacks 10 (omega arith) refl refl
 
   word_at : position_or_len is_blank (word ++ 32 ∷ label) ≡ length word
-  word_at = first-behind is_blank word 32 label no_blank refl
+  word_at = first-after is_blank word 32 label no_blank refl
 
   pub line-first_word : first_word (word ++ 32 ∷ label) ≡ word
   line-first_word = ap (λ n. take n (word ++ 32 ∷ label)) word_at ∙ take_at word (32 ∷ label) (length word) refl
@@ -103,8 +103,8 @@ module _ (word label : List ℕ) (some : 0 < length word) (high : All (λ b. 45 
       ap (λ n. drop n (32 ∷ b ∷ bs)) (position_or_len_is (λ c. not (is_blank c)) (32 ∷ b ∷ bs) 1 0 (omega arith)
       (λ k below. let e : k ≡ 0 = omega (arith, below) in rw e refl) (λ _. rw first refl))
 
-  pub line-behind_word : behind_word (word ++ 32 ∷ label) ≡ label
-  line-behind_word =
+  pub line-after_word : after_word (word ++ 32 ∷ label) ≡ label
+  line-after_word =
       ap (λ n. trim_start (drop n (word ++ 32 ∷ label))) word_at ∙ ap trim_start (drop_at word (32 ∷ label) (length word) refl)
       ∙ label-trimmed label (label-parts label is).some (label-parts label is).first
 

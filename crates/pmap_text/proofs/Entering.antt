@@ -36,14 +36,14 @@ refusal-fault : (r : Result Earlier MapFaultKind) (kind : MapFaultKind) → kind
 refusal-fault (Ok next) kind e other = absurd (other e)
 refusal-fault (Err fault) kind e other = λ i. Err (sym e i)
 
-module _ (form : Form) (text : List ℕ) (limit : ℕ) (old new : Earlier) (number : ℕ) (line : List ℕ) (rest behind : List (List ℕ))
-    (cut : rest ≡ line ∷ behind) (before : HasReadTo form text limit old number rest) where
+module _ (form : Form) (text : List ℕ) (limit : ℕ) (old new : Earlier) (number : ℕ) (line : List ℕ) (rest after : List (List ℕ))
+    (cut : rest ≡ line ∷ after) (before : HasReadTo form text limit old number rest) where
   -- the text is read as the rest of its lines is after the line's state or fault
   read-next : (r : Result Earlier MapFaultKind) → content_line form old (content_of line) ≡ r → HasDistinctKeys old.prefixes
-      → text_read form text ≡ lines_read form (number + 1) r behind
+      → text_read form text ≡ lines_read form (number + 1) r after
   read-next r is once =
       before.read once ∙ ap (lines_read form number (Ok old)) cut
-      ∙ ap (λ (r : Result Earlier MapFaultKind). lines_read form (number + 1) r behind) is
+      ∙ ap (λ (r : Result Earlier MapFaultKind). lines_read form (number + 1) r after) is
 
   -- a line with a fault ends the reading
   pub read-fault : (kind : MapFaultKind) → kind ≡ refusal_of (content_line form old (content_of line)) → new.prefixes ≡ old.prefixes
@@ -72,7 +72,7 @@ module _ (form : Form) (text : List ℕ) (limit : ℕ) (old new : Earlier) (numb
       (subst HasDistinctKeys same first.2)
 
   -- one more line, which may have an entry with the block of an earlier one
-  pub read-line : length old.prefixes ≤ limit → Takes old new (content_line form old (content_of line)) → HasReadTo form text limit new (number + 1) behind
+  pub read-line : length old.prefixes ≤ limit → Takes old new (content_line form old (content_of line)) → HasReadTo form text limit new (number + 1) after
   read-line few taken = elim taken [
     | inl kept ↦ record {
       read = λ once. read-next (Ok new) kept.0 (subst HasDistinctKeys kept.1 once);

@@ -22,7 +22,7 @@ use Rattle.prefix_keys.specs.declared.text.BlockFault.TheVariants.{BadLength}
 use Rattle.prefix_keys.specs.declared.version.Version.TheVariants.{V4, V6}
 use Rattle.pmap_text.specs.Label.{is_blank}
 use Rattle.pmap_text.specs.Inner.{BeginsWithBlank, IsWord, is_address_byte, is_dotted_byte, Address, one_or_two}
-use Rattle.pmap_text.specs.Reading.{behind_word, first_word, trim_start, Earlier, block_line, content_line, statement_line, Form}
+use Rattle.pmap_text.specs.Reading.{after_word, first_word, trim_start, Earlier, block_line, content_line, statement_line, Form}
 use Rattle.pmap_text.specs.declared.reading.leading.Word.TheVariants.{Block as block_word}
 
 -- one to three digits at the start are a number
@@ -134,13 +134,13 @@ pub digits-no_blank : (front : List ℕ) → list_all is_digit front ≡ true �
 digits-no_blank front digits = none-passes is_digit is_blank (no_blank is_digit refl refl refl) front digits
 
 -- the first element that passes comes after elements that don't pass
-pub first-behind : (p : ℕ → Bool) (front : List ℕ) (b : ℕ) (rest : List ℕ) → All (λ b. p b ≡ false) front → p b ≡ true
+pub first-after : (p : ℕ → Bool) (front : List ℕ) (b : ℕ) (rest : List ℕ) → All (λ b. p b ≡ false) front → p b ≡ true
     → position_or_len p (front ++ b ∷ rest) ≡ length front
-first-behind p [] b rest all here = rw here refl
-first-behind p (c ∷ front) b rest all here =
+first-after p [] b rest all here = rw here refl
+first-after p (c ∷ front) b rest all here =
     let not : p c ≡ false = All-head (λ b. p b ≡ false) c front all in
     let more : position_or_len p (front ++ b ∷ rest) ≡ length front =
-    first-behind p front b rest (All-tail (λ b. p b ≡ false) c front all) here in
+    first-after p front b rest (All-tail (λ b. p b ≡ false) c front all) here in
     rw not (omega (arith, more))
 
 -- the first word is the front without blanks, and the text after it begins with a blank
@@ -149,21 +149,21 @@ pub word-front : (text front rest : List ℕ) → text ≡ front ++ rest → All
 word-front text front rest whole none blank =
     let at : text ≡ front ++ blank.blank ∷ blank.rest = whole ∙ ap (λ t. front ++ t) blank.whole in
     ap first_word at
-    ∙ ap (λ n. take n (front ++ blank.blank ∷ blank.rest)) (first-behind is_blank front blank.blank blank.rest none blank.is)
+    ∙ ap (λ n. take n (front ++ blank.blank ∷ blank.rest)) (first-after is_blank front blank.blank blank.rest none blank.is)
     ∙ take_at front (blank.blank ∷ blank.rest) (length front) refl
 
-pub word-behind : (text front rest : List ℕ) → text ≡ front ++ rest → All (λ b. is_blank b ≡ false) front → BeginsWithBlank rest
-    → behind_word text ≡ trim_start rest
-word-behind text front rest whole none blank =
+pub word-after : (text front rest : List ℕ) → text ≡ front ++ rest → All (λ b. is_blank b ≡ false) front → BeginsWithBlank rest
+    → after_word text ≡ trim_start rest
+word-after text front rest whole none blank =
     let at : text ≡ front ++ blank.blank ∷ blank.rest = whole ∙ ap (λ t. front ++ t) blank.whole in
-    ap behind_word at
+    ap after_word at
     ∙ ap (λ n. trim_start (drop n (front ++ blank.blank ∷ blank.rest)))
-    (first-behind is_blank front blank.blank blank.rest none blank.is)
+    (first-after is_blank front blank.blank blank.rest none blank.is)
     ∙ ap trim_start (drop_at front (blank.blank ∷ blank.rest) (length front) refl ∙ sym blank.whole)
 
 -- an address followed by a blank is the first word
 pub address-word : (text rest : List ℕ) (addr : Addr) → BeginsWith is_address_byte address_of text rest (addr.version, addr.value) → BeginsWithBlank rest
-    → IsWord (first_word text) (Address addr) × (behind_word text ≡ trim_start rest)
+    → IsWord (first_word text) (Address addr) × (after_word text ≡ trim_start rest)
 address-word text rest addr begins blank =
     let none = address-no_blank begins.front begins.bytes in
     let word = word-front text begins.front rest begins.whole none blank in (
@@ -171,7 +171,7 @@ address-word text rest addr begins blank =
         ap address_of word ∙ begins.reads,
         ap (list_any (λ b. b == 47)) word ∙ lacks is_address_byte 47 refl begins.front begins.bytes,
       ),
-      word-behind text begins.front rest begins.whole none blank,
+      word-after text begins.front rest begins.whole none blank,
     )
 
 -- so is an address with a slash and a length, followed by a blank
@@ -183,7 +183,7 @@ block-whole text rest length left front digits e0 e1 e2 =
 slash-first : (front digits : List ℕ) → list_all is_address_byte front ≡ true
     → position_or_len (λ b. b == 47) (front ++ 47 ∷ digits) ≡ length front
 slash-first front digits bytes =
-    first-behind (λ b. b == 47) front 47 digits
+    first-after (λ b. b == 47) front 47 digits
     (none-passes is_address_byte (λ b. b == 47) (apart is_address_byte 47 refl) front bytes) refl
 
 block-reads : (front digits : List ℕ) (addr : Addr) (len : ℕ) → list_all is_address_byte front ≡ true
@@ -212,7 +212,7 @@ pub block-word : (text rest length left : List ℕ) (addr : Addr) (len : ℕ) (b
     → rest ≡ 47 ∷ length → BeginsWith is_digit (decimal_number 3 (width_of addr.version)) length left len → BeginsWithBlank left
     → block.version ≡ addr.version → block.len ≡ len
     → block.value ≡ first_of (width_of addr.version) len (block_number (width_of addr.version) len addr.value)
-    → IsWord (first_word text) (block_word block) × (behind_word text ≡ trim_start left)
+    → IsWord (first_word text) (block_word block) × (after_word text ≡ trim_start left)
 block-word text rest length left addr len block begins slash number blank version bits value =
     let front : List ℕ = begins.front ++ 47 ∷ number.front in
     let whole : text ≡ front ++ left = block-whole text rest length left begins.front number.front begins.whole slash number.whole in
@@ -226,7 +226,7 @@ block-word text rest length left addr len block begins slash number blank versio
             ∙ (λ i. Ok (sym version i, sym value i, sym bits i)),
         ap (list_any (λ b. b == 47)) word ∙ slash-in begins.front number.front,
       ),
-      word-behind text front left whole none blank,
+      word-after text front left whole none blank,
     )
 
 -- a line whose first word has a `/` is one of a block, and a line whose first word is an address begins with that
@@ -253,16 +253,16 @@ address-statement form earlier word rest first reads slash =
 
 -- a line whose content begins with a block, or with an address, by its content
 pub content-block : (form : Form) (earlier : Earlier) (content rest : List ℕ) (block : Block) → IsWord (first_word content) (block_word block)
-    → rest ≡ behind_word content → content_line form earlier content ≡ block_line form earlier (Ok (block.version, block.value, block.len)) rest
-content-block form earlier [] rest block word behind = absurd (false≢true word.1)
-content-block form earlier (b ∷ bs) rest block word behind =
-    block-statement form earlier (first_word (b ∷ bs)) (behind_word (b ∷ bs)) (block.version, block.value, block.len) word.0 word.1
-    ∙ ap (block_line form earlier (Ok (block.version, block.value, block.len))) (sym behind)
+    → rest ≡ after_word content → content_line form earlier content ≡ block_line form earlier (Ok (block.version, block.value, block.len)) rest
+content-block form earlier [] rest block word after = absurd (false≢true word.1)
+content-block form earlier (b ∷ bs) rest block word after =
+    block-statement form earlier (first_word (b ∷ bs)) (after_word (b ∷ bs)) (block.version, block.value, block.len) word.0 word.1
+    ∙ ap (block_line form earlier (Ok (block.version, block.value, block.len))) (sym after)
 
 pub content-address : (form : Form) (earlier : Earlier) (content rest : List ℕ) (addr : Addr) → IsWord (first_word content) (Address addr)
-    → rest ≡ behind_word content
+    → rest ≡ after_word content
     → content_line form earlier content ≡ one_or_two form earlier (addr.version, addr.value) (address_of (first_word rest)) rest
-content-address form earlier [] rest addr word behind = let none : None ≡ Some (addr.version, addr.value) = word.0 in absurd cc
-content-address form earlier (b ∷ bs) rest addr word behind =
-    address-statement form earlier (first_word (b ∷ bs)) (behind_word (b ∷ bs)) (addr.version, addr.value) word.0 word.1
-    ∙ ap (λ t. one_or_two form earlier (addr.version, addr.value) (address_of (first_word t)) t) (sym behind)
+content-address form earlier [] rest addr word after = let none : None ≡ Some (addr.version, addr.value) = word.0 in absurd cc
+content-address form earlier (b ∷ bs) rest addr word after =
+    address-statement form earlier (first_word (b ∷ bs)) (after_word (b ∷ bs)) (addr.version, addr.value) word.0 word.1
+    ∙ ap (λ t. one_or_two form earlier (addr.version, addr.value) (address_of (first_word t)) t) (sym after)

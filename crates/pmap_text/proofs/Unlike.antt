@@ -20,13 +20,13 @@ undotted (b ∷ bs) h = by (cases_Bool (is_point b))
     undigit : (text : List ℕ) → decimal_number 3 255 (b ∷ text) ≡ None
     undigit text = short_number-undigit 255 (b ∷ text) (ap (λ is. is && list_all is_digit text) h)
 
-    behind : (pieces : List (List ℕ)) → address (onto_first b pieces) ≡ None
-    behind [] = rw (undigit []) refl
-    behind (text ∷ pieces) = rw (undigit text) refl
+    after : (pieces : List (List ℕ)) → address (onto_first b pieces) ≡ None
+    after [] = rw (undigit []) refl
+    after (text ∷ pieces) = rw (undigit text) refl
 
     by : (is_point b ≡ true) ⊎ (is_point b ≡ false) → dotted_address (b ∷ bs) ≡ None
     by (inl point) = ap address (slice_split-cons_yes is_point b bs point)
-    by (inr other) = ap address (slice_split-cons_no is_point b bs other) ∙ behind (slice_split is_point bs)
+    by (inr other) = ap address (slice_split-cons_no is_point b bs other) ∙ after (slice_split is_point bs)
 
 -- a word that begins with no digit and has no colon is no address
 pub unlike_address : (word : List ℕ) → (is_digit (slice_index word 0) || list_any (λ b. b == 58) word) ≡ false → address_of word ≡ None

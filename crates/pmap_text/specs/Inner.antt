@@ -1,4 +1,4 @@
-use Rattle.std.specs.Prelude.{ℕ, ◌*◌, ◌-◌, ◌/◌, ◌%◌, ◌^◌, List, bit_and, bit_or, bit_xor, drop, length, ◌≡◌, ◌||◌, ◌==◌, Bool, true, false, if◌then◌else◌, ◌∷◌, ◌++◌, Some, Ok, nat_lt, ◌+◌, ◌<◌, ◌≤◌, ◌⊎◌, Option, All, Contains, IsSomeAnd, option_and_then, option_map, slice_get, unwrap_or, ◌&&◌, None, take, ◌≢◌, [], Result, Err, IfErr, IfOk, OnErr, OnOk}
+use Rattle.std.specs.Prelude.{ℕ, ◌*◌, ◌-◌, ◌/◌, ◌%◌, ◌^◌, List, bit_and, bit_or, bit_xor, drop, length, ◌≡◌, ◌||◌, ◌==◌, Bool, true, false, if◌then◌else◌, ◌∷◌, ◌++◌, Some, Ok, nat_lt, ◌+◌, ◌<◌, ◌≤◌, ◌⊎◌, Option, All, Contains, IsSomeAnd, option_and_then, slice_get, unwrap_or, ◌&&◌, None, take, ◌≢◌, [], Result, Err, IfErr, IfOk, OnErr, OnOk}
 use Rattle.std.specs.Int.{from_le_bytes, w64}
 use Rattle.std.specs.List.{fold, list_any, suffix_len, IsDistinct}
 use Rattle.std.specs.Simd.{first_chunks}
@@ -20,7 +20,7 @@ use Rattle.pmap_text.specs.Stretches.{AreRunsOf, AreStretches, HasEveryAddress, 
 use Rattle.prefix_keys.specs.Block.{width_of}
 use Rattle.prefix_keys.specs.declared.version.Version.TheVariants.{V4}
 use Rattle.pmap_text.specs.ListModel.{ListModel, Prefix}
-use Rattle.pmap_text.specs.Reading.{◌>>=◌, behind_word, block_line, label_limit, label_of, lines_of, lines_read, no_lines, range_line, unknown, Earlier, MapFault, MapFaultKind, DuplicateBlock, NoMemory, Form}
+use Rattle.pmap_text.specs.Reading.{◌>>=◌, after_word, block_line, label_limit, label_of, lines_of, lines_read, no_lines, range_line, unknown, Earlier, MapFault, MapFaultKind, DuplicateBlock, NoMemory, Form}
 use Rattle.pmap_text.specs.MapModel.{Label, MapModel}
 
 -- The hash that a `KeyHasher` computes. No other contract depends on it.
@@ -197,7 +197,7 @@ has_prefix prefixes start bits = list_any (λ p. p.start == start && p.bits == b
 -- a line that begins with an address, and with a second one if there is one
 abbrev pub one_or_two : Form → Earlier → AddressOf → Option AddressOf → List ℕ → Result Earlier MapFaultKind
 one_or_two form earlier first second rest =
-    option_map_or (λ second. range_line form earlier first second (behind_word rest))
+    option_map_or (λ second. range_line form earlier first second (after_word rest))
     second (block_line form earlier (Ok (first.0, first.1, width_of first.0)) rest)
 
 -- the state after the lines of a text

@@ -40,8 +40,8 @@ content_of line =
 abbrev pub first_word : List ℕ → List ℕ
 first_word content = before_first is_blank content
 
-abbrev pub behind_word : List ℕ → List ℕ
-behind_word content = trim_start (drop (position_or_len is_blank content) content)
+abbrev pub after_word : List ℕ → List ℕ
+after_word content = trim_start (drop (position_or_len is_blank content) content)
 
 -- How a text is read as a map or as a prefix list, and the first fault of a text that can't be read.
 
@@ -163,7 +163,7 @@ range_line form.Map earlier first second rest =
 -- this address alone. Any other word begins no statement; it may look like an address.
 abbrev pub address_line : Form → Earlier → List ℕ → Option AddressOf → List ℕ → Result Earlier MapFaultKind
 address_line form earlier word (Some first) rest =
-    option_map_or (λ second. range_line form earlier first second (behind_word rest))
+    option_map_or (λ second. range_line form earlier first second (after_word rest))
     (address_of (first_word rest)) (block_line form earlier (Ok (first.0, first.1, width_of first.0)) rest)
 address_line form earlier word None rest =
     Err (if is_digit (slice_index word 0) || list_any (λ b. b == 58) word then BadAddress else BadStatement)
@@ -173,7 +173,7 @@ abbrev pub statement_line : Form → Earlier → List ℕ → List ℕ → Resul
 statement_line form earlier word rest =
     if bytes_eq word (codes "map-name") then label_of rest >>= (λ name. Ok (record earlier { name = Some name }))
     else (if bytes_eq word (codes "mode") then mode_line earlier (mode_version rest)
-    else (if bytes_eq word (codes "label") then label_line earlier (label_number (first_word rest)) (behind_word rest)
+    else (if bytes_eq word (codes "label") then label_line earlier (label_number (first_word rest)) (after_word rest)
     else (if bytes_eq word (codes "default") then default_line form earlier rest
     else (if list_any (λ b. b == 47) word then block_line form earlier (block_of_text word) rest
     else address_line form earlier word (address_of word) rest))))
@@ -181,7 +181,7 @@ statement_line form earlier word rest =
 -- the content of a line, by its words
 abbrev pub content_line : Form → Earlier → List ℕ → Result Earlier MapFaultKind
 content_line form earlier [] = Ok earlier
-content_line form earlier (b ∷ bs) = statement_line form earlier (first_word (b ∷ bs)) (behind_word (b ∷ bs))
+content_line form earlier (b ∷ bs) = statement_line form earlier (first_word (b ∷ bs)) (after_word (b ∷ bs))
 
 -- the state after the lines of a text, given that after the first ones, whose number is `number`; the first faulty line
 -- ends the reading

@@ -4,7 +4,7 @@ ghost use Rattle.std.specs.Prelude.{◌≡◌, ◌≤◌, ◌∷◌, IfSome};
 ghost use Rattle.prefix_keys.specs.Inner.{BeginsWith};
 ghost use Rattle.prefix_keys.specs.Text.{address_of, decimal_number, dotted_address, is_digit};
 ghost use Rattle.pmap_text.specs.Inner.{BeginsWithBlank, IsWord, is_address_byte, is_dotted_byte};
-ghost use Rattle.pmap_text.specs.Reading.{behind_word, first_word, trim_start};
+ghost use Rattle.pmap_text.specs.Reading.{after_word, first_word, trim_start};
 
 use crate::label::is_blank;
 use crate::reading::lines::without_leading_blanks;
@@ -43,7 +43,7 @@ fn leading_number(text: &[u8], limit: u32) -> Option<(u32, &[u8])>
 
 // Returns the text after this byte at the start of a text.
 #[inline(always)]
-fn behind_byte(text: &[u8], byte: u8) -> Option<&[u8]>
+fn after_byte(text: &[u8], byte: u8) -> Option<&[u8]>
     ensures { IfSome result (λ r. text.now ≡ byte ∷ r.now) }
 {
     match text {
@@ -62,9 +62,9 @@ fn leading_dotted(text: &[u8]) -> Option<(u32, &[u8])>
         return None;
     }
     let (a, rest) = leading_number(text, 255)?;
-    let (b, rest) = leading_number(behind_byte(rest, b'.')?, 255)?;
-    let (c, rest) = leading_number(behind_byte(rest, b'.')?, 255)?;
-    let (d, rest) = leading_number(behind_byte(rest, b'.')?, 255)?;
+    let (b, rest) = leading_number(after_byte(rest, b'.')?, 255)?;
+    let (c, rest) = leading_number(after_byte(rest, b'.')?, 255)?;
+    let (d, rest) = leading_number(after_byte(rest, b'.')?, 255)?;
     Some((((a * 256 + b) * 256 + c) * 256 + d, rest))
 }
 
@@ -94,7 +94,7 @@ fn leading_address(text: &[u8]) -> Option<(Addr, &[u8])>
 
 // Returns the text after one or more blanks at the start of a text.
 #[inline(always)]
-fn behind_blanks(text: &[u8]) -> Option<&[u8]>
+fn after_blanks(text: &[u8]) -> Option<&[u8]>
     ensures { IfSome result (λ r. BeginsWithBlank text.now × (r.now ≡ trim_start text.now)) }
 {
     match text {
@@ -108,14 +108,14 @@ fn behind_blanks(text: &[u8]) -> Option<&[u8]>
 #[inline(always)]
 pub fn leading_word(text: &[u8]) -> Option<(Word, &[u8])>
     ensures word { IfSome result (λ r. IsWord (first_word text.now) r.0) }
-    ensures rest { IfSome result (λ r. r.1.now ≡ behind_word text.now) }
+    ensures rest { IfSome result (λ r. r.1.now ≡ after_word text.now) }
 {
     let (addr, rest) = leading_address(text)?;
-    match behind_byte(rest, b'/') {
+    match after_byte(rest, b'/') {
         Some(length) => {
             let (len, rest) = leading_number(length, addr.version.width())?;
-            Some((Word::Block(block_of(addr, len)), behind_blanks(rest)?))
+            Some((Word::Block(block_of(addr, len)), after_blanks(rest)?))
         }
-        None => Some((Word::Address(addr), behind_blanks(rest)?)),
+        None => Some((Word::Address(addr), after_blanks(rest)?)),
     }
 }

@@ -3,7 +3,7 @@ ghost use Rattle.std.specs.Prelude.{◌≡◌, ◌<◌, ◌≤◌, ◌==◌, ◌
 ghost use Rattle.std.specs.List.{list_any};
 ghost use Rattle.prefix_keys.specs.Text.{address_of, block_of_text, is_digit};
 ghost use Rattle.pmap_text.specs.Label.{label_number as number_of_label, meant_text, is_label as is_label_text, with_label};
-ghost use Rattle.pmap_text.specs.Reading.{behind_word, first_word, block_line, content_line, default_line, label_line, label_of, mode_line, mode_version, placed_line, range_line, span_line, statement_line, BadAddress, BadStatement, NoMemory, TooMany};
+ghost use Rattle.pmap_text.specs.Reading.{after_word, first_word, block_line, content_line, default_line, label_line, label_of, mode_line, mode_version, placed_line, range_line, span_line, statement_line, BadAddress, BadStatement, NoMemory, TooMany};
 ghost use Rattle.pmap_text.specs.declared.reading.form.Form.TheVariants.{List as list_form};
 ghost use Rattle.pmap_text.specs.Inner.{Reads, has_label_room, one_or_two, name_line};
 
@@ -98,7 +98,7 @@ impl Reading {
     // Reads `label NUMBER TEXT`, given the text after the first word.
     fn read_label(&mut self, rest: &[u8]) -> Result<(), MapFaultKind>
         ensures { Reads self.old self.new
-            (label_line self.old (number_of_label (first_word rest.now)) (behind_word rest.now)) result }
+            (label_line self.old (number_of_label (first_word rest.now)) (after_word rest.now)) result }
     {
         let (word, text) = split_word(rest);
         let Some(number) = label_number(word) else {
@@ -190,7 +190,7 @@ impl Reading {
 
     // Reads `BLOCK LABEL`, given the block and the text after it.
     #[inline(always)]
-    fn read_behind_block(
+    fn read_after_block(
         &mut self,
         form: Form,
         block: Block,
@@ -211,7 +211,7 @@ impl Reading {
         ensures { Reads self.old self.new (block_line form self.old (block_of_text word.now) rest.now) result }
     {
         match read_block(word) {
-            Ok(block) => self.read_behind_block(form, block, rest),
+            Ok(block) => self.read_after_block(form, block, rest),
             Err(BlockFault::BadAddress) => Err(MapFaultKind::BadAddress),
             Err(BlockFault::BadLength) => Err(MapFaultKind::BadLength),
         }
@@ -250,19 +250,19 @@ impl Reading {
         ensures { Reads self.old self.new
             (one_or_two form self.old (first.version, first.value) (address_of (first_word rest.now)) rest.now) result }
     {
-        let (word, behind) = split_word(rest);
+        let (word, after) = split_word(rest);
         match word_address(word) {
-            Ok(second) => self.read_range(form, first, second, behind),
+            Ok(second) => self.read_range(form, first, second, after),
             Err(_) => {
                 let block = block_of(first, first.version.width());
-                self.read_behind_block(form, block, rest)
+                self.read_after_block(form, block, rest)
             }
         }
     }
 
     // Reads a line that begins with an address, given the address and the text after it. A second address is read in
     // one pass if possible.
-    fn read_behind_address(
+    fn read_after_address(
         &mut self,
         form: Form,
         first: Addr,
@@ -272,7 +272,7 @@ impl Reading {
             (one_or_two form self.old (first.version, first.value) (address_of (first_word rest.now)) rest.now) result }
     {
         match leading_word(rest) {
-            Some((Word::Address(second), behind)) => self.read_range(form, first, second, behind),
+            Some((Word::Address(second), after)) => self.read_range(form, first, second, after),
             _ => self.read_address_line(form, first, rest),
         }
     }
@@ -316,8 +316,8 @@ impl Reading {
         ensures { Reads self.old self.new (content_line form self.old content.now) result }
     {
         match leading_word(content) {
-            Some((Word::Block(block), rest)) => self.read_behind_block(form, block, rest),
-            Some((Word::Address(first), rest)) => self.read_behind_address(form, first, rest),
+            Some((Word::Block(block), rest)) => self.read_after_block(form, block, rest),
+            Some((Word::Address(first), rest)) => self.read_after_address(form, first, rest),
             None => self.read_words(form, content),
         }
     }

@@ -2,7 +2,7 @@
 ghost use Rattle.std.specs.Prelude.{◌≡◌, ◌+◌, ◌<◌, ◌≤◌, ◌∷◌, ◌==◌, ◌||◌, ℕ, Bool, List, [], length, not, position, take};
 ghost use Rattle.std.specs.List.{position_or_len};
 ghost use Rattle.pmap_text.specs.Label.{is_blank as is_blank_byte};
-ghost use Rattle.pmap_text.specs.Reading.{behind_word, content_of, first_word, lines_of, trim_start};
+ghost use Rattle.pmap_text.specs.Reading.{after_word, content_of, first_word, lines_of, trim_start};
 ghost use Rattle.pmap_text.specs.Inner.{trim_end};
 
 use crate::label::is_blank;
@@ -79,11 +79,11 @@ pub fn split_content(text: &[u8]) -> (&[u8], &[u8])
 {
     let end = content_end(text);
     if end < text.len() && text[end] == b'#' {
-        let (line, behind) = split_line(text);
-        return (without_outer_blanks(cut(line, b'#').0), behind);
+        let (line, after) = split_line(text);
+        return (without_outer_blanks(cut(line, b'#').0), after);
     }
-    let (line, behind) = split_at_feed(text, end);
-    (without_outer_blanks(line), behind)
+    let (line, after) = split_at_feed(text, end);
+    (without_outer_blanks(line), after)
 }
 
 /// Returns the text without its leading blanks.
@@ -117,7 +117,7 @@ fn without_outer_blanks(text: &[u8]) -> &[u8]
 /// Returns the first word of a line's content, and the text after the blanks that follow it.
 pub fn split_word(content: &[u8]) -> (&[u8], &[u8])
     ensures word { result.0.now ≡ first_word content.now }
-    ensures rest { result.1.now ≡ behind_word content.now }
+    ensures rest { result.1.now ≡ after_word content.now }
 {
     let end = place_or_end(find_blank(content), content);
     (&content[..end], without_leading_blanks(&content[end..]))

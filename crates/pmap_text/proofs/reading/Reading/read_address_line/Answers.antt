@@ -16,4 +16,4 @@ returns-in-Err c =
     let value : c.block_of-block.result.value ≡ first.value =
     to.first ∙ (λ i. first_of W (c.width.ensures i) (block_number W (c.width.ensures i) first.value)) ∙ first_of-full W first.value in
     rw (← c.split_word.ensures.word, c.in-Err.ensures.none)
-    (rw (to.version, value, to.len, c.width.ensures) at c.read_behind_block.ensures)
+    (rw (to.version, value, to.len, c.width.ensures) at c.read_after_block.ensures)
