@@ -15,7 +15,7 @@ use crate::cursor::{Cursor, Parts, cursor_at};
 use crate::leaf::Leaf;
 use crate::node::TrieNode;
 use pmap_text::{LabelId, MapText, PrefixList, Stretches, Window};
-use prefix_keys::{Addr, Version, whole_space};
+use prefix_keys::{Addr, Block, Version};
 use std::alloc::{AllocError, Global};
 use std::marker::Model;
 
@@ -132,7 +132,7 @@ impl Trie {
     pub fn root(&self) -> Cursor
         ensures { IsRoot self.now result }
     {
-        cursor_at(self, 0, whole_space(self.version))
+        cursor_at(self, 0, Block::whole(self.version))
     }
 
     /// Returns a cursor at the node with this number, which must be below `node_count`. So a walk from the root meets

@@ -9,7 +9,7 @@ ghost use Rattle.pmap_minimise.specs.Opened.{Opens};
 use crate::entering::push_own;
 use pmap_cert::{Cursor, Node, Root};
 use pmap_text::{Entries, LabelId};
-use prefix_keys::{Block, Version, whole_space};
+use prefix_keys::{Block, Version};
 use std::alloc::{AllocError, Global};
 
 /// Returns the entries of the shortest list by ascending first address, by the root of a map's certificate.
@@ -24,7 +24,7 @@ pub fn entries_of(alloc: Global, root: &Root, version: Version) -> Result<Entrie
     // The blocks whose nodes are still to be read, without the blocks inside them, and the label that each inherits. The
     // block of the next node is the last.
     let mut due: Vec<(Block, Option<LabelId>)> = Vec::new(alloc);
-    due.push((whole_space(version), None))?;
+    due.push((Block::whole(version), None))?;
     while let Some((block, inherited)) = due.pop() {
         let label = push_own(&mut entries, at.claim().set, block, inherited)?;
         let node = at.node();

@@ -98,16 +98,6 @@ fn vec_with<T: Drop>(alloc: Global, value: T, most: usize) -> Result<Vec<T>, All
     Ok(values)
 }
 
-/// Returns the highest address of a version.
-pub fn last_address(version: Version) -> u128
-    ensures { result + 1 ≡ 2 ^ width_of version }
-{
-    match version {
-        Version::V4 => u128::from(u32::MAX),
-        Version::V6 => u128::MAX,
-    }
-}
-
 impl Stretches {
     /// Returns the stretches of a map, with neighbours joined as `J` says.
     pub(crate) fn swept_of_map<J: Joining>(alloc: Global, map: &MapText) -> Result<Stretches, AllocError>
@@ -262,7 +252,7 @@ impl Stretches {
         if index < self.len() - 1 {
             self.first(index + 1) - 1
         } else {
-            last_address(self.version())
+            self.version().last_address()
         }
     }
 

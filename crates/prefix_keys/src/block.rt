@@ -31,40 +31,40 @@ fn host_mask(version: Version, len: u32) -> u128
     }
 }
 
-/// Returns the block of length `len` that covers `addr`: its first `len` bits, with the host bits cleared.
-#[inline(always)]
-pub fn block_of(addr: Addr, len: u32) -> Block
-    requires { len ≤ width_of addr.version }
-    ensures version { result.version ≡ addr.version }
-    ensures len { result.len ≡ len }
-    ensures covering { let W = width_of addr.version in
-        block_number W len result.value ≡ block_number W len addr.value }
-    ensures first { let W = width_of addr.version in
-        result.value ≡ first_of W len (block_number W len addr.value) }
-{
-    let host = addr.value & host_mask(addr.version, len);
-    Block {
-        version: addr.version,
-        value: addr.value - host,
-        len,
-    }
-}
-
-/// Returns the block of length 0, which covers every address of the version.
-pub fn whole_space(version: Version) -> Block
-    ensures version { result.version ≡ version }
-    ensures value { result.value ≡ 0 }
-    ensures len { result.len ≡ 0 }
-{
-    Block {
-        version,
-        value: 0,
-        len: 0,
-    }
-}
-
 impl Block {
     ghost use Rattle.prefix_keys.specs.Covers.{BlockCovers};
+
+    /// Returns the block of length `len` that covers `addr`: its first `len` bits, with the host bits cleared.
+    #[inline(always)]
+    pub fn covering(addr: Addr, len: u32) -> Block
+        requires { len ≤ width_of addr.version }
+        ensures version { result.version ≡ addr.version }
+        ensures len { result.len ≡ len }
+        ensures covering { let W = width_of addr.version in
+            block_number W len result.value ≡ block_number W len addr.value }
+        ensures first { let W = width_of addr.version in
+            result.value ≡ first_of W len (block_number W len addr.value) }
+    {
+        let host = addr.value & host_mask(addr.version, len);
+        Block {
+            version: addr.version,
+            value: addr.value - host,
+            len,
+        }
+    }
+
+    /// Returns the block of length 0, which covers every address of the version.
+    pub fn whole(version: Version) -> Block
+        ensures version { result.version ≡ version }
+        ensures value { result.value ≡ 0 }
+        ensures len { result.len ≡ 0 }
+    {
+        Block {
+            version,
+            value: 0,
+            len: 0,
+        }
+    }
 
     /// Returns the block with this number and length, or `None` if the length exceeds the width, the number is too
     /// large for the version, or a host bit is 1.
@@ -79,7 +79,7 @@ impl Block {
         if len > version.width() {
             return None;
         }
-        let block = block_of(addr, len);
+        let block = Block::covering(addr, len);
         if block.value == value {
             Some(block)
         } else {

@@ -7,12 +7,12 @@ ghost use Rattle.pmap_text.specs.Starting.{IsOrder};
 ghost use Rattle.pmap_text.specs.Stretches.{label_seen};
 
 use crate::label::LabelId;
+use crate::stretches::Stretches;
 use crate::stretches::growing::Growing;
 use crate::stretches::joining::Joining;
 use crate::stretches::mappings::Mappings;
 use crate::stretches::opened::Opened;
 use crate::stretches::starts::Starts;
-use crate::stretches::{Stretches, last_address};
 use prefix_keys::Version;
 use std::alloc::{AllocError, Global};
 
@@ -173,7 +173,7 @@ pub fn of_mappings<M: Mappings, J: Joining>(
     ensures stretches { IfOk result (AreSwept J.joins (M.all mappings.now) default) }
     ensures labels { IfOk result (HaveLabelsWon (M.all mappings.now) default) }
 {
-    let end = last_address(version);
+    let end = version.last_address();
     let mut ascent = Ascent::new::<M, J>(alloc, version, default, mappings, starts)?;
     ascent.open_all::<M, J>(mappings, end)?;
     ascent.reach::<M, J>(mappings, end)?;

@@ -7,9 +7,9 @@ use Rattle.pmap_minimise.proofs.entries.entries_of.Goals as goal
 
 pub loop-block-init : goal.loop-block-init
 loop-block-init c =
-    let whole = c.whole_space.ensures in
-    reading-begins c.args.root.now c.args.version c.whole_space.result c.at_root-at.result c.push.new.self.items c.new-entries.result whole.version whole.value whole.len c.requires c.at_root-at.ensures
-    (c.in_ok-push.ensures.items ∙ ap (λ l. l ++ (c.whole_space.result, None) ∷ []) c.new-due.ensures.items) c.new-entries.ensures
+    let whole = c.whole.ensures in
+    reading-begins c.args.root.now c.args.version c.whole.result c.at_root-at.result c.push.new.self.items c.new-entries.result whole.version whole.value whole.len c.requires c.at_root-at.ensures
+    (c.in_ok-push.ensures.items ∙ ap (λ l. l ++ (c.whole.result, None) ∷ []) c.new-due.ensures.items) c.new-entries.ensures
 
 pub loop-block-preserved-in-Leaf : goal.loop-block-preserved-in-Leaf
 loop-block-preserved-in-Leaf c =
