@@ -99,8 +99,7 @@ fn sets_fault(labels: &Labels, claim: Claim, left: Claim, right: Claim) -> Optio
     ensures { result ≡ claim_fault_of (claim_in labels.now claim.entry)
         (exact_claim (claim_in labels.now left.entry) (claim_in labels.now right.entry)) }
 {
-    // Provides the law that a table has at most 65536 labels.
-    let _count = labels.len();
+    labels.laws();
     let cost = u64::from(claim.cost);
     let below = u64::from(left.cost) + u64::from(right.cost);
     // The empty set has all common labels only if there are none.
@@ -144,8 +143,7 @@ pub fn claim_fault(
     let Some(high) = single(right.set) else {
         return sets_fault(labels, claim, left, right);
     };
-    // Provides the laws of a table of labels.
-    let _count = labels.len();
+    labels.laws();
     let cost = u64::from(claim.cost);
     let below = u64::from(left.cost) + u64::from(right.cost);
     let has_low = has_one(claim.set, low);
@@ -173,8 +171,7 @@ pub fn chain_fault(
     ensures { result ≡ claim_fault_of (claim_in labels.now claim.entry)
         (chain_claim (length (bits_in path.now)) (text_at labels.now side.0) (claim_in labels.now end.entry)) }
 {
-    // Provides the law that a table has at most 65536 labels.
-    let _count = labels.len();
+    labels.laws();
     let cost = u64::from(claim.cost);
     let below = u64::from(end.cost);
     let has_side = has_one(claim.set, side);

@@ -17,8 +17,8 @@ pub fn numbers_in(
 ) -> Result<Vec<Option<LabelId>>, AllocError>
     ensures { IfOk result (λ numbers. AreNumbers numbers.items from.now to.now) }
 {
-    // Provides the law that the table's labels are distinct.
-    let _count = to.len();
+    from.laws();
+    to.laws();
     let mut numbers = Vec::with_capacity(alloc, from.len())?;
     for number in 0..from.len() {
         let Some(text) = from.text(LabelId(number as u32)) else {

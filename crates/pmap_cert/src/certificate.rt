@@ -69,8 +69,7 @@ impl Certificate {
         ensures form { HasFormatText (certificate_of self.now) }
         ensures first { self.now.format ≡ One → HasTextForm (certificate_of self.now) }
     {
-        // Provides the law that the table has at most 65536 labels, all distinct.
-        let _count = self.labels.len();
+        self.labels.laws();
         Cursor::at_root(&self.root)
     }
 
@@ -82,8 +81,7 @@ impl Certificate {
             (node_due_at self.now.format W self.now.labels W (place_in result)
             ≡ Ok (tree_of self.now.labels self.now.root, after)) }
     {
-        // Provides the law that the table has at most 65536 labels, all distinct.
-        let _count = self.labels.len();
+        self.labels.laws();
         NodeSource::Nodes(NodesFrom {
             nodes: self.root.nodes(),
             number: 0,

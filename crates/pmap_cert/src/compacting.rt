@@ -198,8 +198,7 @@ fn compact_root(alloc: Global, root: &Root) -> Result<Root, AllocError>
 pub fn compact(alloc: Global, certificate: &Certificate) -> Result<Certificate, AllocError>
     ensures { IfOk result (λ found. certificate_of found ≡ compact (certificate_of certificate.now)) }
 {
-    // Provides the law that the table has at most 65536 labels, all distinct.
-    let _count = certificate.labels.len();
+    certificate.labels.laws();
     let labels = certificate.labels.copy()?;
     let root = match certificate.format {
         Format::One => compact_root(alloc, &certificate.root)?,
@@ -212,8 +211,7 @@ pub fn compact(alloc: Global, certificate: &Certificate) -> Result<Certificate, 
 pub fn write_compact(alloc: Global, certificate: &Certificate) -> Result<Vec<u8>, AllocError>
     ensures { IfOk result (λ text. text.items ≡ certificate_text (compact (certificate_of certificate.now))) }
 {
-    // Provides the law that the table has at most 65536 labels, all distinct.
-    let _count = certificate.labels.len();
+    certificate.labels.laws();
     let mut out = head_text(alloc, Format::Two, certificate.version, &certificate.labels)?;
     match certificate.format {
         Format::One => push_compacted(&mut out, alloc, &certificate.root)?,

@@ -79,6 +79,7 @@ impl<'a> Lines<'a> {
     ) -> Result<Node<'s>, CertFault>
         ensures { IsNextNode limits.now self.old self.new result }
     {
+        limits.labels.laws();
         let count = limits.labels.len() as u64;
         match node_line(buffer, limits, self.rest, count)? {
             Some((node, rest)) => {

@@ -36,8 +36,7 @@ impl<'a> NodeSource<'a> {
         match self {
             NodeSource::Text(lines) => lines.next_node(buffer, limits),
             NodeSource::Nodes(rest) => {
-                // Provides the law that a table has at most 65536 labels.
-                let _count = limits.labels.len();
+                limits.labels.laws();
                 let NodesFrom { nodes, number } = *rest;
                 if number >= nodes.len() {
                     return Err(CertFault {

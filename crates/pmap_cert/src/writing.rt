@@ -164,6 +164,7 @@ pub fn push_nodes(out: &mut Vec<u8>, nodes: &Nodes) -> Result<(), AllocError>
 fn push_labels(out: &mut Vec<u8>, labels: &Labels) -> Result<(), AllocError>
     ensures { OnOk result (out.new.items ≡ out.old.items ++ text_of_lines labels.now) }
 {
+    labels.laws();
     for number in 0..labels.len() {
         let Some(text) = labels.text(LabelId(number as u32)) else {
             unreachable!()
@@ -223,6 +224,7 @@ pub fn head_text(
         ≡ text_of_lines (format_header (format_number format, (version, length labels.now)) ∷ labels.now)) }
 {
     let mut out = Vec::new(alloc);
+    labels.laws();
     push_header(&mut out, format, version, labels.len() as u32)?;
     push_labels(&mut out, labels)?;
     Ok(out)
@@ -237,8 +239,7 @@ pub fn head_text(
 pub fn write_cert(alloc: Global, certificate: &Certificate) -> Result<Vec<u8>, AllocError>
     ensures { IfOk result (λ text. text.items ≡ certificate_text (certificate_of certificate.now)) }
 {
-    // Provides the law that the table's labels are distinct.
-    let _labels = certificate.labels.len();
+    certificate.labels.laws();
     let mut out = head_text(
         alloc,
         certificate.format,

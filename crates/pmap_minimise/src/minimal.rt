@@ -48,9 +48,8 @@ pub fn minimise(alloc: Global, map: &MapText, trie: &Trie) -> Result<Minimal, Al
     // The entries are in order of their first addresses. Of two with the same one, the shorter prefix is first.
     ensures order { IfOk result (λ m. HasListForm (list_of m.list)) }
 {
-    // Provides the laws that a minimal pair is accepted, and that the table's labels are distinct.
     minimal_pair_is_accepted();
-    let _labels = map.labels.len();
+    map.labels.laws();
     let root = claimed(alloc, trie)?;
     let entries = entries_of(alloc, &root, map.version)?;
     let name = copy_name(alloc, &map.name)?;
@@ -79,9 +78,8 @@ pub fn shortest(alloc: Global, map: MapText) -> Result<PrefixList, AllocError>
     // The entries are in order of their first addresses. Of two with the same one, the shorter prefix is first.
     ensures order { IfOk result (λ list. HasListForm (list_of list)) }
 {
-    // Provides the laws that a minimal pair is accepted, and that the table's labels are distinct.
     minimal_pair_is_accepted();
-    let _labels = map.labels.len();
+    map.labels.laws();
     let runs = Runs::of_map(alloc, &map)?;
     // Frees their memory before the certificate is built.
     drop(map.statements);
@@ -124,8 +122,7 @@ fn compact_root(alloc: Global, map: MapText) -> Result<(Root, Labels), AllocErro
     ensures built { IfOk result (λ built. IsBuiltIn (map_of map) built.0) }
     ensures labels { IfOk result (λ built. built.1 ≡ map.labels) }
 {
-    // Provides the law that the table's labels are distinct.
-    let _labels = map.labels.len();
+    map.labels.laws();
     let stretches = Stretches::of_map(alloc, &map)?;
     drop(map.statements);
     let root = built_of(alloc, stretches)?;
@@ -143,8 +140,7 @@ fn list_with(version: Version, name: Option<Name>, labels: Labels, entries: Entr
       table = labels;
     } }
 {
-    // Provides the law that the table's labels are distinct.
-    let _labels = labels.len();
+    labels.laws();
     PrefixList {
         version,
         name,

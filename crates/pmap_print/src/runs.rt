@@ -46,8 +46,7 @@ pub fn print_runs(alloc: Global, runs: &Runs, labels: &Labels) -> Result<Vec<u8>
     ensures { IfOk result (λ out. IsRunsText runs.now.stretches.version
         (text_held labels.now runs.now.stretches) out.items) }
 {
-    // Provides the law that no two texts of the table are equal.
-    let _count = labels.len();
+    labels.laws();
     let mut out = Text::new(alloc);
     out.push_bytes(b"low|high|label")?;
     for index in 0..runs.stretches.len() {

@@ -78,11 +78,17 @@ impl Labels {
         }
     }
 
+    /// A law: a table has at most 65536 texts, all of them labels and no two equal.
+    pub fn laws(&self)
+        ensures few { length self.now ≤ 65536 }
+        ensures table { IsLabelTable self.now }
+    {
+        let _texts = &self.texts;
+    }
+
     /// Returns the number of texts.
     pub fn len(&self) -> usize
-        ensures value { result ≡ length self.now }
-        ensures few { result ≤ 65536 }
-        ensures table { IsLabelTable self.now }
+        ensures { result ≡ length self.now }
     {
         self.texts.len()
     }

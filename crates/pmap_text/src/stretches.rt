@@ -107,8 +107,7 @@ impl Stretches {
         ensures labels { IfOk result (λ s. (a : ℕ) → a < 2 ^ width_of map.now.version →
             text_held map.now.labels s a ≡ Some (map_label (map_of map.now) a)) }
     {
-        // Provides the law that the numbers of a table's labels are below the one that is stored for a missing label.
-        let _count = map.labels.len();
+        map.labels.laws();
         let starts = Starts::new(alloc, &map.statements)?;
         let default = Some(map.default);
         let stretches = of_mappings::<Statements, J>(
@@ -141,8 +140,7 @@ impl Stretches {
         ensures labels { IfOk result (λ s. (a : ℕ) → a < 2 ^ width_of list.now.version →
             text_held list.now.labels s a ≡ list_label (list_of list.now) a) }
     {
-        // Provides the law that the numbers of a table's labels are below the one that is stored for a missing label.
-        let _count = list.labels.len();
+        list.labels.laws();
         let sorted = in_order(alloc, &list.entries)?;
         let entries = sorted_or(&sorted, &list.entries);
         let starts = Starts::none(alloc);

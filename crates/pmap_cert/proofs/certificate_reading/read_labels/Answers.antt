@@ -11,7 +11,7 @@ returns-in_err-label-clause-err c =
     let p = err_from_is_err_and c.from_residual.result c.from_residual.ensures.1 in
     rw (p.1, p.2)
     (λ _. labels_at-fault c.args.count c.loop-labels.labels c.loop-labels.lines _ c.loop-labels.invariant.read c.in_err-label.field-0.0
-    (omega (arith, c.len.ensures.value, c.loop-labels-test.true)) c.in_err-label.ensures.err)
+    (omega (arith, c.len.ensures, c.loop-labels-test.true)) c.in_err-label.ensures.err)
 
 pub loop-labels-preserved : goal.loop-labels-preserved
 loop-labels-preserved c =
@@ -21,6 +21,6 @@ loop-labels-preserved c =
     rw new (record {
       read =
           labels_at-next c.args.count table c.loop-labels.lines _ c.loop-labels.invariant.read c.in_ok-label.label.now c.in_ok-label.after
-          (omega (arith, c.len.ensures.value, less)) c.in_ok-label.ensures.ok;
-      few = omega (arith, length_push table c.in_ok-label.label.now, c.len.ensures.value, less);
+          (omega (arith, c.len.ensures, less)) c.in_ok-label.ensures.ok;
+      few = omega (arith, length_push table c.in_ok-label.label.now, c.len.ensures, less);
     })

@@ -30,7 +30,7 @@ returns c =
     let same : record { format = 2; version = me.version; table = me.labels; root = tree_of me.labels c.match-certificate.root } ≡ compact (certificate_of me) =
     elim c.match-certificate.branch [
       | in-One+in_ok-root-in-One w ↦ subst (λ (r : Node). record { format = 2; version = me.version; table = me.labels; root = tree_of me.labels r } ≡ compact (certificate_of me)) (sym w.root-is)
-          (compact-one me.format me.version me.labels me.root _ c.len-count.ensures.table me.form w.in-One.is w.in_ok-root-in-One.ensures)
+          (compact-one me.format me.version me.labels me.root _ c.laws.ensures.table me.form w.in-One.is w.in_ok-root-in-One.ensures)
       | in-Two+in_ok-root-in-Two w ↦ subst (λ (r : Node). record { format = 2; version = me.version; table = me.labels; root = tree_of me.labels r } ≡ compact (certificate_of me)) (sym w.root-is)
           (compact-two me.format me.version me.labels me.root _ w.in-Two.is w.in_ok-root-in-Two.ensures)
     ] in

@@ -19,10 +19,10 @@ returns c =
           let root : Node = compacted nat_eq me.root in
           let form = form-compacted count me.root room (me.kind w.in-One.is) me.form in
           rw w.out-is
-          (whole_text 2 me.version me.labels root room (lines_of root) _ _ c.len-count.ensures.table form refl c.in_ok-out.ensures w.in_ok-push_compacted-in-One.ensures
-          ∙ ap certificate_text (compact-one me.format me.version me.labels me.root root c.len-count.ensures.table me.form w.in-One.is refl))
+          (whole_text 2 me.version me.labels root room (lines_of root) _ _ c.laws.ensures.table form refl c.in_ok-out.ensures w.in_ok-push_compacted-in-One.ensures
+          ∙ ap certificate_text (compact-one me.format me.version me.labels me.root root c.laws.ensures.table me.form w.in-One.is refl))
       | in-Two+in_ok-push_nodes-in-Two w ↦
           rw w.out-is
-          (whole_text 2 me.version me.labels me.root room _ _ _ c.len-count.ensures.table me.form w.nodes.ensures c.in_ok-out.ensures w.in_ok-push_nodes-in-Two.ensures
+          (whole_text 2 me.version me.labels me.root room _ _ _ c.laws.ensures.table me.form w.nodes.ensures c.in_ok-out.ensures w.in_ok-push_nodes-in-Two.ensures
           ∙ ap certificate_text (compact-two me.format me.version me.labels me.root me.root w.in-Two.is refl))
     ]

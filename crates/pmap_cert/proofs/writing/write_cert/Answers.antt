@@ -7,5 +7,5 @@ pub returns : goal.returns
 returns c =
     let certificate = c.args.certificate.now in
     whole_text (format_number certificate.format) certificate.version certificate.labels certificate.root (width_of certificate.version) c.nodes.result.now c.in_ok-out.out.items c.push_nodes.new.out.items
-    c.len-labels.ensures.table certificate.form c.nodes.ensures
+    c.laws.ensures.table certificate.form c.nodes.ensures
     c.in_ok-out.ensures c.in_ok-push_nodes.ensures

@@ -8,4 +8,4 @@ built_of-requires c = map-countable c.args.map c.in_ok-stretches.stretches c.in_
 pub returns-clause-built : goal.returns-clause-built
 returns-clause-built c =
     let is = c.in_ok-stretches.ensures in
-    c.in_ok-root.ensures (map_of c.args.map) (map-on c.args.map c.in_ok-stretches.stretches is.version is.stretches c.len-labels.ensures.table)
+    c.in_ok-root.ensures (map_of c.args.map) (map-on c.args.map c.in_ok-stretches.stretches is.version is.stretches c.laws.ensures.table)

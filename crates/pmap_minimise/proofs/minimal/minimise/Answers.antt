@@ -22,7 +22,7 @@ entries_of-requires c =
 pub list_with-list-requires : goal.list_with-list-requires
 list_with-list-requires c =
     let made = claimed-shortest c.args.map.now c.args.trie.now.version c.args.trie.now.leaves c.in_ok-root.root c.in_ok-entries.entries c.in_ok-root.ensures
-    c.requires.version c.len-labels.ensures.table c.requires.settled c.requires.undivided c.in_ok-entries.ensures in
+    c.requires.version c.laws.ensures.table c.requires.settled c.requires.undivided c.in_ok-entries.ensures in
     record {
       versions = made.of.versions;
       known = subst (λ (t : List Label). All (λ e. e.label.0 < length t) c.in_ok-entries.entries) (sym c.in_ok-copy.ensures) made.of.known;
@@ -33,7 +33,7 @@ pub new-certificate-requires : goal.new-certificate-requires
 new-certificate-requires c =
     let m = c.args.map.now in
     let made = claimed-shortest m c.args.trie.now.version c.args.trie.now.leaves c.in_ok-root.root c.in_ok-entries.entries c.in_ok-root.ensures
-    c.requires.version c.len-labels.ensures.table c.requires.settled c.requires.undivided c.in_ok-entries.ensures in
+    c.requires.version c.laws.ensures.table c.requires.settled c.requires.undivided c.in_ok-entries.ensures in
     subst (λ (t : List Label). HasNumberForm (length t) c.in_ok-root.root (width_of m.version)) (sym c.in_ok-labels.ensures) made.is.form
 
 pub returns : goal.returns
@@ -46,7 +46,7 @@ returns c =
     c.list_with-list.ensures ∙ (λ i. record { version = m.version; name = c.in_ok-name.ensures i; prefixes = map (prefix_of (c.in_ok-copy.ensures i)) items; table = c.in_ok-copy.ensures i }) in
     let certificate = certificate_of c.new-certificate.result in
     let made = claimed-shortest m c.args.trie.now.version c.args.trie.now.leaves c.in_ok-root.root c.in_ok-entries.entries c.in_ok-root.ensures
-    c.requires.version c.len-labels.ensures.table c.requires.settled c.requires.undivided c.in_ok-entries.ensures in
+    c.requires.version c.laws.ensures.table c.requires.settled c.requires.undivided c.in_ok-entries.ensures in
     let table = c.new-certificate.ensures.labels ∙ c.in_ok-labels.ensures in
     let same : certificate ≡ record { format = 1; version = m.version; table = m.labels; root = tree_of m.labels c.in_ok-root.root } =
     λ i. record { format = format_number (c.new-certificate.ensures.format i); version = c.new-certificate.ensures.version i; table = table i; root = tree_of (table i) (c.new-certificate.ensures.root i) } in

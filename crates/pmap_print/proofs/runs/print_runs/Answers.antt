@@ -34,7 +34,7 @@ returns c =
     let text : ℕ → Text = λ count. flat_map line_text (map (run_fields s.version) (runs_from c.args.labels.now s i count)) in
     record {
       runs = runs_from c.args.labels.now s 0 (length s.firsts);
-      are = all_runs c.args.labels.now c.len-count.ensures.table s c.len-index-end.ensures.every c.requires c.args.runs.now.joined;
+      are = all_runs c.args.labels.now c.laws.ensures.table s c.len-index-end.ensures.every c.requires c.args.runs.now.joined;
       is =
           c.into_bytes.ensures ∙ c.in_ok-push_bytes-2.ensures ∙ sym (append-nil (c.loop-index.out ++ 10 ∷ []))
           ∙ sym (ap (λ (n : ℕ). (c.loop-index.out ++ 10 ∷ []) ++ text n) none) ∙ c.loop-index.invariant;

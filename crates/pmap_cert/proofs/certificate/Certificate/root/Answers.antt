@@ -16,7 +16,7 @@ text me table = record {
 }
 
 pub returns-clause-form : goal.returns-clause-form
-returns-clause-form c = text c.args.self.now c.len-count.ensures.table
+returns-clause-form c = text c.args.self.now c.laws.ensures.table
 
 pub returns-clause-first : goal.returns-clause-first
-returns-clause-first c = λ one. record { first = ap format_number one; text = text c.args.self.now c.len-count.ensures.table }
+returns-clause-first c = λ one. record { first = ap format_number one; text = text c.args.self.now c.laws.ensures.table }

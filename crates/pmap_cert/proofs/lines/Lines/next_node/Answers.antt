@@ -10,13 +10,13 @@ returns-in-Some c =
     let limits = c.args.limits.now in
     let format : ℕ = format_number limits.format in
     let count : ℕ = c.len-count.result in
-    let few : count ≤ 2 ^ 32 = omega (arith, c.len-count.ensures.value, c.len-count.ensures.few) in
+    let few : count ≤ 2 ^ 32 = omega (arith, c.len-count.ensures, c.laws.ensures.few) in
     record {
       err = tt;
       memory = tt;
       unchanged = tt;
       ok =
-          rw (← c.self.view_is, ← c.len-count.ensures.value)
+          rw (← c.self.view_is, ← c.len-count.ensures)
           (there (fits_line format limits.width count) line_text likely_line (line-lacks format limits.width count few) (line-back format limits.width count few)
           (cond (is_ended (pieces_of c.self.inside.rest.now)) NodesMissing BadNode) c.self.inside.number c.self.inside.rest.now
           (line_of c.in-Some.node) c.in-Some.rest.now (rw c.in-Some.is at c.in_ok-node.ensures).right);
@@ -27,7 +27,7 @@ returns-in-None-2 c =
     let limits = c.args.limits.now in
     let format : ℕ = format_number limits.format in
     let count : ℕ = c.len-count.result in
-    let few : count ≤ 2 ^ 32 = omega (arith, c.len-count.ensures.value, c.len-count.ensures.few) in
+    let few : count ≤ 2 ^ 32 = omega (arith, c.len-count.ensures, c.laws.ensures.few) in
     let text = c.self.inside.rest.now in
     let more : is_ended (pieces_of text) ≡ false =
     ap (λ (place : Place). is_ended place.pieces) c.self.view_is ∙ sym c.is_ended.ensures ∙ c.if-is_ended.false in
@@ -36,7 +36,7 @@ returns-in-None-2 c =
       memory = rw c.fault-in-None-2.ensures (λ e. cc);
       unchanged = refl;
       err = λ _.
-          rw (c.fault-in-None-2.ensures, ← c.self.view_is, ← c.len-count.ensures.value)
+          rw (c.fault-in-None-2.ensures, ← c.self.view_is, ← c.len-count.ensures)
           (nowhere (fits_line format limits.width count) line_text likely_line (line-lacks format limits.width count few) (line-back format limits.width count few)
           (cond (is_ended (pieces_of text)) NodesMissing BadNode) c.self.inside.number text (rw c.in-None-2.is at c.in_ok-node.ensures)
           ∙ ap (λ (b : Bool). Err (fault_at (record { number = c.self.inside.number; pieces = pieces_of text }) (cond b NodesMissing BadNode))) more);

@@ -14,6 +14,6 @@ returns-else-number-len-clause-next c =
       unchanged = tt;
       ok =
           rw c.in-Nodes.is
-          (stored-due (format_number limits.format) limits.width (length limits.labels.now) (omega (arith, c.len-count.ensures.value, c.len-count.ensures.few)) rest.nodes.now rest.number
+          (stored-due (format_number limits.format) limits.width (length limits.labels.now) (omega (arith, c.laws.ensures.few)) rest.nodes.now rest.number
           (line_of c.node.result) (omega (arith, c.if-number-len.false, c.len.ensures)) c.node.ensures (rw c.in-Nodes.is at c.requires));
     }

@@ -22,7 +22,7 @@ of_mappings-requires-clause-known g c =
     let order = shortest_first c.args.list.now.entries _ _ c.sorted_or-entries.ensures c.in_ok-sorted.ensures.same c.in_ok-sorted.ensures.ascending in
     record {
       labels = All-weaker (λ s. s.label.0 < length c.args.list.now.labels) (λ s. s.label.0 < 2 ^ 32 - 1)
-          (λ s less. omega (arith, less, c.len-count.ensures.value, c.len-count.ensures.few)) ss (statements_of c.args.list.now ss order).known;
+          (λ s less. omega (arith, less, c.laws.ensures.few)) ss (statements_of c.args.list.now ss order).known;
       fallback = no_default (2 ^ 32 - 1);
     }
 
