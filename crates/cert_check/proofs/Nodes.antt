@@ -10,7 +10,7 @@ use Rattle.pmap_text.specs.PrefixList.{number_of_block}
 use Rattle.pmap_cert.specs.Paths.{path_number}
 use Rattle.pmap_cert.specs.Compacting.{line_count}
 use Rattle.pmap_cert.specs.CertificateModel.{CertificateModel, ChainNode, InnerNode, LeafNode, Tree, claim_of, chosen_half, side_half}
-use Rattle.cert_check.specs.Inner.{IsHalf, sides_fault}
+use Rattle.cert_check.specs.Inner.{IsHalfNumbered, sides_fault}
 use Rattle.cert_check.specs.Checking.{bits_fault, fault_of_number, first_fault, is_same_version, leaf_fault, node_fault, BoundNotMet, Certificate, Check, CheckFault, CostTooHigh, LeafNotUniform, ListDiffers, NoMemory, SetTooSmall, VersionDiffers}
 use Rattle.pmap_cert.specs.declared.fault.CertFault.{CertFault}
 use Rattle.pmap_text.specs.ListModel.{ListModel}
@@ -25,18 +25,18 @@ or-or None b c = refl
 or-or (Some x) b c = refl
 
 pub half-by : (whole half : Block) (q : ℕ) → half.version ≡ whole.version → half.len ≡ whole.len + 1 → block_number (width_of whole.version) (whole.len + 1) half.value ≡ q
-    → IsHalf whole half q
+    → IsHalfNumbered whole half q
 half-by whole half q version len is = record { version = version; len = len; number = (λ i. block_number (width_of (version i)) (len i) half.value) ∙ is }
 
 -- a function of the length and the number of a half
-pub half-is : {X : Type 0} (whole half : Block) (q : ℕ) → IsHalf whole half q → (f : ℕ → ℕ → X) → f half.len (number_of_block half) ≡ f (suc whole.len) q
+pub half-is : {X : Type 0} (whole half : Block) (q : ℕ) → IsHalfNumbered whole half q → (f : ℕ → ℕ → X) → f half.len (number_of_block half) ≡ f (suc whole.len) q
 half-is whole half q h f =
     let len : half.len ≡ suc whole.len = omega (arith, h.len) in
     λ i. f (len i) (h.number i)
 
 -- the fault of the blocks beside a path, by those beside the rest of it after its first bit
 pub sides-step : (m : MapModel) (ps : List Prefix) (x : Label) (whole chosen beside : Block) (bit : Bool) (bits rest : List Bool) → bits ≡ bit ∷ rest
-    → IsHalf whole chosen (chosen_half bit (number_of_block whole)) → IsHalf whole beside (side_half bit (number_of_block whole))
+    → IsHalfNumbered whole chosen (chosen_half bit (number_of_block whole)) → IsHalfNumbered whole beside (side_half bit (number_of_block whole))
     → sides_fault m ps x bits whole.len (number_of_block whole)
     ≡ option_or (sides_fault m ps x rest chosen.len (number_of_block chosen)) (leaf_fault m ps beside.len (number_of_block beside) x)
 sides-step m ps x whole chosen beside bit bits rest is on off =

@@ -18,7 +18,7 @@ use Rattle.pmap_cert.specs.NodeSource.{place_in}
 use Rattle.pmap_cert.specs.Paths.{LeadsTo}
 use Rattle.pmap_cert.specs.declared.fault.CertFault.{CertFault}
 use Rattle.cert_check.specs.Checking.{bits_fault, claim_fault, fault_of_number, node_fault, BoundNotMet, CheckFault, CheckFaultKind}
-use Rattle.cert_check.specs.Inner.{CanBeRead, IsAfter, IsHalf, IsPassed, IsUnread, Read, Sources, Walk, chain_reading, claim_with, fault_of_node, fault_with, halves_reading, reading_at, sides_fault}
+use Rattle.cert_check.specs.Inner.{CanBeRead, IsAfter, IsHalfNumbered, IsPassed, IsUnread, Read, Sources, Walk, chain_reading, claim_with, fault_of_node, fault_with, halves_reading, reading_at, sides_fault}
 use Rattle.cert_check.proofs.Nodes.{bits-sides, half-is, or-or}
 use Rattle.cert_check.proofs.Sets.{numbers}
 
@@ -31,7 +31,7 @@ held-at old set new from is at = (
 )
 
 -- An inner node whose claim has this cost and the numbers of these labels, at this place after its line.
-module _ (s : Sources) (b low high : Block) (low_half : IsHalf b low (2 * number_of_block b)) (high_half : IsHalf b high (2 * number_of_block b + 1)) (cost : ℕ) (own : List LabelId) (place : Place)
+module _ (s : Sources) (b low high : Block) (low_half : IsHalfNumbered b low (2 * number_of_block b)) (high_half : IsHalfNumbered b high (2 * number_of_block b + 1)) (cost : ℕ) (own : List LabelId) (place : Place)
     (number next : ℕ) (after : IsAfter number next) where
   abbrev n : ℕ
   n = b.len
@@ -59,11 +59,11 @@ module _ (s : Sources) (b low high : Block) (low_half : IsHalf b low (2 * number
 
   module _ (sets : List LabelId) (before : Option CheckFault) (middle : Walk) (low_cost : ℕ)
       (lower : IsPassed s (reading_at s low.len place) (fault_of_node s low) next sets before middle low_cost) where
-    behind : halves_reading s n claim place ≡ upper_then lower.tree (reading_at s high.len (place_in middle.nodes))
-    behind = ap lower_then (lower-at ∙ lower.read) ∙ ap (λ (m : ℕ). upper_then lower.tree (reading_at s m (place_in middle.nodes))) (sym high_half.len)
+    following : halves_reading s n claim place ≡ upper_then lower.tree (reading_at s high.len (place_in middle.nodes))
+    following = ap lower_then (lower-at ∙ lower.read) ∙ ap (λ (m : ℕ). upper_then lower.tree (reading_at s m (place_in middle.nodes))) (sym high_half.len)
 
     pub upper-unread : (f : CertFault) → IsUnread (reading_at s high.len (place_in middle.nodes)) f → IsUnread (halves_reading s n claim place) f
-    upper-unread f unread = (λ some. behind ∙ ap (upper_then lower.tree) (unread.0 some), unread.1)
+    upper-unread f unread = (λ some. following ∙ ap (upper_then lower.tree) (unread.0 some), unread.1)
 
     pub halves-passed : (old : List LabelId) (last new : Walk) (high_cost : ℕ) (o : Option CheckFaultKind)
         (upper : IsPassed s (reading_at s high.len (place_in middle.nodes)) (fault_of_node s high) middle.number middle.sets.items middle.fault last high_cost)
@@ -75,7 +75,7 @@ module _ (s : Sources) (b low high : Block) (low_half : IsHalf b low (2 * number
       tree = InnerNode claim lower.tree upper.tree;
       set = own;
       nodes = subst (CanBeRead s) (sym nodes) upper.nodes;
-      read = behind ∙ ap (upper_then lower.tree) upper.read ∙ ap (λ (l : Place). Ok (InnerNode claim lower.tree upper.tree, l)) (sym (ap place_in nodes));
+      read = following ∙ ap (upper_then lower.tree) upper.read ∙ ap (λ (l : Place). Ok (InnerNode claim lower.tree upper.tree, l)) (sym (ap place_in nodes));
       claim = refl;
       ascending = ascending;
       sets = sets;

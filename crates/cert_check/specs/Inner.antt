@@ -116,7 +116,7 @@ abbrev pub fault_of_node : Sources → Block → Tree → ℕ → Option CheckFa
 fault_of_node s b tree k = node_fault (map_of s.map.now) (list_of s.list.now).prefixes tree k b.len (number_of_block b)
 
 -- the block is the half of another one with this number
-pub record IsHalf (whole half : Block) (q : ℕ) : Type 0 where
+pub record IsHalfNumbered (whole half : Block) (q : ℕ) : Type 0 where
   pub version : half.version ≡ whole.version
   pub len : half.len ≡ whole.len + 1
   pub number : number_of_block half ≡ q

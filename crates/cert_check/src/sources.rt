@@ -8,7 +8,7 @@ ghost use Rattle.pmap_cert.specs.CertificateModel.{chosen_half, side_half};
 ghost use Rattle.pmap_cert.specs.Packed.{bits_in};
 ghost use Rattle.pmap_cert.specs.Paths.{LeadsTo};
 ghost use Rattle.cert_check.specs.Checking.{leaf_fault as leaf_fault_of};
-ghost use Rattle.cert_check.specs.Inner.{AreSources, IsClear, IsHalf, sides_fault as sides_fault_of};
+ghost use Rattle.cert_check.specs.Inner.{AreSources, IsClear, IsHalfNumbered, sides_fault as sides_fault_of};
 
 use crate::fault::CheckFaultKind;
 use crate::source::Source;
@@ -39,8 +39,8 @@ pub struct Near {
 // Returns the half of the block that the bit chooses, and the other half. Returns `None` if the block is one address.
 fn halves_by(block: &Block, bit: bool) -> Option<(Block, Block)>
     ensures some { IsNone result → block.now.len ≡ width_of block.now.version }
-    ensures chosen { IfSome result (λ x. IsHalf block.now x.0 (chosen_half bit (number_of block.now))) }
-    ensures beside { IfSome result (λ x. IsHalf block.now x.1 (side_half bit (number_of block.now))) }
+    ensures chosen { IfSome result (λ x. IsHalfNumbered block.now x.0 (chosen_half bit (number_of block.now))) }
+    ensures beside { IfSome result (λ x. IsHalfNumbered block.now x.1 (side_half bit (number_of block.now))) }
 {
     let (low, high) = block.halves()?;
     if bit {

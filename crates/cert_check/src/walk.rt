@@ -5,7 +5,7 @@ ghost use Rattle.prefix_keys.specs.declared.block.Block.{Block};
 ghost use Rattle.pmap_text.specs.PrefixList.{number_of_block as number_of};
 ghost use Rattle.pmap_cert.specs.NodeSource.{place_in};
 ghost use Rattle.pmap_cert.specs.Packed.{bits_in};
-ghost use Rattle.cert_check.specs.Inner.{AreSources, CanBeRead, FitsPath, IsAfter, IsAnswer, IsHalf, IsHeld, chain_reading, fault_of_node, fault_with, halves_reading, held_claim, reading_at};
+ghost use Rattle.cert_check.specs.Inner.{AreSources, CanBeRead, FitsPath, IsAfter, IsAnswer, IsHalfNumbered, IsHeld, chain_reading, fault_of_node, fault_with, halves_reading, held_claim, reading_at};
 
 use crate::claims::{chain_fault, claim_fault};
 use crate::fault::{CheckFault, CheckFaultKind};
@@ -174,8 +174,8 @@ fn check_inner(
     requires len { high.now.len ≡ low.now.len }
     requires number { IsAfter number walk.old.number }
     requires held { IsHeld sources.now held walk.old.sets.items }
-    ensures { (whole : Block) → IsHalf whole low.now (2 * number_of whole) →
-        IsHalf whole high.now (2 * number_of whole + 1) → IsAnswer sources.now
+    ensures { (whole : Block) → IsHalfNumbered whole low.now (2 * number_of whole) →
+        IsHalfNumbered whole high.now (2 * number_of whole + 1) → IsAnswer sources.now
         (halves_reading sources.now whole.len (held_claim sources.now held walk.old.sets.items)
         (place_in walk.old.nodes)) (fault_of_node sources.now whole) number (take held.from walk.old.sets.items)
         walk.old.fault walk.new result }

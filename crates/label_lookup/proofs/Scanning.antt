@@ -39,7 +39,7 @@ unmatched W ps a none = by (label_below W ps (suc W) a) (longest-match W ps a)
         let longest = h.1 in
         let has : Contains ps p =
         subst (λ (rs : List Prefix). Contains rs p) (sym longest.list)
-        (Contains-append_right longest.before (p ∷ longest.behind) p (Contains-first p longest.behind)) in
+        (Contains-append_right longest.before (p ∷ longest.following) p (Contains-first p longest.following)) in
         absurd (none p has longest.covers)
 
 -- an entry covers an address as a prefix if its block does

@@ -8,7 +8,7 @@ use Rattle.prefix_keys.specs.Block.{block_number, first_of, last_of, width_of}
 use Rattle.pmap_text.specs.MapModel.{MapModel, settled_label}
 use Rattle.pmap_text.specs.Settled.{IsMapOf, ends_inside}
 use Rattle.pmap_text.specs.Stretches.{AreStretches, HasEveryAddress, HoldsAddress, StretchesModel, count_begun, first_at, label_at, label_held, last_at, mappings_of}
-use Rattle.pmap_text.specs.Windows.{IsWindow, number_at}
+use Rattle.pmap_text.specs.Windows.{IsWindow, window_number}
 use Rattle.pmap_text.specs.declared.label.LabelId.{LabelId}
 use Rattle.pmap_text.specs.declared.statement.Statement.{Statement}
 use Rattle.pmap_text.specs.declared.stretches.window.Window.{Window}
@@ -114,7 +114,7 @@ module _ (s : StretchesModel) (every : HasEveryAddress s) where
 
   module _ (w : Window) (is : IsWindow s w) where
     abbrev q : ℕ
-    q = number_at s w
+    q = window_number s w
 
     pub first_held : count_begun s.firsts (first_of W w.len q) - 1 ≡ w.from
     first_held = ap (λ (a : ℕ). count_begun s.firsts a - 1) (sym is.block.first_is) ∙ held_index s every w.first w.from is.start
@@ -153,28 +153,28 @@ module _ (s : StretchesModel) (every : HasEveryAddress s) where
   pub whole_is : IsWindow s whole
   whole_is = let some = every.some in whole_window s every whole refl refl refl (omega arith) refl
 
-  pub whole_number : number_at s whole ≡ 0
+  pub whole_number : window_number s whole ≡ 0
   whole_number = zero-div (2 ^ (W - 0))
 
   -- what holds of each leaf, and of a divided block if it holds of both halves, holds of every block
   module _ (Holds : ℕ → ℕ → List LeafModel → Type 0)
-      (leaf : (w : Window) → IsWindow s w → w.from ≡ w.to → Holds w.len (number_at s w) (labelled_leaf w.len (number_at s w) (label_at s w.from) ∷ []))
-      (joined : (w : Window) → IsWindow s w → (w.from ≡ w.to → ⊥) → (lower upper : List LeafModel) → Holds (suc w.len) (2 * number_at s w) lower
-      → Holds (suc w.len) (2 * number_at s w + 1) upper → Holds w.len (number_at s w) (lower ++ upper)) where
-    pub by_halves : (h : ℕ) (w : Window) → IsWindow s w → h + w.len ≡ W → Holds w.len (number_at s w) (leaves_in s h w.len (number_at s w))
+      (leaf : (w : Window) → IsWindow s w → w.from ≡ w.to → Holds w.len (window_number s w) (labelled_leaf w.len (window_number s w) (label_at s w.from) ∷ []))
+      (joined : (w : Window) → IsWindow s w → (w.from ≡ w.to → ⊥) → (lower upper : List LeafModel) → Holds (suc w.len) (2 * window_number s w) lower
+      → Holds (suc w.len) (2 * window_number s w + 1) upper → Holds w.len (window_number s w) (lower ++ upper)) where
+    pub by_halves : (h : ℕ) (w : Window) → IsWindow s w → h + w.len ≡ W → Holds w.len (window_number s w) (leaves_in s h w.len (window_number s w))
     by_halves zero w is e = elim (cases_eq w.from w.to) [
-      | inl same ↦ subst (Holds w.len (number_at s w)) (sym (one_leaf w is 0 same)) (leaf w is same)
+      | inl same ↦ subst (Holds w.len (window_number s w)) (sym (one_leaf w is 0 same)) (leaf w is same)
       | inr other ↦ absurd (omega (arith, window_below w is other, e))
     ]
     by_halves (suc h) w is e = elim (cases_eq w.from w.to) [
-      | inl same ↦ subst (Holds w.len (number_at s w)) (sym (one_leaf w is (suc h) same)) (leaf w is same)
+      | inl same ↦ subst (Holds w.len (window_number s w)) (sym (one_leaf w is (suc h) same)) (leaf w is same)
       | inr other ↦
           let halves = divided_window s every w is other in
           let are = halves.2 in
           let next : w.len + 1 ≡ suc w.len = omega arith in
           let lower = rw (are.low_number, are.low_len, next) at (by_halves h halves.0 are.low_window (omega (arith, e, are.low_len))) in
           let upper = rw (are.high_number, are.high_len, next) at (by_halves h halves.1 are.high_window (omega (arith, e, are.high_len))) in
-          subst (Holds w.len (number_at s w)) (sym (both_halves w is h other)) (joined w is other _ _ lower upper)
+          subst (Holds w.len (window_number s w)) (sym (both_halves w is h other)) (joined w is other _ _ lower upper)
     ]
 
     -- and of the address space
@@ -182,16 +182,16 @@ module _ (s : StretchesModel) (every : HasEveryAddress s) where
     of_space = rw whole_number at (by_halves W whole whole_is (omega arith))
 
   -- the leaves cut their block
-  pub leaves_cut : (h : ℕ) (w : Window) → IsWindow s w → h + w.len ≡ W → CutsBlock W w.len (number_at s w) (leaves_in s h w.len (number_at s w))
+  pub leaves_cut : (h : ℕ) (w : Window) → IsWindow s w → h + w.len ≡ W → CutsBlock W w.len (window_number s w) (leaves_in s h w.len (window_number s w))
   leaves_cut =
       by_halves (CutsBlock W) (λ w is same. (is.within, refl, refl))
-      (λ w is other lower upper front back. halves_cut W w.len (number_at s w) lower upper (window_below w is other) front back)
+      (λ w is other lower upper front back. halves_cut W w.len (window_number s w) lower upper (window_below w is other) front back)
 
-  pub has_inside : (h : ℕ) (w : Window) → IsWindow s w → h + w.len ≡ W → HasInside (leaves_in s h w.len (number_at s w)) w.len (number_at s w)
+  pub has_inside : (h : ℕ) (w : Window) → IsWindow s w → h + w.len ≡ W → HasInside (leaves_in s h w.len (window_number s w)) w.len (window_number s w)
   has_inside =
       by_halves (λ n q leaves. HasInside leaves n q)
-      (λ w is same. record { leaf = _; contained = Contains-push [] _; deep = omega arith; within = tip_within w.len (number_at s w) })
-      (λ w is other lower upper front back. half_inside w.len (number_at s w) lower upper front)
+      (λ w is same. record { leaf = _; contained = Contains-push [] _; deep = omega arith; within = tip_within w.len (window_number s w) })
+      (λ w is other lower upper front back. half_inside w.len (window_number s w) lower upper front)
 
   pub space_cut : IsCut W 0 (2 ^ W) (leaves_in s W 0 0)
   space_cut =
@@ -202,7 +202,7 @@ module _ (s : StretchesModel) (every : HasEveryAddress s) where
       rw (all, from, end) at (rw whole_number at (leaves_cut W whole whole_is (omega arith)))
 
   -- what holds of each leaf holds of all
-  pub each_leaf : (P : LeafModel → Type 0) → ((w : Window) → IsWindow s w → w.from ≡ w.to → P (labelled_leaf w.len (number_at s w) (label_at s w.from))) → All P (leaves_in s W 0 0)
+  pub each_leaf : (P : LeafModel → Type 0) → ((w : Window) → IsWindow s w → w.from ≡ w.to → P (labelled_leaf w.len (window_number s w) (label_at s w.from))) → All P (leaves_in s W 0 0)
   each_leaf P leaf =
       of_space (λ n q leaves. All P leaves) (λ w is same. All-cons P _ [] (leaf w is same) (All-nil P)) (λ w is other lower upper front back. All-append P lower upper front back)
 
@@ -212,8 +212,8 @@ module _ (s : StretchesModel) (every : HasEveryAddress s) where
 
   pub leaves_held : All HasItsLabel (leaves_in s W 0 0)
   leaves_held = each_leaf HasItsLabel (λ w is same a inside.
-      let from = address-first W w.len (number_at s w) a (sym inside) in
-      let to = address-last W w.len (number_at s w) a (sym inside) in
+      let from = address-first W w.len (window_number s w) a (sym inside) in
+      let to = address-last W w.len (window_number s w) a (sym inside) in
       let last : last_at s w.from ≡ last_at s w.to = ap (last_at s) same in
       let holds : HoldsAddress s a w.from = record {
         index = is.start.index;
@@ -224,11 +224,11 @@ module _ (s : StretchesModel) (every : HasEveryAddress s) where
 
   -- If a sum over blocks is at least that over both halves, and some for each divided block, the leaves are bounded by it.
   module _ (sum : ℕ → ℕ → ℕ) (halves : (n q : ℕ) → n < W → sum (suc n) (2 * q) + sum (suc n) (2 * q + 1) ≤ sum n q)
-      (some : (w : Window) → IsWindow s w → (w.from ≡ w.to → ⊥) → 0 < sum w.len (number_at s w)) where
+      (some : (w : Window) → IsWindow s w → (w.from ≡ w.to → ⊥) → 0 < sum w.len (window_number s w)) where
     pub leaves_most : length (leaves_in s W 0 0) ≤ 1 + sum 0 0 * (W - 0)
     leaves_most = of_space (λ n q leaves. length leaves ≤ 1 + sum n q * (W - n)) (λ w is same. omega arith) (λ w is other lower upper front back.
         let n : ℕ = w.len in
-        let q : ℕ = number_at s w in
+        let q : ℕ = window_number s w in
         let below = window_below w is other in
         let host : suc (W - suc n) ≡ W - n = omega arith in
         let most = halves-most (sum (suc n) (2 * q)) (sum (suc n) (2 * q + 1)) (sum n q) (W - suc n) (halves n q below) (some w is other) in
@@ -241,18 +241,18 @@ module _ (s : StretchesModel) (ss : List Statement) (default : Option LabelId) (
       let W = width_of s.version in
       let ms = mappings_of [] ss in
       let most = leaves_most s are.every (ends_inside W ss) (λ n q below. ends-halves W n q ms below)
-      (λ w is other. ends-unsettled_by W w.len (number_at s w) [] ms _ refl (window_unsettled s w is ss default are other [] [])) in
+      (λ w is other. ends-unsettled_by W w.len (window_number s w) [] ms _ refl (window_unsettled s w is ss default are other [] [])) in
       omega (arith, most, ends_most W ss)
 
   -- each is settled by a map of the statements, and no block above it is
   module _ (some : IsSome default) (m : MapModel) (map : IsMapOf (width_of s.version) ss default m) where
     leaves_below : All (IsLeafBelow m 0 0) (leaves_in s (width_of s.version) 0 0)
     leaves_below = of_space s are.every (λ n q leaves. All (IsLeafBelow m n q) leaves)
-        (λ w is same. All-cons (IsLeafBelow m w.len (number_at s w)) _ [] (leaf_here m (label_at s w.from) w.len (number_at s w) (window_settled s w is ss default are same m map)
+        (λ w is same. All-cons (IsLeafBelow m w.len (window_number s w)) _ [] (leaf_here m (label_at s w.from) w.len (window_number s w) (window_settled s w is ss default are same m map)
         (stretch_labelled (width_of s.version) ss default (first_at s w.from) (last_at s w.from) (label_at s w.from) (are.each w.from is.start.index) some)) (All-nil _))
         (λ w is other lower upper front back.
         let n : ℕ = w.len in
-        let q : ℕ = number_at s w in
+        let q : ℕ = window_number s w in
         let none : settled_label m n q ≡ None = rw (map.width, map.mappings) (window_unsettled s w is ss default are other m.table m.fallback) in
         All-append (IsLeafBelow m n q) lower upper
         (All-weaker (IsLeafBelow m (suc n) (2 * q)) (IsLeafBelow m n q) (λ leaf g. leaf_further m n q 0 leaf (omega arith) none (let e : 2 * q ≡ 2 * q + 0 = omega arith in rw e at g)) lower front)

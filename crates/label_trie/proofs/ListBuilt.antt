@@ -10,7 +10,7 @@ use Rattle.pmap_text.specs.MapModel.{Label}
 use Rattle.pmap_text.specs.PrefixList.{list_of, prefix_of, AreShortestFirst}
 use Rattle.pmap_text.specs.Settled.{one_if}
 use Rattle.pmap_text.specs.Stretches.{AreStretches, HoldsAddress, StretchesModel, last_at}
-use Rattle.pmap_text.specs.Windows.{IsWindow, number_at}
+use Rattle.pmap_text.specs.Windows.{IsWindow, window_number}
 use Rattle.pmap_text.specs.declared.prefix_list.PrefixList.{PrefixList}
 use Rattle.pmap_text.specs.declared.statement.Statement.{Statement}
 use Rattle.pmap_text.specs.declared.stretches.window.Window.{Window}
@@ -81,14 +81,14 @@ module _ (l : PrefixList) (s : StretchesModel) (version : s.version ≡ l.versio
   abbrev ps : List Prefix
   ps = map (prefix_of l.labels) l.entries
 
-  starts : (w : Window) → IsWindow s w → HoldsAddress s (first_of W w.len (number_at s w)) w.from
+  starts : (w : Window) → IsWindow s w → HoldsAddress s (first_of W w.len (window_number s w)) w.from
   starts w is = subst (λ (a : ℕ). HoldsAddress s a w.from) is.block.first_is is.start
 
   -- the label that is seen at each leaf is the leaf's
   leaves_seen : All (IsSeenLeaf W l.labels ps) (leaves_in s W 0 0)
   leaves_seen =
       each_leaf s are.every (IsSeenLeaf W l.labels ps) (λ w is same.
-      held_seen l s version ss first are w.len (number_at s w) w.from (starts w is)
+      held_seen l s version ss first are w.len (window_number s w) w.from (starts w is)
       (subst (λ (a : ℕ). a ≤ last_at s w.from) is.block.last_is (subst (λ (i : ℕ). w.last ≤ last_at s i) (sym same) is.end.to)))
 
   -- so each leaf is decided by the list
@@ -101,7 +101,7 @@ module _ (l : PrefixList) (s : StretchesModel) (version : s.version ≡ l.versio
   list_bounded =
       let few = leaves_most s are.every (inside W ps) (inside-halves W ps) (λ w is other.
       let n : ℕ = w.len in
-      let q : ℕ = number_at s w in
+      let q : ℕ = window_number s w in
       let beyond : last_at s w.from < w.last = omega (arith, ends_before s are.every w.from w.to (omega (arith, is.ordered, other)) is.end.index, is.end.from) in
       let found = split_has_inside l s version ss first are n q w.from (starts w is) is.within (subst (λ (a : ℕ). last_at s w.from < a) is.block.last_is beyond)
       (subst (λ (a : ℕ). a < 2 ^ W) is.block.last_is (held_fits s are.every w.last w.to is.end)) in

@@ -31,9 +31,9 @@ cut_found : (W from to a : ℕ) (leaves : List LeafModel) → IsCut W from to le
 cut_found W from to a [] cut ge lt = absurd (omega (arith, cut, ge, lt))
 cut_found W from to a (leaf ∷ leaves) cut ge lt =
     elim (cases_lt (last_of W leaf.bits leaf.number) a) [
-      | inl behind ↦
-          let rest = cut_found W (last_of W leaf.bits leaf.number + 1) to a leaves cut.2 (omega (arith, behind)) lt in
-          (rest.0, rw (ends_before W a leaf behind) rest.1)
+      | inl following ↦
+          let rest = cut_found W (last_of W leaf.bits leaf.number + 1) to a leaves cut.2 (omega (arith, following)) lt in
+          (rest.0, rw (ends_before W a leaf following) rest.1)
       | inr within ↦
           let here = address-between W leaf.bits leaf.number a (omega (arith, cut.1, ge)) within in
           (leaf, rw (eq-eqb leaf.number (block_number W leaf.bits a) (sym here)))

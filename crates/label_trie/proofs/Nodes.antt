@@ -4,12 +4,12 @@ use Rattle.std.proofs.lemmas.Bool.{cases_eq, cases_lt, cond-false, cond-true}
 use Rattle.std.proofs.Math.Nat.{zero-div}
 use Rattle.prefix_keys.specs.Block.{first_of, width_of}
 use Rattle.pmap_text.specs.Stretches.{HasEveryAddress, StretchesModel, label_at, label_held}
-use Rattle.pmap_text.specs.Windows.{AreHalvesOf, IsWindow, number_at}
+use Rattle.pmap_text.specs.Windows.{AreHalvesOf, IsWindow, window_number}
 use Rattle.pmap_text.specs.declared.label.LabelId.{LabelId}
 use Rattle.pmap_text.specs.declared.stretches.window.Window.{Window}
 use Rattle.pmap_text.proofs.Windows.{divided_window}
 use Rattle.label_trie.specs.Leaves.{in_one, labelled_leaf, leaf_in, leaves_in, leaves_of}
-use Rattle.label_trie.specs.Nodes.{AreStored, is_stored_leaf, stored_label, leaf_stored, leaves_from, node_from, nodes_from, stored_at, stored_in, stored_of, trie_in, upper_of}
+use Rattle.label_trie.specs.Nodes.{AreStored, is_stored_leaf, stored_label, leaf_stored, leaves_from, trie_node_from, nodes_from, stored_at, stored_in, stored_of, trie_in, upper_of}
 use Rattle.label_trie.specs.Stored.{IsInnerAt, IsNodeAt, IsStoredAs}
 use Rattle.label_trie.specs.TrieModel.{IsUndivided, LeafModel, NodeModel, TrieModel}
 use Rattle.label_trie.specs.declared.node.TrieNode.{TrieNode}
@@ -32,7 +32,7 @@ length-stored s (suc h) n q k =
 length-read : (items : List TrieNode) (h n q k : ℕ) → length (nodes_from items h n q k) + 1 ≡ 2 * length (leaves_from items h n q k)
 length-read items zero n q k = refl
 length-read items (suc h) n q k =
-    twice (is_stored_leaf (stored_at items k)) (node_from items (suc h) n q k) (node_from items (suc h) n q k) (labelled_leaf n q (stored_label (stored_at items k))) _ _ _ _
+    twice (is_stored_leaf (stored_at items k)) (trie_node_from items (suc h) n q k) (trie_node_from items (suc h) n q k) (labelled_leaf n q (stored_label (stored_at items k))) _ _ _ _
     (length-read items h (suc n) (2 * q) (k + 1)) (length-read items h (suc n) (2 * q + 1) (upper_of (stored_at items k)))
 
 stored-leaf : (o : Option LabelId) → stored_label (leaf_stored o) ≡ o
@@ -90,7 +90,7 @@ pub record HasWindow (s : StretchesModel) (n q : ℕ) : Type 0 where
   pub window : Window
   pub is : IsWindow s window
   pub len : window.len ≡ n
-  pub number : number_at s window ≡ q
+  pub number : window_number s window ≡ q
 
 module _ (s : StretchesModel) (every : HasEveryAddress s) where
   abbrev W : ℕ
@@ -145,9 +145,9 @@ module _ (s : StretchesModel) (every : HasEveryAddress s) where
         either true all node rest at = at-head all k node [] at
         either false all node rest at = at-head all k node rest at
 
-        first : (h : ℕ) → IsAt (nodes_from items W 0 0 0) k (nodes_from items h n q k) → slice_get (nodes_from items W 0 0 0) k ≡ Some (node_from items h n q k)
+        first : (h : ℕ) → IsAt (nodes_from items W 0 0 0) k (nodes_from items h n q k) → slice_get (nodes_from items W 0 0 0) k ≡ Some (trie_node_from items h n q k)
         first zero at = at-head _ k _ _ at
-        first (suc h) at = either (is_stored_leaf (stored_at items k)) _ (node_from items (suc h) n q k) _ at
+        first (suc h) at = either (is_stored_leaf (stored_at items k)) _ (trie_node_from items (suc h) n q k) _ at
 
     leaf_at : (n q k : ℕ) → IsNodeAt trie_of k (record { bits = n; number = q; leaves = leaf_in s n q ∷ [] })
         → stored_at items k ≡ leaf_stored (label_held s (first_of W n q)) → IsStoredAs trie_of k (stored_at items k)
@@ -260,9 +260,9 @@ module _ (s : StretchesModel) (every : HasEveryAddress s) where
     pub stored_one : (k : ℕ) → w.from ≡ w.to → stored_of s w k ≡ leaf_stored (label_at s w.from) ∷ []
     stored_one k same = by (W - w.len) ∙ ap (λ (i : ℕ). leaf_stored (label_at s i) ∷ []) (first_held s every w is)
       where
-        by : (h : ℕ) → stored_in s h w.len (number_at s w) k ≡ leaf_stored (label_held s (first_of W w.len (number_at s w))) ∷ []
+        by : (h : ℕ) → stored_in s h w.len (window_number s w) k ≡ leaf_stored (label_held s (first_of W w.len (window_number s w))) ∷ []
         by zero = refl
-        by (suc h) = cond-true (in_one s w.len (number_at s w)) _ _ (in_same s every w is same)
+        by (suc h) = cond-true (in_one s w.len (window_number s w)) _ _ (in_same s every w is same)
 
     module _ (other : w.from ≡ w.to → ⊥) (low high : Window) (are : AreHalvesOf s w low high) where
       abbrev h : ℕ
@@ -283,30 +283,30 @@ module _ (s : StretchesModel) (every : HasEveryAddress s) where
       high_len : suc w.len ≡ high.len
       high_len = omega (arith, are.high_len)
 
-      low_leaves : leaves_in s h (suc w.len) (2 * number_at s w) ≡ leaves_of s low
+      low_leaves : leaves_in s h (suc w.len) (2 * window_number s w) ≡ leaves_of s low
       low_leaves = λ i. leaves_in s (low_host i) (low_len i) (sym are.low_number i)
 
       pub leaves_both : length (leaves_of s w) ≡ length (leaves_of s low) + length (leaves_of s high)
       leaves_both =
-          ap (λ (h : ℕ). length (leaves_in s h w.len (number_at s w))) more ∙ ap length (both_halves s every w is h other)
+          ap (λ (h : ℕ). length (leaves_in s h w.len (window_number s w))) more ∙ ap length (both_halves s every w is h other)
           ∙ (λ i. length (low_leaves i ++ leaves_in s (high_host i) (high_len i) (sym are.high_number i))) ∙ length-append (leaves_of s low) (leaves_of s high)
 
       pub stored_both : (k : ℕ) → stored_of s w k ≡ Inner (k + 2 * length (leaves_of s low)) ∷ (stored_of s low (k + 1) ++ stored_of s high (k + 2 * length (leaves_of s low)))
       stored_both k =
-          let upper : k + 2 * length (leaves_in s h (suc w.len) (2 * number_at s w)) ≡ k + 2 * length (leaves_of s low) = ap (λ (l : List LeafModel). k + 2 * length l) low_leaves in
-          ap (λ (h : ℕ). stored_in s h w.len (number_at s w) k) more ∙ cond-false (in_one s w.len (number_at s w)) _ _ (in_several s every w is other)
+          let upper : k + 2 * length (leaves_in s h (suc w.len) (2 * window_number s w)) ≡ k + 2 * length (leaves_of s low) = ap (λ (l : List LeafModel). k + 2 * length l) low_leaves in
+          ap (λ (h : ℕ). stored_in s h w.len (window_number s w) k) more ∙ cond-false (in_one s w.len (window_number s w)) _ _ (in_several s every w is other)
           ∙ (λ i. Inner (upper i) ∷ (stored_in s (low_host i) (low_len i) (sym are.low_number i) (k + 1) ++ stored_in s (high_host i) (high_len i) (sym are.high_number i) (upper i)))
 
   pub whole_stored : (w : Window) → w.first ≡ 0 → w.len ≡ 0 → stored_of s w 0 ≡ stored_in s W 0 0 0
   whole_stored w first len =
       let P = 2 ^ (W - w.len) in
       let room : W - w.len ≡ W = omega (arith, len) in
-      let number : number_at s w ≡ 0 = ap (λ (a : ℕ). a / P) first ∙ zero-div P in
+      let number : window_number s w ≡ 0 = ap (λ (a : ℕ). a / P) first ∙ zero-div P in
       λ i. stored_in s (room i) (len i) (number i) 0
 
   pub whole_leaves : (w : Window) → w.first ≡ 0 → w.len ≡ 0 → leaves_of s w ≡ leaves_in s W 0 0
   whole_leaves w first len =
       let P = 2 ^ (W - w.len) in
       let room : W - w.len ≡ W = omega (arith, len) in
-      let number : number_at s w ≡ 0 = ap (λ (a : ℕ). a / P) first ∙ zero-div P in
+      let number : window_number s w ≡ 0 = ap (λ (a : ℕ). a / P) first ∙ zero-div P in
       λ i. leaves_in s (room i) (len i) (number i)

@@ -2,7 +2,7 @@ use Rattle.std.specs.Prelude.{ℕ, zero, suc, ◌+◌, ◌-◌, ◌*◌, ◌==�
 use Rattle.prefix_keys.specs.Block.{first_of, last_of, width_of}
 use Rattle.pmap_text.specs.Stretches.{StretchesModel, count_begun, label_held}
 use Rattle.pmap_text.specs.declared.label.LabelId.{LabelId}
-use Rattle.pmap_text.specs.Windows.{number_at}
+use Rattle.pmap_text.specs.Windows.{window_number}
 use Rattle.pmap_text.specs.declared.stretches.window.Window.{Window}
 use Rattle.label_trie.specs.TrieModel.{LeafModel}
 
@@ -27,4 +27,4 @@ leaves_in s (suc h) n q =
     if in_one s n q then leaf_in s n q ∷ [] else leaves_in s h (suc n) (2 * q) ++ leaves_in s h (suc n) (2 * q + 1)
 
 abbrev pub leaves_of : StretchesModel → Window → List LeafModel
-leaves_of s w = leaves_in s (width_of s.version - w.len) w.len (number_at s w)
+leaves_of s w = leaves_in s (width_of s.version - w.len) w.len (window_number s w)

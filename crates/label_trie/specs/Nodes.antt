@@ -3,7 +3,7 @@ use Rattle.prefix_keys.specs.Block.{first_of, width_of}
 use Rattle.prefix_keys.specs.declared.block.Block.{Block}
 use Rattle.prefix_keys.specs.declared.version.Version.{Version}
 use Rattle.pmap_text.specs.Stretches.{StretchesModel, label_held}
-use Rattle.pmap_text.specs.Windows.{number_at}
+use Rattle.pmap_text.specs.Windows.{window_number}
 use Rattle.pmap_text.specs.declared.label.LabelId.{LabelId}
 use Rattle.pmap_text.specs.declared.stretches.window.Window.{Window}
 use Rattle.label_trie.specs.Leaves.{in_one, labelled_leaf, leaves_in}
@@ -40,15 +40,15 @@ leaves_from nodes (suc h) n q k =
     if is_stored_leaf (stored_at nodes k) then labelled_leaf n q (stored_label (stored_at nodes k)) ∷ []
     else leaves_from nodes h (suc n) (2 * q) (k + 1) ++ leaves_from nodes h (suc n) (2 * q + 1) (upper_of (stored_at nodes k))
 
-abbrev pub node_from : List TrieNode → ℕ → ℕ → ℕ → ℕ → NodeModel
-node_from nodes h n q k = record { bits = n; number = q; leaves = leaves_from nodes h n q k }
+abbrev pub trie_node_from : List TrieNode → ℕ → ℕ → ℕ → ℕ → NodeModel
+trie_node_from nodes h n q k = record { bits = n; number = q; leaves = leaves_from nodes h n q k }
 
 -- the nodes there: the block's own, those of its lower half, and those of its upper half
 abbrev pub nodes_from : List TrieNode → ℕ → ℕ → ℕ → ℕ → List NodeModel
-nodes_from nodes zero n q k = node_from nodes zero n q k ∷ []
+nodes_from nodes zero n q k = trie_node_from nodes zero n q k ∷ []
 nodes_from nodes (suc h) n q k =
-    if is_stored_leaf (stored_at nodes k) then node_from nodes (suc h) n q k ∷ []
-    else node_from nodes (suc h) n q k
+    if is_stored_leaf (stored_at nodes k) then trie_node_from nodes (suc h) n q k ∷ []
+    else trie_node_from nodes (suc h) n q k
     ∷ (nodes_from nodes h (suc n) (2 * q) (k + 1) ++ nodes_from nodes h (suc n) (2 * q + 1) (upper_of (stored_at nodes k)))
 
 -- the trie with these nodes
@@ -86,4 +86,4 @@ stored_in s (suc h) n q k =
     ∷ (stored_in s h (suc n) (2 * q) (k + 1) ++ stored_in s h (suc n) (2 * q + 1) (k + 2 * length (leaves_in s h (suc n) (2 * q))))
 
 abbrev pub stored_of : StretchesModel → Window → ℕ → List TrieNode
-stored_of s w k = stored_in s (width_of s.version - w.len) w.len (number_at s w) k
+stored_of s w k = stored_in s (width_of s.version - w.len) w.len (window_number s w) k

@@ -87,7 +87,7 @@ halves-of lines all k place none = by (here lines k place.plain place.within)
         let next : nodes_of (drop (k + 1) lines) ≡ lower ∷ upper ∷ rest = ap (λ (n : ℕ). nodes_of (drop n lines)) (sym one) ∙ next_suc in
         let inside = inside-is lines (k + 1) lower (upper ∷ rest) next in
         let ends = place.ends.each (k + 1) (omega arith) inside in
-        let after : nodes_of (drop e lines) ≡ upper ∷ rest = ends.behind ∙ ap (drop 1) next in
+        let after : nodes_of (drop e lines) ≡ upper ∷ rest = ends.following ∙ ap (drop 1) next in
         let more = ends.after in
         record {
           claim = claim;
@@ -110,7 +110,7 @@ ends-leaf lines all k place leaf = by (here lines k place.plain place.within)
 
     by : Here lines k → EndsAt lines k (k + 1)
     by (leaf-here n rest is next) =
-        subst (EndsAt lines k) (omega arith) (record { after = omega arith; within = within; behind = next ∙ sym (ap (drop 1) is) })
+        subst (EndsAt lines k) (omega arith) (record { after = omega arith; within = within; following = next ∙ sym (ap (drop 1) is) })
     by (inner-here claim lower upper rest is next) =
         absurd (none-has (subst (λ (node : Node). IsSome (leaf_label node)) (ap first_node is) leaf))
       where

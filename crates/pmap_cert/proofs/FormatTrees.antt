@@ -183,9 +183,9 @@ module _ (table : List Label) (format most : ℕ) where
   nodes_at-again few (InnerNode claim lower upper) (suc room) rest number most_room form numbered plain some =
       let low : List (List ℕ) = map line_text (lines_of lower) in
       let up : List (List ℕ) = map line_text (lines_of upper) in
-      let behind : 0 < length (up ++ rest) = omega (arith, length-append up rest) in
+      let following : 0 < length (up ++ rest) = omega (arith, length-append up rest) in
       let line = due-again format most (length table) few (InnerLine claim.cost claim.labels) number (low ++ (up ++ rest)) (form.0, form.1) (omega (arith, length-append low (up ++ rest))) in
-      let first = nodes_at-again few lower room (up ++ rest) (number + 1) (omega arith) form.2 numbered (λ one. (plain one).0) behind in
+      let first = nodes_at-again few lower room (up ++ rest) (number + 1) (omega arith) form.2 numbered (λ one. (plain one).0) following in
       let second = nodes_at-again few upper room rest first.0 (omega arith) form.3 numbered (λ one. (plain one).1) some in
       let here : Place = at number (line_text (InnerLine claim.cost claim.labels) ∷ (low ++ (up ++ rest))) in (
         second.0,

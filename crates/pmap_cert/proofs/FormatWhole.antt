@@ -88,11 +88,11 @@ unfolding format_reading
 reading-steps text = λ i. header_then (format_header_at (start_of text))
 
 -- the pieces that the steps of a reading leave make up the lines of a certificate
-joined-pieces : (all behind_header behind_labels behind_nodes : List (List ℕ)) (format : ℕ) (version : Version) (count : ℕ) (table : List Label)
-    (lines : List (List ℕ)) → all ≡ format_header (format, (version, count)) ∷ behind_header → behind_header ≡ table ++ behind_labels →
-    behind_labels ≡ lines ++ behind_nodes → behind_nodes ≡ [] ∷ [] → count ≡ length table →
+joined-pieces : (all following_header following_labels following_nodes : List (List ℕ)) (format : ℕ) (version : Version) (count : ℕ) (table : List Label)
+    (lines : List (List ℕ)) → all ≡ format_header (format, (version, count)) ∷ following_header → following_header ≡ table ++ following_labels →
+    following_labels ≡ lines ++ following_nodes → following_nodes ≡ [] ∷ [] → count ≡ length table →
     all ≡ (format_header (format, (version, length table)) ∷ (table ++ lines)) ++ [] ∷ []
-joined-pieces all behind_header behind_labels behind_nodes format version count table lines e f g h is =
+joined-pieces all following_header following_labels following_nodes format version count table lines e f g h is =
     e
     ∙ (λ i. format_header (format, (version, is i))
     ∷ (f ∙ ap (λ rest. table ++ rest) (g ∙ ap (λ rest. lines ++ rest) h) ∙ sym (append_assoc table lines ([] ∷ []))) i)
@@ -165,7 +165,7 @@ format-again c form =
     let few : length table ≤ 65536 = form.table.few in
     let nodes : List (List ℕ) = node_lines table c.root in
     let fits = fits-header format version count (numbered c form.format) few in
-    let behind : 0 < length (nodes ++ [] ∷ []) = omega (arith, length-append nodes ([] ∷ [])) in
+    let following : 0 < length (nodes ++ [] ∷ []) = omega (arith, length-append nodes ([] ∷ [])) in
     let pieces : pieces_of (certificate_text c) ≡ format_header (format, (version, count)) ∷ (table ++ (nodes ++ [] ∷ [])) =
     pieces-lines (certificate_lines c) (
       (header-read (format, (version, count)) fits).0,
@@ -174,7 +174,7 @@ format-again c form =
     ∙ ap (λ (rest : List (List ℕ)). format_header (format, (version, count)) ∷ rest) (append_assoc table nodes ([] ∷ [])) in
     let head = printed-again fits_header format_header likely_header (λ x h. (header-read x h).0) (λ x h. (header-read x h).1) BadHeader (format, (version, count)) 0
     (table ++ (nodes ++ [] ∷ [])) fits (omega (arith, length-append table (nodes ++ [] ∷ []))) in
-    let labels = labels_at-again table [] 1 (nodes ++ [] ∷ []) form.table behind in
+    let labels = labels_at-again table [] 1 (nodes ++ [] ∷ []) form.table following in
     let root = nodes_at-again table format (width_of version) (omega arith) (map_tree (place_of table) c.root) (width_of version) ([] ∷ []) labels.0 (omega arith) form.root
     (numbered c form.format) (λ one. plain-map (place_of table) c.root (plain c form.format one)) (omega arith) in
     reading-steps (certificate_text c)
@@ -234,12 +234,12 @@ module _ (text : List ℕ) where
   reading-header_fault fault e = reading-steps text ∙ ap header_then e
 
   module _ (format : ℕ) (version : Version) (count : ℕ) (after : Place) (header : format_header_at (start_of text) ≡ Ok ((format, (version, count)), after)) where
-    behind_header : format_reading text ≡ labels_then format version (labels_at count [] after)
-    behind_header = reading-steps text ∙ ap header_then header
+    following_header : format_reading text ≡ labels_then format version (labels_at count [] after)
+    following_header = reading-steps text ∙ ap header_then header
 
     pub reading-labels_fault : (fault : CertFault) → labels_at count [] after ≡ Err fault → format_reading text ≡ Err fault
-    reading-labels_fault fault e = behind_header ∙ ap (labels_then format version) e
+    reading-labels_fault fault e = following_header ∙ ap (labels_then format version) e
 
     module _ (table : List Label) (nodes : Place) (labels : labels_at count [] after ≡ Ok (table, nodes)) where
       pub reading-head : format_reading text ≡ root_then format version table (nodes_at (due format version table) table (width_of version) 0 nodes)
-      reading-head = behind_header ∙ ap (labels_then format version) labels
+      reading-head = following_header ∙ ap (labels_then format version) labels

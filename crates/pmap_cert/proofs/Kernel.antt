@@ -1,6 +1,6 @@
 use Rattle.std.proofs.Common.{◌≡◌, ℕ, zero, suc, ◌+◌, ◌-◌, ◌*◌, ◌/◌, ◌^◌, ◌<◌, ◌≤◌, Bool, true, cond, List, [], ◌∷◌, Option, Some, None, arith, sym, refl, ap, ◌∙◌, subst, pow-suc}
 use Rattle.prefix_keys.specs.Block.{block_number, first_of, width_of}
-use Rattle.pmap_text.specs.ListModel.{Prefix, label_at, label_below}
+use Rattle.pmap_text.specs.ListModel.{Prefix, label_of_length, label_below}
 use Rattle.pmap_text.specs.MapModel.{IsSettled, Label, MapModel, map_label}
 use Rattle.pmap_cert.specs.Acceptance.{IsNodeAccepted, IsWithinExact}
 use Rattle.pmap_cert.specs.CertificateModel.{ChainNode, InnerNode, LeafNode, Claim, Tree, claim_of, has, IsPlain, exact_claim}
@@ -31,7 +31,7 @@ own-miss W ps n q a s e = by_count (count_of (is_at W n q) ps) refl
     by_count : (k : ℕ) → count_of (is_at W n q) ps ≡ k →
         miss (label_below W ps n a) s ≤ count_of (is_at W n q) ps + miss (label_below W ps (suc n) a) s
     by_count zero none =
-        let here : label_at W ps n a ≡ None =
+        let here : label_of_length W ps n a ≡ None =
         label_at-none W ps n a (is_at W n q)
         (λ p c. subst (λ (i : ℕ). is_at W n i p ≡ true) e c) none in
         rw here (omega arith)

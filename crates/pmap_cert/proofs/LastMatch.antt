@@ -58,7 +58,7 @@ module _ (W a : ℕ) where
 
   -- the longest match is one of the entries
   pub match-in : (ps : List Prefix) (p : Prefix) → IsLongestMatch W ps a p → Contains ps p
-  match-in ps p long = rw long.list (Contains-append_right long.before (p ∷ long.behind) p (Contains-first p long.behind))
+  match-in ps p long = rw long.list (Contains-append_right long.before (p ∷ long.following) p (Contains-first p long.following))
 
   longer-list : (q : Prefix) (ps : List Prefix) (p : Prefix) → IsInOrder (q ∷ ps) → All (HasBlock W) (q ∷ ps) → IsLongestMatch W ps a p
       → IsLongestMatch W (q ∷ ps) a p
@@ -67,7 +67,7 @@ module _ (W a : ℕ) where
       let before : begins_before q p ≡ true = All-contains (λ s. begins_before q s ≡ true) ps p (All-from_recursion (λ s. begins_before q s ≡ true) ps ordered.0) in' in
       record {
         before = q ∷ long.before;
-        behind = long.behind;
+        following = long.following;
         list = ap (λ (xs : List Prefix). q ∷ xs) long.list;
         covers = long.covers;
         earlier = All-cons (λ r. CoversAddress W a r → r.bits < p.bits) q long.before
@@ -84,7 +84,7 @@ module _ (W a : ℕ) where
     rw (none.0, e) refl,
     record {
       before = [];
-      behind = ps;
+      following = ps;
       list = refl;
       covers = spans-covers q (All-head (HasBlock W) q ps has) e;
       earlier = All-nil (λ r. CoversAddress W a r → r.bits < q.bits);

@@ -15,14 +15,14 @@ use Rattle.pmap_cert.specs.CertificateText.{IsAscending, bit_digits, format_head
 use Rattle.pmap_cert.specs.Format.{Format, One, Two, format_number}
 use Rattle.std.specs.Prelude.{IfSome}
 use Rattle.pmap_cert.specs.FormatReading.{ChainLine, DueLine, InnerLine, LeafLine}
-use Rattle.pmap_cert.specs.Inner.{BeginsWithBits, BeginsWithChain, BeginsWithClaim, BeginsWithHeader, BeginsWithLine, BeginsWithNumber, BeginsWithSet, GoesOnWithout, Reads, Then, after_byte, header_name, is_bit}
+use Rattle.pmap_cert.specs.Inner.{BeginsWithBits, BeginsWithChain, BeginsWithClaim, BeginsWithHeader, BeginsWithLine, BeginsWithNumber, BeginsWithSet, GoesOnWithout, Finds, Then, after_byte, header_name, is_bit}
 use Rattle.pmap_cert.proofs.ChainWords.{bits-back, bits-digits, digits-back}
 use Rattle.pmap_cert.proofs.PrintedLines.{IsNumbered, fits-line, header-fits, line-fits}
 use Rattle.pmap_cert.proofs.Written.{joined-numbers}
 use Rattle.pmap_cert.proofs.Numbers.{decimal-digits, decimal-word, decimal_value-decimal}
 
 -- a reading finds nothing if the text never begins so
-pub reads_none : {A : Type 0} (Begins : A → List ℕ → Type 0) → ((x : A) (rest : List ℕ) → Begins x rest → ⊥) → Reads Begins None
+pub reads_none : {A : Type 0} (Begins : A → List ℕ → Type 0) → ((x : A) (rest : List ℕ) → Begins x rest → ⊥) → Finds Begins None
 reads_none Begins never = record { right = tt; only = λ x rest begins. absurd (never x rest begins) }
 
 -- equal results have equal values and equal rests
@@ -37,8 +37,8 @@ after_byte-found byte (b ∷ bs) rest e = by (b == byte) refl
     by : (t : Bool) → (b == byte) ≡ t → b ∷ bs ≡ byte ∷ rest
     by true h =
         let same : b ≡ byte = eqb-true b byte h in
-        let behind : bs ≡ rest = same_Some bs rest (sym (cond-true (b == byte) (Some bs) None h) ∙ e) in
-        λ i. same i ∷ behind i
+        let following : bs ≡ rest = same_Some bs rest (sym (cond-true (b == byte) (Some bs) None h) ∙ e) in
+        λ i. same i ∷ following i
     by false h = absurd (none-some rest (sym (cond-false (b == byte) (Some bs) None h) ∙ e))
 
 pub after_byte-there : (byte : ℕ) (text rest : List ℕ) → text ≡ byte ∷ rest → after_byte byte text ≡ Some rest
@@ -47,8 +47,8 @@ after_byte-there byte text rest e = ap (after_byte byte) e ∙ cond-true (byte =
 pub not-there : (byte : ℕ) (text rest : List ℕ) → after_byte byte text ≡ None → text ≡ byte ∷ rest → ⊥
 not-there byte text rest none e = none-some rest (sym none ∙ after_byte-there byte text rest e)
 
-pub behind-byte : (b c : ℕ) (xs ys : List ℕ) → b ∷ xs ≡ c ∷ ys → xs ≡ ys
-behind-byte b c xs ys e = ap (λ (t : List ℕ). drop 1 t) e
+pub following-byte : (b c : ℕ) (xs ys : List ℕ) → b ∷ xs ≡ c ∷ ys → xs ≡ ys
+following-byte b c xs ys e = ap (λ (t : List ℕ). drop 1 t) e
 
 -- a text of bytes that pass the test, and then one that doesn't
 module _ (known : ℕ → Bool) where
@@ -123,10 +123,10 @@ module _ (bound : ℕ) (few : bound ≤ 2 ^ 32) (text digits : List ℕ) (space 
   Number = BeginsWithNumber bound text
 
   begins : (n : ℕ) (rest : List ℕ) → Number n rest → digits ≡ decimal n ++ rest
-  begins n rest number = behind-byte 32 32 digits (decimal n ++ rest) (sym space ∙ number.whole)
+  begins n rest number = following-byte 32 32 digits (decimal n ++ rest) (sym space ∙ number.whole)
 
   module _ (at n : ℕ) (value : n ≡ decimal_value (take at digits)) (all : list_all is_digit (take at digits) ≡ true) (within : at < length digits) where
-    pub number-large : bound ≤ n → Reads Number None
+    pub number-large : bound ≤ n → Finds Number None
     number-large large = reads_none Number never
       where
         never : (m : ℕ) (rest : List ℕ) → Number m rest → ⊥
@@ -144,7 +144,7 @@ module _ (bound : ℕ) (few : bound ≤ 2 ^ 32) (text digits : List ℕ) (space 
       digits-are m rest number =
           front-is is_digit digits (decimal m) rest at (begins m rest number) (decimal-digits m (omega (arith, number.below, few))) number.ended within all other
 
-      pub number-plain : n < bound → 0 < at → (at ≡ 1) ⊎ (get_or digits 0 0 ≢ 48) → Reads Number (Some (n, drop at digits))
+      pub number-plain : n < bound → 0 < at → (at ≡ 1) ⊎ (get_or digits 0 0 ≢ 48) → Finds Number (Some (n, drop at digits))
       number-plain below some plain = record { right = right; only = only }
         where
           right : Number n (drop at digits)
@@ -166,7 +166,7 @@ module _ (bound : ℕ) (few : bound ≤ 2 ^ 32) (text digits : List ℕ) (space 
               let same : n ≡ m = value ∙ ap decimal_value are.1 ∙ is in
               λ i. Some (same i, are.2 i)
 
-      pub number-zero : (at ≡ 0) ⊎ ((1 < at) × (get_or digits 0 0 ≡ 48)) → Reads Number None
+      pub number-zero : (at ≡ 0) ⊎ ((1 < at) × (get_or digits 0 0 ≡ 48)) → Finds Number None
       number-zero other = reads_none Number never
         where
           never : (m : ℕ) (rest : List ℕ) → Number m rest → ⊥
@@ -187,13 +187,13 @@ module _ (most : ℕ) (text digits : List ℕ) (space : text ≡ 32 ∷ digits) 
   Bits = BeginsWithBits most text
 
   bits-begin : (bits : List Bool) (rest : List ℕ) → Bits bits rest → digits ≡ bit_digits bits ++ rest
-  bits-begin bits rest begin = behind-byte 32 32 digits (bit_digits bits ++ rest) (sym space ∙ begin.whole)
+  bits-begin bits rest begin = following-byte 32 32 digits (bit_digits bits ++ rest) (sym space ∙ begin.whole)
 
   bits-count : (bits : List Bool) → length (bit_digits bits) ≡ length bits
   bits-count bits = length-map bits (λ bit. cond bit 49 48)
 
   module _ (at : ℕ) (all : list_all is_bit (take at digits) ≡ true) where
-    pub bits-many : at < length digits → most ≤ at → is_bit (get_or digits at 0) ≡ true → Reads Bits None
+    pub bits-many : at < length digits → most ≤ at → is_bit (get_or digits at 0) ≡ true → Finds Bits None
     bits-many within many bit = reads_none Bits never
       where
         never : (bits : List Bool) (rest : List ℕ) → Bits bits rest → ⊥
@@ -207,11 +207,11 @@ module _ (most : ℕ) (text digits : List ℕ) (space : text ≡ 32 ∷ digits) 
       bits-are bits rest begin =
           front-is is_bit digits (bit_digits bits) rest at (bits-begin bits rest begin) (bits-digits bits) begin.ended within all other
 
-      pub bits-nothing : at ≡ 0 → Reads Bits None
+      pub bits-nothing : at ≡ 0 → Finds Bits None
       bits-nothing none =
           reads_none Bits (λ bits rest begin. omega (arith, none, (bits-are bits rest begin).0, begin.some, bits-count bits))
 
-      pub bits-read : (bits : List Bool) → bits ≡ map (λ d. d == 49) (take at digits) → 0 < at → at ≤ most → Reads Bits (Some (bits, drop at digits))
+      pub bits-read : (bits : List Bool) → bits ≡ map (λ d. d == 49) (take at digits) → 0 < at → at ≤ most → Finds Bits (Some (bits, drop at digits))
       bits-read bits are some few = record { right = right; only = only }
         where
           word : bit_digits bits ≡ take at digits
@@ -260,7 +260,7 @@ module _ (bound low : ℕ) (text ns rest : List ℕ) (so_far : IsReadTo bound lo
   abbrev Set : List ℕ → List ℕ → Type 0
   Set = BeginsWithSet bound 0 text
 
-  pub set-ended : (r : List ℕ) → after_byte 10 rest ≡ Some r → Reads Set (Some (ns, r))
+  pub set-ended : (r : List ℕ) → after_byte 10 rest ≡ Some r → Finds Set (Some (ns, r))
   set-ended r feed = record { right = right; only = only }
     where
       right : Set ns r
@@ -276,7 +276,7 @@ module _ (bound low : ℕ) (text ns rest : List ℕ) (so_far : IsReadTo bound lo
 
           by : (tail : List ℕ) → all ≡ ns ++ tail → BeginsWithSet bound low rest tail s → ◌≡◌ {A = Option (List ℕ × List ℕ)} (Some (ns, r)) (Some (all, s))
           by [] is last =
-              let same : r ≡ s = behind-byte 10 10 r s (sym (after_byte-found 10 rest r feed) ∙ last.whole) in
+              let same : r ≡ s = following-byte 10 10 r s (sym (after_byte-found 10 rest r feed) ∙ last.whole) in
               let these : ns ≡ all = sym (append-nil ns) ∙ sym is in
               λ i. Some (these i, same i)
           by (n ∷ tail) is last =
@@ -303,15 +303,15 @@ module _ (bound low : ℕ) (text ns rest : List ℕ) (so_far : IsReadTo bound lo
           last.ascending.2,
         )
 
-    pub set-stopped : Reads (BeginsWithNumber bound rest) None → Reads Set None
+    pub set-stopped : Finds (BeginsWithNumber bound rest) None → Finds Set None
     set-stopped number = reads_none Set (λ all r set.
         let more = next all r set in none-some (more.0, words more.1 ++ 10 ∷ r) (number.only more.0 (words more.1 ++ 10 ∷ r) more.4))
 
-    module _ (n : ℕ) (after : List ℕ) (number : Reads (BeginsWithNumber bound rest) (Some (n, after))) where
+    module _ (n : ℕ) (after : List ℕ) (number : Finds (BeginsWithNumber bound rest) (Some (n, after))) where
       next-is : (m : ℕ) (tail r : List ℕ) → BeginsWithNumber bound rest m (words tail ++ 10 ∷ r) → (n ≡ m) × (after ≡ words tail ++ 10 ∷ r)
       next-is m tail r begin = read_same n m after (words tail ++ 10 ∷ r) (number.only m (words tail ++ 10 ∷ r) begin)
 
-      pub set-fallen : n < low → Reads Set None
+      pub set-fallen : n < low → Finds Set None
       set-fallen less = reads_none Set (λ all r set.
           let more = next all r set in omega (arith, less, more.3, (next-is more.0 more.1 r more.4).0))
 
@@ -341,16 +341,16 @@ module _ {A B : Type 0} (First : A → List ℕ → Type 0) (Second : List ℕ �
   abbrev Both : A × B → List ℕ → Type 0
   Both = Then First Second
 
-  module _ (a : A) (rest : List ℕ) (first : Reads First (Some (a, rest))) where
+  module _ (a : A) (rest : List ℕ) (first : Finds First (Some (a, rest))) where
     second-is : (both : A × B) (r : List ℕ) → Both both r → (a ≡ both.0) × Second rest both.1 r
     second-is both r whole =
         let same = read_same a both.0 rest whole.middle (first.only both.0 whole.middle whole.first) in
         (same.0, subst (λ (t : List ℕ). Second t both.1 r) (sym same.1) whole.second)
 
-    pub then-left : Reads (Second rest) None → Reads Both None
+    pub then-left : Finds (Second rest) None → Finds Both None
     then-left second = reads_none Both (λ both r whole. none-some (both.1, r) (second.only both.1 r (second-is both r whole).1))
 
-    pub then-read : (b : B) (r : List ℕ) → Reads (Second rest) (Some (b, r)) → Reads Both (Some ((a, b), r))
+    pub then-read : (b : B) (r : List ℕ) → Finds (Second rest) (Some (b, r)) → Finds Both (Some ((a, b), r))
     then-read b r second = record {
       right = record { middle = rest; first = first.right; second = second.right };
       only = λ both s whole.
@@ -383,15 +383,15 @@ module _ (format most count : ℕ) (text : List ℕ) where
   apart a b xs ys found is other = first-apart a b xs ys text (after_byte-found a text xs found) is other
 
   follows : (letter : ℕ) (xs ys : List ℕ) → after_byte letter text ≡ Some xs → text ≡ letter ∷ ys → xs ≡ ys
-  follows letter xs ys found is = behind-byte letter letter xs ys (sym (after_byte-found letter text xs found) ∙ is)
+  follows letter xs ys found is = following-byte letter letter xs ys (sym (after_byte-found letter text xs found) ∙ is)
 
   module _ (no_leaf : after_byte 108 text ≡ None) where
     module _ (rest : List ℕ) (letter : after_byte 110 text ≡ Some rest) (found : Option ((ℕ × List ℕ) × List ℕ))
-        (claim : Reads (BeginsWithClaim (2 ^ 32) count rest) found) where
+        (claim : Finds (BeginsWithClaim (2 ^ 32) count rest) found) where
       abbrev as_inner : (ℕ × List ℕ) × List ℕ → DueLine × List ℕ
       as_inner x = (InnerLine x.0.0 x.0.1, x.1)
 
-      pub line-inner : Reads Line (option_map as_inner found)
+      pub line-inner : Finds Line (option_map as_inner found)
       line-inner = record { right = right found claim.right; only = only }
         where
           right : (o : Option ((ℕ × List ℕ) × List ℕ)) → IfSome o (λ x. BeginsWithClaim (2 ^ 32) count rest x.0 x.1)
@@ -421,11 +421,11 @@ module _ (format most count : ℕ) (text : List ℕ) where
 
     module _ (no_inner : after_byte 110 text ≡ None) where
       module _ (two : format ≡ 2) (rest : List ℕ) (letter : after_byte 99 text ≡ Some rest)
-          (found : Option ((ℕ × (List Bool × (ℕ × List ℕ))) × List ℕ)) (chain : Reads (BeginsWithChain most count rest) found) where
+          (found : Option ((ℕ × (List Bool × (ℕ × List ℕ))) × List ℕ)) (chain : Finds (BeginsWithChain most count rest) found) where
         abbrev as_chain : (ℕ × (List Bool × (ℕ × List ℕ))) × List ℕ → DueLine × List ℕ
         as_chain x = (ChainLine x.0.0 x.0.1.0 x.0.1.1.0 x.0.1.1.1, x.1)
 
-        pub line-chain : Reads Line (option_map as_chain found)
+        pub line-chain : Finds Line (option_map as_chain found)
         line-chain = record { right = right found chain.right; only = only }
           where
             right : (o : Option ((ℕ × (List Bool × (ℕ × List ℕ))) × List ℕ)) → IfSome o (λ x. BeginsWithChain most count rest x.0 x.1)
@@ -490,7 +490,7 @@ numbered-format n (inl one) = (One, one)
 numbered-format n (inr two) = (Two, two)
 
 pub header-none : (text : List ℕ) → ((format : Format) (version : Version) (rest : List ℕ) → text ≢ header_name (format_number format) version ++ rest)
-    → Reads (BeginsWithHeader text) None
+    → Finds (BeginsWithHeader text) None
 header-none text never = reads_none (BeginsWithHeader text) (λ x r h.
     let format = numbered-format x.0 (header-fits x h.fits).0 in
     let rest : List ℕ = 32 ∷ (decimal x.1.1 ++ 10 ∷ r) in

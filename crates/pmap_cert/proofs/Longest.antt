@@ -2,7 +2,7 @@ use Rattle.std.proofs.Common.{◌≡◌, ℕ, zero, suc, ◌+◌, ◌/◌, ◌<�
 use Rattle.std.specs.Option.{option_or}
 use Rattle.std.proofs.lemmas.Bool.{and_from, and_parts, lt-ltb}
 use Rattle.prefix_keys.specs.Block.{block_number}
-use Rattle.pmap_text.specs.ListModel.{Prefix, covers, label_at, label_below, lies_inside}
+use Rattle.pmap_text.specs.ListModel.{Prefix, covers, label_of_length, label_below, lies_inside}
 use Rattle.pmap_text.proofs.Blocks.{block_number-half, block_number-shorter}
 use Rattle.pmap_cert.proofs.Counts.{count_of, find-none, is_within}
 
@@ -10,7 +10,7 @@ use Rattle.pmap_cert.proofs.Counts.{count_of, find-none, is_within}
 
 -- addresses of one block get the same label from the entries of the block's length
 pub label_at-same : (W : ℕ) (ps : List Prefix) (n a b : ℕ) → block_number W n a ≡ block_number W n b →
-    label_at W ps n a ≡ label_at W ps n b
+    label_of_length W ps n a ≡ label_of_length W ps n b
 label_at-same W ps n a b e =
     ap (λ (k : ℕ). option_map (λ (p : Prefix). p.label) (find (λ (p : Prefix). p.bits == n && block_number W n p.start == k) ps)) e
 
@@ -25,7 +25,7 @@ label_below-same W ps (suc n) a b le e =
 
 -- if no entry passes a test that each entry of n bits that covers the address passes, entries of n bits give no label
 pub label_at-none : (W : ℕ) (ps : List Prefix) (n a : ℕ) (test : Prefix → Bool) →
-    ((p : Prefix) → covers W n a p ≡ true → test p ≡ true) → count_of test ps ≡ 0 → label_at W ps n a ≡ None
+    ((p : Prefix) → covers W n a p ≡ true → test p ≡ true) → count_of test ps ≡ 0 → label_of_length W ps n a ≡ None
 label_at-none W ps n a test passes none = ap (option_map (λ (p : Prefix). p.label)) (find-none test (covers W n a) passes ps none)
 
 -- an entry of j bits that covers an address lies in each block of at most j bits with the address
@@ -43,7 +43,7 @@ label_below-none : (W : ℕ) (ps : List Prefix) (n k a : ℕ) (test : Prefix →
     label_below W ps (n + k) a ≡ label_below W ps n a
 label_below-none W ps n zero a test passes none = rw add-zero
 label_below-none W ps n (suc k) a test passes none =
-    let here : label_at W ps (n + k) a ≡ None = label_at-none W ps (n + k) a test (passes (n + k) (omega arith) (omega arith)) none in
+    let here : label_of_length W ps (n + k) a ≡ None = label_at-none W ps (n + k) a test (passes (n + k) (omega arith) (omega arith)) none in
     rw (add-suc, here) (label_below-none W ps n k a test (λ j le less. passes j le (omega (arith, less))) none)
 
 -- no entry within a block gives an address of it a label

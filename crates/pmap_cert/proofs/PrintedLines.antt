@@ -14,7 +14,7 @@ use Rattle.prefix_keys.specs.declared.version.Version.{Version}
 use Rattle.prefix_keys.specs.declared.version.Version.TheVariants.{V4, V6}
 use Rattle.pmap_cert.specs.CertificateText.{IsAscending, bit_digits, format_header}
 use Rattle.pmap_cert.specs.FormatReading.{ChainLine, DueLine, InnerLine, LeafLine, Place, fault_at, fits_header, fits_line, is_ended, likely_header, likely_line, line_due_at, line_text, pieces_of, printed_at, line_value, CertFault, CertFaultKind, BadNode, NodesMissing}
-use Rattle.pmap_cert.specs.Inner.{BeginsWith, Reads}
+use Rattle.pmap_cert.specs.Inner.{BeginsWithLineOf, Finds}
 use Rattle.pmap_cert.proofs.ChainWords.{Lacks-bits, bits-back}
 use Rattle.pmap_cert.proofs.Headers.{Lacks-line, Lacks-tested}
 use Rattle.pmap_cert.proofs.Numbers.{Lacks-decimal, Lacks-decimals, ascending-passed, ascending-test, decimal_value-decimal, values-decimals}
@@ -57,7 +57,7 @@ module _ {A : Type 0} (fits : A → Bool) (text_of : A → List ℕ) (likely : L
       found = printed_at kind fits text_of likely (at number (pieces_of text))
 
       -- a text is read as the value with whose text and a line feed it begins, and otherwise has a fault
-      pub there : (x : A) (rest : List ℕ) → BeginsWith fits text_of text x rest → found ≡ Ok (x, at (number + 1) (pieces_of rest))
+      pub there : (x : A) (rest : List ℕ) → BeginsWithLineOf fits text_of text x rest → found ≡ Ok (x, at (number + 1) (pieces_of rest))
       there x rest begins =
           ap (λ (pieces : List (List ℕ)). printed_at kind fits text_of likely (at number pieces))
           (ap pieces_of begins.whole ∙ slice_split_at (λ b. b == 10) (text_of x) 10 rest (lacks x begins.fits) (eq-eqb 10 10 refl))
@@ -66,7 +66,7 @@ module _ {A : Type 0} (fits : A → Bool) (text_of : A → List ℕ) (likely : L
       abbrev missing : CertFault
       missing = fault_at (at number (pieces_of text)) kind
 
-      pub nowhere : Reads (BeginsWith fits text_of text) None → found ≡ Err missing
+      pub nowhere : Finds (BeginsWithLineOf fits text_of text) None → found ≡ Err missing
       nowhere none = by (pieces_of text) refl
         where
           by : (pieces : List (List ℕ)) → pieces_of text ≡ pieces → line_value kind value_of (at number pieces) ≡ Err missing

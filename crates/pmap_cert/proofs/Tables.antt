@@ -130,10 +130,10 @@ place-before p (x ∷ xs) ys h = by (p x) refl (λ less. place-before p xs ys le
   where
     by : (b : Bool) → p x ≡ b → (position_or_len p xs < length xs → position_or_len p (xs ++ ys) ≡ position_or_len p xs) → position_or_len p (x ∷ (xs ++ ys)) ≡ position_or_len p (x ∷ xs)
     by true e rest = rw e refl
-    by false e rest = rw e (ap (λ n. 1 + n) (rest (behind (rw e at h))))
+    by false e rest = rw e (ap (λ n. 1 + n) (rest (following (rw e at h))))
       where
-        behind : 1 + position_or_len p xs < length (x ∷ xs) → position_or_len p xs < length xs
-        behind h = omega arith
+        following : 1 + position_or_len p xs < length (x ∷ xs) → position_or_len p xs < length xs
+        following h = omega arith
 
 label-there : (table : List Label) (x : Label) (new : List Label) → slice_get (table ++ x ∷ new) (length table) ≡ Some x
 label-there table x new =

@@ -33,7 +33,7 @@ pub record IsReadNode (format : Format) (most : ℕ) (table : List Label) (room 
   pub lines : new ≡ old ++ lines_of node
 
 -- A reading of the text finds x and the rest exactly if `Begins x rest` holds.
-pub record Reads {A : Type 0} (Begins : A → List ℕ → Type 0) (found : Option (A × List ℕ)) : Type 0 where
+pub record Finds {A : Type 0} (Begins : A → List ℕ → Type 0) (found : Option (A × List ℕ)) : Type 0 where
   pub right : IfSome found (λ x. Begins x.0 x.1)
   pub only : (x : A) (rest : List ℕ) → Begins x rest → found ≡ Some (x, rest)
 
@@ -70,19 +70,19 @@ pub record BeginsWithSet (bound low : ℕ) (text : List ℕ) (numbers rest : Lis
   pub ascending : IsAscending bound low numbers
 
 -- the text is the text of a value that passes the test, a line feed, and the rest
-pub record BeginsWith {A : Type 0} (test : A → Bool) (text_of : A → List ℕ) (text : List ℕ) (x : A) (rest : List ℕ) : Type 0 where
+pub record BeginsWithLineOf {A : Type 0} (test : A → Bool) (text_of : A → List ℕ) (text : List ℕ) (x : A) (rest : List ℕ) : Type 0 where
   pub whole : text ≡ text_of x ++ 10 ∷ rest
   pub fits : test x ≡ true
 
 -- the text is a space, a number below the bound, a line feed, and the rest
 abbrev pub BeginsWithLast : ℕ → List ℕ → ℕ → List ℕ → Type 0
-BeginsWithLast bound text = BeginsWith (λ n. nat_lt n bound) (λ n. 32 ∷ decimal n) text
+BeginsWithLast bound text = BeginsWithLineOf (λ n. nat_lt n bound) (λ n. 32 ∷ decimal n) text
 
 abbrev pub BeginsWithLine : ℕ → ℕ → ℕ → List ℕ → DueLine → List ℕ → Type 0
-BeginsWithLine format most count text = BeginsWith (fits_line format most count) line_text text
+BeginsWithLine format most count text = BeginsWithLineOf (fits_line format most count) line_text text
 
 abbrev pub BeginsWithHeader : List ℕ → ℕ × (Version × ℕ) → List ℕ → Type 0
-BeginsWithHeader text = BeginsWith fits_header format_header text
+BeginsWithHeader text = BeginsWithLineOf fits_header format_header text
 
 -- the part of a header's text before the space and the number of labels
 abbrev pub header_name : ℕ → Version → List ℕ
@@ -113,7 +113,7 @@ pub record ArePlain (lines : List DueLine) : Type 0 where
 pub record EndsAt (lines : List DueLine) (number end : ℕ) : Type 0 where
   pub after : number < end
   pub within : end ≤ length lines
-  pub behind : nodes_of (drop end lines) ≡ drop 1 (nodes_of (drop number lines))
+  pub following : nodes_of (drop end lines) ≡ drop 1 (nodes_of (drop number lines))
 
 pub record AreEndsFrom (lines : List DueLine) (ends : List ℕ) (number : ℕ) : Type 0 where
   pub count : length ends ≡ length lines

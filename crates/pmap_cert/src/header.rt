@@ -2,7 +2,7 @@
 ghost use Rattle.std.specs.Prelude.{◌≡◌, ◌≢◌, ◌++◌, List, MatchOption, option_map, ℕ};
 ghost use Rattle.prefix_keys.specs.declared.version.Version.{Version};
 ghost use Rattle.pmap_cert.specs.Format.{Format, format_number, header_of};
-ghost use Rattle.pmap_cert.specs.Inner.{BeginsWithHeader, Reads, header_name};
+ghost use Rattle.pmap_cert.specs.Inner.{BeginsWithHeader, Finds, header_name};
 
 use crate::format::Format;
 use crate::node_line::last_number;
@@ -30,7 +30,7 @@ fn name(text: &[u8]) -> Option<(Format, Version, &[u8])>
 /// Reads the header at the beginning of a text, and returns its format, its version and its number of labels, and the
 /// text after its line.
 pub fn read_header(text: &[u8]) -> Option<((Format, Version, u32), &[u8])>
-    ensures { Reads (BeginsWithHeader text.now) (option_map (λ x. (header_of x.0, x.1.now)) result) }
+    ensures { Finds (BeginsWithHeader text.now) (option_map (λ x. (header_of x.0, x.1.now)) result) }
 {
     let (format, version, rest) = name(text)?;
     let (count, rest) = last_number(rest, 65537)?;

@@ -1,7 +1,7 @@
 //! The lines of nodes, each read in one pass over its bytes.
 ghost use Rattle.std.specs.Prelude.{◌≡◌, ◌≢◌, ◌^◌, ◌<◌, ◌≤◌, ◌⊎◌, ◌∷◌, IfOk, IsTrue, false, length, map, option_map, slice_index};
 ghost use Rattle.pmap_cert.specs.Format.{format_number};
-ghost use Rattle.pmap_cert.specs.Inner.{BeginsWithBits, BeginsWithChain, BeginsWithClaim, BeginsWithLast, BeginsWithLine, BeginsWithNumber, BeginsWithSet, Reads, after_byte as after_byte_of};
+ghost use Rattle.pmap_cert.specs.Inner.{BeginsWithBits, BeginsWithChain, BeginsWithClaim, BeginsWithLast, BeginsWithLine, BeginsWithNumber, BeginsWithSet, Finds, after_byte as after_byte_of};
 ghost use Rattle.pmap_cert.specs.Packed.{bits_in, line_of};
 
 use crate::format::Format;
@@ -51,7 +51,7 @@ fn after_byte(text: &[u8], byte: u8) -> Option<&[u8]>
 #[inline(always)]
 fn number_word(text: &[u8], bound: u64) -> Option<(u32, &[u8])>
     requires { bound ≤ 2 ^ 32 }
-    ensures { Reads (BeginsWithNumber bound text.now) (option_map (λ x. (x.0, x.1.now)) result) }
+    ensures { Finds (BeginsWithNumber bound text.now) (option_map (λ x. (x.0, x.1.now)) result) }
 {
     let digits = after_byte(text, b' ')?;
     let mut number = 0u64;
@@ -75,7 +75,7 @@ fn number_word(text: &[u8], bound: u64) -> Option<(u32, &[u8])>
 // Reads a space and 1 to `most` bits, and returns the bits and the text after them.
 fn bits_word(text: &[u8], most: u32) -> Option<(Path, &[u8])>
     requires { most ≤ 128 }
-    ensures { Reads (BeginsWithBits most text.now) (option_map (λ x. (bits_in x.0, x.1.now)) result) }
+    ensures { Finds (BeginsWithBits most text.now) (option_map (λ x. (bits_in x.0, x.1.now)) result) }
 {
     let digits = after_byte(text, b' ')?;
     let mut path = Path { value: 0, count: 0 };
@@ -103,7 +103,7 @@ fn set_to_end<'a>(
     count: u64,
 ) -> Result<Option<&'a [u8]>, AllocError>
     requires { count ≤ 2 ^ 32 }
-    ensures { IfOk result (λ found. Reads (BeginsWithSet count 0 text.entry.now)
+    ensures { IfOk result (λ found. Finds (BeginsWithSet count 0 text.entry.now)
         (option_map (λ rest. (map (λ id. id.0) set.new.items, rest.now)) found)) }
 {
     set.clear();
@@ -129,7 +129,7 @@ fn set_to_end<'a>(
 #[inline(always)]
 pub fn last_number(text: &[u8], bound: u64) -> Option<(u32, &[u8])>
     requires { bound ≤ 2 ^ 32 }
-    ensures { Reads (BeginsWithLast bound text.now) (option_map (λ x. (x.0, x.1.now)) result) }
+    ensures { Finds (BeginsWithLast bound text.now) (option_map (λ x. (x.0, x.1.now)) result) }
 {
     let (number, rest) = number_word(text, bound)?;
     let rest = after_byte(rest, b'\n')?;
@@ -146,7 +146,7 @@ fn claim<'a>(
 ) -> Result<Option<(u32, &'a [u8])>, AllocError>
     requires bound { bound ≤ 2 ^ 32 }
     requires count { count ≤ 2 ^ 32 }
-    ensures { IfOk result (λ found. Reads (BeginsWithClaim bound count text.entry.now)
+    ensures { IfOk result (λ found. Finds (BeginsWithClaim bound count text.entry.now)
         (option_map (λ x. ((x.0, map (λ id. id.0) set.new.items), x.1.now)) found)) }
 {
     let Some((number, rest)) = number_word(text, bound) else {
@@ -167,7 +167,7 @@ fn chain<'a>(
 ) -> Result<Option<((u32, LabelId), &'a [u8])>, AllocError>
     requires few { most ≤ 128 }
     requires count { count ≤ 2 ^ 32 }
-    ensures { IfOk result (λ found. Reads (BeginsWithChain most count text.entry.now)
+    ensures { IfOk result (λ found. Finds (BeginsWithChain most count text.entry.now)
         (option_map (λ x. ((x.0.0, (bits_in buffer.new.path, (x.0.1.0, map (λ id. id.0) buffer.new.set.items))), x.1.now))
         found)) }
 {
@@ -194,7 +194,7 @@ pub fn node_line<'a, 's>(
     count: u64,
 ) -> Result<Option<(Node<'s>, &'a [u8])>, AllocError>
     requires { count ≤ 2 ^ 32 }
-    ensures { IfOk result (λ found. Reads
+    ensures { IfOk result (λ found. Finds
         (BeginsWithLine (format_number limits.now.format) limits.now.width count text.entry.now)
         (option_map (λ x. (line_of x.0, x.1.now)) found)) }
 {

@@ -21,8 +21,8 @@ use Rattle.pmap_text.specs.MapModel.{MapModel}
 use Rattle.pmap_text.specs.Label.{IsLabelTable}
 use Rattle.pmap_text.proofs.Ends.{ends_most}
 use Rattle.pmap_text.proofs.Settling.{map_is}
-use Rattle.pmap_minimise.specs.Runs.{AreCountable, AreCountedHalves, HasNoLongRun, IsCounted, IsChoice, IsMade, IsMapOn, IsRun, IsRunTo, IsStep, IsStop, own_label}
-use Rattle.pmap_text.specs.Windows.{IsWindow, number_at}
+use Rattle.pmap_minimise.specs.Runs.{AreCountable, AreCountedHalves, HasNoLongRun, IsCounted, IsChoice, IsMade, IsMapOn, AreSteps, IsRunTo, IsStepInto, IsStop, own_label}
+use Rattle.pmap_text.specs.Windows.{IsWindow, window_number}
 use Rattle.pmap_text.specs.declared.stretches.window.Window.{Window}
 use Rattle.pmap_minimise.specs.Built.{AddsInner, AreHalves, IsBuilt, IsBuiltIn, claim_at, last_claim}
 use Rattle.pmap_minimise.specs.Opened.{Opens, claim_above, cost_above, path_node}
@@ -144,7 +144,7 @@ module _ (s : StretchesModel) (a low high : Window) (lower upper : Node) (are : 
       whole : Node
       whole = InnerNode claim lower upper
 
-      by : (count : ℕ) → count < 2 → IsRun s side count a end → length (run_bits nat_eq side whole) < 2
+      by : (count : ℕ) → count < 2 → AreSteps s side count a end → length (run_bits nat_eq side whole) < 2
       by zero few is =
           let none = made-stop s side a whole made (subst (IsStop s side) is run.stop) in
           let count = ap length none.0 in
@@ -187,7 +187,7 @@ short-halves s a low high halves (inr single) = by (own_label s low) (own_label 
   where
     one : (side : ℕ) (chosen : Window) → IsChoice s side low high chosen → chosen.from ≡ chosen.to → IsCounted s chosen → IsShortRun s a (Some side)
     one side chosen choice end counted =
-        let step : IsStep s side a chosen = record { low = low; high = high; halves = halves; choice = choice } in
+        let step : IsStepInto s side a chosen = record { low = low; high = high; halves = halves; choice = choice } in
         let len = (step-by s side a chosen step).len in
         (chosen, record { count = suc zero; run = (chosen, step, refl); stop = inl end; counted = counted; len = omega arith }, omega arith)
 
@@ -229,12 +229,12 @@ halves-built s a low high old middle after new is are short upper lower adds =
 
 -- a chain's line completes a block from which a run of two bits or more leads to its end
 pub chain-built : (s : StretchesModel) (a low high end : Window) (old middle new : List DueLine) (side number bits : ℕ) → IsCounted s a → AreCountedHalves s a low high
-    → option_or (own_label s low) (own_label s high) ≡ Some side → side < 2 ^ 32 → (run : IsRunTo s side a end) → 2 ≤ run.count → bits ≡ end.len - a.len → number ≡ number_at s end
+    → option_or (own_label s low) (own_label s high) ≡ Some side → side < 2 ^ 32 → (run : IsRunTo s side a end) → 2 ≤ run.count → bits ≡ end.len - a.len → number ≡ window_number s end
     → IsBuilt s end old middle → new ≡ middle ++ ChainLine (cost_above side (last_claim middle)) (path_to number bits) side (side ∷ []) ∷ [] → IsBuilt s a old new
 chain-built s a low high end old middle new side number bits is are label fits run more bits_same number_is built own =
     let len = run.len in
     let bits_is : bits ≡ run.count = omega (arith, bits_same) in
-    let value : ℕ = number_at s end in
+    let value : ℕ = window_number s end in
     let count : ℕ = run.count in
     let node : Node = path_node side value count built.node in
     let made = run-made s side fits end built.node built.made count a is run.run in
@@ -277,7 +277,7 @@ chain-built s a low high end old middle new side number bits is are label fits r
 pub reversed-lines : (old new : List DueLine) (node : Node) → old ≡ [] → new ≡ old ++ reverse (lines_of node) → reverse new ≡ lines_of node
 reversed-lines old new node none is = ap reverse (is ∙ ap (λ (l : List DueLine). l ++ reverse (lines_of node)) none) ∙ reverse-reverse (lines_of node)
 
-whole-window : (s : StretchesModel) (a : Window) → a.first ≡ 0 → number_at s a ≡ 0
+whole-window : (s : StretchesModel) (a : Window) → a.first ≡ 0 → window_number s a ≡ 0
 whole-window s a first =
     let W = width_of s.version in
     ap (λ (x : ℕ). block_number W a.len x) first ∙ zero-div (2 ^ (W - a.len))

@@ -17,10 +17,10 @@ use Rattle.pmap_cert.specs.Node.{Node}
 use Rattle.pmap_cert.specs.Inner.{side_below}
 use Rattle.pmap_text.specs.Settled.{divisions}
 use Rattle.pmap_text.proofs.Settling.{Settles, window_divided, window_most, window_settled, window_unsettled}
-use Rattle.pmap_text.specs.Windows.{AreHalvesOf, IsWindow, number_at}
+use Rattle.pmap_text.specs.Windows.{AreHalvesOf, IsWindow, window_number}
 use Rattle.pmap_text.specs.declared.stretches.window.Window.{Window}
 use Rattle.pmap_text.proofs.Windows.{one_index, ordered_window}
-use Rattle.pmap_minimise.specs.Runs.{AreCountedHalves, IsCounted, IsChoice, IsMade, IsRun, IsRunTo, IsStep, IsStop, own_label}
+use Rattle.pmap_minimise.specs.Runs.{AreCountedHalves, IsCounted, IsChoice, IsMade, AreSteps, IsRunTo, IsStepInto, IsStop, own_label}
 use Rattle.pmap_cert.specs.Paths.{digit, path_to}
 use Rattle.pmap_minimise.specs.Opened.{claim_above, node_over, path_node}
 use Rattle.pmap_minimise.specs.Numbers.{IsExact, IsMapNode, IsSound}
@@ -107,7 +107,7 @@ leaf-made s a n is own fits =
     let label : label_at s a.from ≡ Some (id_of n) = own-label-is (label_at s a.from) n (sym (own-is s a single) ∙ own) in
     record {
       each = λ m on.
-          let settles = subst (λ (l : Option LabelId). Settles m l a.len (number_at s a)) label (window_settled s a is.window on.statements on.default on.stretches single m on.is) in
+          let settles = subst (λ (l : Option LabelId). Settles m l a.len (window_number s a)) label (window_settled s a is.window on.statements on.default on.stretches single m on.is) in
           record { stands = settles.1; form = (settles.0, tt) };
       few = λ ss default are. omega arith;
       sound = tt;
@@ -142,8 +142,8 @@ module _ (s : StretchesModel) (a low high : Window) (lower upper : Node) (is : I
       let few = is.few.few in
       record {
         each = λ m on.
-            subst (λ (h : ℕ). IsMapNode m a.len (number_at s a) h (InnerNode claim lower upper)) all
-            (joined-in m a.len (number_at s a) room lower upper claim on.table
+            subst (λ (h : ℕ). IsMapNode m a.len (window_number s a) h (InnerNode claim lower upper)) all
+            (joined-in m a.len (window_number s a) room lower upper claim on.table
             (rw (on.is.width, on.is.mappings) (window_unsettled s a is.window on.statements on.default on.stretches other m.table m.fallback))
             (moved m _ _ _ _ _ _ lower low_len are.halves.low_number low_room (low_made.each m on)) (moved m _ _ _ _ _ _ upper high_len are.halves.high_number high_room (high_made.each m on))
             exact (omega (arith, most, both-cost is.few.statements is.few.default is.few.stretches, few)));
@@ -181,7 +181,7 @@ made-stop s side a node made (inr none) =
 -- the end lies in the block, `count` bits deeper
 pub record IsBelow (s : StretchesModel) (count : ℕ) (a end : Window) : Type 0 where
   pub len : end.len ≡ a.len + count
-  pub number : number_at s end / 2 ^ count ≡ number_at s a
+  pub number : window_number s end / 2 ^ count ≡ window_number s a
   pub counted : IsCounted s end
   pub smaller : end.last - end.first + count ≤ a.last - a.first
 
@@ -203,7 +203,7 @@ halved e P q d some small is =
 pub record IsStepBy (s : StretchesModel) (side : ℕ) (a chosen : Window) : Type 0 where
   pub digit : ℕ
   pub small : digit < 2
-  pub number : number_at s chosen ≡ 2 * number_at s a + digit
+  pub number : window_number s chosen ≡ 2 * window_number s a + digit
   pub len : chosen.len ≡ a.len + 1
   pub counted : IsCounted s chosen
   pub divided : a.from < a.to
@@ -212,7 +212,7 @@ pub record IsStepBy (s : StretchesModel) (side : ℕ) (a chosen : Window) : Type
 pub block-order : (s : StretchesModel) (a : Window) → IsCounted s a → a.first ≤ a.last
 block-order s a is = ordered_window s is.few.stretches.every a is.window
 
-pub step-by : (s : StretchesModel) (side : ℕ) (a chosen : Window) → IsStep s side a chosen → IsStepBy s side a chosen
+pub step-by : (s : StretchesModel) (side : ℕ) (a chosen : Window) → IsStepInto s side a chosen → IsStepBy s side a chosen
 step-by s side a chosen step = by step.choice
   where
     counted : AreCountedHalves s a step.low step.high
@@ -256,7 +256,7 @@ step-by s side a chosen step = by step.choice
         })
 
 -- a step before a run to its end
-pub step-to : (s : StretchesModel) (side : ℕ) (a chosen end : Window) → IsStep s side a chosen → IsRunTo s side chosen end → IsRunTo s side a end
+pub step-to : (s : StretchesModel) (side : ℕ) (a chosen end : Window) → IsStepInto s side a chosen → IsRunTo s side chosen end → IsRunTo s side a end
 step-to s side a chosen end step run = record {
   count = suc run.count;
   run = (chosen, step, run.run);
@@ -265,7 +265,7 @@ step-to s side a chosen end step run = record {
   len = omega (arith, (step-by s side a chosen step).len, run.len);
 }
 
-pub run-below : (s : StretchesModel) (side count : ℕ) (a end : Window) → IsCounted s a → IsRun s side count a end → IsBelow s count a end
+pub run-below : (s : StretchesModel) (side count : ℕ) (a end : Window) → IsCounted s a → AreSteps s side count a end → IsBelow s count a end
 run-below s side zero a end is run =
     subst (IsBelow s zero a) (sym run) (record { len = omega arith; number = omega arith; counted = is; smaller = omega arith })
 run-below s side (suc count) a end is run =
@@ -278,8 +278,8 @@ run-below s side (suc count) a end is run =
     let twice : 2 ^ suc count ≡ 2 * 2 ^ count = pow-suc 2 count ∙ omega arith in
     record {
       len = omega arith;
-      number = ap (λ (p : ℕ). number_at s end / p) twice
-          ∙ halved (number_at s end) (2 ^ count) (number_at s a) step.digit (pow_pos count) step.small (rest.number ∙ step.number);
+      number = ap (λ (p : ℕ). window_number s end / p) twice
+          ∙ halved (window_number s end) (2 ^ count) (window_number s a) step.digit (pow_pos count) step.small (rest.number ∙ step.number);
       counted = rest.counted;
       smaller = omega arith;
     }
@@ -287,7 +287,7 @@ run-below s side (suc count) a end is run =
 -- the node from which a run leads to the node of its end
 module _ (s : StretchesModel) (side : ℕ) (fits : side < 2 ^ 32) (end : Window) (node : Node) (made : IsMade s end node) where
   abbrev value : ℕ
-  value = number_at s end
+  value = window_number s end
 
   abbrev node_of : ℕ → Node
   node_of count = path_node side value count node
@@ -296,7 +296,7 @@ module _ (s : StretchesModel) (side : ℕ) (fits : side < 2 ^ 32) (end : Window)
       → IsMade s a (node_of (suc count))
   over-made a count d is same = subst (λ (k : ℕ). IsMade s a (node_over k (claim_above side (claim_of node) count) (node_of count) (LeafNode side))) (sym same) is
 
-  pub run-made : (count : ℕ) (a : Window) → IsCounted s a → IsRun s side count a end → IsMade s a (node_of count)
+  pub run-made : (count : ℕ) (a : Window) → IsCounted s a → AreSteps s side count a end → IsMade s a (node_of count)
   run-made zero a is run = subst (λ (b : Window). IsMade s b node) run made
   run-made (suc count) a is run =
       let step = step-by s side a run.0 run.1 in
@@ -307,14 +307,14 @@ module _ (s : StretchesModel) (side : ℕ) (fits : side < 2 ^ 32) (end : Window)
 
       by : IsBelow s count run.0 end → IsMade s run.0 (node_of count) → IsChoice s side run.1.low run.1.high run.0 → IsMade s a (node_of (suc count))
       by below rest (inl high) =
-          let number = below.number ∙ ap (number_at s) high.0 ∙ halves.halves.high_number in
+          let number = below.number ∙ ap (window_number s) high.0 ∙ halves.halves.high_number in
           over-made a count 1
           (halves-made s a run.1.low run.1.high (LeafNode side) (node_of count) is halves (leaf-made s run.1.low side halves.low_counted high.1 fits)
           (subst (λ (b : Window). IsMade s b (node_of count)) high.0 rest) (claim_above side (claim_of node) count)
           (path-high side fits node made.ascending value count) (above-ascending side fits node made.ascending count))
           (omega arith)
       by below rest (inr low) =
-          let number = below.number ∙ ap (number_at s) low.0 ∙ halves.halves.low_number in
+          let number = below.number ∙ ap (window_number s) low.0 ∙ halves.halves.low_number in
           over-made a count 0
           (halves-made s a run.1.low run.1.high (node_of count) (LeafNode side) is halves (subst (λ (b : Window). IsMade s b (node_of count)) low.0 rest)
           (leaf-made s run.1.high side halves.high_counted low.2 fits) (claim_above side (claim_of node) count)
@@ -351,7 +351,7 @@ module _ (s : StretchesModel) (side : ℕ) (fits : side < 2 ^ 32) (end : Window)
     stop-down : GoesDown zero
     stop-down = let none = made-stop s side end node made stop in record { bits = none.0; last = none.1 }
 
-    pub run-down : (count : ℕ) (a : Window) → IsCounted s a → IsRun s side count a end → GoesDown count
+    pub run-down : (count : ℕ) (a : Window) → IsCounted s a → AreSteps s side count a end → GoesDown count
     run-down zero a is run = stop-down
     run-down (suc count) a is run =
         let step = step-by s side a run.0 run.1 in
@@ -360,10 +360,10 @@ module _ (s : StretchesModel) (side : ℕ) (fits : side < 2 ^ 32) (end : Window)
         by : IsBelow s count run.0 end → IsMade s run.0 (node_of count) → GoesDown count
             → IsChoice s side run.1.low run.1.high run.0 → GoesDown (suc count)
         by below chosen rest (inl high) =
-            let number = below.number ∙ ap (number_at s) high.0 ∙ run.1.halves.halves.high_number in
+            let number = below.number ∙ ap (window_number s) high.0 ∙ run.1.halves.halves.high_number in
             over-down count 1 (omega arith) (omega arith) (λ none. absurd (omega arith)) rest
         by below chosen rest (inr low) =
-            let number = below.number ∙ ap (number_at s) low.0 ∙ run.1.halves.halves.low_number in
+            let number = below.number ∙ ap (window_number s) low.0 ∙ run.1.halves.halves.low_number in
             over-down count 0 (omega arith) (omega arith) (λ none e. low.1 (ap (own_label s) (sym low.0) ∙ sym chosen.own ∙ e)) rest
 
 -- the side label of a run is that of a leaf right below the run's first node

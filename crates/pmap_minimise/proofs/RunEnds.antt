@@ -14,10 +14,10 @@ use Rattle.prefix_keys.specs.declared.version.Version.{Version}
 use Rattle.prefix_keys.proofs.Quotients.{above_first, below_end, half_split, quotient_is}
 use Rattle.pmap_text.specs.Stretches.{HasEveryAddress, HoldsAddress, StretchesModel, first_at, last_at}
 use Rattle.pmap_text.proofs.Ranges.{ends_before, held_order, next_first, ordered_at}
-use Rattle.pmap_text.specs.Windows.{IsBlock, number_at}
+use Rattle.pmap_text.specs.Windows.{IsBlock, window_number}
 use Rattle.pmap_text.specs.declared.stretches.window.Window.{Window}
 use Rattle.pmap_text.proofs.Windows.{are_halves, divided_window, first_number, one_index}
-use Rattle.pmap_minimise.specs.Runs.{AreCountedHalves, HasLabel, IsCounted, IsRun, IsRunTo, IsStop, own_label}
+use Rattle.pmap_minimise.specs.Runs.{AreCountedHalves, HasLabel, IsCounted, AreSteps, IsRunTo, IsStop, own_label}
 use Rattle.prefix_keys.proofs.Groups.{width-le}
 use Rattle.pmap_minimise.proofs.MadeNodes.{block-order, counted-halves, own-is, own-single, run-below, same-window}
 
@@ -100,7 +100,7 @@ pub record IsInside (s : StretchesModel) (side : ℕ) (a : Window) (x y i j : �
 -- the block has the addresses from x to y, and these stretches are at its ends
 pub record IsAround (s : StretchesModel) (x y : ℕ) (b : Window) : Type 0 where
   pub within : b.len ≤ width_of s.version
-  pub block : IsBlock (width_of s.version) b.first b.last b.len (number_at s b)
+  pub block : IsBlock (width_of s.version) b.first b.last b.len (window_number s b)
   pub from : b.first ≤ x
   pub to : y ≤ b.last
   pub start : HoldsAddress s b.first b.from
@@ -137,12 +137,12 @@ module _ (s : StretchesModel) (side : ℕ) (a : Window) (is : IsCounted s a) (x 
     in-half : (c : Window) (count : ℕ) → IsCounted s c → c.first ≤ x → y ≤ c.last → b.len ≡ c.len + suc count → (y ≤ middle_of c) ⊎ (middle_of c < x)
     in-half c count is_c from to len =
         let within = around.within in
-        let halves = are_halves W c.len (number_at s c) c.first c.last (omega arith) is_c.window.block in
+        let halves = are_halves W c.len (window_number s c) c.first c.last (omega arith) is_c.window.block in
         let ordered = inside.ordered in
         let up : W - (c.len + 1) ≡ W - b.len + count = omega arith in
         let at : x / 2 ^ (W - b.len) ≡ y / 2 ^ (W - b.len) =
-        in-block W b.first b.last b.len (number_at s b) x around.block around.from (let le = around.to in omega arith)
-        ∙ sym (in-block W b.first b.last b.len (number_at s b) y around.block (let le = around.from in omega arith) around.to) in
+        in-block W b.first b.last b.len (window_number s b) x around.block around.from (let le = around.to in omega arith)
+        ∙ sym (in-block W b.first b.last b.len (window_number s b) y around.block (let le = around.from in omega arith) around.to) in
         let same : x / 2 ^ (W - (c.len + 1)) ≡ y / 2 ^ (W - (c.len + 1)) =
         ap (λ (n : ℕ). x / 2 ^ n) up ∙ sym (shr-shr x (W - b.len) count) ∙ ap (λ (n : ℕ). n / 2 ^ count) at ∙ shr-shr y (W - b.len) count ∙ ap (λ (n : ℕ). y / 2 ^ n) (sym up) in
         elim (cases_lt (middle_of c) x) [
@@ -160,15 +160,15 @@ module _ (s : StretchesModel) (side : ℕ) (a : Window) (is : IsCounted s a) (x 
         ]
 
     -- the run leads from each block around b to b
-    run-to : (count : ℕ) (c : Window) → IsCounted s c → a.first ≤ c.first → c.last ≤ a.last → c.first ≤ x → y ≤ c.last → b.len ≡ c.len + count → IsRun s side count c b
+    run-to : (count : ℕ) (c : Window) → IsCounted s c → a.first ≤ c.first → c.last ≤ a.last → c.first ≤ x → y ≤ c.last → b.len ≡ c.len + count → AreSteps s side count c b
     run-to zero c is_c first last from to len =
         let same : b.len ≡ c.len = omega arith in
         let ordered = inside.ordered in
         let low = around.from in
         let high = around.to in
-        let number : number_at s b ≡ number_at s c =
-        sym (in-block W b.first b.last b.len (number_at s b) x around.block low (omega arith)) ∙ ap (λ (n : ℕ). x / 2 ^ (W - n)) same
-        ∙ in-block W c.first c.last c.len (number_at s c) x is_c.window.block from (omega arith) in
+        let number : window_number s b ≡ window_number s c =
+        sym (in-block W b.first b.last b.len (window_number s b) x around.block low (omega arith)) ∙ ap (λ (n : ℕ). x / 2 ^ (W - n)) same
+        ∙ in-block W c.first c.last c.len (window_number s c) x is_c.window.block from (omega arith) in
         let first_is : b.first ≡ c.first = around.block.first_is ∙ (λ i. number i * 2 ^ (W - same i)) ∙ sym is_c.window.block.first_is in
         let last_is : b.last ≡ c.last = around.block.last_is ∙ (λ i. (number i + 1) * 2 ^ (W - same i) - 1) ∙ sym is_c.window.block.last_is in
         same-window b c first_is last_is same
@@ -199,8 +199,8 @@ module _ (s : StretchesModel) (side : ℕ) (a : Window) (is : IsCounted s a) (x 
                   absurd (own-other c is_c x i from (omega arith) inside.low inside.low_other (own-is s c single ∙ subst (HasLabel s side) (sym same) has))
             ]
 
-        by : ((d : Window) → IsCounted s d → a.first ≤ d.first → d.last ≤ a.last → d.first ≤ x → y ≤ d.last → b.len ≡ d.len + count → IsRun s side count d b)
-            → (y ≤ middle_of c) ⊎ (middle_of c < x) → IsRun s side (suc count) c b
+        by : ((d : Window) → IsCounted s d → a.first ≤ d.first → d.last ≤ a.last → d.first ≤ x → y ≤ d.last → b.len ≡ d.len + count → AreSteps s side count d b)
+            → (y ≤ middle_of c) ⊎ (middle_of c < x) → AreSteps s side (suc count) c b
         by go (inl low) =
             let some = ends in
             let out = inside.right c.last (omega arith) last in
@@ -337,13 +337,13 @@ module _ (s : StretchesModel) (side : ℕ) (a : Window) (is : IsCounted s a) (x 
       let P : ℕ = 2 ^ host in
       let first' : b.first ≡ x / P * P = first ∙ (λ k. x / 2 ^ level k * 2 ^ level k) in
       let last' : b.last ≡ (x / P + 1) * P - 1 = last ∙ (λ k. (x / 2 ^ level k + 1) * 2 ^ level k - 1) in
-      let number : number_at s b ≡ block_number width b.len x = first_number width b.len _ b.first first in
+      let number : window_number s b ≡ block_number width b.len x = first_number width b.len _ b.first first in
       let low = above_first x P _ (pow_pos host) refl in
       let high = below_end y P _ (pow_pos host) (sym shared.same) in
       let more : ℕ = width - a.len - host in
       let all : width - a.len ≡ host + more = omega arith in
       let nest = nested x host more in
-      let outer : x / 2 ^ (host + more) ≡ number_at s a =
+      let outer : x / 2 ^ (host + more) ≡ window_number s a =
       ap (λ (n : ℕ). x / 2 ^ n) (sym all) ∙ in-block width a.first a.last a.len _ x is.window.block inside.from (let up = inside.to in let ordered = inside.ordered in omega arith) in
       let begun : a.first ≤ b.first = let e = is.window.block.first_is ∙ (λ k. sym outer k * 2 ^ all k) in omega (arith, nest.0) in
       let ended : b.last ≤ a.last = let e = is.window.block.last_is ∙ (λ k. (sym outer k + 1) * 2 ^ all k - 1) in omega (arith, nest.1) in

@@ -5,7 +5,7 @@ use Rattle.pmap_text.specs.Label.{IsLabelTable}
 use Rattle.pmap_text.specs.MapModel.{MapModel}
 use Rattle.pmap_text.specs.Settled.{IsMapOf, divisions}
 use Rattle.pmap_text.specs.Stretches.{AreStretches, StretchesModel, label_at}
-use Rattle.pmap_text.specs.Windows.{AreHalvesOf, IsWindow, number_at}
+use Rattle.pmap_text.specs.Windows.{AreHalvesOf, IsWindow, window_number}
 use Rattle.pmap_text.specs.declared.stretches.window.Window.{Window}
 use Rattle.pmap_text.specs.declared.label.LabelId.{LabelId}
 use Rattle.pmap_text.specs.declared.statement.Statement.{Statement}
@@ -69,16 +69,16 @@ IsChoice s side low high chosen =
     ((chosen ≡ high) × (own_label s low ≡ Some side))
     ⊎ ((chosen ≡ low) × (own_label s low ≢ Some side) × (own_label s high ≡ Some side))
 
-pub record IsStep (s : StretchesModel) (side : ℕ) (a chosen : Window) : Type 0 where
+pub record IsStepInto (s : StretchesModel) (side : ℕ) (a chosen : Window) : Type 0 where
   pub low : Window
   pub high : Window
   pub halves : AreCountedHalves s a low high
   pub choice : IsChoice s side low high chosen
 
 -- a run of `count` steps leads from the block to the end
-abbrev pub IsRun : StretchesModel → ℕ → ℕ → Window → Window → Type 0
-IsRun s side zero a end = end ≡ a
-IsRun s side (suc count) a end = (chosen : Window) × IsStep s side a chosen × IsRun s side count chosen end
+abbrev pub AreSteps : StretchesModel → ℕ → ℕ → Window → Window → Type 0
+AreSteps s side zero a end = end ≡ a
+AreSteps s side (suc count) a end = (chosen : Window) × IsStepInto s side a chosen × AreSteps s side count chosen end
 
 pub record HasNoSide (s : StretchesModel) (side : ℕ) (a : Window) : Type 0 where
   pub low : Window
@@ -93,7 +93,7 @@ IsStop s side a = (a.from ≡ a.to) ⊎ HasNoSide s side a
 -- the whole run of the side label leads from the block to the end
 pub record IsRunTo (s : StretchesModel) (side : ℕ) (a end : Window) : Type 0 where
   pub count : ℕ
-  pub run : IsRun s side count a end
+  pub run : AreSteps s side count a end
   pub stop : IsStop s side end
   pub counted : IsCounted s end
   pub len : end.len ≡ a.len + count
@@ -109,7 +109,7 @@ pub record HasLabelledHalves (s : StretchesModel) (low high : Window) (node : No
 
 -- The node represents the block in each map on the stretches. It costs at most as often as the block is divided.
 pub record IsMade (s : StretchesModel) (a : Window) (node : Node) : Type 0 where
-  pub each : (m : MapModel) → IsMapOn s m → IsMapNode m a.len (number_at s a) (width_of s.version - a.len) node
+  pub each : (m : MapModel) → IsMapOn s m → IsMapNode m a.len (window_number s a) (width_of s.version - a.len) node
   pub few : (ss : List Statement) (default : Option LabelId) → AreStretches ss default s → (claim_of node).cost ≤ divisions s a ss
   pub sound : IsSound node (width_of s.version - a.len)
   pub ascending : IsAscending (2 ^ 32) 0 (claim_of node).labels

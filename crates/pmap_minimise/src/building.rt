@@ -5,7 +5,7 @@ ghost use Rattle.pmap_cert.specs.FormatReading.{ChainLine};
 ghost use Rattle.pmap_cert.specs.Node.{claiming};
 ghost use Rattle.pmap_cert.specs.Paths.{path_to};
 ghost use Rattle.pmap_text.specs.MapModel.{MapModel};
-ghost use Rattle.pmap_text.specs.Windows.{IsWindow, number_at};
+ghost use Rattle.pmap_text.specs.Windows.{IsWindow, window_number};
 ghost use Rattle.pmap_minimise.specs.Built.{AddsExact, AddsInner, AreHalves, IsBuilt, IsBuiltIn, last_claim};
 ghost use Rattle.pmap_minimise.specs.Numbers.{has_number, numbers_of};
 ghost use Rattle.pmap_minimise.specs.Opened.{cost_above};
@@ -140,7 +140,7 @@ fn push_divided(
 fn number_of(stretches: &Stretches, window: &Window) -> u128
     requires window { IsWindow stretches.now window.now }
     requires some { 0 < window.now.len }
-    ensures { result ≡ number_at stretches.now window.now }
+    ensures { result ≡ window_number stretches.now window.now }
 {
     window.first >> (stretches.version().width() - window.len)
 }

@@ -2,7 +2,7 @@
 ghost use Rattle.std.specs.Prelude.{◌≡◌, ◌+◌, ◌^◌, ◌<◌, ◌≤◌, ◌↔◌, IsTrue, MatchOption, Some, length, option_map};
 ghost use Rattle.prefix_keys.specs.Block.{width_of};
 ghost use Rattle.pmap_text.specs.Windows.{IsWindow};
-ghost use Rattle.pmap_minimise.specs.Runs.{HasLabel, IsCounted, IsRunTo, IsStep, IsStop, own_label};
+ghost use Rattle.pmap_minimise.specs.Runs.{HasLabel, IsCounted, IsRunTo, IsStepInto, IsStop, own_label};
 
 use pmap_text::{LabelId, Stretches, Window};
 use prefix_keys::{Addr, Block};
@@ -41,7 +41,7 @@ fn has_side(stretches: &Stretches, window: &Window, side: LabelId) -> bool
 #[inline(always)]
 fn step(stretches: &Stretches, window: &Window, side: LabelId) -> Option<Window>
     requires { IsCounted stretches.now window.now }
-    ensures { MatchOption result (IsStop stretches.now side.0 window.now) (IsStep stretches.now side.0 window.now) }
+    ensures { MatchOption result (IsStop stretches.now side.0 window.now) (IsStepInto stretches.now side.0 window.now) }
 {
     if window.from == window.to {
         return None;

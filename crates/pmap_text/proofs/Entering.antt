@@ -4,7 +4,7 @@ use Rattle.std.proofs.Math.Seq.{take-append_seam}
 use Rattle.std.proofs.lemmas.Bool.{eqb-true}
 use Rattle.std.proofs.lemmas.List.{length-append}
 use Rattle.std.proofs.lemmas.Option.{slice_get_within}
-use Rattle.pmap_text.specs.Inner.{HasDistinctKeys, IsFirstRepeat, Takes, refusal_of, text_read, has_prefix}
+use Rattle.pmap_text.specs.Inner.{HasDistinctKeys, IsFirstRepeat, TakesLine, refusal_of, text_read, has_prefix}
 use Rattle.pmap_text.specs.Reading.{content_line, content_of, lines_of, lines_read, no_lines, Earlier, MapFaultKind, DuplicateBlock, NoMemory, Form}
 use Rattle.pmap_text.specs.ListModel.{Prefix}
 use Rattle.pmap_text.proofs.Filed.{once-front, once-last}
@@ -72,7 +72,7 @@ module _ (form : Form) (text : List ℕ) (limit : ℕ) (old new : Earlier) (numb
       (subst HasDistinctKeys same first.2)
 
   -- one more line, which may have an entry with the block of an earlier one
-  pub read-line : length old.prefixes ≤ limit → Takes old new (content_line form old (content_of line)) → HasReadTo form text limit new (number + 1) after
+  pub read-line : length old.prefixes ≤ limit → TakesLine old new (content_line form old (content_of line)) → HasReadTo form text limit new (number + 1) after
   read-line few taken = elim taken [
     | inl kept ↦ record {
       read = λ once. read-next (Ok new) kept.0 (subst HasDistinctKeys kept.1 once);

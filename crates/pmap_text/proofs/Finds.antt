@@ -49,8 +49,8 @@ find_passes {X} test (y ∷ ys) x e = step (find_passes test ys x) (test y) refl
 -- it comes after elements that don't pass
 pub record IsFoundAt {X : Type 0} (test : X → Bool) (xs : List X) (x : X) : Type 0 where
   pub before : List X
-  pub behind : List X
-  pub list : xs ≡ before ++ x ∷ behind
+  pub following : List X
+  pub list : xs ≡ before ++ x ∷ following
   pub passes : test x ≡ true
   pub fails : All (λ y. test y ≡ false) before
 
@@ -64,7 +64,7 @@ find-place {X} test (y ∷ ys) x e = step (find-place test ys x) (test y) refl e
         let same = same_Some y x e in
         record {
           before = [];
-          behind = ys;
+          following = ys;
           list = ap (λ (z : X). z ∷ ys) same;
           passes = subst (λ (z : X). test z ≡ true) same passes;
           fails = All-nil (λ z. test z ≡ false);
@@ -73,18 +73,18 @@ find-place {X} test (y ∷ ys) x e = step (find-place test ys x) (test y) refl e
         let rest = later e in
         record {
           before = y ∷ rest.before;
-          behind = rest.behind;
+          following = rest.following;
           list = ap (λ (l : List X). y ∷ l) rest.list;
           passes = rest.passes;
           fails = All-cons (λ z. test z ≡ false) y rest.before fails rest.fails;
         }
 
 -- and the first that passes is found
-pub find-first : {X : Type 0} (test : X → Bool) (before behind : List X) (x : X) → All (λ y. test y ≡ false) before → test x ≡ true
-    → find test (before ++ x ∷ behind) ≡ Some x
-find-first test [] behind x none passes = rw passes
-find-first test (y ∷ before) behind x none passes =
-    rw (All-head (λ y. test y ≡ false) y before none) (find-first test before behind x (All-tail (λ y. test y ≡ false) y before none) passes)
+pub find-first : {X : Type 0} (test : X → Bool) (before following : List X) (x : X) → All (λ y. test y ≡ false) before → test x ≡ true
+    → find test (before ++ x ∷ following) ≡ Some x
+find-first test [] following x none passes = rw passes
+find-first test (y ∷ before) following x none passes =
+    rw (All-head (λ y. test y ≡ false) y before none) (find-first test before following x (All-tail (λ y. test y ≡ false) y before none) passes)
 
 -- if none is found, none passes
 pub find-fails : {X : Type 0} (test : X → Bool) (xs : List X) → find test xs ≡ None → All (λ x. test x ≡ false) xs

@@ -8,7 +8,7 @@ use Rattle.std.proofs.lemmas.List.{append_assoc}
 use Rattle.std.proofs.lemmas.List.Elements.{All-append, All-cons, All-contains, All-contains_itself, Contains-append_right}
 use Rattle.std.proofs.lemmas.List.Sorted.{Contains-permutation, IsPermutation-sym}
 use Rattle.prefix_keys.specs.Block.{block_number}
-use Rattle.pmap_text.specs.ListModel.{Prefix, covers, label_at, label_below, CoversAddress, HasSamePrefixes, IsLongestMatch, LabelsBlocksOnce, is_same_prefix}
+use Rattle.pmap_text.specs.ListModel.{Prefix, covers, label_of_length, label_below, CoversAddress, HasSamePrefixes, IsLongestMatch, LabelsBlocksOnce, is_same_prefix}
 use Rattle.pmap_text.specs.MapModel.{Label}
 use Rattle.pmap_text.proofs.Finds.{All-left, All-right, Contains-first, distinct_same, find-fails, find-first, find-place, find_alike, find_none}
 
@@ -37,12 +37,12 @@ covers-false W n a p fails c bits = both_ways (covers W n a p) fails (covers-fro
 -- the entry is the longest of those of fewer than n bits that cover the address, and of equal blocks the first
 record IsLongestBelow (W : ℕ) (ps : List Prefix) (n a : ℕ) (p : Prefix) : Type 0 where
   before : List Prefix
-  behind : List Prefix
-  list : ps ≡ before ++ p ∷ behind
+  following : List Prefix
+  list : ps ≡ before ++ p ∷ following
   short : p.bits < n
   covers : CoversAddress W a p
   earlier : All (λ r. CoversAddress W a r → r.bits < n → r.bits < p.bits) before
-  later : All (λ r. CoversAddress W a r → r.bits < n → r.bits ≤ p.bits) behind
+  later : All (λ r. CoversAddress W a r → r.bits < n → r.bits ≤ p.bits) following
 
 below : (n b : ℕ) → b < suc n → (b ≡ n → ⊥) → b < n
 below n b short other = omega arith
@@ -69,7 +69,7 @@ longest-below W ps (suc n) a fits =
           p,
           record {
             before = at.before;
-            behind = at.behind;
+            following = at.following;
             list = at.list;
             short = omega (arith, here.0);
             covers = here.1;
@@ -88,20 +88,20 @@ longest-below W ps (suc n) a fits =
         let p = ih.0 in
         let so_far = ih.1 in
         let fails = subst (λ (rs : List Prefix). All (λ r. covers W n a r ≡ false) rs) so_far.list (find-fails (covers W n a) ps found) in
-        let before = All-left (λ r. covers W n a r ≡ false) so_far.before (p ∷ so_far.behind) fails in
-        let behind = All-right (λ r. covers W n a r ≡ false) (so_far.before ++ p ∷ []) so_far.behind
-        (subst (λ (rs : List Prefix). All (λ r. covers W n a r ≡ false) rs) (sym (append_assoc so_far.before (p ∷ []) so_far.behind)) fails) in (
+        let before = All-left (λ r. covers W n a r ≡ false) so_far.before (p ∷ so_far.following) fails in
+        let following = All-right (λ r. covers W n a r ≡ false) (so_far.before ++ p ∷ []) so_far.following
+        (subst (λ (rs : List Prefix). All (λ r. covers W n a r ≡ false) rs) (sym (append_assoc so_far.before (p ∷ []) so_far.following)) fails) in (
           p,
           record {
             before = so_far.before;
-            behind = so_far.behind;
+            following = so_far.following;
             list = so_far.list;
             short = omega (arith, so_far.short);
             covers = so_far.covers;
             earlier = λ k d within c short. so_far.earlier k d within c
                 (below n (get_or so_far.before k d).bits short (covers-false W n a (get_or so_far.before k d) (before k d within) c));
             later = λ k d within c short. so_far.later k d within c
-                (below n (get_or so_far.behind k d).bits short (covers-false W n a (get_or so_far.behind k d) (behind k d within) c));
+                (below n (get_or so_far.following k d).bits short (covers-false W n a (get_or so_far.following k d) (following k d within) c));
           },
           ih.2,
         )
@@ -123,7 +123,7 @@ longest-match W ps a = by (label_below W ps (suc W) a) (longest-below W ps (suc 
           some.0,
           record {
             before = longest.before;
-            behind = longest.behind;
+            following = longest.following;
             list = longest.list;
             covers = longest.covers;
             earlier = λ k d within c. longest.earlier k d within c (omega (arith, c.fits));
@@ -134,7 +134,7 @@ longest-match W ps a = by (label_below W ps (suc W) a) (longest-below W ps (suc 
 
 -- an entry that is longer than those that cover the address doesn't cover it
 pub label_at-past : (W : ℕ) (ps : List Prefix) (a n k : ℕ) → k ≤ W → n < k →
-    All (λ r. CoversAddress W a r → r.bits ≤ n) ps → label_at W ps k a ≡ None
+    All (λ r. CoversAddress W a r → r.bits ≤ n) ps → label_of_length W ps k a ≡ None
 label_at-past W ps a n k fits past most =
     ap (option_map (λ (p : Prefix). p.label))
     (find_none (covers W k a) ps
@@ -146,14 +146,14 @@ none_longer : (W : ℕ) (ps : List Prefix) (a : ℕ) (p : Prefix) → IsLongestM
     All (λ r. CoversAddress W a r → r.bits ≤ p.bits) ps
 none_longer W ps a p longest =
     subst (λ (rs : List Prefix). All (λ r. CoversAddress W a r → r.bits ≤ p.bits) rs) (sym longest.list)
-    (All-append (λ r. CoversAddress W a r → r.bits ≤ p.bits) longest.before (p ∷ longest.behind)
+    (All-append (λ r. CoversAddress W a r → r.bits ≤ p.bits) longest.before (p ∷ longest.following)
     (λ k d within c. omega (arith, longest.earlier k d within c))
-    (All-cons (λ r. CoversAddress W a r → r.bits ≤ p.bits) p longest.behind (λ c. le_refl p.bits) longest.later))
+    (All-cons (λ r. CoversAddress W a r → r.bits ≤ p.bits) p longest.following (λ c. le_refl p.bits) longest.later))
 
 Contains-longest : (W : ℕ) (ps : List Prefix) (a : ℕ) (p : Prefix) → IsLongestMatch W ps a p → Contains ps p
 Contains-longest W ps a p longest =
     subst (λ (rs : List Prefix). Contains rs p) (sym longest.list)
-    (Contains-append_right longest.before (p ∷ longest.behind) p (Contains-first p longest.behind))
+    (Contains-append_right longest.before (p ∷ longest.following) p (Contains-first p longest.following))
 
 -- so it gives the address its label
 label_below-longest : (W : ℕ) (ps : List Prefix) (a : ℕ) (p : Prefix) → IsLongestMatch W ps a p →
@@ -162,14 +162,14 @@ label_below-longest W ps a p longest most zero longer fits = absurd (omega (arit
 label_below-longest W ps a p longest most (suc k) longer fits =
     elim (cases_eq p.bits k) [
       | inl same ↦
-          let found : find (covers W p.bits a) (longest.before ++ p ∷ longest.behind) ≡ Some p =
-          find-first (covers W p.bits a) longest.before longest.behind p
+          let found : find (covers W p.bits a) (longest.before ++ p ∷ longest.following) ≡ Some p =
+          find-first (covers W p.bits a) longest.before longest.following p
           (λ i d within. false_from_ne_true (covers W p.bits a (get_or longest.before i d))
           (λ h. let c = covers-true W p.bits a (get_or longest.before i d) (longest.covers).fits h in
           absurd (omega (arith, c.0, longest.earlier i d within c.1))))
           (covers-from W p.bits a p longest.covers refl) in
-          let here : label_at W ps p.bits a ≡ Some p.label =
-          ap (λ (rs : List Prefix). label_at W rs p.bits a) longest.list ∙ ap (option_map (λ (r : Prefix). r.label)) found in
+          let here : label_of_length W ps p.bits a ≡ Some p.label =
+          ap (λ (rs : List Prefix). label_of_length W rs p.bits a) longest.list ∙ ap (option_map (λ (r : Prefix). r.label)) found in
           rw (← same, here)
       | inr other ↦
           let past : p.bits < k = omega (arith, longer, other) in
@@ -192,7 +192,7 @@ label_below-top W ps a p has covered most alike zero longer fits = absurd (omega
 label_below-top W ps a p has covered most alike (suc k) longer fits =
     elim (cases_eq p.bits k) [
       | inl same ↦
-          let here : label_at W ps p.bits a ≡ Some p.label =
+          let here : label_of_length W ps p.bits a ≡ Some p.label =
           find_alike (λ (r : Prefix). r.label) (covers W p.bits a) ps p has (covers-from W p.bits a p covered refl)
           (λ r among h. let c = covers-true W p.bits a r covered.fits h in alike r among c.1 c.0) in
           rw (← same, here)

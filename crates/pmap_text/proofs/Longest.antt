@@ -6,7 +6,7 @@ use Rattle.std.proofs.lemmas.Bool.{and_from, and_parts, both_ways, cases_eq, cas
 use Rattle.std.proofs.lemmas.Option.{none-some, same_Some}
 use Rattle.std.proofs.lemmas.List.Elements.{All-contains, All-weaker}
 use Rattle.prefix_keys.specs.Block.{block_number, first_of, last_of}
-use Rattle.pmap_text.specs.ListModel.{Prefix, covers, label_at, label_below, lies_inside}
+use Rattle.pmap_text.specs.ListModel.{Prefix, covers, label_of_length, label_below, lies_inside}
 use Rattle.pmap_text.specs.MapModel.{Label, meets, spans_all}
 use Rattle.pmap_text.proofs.Finds.{filter_none, find_alike, find_none}
 use Rattle.pmap_text.proofs.Blocks.{address-between, address-first, address-last}
@@ -78,7 +78,7 @@ top_short W n q p fits h =
 
 -- if no entry meets the block of an address, none covers the address
 uncovered : (W : ℕ) (ps : List Prefix) (n q a : ℕ) → q ≡ block_number W n a → All (λ p. meets W n q (painted W p) ≡ false) ps → (k : ℕ)
-    → label_at W ps k a ≡ None
+    → label_of_length W ps k a ≡ None
 uncovered W ps n q a inside none k =
     ap (option_map (λ (p : Prefix). p.label))
     (find_none (covers W k a) ps (All-weaker (λ p. meets W n q (painted W p) ≡ false) (λ p. covers W k a p ≡ false)
@@ -93,7 +93,7 @@ below_uncovered W ps n q a inside none (suc k) =
 
 -- if an entry is on top, none that is longer covers the address, and those of its length have its label
 beyond_top : (W : ℕ) (ps : List Prefix) (n q a : ℕ) (top : Prefix) → q ≡ block_number W n a → IsTop W ps n q top → (k : ℕ) → top.bits < k
-    → label_at W ps k a ≡ None
+    → label_of_length W ps k a ≡ None
 beyond_top W ps n q a top inside is k longer =
     ap (option_map (λ (p : Prefix). p.label))
     (find_none (covers W k a) ps (All-weaker (λ p. meets W n q (painted W p) ≡ true → p.bits ≤ top.bits) (λ p. covers W k a p ≡ false)
@@ -101,7 +101,7 @@ beyond_top W ps n q a top inside is k longer =
     (λ h. absurd (omega (arith, longer, most (covers_meets W n q k a p inside h), (covers_parts W k a p h).0)))) ps is.longest))
 
 at_top : (W : ℕ) (ps : List Prefix) (n q a : ℕ) (top : Prefix) → AreBlocks W ps → q ≡ block_number W n a → IsTop W ps n q top
-    → label_at W ps top.bits a ≡ Some top.label
+    → label_of_length W ps top.bits a ≡ Some top.label
 at_top W ps n q a top blocks inside is =
     find_alike (λ (p : Prefix). p.label) (covers W top.bits a) ps top is.listed (top_covers W n q a top is.covers inside)
     (λ p listed h.

@@ -7,7 +7,7 @@ use Rattle.pmap_text.specs.MapModel.{IsSettled, MapModel, last_such, meets}
 use Rattle.pmap_text.specs.MapText.{map_of, mapping_of, text_at, Statement}
 use Rattle.pmap_text.specs.Settled.{IsMapOf, divisions}
 use Rattle.pmap_text.specs.Stretches.{AreStretches, HasStretch, LabelId, StretchesModel, first_at, label_at, label_seen, last_at, mappings_of}
-use Rattle.pmap_text.specs.Windows.{AreHalvesOf, IsWindow, number_at}
+use Rattle.pmap_text.specs.Windows.{AreHalvesOf, IsWindow, window_number}
 use Rattle.pmap_text.specs.declared.map_text.MapText.{MapText}
 use Rattle.pmap_text.specs.declared.stretches.window.Window.{Window}
 use Rattle.pmap_text.proofs.BlockHalves.{has_halves}
@@ -64,21 +64,21 @@ stretch_labelled W ss default first last label has some = rw has.label_is (label
 
 module _ (s : StretchesModel) (w : Window) (is : IsWindow s w) (ss : List Statement) (default : Option LabelId) (are : AreStretches ss default s) where
   -- a window in one stretch is settled with its label
-  pub window_settled : w.from ≡ w.to → (m : MapModel) → IsMapOf (width_of s.version) ss default m → Settles m (label_at s w.from) w.len (number_at s w)
+  pub window_settled : w.from ≡ w.to → (m : MapModel) → IsMapOf (width_of s.version) ss default m → Settles m (label_at s w.from) w.len (window_number s w)
   window_settled same m map =
       let block = is.block in
       let last : last_at s w.from ≡ last_at s w.to = ap (last_at s) same in
-      stretch_settles (width_of s.version) w.len (number_at s w) ss default (first_at s w.from) (last_at s w.from) (label_at s w.from)
+      stretch_settles (width_of s.version) w.len (window_number s w) ss default (first_at s w.from) (last_at s w.from) (label_at s w.from)
       (are.each w.from is.start.index) m map (omega (arith, block.first_is, is.start.from)) (omega (arith, block.last_is, is.end.to, last))
 
   module _ (other : w.from ≡ w.to → ⊥) where
     pub window_divided : w.len < width_of s.version
     window_divided =
         let beyond = window_beyond s are.every w is other in
-        has_halves (width_of s.version) w.len (number_at s w) is.within (omega (arith, is.block.first_is, is.block.last_is, is.start.to, beyond))
+        has_halves (width_of s.version) w.len (window_number s w) is.within (omega (arith, is.block.first_is, is.block.last_is, is.start.to, beyond))
 
     -- any other is not settled
-    pub window_unsettled : IsUnsettled (width_of s.version) ss w.len (number_at s w)
+    pub window_unsettled : IsUnsettled (width_of s.version) ss w.len (window_number s w)
     window_unsettled = λ table x.
         let m : MapModel = record { version = s.version; name = None; fallback = x; mappings = mappings_of table ss; table = table } in
         let first = is.block.first_is in
@@ -86,7 +86,7 @@ module _ (s : StretchesModel) (w : Window) (is : IsWindow s w) (ss : List Statem
         let beyond = window_beyond s are.every w is other in
         let fits = (are.each w.to is.end.index).within in
         let has = are.each w.from is.start.index in
-        stretch_split m w.len (number_at s w) (first_at s w.from) (last_at s w.from) (option_map (mapping_of table) has.top) (has.stretch m refl refl)
+        stretch_split m w.len (window_number s w) (first_at s w.from) (last_at s w.from) (option_map (mapping_of table) has.top) (has.stretch m refl refl)
         (omega (arith, first, is.start.from)) (omega (arith, first, is.start.to)) (omega (arith, last, beyond)) (omega (arith, last, is.end.to, fits))
 
     -- its halves are divided less often together
@@ -94,4 +94,4 @@ module _ (s : StretchesModel) (w : Window) (is : IsWindow s w) (ss : List Statem
     window_most low high halves =
         let next : w.len + 1 ≡ suc w.len = omega arith in
         rw (halves.low_number, halves.high_number, halves.low_len, halves.high_len, next)
-        (divided-most (width_of s.version) ss w.len (number_at s w) window_divided window_unsettled)
+        (divided-most (width_of s.version) ss w.len (window_number s w) window_divided window_unsettled)

@@ -3,7 +3,7 @@ use Rattle.std.proofs.Common.{◌≡◌, ℕ, suc, ◌+◌, ◌-◌, ◌*◌, �
 use Rattle.std.proofs.Math.Nat.{zero-div}
 use Rattle.prefix_keys.specs.Block.{block_number, first_of, last_of, width_of}
 use Rattle.pmap_text.specs.Stretches.{HasEveryAddress, HoldsAddress, StretchesModel, count_begun, last_at}
-use Rattle.pmap_text.specs.Windows.{AreHalvesOf, IsBlock, IsWindow, number_at}
+use Rattle.pmap_text.specs.Windows.{AreHalvesOf, IsBlock, IsWindow, window_number}
 use Rattle.pmap_text.specs.declared.stretches.window.Window.{Window}
 use Rattle.pmap_text.proofs.BlockHalves.{halves_ends, has_halves}
 use Rattle.pmap_text.proofs.Ranges.{held_apart, held_fits, held_index, held_order, holder, last_end, ordered_at}
@@ -46,7 +46,7 @@ module _ (s : StretchesModel) (every : HasEveryAddress s) where
       let W = width_of s.version in
       let all = last_end s w.to (omega arith) in
       let whole : W - 0 ≡ W = omega arith in
-      let number : number_at s w ≡ 0 = ap (λ (a : ℕ). block_number W w.len a) first ∙ zero-div (2 ^ (W - w.len)) in
+      let number : window_number s w ≡ 0 = ap (λ (a : ℕ). block_number W w.len a) first ∙ zero-div (2 ^ (W - w.len)) in
       let zero = every.zero in
       let inside : w.to < length s.firsts = omega arith in
       let end = ordered_at s every w.to inside in
@@ -62,7 +62,7 @@ module _ (s : StretchesModel) (every : HasEveryAddress s) where
     pub ordered_window : w.first ≤ w.last
     ordered_window =
         let block = is.block in
-        let some = block_some (width_of s.version) w.len (number_at s w) in
+        let some = block_some (width_of s.version) w.len (window_number s w) in
         omega arith
 
     -- a window with two stretches extends beyond the first
@@ -80,7 +80,7 @@ module _ (s : StretchesModel) (every : HasEveryAddress s) where
         (record { first = middle + 1; last = w.last; len = w.len + 1; from = next; to = w.to })
     halves_windows at next some low_end ordered high_start =
         let W = width_of s.version in
-        let q = number_at s w in
+        let q = window_number s w in
         let block = is.block in
         let below = has_halves W w.len q is.within (let first_is = block.first_is in let last_is = block.last_is in omega arith) in
         let halves = are_halves W w.len q w.first w.last below block in

@@ -239,8 +239,8 @@ IsFirstRepeat ps (Some i) =
     (p : Prefix) × (slice_get ps i ≡ Some p) × HasDistinctKeys (take i ps) × (has_prefix (take i ps) p.start p.bits ≡ true)
 
 -- the line added no entry, or one, which is refused if its block has one already
-abbrev pub Takes : Earlier → Earlier → Result Earlier MapFaultKind → Type 0
-Takes old new line =
+abbrev pub TakesLine : Earlier → Earlier → Result Earlier MapFaultKind → Type 0
+TakesLine old new line =
     ((line ≡ Ok new) × (new.prefixes ≡ old.prefixes))
     ⊎ ((p : Prefix) × (new.prefixes ≡ old.prefixes ++ p ∷ [])
     × (line ≡ (if has_prefix old.prefixes p.start p.bits then Err DuplicateBlock else Ok new)))
@@ -251,8 +251,8 @@ refusal_of (Ok new) = NoMemory
 refusal_of (Err kind) = kind
 
 -- the result of reading a line: it is taken, or refused, and then no entry is added
-pub record Reads (old new : Earlier) (line : Result Earlier MapFaultKind) (result : Result (Unit {0}) MapFaultKind) : Type 0 where
-  pub ok : OnOk result (Takes old new line)
+pub record ReadsLine (old new : Earlier) (line : Result Earlier MapFaultKind) (result : Result (Unit {0}) MapFaultKind) : Type 0 where
+  pub ok : OnOk result (TakesLine old new line)
   pub err : IfErr result (λ kind. kind ≡ refusal_of line)
   pub kept : OnErr result (new.prefixes ≡ old.prefixes)
 

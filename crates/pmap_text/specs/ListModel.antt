@@ -44,8 +44,8 @@ lies_inside W n q p = nat_lt n p.bits && block_number W n p.start == q
 -- The terms of the laws about prefix lists: the longest entry that covers an address, and lists with the same entries.
 
 -- the label of the first entry of n bits that covers the address
-abbrev pub label_at : ℕ → List Prefix → ℕ → ℕ → Option Label
-label_at W ps n a = option_map (λ p. p.label) (find (covers W n a) ps)
+abbrev pub label_of_length : ℕ → List Prefix → ℕ → ℕ → Option Label
+label_of_length W ps n a = option_map (λ p. p.label) (find (covers W n a) ps)
 
 -- among addresses of W bits, the entry's block covers the address
 pub record CoversAddress (W a : ℕ) (p : Prefix) : Type 0 where
@@ -55,11 +55,11 @@ pub record CoversAddress (W a : ℕ) (p : Prefix) : Type 0 where
 -- of those that cover the address, the entry is the longest, and of equal blocks the first
 pub record IsLongestMatch (W : ℕ) (ps : List Prefix) (a : ℕ) (p : Prefix) : Type 0 where
   pub before : List Prefix
-  pub behind : List Prefix
-  pub list : ps ≡ before ++ p ∷ behind
+  pub following : List Prefix
+  pub list : ps ≡ before ++ p ∷ following
   pub covers : CoversAddress W a p
   pub earlier : All (λ r. CoversAddress W a r → r.bits < p.bits) before
-  pub later : All (λ r. CoversAddress W a r → r.bits ≤ p.bits) behind
+  pub later : All (λ r. CoversAddress W a r → r.bits ≤ p.bits) following
 
 -- two entries have the same block
 abbrev pub is_same_prefix : ℕ → Prefix → Prefix → Bool

@@ -4,7 +4,7 @@ use Rattle.prefix_keys.specs.Block.{first_of, last_of, width_of}
 use Rattle.pmap_text.specs.MapModel.{Mapping, MapModel}
 use Rattle.pmap_text.specs.MapText.{text_at, Statement}
 use Rattle.pmap_text.specs.Stretches.{LabelId, StretchesModel, mappings_of}
-use Rattle.pmap_text.specs.Windows.{number_at}
+use Rattle.pmap_text.specs.Windows.{window_number}
 use Rattle.pmap_text.specs.declared.stretches.window.Window.{Window}
 
 -- Which blocks statements settle, and how often they divide a block.
@@ -35,4 +35,4 @@ ends_inside W ss n q = ends (first_of W n q) (last_of W n q) (mappings_of [] ss)
 
 -- the most often that the block of a window is divided
 abbrev pub divisions : StretchesModel → Window → List Statement → ℕ
-divisions s w ss = ends_inside (width_of s.version) ss w.len (number_at s w) * (width_of s.version - w.len)
+divisions s w ss = ends_inside (width_of s.version) ss w.len (window_number s w) * (width_of s.version - w.len)

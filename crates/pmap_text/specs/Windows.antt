@@ -11,13 +11,13 @@ pub record IsBlock (W first last n q : ℕ) : Type 0 where
   pub last_is : last ≡ last_of W n q
 
 -- the number of a window's block among the blocks of its size
-abbrev pub number_at : StretchesModel → Window → ℕ
-number_at s w = block_number (width_of s.version) w.len w.first
+abbrev pub window_number : StretchesModel → Window → ℕ
+window_number s w = block_number (width_of s.version) w.len w.first
 
 -- the window is a block with these addresses, and these stretches have the first and the last one
 pub record IsWindow (s : StretchesModel) (w : Window) : Type 0 where
   pub within : w.len ≤ width_of s.version
-  pub block : IsBlock (width_of s.version) w.first w.last w.len (number_at s w)
+  pub block : IsBlock (width_of s.version) w.first w.last w.len (window_number s w)
   pub ordered : w.from ≤ w.to
   pub start : HoldsAddress s w.first w.from
   pub end : HoldsAddress s w.last w.to
@@ -32,5 +32,5 @@ pub record AreHalvesOf (s : StretchesModel) (w low high : Window) : Type 0 where
   pub high_last : high.last ≡ w.last
   pub low_len : low.len ≡ w.len + 1
   pub high_len : high.len ≡ w.len + 1
-  pub low_number : number_at s low ≡ 2 * number_at s w
-  pub high_number : number_at s high ≡ 2 * number_at s w + 1
+  pub low_number : window_number s low ≡ 2 * window_number s w
+  pub high_number : window_number s high ≡ 2 * window_number s w + 1

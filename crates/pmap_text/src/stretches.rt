@@ -100,7 +100,10 @@ fn vec_with<T: Drop>(alloc: Global, value: T, most: usize) -> Result<Vec<T>, All
 
 impl Stretches {
     /// Returns the stretches of a map, with neighbours joined as `J` says.
-    pub(crate) fn swept_of_map<J: Joining>(alloc: Global, map: &MapText) -> Result<Stretches, AllocError>
+    pub(crate) fn swept_of_map<J: Joining>(
+        alloc: Global,
+        map: &MapText,
+    ) -> Result<Stretches, AllocError>
         ensures version { IfOk result (λ s. s.version ≡ map.now.version) }
         ensures stretches { IfOk result (AreSwept J.joins map.now.statements (Some map.now.default)) }
         ensures known { IfOk result (AreLabelsBelow (length map.now.labels)) }
@@ -132,7 +135,10 @@ impl Stretches {
     }
 
     /// Returns the stretches of a prefix list, with neighbours joined as `J` says.
-    pub(crate) fn swept_of_list<J: Joining>(alloc: Global, list: &PrefixList) -> Result<Stretches, AllocError>
+    pub(crate) fn swept_of_list<J: Joining>(
+        alloc: Global,
+        list: &PrefixList,
+    ) -> Result<Stretches, AllocError>
         ensures version { IfOk result (λ s. s.version ≡ list.now.version) }
         ensures stretches { IfOk result (λ s. (ss : List Statement) ×
             AreShortestFirst list.now.entries ss × AreSwept J.joins ss None s) }

@@ -35,10 +35,10 @@ pub groups_of-more : (dotted : Bool) (piece : List ℕ) (pieces : List (List ℕ
 groups_of-more dotted piece [] h = absurd (omega arith)
 groups_of-more dotted piece (next ∷ pieces) h = refl
 
-pub text_groups-more : (dotted : Bool) (text piece behind : List ℕ) → piece ≡ before_first is_colon text →
-    behind ≡ after_first is_colon text → length piece ≢ length text →
-    text_groups dotted text ≡ onto_groups (hex_group piece) (text_groups dotted behind)
-text_groups-more dotted text piece behind front back h =
+pub text_groups-more : (dotted : Bool) (text piece following : List ℕ) → piece ≡ before_first is_colon text →
+    following ≡ after_first is_colon text → length piece ≢ length text →
+    text_groups dotted text ≡ onto_groups (hex_group piece) (text_groups dotted following)
+text_groups-more dotted text piece following front back h =
     rw (front, back)
     (ap (groups_of_pieces dotted) (slice_split_first is_colon text 0 (some_colon text (rw front at h)))
     ∙ groups_of-more dotted (before_first is_colon text) (slice_split is_colon (after_first is_colon text))
@@ -56,26 +56,26 @@ more-full c n g None h = refl
 more-full c n g (Some groups) h = grind (arith, nat_tests)
 
 -- the groups of a text after other groups, by its first piece
-pub turn-none : (dotted : Bool) (text piece behind : List ℕ) (c n : ℕ) → piece ≡ before_first is_colon text →
-    behind ≡ after_first is_colon text → length piece ≢ length text → None ≡ hex_group piece →
+pub turn-none : (dotted : Bool) (text piece following : List ℕ) (c n : ℕ) → piece ≡ before_first is_colon text →
+    following ≡ after_first is_colon text → length piece ≢ length text → None ≡ hex_group piece →
     more_groups c n (text_groups dotted text) ≡ None
-turn-none dotted text piece behind c n front back h none =
-    ap (more_groups c n) (text_groups-more dotted text piece behind front back h)
-    ∙ ap (λ x. more_groups c n (onto_groups x (text_groups dotted behind))) (sym none)
+turn-none dotted text piece following c n front back h none =
+    ap (more_groups c n) (text_groups-more dotted text piece following front back h)
+    ∙ ap (λ x. more_groups c n (onto_groups x (text_groups dotted following))) (sym none)
 
-pub turn-full : (dotted : Bool) (text piece behind : List ℕ) (c n g : ℕ) → piece ≡ before_first is_colon text →
-    behind ≡ after_first is_colon text → length piece ≢ length text → Some g ≡ hex_group piece →
+pub turn-full : (dotted : Bool) (text piece following : List ℕ) (c n g : ℕ) → piece ≡ before_first is_colon text →
+    following ≡ after_first is_colon text → length piece ≢ length text → Some g ≡ hex_group piece →
     None ≡ more_groups c n (Some (g ∷ [])) → more_groups c n (text_groups dotted text) ≡ None
-turn-full dotted text piece behind c n g front back h some full =
-    ap (more_groups c n) (text_groups-more dotted text piece behind front back h)
-    ∙ ap (λ x. more_groups c n (onto_groups x (text_groups dotted behind))) (sym some)
-    ∙ more-full c n g (text_groups dotted behind) full
+turn-full dotted text piece following c n g front back h some full =
+    ap (more_groups c n) (text_groups-more dotted text piece following front back h)
+    ∙ ap (λ x. more_groups c n (onto_groups x (text_groups dotted following))) (sym some)
+    ∙ more-full c n g (text_groups dotted following) full
 
-pub turn-next : (dotted : Bool) (text piece behind : List ℕ) (c n g c' n' : ℕ) → piece ≡ before_first is_colon text →
-    behind ≡ after_first is_colon text → length piece ≢ length text → Some g ≡ hex_group piece →
+pub turn-next : (dotted : Bool) (text piece following : List ℕ) (c n g c' n' : ℕ) → piece ≡ before_first is_colon text →
+    following ≡ after_first is_colon text → length piece ≢ length text → Some g ≡ hex_group piece →
     Some (c', n') ≡ more_groups c n (Some (g ∷ [])) →
-    more_groups c n (text_groups dotted text) ≡ more_groups c' n' (text_groups dotted behind)
-turn-next dotted text piece behind c n g c' n' front back h some next =
-    ap (more_groups c n) (text_groups-more dotted text piece behind front back h)
-    ∙ ap (λ x. more_groups c n (onto_groups x (text_groups dotted behind))) (sym some)
-    ∙ more-next c n g c' n' (text_groups dotted behind) next
+    more_groups c n (text_groups dotted text) ≡ more_groups c' n' (text_groups dotted following)
+turn-next dotted text piece following c n g c' n' front back h some next =
+    ap (more_groups c n) (text_groups-more dotted text piece following front back h)
+    ∙ ap (λ x. more_groups c n (onto_groups x (text_groups dotted following))) (sym some)
+    ∙ more-next c n g c' n' (text_groups dotted following) next

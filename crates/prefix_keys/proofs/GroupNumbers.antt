@@ -29,23 +29,23 @@ bits-within c h = pow-le-pow_right {n = 2} (omega arith) {i = 16 * c} {j = 128} 
 times-more : (n g p q : ℕ) → q ≡ p * 65536 → (n * 65536 + g) * p ≡ n * q + g * p
 times-more n g p q e = rw e (omega arith)
 
-pub groups-behind : (n : ℕ) (groups : List ℕ) → fold next_step n groups ≡ n * 2 ^ (16 * length groups) + groups_number groups
-groups-behind n [] = omega arith
-groups-behind n (g ∷ groups) =
+pub groups-following : (n : ℕ) (groups : List ℕ) → fold next_step n groups ≡ n * 2 ^ (16 * length groups) + groups_number groups
+groups-following n [] = omega arith
+groups-following n (g ∷ groups) =
     let p : ℕ = 2 ^ (16 * length groups) in
     let more : 2 ^ (16 * length (g ∷ groups)) ≡ p * 65536 =
     ap (λ k. 2 ^ (16 * k)) (suc-eq-add-one (length groups)) ∙ bits-more (length groups) in
     let here : fold next_step (n * 65536 + g) groups ≡ (n * 65536 + g) * p + groups_number groups =
-    groups-behind (n * 65536 + g) groups in
+    groups-following (n * 65536 + g) groups in
     let first : fold next_step (0 * 65536 + g) groups ≡ (0 * 65536 + g) * p + groups_number groups =
-    groups-behind (0 * 65536 + g) groups in
+    groups-following (0 * 65536 + g) groups in
     let split : (n * 65536 + g) * p ≡ n * 2 ^ (16 * length (g ∷ groups)) + g * p = times-more n g p _ more in
     omega arith
 
 -- leading groups of zero don't change the number
-pub zeros-behind : (k : ℕ) (groups : List ℕ) → groups_number (replicate k 0 ++ groups) ≡ groups_number groups
-zeros-behind zero groups = refl
-zeros-behind (suc k) groups = zeros-behind k groups
+pub zeros-following : (k : ℕ) (groups : List ℕ) → groups_number (replicate k 0 ++ groups) ≡ groups_number groups
+zeros-following zero groups = refl
+zeros-following (suc k) groups = zeros-following k groups
 
 -- groups with zeros between
 pub number-between : (front back : List ℕ) (k : ℕ) →
@@ -54,9 +54,9 @@ pub number-between : (front back : List ℕ) (k : ℕ) →
 number-between front back k =
     let e : length (replicate k 0 ++ back) ≡ k + length back = omega (arith, length-append (replicate k 0) back, length-replicate {A = ℕ} k 0) in
     fold-append next_step 0 front (replicate k 0 ++ back)
-    ∙ groups-behind (groups_number front) (replicate k 0 ++ back)
+    ∙ groups-following (groups_number front) (replicate k 0 ++ back)
     ∙ ap (λ n. groups_number front * 2 ^ (16 * n) + groups_number (replicate k 0 ++ back)) e
-    ∙ ap (λ n. groups_number front * 2 ^ (16 * (k + length back)) + n) (zeros-behind k back)
+    ∙ ap (λ n. groups_number front * 2 ^ (16 * (k + length back)) + n) (zeros-following k back)
 
 -- the count and the number of at most eight groups
 pub counted-count : (groups : List ℕ) (c n : ℕ) → Some (c, n) ≡ more_groups 0 0 (Some groups) → c ≡ length groups

@@ -5,7 +5,7 @@ use Rattle.std.proofs.lemmas.Bool.{and_from, and_right, cond-true, cond-false, c
 use Rattle.std.proofs.lemmas.List.{append_assoc, append-nil, length-append}
 use Rattle.std.proofs.lemmas.List.Folds.{list_all-append}
 use Rattle.std.proofs.lemmas.List.Splits.{slice_split_at, slice_split_none, length-slice_split}
-use Rattle.prefix_keys.specs.Inner.{BeginsWith, BeginsWithSide, behind, is_colon_byte, more_groups, colon_address, last_groups, text_groups}
+use Rattle.prefix_keys.specs.Inner.{BeginsWith, BeginsWithSide, following, is_colon_byte, more_groups, colon_address, last_groups, text_groups}
 use Rattle.std.specs.Char.{is_ascii_hexdigit}
 use Rattle.prefix_keys.specs.Text.{around_gap, around_address, groups_of_pieces, hex_digit_value, hex_group, side_groups, dotted_address}
 use Rattle.prefix_keys.proofs.ColonPieces.{is_colon, groups_of-more, more-next, onto_groups}
@@ -13,7 +13,7 @@ use Rattle.prefix_keys.proofs.Gaps.{address-around}
 use Rattle.prefix_keys.proofs.GroupNumbers.{gap-some, whole-some, whole_address}
 use Rattle.prefix_keys.proofs.Bytes.{all-weaker, apart, each-fails, lacks, none-passes}
 use Rattle.prefix_keys.proofs.Printed.{Lacks}
-use Rattle.prefix_keys.proofs.PrintedGaps.{around-piece, behind-behind, behind-nil, colon-begins, skip}
+use Rattle.prefix_keys.proofs.PrintedGaps.{around-piece, following-following, following-nil, colon-begins, skip}
 
 -- a group consists of one or more hexadecimal digits
 pub group-digits : (text : List ℕ) (g : ℕ) → hex_group text ≡ Some g → list_all is_ascii_hexdigit text ≡ true
@@ -59,7 +59,7 @@ pub record HasRead (text rest : List ℕ) (count number : ℕ) : Type 0 where
   pub whole : text ≡ done ++ rest
   pub bytes : list_all is_colon_byte done ≡ true
   pub groups : (dotted : Bool) (t : List ℕ) → more_groups 0 0 (text_groups dotted (done ++ t)) ≡ more_groups count number (text_groups dotted t)
-  pub gap : (f back : List ℕ) → 0 < length f → Lacks 58 f → around_gap (done ++ (f ++ back)) ≡ behind done (around_gap (f ++ back))
+  pub gap : (f back : List ℕ) → 0 < length f → Lacks 58 f → around_gap (done ++ (f ++ back)) ≡ following done (around_gap (f ++ back))
 
 pub read-none : (text : List ℕ) → HasRead text text 0 0
 read-none text = record {
@@ -67,14 +67,14 @@ read-none text = record {
   whole = refl;
   bytes = refl;
   groups = λ dotted t. refl;
-  gap = λ f back some lacks. behind-nil (around_gap (f ++ back));
+  gap = λ f back some lacks. following-nil (around_gap (f ++ back));
 }
 
 group-bytes : (f : List ℕ) (g : ℕ) → hex_group f ≡ Some g → list_all is_colon_byte f ≡ true
 group-bytes f g reads = all-weaker is_ascii_hexdigit is_colon_byte (λ b digit. rw digit refl) f (group-digits f g reads)
 
 -- a colon put before the front side of a `::`
-colon-front : (sides : Option (List ℕ × List ℕ)) → option_map (λ sides. (58 ∷ sides.0, sides.1)) sides ≡ behind (58 ∷ []) sides
+colon-front : (sides : Option (List ℕ × List ℕ)) → option_map (λ sides. (58 ∷ sides.0, sides.1)) sides ≡ following (58 ∷ []) sides
 colon-front None = refl
 colon-front (Some sides) = refl
 
@@ -84,9 +84,9 @@ side-some dotted [] some = absurd (omega arith)
 side-some dotted (b ∷ text) some = refl
 
 -- one more group and the colon after it
-pub read-more : (text rest behind-group next : List ℕ) (c n g c' n' : ℕ) → HasRead text rest c n → BeginsWith is_ascii_hexdigit hex_group rest behind-group g
-    → behind-group ≡ 58 ∷ next → Some (c', n') ≡ more_groups c n (Some (g ∷ [])) → HasRead text next c' n'
-read-more text rest behind-group next c n g c' n' has group colon more =
+pub read-more : (text rest following-group next : List ℕ) (c n g c' n' : ℕ) → HasRead text rest c n → BeginsWith is_ascii_hexdigit hex_group rest following-group g
+    → following-group ≡ 58 ∷ next → Some (c', n') ≡ more_groups c n (Some (g ∷ [])) → HasRead text next c' n'
+read-more text rest following-group next c n g c' n' has group colon more =
     let f : List ℕ = group.front in
     let done : List ℕ = has.done ++ (f ++ 58 ∷ []) in
     let some : 0 < length f = group-some f g group.reads in
@@ -108,11 +108,11 @@ read-more text rest behind-group next c n g c' n' has group colon more =
           let t : List ℕ = f' ++ back in
           ap around_gap (moved t)
           ∙ has.gap f (58 ∷ t) some lacks-colon
-          ∙ ap (behind has.done)
+          ∙ ap (following has.done)
           (around-piece f (58 ∷ t) lacks-colon
-          ∙ ap (behind f) (skip 58 t (colon-begins f' back some' lacks') ∙ colon-front (around_gap t))
-          ∙ behind-behind f (58 ∷ []) (around_gap t))
-          ∙ behind-behind has.done (f ++ 58 ∷ []) (around_gap t);
+          ∙ ap (following f) (skip 58 t (colon-begins f' back some' lacks') ∙ colon-front (around_gap t))
+          ∙ following-following f (58 ∷ []) (around_gap t))
+          ∙ following-following has.done (f ++ 58 ∷ []) (around_gap t);
     }
 
 -- the last group, with no single colon after it
@@ -136,8 +136,8 @@ read-last text rest left c n g c' n' has group more =
       gap = λ back.
           ap around_gap (append_assoc has.done f back)
           ∙ has.gap f back some lacks-colon
-          ∙ ap (behind has.done) (around-piece f back lacks-colon)
-          ∙ behind-behind has.done f (around_gap back);
+          ∙ ap (following has.done) (around-piece f back lacks-colon)
+          ∙ following-following has.done f (around_gap back);
     }
 
 -- two sides of a `::`, and eight groups without one

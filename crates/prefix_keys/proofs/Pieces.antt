@@ -101,7 +101,7 @@ cut_last f needs text (inr whole) = ap (of_pieces f) (split-whole is_point text 
 cut_more : (n : ℕ) (f : List ℕ → Option ℕ) → Needs (suc (suc n)) f → (text : List ℕ) → HasPoint text
     → ((g : List ℕ → Option ℕ) → Needs (suc n) g → of_pieces g (slice_split is_point (back text)) ≡ of_all g (cut_numbers n (back text)))
     → of_pieces f (slice_split is_point text) ≡ of_all f (cut_numbers (suc n) text)
-cut_more n f needs text (inl more) behind = ap (of_pieces f) (split-pointed text more) ∙ first (byte_number (front text))
+cut_more n f needs text (inl more) following = ap (of_pieces f) (split-pointed text more) ∙ first (byte_number (front text))
   where
     rest : List (Option ℕ)
     rest = map byte_number (slice_split is_point (back text))
@@ -110,9 +110,9 @@ cut_more n f needs text (inl more) behind = ap (of_pieces f) (split-pointed text
     first None = refl
     first (Some x) =
         of_more f x rest
-        ∙ behind (λ xs. f (x ∷ xs)) (λ xs other. needs (x ∷ xs) (λ e. other (omega (arith, e))))
+        ∙ following (λ xs. f (x ∷ xs)) (λ xs other. needs (x ∷ xs) (λ e. other (omega (arith, e))))
         ∙ sym (of_more f x (cut_numbers n (back text)))
-cut_more n f needs text (inr whole) behind =
+cut_more n f needs text (inr whole) following =
     ap (of_pieces f) (split-whole is_point text whole)
     ∙ none_of f (byte_number text ∷ []) (λ xs e. needs xs (λ more. absurd (omega (arith, e, more))))
     ∙ sym (ap (λ t. of_all f (byte_number (front text) ∷ cut_numbers n t)) (back-whole text whole) ∙ empty_none f (byte_number (front text)) n)

@@ -2,7 +2,7 @@ use Rattle.std.proofs.Common.{ℕ, ◌≡◌, ◌<◌, ◌==◌, ◌&&◌, ◌�
 use Rattle.std.proofs.lemmas.List.{append_assoc, append-nil}
 use Rattle.std.proofs.lemmas.List.Elements.{All-head, All-tail}
 use Rattle.std.specs.Fmt.{digits}
-use Rattle.prefix_keys.specs.Inner.{behind, address_groups_text}
+use Rattle.prefix_keys.specs.Inner.{following, address_groups_text}
 use Rattle.prefix_keys.specs.Text.{around_gap}
 use Rattle.prefix_keys.proofs.Printed.{Lacks, Lacks-digits, no_colon}
 use Rattle.prefix_keys.proofs.Digits.{digits_some}
@@ -10,17 +10,17 @@ use Rattle.prefix_keys.proofs.Gaps.{onto_front as onto}
 
 -- The first `::` of a printed text.
 
-pub behind-nil : (sides : Option (List ℕ × List ℕ)) → sides ≡ behind [] sides
-behind-nil None = refl
-behind-nil (Some sides) = refl
+pub following-nil : (sides : Option (List ℕ × List ℕ)) → sides ≡ following [] sides
+following-nil None = refl
+following-nil (Some sides) = refl
 
-pub onto-behind : (b : ℕ) (front : List ℕ) (sides : Option (List ℕ × List ℕ)) → onto b (behind front sides) ≡ behind (b ∷ front) sides
-onto-behind b front None = refl
-onto-behind b front (Some sides) = refl
+pub onto-following : (b : ℕ) (front : List ℕ) (sides : Option (List ℕ × List ℕ)) → onto b (following front sides) ≡ following (b ∷ front) sides
+onto-following b front None = refl
+onto-following b front (Some sides) = refl
 
-pub behind-behind : (front next : List ℕ) (sides : Option (List ℕ × List ℕ)) → behind front (behind next sides) ≡ behind (front ++ next) sides
-behind-behind front next None = refl
-behind-behind front next (Some sides) = ap (λ text. Some (text, sides.1)) (sym (append_assoc front next sides.0))
+pub following-following : (front next : List ℕ) (sides : Option (List ℕ × List ℕ)) → following front (following next sides) ≡ following (front ++ next) sides
+following-following front next None = refl
+following-following front next (Some sides) = ap (λ text. Some (text, sides.1)) (sym (append_assoc front next sides.0))
 
 -- no `::` begins with the byte
 abbrev pub begins_gap : List ℕ → Bool
@@ -40,12 +40,12 @@ colon-begins [] rest some lacks = absurd (omega arith)
 colon-begins (b ∷ text) rest some lacks = All-head (λ b. (b == 58) ≡ false) b text lacks
 
 -- a text without a colon has no `::`
-pub around-piece : (piece rest : List ℕ) → Lacks 58 piece → around_gap (piece ++ rest) ≡ behind piece (around_gap rest)
-around-piece [] rest lacks = behind-nil (around_gap rest)
+pub around-piece : (piece rest : List ℕ) → Lacks 58 piece → around_gap (piece ++ rest) ≡ following piece (around_gap rest)
+around-piece [] rest lacks = following-nil (around_gap rest)
 around-piece (b ∷ piece) rest lacks =
     skip b (piece ++ rest) (other-begins b (piece ++ rest) (All-head (λ b. (b == 58) ≡ false) b piece lacks))
     ∙ ap (onto b) (around-piece piece rest (All-tail (λ b. (b == 58) ≡ false) b piece lacks))
-    ∙ onto-behind b piece (around_gap rest)
+    ∙ onto-following b piece (around_gap rest)
 
 abbrev pub hex : ℕ → List ℕ
 hex group = digits 16 false group
@@ -67,17 +67,17 @@ groups-begin group (next ∷ groups) rest small =
 
 -- groups have no `::`
 around-groups : (group : ℕ) (groups rest : List ℕ) → All IsGroup (group ∷ groups)
-    → around_gap (address_groups_text (group ∷ groups) ++ rest) ≡ behind (address_groups_text (group ∷ groups)) (around_gap rest)
+    → around_gap (address_groups_text (group ∷ groups) ++ rest) ≡ following (address_groups_text (group ∷ groups)) (around_gap rest)
 around-groups group [] rest all = around-piece (hex group) rest (hex_lacks group (All-head IsGroup group [] all))
 around-groups group (next ∷ groups) rest all =
     let text : List ℕ = address_groups_text (next ∷ groups) in
     let others : All IsGroup (next ∷ groups) = All-tail IsGroup group (next ∷ groups) all in
     ap around_gap (append_assoc (hex group) (58 ∷ text) rest)
     ∙ around-piece (hex group) (58 ∷ (text ++ rest)) (hex_lacks group (All-head IsGroup group (next ∷ groups) all))
-    ∙ ap (behind (hex group))
+    ∙ ap (following (hex group))
     (skip 58 (text ++ rest) (groups-begin next groups rest (All-head IsGroup next groups others))
-    ∙ ap (onto 58) (around-groups next groups rest others) ∙ onto-behind 58 text (around_gap rest))
-    ∙ behind-behind (hex group) (58 ∷ text) (around_gap rest)
+    ∙ ap (onto 58) (around-groups next groups rest others) ∙ onto-following 58 text (around_gap rest))
+    ∙ following-following (hex group) (58 ∷ text) (around_gap rest)
 
 -- the first `::` of a text of groups, `::` and groups
 pub around-gap : (front back : List ℕ) → All IsGroup front → around_gap (address_groups_text front ++ 58 ∷ 58 ∷ back) ≡ Some (address_groups_text front, back)

@@ -46,8 +46,8 @@ abbrev pub is_colon_byte : ℕ → Bool
 is_colon_byte b = is_ascii_hexdigit b || b == 58
 
 -- a text put before the front side of a `::`
-abbrev pub behind : List ℕ → Option (List ℕ × List ℕ) → Option (List ℕ × List ℕ)
-behind front sides = option_map (λ sides. (front ++ sides.0, sides.1)) sides
+abbrev pub following : List ℕ → Option (List ℕ × List ℕ) → Option (List ℕ × List ℕ)
+following front sides = option_map (λ sides. (front ++ sides.0, sides.1)) sides
 
 -- the text is one side of a `::`, with this count of groups that form this number, followed by the rest
 pub record BeginsWithSide (text rest : List ℕ) (count number : ℕ) : Type 0 where
@@ -55,4 +55,4 @@ pub record BeginsWithSide (text rest : List ℕ) (count number : ℕ) : Type 0 w
   pub whole : text ≡ front ++ rest
   pub bytes : list_all is_colon_byte front ≡ true
   pub groups : (dotted : Bool) → Some (count, number) ≡ more_groups 0 0 (side_groups dotted front)
-  pub gap : (back : List ℕ) → around_gap (front ++ back) ≡ behind front (around_gap back)
+  pub gap : (back : List ℕ) → around_gap (front ++ back) ≡ following front (around_gap back)

@@ -5,7 +5,7 @@ ghost use Rattle.prefix_keys.specs.Text.{address_of, block_of_text, is_digit};
 ghost use Rattle.pmap_text.specs.Label.{label_number as number_of_label, meant_text, is_label as is_label_text, with_label};
 ghost use Rattle.pmap_text.specs.Reading.{after_word, first_word, block_line, content_line, default_line, label_line, label_of, mode_line, mode_version, placed_line, range_line, span_line, statement_line, BadAddress, BadStatement, NoMemory, TooMany};
 ghost use Rattle.pmap_text.specs.declared.reading.form.Form.TheVariants.{List as list_form};
-ghost use Rattle.pmap_text.specs.Inner.{Reads, has_label_room, one_or_two, name_line};
+ghost use Rattle.pmap_text.specs.Inner.{ReadsLine, has_label_room, one_or_two, name_line};
 
 use crate::fault::MapFaultKind;
 use crate::label::{LabelId, is_label};
@@ -66,7 +66,7 @@ fn named_version(word: &[u8]) -> Option<Version>
 impl Reading {
     // Reads `map-name NAME`, given the text after the first word.
     fn read_name(&mut self, rest: &[u8]) -> Result<(), MapFaultKind>
-        ensures { Reads self.old self.new (name_line self.old rest.now) result }
+        ensures { ReadsLine self.old self.new (name_line self.old rest.now) result }
     {
         check_label(rest)?;
         let Ok(name) = Name::new(self.alloc, rest) else {
@@ -78,7 +78,7 @@ impl Reading {
 
     // Reads `mode WORD`, given the text after the first word.
     fn read_mode(&mut self, rest: &[u8]) -> Result<(), MapFaultKind>
-        ensures { Reads self.old self.new (mode_line self.old (mode_version rest.now)) result }
+        ensures { ReadsLine self.old self.new (mode_line self.old (mode_version rest.now)) result }
     {
         let Some(version) = named_version(rest) else {
             return Err(MapFaultKind::BadMode);
@@ -95,7 +95,7 @@ impl Reading {
 
     // Reads `label NUMBER TEXT`, given the text after the first word.
     fn read_label(&mut self, rest: &[u8]) -> Result<(), MapFaultKind>
-        ensures { Reads self.old self.new
+        ensures { ReadsLine self.old self.new
             (label_line self.old (number_of_label (first_word rest.now)) (after_word rest.now)) result }
     {
         let (word, text) = split_word(rest);
@@ -118,7 +118,7 @@ impl Reading {
 
     // Reads `default LABEL`, given the text after the first word.
     fn read_default(&mut self, form: Form, rest: &[u8]) -> Result<(), MapFaultKind>
-        ensures { Reads self.old self.new (default_line form self.old rest.now) result }
+        ensures { ReadsLine self.old self.new (default_line form self.old rest.now) result }
     {
         if form == Form::List {
             return Err(MapFaultKind::NotAList);
@@ -159,7 +159,7 @@ impl Reading {
     #[inline(always)]
     fn read_span(&mut self, span: Span, rest: &[u8]) -> Result<(), MapFaultKind>
         requires { unwrap_or self.old.version span.low.version ≡ span.low.version }
-        ensures { Reads self.old self.new
+        ensures { ReadsLine self.old self.new
             (span_line self.old span.low.version span.low.value span.high.value rest.now) result }
     {
         let has_room = self.statements.len() < MAPPING_LIMIT;
@@ -172,7 +172,7 @@ impl Reading {
     #[inline(always)]
     fn read_prefix(&mut self, block: Block, rest: &[u8]) -> Result<(), MapFaultKind>
         requires { unwrap_or self.old.version block.version ≡ block.version }
-        ensures { Reads self.old self.new
+        ensures { ReadsLine self.old self.new
             (placed_line list_form self.old block.version block.value block.len rest.now) result }
     {
         let has_room = self.entry_count() < MAPPING_LIMIT;
@@ -194,7 +194,7 @@ impl Reading {
         block: Block,
         rest: &[u8],
     ) -> Result<(), MapFaultKind>
-        ensures { Reads self.old self.new
+        ensures { ReadsLine self.old self.new
             (block_line form self.old (Ok (block.version, block.value, block.len)) rest.now) result }
     {
         let block = block_in(self.version_at(block.version), block)?;
@@ -206,7 +206,7 @@ impl Reading {
 
     // Reads `BLOCK LABEL`, given the word of the block and the text after it.
     fn read_block_line(&mut self, form: Form, word: &[u8], rest: &[u8]) -> Result<(), MapFaultKind>
-        ensures { Reads self.old self.new (block_line form self.old (block_of_text word.now) rest.now) result }
+        ensures { ReadsLine self.old self.new (block_line form self.old (block_of_text word.now) rest.now) result }
     {
         match read_block(word) {
             Ok(block) => self.read_after_block(form, block, rest),
@@ -223,7 +223,7 @@ impl Reading {
         second: Addr,
         rest: &[u8],
     ) -> Result<(), MapFaultKind>
-        ensures { Reads self.old self.new
+        ensures { ReadsLine self.old self.new
             (range_line form self.old (first.version, first.value) (second.version, second.value) rest.now) result }
     {
         if form == Form::List {
@@ -245,7 +245,7 @@ impl Reading {
         first: Addr,
         rest: &[u8],
     ) -> Result<(), MapFaultKind>
-        ensures { Reads self.old self.new
+        ensures { ReadsLine self.old self.new
             (one_or_two form self.old (first.version, first.value) (address_of (first_word rest.now)) rest.now) result }
     {
         let (word, after) = split_word(rest);
@@ -266,7 +266,7 @@ impl Reading {
         first: Addr,
         rest: &[u8],
     ) -> Result<(), MapFaultKind>
-        ensures { Reads self.old self.new
+        ensures { ReadsLine self.old self.new
             (one_or_two form self.old (first.version, first.value) (address_of (first_word rest.now)) rest.now) result }
     {
         match leading_word(rest) {
@@ -277,7 +277,7 @@ impl Reading {
 
     // Reads a line with a word, given its first word and the text after it.
     fn read_statement(&mut self, form: Form, word: &[u8], rest: &[u8]) -> Result<(), MapFaultKind>
-        ensures { Reads self.old self.new (statement_line form self.old word.now rest.now) result }
+        ensures { ReadsLine self.old self.new (statement_line form self.old word.now rest.now) result }
     {
         if word == b"map-name".as_slice() {
             self.read_name(rest)
@@ -299,7 +299,7 @@ impl Reading {
 
     // Reads the content of a line by its words.
     fn read_words(&mut self, form: Form, content: &[u8]) -> Result<(), MapFaultKind>
-        ensures { Reads self.old self.new (content_line form self.old content.now) result }
+        ensures { ReadsLine self.old self.new (content_line form self.old content.now) result }
     {
         if content.is_empty() {
             return Ok(());
@@ -311,7 +311,7 @@ impl Reading {
     /// Reads the content of one more line. An entry for a block that has one already is added too. After a fault
     /// nothing is known of the lines so far.
     pub fn read_content(&mut self, form: Form, content: &[u8]) -> Result<(), MapFaultKind>
-        ensures { Reads self.old self.new (content_line form self.old content.now) result }
+        ensures { ReadsLine self.old self.new (content_line form self.old content.now) result }
     {
         match leading_word(content) {
             Some((Word::Block(block), rest)) => self.read_after_block(form, block, rest),

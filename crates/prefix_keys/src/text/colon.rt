@@ -105,12 +105,12 @@ fn read_groups(text: &[u8], dotted: bool) -> Option<Groups>
     let mut groups = NONE;
     let mut rest = text;
     loop {
-        let (piece, behind) = cut(rest, b':');
+        let (piece, following) = cut(rest, b':');
         if piece.len() == rest.len() {
             return groups.push_last(piece, dotted);
         }
         groups = groups.push(read_group(piece)?)?;
-        rest = behind;
+        rest = following;
     }
 }
 
@@ -194,7 +194,7 @@ fn leading_group(text: &[u8]) -> Option<(u32, &[u8])>
 
 // Returns the text after a single colon at the start of a text.
 #[inline(always)]
-fn behind_colon(text: &[u8]) -> Option<&[u8]>
+fn after_colon(text: &[u8]) -> Option<&[u8]>
     ensures { IfSome result (λ r. text.now ≡ 58 ∷ r.now) }
 {
     match text {
@@ -213,11 +213,11 @@ fn leading_groups(text: &[u8]) -> Option<(Groups, &[u8])>
     let mut groups = NONE;
     let mut rest = text;
     loop {
-        let (group, behind) = leading_group(rest)?;
+        let (group, following) = leading_group(rest)?;
         groups = groups.push(group)?;
-        match behind_colon(behind) {
+        match after_colon(following) {
             Some(next) => rest = next,
-            None => return Some((groups, behind)),
+            None => return Some((groups, following)),
         }
     }
 }
@@ -235,7 +235,7 @@ fn leading_side(text: &[u8]) -> Option<(Groups, &[u8])>
 
 // Returns the text after the `::` at the start of a text.
 #[inline(always)]
-fn behind_gap(text: &[u8]) -> Option<&[u8]>
+fn after_gap(text: &[u8]) -> Option<&[u8]>
     ensures { IfSome result (λ r. text.now ≡ 58 ∷ 58 ∷ r.now) }
 {
     match text {
@@ -252,9 +252,9 @@ pub fn leading_colon(text: &[u8]) -> Option<(u128, &[u8])>
     ensures { IfSome result (λ r. BeginsWith is_colon_byte colon_address text.now r.1.now r.0) }
 {
     let (front, rest) = leading_side(text)?;
-    match behind_gap(rest) {
-        Some(behind) => {
-            let (back, rest) = leading_side(behind)?;
+    match after_gap(rest) {
+        Some(following) => {
+            let (back, rest) = leading_side(following)?;
             Some((join(front, back)?, rest))
         }
         None if front.count == 8 => Some((front.number, rest)),

@@ -15,12 +15,12 @@ loop-id-preserved c =
     let walk = c.loop-id.invariant.walk in
     let above = c.loop-id.invariant.above in
     let rest = c.rest_from-rest.ensures in
-    let behind = c.rest_from-above.ensures in
+    let following = c.rest_from-above.ensures in
     let here = walk-has lower c.loop-id.rest.now c.rest_from-rest.result.now set i id c.loop-id-test.true walk rest.ascending rest.kept in
-    let there = walk-has lower c.loop-id.above.now c.rest_from-above.result.now upper i id c.loop-id-test.true above behind.ascending behind.kept in
+    let there = walk-has lower c.loop-id.above.now c.rest_from-above.result.now upper i id c.loop-id-test.true above following.ascending following.kept in
     record {
       walk = goes-on lower c.loop-id.rest.now c.rest_from-rest.result.now set i id c.loop-id-test.true walk rest.ascending rest.kept;
-      above = goes-on lower c.loop-id.above.now c.rest_from-above.result.now upper i id c.loop-id-test.true above behind.ascending behind.kept;
+      above = goes-on lower c.loop-id.above.now c.rest_from-above.result.now upper i id c.loop-id-test.true above following.ascending following.kept;
       all = all-more (λ (j : LabelId). not (has_number (numbers upper) j.0) || has_number (numbers set) j.0) lower i id c.loop-id-test.true
           (elim c.else-begins_with.branch [
             | else-begins_with-via-then-begins_with+else-not-begins_with w ↦ or-from _ _ (inr (sym here ∙ sym w.begins_with-then-begins_with.ensures ∙ w.if-not-begins_with.false))

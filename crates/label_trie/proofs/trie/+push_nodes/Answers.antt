@@ -6,7 +6,7 @@ use Rattle.std.proofs.lemmas.Result.{on_ok_weaker}
 use Rattle.pmap_text.specs.Stretches.{StretchesModel, label_at}
 use Rattle.pmap_text.specs.declared.stretches.window.Window.{Window}
 use Rattle.prefix_keys.specs.Block.{width_of}
-use Rattle.pmap_text.specs.Windows.{number_at}
+use Rattle.pmap_text.specs.Windows.{window_number}
 use Rattle.pmap_text.proofs.Windows.{window_some}
 use Rattle.label_trie.specs.Leaves.{leaves_of}
 use Rattle.label_trie.specs.Nodes.{leaf_stored, stored_of}
@@ -31,7 +31,7 @@ pub halves-requires-clause-some : goal.halves-requires-clause-some
 halves-requires-clause-some t c = window_some c.args.stretches.now c.len-count.ensures.every c.args.window c.requires.window c.if-window.false
 
 high_some : (s : StretchesModel) (w : Window) → 0 < length (leaves_of s w)
-high_some s w = omega (arith, length-stored s (width_of s.version - w.len) w.len (number_at s w) 0)
+high_some s w = omega (arith, length-stored s (width_of s.version - w.len) w.len (window_number s w) 0)
 
 pub push_nodes-requires : goal.push_nodes-requires
 push_nodes-requires t c =
@@ -77,7 +77,7 @@ push_nodes-requires-2 t c =
           c.requires.few,
           ap length set_is,
           length-append old (Inner c.len.result ∷ lows),
-          length-stored s (width_of s.version - c.halves.result.0.len) c.halves.result.0.len (number_at s c.halves.result.0) (length c.push-2.new.self.items),
+          length-stored s (width_of s.version - c.halves.result.0.len) c.halves.result.0.len (window_number s c.halves.result.0) (length c.push-2.new.self.items),
         ),
       ),
     )
@@ -92,7 +92,7 @@ returns t c =
     let k = length old in
     let pushed : length c.push-2.new.self.items ≡ k + 1 = ap length c.in_ok-push-2.ensures.items ∙ length-append old (Inner 0 ∷ []) in
     let first = c.in_ok-push_nodes.ensures ∙ ap (λ (n : ℕ). c.push-2.new.self.items ++ stored_of s low n) pushed in
-    let all_lows = length-stored s (width_of s.version - low.len) low.len (number_at s low) (k + 1) in
+    let all_lows = length-stored s (width_of s.version - low.len) low.len (window_number s low) (k + 1) in
     let next = counted old _ _ (stored_of s low (k + 1)) (length (leaves_of s low)) c.in_ok-push-2.ensures.items first all_lows in
     let upper : c.len.result ≡ k + 2 * length (leaves_of s low) = c.len.ensures ∙ c.push_nodes.new.nodes.ok.0 ∙ next in
     let number = c.len-number.ensures ∙ c.args.nodes.now.ok.0 in

@@ -1,7 +1,7 @@
 use Rattle.std.proofs.Common.{◌≡◌, ◌≢◌, ◌<◌, ◌∙◌, ◌⊎◌, ℕ, List, Some, eq-eqb, eqb-true, get_or, inl, inr, subst, sym, arith}
 use Rattle.std.proofs.lemmas.Bool.{false≢true, ltb-true}
 use Rattle.std.proofs.lemmas.List.{take_rest}
-use Rattle.pmap_cert.specs.Inner.{BeginsWithNumber, Reads}
+use Rattle.pmap_cert.specs.Inner.{BeginsWithNumber, Finds}
 use Rattle.pmap_cert.proofs.LineTexts.{after_byte-found, number-large, number-plain, number-zero}
 use Rattle.pmap_cert.proofs.node_line.number_word.Goals as goal
 use Rattle.pmap_cert.proofs.node_line.number_word.Goals.{else-at-eq0+else-at-gt1, else-at-eq0+then-at-gt1, then-at-eq0}
@@ -21,7 +21,7 @@ returns-else-digits-eq48 c =
       | else-at-eq0+then-at-gt1 w ↦ (omega (arith, w.if-at-gt1.true), inr (λ e. false≢true (sym c.if-digits-eq48.false ∙ w.value-is ∙ eq-eqb _ _ e)))
       | else-at-eq0+else-at-gt1 w ↦ (omega (arith, w.if-at-eq0.false), inl (omega (arith, w.if-at-eq0.false, w.if-at-gt1.false)))
     ] in
-    subst (λ (rest : List ℕ). Reads (BeginsWithNumber c.args.bound c.args.text.now) (Some (c.loop-at.number, rest))) (sym (take_rest digits c.loop-at.at))
+    subst (λ (rest : List ℕ). Finds (BeginsWithNumber c.args.bound c.args.text.now) (Some (c.loop-at.number, rest))) (sym (take_rest digits c.loop-at.at))
     (number-plain c.args.bound c.requires c.args.text.now digits (after_byte-found 32 c.args.text.now digits (sym c.in_ok-digits.ensures))
     c.loop-at.at c.loop-at.number c.loop-at.invariant.value c.loop-at.invariant.digits c.loop-at-test.true (sym c.is_ascii_digit.ensures.value ∙ c.if-not-is_ascii_digit.true) (omega arith)
     plain.0 plain.1)

@@ -1,6 +1,6 @@
 use Rattle.std.proofs.Common.{◌≡◌, ◌≢◌, ◌≤◌, ◌∙◌, ℕ, List, Err, length, sym, subst, arith}
 use Rattle.pmap_text.specs.Reading.{lines_of, content_line, NoMemory}
-use Rattle.pmap_text.specs.Inner.{Takes, refusal_of}
+use Rattle.pmap_text.specs.Inner.{TakesLine, refusal_of}
 use Rattle.pmap_text.proofs.Entering.{none_read, read-all, read-fault, read-line}
 use Rattle.pmap_text.proofs.reading.texts.read_on.Goals as goal
 
@@ -16,7 +16,7 @@ loop-reading-preserved c =
     let old = c.loop-reading.reading in
     let new = c.read_content.new.self in
     let few : length old.prefixes ≤ c.args.limit = omega (arith, c.entry_count.ensures, c.if-entry_count-limit.true) in
-    let taken = subst (λ (t : List ℕ). Takes old new (content_line c.args.form old t)) cut.2 c.in_default.ensures.ok in
+    let taken = subst (λ (t : List ℕ). TakesLine old new (content_line c.args.form old t)) cut.2 c.in_default.ensures.ok in
     record {
       fits = omega arith;
       so_far = read-line c.args.form c.args.text.now c.args.limit old new c.loop-reading.number cut.0 (lines_of c.loop-reading.rest.now)

@@ -4,26 +4,26 @@ use Rattle.prefix_keys.proofs.print.digits.write_octet.Goals as goal
 
 pub returns-then-octet-lt10-clause-written : goal.returns-then-octet-lt10-clause-written
 returns-then-octet-lt10-clause-written c =
-    let behind : List ℕ = drop c.args.end c.args.buf.now in
+    let following : List ℕ = drop c.args.end c.args.buf.now in
     let known = octet_digits c.args.octet c.requires.small in
     last_of_four c.args.buf.now c.args.end c.requires.within _ _ _ _ c.requires.room
-    ∙ (λ i. known.2 i ∷ behind)
-    ∙ ap (λ (text : List ℕ). text ++ behind) (sym (one_digit c.args.octet c.if-octet-lt10.true))
+    ∙ (λ i. known.2 i ∷ following)
+    ∙ ap (λ (text : List ℕ). text ++ following) (sym (one_digit c.args.octet c.if-octet-lt10.true))
 
 pub returns-then-octet-lt100-clause-written : goal.returns-then-octet-lt100-clause-written
 returns-then-octet-lt100-clause-written c =
-    let behind : List ℕ = drop c.args.end c.args.buf.now in
+    let following : List ℕ = drop c.args.end c.args.buf.now in
     let known = octet_digits c.args.octet c.requires.small in
     last_two_of_four c.args.buf.now c.args.end c.requires.within _ _ _ _ c.requires.room
-    ∙ (λ i. known.1 i ∷ known.2 i ∷ behind)
-    ∙ ap (λ (text : List ℕ). text ++ behind)
+    ∙ (λ i. known.1 i ∷ known.2 i ∷ following)
+    ∙ ap (λ (text : List ℕ). text ++ following)
     (sym (two_digits c.args.octet (omega (arith, c.if-octet-lt10.false)) c.if-octet-lt100.true))
 
 pub returns-else-octet-lt100-clause-written : goal.returns-else-octet-lt100-clause-written
 returns-else-octet-lt100-clause-written c =
-    let behind : List ℕ = drop c.args.end c.args.buf.now in
+    let following : List ℕ = drop c.args.end c.args.buf.now in
     let known = octet_digits c.args.octet c.requires.small in
     last_three_of_four c.args.buf.now c.args.end c.requires.within _ _ _ _ c.requires.room
-    ∙ (λ i. known.0 i ∷ known.1 i ∷ known.2 i ∷ behind)
-    ∙ ap (λ (text : List ℕ). text ++ behind)
+    ∙ (λ i. known.0 i ∷ known.1 i ∷ known.2 i ∷ following)
+    ∙ ap (λ (text : List ℕ). text ++ following)
     (sym (three_digits c.args.octet (omega (arith, c.if-octet-lt100.false)) (omega (arith, c.requires.small))))

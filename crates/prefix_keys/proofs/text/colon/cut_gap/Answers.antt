@@ -13,10 +13,10 @@ returns-then-text-at-eq58-2 c =
     let one : get_or text n 0 ≡ 58 = grind (arith, common_steps) in
     let two : get_or text at 0 ≡ 58 = grind (arith, common_steps) in
     let here : is_gap text n ≡ true = is_gap-true text n at next one two in
-    let behind : suc (suc n) ≡ at + 1 = omega arith in
+    let following : suc (suc n) ≡ at + 1 = omega arith in
     let rest : take (length text - (at + 1)) (drop (at + 1) text) ≡ drop (at + 1) text =
     take_all (length text - (at + 1)) (drop (at + 1) text) (omega (arith, length-drop (at + 1) text)) in
-    ap (λ t. Some (take n text, t)) (rest ∙ ap (λ k. drop k text) (sym behind))
+    ap (λ t. Some (take n text, t)) (rest ∙ ap (λ k. drop k text) (sym following))
     ∙ sym (first_gap text n (λ k below. c.loop-at.invariant k (omega arith)) here)
 
 pub returns : goal.returns
