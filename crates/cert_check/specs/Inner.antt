@@ -159,7 +159,7 @@ IsUnread read found = (found.kind ≢ NoMemoryForText → read ≡ Err found) ×
 -- the result of a walk over a tree: its claimed cost, or `None` if the walk has the first fault of its text
 abbrev pub IsAnswer : Sources → Read → (Tree → ℕ → Option CheckFault) → ℕ → List LabelId → Option CheckFault → Walk → Option ℕ → Type 0
 IsAnswer s read fault number old before new (Some cost) = IsPassed s read fault number old before new cost
-IsAnswer s read fault number old before new None = (found : CertFault) × (new.stop ≡ Some found) × IsUnread read found
+IsAnswer s read fault number old before new None = (found : CertFault) × (new.end ≡ Err found) × IsUnread read found
 
 -- the certificate whose root is this tree
 abbrev pub certificate_with : Format → Version → List Label → Tree → CertificateModel

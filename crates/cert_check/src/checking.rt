@@ -43,10 +43,7 @@ fn check_root(sources: &Sources, walk: &mut Walk) -> Result<(), CertFault>
     ensures err { IfErr result (IsUnread (reading_at sources.now 0 (place_in walk.old.nodes))) }
 {
     let Some(cost) = check_node(sources, walk, &Block::whole(sources.map.version)) else {
-        return match walk.stop {
-            Some(fault) => Err(fault),
-            None => unreachable!(),
-        };
+        return walk.end;
     };
     if sources.list.entries.len() as u64 > u64::from(cost) + 1 {
         walk.note(Some(CheckFaultKind::BoundNotMet), 0);

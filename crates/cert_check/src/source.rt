@@ -3,7 +3,7 @@ ghost use Rattle.std.specs.Prelude.{◌≡◌, ◌^◌, ◌<◌, ◌≤◌, List
 ghost use Rattle.prefix_keys.specs.Block.{width_of};
 ghost use Rattle.pmap_text.specs.MapModel.{Label};
 ghost use Rattle.pmap_text.specs.MapText.{text_at};
-ghost use Rattle.pmap_text.specs.Stretches.{AreLabelsBelow, HasEveryAddress, HoldsAddress, last_at};
+ghost use Rattle.pmap_text.specs.Stretches.{AreLabelsBelow, HoldsAddress, last_at};
 ghost use Rattle.cert_check.specs.Inner.{IsSource, has_one_label};
 
 use crate::labels::{is_label, numbers_in};
@@ -42,7 +42,6 @@ impl Source {
         requires order { first ≤ last }
         ensures first { IsTrue result → HoldsAddress self.now.stretches first index }
         ensures last { IsTrue result → last ≤ last_at self.now.stretches index }
-        ensures every { HasEveryAddress self.now.stretches }
     {
         index < self.stretches.len()
             && last <= self.stretches.last(index)
@@ -58,6 +57,7 @@ impl Source {
         ensures { IfSome result (λ holds. (from to : List Label) → IsSource from to self.now → id.0 < length to →
             holds ≡ has_one_label from self.now.stretches first last (text_at to id.0)) }
     {
+        self.stretches.laws();
         if self.has_range(index, first, last) {
             Some(is_label(self.numbers.as_slice(), self.stretches.label(index), id))
         } else {

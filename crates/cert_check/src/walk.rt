@@ -1,5 +1,5 @@
 //! The walk over the nodes of a certificate or of its text, which reads and checks each of them.
-ghost use Rattle.std.specs.Prelude.{◌≡◌, ◌+◌, ◌*◌, ◌++◌, ◌∷◌, [], ◌<◌, None, Some, IfOk, OnOk, length, take};
+ghost use Rattle.std.specs.Prelude.{◌≡◌, ◌+◌, ◌*◌, ◌++◌, ◌∷◌, [], ◌<◌, Err, None, IfOk, OnOk, length, take};
 ghost use Rattle.std.specs.Option.{option_or};
 ghost use Rattle.prefix_keys.specs.declared.block.Block.{Block};
 ghost use Rattle.pmap_text.specs.PrefixList.{number_of_block as number_of};
@@ -17,7 +17,7 @@ use std::alloc::{AllocError, Global};
 
 /// The rest of a certificate's nodes, with the last one that was read from a text, the number of the next node, from 1,
 /// the sets of the nodes whose claims are still to be compared, in the order of their lines, the stretches that were
-/// found last, the first fault of the nodes so far, and the fault that has ended the walk.
+/// found last, the first fault of the nodes so far, and the fault that has ended the walk, if any.
 #[derive(Drop)]
 pub struct Walk<'a> {
     pub nodes: NodeSource<'a>,
@@ -26,7 +26,7 @@ pub struct Walk<'a> {
     sets: Vec<LabelId>,
     near: Near,
     pub fault: Option<CheckFault>,
-    pub stop: Option<CertFault>,
+    pub end: Result<(), CertFault>,
 }
 
 impl<'a> Walk<'a> {
@@ -43,7 +43,7 @@ impl<'a> Walk<'a> {
             sets: Vec::new(alloc),
             near: Near { map: 0, list: 0 },
             fault: None,
-            stop: None,
+            end: Ok(()),
         }
     }
 
@@ -59,10 +59,10 @@ impl<'a> Walk<'a> {
     // Keeps the fault that ends the walk, and returns `None`. A result that has the fault wouldn't fit into registers.
     #[cold]
     fn stop(&mut self, fault: CertFault) -> Option<u32>
-        ensures stop { self.new ≡ record self.old { stop = Some fault } }
+        ensures stop { self.new ≡ record self.old { end = Err fault } }
         ensures none { result ≡ None }
     {
-        self.stop = Some(fault);
+        self.end = Err(fault);
         None
     }
 }

@@ -75,8 +75,7 @@ impl<'a> Labeller for StretchIndex<'a> {
     }
 
     fn label_of(&self, addr: Addr) -> Option<&[u8]> {
-        // Provides the law that the stretches cover every address.
-        let _count = self.stretches.len();
+        self.stretches.laws();
         let block = (addr.value >> (addr.version.width() - BLOCK_BITS)) as usize;
         let from = self.tops[block];
         let to = self.tops[block + 1];
@@ -91,6 +90,7 @@ impl<'a> Labeller for StretchIndex<'a> {
 fn tops_of(alloc: Global, stretches: &Stretches) -> Result<Vec<usize>, AllocError>
     ensures { IfOk result (λ tops. AreTops stretches.now tops.items) }
 {
+    stretches.laws();
     let last = stretches.len() - 1;
     let host_bits = stretches.version().width() - BLOCK_BITS;
     let mut tops = Vec::with_capacity(alloc, BLOCKS + 1)?;
@@ -110,8 +110,7 @@ fn holder_from(stretches: &Stretches, from: usize, address: u128) -> usize
     requires within { address < 2 ^ width_of stretches.now.version }
     ensures { HoldsAddress stretches.now address result }
 {
-    // Provides the law that the stretches cover every address.
-    let _count = stretches.len();
+    stretches.laws();
     let mut index = from;
     while stretches.last(index) < address {
         index += 1;

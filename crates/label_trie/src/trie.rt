@@ -165,8 +165,7 @@ fn trie_of(alloc: Global, stretches: &Stretches) -> Result<Trie, AllocError>
     ensures version { IfOk result (λ t. t.version ≡ stretches.now.version) }
     ensures leaves { IfOk result (λ t. t.leaves ≡ leaves_in stretches.now (width_of stretches.now.version) 0 0) }
 {
-    // Provides the law that the stretches cover every address.
-    let _count = stretches.len();
+    stretches.laws();
     let mut nodes = Vec::new(alloc);
     push_nodes(&mut nodes, stretches, Window::whole(stretches))?;
     Ok(Trie {
@@ -186,8 +185,7 @@ fn push_nodes(
     ensures { OnOk result (nodes.new.items ≡ nodes.old.items
         ++ stored_of stretches.now window (length nodes.old.items)) }
 {
-    // Provides the law that the stretches cover every address.
-    let _count = stretches.len();
+    stretches.laws();
     if window.from == window.to {
         let leaf = match stretches.label(window.from) {
             Some(id) => TrieNode::Labelled(id),

@@ -19,8 +19,7 @@ fn print_run(
     ensures { OnOk result (out.new ++ 10 ∷ [] ≡ (out.old ++ 10 ∷ [])
         ++ line_text (run_fields runs.now.version (run_at labels.now runs.now index))) }
 {
-    // Provides the law that the runs cover every address of the version.
-    let _count = runs.len();
+    runs.laws();
     let version = runs.version();
     let low = Addr {
         version,
@@ -47,6 +46,7 @@ pub fn print_runs(alloc: Global, runs: &Runs, labels: &Labels) -> Result<Vec<u8>
         (text_held labels.now runs.now.stretches) out.items) }
 {
     labels.laws();
+    runs.stretches.laws();
     let mut out = Text::new(alloc);
     out.push_bytes(b"low|high|label")?;
     for index in 0..runs.stretches.len() {

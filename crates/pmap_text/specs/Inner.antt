@@ -1,4 +1,4 @@
-use Rattle.std.specs.Prelude.{ℕ, ◌*◌, ◌-◌, ◌/◌, ◌%◌, ◌^◌, List, bit_and, bit_or, bit_xor, drop, length, ◌≡◌, ◌||◌, ◌==◌, Bool, true, false, if◌then◌else◌, ◌∷◌, ◌++◌, Some, Ok, nat_lt, ◌+◌, ◌<◌, ◌≤◌, ◌⊎◌, Option, All, Contains, IsSomeAnd, option_and_then, slice_get, unwrap_or, ◌&&◌, None, take, ◌≢◌, [], Result, Err, IfErr, IfOk, OnErr, OnOk}
+use Rattle.std.specs.Prelude.{ℕ, ◌*◌, ◌-◌, ◌/◌, ◌%◌, ◌^◌, List, bit_and, bit_or, bit_xor, drop, length, ◌≡◌, ◌||◌, ◌==◌, Bool, true, false, if◌then◌else◌, ◌∷◌, ◌++◌, Some, Ok, nat_lt, ◌+◌, ◌<◌, ◌≤◌, ◌⊎◌, Option, All, Contains, IsSomeAnd, option_and_then, option_map, slice_get, unwrap_or, ◌&&◌, None, take, ◌≢◌, [], Result, Err, IfErr, IfOk, OnErr, OnOk}
 use Rattle.std.specs.Int.{from_le_bytes, w64}
 use Rattle.std.specs.List.{fold, list_any, suffix_len, IsDistinct}
 use Rattle.std.specs.Simd.{first_chunks}

@@ -224,10 +224,19 @@ impl Stretches {
         }
     }
 
+    /// A law: each address of the version is in one stretch, and the stretches are in ascending order.
+    #[inline(always)]
+    pub fn laws(&self)
+        ensures every { HasEveryAddress self.now }
+        ensures countable { length self.now.firsts < 2 ^ 64 }
+    {
+        let _count = self.len();
+        let _begins = &self.begins;
+    }
+
     /// Returns the number of stretches, which is at least 1.
     pub fn len(&self) -> usize
-        ensures value { result ≡ length self.now.firsts }
-        ensures every { HasEveryAddress self.now }
+        ensures { result ≡ length self.now.firsts }
     {
         match &self.begins {
             Begins::Narrow(begins) => begins.len(),
@@ -253,6 +262,7 @@ impl Stretches {
         requires { index < length self.now.firsts }
         ensures { result ≡ last_at self.now index }
     {
+        self.laws();
         if index < self.len() - 1 {
             self.first(index + 1) - 1
         } else {
@@ -267,6 +277,7 @@ impl Stretches {
         requires address { address < 2 ^ width_of self.now.version }
         ensures { IsTrue result ↔ (last_at self.now index < address) }
     {
+        self.laws();
         index < self.len() - 1 && self.first(index + 1) <= address
     }
 
@@ -314,6 +325,7 @@ impl Stretches {
         ensures holds { HoldsAddress self.now address result }
         ensures index { result ≡ count_begun self.now.firsts address - 1 }
     {
+        self.laws();
         let end = self.len() - 1;
         let start = near.min(end);
         if address < self.first(start) {

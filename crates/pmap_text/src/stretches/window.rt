@@ -23,8 +23,7 @@ fn next_index(stretches: &Stretches, at: usize, address: u128) -> usize
     requires below { address + 1 < 2 ^ width_of stretches.now.version }
     ensures { HoldsAddress stretches.now (address + 1) result }
 {
-    // Provides the law that the stretches cover every address.
-    let _count = stretches.len();
+    stretches.laws();
     if stretches.last(at) == address {
         at + 1
     } else {
@@ -39,6 +38,7 @@ impl Window {
         ensures first { result.first ≡ 0 }
         ensures len { result.len ≡ 0 }
     {
+        stretches.laws();
         let to = stretches.len() - 1;
         Window {
             first: 0,
@@ -74,8 +74,7 @@ impl Window {
         requires some { self.now.first < self.now.last }
         ensures { AreHalvesOf stretches.now self.now result.0 result.1 }
     {
-        // Provides the law that the stretches cover every address.
-        let _count = stretches.len();
+        stretches.laws();
         let middle = self.first + (self.last - self.first) / 2;
         let at = self.index_of(stretches, middle);
         let next = next_index(stretches, at, middle);

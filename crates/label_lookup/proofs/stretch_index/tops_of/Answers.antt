@@ -20,6 +20,6 @@ loop-block-preserved c =
 
 pub returns : goal.returns
 returns c =
-    tops_all c.args.stretches.now c.len-last.ensures.every c.loop-block.tops.items c.push-2.new.self.items (c.len-last.result - 1)
+    tops_all c.args.stretches.now c.laws.ensures.every c.loop-block.tops.items c.push-2.new.self.items (c.len-last.result - 1)
     (c.loop-block.invariant.long ∙ omega arith) (λ b below. c.loop-block.invariant.each b (omega (arith, below)))
-    (ap (λ n. n - 1) c.len-last.ensures.value) c.in_ok-push-2.ensures.items
+    (ap (λ n. n - 1) c.len-last.ensures) c.in_ok-push-2.ensures.items

@@ -25,10 +25,10 @@ returns-then-window t c =
     ] in
     c.in_ok-push.ensures.items ∙ ap (λ (n : TrieNode). c.args.nodes.now.items ++ n ∷ []) leaf
     ∙ ap (λ (l : List TrieNode). c.args.nodes.now.items ++ l)
-    (sym (stored_one s c.len-count.ensures.every c.args.window c.requires.window (length c.args.nodes.now.items) c.if-window.true))
+    (sym (stored_one s c.laws.ensures.every c.args.window c.requires.window (length c.args.nodes.now.items) c.if-window.true))
 
 pub halves-requires-clause-some : goal.halves-requires-clause-some
-halves-requires-clause-some t c = window_some c.args.stretches.now c.len-count.ensures.every c.args.window c.requires.window c.if-window.false
+halves-requires-clause-some t c = window_some c.args.stretches.now c.laws.ensures.every c.args.window c.requires.window c.if-window.false
 
 high_some : (s : StretchesModel) (w : Window) → 0 < length (leaves_of s w)
 high_some s w = omega (arith, length-stored s (width_of s.version - w.len) w.len (window_number s w) 0)
@@ -36,7 +36,7 @@ high_some s w = omega (arith, length-stored s (width_of s.version - w.len) w.len
 pub push_nodes-requires : goal.push_nodes-requires
 push_nodes-requires t c =
     let are = c.halves.ensures in
-    let both = leaves_both c.args.stretches.now c.len-count.ensures.every c.args.window c.requires.window c.if-window.false c.halves.result.0 c.halves.result.1 are in
+    let both = leaves_both c.args.stretches.now c.laws.ensures.every c.args.window c.requires.window c.if-window.false c.halves.result.0 c.halves.result.1 are in
     let pushed = ap length c.in_ok-push-2.ensures.items ∙ length-append c.args.nodes.now.items (Inner 0 ∷ []) in
     (omega (arith, c.decreases, are.low_len, are.low_window.within), (are.low_window, omega (arith, both, pushed, c.requires.few, high_some c.args.stretches.now c.halves.result.1)))
 
@@ -55,7 +55,7 @@ counted old pushed first lows leaves is more counts =
 pub overflow_cast-len : goal.overflow_cast-len
 overflow_cast-len t c =
     let s = c.args.stretches.now in
-    let both = leaves_both s c.len-count.ensures.every c.args.window c.requires.window c.if-window.false c.halves.result.0 c.halves.result.1 c.halves.ensures in
+    let both = leaves_both s c.laws.ensures.every c.args.window c.requires.window c.if-window.false c.halves.result.0 c.halves.result.1 c.halves.ensures in
     let upper = counted _ _ _ _ _ c.in_ok-push-2.ensures.items c.in_ok-push_nodes.ensures (length-stored s _ _ _ _) in
     omega (arith, both, c.requires.few, c.len.ensures, upper)
 
@@ -63,7 +63,7 @@ pub push_nodes-requires-2 : goal.push_nodes-requires-2
 push_nodes-requires-2 t c =
     let s = c.args.stretches.now in
     let are = c.halves.ensures in
-    let both = leaves_both s c.len-count.ensures.every c.args.window c.requires.window c.if-window.false c.halves.result.0 c.halves.result.1 are in
+    let both = leaves_both s c.laws.ensures.every c.args.window c.requires.window c.if-window.false c.halves.result.0 c.halves.result.1 are in
     let old = c.args.nodes.now.items in
     let lows = stored_of s c.halves.result.0 (length c.push-2.new.self.items) in
     let number = c.len-number.ensures ∙ c.args.nodes.now.ok.0 in
@@ -102,5 +102,5 @@ returns t c =
     on_ok_weaker c.push_nodes-2.result
     (λ all. all ∙ (λ i. set_is i ++ stored_of s high (count i)) ∙ append_assoc old (Inner c.len.result ∷ stored_of s low (k + 1)) (stored_of s high (k + 2 * length (leaves_of s low)))
     ∙ ap (λ (u : ℕ). old ++ (Inner u ∷ (stored_of s low (k + 1) ++ stored_of s high (k + 2 * length (leaves_of s low))))) upper
-    ∙ ap (λ (l : List TrieNode). old ++ l) (sym (stored_both s c.len-count.ensures.every c.args.window c.requires.window c.if-window.false low high are k)))
+    ∙ ap (λ (l : List TrieNode). old ++ l) (sym (stored_both s c.laws.ensures.every c.args.window c.requires.window c.if-window.false low high are k)))
     c.push_nodes-2.ensures

@@ -11,7 +11,7 @@ push_nodes-requires-clause-few c =
     omega (
       arith,
       c.requires,
-      ap length (whole_leaves s c.len-count.ensures.every c.whole.result c.whole.ensures.first c.whole.ensures.len),
+      ap length (whole_leaves s c.laws.ensures.every c.whole.result c.whole.ensures.first c.whole.ensures.len),
       ap length c.new-nodes.ensures.items,
     )
 
@@ -22,7 +22,7 @@ all_are old new all own none is same = is ∙ (λ i. none i ++ own (none i)) ∙
 pub invariant_of-result : goal.invariant_of-result
 invariant_of-result c =
     let s = c.args.stretches.now in
-    let every = c.len-count.ensures.every in
+    let every = c.laws.ensures.every in
     let items = c.push_nodes.new.nodes.items in
     let are = all_are c.new-nodes.result.items items _ (λ l. stored_of s c.whole.result (length l)) c.new-nodes.ensures.items c.in_ok-push_nodes.ensures
     (whole_stored s every c.whole.result c.whole.ensures.first c.whole.ensures.len) in
@@ -31,7 +31,7 @@ invariant_of-result c =
 pub returns-clause-leaves : goal.returns-clause-leaves
 returns-clause-leaves c =
     let s = c.args.stretches.now in
-    let every = c.len-count.ensures.every in
+    let every = c.laws.ensures.every in
     let items = c.push_nodes.new.nodes.items in
     let are = all_are c.new-nodes.result.items items _ (λ l. stored_of s c.whole.result (length l)) c.new-nodes.ensures.items c.in_ok-push_nodes.ensures
     (whole_stored s every c.whole.result c.whole.ensures.first c.whole.ensures.len) in

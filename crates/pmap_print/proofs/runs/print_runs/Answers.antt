@@ -19,7 +19,7 @@ pub loop-index-preserved : goal.loop-index-preserved
 loop-index-preserved c =
     let s : StretchesModel = c.args.runs.now.stretches in
     let i : ℕ = c.loop-index.index in
-    let left : length s.firsts - i ≡ suc (length s.firsts - (i + 1)) = omega (arith, c.loop-index-test.true, c.len-index-end.ensures.value) in
+    let left : length s.firsts - i ≡ suc (length s.firsts - (i + 1)) = omega (arith, c.loop-index-test.true, c.len-index-end.ensures) in
     let text : ℕ → ℕ → Text = λ from count. flat_map line_text (map (run_fields s.version) (runs_from c.args.labels.now s from count)) in
     let rest : Text = text (i + 1) (length s.firsts - (i + 1)) in
     let run : Text = line_text (run_fields s.version (run_at c.args.labels.now s i)) in
@@ -30,11 +30,11 @@ pub returns : goal.returns
 returns c =
     let s : StretchesModel = c.args.runs.now.stretches in
     let i : ℕ = c.loop-index.index in
-    let none : length s.firsts - i ≡ 0 = omega (arith, c.loop-index-test.false, c.len-index-end.ensures.value) in
+    let none : length s.firsts - i ≡ 0 = omega (arith, c.loop-index-test.false, c.len-index-end.ensures) in
     let text : ℕ → Text = λ count. flat_map line_text (map (run_fields s.version) (runs_from c.args.labels.now s i count)) in
     record {
       runs = runs_from c.args.labels.now s 0 (length s.firsts);
-      are = all_runs c.args.labels.now c.laws.ensures.table s c.len-index-end.ensures.every c.requires c.args.runs.now.joined;
+      are = all_runs c.args.labels.now c.laws.ensures.table s c.laws-2.ensures.every c.requires c.args.runs.now.joined;
       is =
           c.into_bytes.ensures ∙ c.in_ok-push_bytes-2.ensures ∙ sym (append-nil (c.loop-index.out ++ 10 ∷ []))
           ∙ sym (ap (λ (n : ℕ). (c.loop-index.out ++ 10 ∷ []) ++ text n) none) ∙ c.loop-index.invariant;

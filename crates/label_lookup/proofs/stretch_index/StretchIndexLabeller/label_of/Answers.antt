@@ -16,25 +16,25 @@ fits_version v w a same fits = rw (← same) fits
 pub find-index-requires-clause-order : goal.find-index-requires-clause-order
 find-index-requires-clause-order c =
     let same = same_version c.args.self.now _ c.args.addr.version c.self.view_is c.requires in
-    read_order c.self.inside.stretches c.len-count.ensures.every c.self.inside.tops.items c.self.invariant c.args.addr.value
+    read_order c.self.inside.stretches c.laws.ensures.every c.self.inside.tops.items c.self.invariant c.args.addr.value
     (fits_version _ _ _ same c.args.addr.in_range) c.width.result _ _ (c.width.ensures ∙ ap width_of same) c.index-from.ensures c.index-to.ensures
 
 pub find-index-requires-clause-index : goal.find-index-requires-clause-index
 find-index-requires-clause-index c =
     let same = same_version c.args.self.now _ c.args.addr.version c.self.view_is c.requires in
-    read_below c.self.inside.stretches c.len-count.ensures.every c.self.inside.tops.items c.self.invariant c.args.addr.value
+    read_below c.self.inside.stretches c.laws.ensures.every c.self.inside.tops.items c.self.invariant c.args.addr.value
     (fits_version _ _ _ same c.args.addr.in_range) c.width.result _ _ (c.width.ensures ∙ ap width_of same) c.index-from.ensures c.index-to.ensures
 
 pub find-index-requires-clause-above : goal.find-index-requires-clause-above
 find-index-requires-clause-above c =
     let same = same_version c.args.self.now _ c.args.addr.version c.self.view_is c.requires in
-    read_begins c.self.inside.stretches c.len-count.ensures.every c.self.inside.tops.items c.self.invariant c.args.addr.value
+    read_begins c.self.inside.stretches c.laws.ensures.every c.self.inside.tops.items c.self.invariant c.args.addr.value
     (fits_version _ _ _ same c.args.addr.in_range) c.width.result _ _ (c.width.ensures ∙ ap width_of same) c.index-from.ensures c.index-to.ensures
 
 pub find-index-requires-clause-below : goal.find-index-requires-clause-below
 find-index-requires-clause-below c =
     let same = same_version c.args.self.now _ c.args.addr.version c.self.view_is c.requires in
-    read_ends c.self.inside.stretches c.len-count.ensures.every c.self.inside.tops.items c.self.invariant c.args.addr.value
+    read_ends c.self.inside.stretches c.laws.ensures.every c.self.inside.tops.items c.self.invariant c.args.addr.value
     (fits_version _ _ _ same c.args.addr.in_range) c.width.result _ _ (c.width.ensures ∙ ap width_of same) c.index-from.ensures c.index-to.ensures
 
 pub returns-clause-value : goal.returns-clause-value
@@ -43,7 +43,7 @@ returns-clause-value c =
     let same = same_version c.args.self.now m c.args.addr.version c.self.view_is c.requires in
     c.text.ensures.value
     ∙ ap (option_and_then (λ id. slice_get m.table id.0)) (sym c.in_ok-id.was ∙ c.label.ensures)
-    ∙ label_found m c.len-count.ensures.every c.args.addr.value c.find-index.result c.find-index.ensures.holds (fits_version _ _ _ same c.args.addr.in_range)
+    ∙ label_found m c.laws.ensures.every c.args.addr.value c.find-index.result c.find-index.ensures.holds (fits_version _ _ _ same c.args.addr.in_range)
     ∙ ap (λ (x : StretchModel). (labelling x.stretches.version (text_held x.table x.stretches)).label c.args.addr.value) c.self.view_is
 
 pub returns-in_err-id-clause-value : goal.returns-in_err-id-clause-value
@@ -52,5 +52,5 @@ returns-in_err-id-clause-value c =
     let same = same_version c.args.self.now m c.args.addr.version c.self.view_is c.requires in
     ap (option_map (λ t. t.now)) c.from_residual.ensures
     ∙ ap (option_and_then (λ id. slice_get m.table id.0)) (sym c.in_err-id.was ∙ c.label.ensures)
-    ∙ label_found m c.len-count.ensures.every c.args.addr.value c.find-index.result c.find-index.ensures.holds (fits_version _ _ _ same c.args.addr.in_range)
+    ∙ label_found m c.laws.ensures.every c.args.addr.value c.find-index.result c.find-index.ensures.holds (fits_version _ _ _ same c.args.addr.in_range)
     ∙ ap (λ (x : StretchModel). (labelling x.stretches.version (text_held x.table x.stretches)).label c.args.addr.value) c.self.view_is

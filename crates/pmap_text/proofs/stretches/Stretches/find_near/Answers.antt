@@ -4,8 +4,8 @@ use Rattle.pmap_text.proofs.stretches.Stretches.find_near.Goals as goal
 
 pub returns-then-address-first-clause-index : goal.returns-then-address-first-clause-index
 returns-then-address-first-clause-index c =
-    sym (held_index c.args.self.now c.len-end.ensures.every c.args.address c.find.result c.find.ensures.holds)
+    sym (held_index c.args.self.now c.laws.ensures.every c.args.address c.find.result c.find.ensures.holds)
 
 pub returns-clause-index : goal.returns-clause-index
 returns-clause-index c =
-    sym (held_index c.args.self.now c.len-end.ensures.every c.args.address c.find-2.result c.find-2.ensures.holds)
+    sym (held_index c.args.self.now c.laws.ensures.every c.args.address c.find-2.result c.find-2.ensures.holds)
