@@ -1,0 +1,260 @@
+"""What the Python scripts of examples/ share: how they begin and end, shown texts, addresses, files, other programs.
+
+A script finds this file beside itself, also if it is called by a link:
+
+    sys.dont_write_bytecode = True
+    sys.path.insert(0, os.path.dirname(os.path.realpath(__file__)))
+    import shared
+
+and ends with `shared.run(main, __doc__)`. The exit status is
+
+- 0 if all was done;
+- 1 if an input or the result is refused, or another program failed;
+- 2 if the command line is faulty;
+- 3 if memory runs out;
+- 4 if a file can't be opened, read or written;
+- 125 if there is no flowlabel. If flowlabel fails, its status;
+- 128 and its number if a signal ends the script: 129 by SIGHUP, 130 by Ctrl-C, 141 by a closed pipe, 143 by SIGTERM.
+"""
+
+import signal
+
+SIGNALS = (signal.SIGINT, signal.SIGTERM, signal.SIGHUP)
+# Nothing is left half done yet, so Ctrl-C ends the script at once, also while the modules below are loaded.
+signal.signal(signal.SIGINT, signal.SIG_DFL)
+
+import argparse
+import contextlib
+import os
+import re
+import shutil
+import socket
+import stat
+import subprocess
+import sys
+
+FOLDER = os.path.dirname(os.path.realpath(__file__))
+# Lines on standard error begin with this name, however the script is called.
+NAME = f"examples/{os.path.basename(os.path.realpath(sys.argv[0]))}"
+PROGRAM = os.path.join(FOLDER, "program")
+FAMILIES = {4: socket.AF_INET, 6: socket.AF_INET6}
+WIDTHS = {4: 32, 6: 128}
+# The first address of ::ffff:0:0/96, the block of IPv6 that has the addresses of IPv4.
+MAPPED = 0xFFFF << 32
+# Zeros before a number of an IPv4 address, which has at most three digits.
+ZEROS = re.compile(r"(?<![0-9A-Fa-f])(?:00(?=[0-9](?:\.|$))|0(?=[0-9]{1,2}(?:\.|$)))")
+
+
+class Failure(Exception):
+    """The reason why a script fails, and its exit status."""
+
+    def __init__(self, why, status=1):
+        super().__init__(why)
+        self.status = status
+
+
+class Ended(BaseException):
+    """A signal that ends the script. What is half done is undone on the way."""
+
+
+def end(number, _):
+    """Ends the script by a signal. Nothing interrupts what undoes its steps."""
+    for other in SIGNALS:
+        signal.signal(other, signal.SIG_IGN)
+    raise Ended(number)
+
+
+def die(number):
+    """Ends the process by a signal, as if the script had not caught it."""
+    signal.signal(number, signal.SIG_DFL)
+    os.kill(os.getpid(), number)
+
+
+def run(main, page):
+    """Runs a script, whose page `--help` prints, and ends the process."""
+    status = 1
+    try:
+        for number in SIGNALS:
+            # nohup ignores SIGHUP.
+            if number != signal.SIGHUP or signal.getsignal(number) != signal.SIG_IGN:
+                signal.signal(number, end)
+        status = status_of(main, page)
+        flush()
+    except Ended as ended:
+        die(ended.args[0])
+    except Failure as fault:
+        status = fault.status
+        warn(str(fault))
+    except MemoryError:
+        status = 3
+        warn("out of memory")
+    except BrokenPipeError:
+        die(signal.SIGPIPE)
+    except OSError as fault:
+        status = 4
+        name = "standard input" if fault.filename == 0 else os.fsdecode(fault.filename or "")
+        warn(f"{name}: {fault.strerror}" if name else f"{fault.strerror or fault}")
+    with contextlib.suppress(Failure, OSError):
+        flush()
+    sys.exit(status)
+
+
+def status_of(main, page):
+    """Runs a script, and returns the status with which it ends itself."""
+    try:
+        if sys.argv[1:] in (["--help"], ["-h"]):
+            write([page.encode()])
+        else:
+            main()
+    except SystemExit as ended:
+        return ended.code
+    return 0
+
+
+def usage(page):
+    """Returns the fault of a command line: how the script is called, as the first lines of its page say."""
+    calls = re.findall(rf"(?m)\b{NAME} .*$", page)
+    return Failure(f"usage: {' | '.join(calls) or NAME} (--help prints more)", 2)
+
+
+class Parser(argparse.ArgumentParser):
+    """A parser of options whose faults have one line, and whose help is the script's page."""
+
+    def __init__(self, page):
+        super().__init__(prog=NAME, description=page, allow_abbrev=False)
+
+    def format_help(self):
+        return self.description
+
+    def error(self, message):
+        raise Failure(message, 2)
+
+
+def shown(text):
+    """Returns a text whose unprintable characters are escapes, so that it is in one line."""
+    return "".join(c if c.isprintable() else f"\\x{ord(c):02x}" if ord(c) < 0x100 else f"\\u{ord(c):04x}"
+                   for c in str(text))
+
+
+def write(parts):
+    """Writes bytes to standard output. If nobody reads them, the script ends silently."""
+    if sys.stdout is None:
+        raise Failure("output: it is closed", 4)
+    with writing():
+        sys.stdout.buffer.writelines(parts)
+
+
+def flush():
+    """Writes what standard output keeps."""
+    if sys.stdout is not None:
+        with writing():
+            sys.stdout.flush()
+
+
+@contextlib.contextmanager
+def writing():
+    """Names standard output in its faults, and gives it up after one, since Python would write once more at the end."""
+    try:
+        yield
+    except BrokenPipeError:
+        sys.stdout = None
+        raise
+    except OSError as fault:
+        sys.stdout = None
+        raise Failure(f"output: {fault.strerror}", 4) from None
+
+
+def say(*parts):
+    """Writes a line of texts and bytes to standard output."""
+    write([b"".join(part if isinstance(part, bytes) else os.fsencode(str(part)) for part in parts) + b"\n"])
+
+
+def warn(line):
+    """Prints one line on standard error, after the name of the script."""
+    # Without standard error, Python would print it on standard output.
+    if sys.stderr is not None:
+        with contextlib.suppress(OSError):
+            print(f"{NAME}: {shown(line)}", file=sys.stderr, flush=True)
+
+
+def address(text):
+    """Returns the version and the number of an address, as flowlabel reads it. Raises ValueError for another text."""
+    version = 6 if ":" in text else 4
+    try:
+        return version, int.from_bytes(socket.inet_pton(FAMILIES[version], text), "big")
+    except OSError:
+        bare = ZEROS.sub("", text) if "." in text else text
+        if bare == text:
+            raise ValueError(f"no address: {text}") from None
+        return address(bare)
+
+
+def address_text(version, number):
+    """Returns an address as a text."""
+    return socket.inet_ntop(FAMILIES[version], number.to_bytes(WIDTHS[version] // 8, "big"))
+
+
+def block(text):
+    """Returns the version, the number of the address and the length of a block. An address is a block of its own.
+    Raises ValueError for another text. Host bits may be set."""
+    first, slash, length = text.partition("/")
+    version, number = address(first)
+    if slash and not (re.fullmatch("[0-9]{1,3}", length) and int(length) <= WIDTHS[version]):
+        raise ValueError(f"no length of a block: {length}")
+    return version, number, int(length) if slash else WIDTHS[version]
+
+
+def ends(version, number, length):
+    """Returns the first and the last address of a block, as numbers."""
+    host_bits = (1 << WIDTHS[version] - length) - 1
+    return number & ~host_bits, number | host_bits
+
+
+def refuse_other(name):
+    """Refuses to replace what isn't a regular file, such as a device or a link."""
+    if os.path.lexists(name) and not stat.S_ISREG(os.lstat(name).st_mode):
+        raise Failure(f"{name}: not a regular file, so it isn't replaced")
+
+
+@contextlib.contextmanager
+def replacing(name):
+    """Opens a new binary file, which replaces the file NAME in one step if the block ends well. Otherwise NAME is as it
+    was, also if a signal ends the script."""
+    refuse_other(name)
+    part = f"{name}.{os.getpid()}.part"
+    try:
+        with open(part, "xb") as file:
+            if os.path.exists(name):
+                os.fchmod(file.fileno(), stat.S_IMODE(os.stat(name).st_mode))
+            yield file
+            file.flush()
+            os.fsync(file.fileno())
+        os.replace(part, name)
+    except OSError as fault:
+        if fault.filename not in (None, part):
+            raise
+        raise OSError(fault.errno, fault.strerror, name) from None
+    finally:
+        with contextlib.suppress(OSError):
+            os.unlink(part)
+
+
+def flowlabel(*words, **options):
+    """Runs flowlabel, and returns its output, or without words the program's name. If it fails, its line is on standard
+    error, and the script ends with its status. The options are those of subprocess.run."""
+    ended = subprocess.run([PROGRAM, *words], stdout=subprocess.PIPE, check=False, **options)
+    if ended.returncode != 0:
+        sys.exit(ended.returncode if ended.returncode > 0 else 128 - ended.returncode)
+    return ended.stdout
+
+
+def output_of(*words, package, stdin=""):
+    """Runs another program, and returns its output as a text. If it fails, the first line that it prints is the reason.
+    PACKAGE is that of Debian."""
+    if not shutil.which(words[0]):
+        raise Failure(f"there is no {words[0]} (Debian: {package})")
+    ended = subprocess.run(words, input=stdin, capture_output=True, text=True, errors="surrogateescape", check=False)
+    if ended.returncode != 0:
+        lines = (ended.stderr.strip() or ended.stdout.strip() or f"the status is {ended.returncode}").splitlines()
+        raise Failure(f"{' '.join(words[:4])}: {lines[0]}")
+    return ended.stdout
