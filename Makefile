@@ -46,6 +46,7 @@ test:
 	tests/install
 	tests/verify
 	tests/shared
+	tests/report --without-packages
 	examples/run --without-packages
 
 examples:

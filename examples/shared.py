@@ -41,6 +41,13 @@ FAMILIES = {4: socket.AF_INET, 6: socket.AF_INET6}
 WIDTHS = {4: 32, 6: 128}
 # The first address of ::ffff:0:0/96, the block of IPv6 that has the addresses of IPv4.
 MAPPED = 0xFFFF << 32
+# The columns of tables of sums: addresses, labels, other fields, times and totals.
+ADDRESSES, LABELS = (b"sip", b"dip"), (b"src-label", b"dst-label")
+FIELDS = (*ADDRESSES, *LABELS, b"sport", b"dport", b"proto", b"flags")
+TIMES = {b"minute": re.compile(rb"0|(\d{4,})-\d\d-\d\dT\d\d:\d\dZ"), b"hour": re.compile(rb"0|(\d{4,})-\d\d-\d\dT\d\dZ"),
+         b"day": re.compile(rb"0|(\d{4,})-\d\d-\d\d")}
+TOTALS = (b"records", b"packets", b"bytes")
+NUMBER = re.compile(rb"0|[1-9][0-9]*")
 # Zeros before a number of an IPv4 address, which has at most three digits.
 ZEROS = re.compile(r"(?<![0-9A-Fa-f])(?:00(?=[0-9](?:\.|$))|0(?=[0-9]{1,2}(?:\.|$)))")
 
@@ -243,9 +250,35 @@ def flowlabel(*words, **options):
     """Runs flowlabel, and returns its output, or without words the program's name. If it fails, its line is on standard
     error, and the script ends with its status. The options are those of subprocess.run."""
     ended = subprocess.run([PROGRAM, *words], stdout=subprocess.PIPE, check=False, **options)
-    if ended.returncode != 0:
-        sys.exit(ended.returncode if ended.returncode > 0 else 128 - ended.returncode)
+    ended_well(ended.returncode)
     return ended.stdout
+
+
+@contextlib.contextmanager
+def piped(*words):
+    """Yields what a command prints, while it runs. If it fails, its line is on standard error, and the script ends with
+    its status, whatever a table that it has cut short looks like."""
+    with subprocess.Popen(words, stdout=subprocess.PIPE) as process:
+        fault = None
+        try:
+            yield process.stdout
+        except Failure as found:
+            fault = found
+        except BaseException:
+            process.kill()
+            raise
+        # The rest of the output, so that the command doesn't fail for want of a reader.
+        while process.stdout.read(1 << 20):
+            pass
+    ended_well(process.returncode)
+    if fault:
+        raise fault
+
+
+def ended_well(status):
+    """Ends the script with the status of a command that it ran, if this is a fault."""
+    if status != 0:
+        sys.exit(status if status > 0 else 128 - status)
 
 
 def output_of(*words, package, stdin=""):
@@ -258,3 +291,30 @@ def output_of(*words, package, stdin=""):
         lines = (ended.stderr.strip() or ended.stdout.strip() or f"the status is {ended.returncode}").splitlines()
         raise Failure(f"{' '.join(words[:4])}: {lines[0]}")
     return ended.stdout
+
+
+def is_fields(columns):
+    """Returns whether these columns may be those before the totals of a table of sums: fields, perhaps after a time."""
+    fields = columns[1:] if columns[:1] and columns[0] in TIMES else columns
+    return columns != [] and set(fields) <= {*FIELDS} and len(set(fields)) == len(fields)
+
+
+def cell_order(column, cell):
+    """Returns the order of a cell among those of its column: addresses, times and numbers by value, and labels by their
+    bytes. Raises ValueError if the column can't have it."""
+    if column in LABELS:
+        return cell
+    if column in TIMES:
+        found = TIMES[column].fullmatch(cell)
+        if not found:
+            raise ValueError
+        return int(found[1] or -1), cell
+    if column in ADDRESSES:
+        is_six = b":" in cell
+        try:
+            return is_six, socket.inet_pton(FAMILIES[6 if is_six else 4], cell.decode())
+        except OSError:
+            raise ValueError from None
+    if not NUMBER.fullmatch(cell):
+        raise ValueError
+    return int(cell)
