@@ -1,10 +1,10 @@
 # make test: the gate, with as many tasks at a time as there are processors (RT_JOBS=N: with N), and what each crate
 # costs. Then it checks that docs/DEFINITIONS.md names each definition that the headline needs (docs/trusted), the
-# words of pages and comments (docs/words), and runs fourteen scripts of tests/: each place that makes an out-of-memory
+# words of pages and comments (docs/words), and runs twelve scripts of tests/: each place that makes an out-of-memory
 # error or chooses a size, each function that is proved by hand, calls of the crates, a caller that must not compile, the
 # build by bin/flowlabel, the built program as a user runs it, its calls to the system, chosen keys of hash tables, each
-# allocation failing, the installation, examples/verify beside flowlabel, what other scripts of examples/ share,
-# examples/report, and the check of Files for lost records. Last come the examples that need no other program.
+# allocation failing, the installation, examples/verify beside flowlabel, and what other scripts of examples/ share.
+# Last come the examples that need no other program.
 # make examples: all examples of the pages. make scripts: the scripts of examples/ and the packages of make package.
 # Whatever needs a missing package is skipped.
 # make definitions: changes of definitions, each of which must break an example or a law.
@@ -47,7 +47,6 @@ test:
 	tests/verify
 	tests/shared
 	tests/report --without-packages
-	tests/lint flows lost
 	examples/run --without-packages
 
 examples:

@@ -1,0 +1,179 @@
+"""Changes that are made whole or not at all, for examples/fib and examples/table: their steps, and a lock."""
+
+import contextlib
+import fcntl
+import os
+import re
+import shutil
+import signal
+import subprocess
+import time
+
+import shared
+
+# The number of lines that a program takes at a time.
+LINES = 20000
+
+
+class Failed(shared.Failure):
+    """A program that failed, with the lines that it printed."""
+
+    def __init__(self, words, lines):
+        super().__init__(f"{' '.join(words[:6])}: {lines[0]}")
+        self.lines = lines
+
+
+class Steps:
+    """The steps of a change. If one fails, or a signal comes, it and those before it are undone, the last one first.
+
+    A signal only ends the program that runs. The steps look for it, so it comes neither within a step of this script
+    nor while steps are undone.
+    """
+
+    def __init__(self):
+        self.undoing, self.rest, self.handlers = [], [], {}
+        self.signal = self.program = None
+        self.is_quiet = False
+
+    def __enter__(self):
+        self.handlers = {number: signal.signal(number, self.note) for number in shared.SIGNALS
+                         if signal.getsignal(number) != signal.SIG_IGN}
+        return self
+
+    def note(self, number, _):
+        """Notes a signal, and ends the program that runs."""
+        self.signal = number
+        if self.program:
+            self.program.terminate()
+
+    def check(self):
+        """Ends the change if a signal has come."""
+        if self.signal and not self.is_quiet:
+            raise shared.Ended(self.signal)
+
+    def quiet(self):
+        """Ignores signals from now on, as do programs that are run."""
+        self.is_quiet = True
+        for number in self.handlers:
+            signal.signal(number, signal.SIG_IGN)
+
+    def __exit__(self, kind, fault, _):
+        self.quiet()
+        left = []
+        while fault and self.undoing:
+            left += attempt(*self.undoing.pop())
+        if left and isinstance(fault, shared.Failure):
+            fault.args = (f"{fault}; undoing this failed: {left[0]}",)
+        elif left:
+            shared.warn(f"undoing this failed: {left[0]}")
+        if not fault:
+            for number, handler in self.handlers.items():
+                signal.signal(number, handler)
+
+    def undo(self, action, *words):
+        """Names what undoes the next step, whether or not that step does anything before it fails."""
+        self.check()
+        self.undoing.append((action, *words))
+
+    def at_end(self, action, *words):
+        """Names what remains to do when nothing can fail any more."""
+        self.rest.append((action, *words))
+
+    def finish(self):
+        """Ends the change: it is whole. What then fails is only reported."""
+        self.check()
+        self.quiet()
+        self.undoing.clear()
+        while self.rest:
+            for why in attempt(*self.rest.pop()):
+                shared.warn(f"this is left for the next --load: {why}")
+
+    def run(self, *words, package, stdin="", silent=False):
+        """Runs a program, and returns its output. The first line that it prints is the reason if it fails. A `silent`
+        one also fails if it prints a line on standard error."""
+        self.check()
+        if not shutil.which(words[0]):
+            raise shared.Failure(f"there is no {words[0]} (Debian: {package})")
+        with subprocess.Popen(words, stdin=subprocess.PIPE, stdout=subprocess.PIPE, stderr=subprocess.PIPE, text=True,
+                              errors="surrogateescape") as self.program:
+            output, said = self.program.communicate(stdin)
+        status, self.program = self.program.returncode, None
+        self.check()
+        if status or silent and said:
+            raise Failed(words, (said.strip() or output.strip() or f"the status is {status}").splitlines())
+        return output
+
+    def batch(self, words, lines, **options):
+        """Runs a program over lines, some at a time, since ip 6.1 uses 4 KB of memory for each."""
+        for start in range(0, len(lines), LINES):
+            try:
+                self.run(*words, stdin="".join(f"{line}\n" for line in lines[start:start + LINES]), **options)
+            except Failed as fault:
+                number = re.fullmatch(r"Command failed -:(\d+)", fault.lines[-1])
+                raise shared.Failure(f"{words[0]} {lines[start + int(number[1]) - 1]}: {fault.lines[0]}"
+                                     if number else fault) from None
+
+    def replace(self, name):
+        """Replaces a file by NAME_new."""
+        old = f"{name}_old"
+        shared.refuse_other(old)
+        remove(old)
+        if os.path.exists(name):
+            self.undo(remove, old)
+            self.at_end(remove, old)
+            os.link(name, old)
+            self.undo(os.replace, old, name)
+        else:
+            self.undo(remove, name)
+        os.replace(f"{name}_new", name)
+
+    def write(self, name, text):
+        """Writes a file in one step. Its folder is made if there is none."""
+        self.make(os.path.dirname(name))
+        for place in (name, f"{name}_new"):
+            shared.refuse_other(place)
+        self.undo(remove, f"{name}_new")
+        with open(f"{name}_new", "wb") as file:
+            file.write(text)
+        self.replace(name)
+
+    def make(self, folder):
+        """Makes a folder if there is none."""
+        if folder and not os.path.isdir(folder):
+            self.make(os.path.dirname(folder))
+            os.mkdir(folder)
+            self.undo(os.rmdir, folder)
+
+
+def attempt(action, *words):
+    """Does something that must not end the script. Returns why it failed, in a list."""
+    try:
+        action(*words)
+    except (shared.Failure, OSError) as fault:
+        return [str(fault)]
+    return []
+
+
+def remove(name):
+    """Removes a file if there is one."""
+    with contextlib.suppress(FileNotFoundError):
+        os.unlink(name)
+
+
+@contextlib.contextmanager
+def locked(name):
+    """Waits until no other call has the lock of this name, and opens its file. Only root opens the lock of root."""
+    is_root = os.geteuid() == 0
+    held = (os.open(f"/run/flowlabel-{name}.lock", os.O_RDWR | os.O_CREAT | os.O_NOFOLLOW, 0o600) if is_root else
+            os.open(os.path.realpath(__file__), os.O_RDONLY))
+    with open(held, "r+" if is_root else "r", encoding="utf-8") as file:
+        # Most calls are short, so only a longer wait is reported.
+        for _ in range(100):
+            with contextlib.suppress(BlockingIOError):
+                fcntl.flock(file, fcntl.LOCK_EX | fcntl.LOCK_NB)
+                break
+            time.sleep(0.05)
+        else:
+            shared.warn("another call runs, and this one waits for it")
+            fcntl.flock(file, fcntl.LOCK_EX)
+        yield file
