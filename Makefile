@@ -1,10 +1,10 @@
 # make test: the gate, with as many tasks at a time as there are processors (RT_JOBS=N: with N), and what each crate
 # costs. Then it checks that docs/DEFINITIONS.md names each definition that the headline needs (docs/trusted), the
-# words of pages and comments (docs/words), and runs twelve scripts of tests/: each place that makes an out-of-memory
-# error or chooses a size, each function that is proved by hand, calls of the crates, a caller that must not compile, the
+# words of pages and comments (docs/words), and runs the scripts of tests/: each place that makes an out-of-memory error
+# or chooses a size, each function that is proved by hand, the outermost contracts as they were last reviewed, calls of the crates, a caller that must not compile, the
 # build by bin/flowlabel, the built program as a user runs it, its calls to the system, chosen keys of hash tables, each
-# allocation failing, the installation, examples/verify beside flowlabel, and what other scripts of examples/ share.
-# Last come the examples that need no other program.
+# allocation failing, the installation, and examples/verify beside flowlabel. Last come the examples that need no other
+# program.
 # make examples: all examples of the pages. make scripts: the scripts of examples/ and the packages of make package.
 # Whatever needs a missing package is skipped.
 # make definitions: changes of definitions, each of which must break an example or a law.
@@ -36,6 +36,7 @@ test:
 	docs/words
 	tests/out_of_memory
 	tests/by_hand
+	tests/contracts
 	tests/calls/run
 	tests/borrow
 	tests/build
@@ -45,8 +46,6 @@ test:
 	tests/memory
 	tests/install
 	tests/verify
-	tests/shared
-	tests/report --without-packages
 	examples/run --without-packages
 
 examples:
