@@ -1,10 +1,5 @@
 # make test: the gate, with as many tasks at a time as there are processors (RT_JOBS=N: with N), and what each crate
-# costs. Then it checks that docs/DEFINITIONS.md names each definition that the headline needs (docs/trusted), the
-# words of pages and comments (docs/words), and runs the scripts of tests/: each place that makes an out-of-memory error
-# or chooses a size, each function that is proved by hand, the outermost contracts as they were last reviewed, calls of the crates, a caller that must not compile, the
-# build by bin/flowlabel, the built program as a user runs it, its calls to the system, chosen keys of hash tables, each
-# allocation failing, the installation, and examples/verify beside flowlabel. Last come the examples that need no other
-# program.
+# costs. Then tests/run runs the scripts of `checks` below, whose first lines describe them, and reports what was skipped.
 # make examples: all examples of the pages. make scripts: the scripts of examples/ and the packages of make package.
 # Whatever needs a missing package is skipped.
 # make definitions: changes of definitions, each of which must break an example or a law.
@@ -26,42 +21,27 @@ files = bin/flowlabel share/man/man1/flowlabel.1 share/man/man1/flowlabel-script
 	share/bash-completion/completions/flowlabel share/zsh/site-functions/_flowlabel \
 	share/fish/vendor_completions.d/flowlabel.fish
 
+# Scripts that check the sources and the pages, and those that check the program.
+checks = 'docs/trusted >out/trusted' docs/words tests/out_of_memory tests/by_hand tests/contracts tests/pages \
+	tests/calls/run tests/borrow tests/build tests/program tests/system tests/hashing tests/instructions tests/memory \
+	tests/install tests/verify 'examples/run --without-packages'
+# Scripts that check the scripts of examples/ and the packages.
+checks_of_scripts = tests/capture tests/country tests/endings tests/fib tests/lint tests/many tests/package \
+	tests/pictures tests/report tests/table
+
 # The gate builds the program, so bin/flowlabel must take the program to be as old as the gate's start.
 test:
 	mkdir -p out
 	bin/record begin out/gate
 	bench/gate
 	bin/record end out/gate
-	docs/trusted >out/trusted
-	docs/words
-	tests/out_of_memory
-	tests/by_hand
-	tests/contracts
-	tests/calls/run
-	tests/borrow
-	tests/build
-	tests/program
-	tests/system
-	tests/hashing
-	tests/memory
-	tests/install
-	tests/verify
-	examples/run --without-packages
+	tests/run $(checks)
 
 examples:
 	examples/run
 
 scripts:
-	tests/capture
-	tests/country
-	tests/endings
-	tests/fib
-	tests/lint
-	tests/many
-	tests/package
-	tests/pictures
-	tests/report
-	tests/table
+	tests/run $(checks_of_scripts)
 
 definitions:
 	tests/definitions

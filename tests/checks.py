@@ -70,6 +70,26 @@ def system():
     return library
 
 
+def instructions(line, numbers):
+    """Returns the instructions that a run executes, by valgrind. `numbers` are the hash numbers that the system gives it."""
+    words = ["valgrind", "--tool=cachegrind", "--cache-sim=no", "--cachegrind-out-file=/dev/null", PROGRAM, *line.split()]
+    environment = {"PATH": os.environ["PATH"], "LD_PRELOAD": system(), "RANDOM": numbers}
+    ended = subprocess.run(words, env=environment, stdin=subprocess.DEVNULL, stdout=subprocess.DEVNULL,
+                           stderr=subprocess.PIPE, timeout=FOREVER, check=False)
+    return int(re.findall(rb"I\s+refs:\s+([\d,]+)", ended.stderr)[-1].replace(b",", b""))
+
+
+def needs(name, *programs):
+    """Ends a script that lacks one of these programs: as skipped, with the line that `make test` sums up. In CI, which
+    must have them, this is a failure."""
+    missing = [program for program in programs if not shutil.which(program)]
+    if missing:
+        failed = int(bool(os.environ.get("CI")))
+        print(f"tests/{name}: there is no {' and no '.join(missing)}, so nothing is checked")
+        print(f"0 passed, {failed} failed, 1 skipped")
+        sys.exit(failed)
+
+
 class Checks:
     """The program, and the numbers of its checks that passed and failed."""
 
@@ -113,4 +133,4 @@ def run_all(name, prepare, *groups):
             group(checks)
         os.chdir(ROOT)
     print(f"{checks.passed} passed, {checks.failed} failed")
-    sys.exit(checks.failed > 0)
+    sys.exit(checks.failed > 0 or not checks.passed)
