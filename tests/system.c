@@ -1,5 +1,5 @@
-/* Reports the calls of a program to the system, and makes one of them fail, for tests/system and tests/hashing: the
- * dynamic linker loads this library before the C library (LD_PRELOAD).
+/* Reports the calls of a program to the system, and makes one of them fail, for tests/system, tests/hashing and
+ * tests/instructions: the dynamic linker loads this library before the C library (LD_PRELOAD).
  *
  * These environment variables say what it does:
  *
@@ -9,6 +9,8 @@
  *   error of this call. All later calls succeed.
  * - MOST is the maximum number of bytes that a read returns or a write takes.
  * - RANDOM has the bytes that `getentropy` returns, as hexadecimal digits.
+ * - STATUS is a number of a file to which /proc/self/status is copied when the program ends. Its line VmHWM has the peak
+ *   memory of the program alone, unlike what the system reports to its parent.
  *
  * The functions of the C library are declared here, so that no header is needed.
  */
@@ -122,4 +124,14 @@ int getentropy(void *bytes, size count) {
     digits[2 * i] = 0;
     report("random", count, digits, 0);
     return 0;
+}
+
+__attribute__((destructor)) static void copy_status(void) {
+    char text[LONGEST_LINE];
+    const char *to = getenv("STATUS");
+    int file = to ? __open("/proc/self/status", 0, 0) : -1;
+    long count = file < 0 ? 0 : __read(file, text, sizeof text);
+    if (count > 0) {
+        __write(strtoul(to, 0, 10), text, count);
+    }
 }
