@@ -1,6 +1,6 @@
 # Proves the libraries, side by side when they don't depend on one another, then the program, and links it:
 #     make -f bin/build.mk -j LIBRARIES JOBS=JOBS flowlabel
-# bin/flowlabel runs it at the top of the repository. A line of crates.txt is a rule: a crate follows what it depends on.
+# bin/record runs it at the top of the repository for bin/flowlabel. A line of crates.txt is a rule: a crate follows what it depends on.
 include crates.txt
 
 # The examples of the definitions are no part of the program.
@@ -8,9 +8,12 @@ crates := $(filter-out definition_examples,$(shell sed -n 's/^\([a-z_]*\):.*/\1/
 log := out/build.log
 .PHONY: $(crates)
 
-# The output for a crate is followed by one line in the log, and by one for the user on the third stream.
-proved = @echo 'proved: $@' >>$(log); \
-	echo "bin/flowlabel: crate $$(grep -c '^proved: ' $(log)) of $(words $(crates)) is proved: $@" >&3
+# A crate has two lines, when its proof begins and when it ends, each in the log and, with the time and how many crates are
+# left, for the user on the third stream.
+left = echo "bin/flowlabel: $$(date +%H:%M) $@ $(1); $$(( $(words $(crates)) - $$(grep -c '^proved: ' $(log)) )) of \
+	$(words $(crates)) crates are left" | tr -s '\t ' ' ' >&3
+begins = @echo 'begins: $@' >>$(log); $(call left,begins)
+proved = @echo 'proved: $@' >>$(log); $(call left,is proved)
 
 # Each job reads the modules of the logic and of the crates below anew: flow_filter takes 120 CPU seconds by one job,
 # and 175 by four. So most libraries have half of the jobs. Nearly all of them wait for pmap_text, which has all.
@@ -24,6 +27,7 @@ leave = rm -rf crates/$@/out && mv $(room)/crates/$@/out crates/$@ && rm -rf $(r
 	&& rmdir --ignore-fail-on-non-empty out/rooms
 
 $(filter-out flowlabel,$(crates)):
+	$(begins)
 	@flock crates/$@ flock crates sh -ec "if [ -d $(room)/crates/$@/out ]; then $(leave); fi; \
 		mkdir -p $(room) crates/$@/out; \
 		cp -rln --parents crates.txt crates/*/src crates/*/specs crates/*/proofs crates/$@/out $(room); \
@@ -34,6 +38,7 @@ $(filter-out flowlabel,$(crates)):
 
 # Under rt run the program is proved, is linked and runs once, and --help needs no file.
 flowlabel:
+	$(begins)
 	@cd crates/$@ && exec rt run --jobs $(JOBS) -- --help </dev/null
 	$(proved)
 
