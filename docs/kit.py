@@ -136,6 +136,14 @@ def less(a, b):
     return max(a - b, 0) if type(a) is int else a.less(b)
 
 
+def quotient(a, b):
+    return a // b if b else 0
+
+
+def remainder(a, b):
+    return a % b if b else a
+
+
 def first_place(test, items):
     return next(itertools.compress(itertools.count(), map(python(test), items)), len(items))
 
