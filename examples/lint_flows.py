@@ -1,0 +1,498 @@
+"""What `examples/lint --flows` finds in IPFIX Files. Its page says what is printed."""
+
+import collections
+import dataclasses
+import itertools
+import re
+import shutil
+import struct
+import subprocess
+import sys
+import tempfile
+
+import shared
+
+# How a file begins that is no IPFIX File, with the cause and the cure.
+NO_FILES = (
+    (rb"\x1f\x8b", "It is compressed by gzip. Use zcat FILE | flowlabel rows /dev/stdin"),
+    (rb"\x28\xb5\x2f\xfd", "It is compressed by zstd. Use zstdcat FILE | flowlabel rows /dev/stdin"),
+    (rb"\xfd7zXZ", "It is compressed by xz. Use xzcat FILE | flowlabel rows /dev/stdin"),
+    (rb"BZh[1-9]", "It is compressed by bzip2. Use bzcat FILE | flowlabel rows /dev/stdin"),
+    (rb"\xd4\xc3\xb2\xa1|\xa1\xb2\xc3\xd4|\x4d\x3c\xb2\xa1|\xa1\xb2\x3c\x4d|\x0a\x0d\x0d\x0a",
+     "It is a packet capture (pcap). examples/capture makes a File of its flows. If its packets are the messages of an "
+     "exporter, use the lines for tshark in examples/README.md"),
+    (rb"\x0c\xa5|\xa5\x0c", "It is a file of nfcapd. Have nfcapd forward the messages (-R), and record these"),
+    (rb"\0[\x01\x05\x07\x08]", "It is NetFlow version {version}. Have the exporter send IPFIX (version 10)"),
+    (rb"\0\x09", "It is NetFlow version 9. Have the exporter send IPFIX (version 10), such as softflowd with -v 10"),
+    (rb"\0\0\0[\x02\x04\x05]\0\0\0[\x01\x02]", "It is sFlow. Have the switch send IPFIX, or use an exporter "
+     "such as softflowd or pmacctd"),
+    (rb"\xde\xad\xbe\xef", "It is a file of SiLK. Convert it with rwsilk2ipfix"),
+    (rb"PK\x03\x04", "It is a zip archive. Unpack it"),
+    (rb"\0{16}", "It begins with zero bytes. The recording has failed, or the disk was full"),
+    (rb"[\t\n\r -~]{4}", "It is a text. Pass the IPFIX File here, and a map with --pmap"),
+)
+CUT = "The recording ended within a message. head -c {message} FILE >whole.ipfix keeps the messages before it"
+LOST = ("Bytes were lost or inserted between two messages. head -c {message} FILE >whole.ipfix keeps the messages "
+        "before them")
+DAMAGED = "The bytes are damaged, or the exporter is faulty. head -c {message} FILE >whole.ipfix keeps the messages " \
+          "before this one"
+# The usual cause of each fault of a File, with the cure.
+FLOW_CAUSES = {
+    "F1": CUT, "F2": LOST, "F3": LOST, "F4": CUT, "F5": DAMAGED, "F6 X1": DAMAGED, "F6 X3": DAMAGED,
+    "F6 X2": "The exporter pads template sets with four or more zero bytes. Update it",
+    "F7": "Files of several sessions were joined, perhaps: read them one by one. " + DAMAGED,
+    "F9": "It has too many messages. Cut it before a message in which the exporter sends its templates again",
+}
+# The numbers of usable elements of a row (docs/FORMATS.md), each with the least and the greatest length of its field.
+# An element with an enterprise number has its upper bit set, so it is none of these.
+ADDRESSES = ((8, 12), (27, 28))
+COUNTS = (("packets (element 2 or 86)", {2, 86}), ("bytes (element 1 or 85)", {1, 85}))
+LENGTHS = {8: (4, 4), 12: (4, 4), 27: (16, 16), 28: (16, 16), 2: (1, 8), 86: (1, 8), 1: (1, 8), 85: (1, 8)}
+VARIABLE = 65535
+# An address of IPv4 in the form of IPv6.
+AS_IPV4 = re.compile(rb"::ffff:[0-9a-f]+:[0-9a-f]+|[0-9.]+")
+HEADER, PAIR = struct.Struct(">HHIII"), struct.Struct(">HH")
+# Sequence numbers are modulo 2^32. A number is ahead of another if it is nearer upwards than downwards.
+MODULO, HALF = 1 << 32, 1 << 31
+# A jump of more records, at a message with templates, may also be that of a session that began elsewhere.
+FAR = 1000
+# How many messages, and how many gaps, are kept to find those that come twice or late.
+KEPT = 1000
+
+
+@dataclasses.dataclass(slots=True)
+class Message:
+    """A message: where it is, and how many flow records, options records and definitions of templates it has."""
+
+    number: int
+    offset: int
+    domain: int
+    sequence: int
+    is_repeated: bool
+    flows: int = 0
+    options: int = 0
+    definitions: int = 0
+    is_skipped: bool = False
+
+    def spare(self):
+        """Returns how much else an exporter might count in this message."""
+        return self.options + self.definitions + (not self.flows)
+
+
+# How exporters count: what they count, its number in a message, and whether a sequence number is that of the message's
+# end. RFC 7011 comes first, then RFC 7011 without options records, softflowd, softflowd with options records, NetFlow 9.
+WAYS = (
+    ("records", lambda message: message.flows + message.options, False),
+    ("records", lambda message: message.flows, False),
+    ("records", lambda message: message.flows, True),
+    ("records", lambda message: message.flows + message.options, True),
+    ("messages", lambda message: 1, False),
+)
+
+
+@dataclasses.dataclass(slots=True)
+class Gap:
+    """Numbers that no message has had, up to that of a message."""
+
+    begin: int
+    end: int
+    message: Message
+    # Whether the numbers may be those of templates or the like beside the gap, and whether later messages follow.
+    is_small: bool = False
+    is_followed: bool = False
+
+    def size(self):
+        return (self.end - self.begin) % MODULO
+
+
+class Numbers:
+    """The sequence numbers of a domain, or of a File, as counted in one way."""
+
+    def __init__(self, unit, count, is_end):
+        self.unit, self.count, self.is_end = unit, count, is_end
+        # How many messages begin with the number at which the one before ended, how many of these show that templates
+        # aren't counted, and how many messages came late.
+        self.fitting = self.plain = self.late = 0
+        # The number that comes next in each session, the last session last, and the last message.
+        self.expected, self.last = [], None
+        self.gaps, self.again, self.twice = [], [], []
+        # The gaps since numbers last followed each other, if they can be those of one session.
+        self.clear = []
+        # Whether several sessions are open at a time, so that numbers may be those of another exporter, and whether
+        # messages have skipped sets, so that the number of their records is unknown.
+        self.is_mixed = self.is_partial = False
+
+    def faults(self):
+        """Returns how often a number isn't the next one."""
+        return len(self.gaps) + len(self.again)
+
+    def is_known(self):
+        """Returns whether the exporter counts in this way: most numbers show it."""
+        return self.fitting >= 3 and self.fitting > self.faults()
+
+    def see(self, message):
+        """Reads the number of the next message."""
+        if self.faults() > self.fitting + KEPT:
+            return
+        begin = end = message.sequence
+        if message.is_skipped:
+            self.is_partial = True
+            begin, end = (None, end) if self.is_end else (begin, None)
+        elif self.is_end:
+            begin = (end - self.count(message)) % MODULO
+        else:
+            end = (begin + self.count(message)) % MODULO
+        expected = self.expected[-1] if self.expected else None
+        if not self.expected:
+            self.expected.append(end)
+        elif begin == expected is not None:
+            self.fitting += 1
+            self.plain += bool(self.counted(message).definitions)
+            for gap in self.clear:
+                gap.is_followed = True
+            self.clear.clear()
+        elif None not in (begin, expected) and not self.jump(expected, begin, end, message):
+            return
+        self.expected[-1], self.last = end, message
+
+    def counted(self, message):
+        """Returns the message whose records are counted between the last number and that of a message."""
+        return message if self.is_end else self.last
+
+    def jump(self, expected, begin, end, message):
+        """Finds the session of a message whose number isn't the next one, and puts it last. Returns False if the
+        message came late or twice."""
+        ahead = (begin - expected) % MODULO
+        if begin in self.expected:
+            self.is_mixed = True
+            self.expected.remove(begin)
+            self.expected.append(begin)
+        elif ahead < HALF:
+            self.gaps.append(Gap(expected, begin, message, ahead <= self.counted(message).spare()))
+            is_far = message.definitions and ahead > FAR
+            self.clear += [] if is_far or self.unit == "messages" else self.gaps[-1:]
+        elif self.fill(begin, end):
+            self.late += 1
+            return False
+        elif message.is_repeated:
+            self.twice.append(message)
+            return False
+        else:
+            self.again.append((message, begin))
+            self.is_mixed = self.is_mixed or begin != 0
+            self.expected = [*self.expected[-KEPT:], end]
+        return True
+
+    def fill(self, begin, end):
+        """Takes the numbers of a late message out of their gap. What remains of the gap may be lost, or be those of
+        an exporter that has only begun. Returns whether there is such a gap."""
+        last = begin if end is None else end
+        for index in range(len(self.gaps) - 1, max(-1, len(self.gaps) - KEPT), -1):
+            gap = self.gaps[index]
+            if (begin - gap.begin) % MODULO <= (last - gap.begin) % MODULO <= gap.size():
+                parts = Gap(gap.begin, begin, gap.message), Gap(last, gap.end, gap.message)
+                self.clear.clear()
+                if begin != end:
+                    self.gaps[index:index + 1] = [part for part in parts if part.size()]
+                return True
+        return False
+
+    def missing(self, is_certain):
+        """Returns the gaps whose records are certainly missing, or the others. Small gaps are certain if most numbers
+        beside templates show that templates aren't counted."""
+        is_plain = self.plain > sum(gap.is_small for gap in self.gaps)
+        return [gap for gap in self.gaps if is_certain == (
+            gap.is_followed and not self.is_mixed and (is_plain or not gap.is_small))]
+
+
+def places(gaps):
+    """Returns how many records gaps have, and where the first gaps are."""
+    shown = [f"{gap.size()} before the message {gap.message.number} at {gap.message.offset}" for gap in gaps[:3]]
+    more = [f"{len(gaps) - 3} more gaps"] * (len(gaps) > 3)
+    return sum(map(Gap.size, gaps)), ", ".join(shown + more)
+
+
+class Loss:
+    """The records that are missing in a File, by the sequence numbers of its messages (RFC 7011, section 3.1)."""
+
+    def __init__(self):
+        self.domains, self.whole = {}, [Numbers(*way) for way in WAYS]
+
+    def see(self, message):
+        """Reads the number of the next message."""
+        if message.domain not in self.domains:
+            self.domains[message.domain] = [Numbers(*way) for way in WAYS]
+        for numbers in itertools.chain(self.domains[message.domain], self.whole):
+            numbers.see(message)
+
+    def counted(self):
+        """Yields whose numbers are counted, and these, in the way that fits best. Some exporters count over all
+        domains."""
+        def best(numbers):
+            return max(numbers, key=lambda way: way.fitting)
+        found = {f"the domain {domain}": best(numbers) for domain, numbers in self.domains.items()}
+        whole = best(self.whole)
+        is_whole = len(found) > 1 and whole.fitting > sum(numbers.fitting for numbers in found.values())
+        return {"all domains": whole}.items() if is_whole else found.items()
+
+    def missing(self):
+        """Returns the number of records that are certainly missing, as a text, and whether sums are wrong."""
+        known = [numbers for _, numbers in self.counted() if numbers.is_known()]
+        count = sum(places(numbers.missing(True))[0] for numbers in known)
+        is_wrong = count > 0 or any(numbers.twice for numbers in known)
+        is_all = not any(numbers.is_partial or numbers.faults() and (numbers not in known or numbers.missing(False))
+                         for _, numbers in self.counted())
+        return f"{count}" if is_all else f"{count} or more" if count else "unknown", is_wrong
+
+    def warnings(self):
+        """Yields a warning of each domain with missing records, or whose numbers say nothing."""
+        for whose, numbers in self.counted():
+            if numbers.faults() and not numbers.is_known():
+                yield (f"too few sequence numbers of {whose} follow each other ({numbers.fitting} do), so missing "
+                       "records can't be counted")
+                continue
+            if gaps := numbers.missing(True):
+                yield "{} records of {} are missing: {}".format(places(gaps)[0], whose, places(gaps)[1])
+            if gaps := numbers.missing(False):
+                yield ("{} {} of {} may be missing: {}. Or the exporter counts more, began again, or isn't the only "
+                       "one".format(places(gaps)[0], numbers.unit, whose, places(gaps)[1]))
+            for message, begin in numbers.again[:3]:
+                yield f"the sequence numbers of {whose} begin again with {begin} in the message {message.number} at " \
+                      f"{message.offset}"
+            if numbers.is_mixed:
+                yield f"{whose} has several sessions, perhaps of several exporters"
+            if numbers.twice:
+                yield (f"{len(numbers.twice)} messages of {whose} came twice, so their records are in sums twice. The "
+                       f"first is the message {numbers.twice[0].number} at {numbers.twice[0].offset}")
+            if numbers.late:
+                yield f"{numbers.late} messages of {whose} came late. Their records aren't missing"
+
+
+class Templates:
+    """The templates of a File, the records that they describe, and the data sets that have none in force."""
+
+    def __init__(self):
+        # By domain and ID: whether the template is one of options, its usable elements, and the lengths between its
+        # fields of variable length. None if it is withdrawn.
+        self.known = {}
+        # The offset of the first definition, the number of records of a template, and that of skipped sets.
+        self.defined, self.records, self.skipped = {}, collections.Counter(), collections.Counter()
+        # Whether the first skipped set of an ID comes after its template was withdrawn.
+        self.first_skipped = {}
+
+    def read(self, file):
+        """Yields the messages of a File without faults."""
+        offset, recent = 0, collections.OrderedDict()
+        for number in itertools.count(1):
+            header = file.read(HEADER.size)
+            if not header:
+                return
+            _, length, _, sequence, domain = HEADER.unpack(header)
+            body, place = file.read(length - HEADER.size), 0
+            digest = hash(header + body)
+            message = Message(number, offset, domain, sequence, digest in recent)
+            recent[digest] = True
+            if len(recent) > KEPT:
+                recent.popitem(last=False)
+            while place < len(body):
+                name, size = PAIR.unpack_from(body, place)
+                self.read_set(message, name, body[place + PAIR.size:place + size])
+                place += size
+            yield message
+            offset += length
+
+    def read_set(self, message, name, body):
+        """Reads a set with an ID."""
+        key = message.domain, name
+        if name in (2, 3):
+            self.define(message, name == 3, body)
+        elif name >= 256 and (template := self.known.get(key)):
+            is_options, _, lengths = template
+            records = count_records(body, lengths)
+            self.records[key, template] += records
+            if is_options:
+                message.options += records
+            else:
+                message.flows += records
+        else:
+            self.skipped[key] += 1
+            message.is_skipped = True
+            # A template that is known here was withdrawn.
+            self.first_skipped.setdefault(key, key in self.known)
+
+    def define(self, message, is_options, body):
+        """Reads the definitions and withdrawals of a template set (RFC 7011, sections 3.4 and 8.1)."""
+        place, domain = 0, message.domain
+        while len(body) - place >= 4:
+            name, count = PAIR.unpack_from(body, place)
+            place += 4
+            message.definitions += 1
+            if not count:
+                ended = [key for key, found in self.known.items() if key[0] == domain and found
+                         and (key[1] == name if name >= 256 else found[0] == is_options)]
+                self.known.update(dict.fromkeys(ended))
+                continue
+            place += 2 * is_options
+            elements, lengths = [], [0]
+            for _ in range(count):
+                element, length = PAIR.unpack_from(body, place)
+                place += 8 if element >> 15 else 4
+                low, high = LENGTHS.get(element, (1, 0))
+                elements += [element] if low <= length <= high else []
+                if length == VARIABLE:
+                    lengths.append(0)
+                else:
+                    lengths[-1] += length
+            self.known[domain, name] = is_options, frozenset(elements), tuple(lengths)
+            self.defined.setdefault((domain, name), message.offset)
+
+    def why_skipped(self, key):
+        """Returns why data sets of a domain and an ID are skipped."""
+        domain, name = key
+        if name < 256:
+            return "such an ID is reserved. The exporter is faulty"
+        if self.first_skipped[key]:
+            return "the exporter withdrew their template"
+        if key in self.defined:
+            return (f"their template comes only in the message at {self.defined[key]}. Start the recording before the "
+                    "exporter")
+        others = [str(other) for other, its in self.defined if its == name and other != domain]
+        if others:
+            return f"only the domain {', '.join(others)} has a template of this ID"
+        return "their template isn't in the File. Start the recording before the exporter"
+
+    def warnings(self):
+        """Yields a warning of each ID whose sets are skipped, and of each template without what rows need."""
+        for key, count in self.skipped.items():
+            yield (f"{count} sets with the ID {key[1]} of the domain {key[0]} are skipped, so their records are in no "
+                   f"sum, and their number is unknown: {self.why_skipped(key)}")
+        for ((domain, name), (is_options, elements, _)), count in self.records.items():
+            lacking = "addresses of source and destination, so its records have no rows"
+            if any(elements.issuperset(pair) for pair in ADDRESSES):
+                lacking = " and no ".join(name for name, pair in COUNTS if not elements & pair)
+            if lacking and not is_options:
+                yield f"the template {name} of the domain {domain} ({count} records) has no {lacking}"
+
+
+def count_records(body, lengths):
+    """Returns the number of records of a data set, by the lengths between the fields of variable length."""
+    first, *others = lengths
+    shortest = sum(lengths) + len(others)
+    if not others or not shortest:
+        return len(body) // shortest if shortest else 0
+    count = place = 0
+    while len(body) - place >= shortest:
+        place += first
+        for length in others:
+            size = body[place]
+            # A length of one byte, or 255 and a length of two bytes (RFC 7011, section 7).
+            place += 1 + size + length if size < 255 else 3 + int.from_bytes(body[place + 1:place + 3], "big") + length
+        count += 1
+    return count
+
+
+def message_at(file, offset):
+    """Returns the offset of the message in which a fault is."""
+    begin = end = 0
+    while end <= offset and len(header := file.read(4)) == 4:
+        begin, end = end, end + max(int.from_bytes(header[2:], "big"), 16)
+        file.seek(end)
+    return begin if offset < end else offset
+
+
+def explain(name, file, fault):
+    """Prints the fault of a File, what the File is or the usual cause, and the cure."""
+    sys.stderr.buffer.write(fault.replace(b"/dev/stdin", shared.shown(name).encode()))
+    sys.stderr.flush()
+    found = re.match(rb"flowlabel: /dev/stdin: (F\d+) \w+(?: (X\d))? at (\d+)\n", fault)
+    if not found:
+        return
+    code, detail, offset = found[1].decode(), found[2], int(found[3])
+    file.seek(0)
+    start = file.read(16)
+    causes = [cause for form, cause in NO_FILES if re.match(form, start)] if offset == 0 else []
+    if not causes and offset == 0 and code in ("F1", "F2"):
+        causes = ["It is no IPFIX File, which begins with the bytes 00 0a"]
+    file.seek(0)
+    cause = causes[0] if causes else FLOW_CAUSES[f"{code} {detail.decode()}" if detail else code]
+    cause = cause.replace("{version}", "".join(map(str, start[1:2])))
+    shared.warn(f"{name}: {cause.replace('{message}', str(message_at(file, offset)))}")
+
+
+def over(file, *words, **options):
+    """Runs flowlabel over an open File."""
+    file.seek(0)
+    return subprocess.Popen([shared.PROGRAM, *words, "/dev/stdin"], stdin=file, stdout=subprocess.PIPE, **options)
+
+
+def count_rows(file, labels_are_ipv4):
+    """Returns the number of rows, and of those without packets, without bytes, and, under an IPv4 map, without a
+    label."""
+    rows = no_packets = no_bytes = unlabelled = 0
+    with over(file, "rows") as program:
+        next(program.stdout, None)
+        for row in program.stdout:
+            source, target, _, _, _, _, packets, octets, _ = row.split(b"|", 8)
+            rows += 1
+            no_packets += packets == b"0"
+            no_bytes += octets == b"0"
+            if labels_are_ipv4 and not (AS_IPV4.fullmatch(source) and AS_IPV4.fullmatch(target)):
+                unlabelled += 1
+    if program.returncode != 0:
+        sys.exit(program.returncode)
+    return rows, no_packets, no_bytes, unlabelled
+
+
+def lint_file(name, file, labels_are_ipv4):
+    """Prints what is found in an open File, and returns the exit status."""
+    with over(file, "info", stderr=subprocess.PIPE) as program:
+        info, fault = program.communicate()
+    if program.returncode != 0:
+        explain(name, file, fault)
+        return program.returncode
+    counted = {what: int(number) for what, number in map(str.split, info.decode().splitlines())}
+    templates, loss, seen = Templates(), Loss(), collections.Counter()
+    file.seek(0)
+    for message in templates.read(file):
+        loss.see(message)
+        seen.update(records=message.flows)
+        seen["options-records"] += message.options
+    if any(seen[what] != counted[what] for what in ("records", "options-records")):
+        raise shared.Failure(f"{name}: flowlabel counts other records: {counted}")
+    rows, no_packets, no_bytes, unlabelled = count_rows(file, labels_are_ipv4)
+    missing, is_wrong = loss.missing()
+    warnings = [*templates.warnings(), *loss.warnings()]
+    if no_packets:
+        warnings.append(f"{no_packets} of {rows} rows have 0 packets")
+    if no_bytes:
+        warnings.append(f"{no_bytes} of {rows} rows have 0 bytes")
+    if unlabelled:
+        warnings.append(f"{unlabelled} of {rows} rows have an IPv6 address, which has no label under an IPv4 map. Write "
+                        "'mode ipv6' at the top of the map")
+    if not counted["records"]:
+        warnings.append("it has no flow records" if counted["messages"] else "it is empty")
+    for warning in warnings:
+        shared.say(f"warning: {shared.shown(name)}: {warning}")
+    counted["missing"] = missing
+    shared.say(f"{shared.shown(name)}: ",
+               ", ".join(f"{what} {counted[what]}" for what in ("skipped-sets", "missing", "records", "rows")))
+    has_nothing = not counted["messages"] or counted["records"] and no_bytes == rows
+    return int(bool(counted["skipped-sets"] or is_wrong or has_nothing))
+
+
+def lint_flows(names, labels_are_ipv4):
+    """Prints what is found in Files, and returns the exit status. A File may be a pipe."""
+    statuses = []
+    for name in names:
+        try:
+            opened = open(name, "rb")
+        except OSError as fault:
+            shared.warn(f"{name}: {fault.strerror}")
+            statuses.append(4)
+            continue
+        with opened as file, tempfile.TemporaryFile() as copy:
+            if not file.seekable():
+                shutil.copyfileobj(file, copy)
+                file = copy
+            statuses.append(lint_file(name, file, labels_are_ipv4))
+    return max(statuses)
