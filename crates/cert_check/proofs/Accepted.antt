@@ -17,10 +17,11 @@ use Rattle.pmap_text.specs.MapModel.{Label, MapModel, settled_label}
 use Rattle.pmap_cert.specs.Compacting.{line_count}
 use Rattle.pmap_cert.specs.Acceptance.{AreBitsAccepted, IsAccepted, IsLeafAccepted, IsNodeAccepted, IsWithinExact}
 use Rattle.pmap_cert.specs.CertificateText.{HasNodeForm, HasRoomBelow}
-use Rattle.pmap_cert.specs.CertificateModel.{CertificateModel, ChainNode, InnerNode, LeafNode, Claim, Tree, claim_of, has, chain_claim, chosen_half, side_half, exact_claim}
+use Rattle.pmap_cert.specs.CertificateModel.{CertificateModel, ChainNode, InnerNode, LeafNode, Claim, Tree, claim_of, chain_claim, chosen_half, side_half, exact_claim}
 use Rattle.pmap_cert.proofs.Sets.{bytes_eq-same}
-use Rattle.cert_check.specs.Checking.{bits_fault, claim_fault, fault_of_number, first_fault, is_decided, is_label_of, leaf_fault, node_fault, is_same_version, CheckFault, BoundNotMet, CostTooHigh, LeafNotUniform, ListDiffers, SetTooSmall, VersionDiffers}
+use Rattle.cert_check.specs.Checking.{bits_fault, claim_fault, fault_of_number, first_fault, list_settles, is_label_of, leaf_fault, node_fault, is_same_version, CheckFault, BoundNotMet, CostTooHigh, LeafNotUniform, ListDiffers, SetTooSmall, VersionDiffers}
 use Rattle.cert_check.proofs.Lists.{any-filtered, none_kept}
+use Rattle.pmap_text.specs.Label.{has_label}
 
 pub same_version-true : (v w : Version) → is_same_version v w ≡ true → v ≡ w
 same_version-true V4 V4 h = refl
@@ -66,7 +67,7 @@ leaf-accepted : (m : MapModel) (ps : List Prefix) (n q : ℕ) (x : Label) → le
 leaf-accepted m ps n q x none =
     let W = width_of m.version in
     let first = cond_none-else (is_label_of (settled_label m n q) x) _ LeafNotUniform none in
-    let second = cond_none-else (is_decided W ps n q x) None ListDiffers first.1 in
+    let second = cond_none-else (list_settles W ps n q x) None ListDiffers first.1 in
     let parts = and_parts (not (list_any (lies_inside W n q) ps)) (is_label_of (label_below W ps (suc n) (first_of W n q)) x) second.0 in (
       is_label_of-true (settled_label m n q) x first.0,
       record {
@@ -83,13 +84,13 @@ leaf-none m ps n q x h =
     (cond (not (none i) && is_label_of-from (label_below W ps (suc n) (first_of W n q)) x h.1.longest i) None (Some ListDiffers)) (Some LeafNotUniform))
 
 -- a set that passes the test of all labels of a list has each of them
-all-has : (s xs : List Label) → list_all (has s) xs ≡ true → (x : Label) → has xs x ≡ true → has s x ≡ true
+all-has : (s xs : List Label) → list_all (has_label s) xs ≡ true → (x : Label) → has_label xs x ≡ true → has_label s x ≡ true
 all-has s xs h x inside =
     let (k, y, below, is, same) = Any-from_list_any (bytes_eq x) xs inside in
-    subst (λ (z : Label). has s z ≡ true) (sym ((bytes_eq-Decides x y).0 same)) (All-contains (λ z. has s z ≡ true) xs y (AllPass-from_list_all (has s) xs h) (k, below, is))
+    subst (λ (z : Label). has_label s z ≡ true) (sym ((bytes_eq-Decides x y).0 same)) (All-contains (λ z. has_label s z ≡ true) xs y (AllPass-from_list_all (has_label s) xs h) (k, below, is))
 
-has-all : (s xs : List Label) → ((x : Label) → has xs x ≡ true → has s x ≡ true) → list_all (has s) xs ≡ true
-has-all s xs h = list_all-from_AllPass (has s) xs (λ k d below. h (get_or xs k d) (list_any_at (bytes_eq (get_or xs k d)) xs k d below (bytes_eq-same (get_or xs k d))))
+has-all : (s xs : List Label) → ((x : Label) → has_label xs x ≡ true → has_label s x ≡ true) → list_all (has_label s) xs ≡ true
+has-all s xs h = list_all-from_AllPass (has_label s) xs (λ k d below. h (get_or xs k d) (list_any_at (bytes_eq (get_or xs k d)) xs k d below (bytes_eq-same (get_or xs k d))))
 
 at_most : (a b : ℕ) → nat_lt a b ≡ false → b ≤ a
 at_most a b h = grind (arith, nat_tests)
@@ -101,10 +102,10 @@ not-more a b h = grind (arith, nat_tests)
 claim-within : (p e : Claim) → claim_fault p e ≡ None → IsWithinExact p e
 claim-within p e none =
     let first = cond_none-then (nat_lt e.cost p.cost) _ CostTooHigh none in
-    let second = cond_none-then ((p.cost == e.cost) && not (list_all (has p.labels) e.labels)) None SetTooSmall first.1 in
+    let second = cond_none-then ((p.cost == e.cost) && not (list_all (has_label p.labels) e.labels)) None SetTooSmall first.1 in
     record {
       cost = at_most e.cost p.cost first.0;
-      labels = λ same. all-has p.labels e.labels (full (p.cost == e.cost) (list_all (has p.labels) e.labels) second.0 (eq-eqb p.cost e.cost same));
+      labels = λ same. all-has p.labels e.labels (full (p.cost == e.cost) (list_all (has_label p.labels) e.labels) second.0 (eq-eqb p.cost e.cost same));
     }
   where
     full : (b c : Bool) → (b && not c) ≡ false → b ≡ true → c ≡ true
@@ -114,9 +115,9 @@ claim-within p e none =
 
 claim-none : (p e : Claim) → IsWithinExact p e → claim_fault p e ≡ None
 claim-none p e h =
-    let lacks = false_from_ne_true ((p.cost == e.cost) && not (list_all (has p.labels) e.labels))
-    (λ t. let parts = and_parts (p.cost == e.cost) (not (list_all (has p.labels) e.labels)) t in
-    absurd (both_ways (list_all (has p.labels) e.labels) (not-true _ parts.1) (has-all p.labels e.labels (h.labels (eqb-true p.cost e.cost parts.0))))) in
+    let lacks = false_from_ne_true ((p.cost == e.cost) && not (list_all (has_label p.labels) e.labels))
+    (λ t. let parts = and_parts (p.cost == e.cost) (not (list_all (has_label p.labels) e.labels)) t in
+    absurd (both_ways (list_all (has_label p.labels) e.labels) (not-true _ parts.1) (has-all p.labels e.labels (h.labels (eqb-true p.cost e.cost parts.0))))) in
     (λ i. cond (not-more _ _ h.cost i) (Some CostTooHigh) (cond (lacks i) (Some SetTooSmall) None))
 
 -- a chain's path without a fault is accepted

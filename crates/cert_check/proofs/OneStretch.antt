@@ -13,7 +13,7 @@ use Rattle.pmap_text.specs.Label.{number_of}
 use Rattle.pmap_text.specs.ListModel.{Prefix, label_below, lies_inside}
 use Rattle.pmap_text.specs.MapModel.{Label, MapModel, last_such, meets, settled_by, settled_label}
 use Rattle.pmap_text.specs.declared.statement.Statement.{Statement}
-use Rattle.pmap_text.specs.MapText.{map_of, text_at}
+use Rattle.pmap_text.specs.MapText.{map_of, text_at, text_if_some}
 use Rattle.pmap_text.specs.PrefixList.{AreShortestFirst, list_of, number_of_block}
 use Rattle.pmap_text.specs.Settled.{IsMapOf}
 use Rattle.pmap_text.specs.Stretches.{AreLabelsBelow, AreStretches, HasEveryAddress, HoldsAddress, StretchesModel, count_begun, label_at, last_at, mappings_of}
@@ -28,27 +28,27 @@ use Rattle.pmap_text.proofs.Painted.{IsSeen}
 use Rattle.pmap_text.proofs.Ranges.{held_fits, held_index, holder}
 use Rattle.pmap_text.proofs.Settling.{Settles, map_is, stretch_labelled}
 use Rattle.pmap_text.proofs.Windows.{block_some}
-use Rattle.cert_check.specs.Checking.{is_decided, is_label_of, leaf_fault, CheckFaultKind, LeafNotUniform, ListDiffers}
-use Rattle.cert_check.specs.Inner.{AreSources, IsClear, IsSource, Source, Sources, has_one_label, text_of}
+use Rattle.cert_check.specs.Checking.{list_settles, is_label_of, leaf_fault, CheckFaultKind, LeafNotUniform, ListDiffers}
+use Rattle.cert_check.specs.Inner.{AreSources, IsClear, IsSource, Source, Sources, has_one_label}
 use Rattle.cert_check.proofs.Lists.{any-filtered}
 
 -- whether the stretch i has the addresses up to the last and has the label x
 abbrev is_in : List Label → StretchesModel → ℕ → ℕ → Label → Bool
-is_in from s i last x = nat_le last (last_at s i) && is_label_of (text_of from (label_at s i)) x
+is_in from s i last x = nat_le last (last_at s i) && is_label_of (text_if_some from (label_at s i)) x
 
-in-within : (from : List Label) (s : StretchesModel) (i last : ℕ) (x : Label) → last ≤ last_at s i → is_in from s i last x ≡ is_label_of (text_of from (label_at s i)) x
-in-within from s i last x le = ap (λ (b : Bool). b && is_label_of (text_of from (label_at s i)) x) (le-leb last (last_at s i) le)
+in-within : (from : List Label) (s : StretchesModel) (i last : ℕ) (x : Label) → last ≤ last_at s i → is_in from s i last x ≡ is_label_of (text_if_some from (label_at s i)) x
+in-within from s i last x le = ap (λ (b : Bool). b && is_label_of (text_if_some from (label_at s i)) x) (le-leb last (last_at s i) le)
 
 in-beyond : (from : List Label) (s : StretchesModel) (i last : ℕ) (x : Label) → last_at s i < last → is_in from s i last x ≡ false
-in-beyond from s i last x less = ap (λ (b : Bool). b && is_label_of (text_of from (label_at s i)) x) (lt-leb last (last_at s i) less)
+in-beyond from s i last x less = ap (λ (b : Bool). b && is_label_of (text_if_some from (label_at s i)) x) (lt-leb last (last_at s i) less)
 
 -- the label of a range that is in the stretch i
 pub held_label : (from : List Label) (s : StretchesModel) (every : HasEveryAddress s) (i first last : ℕ) (x : Label) → HoldsAddress s first i → last ≤ last_at s i
-    → is_label_of (text_of from (label_at s i)) x ≡ has_one_label from s first last x
+    → is_label_of (text_if_some from (label_at s i)) x ≡ has_one_label from s first last x
 held_label from s every i first last x holds within =
     sym (in-within from s i last x within) ∙ ap (λ (k : ℕ). is_in from s k last x) (sym (held_index s every first i holds))
 
-settled-text : (m : MapModel) (n q : ℕ) (label : Option LabelId) → IsSome label → Settles m label n q → settled_label m n q ≡ text_of m.table label
+settled-text : (m : MapModel) (n q : ℕ) (label : Option LabelId) → IsSome label → Settles m label n q → settled_label m n q ≡ text_if_some m.table label
 settled-text m n q None some h = absurd cc
 settled-text m n q (Some id) some h = h.1
 
@@ -87,7 +87,7 @@ module _ (m : MapText) (s : StretchesModel) (version : s.version ≡ m.version) 
       → is_settled_in (width_of v) ≡ has_one_label m.labels s (first_of (width_of v) n q) (last_of (width_of v) n q) x) version settled-here
 
 seen-text : (table : List Label) (label : Option LabelId) → ForSome (option_map (λ id. id.0) label) (λ id. id < length table)
-    → option_and_then (slice_get table) (option_map (λ id. id.0) label) ≡ text_of table label
+    → option_and_then (slice_get table) (option_map (λ id. id.0) label) ≡ text_if_some table label
 seen-text table None known = refl
 seen-text table (Some id) known = known_text table id.0 (known id.0 refl)
 
@@ -98,7 +98,7 @@ module _ (l : PrefixList) (s : StretchesModel) (version : s.version ≡ l.versio
   ps = (list_of l).prefixes
 
   decided-here : n ≤ width_of s.version → last_of (width_of s.version) n q < 2 ^ width_of s.version
-      → is_decided (width_of s.version) ps n q x ≡ has_one_label l.labels s (first_of (width_of s.version) n q) (last_of (width_of s.version) n q) x
+      → list_settles (width_of s.version) ps n q x ≡ has_one_label l.labels s (first_of (width_of s.version) n q) (last_of (width_of s.version) n q) x
   decided-here short fits =
       let W = width_of s.version in
       let start = first_of W n q in
@@ -117,25 +117,25 @@ module _ (l : PrefixList) (s : StretchesModel) (version : s.version ≡ l.versio
             let is : IsSeen W l.labels ps n q label = held_seen l s version ss first are n q i starts within in
             let none : list_any (lies_inside W n q) ps ≡ false =
             sym (any-filtered (lies_inside W n q) ps) ∙ ap (list_any (lies_inside W n q)) (none_inside W l.labels ps n q label blocks is) in
-            let same : label_below W ps (suc n) start ≡ text_of l.labels (label_at s i) =
+            let same : label_below W ps (suc n) start ≡ text_if_some l.labels (label_at s i) =
             label_seen W l.labels ps n q start (suc n) label blocks (sym (mul-div_cancel q (pow_pos (W - n)))) (λ bits most fits'. omega (arith, most)) is
             ∙ seen-text l.labels (label_at s i) (known_seen W l.labels ps n q label is) in
             (λ j. decides (none j) (same j)) ∙ sym (in-within l.labels s i last x within)
       ]
 
   pub list-decides : (v : Version) → s.version ≡ v → n ≤ width_of v → last_of (width_of v) n q < 2 ^ width_of v
-      → is_decided (width_of v) ps n q x ≡ has_one_label l.labels s (first_of (width_of v) n q) (last_of (width_of v) n q) x
+      → list_settles (width_of v) ps n q x ≡ has_one_label l.labels s (first_of (width_of v) n q) (last_of (width_of v) n q) x
   list-decides v same =
       subst (λ (v : Version). n ≤ width_of v → last_of (width_of v) n q < 2 ^ width_of v
-      → is_decided (width_of v) ps n q x ≡ has_one_label l.labels s (first_of (width_of v) n q) (last_of (width_of v) n q) x) same decided-here
+      → list_settles (width_of v) ps n q x ≡ has_one_label l.labels s (first_of (width_of v) n q) (last_of (width_of v) n q) x) same decided-here
 
 -- A range within one that has one label has it too.
 module _ (from : List Label) (s : StretchesModel) (every : HasEveryAddress s) (first last : ℕ) (x : Label) (fits : first < 2 ^ width_of s.version) (is : has_one_label from s first last x ≡ true) where
   abbrev i : ℕ
   i = count_begun s.firsts first - 1
 
-  parts : (nat_le last (last_at s i) ≡ true) × (is_label_of (text_of from (label_at s i)) x ≡ true)
-  parts = and_parts (nat_le last (last_at s i)) (is_label_of (text_of from (label_at s i)) x) is
+  parts : (nat_le last (last_at s i) ≡ true) × (is_label_of (text_if_some from (label_at s i)) x ≡ true)
+  parts = and_parts (nat_le last (last_at s i)) (is_label_of (text_if_some from (label_at s i)) x) is
 
   most : last ≤ last_at s i
   most = leb-true last (last_at s i) parts.0
@@ -150,7 +150,7 @@ module _ (from : List Label) (s : StretchesModel) (every : HasEveryAddress s) (f
   narrower-label low high ge some le =
       let same = held_index s every low i (record { index = starts.index; from = omega (arith, starts.from, ge); to = omega (arith, most, some, le) }) in
       subst (λ (k : ℕ). is_in from s k high x ≡ true) (sym same)
-      (and_from (nat_le high (last_at s i)) (is_label_of (text_of from (label_at s i)) x) (le-leb high (last_at s i) (omega (arith, most, le))) parts.1)
+      (and_from (nat_le high (last_at s i)) (is_label_of (text_if_some from (label_at s i)) x) (le-leb high (last_at s i) (omega (arith, most, le))) parts.1)
 
 -- the numbers of a source's labels
 pub known-numbers : (from to : List Label) (s : Source) → IsSource from to s → AreLabelsBelow (length s.numbers.items) s.stretches

@@ -5,12 +5,12 @@ use Rattle.std.proofs.lemmas.Bool.{and_from, eq-eqb, false≢true, ne_eqb, or_le
 use Rattle.std.proofs.lemmas.Cmp.{nat_eq_equiv}
 use Rattle.std.proofs.lemmas.List.Folds.{list_all-append, list_all_more}
 use Rattle.std.proofs.lemmas.Option.{none-some, same_Some}
-use Rattle.pmap_text.specs.Label.{IsLabelTable}
+use Rattle.pmap_text.specs.Label.{IsLabelTable, has_label}
 use Rattle.pmap_text.specs.MapModel.{Label}
 use Rattle.pmap_text.specs.MapText.{text_at}
 use Rattle.pmap_text.specs.declared.label.LabelId.{LabelId}
 use Rattle.pmap_cert.specs.CertificateText.{IsAscending}
-use Rattle.pmap_cert.specs.CertificateModel.{has, chain_labels, chain_claim, exact_claim, exact_claim_by}
+use Rattle.pmap_cert.specs.CertificateModel.{chain_labels, chain_claim, exact_claim, exact_claim_by}
 use Rattle.pmap_cert.proofs.Tables.{ascending-filter, ascending-lower, label-same}
 use Rattle.cert_check.specs.Checking.{claim_fault, CheckFaultKind, CostTooHigh, SetTooSmall}
 use Rattle.cert_check.specs.Inner.{claim_with, has_number}
@@ -86,25 +86,25 @@ module _ (set rest rest' other : List LabelId) (i : ℕ) (d : LabelId) (less : i
 
 -- Sets of label numbers and the sets of their labels.
 module _ (table : List Label) (ok : IsLabelTable table) where
-  pub has-texts : (low : ℕ) (ns : List ℕ) (n : ℕ) → IsAscending (length table) low ns → n < length table → has (map (text_at table) ns) (text_at table n) ≡ has_number ns n
+  pub has-texts : (low : ℕ) (ns : List ℕ) (n : ℕ) → IsAscending (length table) low ns → n < length table → has_label (map (text_at table) ns) (text_at table n) ≡ has_number ns n
   has-texts low [] n h less = refl
   has-texts low (m ∷ ns) n h less = ap₂ ◌||◌ (label-same table n m ok less h.1 ∙ nat_eq_equiv.symm n m) (has-texts (m + 1) ns n h.2 less)
 
   pub common-texts : (low low' : ℕ) (ns ms : List ℕ) → IsAscending (length table) low ns → IsAscending (length table) low' ms
-      → filter (has (map (text_at table) ms)) (map (text_at table) ns) ≡ map (text_at table) (filter (has_number ms) ns)
+      → filter (has_label (map (text_at table) ms)) (map (text_at table) ns) ≡ map (text_at table) (filter (has_number ms) ns)
   common-texts low low' [] ms h h' = refl
   common-texts low low' (n ∷ ns) ms h h' = by (has_number ms n) (has-texts low' ms n h' h.1) (common-texts (n + 1) low' ns ms h.2 h')
     where
-      by : (b : Bool) → has (map (text_at table) ms) (text_at table n) ≡ b
-          → filter (has (map (text_at table) ms)) (map (text_at table) ns) ≡ map (text_at table) (filter (has_number ms) ns)
-          → filter (has (map (text_at table) ms)) (map (text_at table) (n ∷ ns)) ≡ map (text_at table) (cond b (n ∷ filter (has_number ms) ns) (filter (has_number ms) ns))
-      by true e rest = ap (λ b. cond b (text_at table n ∷ filter (has (map (text_at table) ms)) (map (text_at table) ns)) (filter (has (map (text_at table) ms)) (map (text_at table) ns))) e
+      by : (b : Bool) → has_label (map (text_at table) ms) (text_at table n) ≡ b
+          → filter (has_label (map (text_at table) ms)) (map (text_at table) ns) ≡ map (text_at table) (filter (has_number ms) ns)
+          → filter (has_label (map (text_at table) ms)) (map (text_at table) (n ∷ ns)) ≡ map (text_at table) (cond b (n ∷ filter (has_number ms) ns) (filter (has_number ms) ns))
+      by true e rest = ap (λ b. cond b (text_at table n ∷ filter (has_label (map (text_at table) ms)) (map (text_at table) ns)) (filter (has_label (map (text_at table) ms)) (map (text_at table) ns))) e
           ∙ ap (λ (xs : List Label). text_at table n ∷ xs) rest
-      by false e rest = ap (λ b. cond b (text_at table n ∷ filter (has (map (text_at table) ms)) (map (text_at table) ns)) (filter (has (map (text_at table) ms)) (map (text_at table) ns))) e
+      by false e rest = ap (λ b. cond b (text_at table n ∷ filter (has_label (map (text_at table) ms)) (map (text_at table) ns)) (filter (has_label (map (text_at table) ms)) (map (text_at table) ns))) e
           ∙ rest
 
   pub all-texts : (low low' : ℕ) (ns ms : List ℕ) → IsAscending (length table) low ns → IsAscending (length table) low' ms
-      → list_all (has (map (text_at table) ms)) (map (text_at table) ns) ≡ list_all (has_number ms) ns
+      → list_all (has_label (map (text_at table) ms)) (map (text_at table) ns) ≡ list_all (has_number ms) ns
   all-texts low low' [] ms h h' = refl
   all-texts low low' (n ∷ ns) ms h h' = ap₂ ◌&&◌ (has-texts low' ms n h' h.1) (all-texts (n + 1) low' ns ms h.2 h')
 
@@ -174,7 +174,7 @@ module _ (table : List Label) (ok : IsLabelTable table) (cost left right : ℕ) 
       by [] is none =
           claim-by [] is
           ∙ ap (fault_by cost (left + right + 1))
-          (list_all-append (has (map (text_at table) set)) (map (text_at table) lower) (map (text_at table) upper)
+          (list_all-append (has_label (map (text_at table) set)) (map (text_at table) lower) (map (text_at table) upper)
           ∙ ap₂ ◌&&◌ (all-texts table ok 0 0 lower set h' h) (all-texts table ok 0 0 upper set h'' h))
       by (n ∷ ns) is none = absurd (false≢true none)
 
@@ -229,7 +229,7 @@ module _ (table : List Label) (ok : IsLabelTable table) (n cost below side : ℕ
   side-alone : (exact : ℕ) → claim_fault (claim_with table cost set) (record { cost = exact; labels = text_at table side ∷ [] })
       ≡ fault_by cost exact (has_number set side)
   side-alone exact =
-      ap (fault_by cost exact) (and-true (has (map (text_at table) set) (text_at table side)) ∙ has-texts table ok 0 set side h known)
+      ap (fault_by cost exact) (and-true (has_label (map (text_at table) set) (text_at table side)) ∙ has-texts table ok 0 set side h known)
     where
       and-true : (b : Bool) → (b && true) ≡ b
       and-true true = refl

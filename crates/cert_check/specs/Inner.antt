@@ -11,7 +11,7 @@ use Rattle.pmap_text.specs.PrefixList.{AreShortestFirst, list_of, number_of_bloc
 use Rattle.pmap_text.specs.declared.label.LabelId.{LabelId}
 use Rattle.pmap_text.specs.Stretches.{AreLabelsBelow, AreStretches, StretchesModel, count_begun, label_held, last_at}
 use Rattle.pmap_text.specs.declared.statement.Statement.{Statement}
-use Rattle.pmap_text.specs.MapText.{text_at, map_of}
+use Rattle.pmap_text.specs.MapText.{text_at, map_of, text_if_some}
 use Rattle.pmap_cert.specs.Compacting.{line_count}
 use Rattle.pmap_cert.specs.CertificateText.{IsAscending}
 use Rattle.pmap_cert.specs.CertificateModel.{CertificateModel, ChainNode, Claim, InnerNode, Tree, chosen_half, claim_of, side_half}
@@ -39,9 +39,6 @@ pub record AreNumbers (numbers : List (Option LabelId)) (from to : List Label) :
 abbrev pub has_number : List ℕ → ℕ → Bool
 has_number ns n = list_any (λ i. i == n) ns
 
-abbrev pub text_of : List Label → Option LabelId → Option Label
-text_of table label = option_map (λ id. text_at table id.0) label
-
 -- the labels of the source's stretches are in a table, and it has the numbers of that table's labels in another one
 pub record IsSource (from to : List Label) (s : Source) : Type 0 where
   pub numbers : AreNumbers s.numbers.items from to
@@ -50,7 +47,7 @@ pub record IsSource (from to : List Label) (s : Source) : Type 0 where
 -- whether one stretch has all addresses from the first to the last, and has the label x
 abbrev pub has_one_label : List Label → StretchesModel → ℕ → ℕ → Label → Bool
 has_one_label from s first last x =
-    nat_le last (last_at s (count_begun s.firsts first - 1)) && is_label_of (text_of from (label_held s first)) x
+    nat_le last (last_at s (count_begun s.firsts first - 1)) && is_label_of (text_if_some from (label_held s first)) x
 
 -- the inputs have one version, by its number of bits for the certificate, and the sources are those of the map and of
 -- the list
@@ -157,9 +154,9 @@ abbrev pub IsUnread : {A : Type 0} → Result A CertFault → CertFault → Type
 IsUnread read found = (found.kind ≢ NoMemoryForText → read ≡ Err found) × (found.kind ≡ NoMemoryForText → found.line ≡ 0)
 
 -- the result of a walk over a tree: its claimed cost, or `None` if the walk has the first fault of its text
-abbrev pub IsAnswer : Sources → Read → (Tree → ℕ → Option CheckFault) → ℕ → List LabelId → Option CheckFault → Walk → Option ℕ → Type 0
-IsAnswer s read fault number old before new (Some cost) = IsPassed s read fault number old before new cost
-IsAnswer s read fault number old before new None = (found : CertFault) × (new.end ≡ Err found) × IsUnread read found
+abbrev pub IsWalkResult : Sources → Read → (Tree → ℕ → Option CheckFault) → ℕ → List LabelId → Option CheckFault → Walk → Option ℕ → Type 0
+IsWalkResult s read fault number old before new (Some cost) = IsPassed s read fault number old before new cost
+IsWalkResult s read fault number old before new None = (found : CertFault) × (new.end ≡ Err found) × IsUnread read found
 
 -- the certificate whose root is this tree
 abbrev pub certificate_with : Format → Version → List Label → Tree → CertificateModel

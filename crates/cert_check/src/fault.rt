@@ -16,8 +16,8 @@ pub enum CheckFaultKind {
     /// The map doesn't settle the block of a leaf with its label.
     #[error("the map doesn't settle the block with the leaf's label")]
     LeafNotUniform,
-    /// The list doesn't decide the block of a leaf alike by its label.
-    #[error("the list doesn't decide the whole block by the leaf's label")]
+    /// The list doesn't settle the block of a leaf with its label.
+    #[error("the list doesn't settle the block with the leaf's label")]
     ListDiffers,
     /// A set lacks a label of the sets below.
     #[error("the set lacks a label of the exact set")]

@@ -2,9 +2,9 @@
 ghost use Rattle.std.specs.Prelude.{◌≡◌, ◌<◌, length, List, IfOk};
 ghost use Rattle.std.specs.Option.{ForSome};
 ghost use Rattle.pmap_text.specs.MapModel.{Label};
-ghost use Rattle.pmap_text.specs.MapText.{text_at};
+ghost use Rattle.pmap_text.specs.MapText.{text_at, text_if_some};
 ghost use Rattle.cert_check.specs.Checking.{is_label_of};
-ghost use Rattle.cert_check.specs.Inner.{text_of, AreNumbers};
+ghost use Rattle.cert_check.specs.Inner.{AreNumbers};
 
 use pmap_text::{LabelId, Labels};
 use std::alloc::{AllocError, Global};
@@ -34,7 +34,7 @@ pub fn numbers_in(
 pub fn is_label(numbers: &[Option<LabelId>], own: Option<LabelId>, id: LabelId) -> bool
     requires { ForSome own (λ label. label.0 < length numbers.now) }
     ensures { (from to : List Label) → AreNumbers numbers.now from to → id.0 < length to →
-        result ≡ is_label_of (text_of from own) (text_at to id.0) }
+        result ≡ is_label_of (text_if_some from own) (text_at to id.0) }
 {
     let Some(label) = own else {
         return false;

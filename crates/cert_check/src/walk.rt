@@ -5,7 +5,7 @@ ghost use Rattle.prefix_keys.specs.declared.block.Block.{Block};
 ghost use Rattle.pmap_text.specs.PrefixList.{number_of_block as number_of};
 ghost use Rattle.pmap_cert.specs.NodeSource.{place_in};
 ghost use Rattle.pmap_cert.specs.Packed.{bits_in};
-ghost use Rattle.cert_check.specs.Inner.{AreSources, CanBeRead, FitsPath, IsAfter, IsAnswer, IsHalfNumbered, IsHeld, chain_reading, fault_of_node, fault_with, halves_reading, held_claim, reading_at};
+ghost use Rattle.cert_check.specs.Inner.{AreSources, CanBeRead, FitsPath, IsAfter, IsWalkResult, IsHalfNumbered, IsHeld, chain_reading, fault_of_node, fault_with, halves_reading, held_claim, reading_at};
 
 use crate::claims::{chain_fault, claim_fault};
 use crate::fault::{CheckFault, CheckFaultKind};
@@ -116,7 +116,7 @@ pub fn check_node(sources: &Sources, walk: &mut Walk, block: &Block) -> Option<u
     requires sources { AreSources sources.now }
     requires nodes { CanBeRead sources.now walk.old.nodes }
     requires version { block.now.version ≡ sources.now.map.now.version }
-    ensures { IsAnswer sources.now (reading_at sources.now block.now.len (place_in walk.old.nodes))
+    ensures { IsWalkResult sources.now (reading_at sources.now block.now.len (place_in walk.old.nodes))
         (fault_of_node sources.now block.now) walk.old.number walk.old.sets.items walk.old.fault walk.new result }
 {
     let deepest = walk.nodes.fault(CertFaultKind::TooDeep);
@@ -175,7 +175,7 @@ fn check_inner(
     requires number { IsAfter number walk.old.number }
     requires held { IsHeld sources.now held walk.old.sets.items }
     ensures { (whole : Block) → IsHalfNumbered whole low.now (2 * number_of whole) →
-        IsHalfNumbered whole high.now (2 * number_of whole + 1) → IsAnswer sources.now
+        IsHalfNumbered whole high.now (2 * number_of whole + 1) → IsWalkResult sources.now
         (halves_reading sources.now whole.len (held_claim sources.now held walk.old.sets.items)
         (place_in walk.old.nodes)) (fault_of_node sources.now whole) number (take held.from walk.old.sets.items)
         walk.old.fault walk.new result }
@@ -224,7 +224,7 @@ fn check_chain(
     requires some { 0 < length (bits_in path.now) }
     requires number { IsAfter number walk.old.number }
     requires held { IsHeld sources.now held walk.old.sets.items }
-    ensures { IsAnswer sources.now
+    ensures { IsWalkResult sources.now
         (chain_reading sources.now block.now.len (held_claim sources.now held walk.old.sets.items)
         (bits_in path.now) side.0 (place_in walk.old.nodes))
         (fault_of_node sources.now block.now) number (take held.from walk.old.sets.items) walk.old.fault

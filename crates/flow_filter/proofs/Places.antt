@@ -4,14 +4,13 @@ use Rattle.std.proofs.lemmas.Bool.{and_from, and_parts, both_ways, eqb-true, fal
 use Rattle.std.proofs.lemmas.Nat.{pow_pos}
 use Rattle.prefix_keys.specs.Block.{block_number, first_of, last_of, width_of}
 use Rattle.prefix_keys.specs.Conversion.{mapped_prefix}
-use Rattle.prefix_keys.specs.Text.{AddressOf}
+use Rattle.prefix_keys.specs.Text.{AddressOf, BlockOf}
 use Rattle.prefix_keys.specs.declared.block.Block.{Block}
 use Rattle.prefix_keys.specs.declared.version.Version.{Version}
 use Rattle.prefix_keys.specs.declared.version.Version.TheVariants.{V4, V6}
 use Rattle.prefix_keys.proofs.Quotients.{above_first, below_end, block_end, quotient_is, whole}
-use Rattle.flow_filter.specs.Condition.{covers, in_range}
-use Rattle.flow_filter.specs.Filters.{mapped_number, view_of}
-use Rattle.flow_filter.specs.Texts.{single}
+use Rattle.flow_filter.specs.Condition.{covers_converted, in_range}
+use Rattle.flow_filter.specs.Filters.{mapped_number, plain_block}
 
 -- the numbers of a block of d numbers, increased by m
 interval : (n d value m low high at : ℕ) → 0 < d → value / d * d ≡ value → low ≡ value + m → high ≡ (value / d + 1) * d - 1 + m → at ≡ n + m →
@@ -57,7 +56,7 @@ inside_place n h =
 block_places : (v : Version) (value len : ℕ) (low high : ℕ) (address : AddressOf) → len ≤ width_of v → value < 2 ^ width_of v →
     value % 2 ^ (width_of v - len) ≡ 0 → low ≡ mapped_number (v, value) →
     high ≡ mapped_number (v, last_of (width_of v) len (block_number (width_of v) len value)) →
-    in_range (mapped_number address) (record { low = low; high = high }) ≡ covers (v, value, len) address
+    in_range (mapped_number address) (record { low = low; high = high }) ≡ covers_converted (v, value, len) address
 block_places V4 value len low high (V4, n) short fits free is is' =
     let d = 2 ^ (32 - len) in
     interval n d value mapped_prefix low high (n + mapped_prefix) (pow_pos (32 - len)) (whole value d (pow_pos (32 - len)) free) is is' refl
@@ -65,7 +64,7 @@ block_places V4 value len low high (V6, n) short fits free is is' =
     by (block_number 128 96 n == block_number 128 96 mapped_prefix) refl
   where
     by : (b : Bool) → (block_number 128 96 n == block_number 128 96 mapped_prefix) ≡ b →
-        in_range n (record { low = low; high = high }) ≡ covers (V4, value, len) (V6, n)
+        in_range n (record { low = low; high = high }) ≡ covers_converted (V4, value, len) (V6, n)
     by true h =
         let d = 2 ^ (32 - len) in
         rw h (interval (n - mapped_prefix) d value mapped_prefix low high n (pow_pos (32 - len)) (whole value d (pow_pos (32 - len)) free) is is'
@@ -89,12 +88,15 @@ block_places V6 value len low high (V6, n) short fits free is is' =
 pub places_covered : (block : Block) (low high : ℕ) (first last : AddressOf) → first.0 ≡ block.version → first.1 ≡ block.value → last.0 ≡ block.version →
     last.1 ≡ last_of (width_of block.version) block.len (block_number (width_of block.version) block.len block.value) →
     low ≡ mapped_number first → high ≡ mapped_number last → (address : AddressOf) →
-    in_range (mapped_number address) (record { low = low; high = high }) ≡ covers (view_of block) address
+    in_range (mapped_number address) (record { low = low; high = high }) ≡ covers_converted (plain_block block) address
 places_covered block low high first last v n v' n' is is' address =
     block_places block.version block.value block.len low high address block.len_in_range block.in_range block.no_host_bit
     (is ∙ (λ i. mapped_number (v i, n i))) (is' ∙ (λ i. mapped_number (v' i, n' i)))
 
 -- the block of one address
+abbrev pub single : AddressOf → BlockOf
+single address = (address.0, address.1, width_of address.0)
+
 pub whole_block : (v w : Version) (value first len n : ℕ) → w ≡ v → len ≡ n → n ≡ width_of v →
     first ≡ first_of (width_of v) n (block_number (width_of v) n value) → (w, first, len) ≡ single (v, value)
 whole_block v w value first len n same is all start =

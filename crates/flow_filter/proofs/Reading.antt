@@ -9,8 +9,8 @@ use Rattle.std.proofs.lemmas.List.Splits.{slice_split_none}
 use Rattle.std.proofs.lemmas.Option.{same_Some}
 use Rattle.prefix_keys.specs.Text.{AddressOf, all_some}
 use Rattle.flow_rows.specs.Elements.{RowView}
-use Rattle.flow_filter.specs.Condition.{Condition, Part, Range, RowTest, filter_of, given, in_range, is_malformed, item_test, meets, tests_of, unless_malformed}
-use Rattle.flow_filter.specs.Filters.{IsFault, IsRefused, by_range, in_ranges, number_of}
+use Rattle.flow_filter.specs.Condition.{Condition, Part, Range, RowTest, filter_of, given, in_range, is_malformed, item_test, meets_option, tests_of, unless_malformed}
+use Rattle.flow_filter.specs.Filters.{IsFault, IsRefused, by_range, in_ranges, tested_number}
 use Rattle.flow_filter.specs.Options.{FilterFaultKind, FilterOption, is_list, is_on_labels, AnyLabel, DestinationLabel, SourceLabel}
 use Rattle.flow_filter.specs.declared.option.TheConstants.{ALL_OPTIONS}
 
@@ -38,7 +38,7 @@ only_item : (o : FilterOption) (text : List ℕ) → is_list o ≡ false → sli
 only_item o text single = slice_split_none (λ b. is_list o && b == 44) text (λ k d within. rw single refl)
 
 pub meets_one : (o : FilterOption) (text : List ℕ) (label : AddressOf → Option (List ℕ)) (row : RowView) → is_list o ≡ false
-    → meets label row (o, text) ≡ option_map_or (λ test. test label row) (item_test o text) false
+    → meets_option label row (o, text) ≡ option_map_or (λ test. test label row) (item_test o text) false
 meets_one o text label row single =
     ap (λ items. option_map_or (list_any (λ test. test label row)) (all_some (map (item_test o) items)) false) (only_item o text single)
     ∙ one (item_test o text)
@@ -56,12 +56,12 @@ label_sound o text is = absurd (cc)
 
 -- a row meets an option whose items are ranges if one of them has the row's number
 pub ranges_meet : (o : FilterOption) (text : List ℕ) (label : AddressOf → Option (List ℕ)) (row : RowView) (ranges : List Range)
-    → tests_of (o, text) ≡ Some (map (by_range o) ranges) → meets label row (o, text) ≡ in_ranges ranges (number_of o row)
+    → tests_of (o, text) ≡ Some (map (by_range o) ranges) → meets_option label row (o, text) ≡ in_ranges ranges (tested_number o row)
 ranges_meet o text label row ranges is = ap (λ tests. option_map_or (list_any (λ test. test label row)) tests false) is ∙ one ranges
   where
-    one : (rs : List Range) → list_any (λ test. test label row) (map (by_range o) rs) ≡ in_ranges rs (number_of o row)
+    one : (rs : List Range) → list_any (λ test. test label row) (map (by_range o) rs) ≡ in_ranges rs (tested_number o row)
     one [] = refl
-    one (r ∷ rs) = ap (λ b. in_range (number_of o row) r || b) (one rs)
+    one (r ∷ rs) = ap (λ b. in_range (tested_number o row) r || b) (one rs)
 
 -- the parts are the options before an index that are given, and none is malformed
 pub record AreRead (texts : List (Option (List ℕ))) (at : ℕ) (parts : Condition) : Type 0 where

@@ -16,8 +16,8 @@ pub use Rattle.flow_filter.specs.declared.ranges.Range.{Range}
 -- The rows that meet the options of a filter.
 
 -- the block covers the address after conversion to the block's version
-abbrev pub covers : BlockOf → AddressOf → Bool
-covers (version, value, len) address =
+abbrev pub covers_converted : BlockOf → AddressOf → Bool
+covers_converted (version, value, len) address =
     let block = block_number (width_of version) len in
     option_map_or (λ found. block found.1 == block value) (converted version address) false
 
@@ -25,13 +25,18 @@ covers (version, value, len) address =
 abbrev pub RowTest : Type 0
 RowTest = (AddressOf → Option (List ℕ)) → RowView → Bool
 
--- the test that a range covers a number of the row, its ends included, that a block covers an address of the row, and
--- that an address of the row has this label
+-- the number is in the range, its ends included
+abbrev pub in_range : ℕ → Range → Bool
+in_range n r = nat_le r.low n && nat_le n r.high
+
+-- the test that a number of the row is in a range, that a block covers an address of the row, and that an address of the
+-- row has this label
 abbrev pub by_number : (RowView → ℕ) → Option Range → Option RowTest
-by_number number = option_map (λ range label row. nat_le range.low (number row) && nat_le (number row) range.high)
+by_number number = option_map (λ range label row. in_range (number row) range)
 
 abbrev pub by_address : (RowView → ℕ) → Option BlockOf → Option RowTest
-by_address address = option_map (λ block label row. covers block (row.version, address row))
+by_address address =
+    option_map (λ block label row. covers_converted block (row.version, address row))
 
 abbrev pub by_label : (RowView → ℕ) → List ℕ → RowTest
 by_label address item label row = option_eq bytes_eq (label (row.version, address row)) (Some item)
@@ -47,7 +52,9 @@ item_test Packets item = by_number (λ row. row.packets) (number_range true (2 ^
 item_test Bytes item = by_number (λ row. row.octets) (number_range true (2 ^ 64 - 1) item)
 item_test SourceLabel item = Some (by_label (λ row. row.src) item)
 item_test DestinationLabel item = Some (by_label (λ row. row.dst) item)
-item_test AnyLabel item = Some (λ label row. by_label (λ row. row.src) item label row || by_label (λ row. row.dst) item label row)
+item_test AnyLabel item =
+    Some (λ label row. by_label (λ row. row.src) item label row
+    || by_label (λ row. row.dst) item label row)
 
 -- an option that is given, with its text
 abbrev pub Part : Type 0
@@ -62,8 +69,9 @@ abbrev pub is_malformed : Part → Bool
 is_malformed part = is_none (tests_of part)
 
 -- the row meets one of the tests of an option that is given
-abbrev pub meets : (AddressOf → Option (List ℕ)) → RowView → Part → Bool
-meets label row part = option_map_or (list_any (λ test. test label row)) (tests_of part) false
+abbrev pub meets_option : (AddressOf → Option (List ℕ)) → RowView → Part → Bool
+meets_option label row part =
+    option_map_or (list_any (λ test. test label row)) (tests_of part) false
 
 -- A condition: the options that are given.
 
@@ -71,20 +79,16 @@ abbrev pub Condition : Type 0
 Condition = List Part
 
 -- an option on labels is given
-abbrev pub needs_map : Condition → Bool
-needs_map condition = list_any (λ part. is_on_labels part.0) condition
+abbrev pub condition_needs_labels : Condition → Bool
+condition_needs_labels condition = list_any (λ part. is_on_labels part.0) condition
 
 -- the row meets each option given, with these labels of addresses
 abbrev pub row_passes : Condition → (AddressOf → Option (List ℕ)) → RowView → Bool
-row_passes condition label row = list_all (meets label row) condition
+row_passes condition label row = list_all (meets_option label row) condition
 
 -- the rows that meet the condition, under a labelling or without one
 abbrev pub passing : Condition → Option Labelling → List RowView → List RowView
 passing condition labels all = filter (row_passes condition (label_where labels)) all
-
--- the number is in the range, as `by_number` tests it
-abbrev pub in_range : ℕ → Range → Bool
-in_range n r = nat_le r.low n && nat_le n r.high
 
 -- the options that have a text, with their texts
 abbrev pub given : List (Option (List ℕ)) → List FilterOption → Condition
@@ -100,4 +104,6 @@ unless_malformed condition (Some part) = Err (fault_of part)
 
 -- the condition that the texts of all options state, or the fault of the first that is malformed
 abbrev pub filter_of : List (Option (List ℕ)) → Result Condition FilterFault
-filter_of texts = let condition = given texts ALL_OPTIONS in unless_malformed condition (find is_malformed condition)
+filter_of texts =
+    let condition = given texts ALL_OPTIONS in
+    unless_malformed condition (find is_malformed condition)

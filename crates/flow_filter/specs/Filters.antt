@@ -6,15 +6,15 @@ use Rattle.prefix_keys.specs.Text.{AddressOf, BlockOf}
 use Rattle.prefix_keys.specs.declared.block.Block.{Block}
 use Rattle.prefix_keys.specs.declared.version.Version.TheVariants.{V4, V6}
 use Rattle.flow_rows.specs.Elements.{RowView}
-use Rattle.flow_filter.specs.Condition.{Condition, FilterFault, Part, Range, RowTest, filter_of, given, in_range, is_malformed, meets}
+use Rattle.flow_filter.specs.Condition.{Condition, FilterFault, Part, Range, RowTest, filter_of, given, in_range, is_malformed, meets_option}
 use Rattle.flow_filter.specs.Options.{FilterFaultKind, FilterOption, is_on_labels, kind_of, Bytes, DestinationAddress, DestinationPort, NoMemory, Packets, Protocol, SourceAddress, SourcePort}
 use Rattle.flow_filter.specs.declared.option.TheConstants.{ALL_OPTIONS}
 use Rattle.flow_filter.specs.declared.filter.FilterWords.{FilterWords}
 
--- How filters are read and stored. Callers of the crate need only `texts_of` and `IsFault`.
+-- How filters are read and stored. Callers of the crate need only `option_texts` and `IsFault`.
 
-abbrev pub texts_of : FilterWords → List (Option (List ℕ))
-texts_of words = map (option_map (λ s. s.now)) words.texts
+abbrev pub option_texts : FilterWords → List (Option (List ℕ))
+option_texts words = map (option_map (λ s. s.now)) words.texts
 
 -- the option is given, and no option before it has a malformed text
 pub record IsBeingRead (condition : Condition) (o : FilterOption) : Type 0 where
@@ -33,8 +33,8 @@ abbrev pub IsRefused : Part → FilterFaultKind → Type 0
 IsRefused part kind = (kind ≡ NoMemory) ⊎ ((is_malformed part ≡ true) × (kind ≡ kind_of part.0))
 
 -- a block without the proofs of its invariants
-abbrev pub view_of : Block → BlockOf
-view_of block = (block.version, block.value, block.len)
+abbrev pub plain_block : Block → BlockOf
+plain_block block = (block.version, block.value, block.len)
 
 -- the number of the address as an IPv6 address
 abbrev pub mapped_number : AddressOf → ℕ
@@ -50,22 +50,22 @@ abbrev pub AreAscending : List Range → Type 0
 AreAscending ranges = IsNonDecreasingBy (λ range. range.low) ranges × IsNonDecreasingBy (λ range. range.high) ranges
 
 -- the number of a row that the ranges of an option have
-abbrev pub number_of : FilterOption → RowView → ℕ
-number_of Protocol row = row.protocol
-number_of SourcePort row = row.sport
-number_of DestinationPort row = row.dport
-number_of SourceAddress row = mapped_number (row.version, row.src)
-number_of DestinationAddress row = mapped_number (row.version, row.dst)
-number_of Packets row = row.packets
-number_of Bytes row = row.octets
-number_of o row = 0
+abbrev pub tested_number : FilterOption → RowView → ℕ
+tested_number Protocol row = row.protocol
+tested_number SourcePort row = row.sport
+tested_number DestinationPort row = row.dport
+tested_number SourceAddress row = mapped_number (row.version, row.src)
+tested_number DestinationAddress row = mapped_number (row.version, row.dst)
+tested_number Packets row = row.packets
+tested_number Bytes row = row.octets
+tested_number o row = 0
 
 abbrev pub by_range : FilterOption → Range → RowTest
-by_range o range label row = in_range (number_of o row) range
+by_range o range label row = in_range (tested_number o row) range
 
 -- the text is well formed, and unless it is a label, a row meets the option if and only if its number is in the ranges
 pub record HasRanges (part : Part) (ranges : List Range) : Type 0 where
   pub sound : is_malformed part ≡ false
   pub ascending : is_on_labels part.0 ≡ false → AreAscending ranges
   pub numbers : is_on_labels part.0 ≡ false → (label : AddressOf → Option (List ℕ)) (row : RowView)
-      → meets label row part ≡ in_ranges ranges (number_of part.0 row)
+      → meets_option label row part ≡ in_ranges ranges (tested_number part.0 row)

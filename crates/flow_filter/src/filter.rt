@@ -2,8 +2,8 @@ ghost use Rattle.std.specs.Prelude.{◌≡◌, ◌++◌, ◌∷◌, [], IfErr, I
 ghost use Rattle.std.specs.Option.{option_eq};
 ghost use Rattle.std.specs.Str.{bytes_eq};
 ghost use Rattle.label_lookup.specs.Labelling.{label_where, labelling_borrowed};
-ghost use Rattle.flow_filter.specs.Condition.{filter_of, is_malformed, meets, needs_map, row_passes};
-ghost use Rattle.flow_filter.specs.Filters.{IsFault, IsRefused, number_of, texts_of};
+ghost use Rattle.flow_filter.specs.Condition.{filter_of, is_malformed, meets_option, condition_needs_labels, row_passes};
+ghost use Rattle.flow_filter.specs.Filters.{IsFault, IsRefused, tested_number, option_texts};
 ghost use Rattle.flow_filter.specs.Options.{is_on_labels};
 
 use crate::fault::{FilterFault, FilterFaultKind};
@@ -59,7 +59,7 @@ impl<'a> Model for Part<'a> {
 
 // Returns the number that an option compares. That of an address is its number as an IPv6 address.
 fn number_of(option: FilterOption, row: &Row<'_>) -> u128
-    ensures { result ≡ number_of option row.now }
+    ensures { result ≡ tested_number option row.now }
 {
     match option {
         FilterOption::Protocol => u128::from(row.protocol()),
@@ -107,7 +107,7 @@ impl<'a> Part<'a> {
     #[inline(never)]
     fn meets<L: Labeller>(&self, row: &Row<'_>, labeller: Option<&L>) -> bool
         ensures { result
-            ≡ meets (label_where (labelling_borrowed L.version_of L.label labeller.entry)) row.now self.now }
+            ≡ meets_option (label_where (labelling_borrowed L.version_of L.label labeller.entry)) row.now self.now }
     {
         if self.option.is_on_labels() {
             return self.meets_label(row, labeller);
@@ -121,7 +121,7 @@ impl<'a> Part<'a> {
     fn meets_label<L: Labeller>(&self, row: &Row<'_>, labeller: Option<&L>) -> bool
         requires { is_on_labels self.now.0 ≡ true }
         ensures { result
-            ≡ meets (label_where (labelling_borrowed L.version_of L.label labeller.entry)) row.now self.now }
+            ≡ meets_option (label_where (labelling_borrowed L.version_of L.label labeller.entry)) row.now self.now }
     {
         match self.option {
             FilterOption::SourceLabel => has_label(self.text, labeller, row.src()),
@@ -142,8 +142,8 @@ impl<'a> Filter<'a> {
     /// Returns the fault of the first option, in their order, whose text is malformed. If an allocation fails, returns
     /// `NoMemory` with the option that was being read.
     pub fn read(alloc: Global, words: &FilterWords<'a>) -> Result<Filter<'a>, FilterFault>
-        ensures ok { IfOk result (λ filter. filter_of (texts_of words.now) ≡ Ok filter) }
-        ensures err { IfErr result (λ fault. IsFault (texts_of words.now) fault) }
+        ensures ok { IfOk result (λ filter. filter_of (option_texts words.now) ≡ Ok filter) }
+        ensures err { IfErr result (λ fault. IsFault (option_texts words.now) fault) }
     {
         let mut parts = Vec::new(alloc);
         for (at, option) in ALL_OPTIONS.iter().enumerate() {
@@ -170,7 +170,7 @@ impl<'a> Filter<'a> {
 
     /// Whether a condition on labels is given, which needs a map or a list.
     pub fn needs_map(&self) -> bool
-        ensures { result ≡ needs_map self.now }
+        ensures { result ≡ condition_needs_labels self.now }
     {
         self.parts.iter().any(|part| part.option.is_on_labels())
     }

@@ -2,7 +2,7 @@
 ghost use Rattle.std.specs.Prelude.{◌≡◌, ◌++◌, All, IsTrue, List, Option};
 ghost use Rattle.label_lookup.specs.Labelling.{Labelling, label_where};
 ghost use Rattle.flow_rows.specs.Elements.{RowView};
-ghost use Rattle.flow_filter.specs.Condition.{Condition, meets, passing, row_passes};
+ghost use Rattle.flow_filter.specs.Condition.{Condition, meets_option, passing, row_passes};
 ghost use Rattle.flow_filter.specs.Laws.{rows_left};
 
 /// A row passes if and only if it meets each option given. The rows that pass the options of two filters together are
@@ -10,9 +10,9 @@ ghost use Rattle.flow_filter.specs.Laws.{rows_left};
 pub fn options_hold_together()
     ensures each { (condition : Condition) (labels : Option Labelling) (row : RowView) →
         IsTrue (row_passes condition (label_where labels) row) →
-        All (λ part. IsTrue (meets (label_where labels) row part)) condition }
+        All (λ part. IsTrue (meets_option (label_where labels) row part)) condition }
     ensures all { (condition : Condition) (labels : Option Labelling) (row : RowView) →
-        All (λ part. IsTrue (meets (label_where labels) row part)) condition →
+        All (λ part. IsTrue (meets_option (label_where labels) row part)) condition →
         IsTrue (row_passes condition (label_where labels) row) }
     ensures together { (one other : Condition) (labels : Option Labelling) (rows : List RowView) →
         passing (one ++ other) labels rows ≡ passing other labels (passing one labels rows) }

@@ -29,6 +29,33 @@ pub record OutputView : Type 0 where
   pub taken : List ℕ
   pub contents : Option (List ℕ)
 
+-- the last read found the end of the input, and no byte is ahead, or left, as far as the reader reports it
+abbrev pub has_ended : InputView → Bool
+has_ended input = input.stopped && length input.ahead + length (unwrap_or input.left []) == 0
+
+-- these bytes may follow those that reads have returned: none after the end, otherwise any
+abbrev pub MayFollow : Bool → List ℕ → Type 0
+MayFollow ended rest = ended ≡ true → rest ≡ []
+
+-- writes take these bytes; a writer that reports its bytes holds them after those that it held before
+pub record Takes (old new : OutputView) (bytes : List ℕ) : Type 0 where
+  pub taken : new.taken ≡ old.taken ++ bytes
+  pub contents : Appends old.contents new.contents bytes
+
+-- the writer took exactly these bytes, and was flushed last
+abbrev pub WritesWhole : OutputView → OutputView → List ℕ → Type 0
+WritesWhole old new bytes = Takes old new bytes × (new.last_call ≡ Flush) × (new.failed ≡ false)
+
+-- the writer was to take these bytes and then be flushed, and failed: at a write, with a prefix of them taken, or at the
+-- flush, with all of them taken
+abbrev pub StopsWriting : OutputView → OutputView → List ℕ → Type 0
+StopsWriting old new bytes =
+    (((front rest : List ℕ) × (bytes ≡ front ++ rest) × Takes old new front
+    × (new.last_call ≡ Write))
+    ⊎ (Takes old new bytes × (new.last_call ≡ FailedFlush))) × (new.failed ≡ true)
+
+-- Below: only contracts of parts and proofs use these; no promise of the program rests on them.
+
 -- When a call makes a reader or a writer failed: from `old` to `new`, where `true` means failed.
 
 -- an `Err` makes the device failed, and an `Ok` leaves it as it was
@@ -47,10 +74,10 @@ flush_call (Ok _) = Flush
 flush_call (Err _) = FailedFlush
 
 -- whether the reader failed, from the result of reading it whole
-abbrev pub is_read_fault : {A : Type 0} → Result A ReadStop → Bool
-is_read_fault (Ok _) = false
-is_read_fault (Err ReadFault) = true
-is_read_fault (Err NoMemory) = false
+abbrev pub is_failed_read : {A : Type 0} → Result A ReadStop → Bool
+is_failed_read (Ok _) = false
+is_failed_read (Err ReadFault) = true
+is_failed_read (Err NoMemory) = false
 
 -- Which bytes a reader returns.
 
@@ -75,33 +102,9 @@ abbrev pub finds_end : {E : Type 0} → Result ℕ E → List ℕ → Bool
 finds_end (Ok count) buffer = count == 0 && nat_lt 0 (length buffer)
 finds_end (Err _) buffer = false
 
--- the last read found the end of the input, and no byte is ahead, or left, as far as the reader reports it
-abbrev pub has_ended : InputView → Bool
-has_ended input = input.stopped && length input.ahead + length (unwrap_or input.left []) == 0
-
--- these bytes may follow those that reads have returned: none after the end, otherwise any
-abbrev pub MayFollow : Bool → List ℕ → Type 0
-MayFollow ended rest = ended ≡ true → rest ≡ []
-
 -- Which bytes a writer takes.
-
--- writes take these bytes; a writer that reports its bytes holds them after those that it held before
-pub record Takes (old new : OutputView) (bytes : List ℕ) : Type 0 where
-  pub taken : new.taken ≡ old.taken ++ bytes
-  pub contents : Appends old.contents new.contents bytes
 
 -- a write takes the first `count` bytes of the slice if it returns `Ok count`, and none if it returns `Err`
 abbrev pub TakesCount : {E : Type 0} → OutputView → OutputView → Result ℕ E → List ℕ → Type 0
 TakesCount old new (Ok count) slice = Takes old new (take count slice)
 TakesCount old new (Err _) slice = Takes old new []
-
--- the writer took exactly these bytes, and was flushed last
-abbrev pub Writes : OutputView → OutputView → List ℕ → Type 0
-Writes old new bytes = Takes old new bytes × (new.last_call ≡ Flush) × (new.failed ≡ false)
-
--- the writer was to take these bytes and then be flushed, and failed: at a write, with a prefix of them taken, or at the
--- flush, with all of them taken
-abbrev pub StopsWriting : OutputView → OutputView → List ℕ → Type 0
-StopsWriting old new bytes =
-    (((front rest : List ℕ) × (bytes ≡ front ++ rest) × Takes old new front × (new.last_call ≡ Write))
-    ⊎ (Takes old new bytes × (new.last_call ≡ FailedFlush))) × (new.failed ≡ true)

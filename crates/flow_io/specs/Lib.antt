@@ -1,3 +1,4 @@
 pub mod Devices
 pub mod Memory
 pub mod Ahead
+pub mod Watched

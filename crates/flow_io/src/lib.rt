@@ -28,6 +28,7 @@
 
 mod ahead;
 mod devices;
+mod laws;
 mod memory;
 mod read_ahead;
 mod record;
@@ -35,6 +36,7 @@ mod watch;
 mod whole;
 
 pub use devices::{DeviceFault, Input, LastCall, Output};
+pub use laws::{readers_show_what_they_note, writers_show_what_they_note};
 pub use memory::{MemoryInput, MemoryOutput};
 pub use read_ahead::ReadAhead;
 pub use record::Record;

@@ -1,5 +1,6 @@
 ghost use Rattle.std.specs.Prelude.{◌≡◌, [], false};
 ghost use Rattle.flow_io.specs.Devices.{Nothing};
+ghost use Rattle.flow_io.specs.Watched.{input_watched, output_watched};
 
 use crate::devices::{DeviceFault, Input, LastCall, Output};
 use crate::record::Record;
@@ -40,14 +41,7 @@ impl<T> Watched<T> {
 }
 
 impl<T: Read> Input for Watched<T> {
-    ghost input = { λ watched. record {
-      failed = watched.failed;
-      returned = watched.read.bytes;
-      fetched = watched.read.bytes;
-      ahead = [];
-      stopped = watched.ended;
-      left = T.remaining watched.inner;
-    } };
+    ghost input = { input_watched T.remaining };
 
     fn read(&mut self, buffer: &mut [u8]) -> Result<usize, DeviceFault> {
         let count = self.inner.read(buffer).map_err(|_| DeviceFault);
@@ -65,12 +59,7 @@ impl<T: Read> Input for Watched<T> {
 }
 
 impl<T: Write> Output for Watched<T> {
-    ghost output = { λ watched. record {
-      failed = watched.failed;
-      last_call = watched.last_call;
-      taken = watched.taken.bytes;
-      contents = T.contents watched.inner;
-    } };
+    ghost output = { output_watched T.contents };
 
     fn write(&mut self, slice: &[u8]) -> Result<usize, DeviceFault> {
         self.last_call = LastCall::Write;

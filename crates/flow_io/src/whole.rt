@@ -1,6 +1,6 @@
 //! Reading and writing all bytes.
 ghost use Rattle.std.specs.Prelude.{◌≡◌, ◌<◌, ◌≤◌, ⊤, false, true, length, take, IfOk, OnErr, OnOk};
-ghost use Rattle.flow_io.specs.Devices.{ReadsInput, Gives, StopsWriting, Writes, has_ended, is_read_fault};
+ghost use Rattle.flow_io.specs.Devices.{ReadsInput, Gives, StopsWriting, WritesWhole, has_ended, is_failed_read};
 
 use crate::devices::{DeviceFault, Input, Output};
 use std::alloc::Global;
@@ -27,7 +27,7 @@ pub fn read_whole<R: Input>(alloc: Global, reader: &mut R) -> Result<Vec<u8>, Re
     ensures whole { IfOk result (λ text. Gives (R.input reader.old) (R.input reader.new) text.items) }
     ensures end { OnOk result (has_ended (R.input reader.new) ≡ true) }
     ensures stopped { OnErr result (ReadsInput (R.input reader.old) (R.input reader.new) (λ _. ⊤)) }
-    ensures fault { (R.input reader.new).failed ≡ is_read_fault result }
+    ensures fault { (R.input reader.new).failed ≡ is_failed_read result }
 {
     let mut text = Vec::new(alloc);
     let mut chunk = Vec::new(alloc);
@@ -73,7 +73,7 @@ pub fn fill<R: Input>(reader: &mut R, bytes: &mut [u8]) -> Result<usize, DeviceF
 /// flush fails, the writer has taken all of them.
 pub fn write_whole<W: Output>(writer: &mut W, bytes: &[u8]) -> Result<(), DeviceFault>
     requires { (W.output writer.old).failed ≡ false }
-    ensures whole { OnOk result (Writes (W.output writer.old) (W.output writer.new) bytes.now) }
+    ensures whole { OnOk result (WritesWhole (W.output writer.old) (W.output writer.new) bytes.now) }
     ensures stopped { OnErr result (StopsWriting (W.output writer.old) (W.output writer.new) bytes.now) }
 {
     let mut rest = bytes;

@@ -14,7 +14,7 @@ use Rattle.ipfix_templates.specs.declared.field.Field.{Field as FieldView}
 use Rattle.ipfix_templates.specs.declared.layout.Place.{Place}
 use Rattle.ipfix_templates.specs.declared.layout.Places.{Places}
 use Rattle.ipfix_templates.specs.declared.layout.RowLayout.{RowLayout}
-use Rattle.ipfix_templates.specs.Layout.{first_places, flow_layout, is_there, layout_of, place, place_or, places_between, second_places}
+use Rattle.ipfix_templates.specs.Layout.{first_places, flow_layout, is_there, layout_of, place_of_element, place_or, places_between, second_places}
 use Rattle.ipfix_templates.specs.Runs.{runs_from}
 use Rattle.ipfix_templates.specs.Template.{same_kind}
 use Rattle.ipfix_templates.specs.declared.kind.Kind.{Kind}
@@ -120,7 +120,7 @@ module _ (fields : List FieldView) (bytes : List ℕ) (x : List FieldValueView �
   size = length bytes
 
   abbrev place_at : Option ℕ → ℕ → Place
-  place_at direction number = place direction number 0 0 fields
+  place_at direction number = place_of_element direction number 0 0 fields
 
   -- the length of a number that there is, and of any
   is_long : (direction : Option ℕ) (number size : ℕ) → ((place_at direction number).length ≤ size) × (is_there (place_at direction number) ≡ true → size ≤ (place_at direction number).length)
@@ -215,7 +215,7 @@ module _ (r : Record) (kind : Kind) (kind_is : kind ≡ r.kind) (fields : List F
   num p = number_there p runs bytes
 
   abbrev at : Option ℕ → ℕ → Place
-  at direction number = place direction number 0 0 fields
+  at direction number = place_of_element direction number 0 0 fields
 
   of : (direction : Option ℕ) (number : ℕ) → IsOf num (at direction number) (element direction r.fields number)
   of direction number =
@@ -281,7 +281,7 @@ mapped (Some first) at = refl
 -- a layout says whether there are first rows
 module _ (r : Record) where
   abbrev at_first : ℕ → Place
-  at_first number = place forward number 0 0 (fields_of r.fields)
+  at_first number = place_of_element forward number 0 0 (fields_of r.fields)
 
   abbrev said_first : ℕ → Option ℕ
   said_first = element forward r.fields
@@ -291,7 +291,7 @@ module _ (r : Record) where
   unfolding flow_layout
   first_row-of_kind Options = refl
   first_row-of_kind Flow =
-      mapped (first_places at_first) (λ number. place back number 0 0 (fields_of r.fields))
+      mapped (first_places at_first) (λ number. place_of_element back number 0 0 (fields_of r.fields))
       ∙ (λ i.
       is_some (cond (of_first 8 i && of_first 12 i) (Some (places_between true (at_first 8) (at_first 12) at_first))
       (cond (of_first 27 i && of_first 28 i) (Some (places_between false (at_first 27) (at_first 28) at_first)) None)))
@@ -330,9 +330,9 @@ packets_there None at l is = absurd (cc)
 packets_there (Some first) at l is = ap (λ (l : RowLayout). is_there l.second.packets) (sym (some_is _ _ is)) ∙ or_there (at 2) (at 86)
 
 back_there : (kind : Kind) (fields : List FieldView) (l : RowLayout) → layout_of kind fields ≡ Some l
-    → is_there l.second.packets ≡ (is_there (place back 2 0 0 fields) || is_there (place back 86 0 0 fields))
+    → is_there l.second.packets ≡ (is_there (place_of_element back 2 0 0 fields) || is_there (place_of_element back 86 0 0 fields))
 unfolding flow_layout
-back_there Flow fields l found = packets_there _ (λ number. place back number 0 0 fields) l found
+back_there Flow fields l found = packets_there _ (λ number. place_of_element back number 0 0 fields) l found
 back_there Options fields l found = absurd (cc)
 
 no_second : (r : Record) (l : RowLayout) → layout_of r.kind (fields_of r.fields) ≡ Some l → is_there l.second.packets ≡ false → is_some (second_row r) ≡ false

@@ -8,7 +8,7 @@ use Rattle.ipfix_templates.specs.Elements.{is_usable}
 use Rattle.ipfix_templates.specs.declared.field.Field.{Field as FieldView}
 use Rattle.ipfix_templates.specs.Field.{is_variable}
 use Rattle.ipfix_templates.specs.declared.layout.Place.{Place}
-use Rattle.ipfix_templates.specs.Layout.{place}
+use Rattle.ipfix_templates.specs.Layout.{place_of_element}
 use Rattle.ipfix_templates.specs.Runs.{runs_from}
 use Rattle.ipfix_read.specs.Value.{FieldValueView, bytes_at, value_at, values_at, variable_at}
 use Rattle.flow_rows.specs.Elements.{big_endian, element}
@@ -88,7 +88,7 @@ element-passed direction number v vs unusable = rw unusable refl
 module _ (direction : Option ℕ) (number : ℕ) (bytes : List ℕ) where
   -- the number at a place, given the runs before it and those after them
   abbrev said_at : List ℕ → ℕ → ℕ → List FieldView → ℕ
-  said_at front skips offset fields = number_there (place direction number skips offset fields) (front ++ runs_from offset fields) bytes
+  said_at front skips offset fields = number_there (place_of_element direction number skips offset fields) (front ++ runs_from offset fields) bytes
 
   said_from : (fields : List FieldView) (front gap rest : List ℕ) (skips offset : ℕ) (x : List FieldValueView × List ℕ)
       → skips ≡ length front → offset ≡ length gap → after_values front bytes ≡ Some (gap ++ rest) → values_at fields rest ≡ Some x
@@ -117,13 +117,13 @@ module _ (direction : Option ℕ) (number : ℕ) (bytes : List ℕ) where
             let passed : said b.0.0 ≡ said x.0 = sym (ap (λ (o : Option ℕ). unwrap_or o 0) (element-passed direction number first b.0.0 unusable)) ∙ ap said are in
             rw unusable
             (elim (is_variable f) as (λ c. is_variable f ≡ c
-            → number_there (cond c (place direction number (skips + 1) 0 fs) (place direction number skips (offset + f.length) fs))
+            → number_there (cond c (place_of_element direction number (skips + 1) 0 fs) (place_of_element direction number skips (offset + f.length) fs))
             (front ++ cond c (offset ∷ runs_from 0 fs) (runs_from (offset + f.length) fs)) bytes
             ≡ said x.0) [
               | true ↦ λ variable.
                   let next : after_values (front ++ offset ∷ []) bytes ≡ Some a.0.1 =
                   one_more_value front offset bytes gap rest a.0 after (sym offset_is) (sym (variable_value f rest variable) ∙ a.1) in
-                  ap (λ (runs : List ℕ). number_there (place direction number (skips + 1) 0 fs) runs bytes) (sym (append_assoc front (offset ∷ []) (runs_from 0 fs)))
+                  ap (λ (runs : List ℕ). number_there (place_of_element direction number (skips + 1) 0 fs) runs bytes) (sym (append_assoc front (offset ∷ []) (runs_from 0 fs)))
                   ∙ said_from fs (front ++ offset ∷ []) [] a.0.1 (skips + 1) 0 b.0
                   (omega (arith, skips_are, length-append front (offset ∷ []))) refl next b.1
                   ∙ passed
@@ -140,17 +140,17 @@ module _ (direction : Option ℕ) (number : ℕ) (bytes : List ℕ) where
       refl
 
 -- a place after values of variable length says so, unless the element is missing
-after_variable : (direction : Option ℕ) (number skips offset : ℕ) (fields : List FieldView) → 1 ≤ skips → (place direction number skips offset fields).skips ≡ 0
-    → (place direction number skips offset fields).offset + (place direction number skips offset fields).length ≡ 0
+after_variable : (direction : Option ℕ) (number skips offset : ℕ) (fields : List FieldView) → 1 ≤ skips → (place_of_element direction number skips offset fields).skips ≡ 0
+    → (place_of_element direction number skips offset fields).offset + (place_of_element direction number skips offset fields).length ≡ 0
 after_variable direction number skips offset [] some none = refl
 after_variable direction number skips offset (f ∷ fs) some none =
     elim (is_usable direction number f) as (λ b.
     let p = cond b (record { offset = offset; skips = skips; length = f.length })
-    (cond (is_variable f) (place direction number (skips + 1) 0 fs) (place direction number skips (offset + f.length) fs)) in
+    (cond (is_variable f) (place_of_element direction number (skips + 1) 0 fs) (place_of_element direction number skips (offset + f.length) fs)) in
     p.skips ≡ 0 → p.offset + p.length ≡ 0) [
       | true ↦ λ none. omega (arith, some, none)
       | false ↦ elim (is_variable f) as (λ b.
-          let p = cond b (place direction number (skips + 1) 0 fs) (place direction number skips (offset + f.length) fs) in
+          let p = cond b (place_of_element direction number (skips + 1) 0 fs) (place_of_element direction number skips (offset + f.length) fs) in
           p.skips ≡ 0 → p.offset + p.length ≡ 0) [
             | true ↦ after_variable direction number (skips + 1) 0 fs (omega arith)
             | false ↦ after_variable direction number skips (offset + f.length) fs some
@@ -160,8 +160,8 @@ after_variable direction number skips offset (f ∷ fs) some none =
 
 -- a place before all values of variable length is within the record
 pub within_record : (direction : Option ℕ) (number offset : ℕ) (fields : List FieldView) (rest : List ℕ) (x : List FieldValueView × List ℕ)
-    → values_at fields rest ≡ Some x → (place direction number 0 offset fields).skips ≡ 0
-    → (place direction number 0 offset fields).offset + (place direction number 0 offset fields).length ≤ offset + length rest
+    → values_at fields rest ≡ Some x → (place_of_element direction number 0 offset fields).skips ≡ 0
+    → (place_of_element direction number 0 offset fields).offset + (place_of_element direction number 0 offset fields).length ≤ offset + length rest
 unfolding values_at
 within_record direction number offset [] rest x read none = omega arith
 within_record direction number offset (f ∷ fs) rest x read none =
@@ -171,11 +171,11 @@ within_record direction number offset (f ∷ fs) rest x read none =
     (λ fixed. let v = fixed_value f rest a.0 fixed a.1 in omega (arith, v.0, ap length v.1, length-append a.0.0 a.0.1)) in
     elim (is_usable direction number f) as (λ c. is_usable direction number f ≡ c →
     let p = cond c (record { offset = offset; skips = 0; length = f.length })
-    (cond (is_variable f) (place direction number 1 0 fs) (place direction number 0 (offset + f.length) fs)) in
+    (cond (is_variable f) (place_of_element direction number 1 0 fs) (place_of_element direction number 0 (offset + f.length) fs)) in
     p.skips ≡ 0 → p.offset + p.length ≤ offset + length rest) [
       | true ↦ λ usable none. omega (arith, sizes (has_other_length 65535 refl direction number f usable))
       | false ↦ λ _. elim (is_variable f) as (λ c. is_variable f ≡ c →
-          let p = cond c (place direction number 1 0 fs) (place direction number 0 (offset + f.length) fs) in
+          let p = cond c (place_of_element direction number 1 0 fs) (place_of_element direction number 0 (offset + f.length) fs) in
           p.skips ≡ 0 → p.offset + p.length ≤ offset + length rest) [
             | true ↦ λ _ none. omega (arith, after_variable direction number 1 0 fs (omega arith) none)
             | false ↦ λ fixed none. omega (arith, sizes fixed, within_record direction number (offset + f.length) fs a.0.1 b.0 b.1 none)
@@ -187,6 +187,6 @@ within_record direction number offset (f ∷ fs) rest x read none =
 -- the number at the place of an element is that of the record's values
 pub said_there : (direction : Option ℕ) (number : ℕ) (fields : List FieldView) (bytes : List ℕ) (values : List FieldValueView) (rest : List ℕ)
     → values_at fields bytes ≡ Some (values, rest)
-    → number_there (place direction number 0 0 fields) (runs_from 0 fields) bytes ≡ unwrap_or (element direction values number) 0
+    → number_there (place_of_element direction number 0 0 fields) (runs_from 0 fields) bytes ≡ unwrap_or (element direction values number) 0
 said_there direction number fields bytes values rest read =
     said_from direction number bytes fields [] [] bytes 0 0 (values, rest) refl refl refl read

@@ -8,7 +8,7 @@ use Rattle.ipfix_templates.specs.declared.layout.TheConstants.{ELEMENTS}
 use Rattle.ipfix_templates.specs.Elements.{fits, is_usable}
 use Rattle.ipfix_templates.specs.declared.field.Field.{Field as FieldView}
 use Rattle.ipfix_templates.specs.Field.{is_variable}
-use Rattle.ipfix_templates.specs.Layout.{is_there, place}
+use Rattle.ipfix_templates.specs.Layout.{is_there, place_of_element}
 use Rattle.ipfix_read.specs.Value.{FieldValueView}
 use Rattle.flow_rows.specs.Elements.{element}
 
@@ -60,15 +60,15 @@ fields_of values = map (λ v. v.field) values
 
 -- it is there exactly if the values have the element
 pub there-place : (direction : Option ℕ) (number skips offset : ℕ) (values : List FieldValueView)
-    → is_there (place direction number skips offset (fields_of values)) ≡ is_some (element direction values number)
+    → is_there (place_of_element direction number skips offset (fields_of values)) ≡ is_some (element direction values number)
 there-place direction number skips offset [] = refl
 there-place direction number skips offset (v ∷ vs) =
     elim (is_usable direction number v.field) as (λ b. is_usable direction number v.field ≡ b
-    → is_there (place direction number skips offset (fields_of (v ∷ vs))) ≡ is_some (element direction (v ∷ vs) number)) [
+    → is_there (place_of_element direction number skips offset (fields_of (v ∷ vs))) ≡ is_some (element direction (v ∷ vs) number)) [
       | true ↦ λ usable. rw usable (ap not (has_other_length 0 refl direction number v.field usable))
       | false ↦ λ unusable. rw unusable
           (elim (is_variable v.field) as (λ b.
-          is_there (cond b (place direction number (skips + 1) 0 (fields_of vs)) (place direction number skips (offset + v.field.length) (fields_of vs)))
+          is_there (cond b (place_of_element direction number (skips + 1) 0 (fields_of vs)) (place_of_element direction number skips (offset + v.field.length) (fields_of vs)))
           ≡ is_some (element direction vs number)) [
             | true ↦ there-place direction number (skips + 1) 0 vs
             | false ↦ there-place direction number skips (offset + v.field.length) vs
@@ -78,17 +78,17 @@ there-place direction number skips offset (v ∷ vs) =
 
 -- its length is one that the element may have, unless it is missing
 pub length-place : (direction : Option ℕ) (number skips offset : ℕ) (range : ℕ × ℕ) (fields : List FieldView) → IsListed number range
-    → ((place direction number skips offset fields).length ≤ range.1)
-    × (is_there (place direction number skips offset fields) ≡ true → range.0 ≤ (place direction number skips offset fields).length)
+    → ((place_of_element direction number skips offset fields).length ≤ range.1)
+    × (is_there (place_of_element direction number skips offset fields) ≡ true → range.0 ≤ (place_of_element direction number skips offset fields).length)
 length-place direction number skips offset range [] listed = (omega arith, λ is. absurd (cc))
 length-place direction number skips offset range (f ∷ fs) listed =
     elim (is_usable direction number f) as (λ b. is_usable direction number f ≡ b
-    → ((place direction number skips offset (f ∷ fs)).length ≤ range.1)
-    × (is_there (place direction number skips offset (f ∷ fs)) ≡ true → range.0 ≤ (place direction number skips offset (f ∷ fs)).length)) [
+    → ((place_of_element direction number skips offset (f ∷ fs)).length ≤ range.1)
+    × (is_there (place_of_element direction number skips offset (f ∷ fs)) ≡ true → range.0 ≤ (place_of_element direction number skips offset (f ∷ fs)).length)) [
       | true ↦ λ usable. let within = usable_within direction number range f listed usable in rw usable (within.1, λ _. within.0)
       | false ↦ λ unusable. rw unusable
           (elim (is_variable f) as (λ b.
-          let p = cond b (place direction number (skips + 1) 0 fs) (place direction number skips (offset + f.length) fs) in
+          let p = cond b (place_of_element direction number (skips + 1) 0 fs) (place_of_element direction number skips (offset + f.length) fs) in
           (p.length ≤ range.1) × (is_there p ≡ true → range.0 ≤ p.length)) [
             | true ↦ length-place direction number (skips + 1) 0 range fs listed
             | false ↦ length-place direction number skips (offset + f.length) range fs listed

@@ -16,7 +16,7 @@ use Rattle.ipfix_read.specs.Value.{values_at}
 use Rattle.ipfix_read.specs.declared.record.Record.{Record}
 use Rattle.ipfix_read.specs.declared.set.Set.{Set}
 use Rattle.ipfix_read.specs.declared.set.Set.TheVariants.{Templates, Values, Skipped}
-use Rattle.flow_rows.specs.Counts.{records_in, records_of, rows_of}
+use Rattle.flow_rows.specs.Counts.{records_in, records_of, rows_of_sets}
 use Rattle.flow_rows.specs.Elements.{RowView, first_row, rows_of_record, second_row}
 use Rattle.flow_rows.specs.Inner.{AreUsable, HaveLayout, number_there, row_at, second_at}
 use Rattle.flow_rows.proofs.LayoutRows.{reverse_found, reverse_missing, row_found, usable}
@@ -108,7 +108,7 @@ pub empty_of : {A : Type 0} (xs : List A) → length xs ≡ 0 → [] ≡ xs
 empty_of [] none = refl
 empty_of (x ∷ xs) none = absurd (omega (arith, none))
 
-pub rows_within : (sets : List Set) → length (rows_of sets) ≤ 2 * message_size sets
+pub rows_within : (sets : List Set) → length (rows_of_sets sets) ≤ 2 * message_size sets
 rows_within sets =
     omega (
       arith,

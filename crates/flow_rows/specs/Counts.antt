@@ -7,18 +7,15 @@ use Rattle.ipfix_templates.specs.declared.event.TemplateEvent.TheVariants.{Defin
 use Rattle.ipfix_templates.specs.Template.{same_kind}
 use Rattle.ipfix_read.specs.declared.record.Record.{Record}
 use Rattle.ipfix_read.specs.declared.set.Set.{Set}
-use Rattle.ipfix_read.specs.declared.set.Set.TheVariants.{Templates, Values, Skipped}
+use Rattle.ipfix_read.specs.declared.set.Set.TheVariants.{Values, Skipped}
 use Rattle.ipfix_read.specs.Message.{MessageView}
 use Rattle.flow_rows.specs.Elements.{RowView, rows_of_record}
 use Rattle.flow_rows.specs.declared.counts.Counts.{Counts}
+use Rattle.ipfix_read.specs.Set.{events_in}
 
 -- The contents of the sets of messages, in order.
 
--- the template events of a set, and of sets
-abbrev pub events_in : Set → List TemplateEvent
-events_in (Templates kind events) = events
-events_in _ = []
-
+-- the template events of sets
 abbrev pub events_of : List Set → List TemplateEvent
 events_of sets = flat_map events_in sets
 
@@ -31,8 +28,8 @@ abbrev pub records_of : List Set → List Record
 records_of sets = flat_map records_in sets
 
 -- the rows of sets
-abbrev pub rows_of : List Set → List RowView
-rows_of sets = flat_map rows_of_record (records_of sets)
+abbrev pub rows_of_sets : List Set → List RowView
+rows_of_sets sets = flat_map rows_of_record (records_of sets)
 
 -- the sets of messages
 abbrev pub sets_of : List MessageView → List Set
@@ -40,20 +37,9 @@ sets_of messages = flat_map (λ message. message.sets) messages
 
 -- the rows of messages
 abbrev pub rows_of_messages : List MessageView → List RowView
-rows_of_messages messages = rows_of (sets_of messages)
+rows_of_messages messages = rows_of_sets (sets_of messages)
 
 -- The counts of messages.
-
--- the nine numbers, in the order in which `info` prints them
-abbrev pub numbers_of : Counts → List ℕ
-numbers_of c =
-    c.messages ∷ c.templates ∷ c.options_templates ∷ c.withdrawals ∷ c.data_sets ∷ c.skipped_sets ∷ c.records
-    ∷ c.options_records ∷ c.rows ∷ []
-
--- the sum of all counts
-abbrev pub total : Counts → ℕ
-total c =
-    c.templates + c.options_templates + c.withdrawals + c.data_sets + c.skipped_sets + c.records + c.options_records + c.rows
 
 -- whether the event defines a template of the kind
 abbrev pub defines : Kind → TemplateEvent → Bool
@@ -79,11 +65,26 @@ is_skipped _ = false
 -- skipped sets, records of each kind, and rows
 abbrev pub counts_in : ℕ → List Set → List ℕ
 counts_in messages sets =
-    messages ∷ count_by (defines Flow) (events_of sets) ∷ count_by (defines Options) (events_of sets)
+    messages ∷ count_by (defines Flow) (events_of sets)
+    ∷ count_by (defines Options) (events_of sets)
     ∷ count_by is_withdrawal (events_of sets) ∷ count_by is_data_set sets ∷ count_by is_skipped sets
-    ∷ count_by (λ r. same_kind r.kind Flow) (records_of sets) ∷ count_by (λ r. same_kind r.kind Options) (records_of sets)
-    ∷ length (rows_of sets) ∷ []
+    ∷ count_by (λ r. same_kind r.kind Flow) (records_of sets)
+    ∷ count_by (λ r. same_kind r.kind Options) (records_of sets)
+    ∷ length (rows_of_sets sets) ∷ []
 
 -- the counts of messages
 abbrev pub counts_of : List MessageView → List ℕ
 counts_of messages = counts_in (length messages) (sets_of messages)
+
+-- Below: only contracts of parts and proofs use these; no promise of the program rests on them.
+
+-- the nine numbers, in the order in which `info` prints them
+abbrev pub count_list : Counts → List ℕ
+count_list c =
+    c.messages ∷ c.templates ∷ c.options_templates ∷ c.withdrawals ∷ c.data_sets ∷ c.skipped_sets ∷ c.records
+    ∷ c.options_records ∷ c.rows ∷ []
+
+-- the sum of all counts
+abbrev pub total : Counts → ℕ
+total c =
+    c.templates + c.options_templates + c.withdrawals + c.data_sets + c.skipped_sets + c.records + c.options_records + c.rows

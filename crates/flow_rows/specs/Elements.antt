@@ -32,7 +32,8 @@ big_endian bytes = big_number (length bytes) bytes
 
 -- the number of an element of a direction in values: that of the first value whose field is usable for it
 abbrev pub element : Option ℕ → List FieldValueView → ℕ → Option ℕ
-element direction values number = option_map (λ v. big_endian v.value) (find (λ v. is_usable direction number v.field) values)
+element direction values number =
+    option_map (λ v. big_endian v.value) (find (λ v. is_usable direction number v.field) values)
 
 -- The rows of a record, from the numbers of its elements.
 
@@ -60,7 +61,8 @@ row_between version _ _ said = None
 
 -- the row of the numbers of the elements: between the IPv4 addresses, or otherwise between the IPv6 addresses
 abbrev pub row_of_elements : (ℕ → Option ℕ) → Option RowView
-row_of_elements said = option_or (row_between V4 (said 8) (said 12) said) (row_between V6 (said 27) (said 28) said)
+row_of_elements said =
+    option_or (row_between V4 (said 8) (said 12) said) (row_between V6 (said 27) (said 28) said)
 
 -- the first row of a record; an options record has none
 abbrev pub first_row : Record → Option RowView
@@ -70,14 +72,19 @@ first_row r = if same_kind r.kind Flow then row_of_elements (element forward r.f
 -- is the same, and a missing time is that of the first row
 abbrev pub said_back : (ℕ → Option ℕ) → RowView → ℕ → Option ℕ
 said_back said row n =
-    if n == 7 then Some row.dport else if n == 11 then Some row.sport else if n == 4 then Some row.protocol
-    else if n == 152 then Some (unwrap_or (said n) row.start_ms) else if n == 153 then Some (unwrap_or (said n) row.end_ms) else said n
+    if n == 7 then Some row.dport
+    else if n == 11 then Some row.sport
+    else if n == 4 then Some row.protocol
+    else if n == 152 then Some (unwrap_or (said n) row.start_ms)
+    else if n == 153 then Some (unwrap_or (said n) row.end_ms)
+    else said n
 
 -- the row of the reverse direction of a row, from the numbers of that direction, if it has packets: it is between the
 -- exchanged addresses
 abbrev pub row_back : (ℕ → Option ℕ) → RowView → Option RowView
 row_back said row =
-    if count_of 2 86 said == 0 then None else row_between row.version (Some row.dst) (Some row.src) (said_back said row)
+    if count_of 2 86 said == 0 then None
+    else row_between row.version (Some row.dst) (Some row.src) (said_back said row)
 
 -- the second row of a record: that of the reverse direction of its first row, if it has a first row and packets went
 -- back

@@ -9,4 +9,5 @@ sums these those = map (λ pair. pair.0 + pair.1) (zip these those)
 
 -- the counts of each message, added up
 abbrev pub summed_counts : List MessageView → List ℕ
-summed_counts messages = fold sums (counts_of []) (map (λ message. counts_of (message ∷ [])) messages)
+summed_counts messages =
+    fold sums (counts_of []) (map (λ message. counts_of (message ∷ [])) messages)

@@ -35,12 +35,12 @@ impl Counts {
     ghost use Rattle.std.specs.List.{flat_map};
     ghost use Rattle.ipfix_read.specs.Message.{MessageView, set_size};
     ghost use Rattle.ipfix_read.specs.declared.set.Set.{Set as SetView};
-    ghost use Rattle.flow_rows.specs.Counts.{counts_in, counts_of, defines, is_withdrawal, numbers_of, total};
+    ghost use Rattle.flow_rows.specs.Counts.{counts_in, counts_of, defines, is_withdrawal, count_list, total};
     ghost use Rattle.flow_rows.specs.Elements.{rows_of_record};
 
     /// Returns the counts of no messages.
     pub fn new() -> Counts
-        ensures { numbers_of result ≡ counts_of [] }
+        ensures { count_list result ≡ counts_of [] }
     {
         Counts {
             messages: 0,
@@ -58,8 +58,8 @@ impl Counts {
     /// Adds the counts of one message.
     pub fn add(&mut self, message: &Message<'_>)
         requires { self.old.messages < 4294967295 }
-        ensures { (messages : List MessageView) → numbers_of self.old ≡ counts_of messages
-            → numbers_of self.new ≡ counts_of (messages ++ message.now ∷ []) }
+        ensures { (messages : List MessageView) → count_list self.old ≡ counts_of messages
+            → count_list self.new ≡ counts_of (messages ++ message.now ∷ []) }
     {
         self.messages += 1;
         for set in message.sets().as_slice() {
@@ -117,8 +117,8 @@ impl Counts {
     fn add_set(&mut self, set: &Set<'_>)
         requires few { self.old.messages ≤ 4294967295 }
         requires room { total self.old + 9 * set_size set.now ≤ 589815 * self.old.messages }
-        ensures counts { (messages : ℕ) (sets : List SetView) → numbers_of self.old ≡ counts_in messages sets
-            → numbers_of self.new ≡ counts_in messages (sets ++ set.now ∷ []) }
+        ensures counts { (messages : ℕ) (sets : List SetView) → count_list self.old ≡ counts_in messages sets
+            → count_list self.new ≡ counts_in messages (sets ++ set.now ∷ []) }
         ensures room { total self.new ≤ total self.old + 9 * set_size set.now }
         ensures messages { self.new.messages ≡ self.old.messages }
     {

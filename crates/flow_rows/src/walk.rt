@@ -2,9 +2,9 @@
 ghost use Rattle.std.specs.Prelude.{◌≡◌, ◌≤◌, [], IfNone, IfSome, None, length, option_map, unwrap_or};
 ghost use Rattle.std.specs.Iterator.{YieldsFirst, item_count};
 ghost use Rattle.std.specs.List.{flat_map};
-ghost use Rattle.flow_rows.specs.Counts.{records_in, rows_of};
+ghost use Rattle.flow_rows.specs.Counts.{records_in, rows_of_sets};
 ghost use Rattle.flow_rows.specs.Elements.{rows_of_record};
-ghost use Rattle.flow_rows.specs.Walk.{HaveRows, rows_left};
+ghost use Rattle.flow_rows.specs.Walk.{HaveRows, rows_to_come};
 
 use crate::record::second_row;
 use crate::row::Row;
@@ -26,7 +26,7 @@ impl<'m> SetRows<'m> {
     #[inline(always)]
     fn of_set(set: &'m Set<'m>) -> Option<SetRows<'m>>
         ensures have { IfSome result (λ set. HaveRows set None) }
-        ensures rows { unwrap_or (option_map (λ set. rows_left set None) result) []
+        ensures rows { unwrap_or (option_map (λ set. rows_to_come set None) result) []
             ≡ flat_map rows_of_record (records_in set.now) }
     {
         let Set::Values(_, list) = set else {
@@ -46,7 +46,7 @@ impl<'m> SetRows<'m> {
         requires { HaveRows self.old last.old }
         ensures have { HaveRows self.new last.new }
         ensures last { IfNone result (last.new ≡ None) }
-        ensures rows { YieldsFirst (λ rows. rows) (rows_left self.old last.old) result (rows_left self.new last.new) }
+        ensures rows { YieldsFirst (λ rows. rows) (rows_to_come self.old last.old) result (rows_to_come self.new last.new) }
     {
         if let Some(row) = second_row(self.layout, self.runs, last.take()) {
             return Some(row);
@@ -72,21 +72,21 @@ pub struct Rows<'m> {
 impl<'m> Model for Rows<'m> {
     ghost use Rattle.std.specs.Prelude.{◌≡◌, ◌++◌, [], List, MatchOption, None, option_map, unwrap_or};
     ghost use Rattle.std.specs.Slice.Iter.{iter_rest};
-    ghost use Rattle.flow_rows.specs.Counts.{rows_of};
+    ghost use Rattle.flow_rows.specs.Counts.{rows_of_sets};
     ghost use Rattle.flow_rows.specs.Elements.{RowView};
-    ghost use Rattle.flow_rows.specs.Walk.{HaveRows, rows_left};
+    ghost use Rattle.flow_rows.specs.Walk.{HaveRows, rows_to_come};
 
     ghost Value = { List RowView };
 
-    ghost view = { λ a. unwrap_or (option_map (λ set. rows_left set a.last) a.set) []
-        ++ rows_of (iter_rest a.sets) };
+    ghost view = { λ a. unwrap_or (option_map (λ set. rows_to_come set a.last) a.set) []
+        ++ rows_of_sets (iter_rest a.sets) };
 
     ghost invariant = { λ a. MatchOption a.set (a.last ≡ None) (λ set. HaveRows set a.last) };
 }
 
 /// Returns the rows of a message, at most 131,070.
 pub fn rows_of<'m>(message: &'m Message<'m>) -> Rows<'m>
-    ensures rows { result ≡ rows_of message.now.sets }
+    ensures rows { result ≡ rows_of_sets message.now.sets }
     ensures few { length result ≤ 131070 }
 {
     Rows {

@@ -15,11 +15,6 @@ pub record GroupModel : Type 0 where
   pub key : Key
   pub totals : Totals
 
--- groups with the fields of their keys
-pub record GroupsModel : Type 0 where
-  pub fields : List KeyField
-  pub groups : List GroupModel
-
 -- the number of rows, and the sums of their packets and octets
 abbrev pub totals_of : List (Key × RowView) → Totals
 totals_of rows = record {
@@ -37,11 +32,31 @@ distinct_keys (key ∷ keys) = key ∷ filter (λ other. not (same_key key other
 -- rows with the same key
 abbrev pub groups_of_keyed : List (Key × RowView) → List GroupModel
 groups_of_keyed rows =
-    map (λ key. record { key = key; totals = totals_of (filter (λ r. same_key key r.0) rows) }) (distinct_keys (map (λ r. r.0) rows))
+    map (λ key. record { key = key; totals = totals_of (filter (λ r. same_key key r.0) rows) })
+    (distinct_keys (map (λ r. r.0) rows))
 
 -- the groups of rows by these fields, if each address has this label
 abbrev pub groups_of : List KeyField → (AddressOf → Option Label) → List RowView → List GroupModel
 groups_of fields label rows = groups_of_keyed (map (λ row. (key_of label fields row, row)) rows)
+
+-- The order of groups, and groups in this order.
+
+-- whether the group's key is before that of the other: keys compare by their parts from the left, and parts by their
+-- numbers
+abbrev pub is_before : GroupModel → GroupModel → Bool
+is_before g h =
+    is_lt (slice_cmp (λ p q. slice_cmp nat_cmp (part_numbers p) (part_numbers q)) g.key h.key)
+
+-- the groups in the order of output: in the order of their first rows, or sorted
+abbrev pub shown_groups : Bool → List GroupModel → List GroupModel
+shown_groups sorted groups = if sorted then in_order is_before groups else groups
+
+-- Below: only contracts of parts and proofs use these; no promise of the program rests on them.
+
+-- groups with the fields of their keys
+pub record GroupsModel : Type 0 where
+  pub fields : List KeyField
+  pub groups : List GroupModel
 
 -- the number of rows in all groups
 abbrev pub record_count : List GroupModel → ℕ
@@ -51,14 +66,3 @@ record_count groups = sum_by (λ g. g.totals.records) groups
 pub record AreOfNoRows (asked : List KeyField) (g : GroupsModel) : Type 0 where
   pub fields : g.fields ≡ asked
   pub groups : g.groups ≡ groups_of_keyed []
-
--- The order of groups, and groups in this order.
-
--- whether the group's key is before that of the other: keys compare by their parts from the left, and parts by their
--- numbers
-abbrev pub is_before : GroupModel → GroupModel → Bool
-is_before g h = is_lt (slice_cmp (λ p q. slice_cmp nat_cmp (part_numbers p) (part_numbers q)) g.key h.key)
-
--- the groups in the order of output: in the order of their first rows, or sorted
-abbrev pub shown_groups : Bool → List GroupModel → List GroupModel
-shown_groups sorted groups = if sorted then in_order is_before groups else groups

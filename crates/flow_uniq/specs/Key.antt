@@ -27,7 +27,8 @@ field_name DestinationLabel = codes "dst-label"
 
 abbrev pub all_fields : List KeyField
 all_fields =
-    SourceAddress ∷ DestinationAddress ∷ SourcePort ∷ DestinationPort ∷ Protocol ∷ Flags ∷ SourceLabel ∷ DestinationLabel
+    SourceAddress ∷ DestinationAddress ∷ SourcePort ∷ DestinationPort ∷ Protocol ∷ Flags
+    ∷ SourceLabel ∷ DestinationLabel
     ∷ []
 
 -- whether the field is a label
@@ -37,8 +38,8 @@ is_label_field DestinationLabel = true
 is_label_field _ = false
 
 -- whether some field is a label, so that rows have no keys without a map
-abbrev pub need_map : List KeyField → Bool
-need_map fields = list_any is_label_field fields
+abbrev pub fields_need_labels : List KeyField → Bool
+fields_need_labels fields = list_any is_label_field fields
 
 -- the field with this name
 abbrev pub field_named : List ℕ → Option KeyField
@@ -63,7 +64,8 @@ same_field a b = bytes_eq (field_name a) (field_name b)
 -- fields followed by another one, or none if that field is one of them
 abbrev pub with_field : Option (List KeyField) → KeyField → Option (List KeyField)
 with_field None field = None
-with_field (Some fields) field = if list_any (same_field field) fields then None else Some (fields ++ field ∷ [])
+with_field (Some fields) field =
+    if list_any (same_field field) fields then None else Some (fields ++ field ∷ [])
 
 -- the fields, if each occurs once
 abbrev pub each_once : List KeyField → Option (List KeyField)
@@ -72,7 +74,8 @@ each_once fields = fold with_field (Some []) fields
 -- the result of reading a text: the fields that its items name, or its fault
 abbrev pub keys_reading : List ℕ → Result (List KeyField) KeyFault
 keys_reading text =
-    if has_unnamed (items_of text) then Err BadField else ok_or (each_once (named_fields (items_of text))) FieldRepeated
+    if has_unnamed (items_of text) then Err BadField
+    else ok_or (each_once (named_fields (items_of text))) FieldRepeated
 
 -- The key of a row.
 

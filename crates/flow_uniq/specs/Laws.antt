@@ -18,7 +18,8 @@ pub record SumsItsRows (key : RowView → Key) (rows : List RowView) (g : GroupM
 
 -- The keys of the groups are distinct, and each group sums the rows that have its key. The records, packets and bytes of
 -- all groups are those of all rows.
-pub record DivideRows (key : RowView → Key) (rows : List RowView) (groups : List GroupModel) : Type 0 where
+pub record DivideRows (key : RowView → Key) (rows : List RowView)
+    (groups : List GroupModel) : Type 0 where
   pub keys : IsDistinct same_key (map (λ g. g.key) groups)
   pub each : All (SumsItsRows key rows) groups
   pub records : sum_by (λ g. g.totals.records) groups ≡ length rows

@@ -1,6 +1,6 @@
 ghost use Rattle.std.specs.Prelude.{◌≡◌, ◌++◌, ◌∷◌, [], if◌then◌else◌, not};
 ghost use Rattle.std.specs.List.{list_any};
-ghost use Rattle.flow_uniq.specs.Key.{field_named, keys_reading, need_map, same_field};
+ghost use Rattle.flow_uniq.specs.Key.{field_named, keys_reading, fields_need_labels, same_field};
 
 use crate::fault::KeyFault;
 use crate::field::{ALL_FIELDS, KeyField};
@@ -78,7 +78,7 @@ impl Keys {
 
     /// Returns `true` if a field is a label, so that rows have no keys without a map or a list.
     pub fn needs_map(&self) -> bool
-        ensures { result ≡ need_map self.now }
+        ensures { result ≡ fields_need_labels self.now }
     {
         self.fields().iter().any(|field| field.is_label())
     }

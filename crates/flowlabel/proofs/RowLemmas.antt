@@ -8,7 +8,7 @@ use Rattle.std.proofs.lemmas.List.{append-nil, map-append}
 use Rattle.std.proofs.lemmas.List.Elements.{filter-append}
 use Rattle.ipfix_read.specs.Message.{MessageView}
 use Rattle.ipfix_read.specs.declared.set.Set.{Set}
-use Rattle.flow_rows.specs.Counts.{records_in, records_of, rows_of, rows_of_messages, sets_of}
+use Rattle.flow_rows.specs.Counts.{records_in, records_of, rows_of_sets, rows_of_messages, sets_of}
 use Rattle.flow_rows.specs.Elements.{RowView, rows_of_record}
 use Rattle.flow_filter.specs.Condition.{Condition, passing, row_passes}
 use Rattle.pmap_print.specs.declared.row_labels.RowLabels.{RowLabels}
@@ -54,9 +54,9 @@ is_some-found None = refl
 is_some-found (Some l) = refl
 
 -- the rows of messages, with one more message
-pub rows_more : (messages : List MessageView) (m : MessageView) → rows_of_messages messages ++ rows_of m.sets ≡ rows_of_messages (messages ++ m ∷ [])
+pub rows_more : (messages : List MessageView) (m : MessageView) → rows_of_messages messages ++ rows_of_sets m.sets ≡ rows_of_messages (messages ++ m ∷ [])
 rows_more messages m =
-    sym (ap rows_of (flat_map-append (λ (message : MessageView). message.sets) messages (m ∷ []) ∙ ap (λ (sets : List Set). sets_of messages ++ sets) (append-nil m.sets))
+    sym (ap rows_of_sets (flat_map-append (λ (message : MessageView). message.sets) messages (m ∷ []) ∙ ap (λ (sets : List Set). sets_of messages ++ sets) (append-nil m.sets))
     ∙ ap (flat_map rows_of_record) (flat_map-append records_in (sets_of messages) m.sets)
     ∙ flat_map-append rows_of_record (records_of (sets_of messages)) (records_of m.sets))
 

@@ -6,10 +6,10 @@ use Rattle.std.specs.declared.io.ErrorKind.TheVariants as io
 use Rattle.std.specs.declared.io.ErrorKind.{ErrorKind as IoErrorKind}
 use Rattle.prefix_keys.specs.Text.{AddressOf, address_of}
 use Rattle.pmap_text.specs.Reading.{◌>>=◌}
-use Rattle.flow_filter.specs.Condition.{Condition, filter_of, needs_map}
+use Rattle.flow_filter.specs.Condition.{Condition, filter_of, condition_needs_labels}
 use Rattle.flow_filter.specs.Options.{name_of}
 use Rattle.flow_filter.specs.declared.option.TheConstants.{ALL_OPTIONS}
-use Rattle.flow_uniq.specs.Key.{keys_reading, need_map}
+use Rattle.flow_uniq.specs.Key.{keys_reading, fields_need_labels}
 use Rattle.flow_uniq.specs.declared.field.KeyField.{KeyField}
 use Rattle.clap.specs.Words.{Row, fault_of, first_of, subcommand_of}
 use Rattle.clap.specs.declared.error.kind.ErrorKind.{ErrorKind}
@@ -34,7 +34,8 @@ source_answer None (Some list) = Ok (Some (FromList list))
 source_answer None None = Ok None
 
 abbrev pub sources_in_rows : List Row → Result (Option LabelSource) UsageFault
-sources_in_rows entries = source_answer (first_of (codes "pmap") entries) (first_of (codes "list") entries)
+sources_in_rows entries =
+    source_answer (first_of (codes "pmap") entries) (first_of (codes "list") entries)
 
 abbrev pub address_in_rows : List Row → Option AddressOf
 address_in_rows entries = option_and_then address_of (first_of (codes "address") entries)
@@ -56,28 +57,36 @@ is_given flag entries = bytes_eq (unwrap_or (first_of flag entries) []) (codes "
 -- the condition of the texts of the filter options
 abbrev pub condition_in_rows : List Row → Result Condition UsageFault
 condition_in_rows entries =
-    result_map_both (λ condition. condition) Filter (filter_of (map (λ o. first_of (name_of o) entries) ALL_OPTIONS))
+    result_map_both (λ condition. condition) Filter
+    (filter_of (map (λ o. first_of (name_of o) entries) ALL_OPTIONS))
 
 abbrev pub fields_in_rows : List Row → Result (List KeyField) UsageFault
-fields_in_rows entries = result_map_both (λ fields. fields) Key (keys_reading (text_in_rows (codes "fields") entries))
+fields_in_rows entries =
+    result_map_both (λ fields. fields) Key (keys_reading (text_in_rows (codes "fields") entries))
 
 -- the request, or a fault if it needs labels and has no source of them
 abbrev pub with_labels : Bool → Option LabelSource → Request → Answer
-with_labels needed source request = if needed && is_none source then Err LabelNeedsMap else Ok request
+with_labels needed source request =
+    if needed && is_none source then Err LabelNeedsMap else Ok request
 
 abbrev pub answer_of_rows : List Row → Answer
 answer_of_rows entries =
     sources_in_rows entries >>= (λ source. condition_in_rows entries >>= (λ condition.
-    with_labels (needs_map condition) source (rows source condition (is_given (codes "columns") entries) (text_in_rows (codes "flows") entries))))
+    with_labels (condition_needs_labels condition) source
+    (rows source condition (is_given (codes "columns") entries)
+    (text_in_rows (codes "flows") entries))))
 
 abbrev pub answer_of_uniq : List Row → Answer
 answer_of_uniq entries =
-    sources_in_rows entries >>= (λ source. condition_in_rows entries >>= (λ condition. fields_in_rows entries >>= (λ fields.
-    with_labels (needs_map condition || need_map fields) source
-    (uniq fields source condition (is_given (codes "sort-output") entries) (is_given (codes "columns") entries) (text_in_rows (codes "flows") entries)))))
+    sources_in_rows entries >>= (λ source. condition_in_rows entries >>= (λ condition.
+    fields_in_rows entries >>= (λ fields.
+    with_labels (condition_needs_labels condition || fields_need_labels fields) source
+    (uniq fields source condition (is_given (codes "sort-output") entries)
+    (is_given (codes "columns") entries) (text_in_rows (codes "flows") entries)))))
 
 abbrev pub answer_of_cat : List Row → Answer
-answer_of_cat entries = sources_in_rows entries >>= (λ found. ok_or found MapMissing >>= (λ labels. Ok (cat labels)))
+answer_of_cat entries =
+    sources_in_rows entries >>= (λ found. ok_or found MapMissing >>= (λ labels. Ok (cat labels)))
 
 -- what `shrink` prints, by whether `--certificate` and `--compact` are given: a list has no compact form
 abbrev pub shrunk_asked : Bool → Bool → Result Shrunk UsageFault
@@ -100,7 +109,8 @@ answer_of found =
     else if bytes_eq found.0 (codes "cat") then answer_of_cat found.1
     else if bytes_eq found.0 (codes "shrink") then answer_of_shrink found.1
     else if bytes_eq found.0 (codes "check")
-    then Ok (check (text_in_rows (codes "pmap") found.1) (text_in_rows (codes "list") found.1) (text_in_rows (codes "cert") found.1))
+    then Ok (check (text_in_rows (codes "pmap") found.1) (text_in_rows (codes "list") found.1)
+    (text_in_rows (codes "cert") found.1))
     else if bytes_eq found.0 (codes "recert") then Ok (recert (text_in_rows (codes "cert") found.1))
     else answer_of_label found.1
 
@@ -118,7 +128,9 @@ is_mistake k = true
 
 -- clap takes the words, and this is the answer to the subcommand and the entries that it finds in them
 abbrev pub Answers : List Text → Answer → Type 0
-Answers words answer = (fault_of flowlabel_app words ≡ []) × (option_map answer_of (subcommand_of flowlabel_app words) ≡ Some answer)
+Answers words answer =
+    (fault_of flowlabel_app words ≡ [])
+    × (option_map answer_of (subcommand_of flowlabel_app words) ≡ Some answer)
 
 -- what a fault says about the words: clap refuses them, they ask for help, or the program itself finds a fault
 abbrev pub IsFaultAt : List Text → UsageFault → Type 0
@@ -144,6 +156,13 @@ IsOwnFault fault = Unit {0}
 abbrev pub IsOwnAnswer : {A : Type 0} → Result A UsageFault → Type 0
 IsOwnAnswer (Ok command) = Unit {0}
 IsOwnAnswer (Err fault) = IsOwnFault fault
+
+-- the fault of a command line whose words can't be obtained: a word isn't UTF-8, or an allocation failed
+abbrev pub words_fault_of : IoErrorKind → UsageFault
+words_fault_of io.InvalidData = NotUtf8
+words_fault_of k = NoMemory
+
+-- Below: only contracts of parts and proofs use these; no promise of the program rests on them.
 
 -- the result is this answer, with the meaning of its value, or out of memory; it is neither a refusal of clap's nor help
 abbrev pub IsUnlessMemory : {A B : Type 0} → (A → B) → Result B UsageFault → Result A UsageFault → Type 0
@@ -178,8 +197,3 @@ IsFaultOfKind k (Refused text) = is_mistake k ≡ true
 IsFaultOfKind k (Help text) = is_help k ≡ true
 IsFaultOfKind k NoMemory = Unit {0}
 IsFaultOfKind k fault = ⊥
-
--- the fault of a command line whose words can't be obtained: a word isn't UTF-8, or an allocation failed
-abbrev pub words_fault_of : IoErrorKind → UsageFault
-words_fault_of io.InvalidData = NotUtf8
-words_fault_of k = NoMemory

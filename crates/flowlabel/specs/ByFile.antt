@@ -20,7 +20,14 @@ at role.Flows files = files.flows
 
 -- what a function gives for each file
 abbrev pub each : {S T : Type 0} → (S → T) → ByFile S → ByFile T
-each f files = record { map = f files.map; list = f files.list; certificate = f files.certificate; flows = f files.flows }
+each f files = record {
+  map = f files.map;
+  list = f files.list;
+  certificate = f files.certificate;
+  flows = f files.flows;
+}
+
+-- Below: only contracts of parts and proofs use these; no promise of the program rests on them.
 
 -- the things with this one for this file
 abbrev pub with_at : {T : Type 0} → Role → T → ByFile T → ByFile T

@@ -84,6 +84,16 @@ bytes_fault_position (InFlows fault) = fault.offset
 bytes_fault_position (InCertificate fault) = fault.line
 bytes_fault_position (InCheck fault) = fault.node
 
+-- the file that the fault names; it is the certificate if it doesn't fit the map and the list
+abbrev pub role_of : BytesFault → Role
+role_of (InMap fault) = role.Map
+role_of (InList fault) = role.List
+role_of (InFlows fault) = role.Flows
+role_of (InCertificate fault) = role.Certificate
+role_of (InCheck fault) = role.Certificate
+
+-- Below: only contracts of parts and proofs use these; no promise of the program rests on them.
+
 -- whether the kind is out of memory, which says nothing about the bytes
 abbrev pub is_map_memory : MapFaultKind → Bool
 is_map_memory kind.NoMemory = true
@@ -107,11 +117,3 @@ is_out_of_memory (InList fault) = is_map_memory fault.kind
 is_out_of_memory (InFlows fault) = is_flows_memory fault.kind
 is_out_of_memory (InCertificate fault) = is_certificate_memory fault.kind
 is_out_of_memory (InCheck fault) = is_check_memory fault.kind
-
--- the file that the fault names; it is the certificate if it doesn't fit the map and the list
-abbrev pub role_of : BytesFault → Role
-role_of (InMap fault) = role.Map
-role_of (InList fault) = role.List
-role_of (InFlows fault) = role.Flows
-role_of (InCertificate fault) = role.Certificate
-role_of (InCheck fault) = role.Certificate

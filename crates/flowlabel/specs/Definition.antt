@@ -26,27 +26,8 @@ flag_rule name = record (new_rule name) { long = Some name; action = Some SetTru
 abbrev pub word_rule : Text → Rule
 word_rule name = record (new_rule name) { value_names = 1; required = true }
 
--- the rule of an argument in the program
-abbrev pub rule_for : Argument → Rule
-rule_for (Optional name value heading help) = option_rule name.now
-rule_for (Needed name value heading help) = needed_rule name.now
-rule_for (Flag name help) = flag_rule name.now
-rule_for (Word name value help) = word_rule name.now
-
-abbrev pub with_argument : App → Argument → App
-with_argument app argument = with_rule app (rule_for argument)
-
 abbrev pub with_app : App → App → App
 with_app app sub = with_subcommand app sub.top
-
--- a subcommand in the program, and a program with it
-abbrev pub app_for : Subcommand → App
-app_for sub =
-    let begun = fold with_argument (new_app sub.name.now) sub.first.now in
-    fold with_argument (fold with_argument begun sub.second.now) sub.third.now
-
-abbrev pub with_sub : App → Subcommand → App
-with_sub app sub = with_app app (app_for sub)
 
 -- a command without subcommands, by its name and its arguments
 abbrev pub leaf : Text → List Rule → App
@@ -78,11 +59,35 @@ flowlabel_app = fold with_app program (
     leaf (codes "label") (source_rules ++ word_rule (codes "address") ∷ [])
     ∷ leaf (codes "info") (word_rule (codes "flows") ∷ [])
     ∷ leaf (codes "rows") (report_rules ++ table_rules)
-    ∷ leaf (codes "uniq") (needed_rule (codes "fields") ∷ report_rules ++ flag_rule (codes "sort-output") ∷ table_rules)
+    ∷ leaf (codes "uniq") (needed_rule (codes "fields") ∷ report_rules
+    ++ flag_rule (codes "sort-output") ∷ table_rules)
     ∷ leaf (codes "cat") source_rules
-    ∷ leaf (codes "shrink") (needed_rule (codes "pmap") ∷ flag_rule (codes "certificate") ∷ flag_rule (codes "compact") ∷ [])
-    ∷ leaf (codes "check") (needed_rule (codes "pmap") ∷ needed_rule (codes "list") ∷ needed_rule (codes "cert") ∷ [])
+    ∷ leaf (codes "shrink") (needed_rule (codes "pmap") ∷ flag_rule (codes "certificate")
+    ∷ flag_rule (codes "compact") ∷ [])
+    ∷ leaf (codes "check") (needed_rule (codes "pmap") ∷ needed_rule (codes "list")
+    ∷ needed_rule (codes "cert") ∷ [])
     ∷ leaf (codes "recert") (needed_rule (codes "cert") ∷ []) ∷ [])
+
+-- Below: only contracts of parts and proofs use these; no promise of the program rests on them.
+
+-- the rule of an argument in the program
+abbrev pub rule_for : Argument → Rule
+rule_for (Optional name value heading help) = option_rule name.now
+rule_for (Needed name value heading help) = needed_rule name.now
+rule_for (Flag name help) = flag_rule name.now
+rule_for (Word name value help) = word_rule name.now
+
+abbrev pub with_argument : App → Argument → App
+with_argument app argument = with_rule app (rule_for argument)
+
+-- a subcommand in the program, and a program with it
+abbrev pub app_for : Subcommand → App
+app_for sub =
+    let begun = fold with_argument (new_app sub.name.now) sub.first.now in
+    fold with_argument (fold with_argument begun sub.second.now) sub.third.now
+
+abbrev pub with_sub : App → Subcommand → App
+with_sub app sub = with_app app (app_for sub)
 
 -- clap reads the argument by this rule, and for its own command alone
 abbrev pub IsArgument : Rule → Arg → Type 0

@@ -2,7 +2,7 @@ use Rattle.std.specs.Prelude.{◌≡◌, ◌⊎◌, ℕ, List, MatchResult, Opti
 use Rattle.std.specs.Result.{IsErrAnd}
 use Rattle.std.specs.String.{string_bytes}
 use Rattle.std.specs.declared.io.ErrorKind.{ErrorKind as IoErrorKind}
-use Rattle.flow_io.specs.Devices.{InputView, OutputView, StopsWriting, Writes}
+use Rattle.flow_io.specs.Devices.{InputView, OutputView, StopsWriting, WritesWhole}
 use Rattle.flowlabel.specs.Answer.{Answers, IsFaultAt, words_fault_of}
 use Rattle.flowlabel.specs.ByFile.{ByFile}
 use Rattle.flowlabel.specs.Faults.{exit_status_of, fault_text}
@@ -22,26 +22,31 @@ module _ {R W : Type 0} (answers : Text → Option R → Type 0) (input : R → 
   IsEndOf words old new result =
       (command : Command) × Answers words (Ok (request_of command)) × (
       (IsErrAnd result (CannotOpenFirst answers (files_of (request_of command))) × (new ≡ old))
-      ⊎ ((files : ByFile (Option (Source R))) × AreOpened answers (files_of (request_of command)) files × AreUnread input files × AreAllFetched input files
-      × (files' : ByFile (Option (Source R))) × IsRunOf input output command files files' old new result))
+      ⊎ ((files : ByFile (Option (Source R)))
+      × AreOpened answers (files_of (request_of command)) files × AreUnread input files
+      × AreAllFetched input files
+      × (files' : ByFile (Option (Source R)))
+      × IsRunOf input output command files files' old new result))
 
 -- the writer took the text whole and was flushed, or it failed before that
 abbrev pub IsWritten : OutputView → OutputView → List ℕ → Type 0
-IsWritten old new text = Writes old new text ⊎ StopsWriting old new text
+IsWritten old new text = WritesWhole old new text ⊎ StopsWriting old new text
 
 -- Help goes to standard output, and the line of a fault to standard error if there is memory for it. Nothing else is
 -- written.
 module _ {O E : Type 0} (output : O → OutputView) (error : E → OutputView) where
   abbrev pub IsReported : Result (Unit {0}) RunFault → O → O → E → E → Type 0
   IsReported (Ok done) out out' err err' = (out' ≡ out) × (err' ≡ err)
-  IsReported (Err (Usage (usage.Help text))) out out' err err' = IsWritten (output out) (output out') (string_bytes text) × (err' ≡ err)
+  IsReported (Err (Usage (usage.Help text))) out out' err err' =
+      IsWritten (output out) (output out') (string_bytes text) × (err' ≡ err)
   IsReported (Err fault) out out' err err' =
       (out' ≡ out) × (IsWritten (error err) (error err') (fault_text fault) ⊎ (err' ≡ err))
 
 -- The program for these words, or an error of getting them: a command's outcome, the text that is written for it, and
 -- the exit status. Between the two the output is in this state.
 module _ {R O E : Type 0} (answers : Text → Option R → Type 0) (input : R → InputView) (output : O → OutputView) (error : E → OutputView) where
-  pub record IsProgram (words : Result (List Text) IoErrorKind) (out out' : O) (err err' : E) (code : ℕ) : Type 0 where
+  pub record IsProgram (words : Result (List Text) IoErrorKind) (out out' : O) (err err' : E)
+      (code : ℕ) : Type 0 where
     pub outcome : Result (Unit {0}) RunFault
     pub between : O
     pub ends : MatchResult words (λ list. IsEndOf answers input output list out between outcome)

@@ -13,8 +13,8 @@ use Rattle.flowlabel.specs.declared.usage.UsageFault.TheVariants as usage
 
 -- The line that is printed for a fault, and the exit status of the program.
 
-abbrev pub out_of_memory : List ℕ
-out_of_memory = codes "flowlabel: out of memory\n"
+abbrev pub out_of_memory_text : List ℕ
+out_of_memory_text = codes "flowlabel: out of memory\n"
 
 abbrev pub position_text : List ℕ → List ℕ → ℕ → List ℕ
 position_text file name place =
@@ -41,19 +41,21 @@ usage_fault_text (usage.Help text) = []
 usage_fault_text usage.MapTwice = codes "flowlabel: usage: P3 MapTwice\n"
 usage_fault_text usage.MapMissing = codes "flowlabel: usage: P2 MapMissing\n"
 usage_fault_text usage.BadAddress = codes "flowlabel: usage: P4 BadAddress\n"
-usage_fault_text (usage.Filter fault) = option_text (name_of fault.option) (filter_fault_text fault.kind)
+usage_fault_text (usage.Filter fault) =
+    option_text (name_of fault.option) (filter_fault_text fault.kind)
 usage_fault_text (usage.Key fault) = option_text (codes "fields") (key_fault_text fault)
 usage_fault_text usage.LabelNeedsMap = codes "flowlabel: usage: P5 LabelNeedsMap\n"
 usage_fault_text usage.CompactAlone = codes "flowlabel: usage: P6 CompactAlone\n"
-usage_fault_text usage.NoMemory = out_of_memory
+usage_fault_text usage.NoMemory = out_of_memory_text
 
 abbrev pub fault_text : RunFault → List ℕ
 fault_text (Usage fault) = usage_fault_text fault
 fault_text (CannotOpen file) = codes "flowlabel: " ++ file.now ++ codes ": cannot open\n"
 fault_text (CannotRead file) = codes "flowlabel: " ++ file.now ++ codes ": cannot read\n"
 fault_text CannotWrite = codes "flowlabel: output: cannot write\n"
-fault_text NoMemory = out_of_memory
-fault_text (File file fault) = position_text file.now (bytes_fault_name fault) (bytes_fault_position fault)
+fault_text NoMemory = out_of_memory_text
+fault_text (File file fault) =
+    position_text file.now (bytes_fault_name fault) (bytes_fault_position fault)
 
 abbrev pub status_of : RunFault → ℕ
 status_of (Usage (usage.Help text)) = 0

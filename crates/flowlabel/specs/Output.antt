@@ -44,21 +44,26 @@ abbrev pub Prints : List ℕ → Outcome → Type 0
 Prints text outcome = outcome ≡ Ok text
 
 -- the outcome over a file's text, by its reading: the text's first fault, or the outcome for the value that the text is read as
-abbrev pub Then : {F A : Type 0} → (F → BytesFault) → (A → Outcome → Type 0) → Result A F → Outcome → Type 0
+abbrev pub Then : {F A : Type 0} → (F → BytesFault) → (A → Outcome → Type 0) → Result A F → Outcome
+    → Type 0
 Then in_file rest (Ok value) outcome = rest value outcome
 Then in_file rest (Err fault) outcome = outcome ≡ Err (in_file fault)
 
 -- the outcome over the text of the map or the list that labels come from: its first fault, or the outcome for its
 -- labelling
 abbrev pub LabelsThen : (Labelling → Outcome → Type 0) → LabelFile → ByFile Text → Outcome → Type 0
-LabelsThen rest (Map file) texts = Then InMap (λ m. rest (labelling_of_map m)) (map_reading texts.map)
-LabelsThen rest (Prefixes file) texts = Then InList (λ l. rest (labelling_of_list l)) (list_reading texts.list)
+LabelsThen rest (Map file) texts =
+    Then InMap (λ m. rest (labelling_of_map m)) (map_reading texts.map)
+LabelsThen rest (Prefixes file) texts =
+    Then InList (λ l. rest (labelling_of_list l)) (list_reading texts.list)
 
 -- the outcome over the bytes of an IPFIX File and the text that labels come from, if there is one: the first fault, or
 -- the outcome for the labelling, if there is one, and the messages
-abbrev pub FlowsThen : (Option Labelling → List MessageView → Outcome → Type 0) → Option LabelFile → ByFile Text → Outcome → Type 0
+abbrev pub FlowsThen : (Option Labelling → List MessageView → Outcome → Type 0) → Option LabelFile
+    → ByFile Text → Outcome → Type 0
 FlowsThen rest None texts = Then InFlows (rest None) (file_reading texts.flows)
-FlowsThen rest (Some file) texts = LabelsThen (λ l. Then InFlows (rest (Some l)) (file_reading texts.flows)) file texts
+FlowsThen rest (Some file) texts =
+    LabelsThen (λ l. Then InFlows (rest (Some l)) (file_reading texts.flows)) file texts
 
 -- the line of the label that a labelling gives an address, which is the line feed alone if there is no label
 abbrev pub label_text : AddressOf → Labelling → List ℕ
@@ -76,31 +81,46 @@ row_labels l row = (label_by l (row.version, row.src), label_by l (row.version, 
 
 -- the lines of rows, with the labels of their addresses where there is a labelling
 abbrev pub labelled_row_lines : Option Labelling → List RowView → List Line
-labelled_row_lines labels shown = row_lines shown (option_map (λ l. map (row_labels l) shown) labels)
+labelled_row_lines labels shown =
+    row_lines shown (option_map (λ l. map (row_labels l) shown) labels)
 
 -- `minimal N`, the number of a shortest list's entries
 abbrev pub minimal_text : ℕ → List ℕ
 minimal_text count = codes "minimal " ++ decimal count ++ codes "\n"
 
 -- the number of the list's entries, if the certificate has no fault for the map and the list, otherwise the first fault
-abbrev pub Checks : MapModel → ListModel → CertificateModel → Outcome → Type 0
-Checks m l c outcome = outcome ≡ option_map_or (λ fault. Err (InCheck fault)) (first_fault m l c) (Ok (minimal_text (length l.prefixes)))
+abbrev pub IsVerdict : MapModel → ListModel → CertificateModel → Outcome → Type 0
+IsVerdict m l c outcome =
+    outcome ≡ option_map_or (λ fault. Err (InCheck fault)) (first_fault m l c)
+    (Ok (minimal_text (length l.prefixes)))
 
 -- the outcome is an output of the command for these texts, read in the order map, list, certificate, flows
 abbrev pub IsOutput : Command → ByFile Text → Outcome → Type 0
-IsOutput (Label labels addr) texts = LabelsThen (λ l. Prints (label_text (addr.version, addr.value) l)) labels texts
-IsOutput (Info flows) texts = FlowsThen (λ labels messages. Prints (info_text (counts_of messages))) None texts
+IsOutput (Label labels addr) texts =
+    LabelsThen (λ l. Prints (label_text (addr.version, addr.value) l)) labels texts
+IsOutput (Info flows) texts =
+    FlowsThen (λ labels messages. Prints (info_text (counts_of messages))) None texts
 IsOutput (Rows labels condition columns flows) texts =
-    FlowsThen (λ l messages. Prints (table_text columns (labelled_row_lines l (passing condition l (rows_of_messages messages))))) labels texts
+    FlowsThen (λ l messages.
+    Prints (table_text columns
+    (labelled_row_lines l (passing condition l (rows_of_messages messages))))) labels texts
 IsOutput (Uniq fields labels condition sorted columns flows) texts =
-    FlowsThen (λ l messages. let groups = groups_of fields (label_where l) (passing condition l (rows_of_messages messages)) in
+    FlowsThen (λ l messages. let groups =
+    groups_of fields (label_where l) (passing condition l (rows_of_messages messages)) in
     Prints (groups_text fields (shown_groups sorted groups) columns)) labels texts
-IsOutput (Cat labels) texts = LabelsThen (λ l outcome. (text : Text) × IsRunsText l.version l.label text × Prints text outcome) labels texts
-IsOutput (Shrink map printed) texts = Then InMap (λ m outcome. (l : ListModel) × (c : CertificateModel)
+IsOutput (Cat labels) texts = LabelsThen (λ l outcome.
+    (text : Text) × IsRunsText l.version l.label text × Prints text outcome) labels texts
+IsOutput (Shrink map printed) texts =
+    Then InMap (λ m outcome. (l : ListModel) × (c : CertificateModel)
     × IsMinimalPair m l c × Prints (shrunk_text printed l c) outcome) (map_reading texts.map)
-IsOutput (Check map list certificate) texts = Then InMap (λ m. Then InList (λ l. Then InCertificate (Checks m l)
+IsOutput (Check map list certificate) texts =
+    Then InMap (λ m. Then InList (λ l. Then InCertificate (IsVerdict m l)
     (format_reading texts.certificate)) (list_reading texts.list)) (map_reading texts.map)
-IsOutput (Recert certificate) texts = Then InCertificate (λ c. Prints (certificate_text (compact c))) (format_reading texts.certificate)
+IsOutput (Recert certificate) texts =
+    Then InCertificate (λ c. Prints (certificate_text (compact c)))
+    (format_reading texts.certificate)
+
+-- Below: only contracts of parts and proofs use these; no promise of the program rests on them.
 
 -- the fault of a command for one of bytes, which is out of memory or says something about the bytes
 abbrev pub IsFaultFor : BytesFault → OutputFault → Type 0

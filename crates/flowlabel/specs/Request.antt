@@ -28,8 +28,10 @@ pub data LabelSource : Type 0 where
 pub data Request : Type 0 where
   label : (source : LabelSource) (address : AddressOf) → Request
   info : (flows : Text) → Request
-  rows : (source : Option LabelSource) (condition : Condition) (columns : Bool) (flows : Text) → Request
-  uniq : (fields : List KeyField) (source : Option LabelSource) (condition : Condition) (sorted : Bool) (columns : Bool) (flows : Text) → Request
+  rows : (source : Option LabelSource) (condition : Condition) (columns : Bool) (flows : Text)
+      → Request
+  uniq : (fields : List KeyField) (source : Option LabelSource) (condition : Condition)
+      (sorted : Bool) (columns : Bool) (flows : Text) → Request
   cat : (source : LabelSource) → Request
   shrink : (map : Text) (printed : Shrunk) → Request
   check : (map list certificate : Text) → Request
@@ -45,25 +47,18 @@ abbrev pub source_of : LabelFile → LabelSource
 source_of (Map file) = FromMap file.now
 source_of (Prefixes file) = FromList file.now
 
--- which file a file of labels is
-abbrev pub role_in : LabelFile → Role
-role_in (Map file) = role.Map
-role_in (Prefixes file) = role.List
-
 -- the request of a command
 abbrev pub request_of : Command → Request
 request_of (Label labels addr) = label (source_of labels) (addr.version, addr.value)
 request_of (Info flows) = info flows.now
-request_of (Rows labels filter columns flows) = rows (option_map source_of labels) filter columns flows.now
+request_of (Rows labels filter columns flows) =
+    rows (option_map source_of labels) filter columns flows.now
 request_of (Uniq keys labels filter sorted columns flows) =
     uniq keys (option_map source_of labels) filter sorted columns flows.now
 request_of (Cat labels) = cat (source_of labels)
 request_of (Shrink map printed) = shrink map.now printed
 request_of (Check map list certificate) = check map.now list.now certificate.now
 request_of (Recert certificate) = recert certificate.now
-
-abbrev pub names_of : ByFile (Option (Bor (List ℕ))) → ByFile (Option Text)
-names_of = each (option_map (λ s. s.now))
 
 -- the names of the map and of the list of a source, and of all files of a request
 abbrev pub map_in : LabelSource → Option Text
@@ -89,8 +84,20 @@ files_of (rows source condition columns flows) = files_named source (Some flows)
 files_of (uniq fields source condition sorted columns flows) = files_named source (Some flows)
 files_of (cat source) = files_named (Some source) None
 files_of (shrink map printed) = files_named (Some (FromMap map)) None
-files_of (check map list certificate) = record { map = Some map; list = Some list; certificate = Some certificate; flows = None }
-files_of (recert certificate) = record { map = None; list = None; certificate = Some certificate; flows = None }
+files_of (check map list certificate) =
+    record { map = Some map; list = Some list; certificate = Some certificate; flows = None }
+files_of (recert certificate) =
+    record { map = None; list = None; certificate = Some certificate; flows = None }
+
+-- Below: only contracts of parts and proofs use these; no promise of the program rests on them.
+
+-- which file a file of labels is
+abbrev pub role_in : LabelFile → Role
+role_in (Map file) = role.Map
+role_in (Prefixes file) = role.List
+
+abbrev pub names_of : ByFile (Option (Bor (List ℕ))) → ByFile (Option Text)
+names_of = each (option_map (λ s. s.now))
 
 -- a request reads the files that it names
 abbrev pub needs_of : Request → ByFile Bool

@@ -1,6 +1,6 @@
 use Rattle.std.specs.Prelude.{◌≡◌, ◌≤◌, ◌<◌, ◌||◌, ◌++◌, ⊤, ℕ, List, [], Option, Some, Result, Ok, Err, Bool, true, false}
 use Rattle.std.specs.Option.{option_map_or}
-use Rattle.flow_io.specs.Devices.{InputView, OutputView, ReadsInput, StopsWriting, Takes, has_ended}
+use Rattle.flow_io.specs.Devices.{InputView, OutputView, AreFetched, MayFollow, ReadsInput, StopsWriting, Takes, has_ended}
 use Rattle.flow_io.specs.declared.devices.LastCall.TheVariants.{Flush}
 use Rattle.ipfix_read.specs.Messages.{StopsReading}
 use Rattle.ipfix_read.specs.declared.fault.ReadFault.{ReadFault}
@@ -17,64 +17,78 @@ pub use Rattle.flowlabel.specs.declared.fault.RunFault.TheVariants.{CannotOpen, 
 
 -- What a run of a command does with the readers of its files and the writer of its output.
 
--- a command ended because a reader failed
-abbrev pub is_unread : {A : Type 0} → Result A OutputFault → Bool
-is_unread (Err (Unread role)) = true
-is_unread result = false
+-- the reader of each file that the command has
+abbrev pub Readers : Type 0 → Type 0
+Readers R = ByFile (Option (Source R))
+
+-- the name of a file; one that isn't there has an empty name
+abbrev pub name_in : {R : Type 0} → Option (Source R) → Text
+name_in file = option_map_or (λ source. source.name.now) file []
 
 -- the fault of a run is this one of its command, with the name of the file
 abbrev pub IsNamed : ByFile Text → OutputFault → RunFault → Type 0
 IsNamed names OutOfMemory NoMemory = Unit {0}
 IsNamed names (Unread role) (CannotRead file) = file.now ≡ at role names
-IsNamed names (Faulty fault) (File file other) = (file.now ≡ at (role_of fault) names) × (other ≡ fault)
+IsNamed names (Faulty fault) (File file other) =
+    (file.now ≡ at (role_of fault) names) × (other ≡ fault)
 IsNamed names fault run = ⊥
 
 -- the text of an input may be this one: the bytes that reads have returned, and then none after the end, otherwise any
 abbrev pub MayHave : InputView → Text → Type 0
-MayHave input text = (rest : List ℕ) × (has_ended input ≡ true → rest ≡ []) × (text ≡ input.returned ++ rest)
+MayHave input text =
+    (rest : List ℕ) × MayFollow (has_ended input) rest × (text ≡ input.returned ++ rest)
 
 -- the files that are read after this one are untouched
-abbrev pub AreLaterUntouched : {R : Type 0} → Role → ByFile (Option (Source R)) → ByFile (Option (Source R)) → Type 0
-AreLaterUntouched role old new = (later : Role) → turn role < turn later → at later new ≡ at later old
+abbrev pub AreLaterUntouched : {R : Type 0} → Role → Readers R → Readers R → Type 0
+AreLaterUntouched role old new =
+    (later : Role) → turn role < turn later → at later new ≡ at later old
 
 -- The function is what contracts see of a reader.
 module _ {R : Type 0} (input : R → InputView) where
   -- what contracts see of a file; one that isn't there has no bytes
   abbrev pub view_of : Option (Source R) → InputView
   view_of file = option_map_or (λ source. input source.reader) file
-      (record { failed = false; returned = []; fetched = []; ahead = []; stopped = true; left = Some [] })
+      (record {
+        failed = false;
+        returned = [];
+        fetched = [];
+        ahead = [];
+        stopped = true;
+        left = Some [];
+      })
 
-  abbrev pub any_failed : ByFile (Option (Source R)) → Bool
-  any_failed files = (view_of files.map).failed || ((view_of files.list).failed || ((view_of files.certificate).failed || (view_of files.flows).failed))
+  abbrev pub any_failed : Readers R → Bool
+  any_failed files =
+      (view_of files.map).failed || ((view_of files.list).failed
+      || ((view_of files.certificate).failed || (view_of files.flows).failed))
 
   -- nothing of the files is read yet
-  abbrev pub AreUnread : ByFile (Option (Source R)) → Type 0
+  abbrev pub AreUnread : Readers R → Type 0
   AreUnread files = (role : Role) → (view_of (at role files)).returned ≡ []
 
   -- the bytes fetched of the files are the ones that reads have returned, and then the ones ahead
-  abbrev pub AreAllFetched : ByFile (Option (Source R)) → Type 0
-  AreAllFetched files = (role : Role) → let view = view_of (at role files) in view.fetched ≡ view.returned ++ view.ahead
+  abbrev pub AreAllFetched : Readers R → Type 0
+  AreAllFetched files = (role : Role) → AreFetched (view_of (at role files))
 
   -- the files may have these texts
-  abbrev pub AreTexts : ByFile (Option (Source R)) → ByFile Text → Type 0
+  abbrev pub AreTexts : Readers R → ByFile Text → Type 0
   AreTexts files texts = (role : Role) → MayHave (view_of (at role files)) (at role texts)
-
-  -- reads have returned more of the files
-  abbrev pub AreReadOn : ByFile (Option (Source R)) → ByFile (Option (Source R)) → Type 0
-  AreReadOn old new = (role : Role) → ReadsInput (view_of (at role old)) (view_of (at role new)) (λ _. ⊤)
 
   -- A fault of a command, by the outcomes that it may have over the texts of the files. A fault of a file's bytes is the
   -- outcome over all texts that the files may have. It is a fault of a reader exactly if one failed. Then no earlier file
   -- has a fault, and of a File the reader returned whole messages without a fault and the beginning of one that isn't
   -- complete.
-  abbrev pub IsFaultOf : (ByFile Text → Outcome → Type 0) → ByFile (Option (Source R)) → ByFile (Option (Source R)) → OutputFault → Type 0
+  abbrev pub IsFaultOf : (ByFile Text → Outcome → Type 0) → Readers R → Readers R → OutputFault
+      → Type 0
   IsFaultOf Is old new OutOfMemory = any_failed new ≡ false
   IsFaultOf Is old new (Unread role) =
       ((view_of (at role new)).failed ≡ true) × AreLaterUntouched role old new
-      × ((texts : ByFile Text) → AreTexts new texts → (fault : BytesFault) → Is texts (Err fault) → turn role ≤ turn (role_of fault))
+      × ((texts : ByFile Text) → AreTexts new texts → (fault : BytesFault) → Is texts (Err fault)
+      → turn role ≤ turn (role_of fault))
       × (role ≡ roles.Flows → (stop : ReadFault) × StopsReading (view_of new.flows).returned stop)
   IsFaultOf Is old new (Faulty fault) =
-      ((texts : ByFile Text) → AreTexts new texts → Is texts (Err fault)) × AreLaterUntouched (role_of fault) old new × (any_failed new ≡ false)
+      ((texts : ByFile Text) → AreTexts new texts → Is texts (Err fault))
+      × AreLaterUntouched (role_of fault) old new × (any_failed new ≡ false)
 
 -- What a run of a command does, if nothing of its files is read before, and neither a reader nor the writer has failed.
 -- The functions are what contracts see of a reader and of a writer.
@@ -82,25 +96,37 @@ module _ {R W : Type 0} (input : R → InputView) (output : W → OutputView) wh
   -- The writer took exactly the output over each text that the files may have, for which the headline holds, and was
   -- flushed. After a write fault it has a prefix of the output, or all of it if the flush failed. Any other fault comes
   -- before it is called. A fault of a device comes exactly from a device that failed.
-  abbrev pub EndsAs : Command → ByFile (Option (Source R)) → ByFile (Option (Source R)) → W → W → Result (Unit {0}) RunFault → Type 0
+  abbrev pub EndsAs : Command → Readers R → Readers R → W → W
+      → Result (Unit {0}) RunFault → Type 0
   EndsAs command old new writer writer' (Ok done) =
-      (out : Text) × ((texts : ByFile Text) → AreTexts input new texts → IsOutput command texts (Ok out) × IsHeadline command texts out)
+      (out : Text) × ((texts : ByFile Text) → AreTexts input new texts
+      → IsOutput command texts (Ok out) × IsHeadline command texts out)
       × Takes (output writer) (output writer') out × ((output writer').last_call ≡ Flush)
       × ((output writer').failed ≡ false) × (any_failed input new ≡ false)
   EndsAs command old new writer writer' (Err CannotWrite) =
-      (out : Text) × ((texts : ByFile Text) → AreTexts input new texts → IsOutput command texts (Ok out))
+      (out : Text) × ((texts : ByFile Text) → AreTexts input new texts
+      → IsOutput command texts (Ok out))
       × StopsWriting (output writer) (output writer') out × (any_failed input new ≡ false)
   EndsAs command old new writer writer' (Err fault) =
-      (made : OutputFault) × IsNamed (each (λ file. option_map_or (λ source. source.name.now) file []) old) made fault
+      (made : OutputFault) × IsNamed (each name_in old) made fault
       × IsFaultOf input (IsOutput command) old new made × (writer' ≡ writer)
 
   -- What a run does; that no other bytes were fetched; and that a text which a reader reports is among those that its file
   -- may have: then the output is the one over this text.
-  pub record IsRunOf (command : Command) (old new : ByFile (Option (Source R))) (writer writer' : W) (result : Result (Unit {0}) RunFault) : Type 0 where
+  pub record IsRunOf (command : Command) (old new : Readers R)
+      (writer writer' : W) (result : Result (Unit {0}) RunFault) : Type 0 where
     pub ends : EndsAs command old new writer writer' result
     pub fetched : AreAllFetched input old → AreAllFetched input new
-    pub reported : (role : Role) (text : Text) → (view_of input (at role old)).left ≡ Some text → MayHave (view_of input (at role new)) text
+    pub reported : (role : Role) (text : Text) → (view_of input (at role old)).left ≡ Some text
+        → MayHave (view_of input (at role new)) text
 
--- the name of a file; one that isn't there has an empty name
-abbrev pub name_in : {R : Type 0} → Option (Source R) → Text
-name_in file = option_map_or (λ source. source.name.now) file []
+-- Below: only contracts of parts and proofs use these; no promise of the program rests on them.
+
+-- a command ended because a reader failed
+abbrev pub is_unread : {A : Type 0} → Result A OutputFault → Bool
+is_unread (Err (Unread role)) = true
+is_unread result = false
+
+-- reads have returned more of the files
+abbrev pub AreReadOn : {R : Type 0} → (R → InputView) → Readers R → Readers R → Type 0
+AreReadOn input old new = (role : Role) → ReadsInput (view_of input (at role old)) (view_of input (at role new)) (λ _. ⊤)

@@ -1,5 +1,5 @@
 ghost use Rattle.std.specs.Prelude.{◌≡◌, IfOk, map, option_map, true};
-ghost use Rattle.flow_filter.specs.Filters.{texts_of};
+ghost use Rattle.flow_filter.specs.Filters.{option_texts};
 ghost use Rattle.flow_filter.specs.Options.{name_of};
 ghost use Rattle.clap.specs.Words.{first_of, found_of, kind_of, rows_of, takes};
 ghost use Rattle.flowlabel.specs.Definition.{flowlabel_app};
@@ -82,7 +82,7 @@ fn is_given(entries: &ArgMatches<'_>, flag: &str) -> bool
 }
 
 fn filter_words_in<'a>(entries: &ArgMatches<'a>) -> FilterWords<'a>
-    ensures { texts_of result ≡ map (λ o. first_of (name_of o) (rows_of (found_of entries.now))) ALL_OPTIONS }
+    ensures { option_texts result ≡ map (λ o. first_of (name_of o) (rows_of (found_of entries.now))) ALL_OPTIONS }
 {
     FilterWords {
         texts: ALL_OPTIONS.map(|option| text_of(entries, option.name())),

@@ -5,13 +5,15 @@ use Rattle.ipfix_read.specs.declared.fault.ReadFaultKind.{ReadFaultKind}
 pub use Rattle.ipfix_read.specs.declared.fault.ReadFaultKind.TheVariants.{BadMessageLength, BadRecord, BadSetLength, BadTemplate, BadVersion, Failed, NoMemory, TooManyMessages, TruncatedHeader, TruncatedMessage}
 use Rattle.ipfix_read.specs.declared.fault.ReadFaultKind.TheVariants.{ReadFault as Unread}
 
--- an allocation failed, which has no position
-abbrev pub out_of_memory : ReadFault
-out_of_memory = record { kind = NoMemory; offset = 0 }
-
 -- the reader failed, in the message at this offset
 abbrev pub read_fault : ℕ → ReadFault
 read_fault offset = record { kind = Unread; offset = offset }
+
+-- Below: only contracts of parts and proofs use these; no promise of the program rests on them.
+
+-- an allocation failed, which has no position
+abbrev pub out_of_memory : ReadFault
+out_of_memory = record { kind = NoMemory; offset = 0 }
 
 -- an earlier call failed, which has no position
 abbrev pub failed_before : ReadFault

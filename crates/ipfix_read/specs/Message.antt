@@ -17,26 +17,9 @@ pub record MessageView : Type 0 where
   pub domain : ℕ
   pub sets : List Set
 
--- the size of a set: one, and one for each event or record
-abbrev pub set_size : Set → ℕ
-set_size (Templates kind events) = 1 + length events
-set_size (Values kind records) = 1 + length records
-set_size (Skipped id) = 1
-
--- the number of sets, events and records of a message
-abbrev pub message_size : List Set → ℕ
-message_size sets = sum_by set_size sets
-
 -- the template events of a message
 abbrev pub events_of_message : MessageView → List (ℕ × TemplateEvent)
 events_of_message m = events_of_sets m.domain m.sets
-
--- bytes have a header with version 10 and their length, which a message can have
-pub record HasHeader (bytes : List ℕ) : Type 0 where
-  pub least : 16 ≤ length bytes
-  pub most : length bytes ≤ 65535
-  pub version : big_number 2 bytes ≡ 10
-  pub whole : written_length bytes ≡ length bytes
 
 -- the fault of a header itself, after `count` messages, whatever bytes follow it
 abbrev pub own_fault : ℕ → List ℕ → Option ReadFaultKind
@@ -49,14 +32,21 @@ own_fault count header =
 abbrev pub header_fault : ℕ → List ℕ → Option ReadFaultKind
 header_fault count bytes =
     if nat_lt (length bytes) 16 then Some TruncatedHeader
-    else option_or (own_fault count bytes) (if nat_lt (length bytes) (written_length bytes) then Some TruncatedMessage else None)
+    else option_or (own_fault count bytes)
+    (if nat_lt (length bytes) (written_length bytes) then Some TruncatedMessage else None)
 
 -- the message whose header has no fault and which is exactly these bytes, or the first fault of its sets
 abbrev pub whole_reading : InForce → ℕ → List ℕ → Result MessageView ReadFault
 whole_reading templates offset bytes =
     let domain = big_number 4 (drop 12 bytes) in
     result_map_both
-    (λ sets. record { export_time = big_number 4 (drop 4 bytes); sequence = big_number 4 (drop 8 bytes); domain = domain; sets = sets }) (λ fault. fault)
+    (λ sets. record {
+      export_time = big_number 4 (drop 4 bytes);
+      sequence = big_number 4 (drop 8 bytes);
+      domain = domain;
+      sets = sets;
+    })
+    (λ fault. fault)
     (sets_reading templates domain (offset + 16) (drop 16 bytes))
 
 -- the message at the start of bytes at this offset, and the bytes after it, or its first fault; `count` messages precede it,
@@ -65,4 +55,24 @@ abbrev pub message_next : InForce → ℕ → ℕ → List ℕ → Result (Messa
 message_next templates count offset bytes =
     let size = written_length bytes in
     option_map_or (λ kind. Err (record { kind = kind; offset = offset })) (header_fault count bytes)
-    (result_map_both (λ m. (m, drop size bytes)) (λ fault. fault) (whole_reading templates offset (take size bytes)))
+    (result_map_both (λ m. (m, drop size bytes)) (λ fault. fault)
+    (whole_reading templates offset (take size bytes)))
+
+-- Below: only contracts of parts and proofs use these; no promise of the program rests on them.
+
+-- the size of a set: one, and one for each event or record
+abbrev pub set_size : Set → ℕ
+set_size (Templates kind events) = 1 + length events
+set_size (Values kind records) = 1 + length records
+set_size (Skipped id) = 1
+
+-- the number of sets, events and records of a message
+abbrev pub message_size : List Set → ℕ
+message_size sets = sum_by set_size sets
+
+-- bytes have a header with version 10 and their length, which a message can have
+pub record HasHeader (bytes : List ℕ) : Type 0 where
+  pub least : 16 ≤ length bytes
+  pub most : length bytes ≤ 65535
+  pub version : big_number 2 bytes ≡ 10
+  pub whole : written_length bytes ≡ length bytes

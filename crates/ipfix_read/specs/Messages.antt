@@ -13,39 +13,46 @@ use Rattle.ipfix_read.specs.Fault.{out_of_memory, read_fault, is_of_calls, is_of
 
 -- Files (RFC 5655): consecutive messages.
 
--- the template events of messages
-abbrev pub events_of_messages : List MessageView → List (ℕ × TemplateEvent)
-events_of_messages messages = flat_map events_of_message messages
-
 -- The messages in bytes that begin at this offset, or the first fault; before them are `count` messages, after which these
 -- templates are in force.
 abbrev pub messages_from : InForce → ℕ → ℕ → List ℕ → Result (List MessageView) ReadFault
 messages_from templates count offset bytes =
-    items_from {S = InForce × ℕ} (λ rest. length rest == 0) (λ before. message_next before.0 before.1)
-    (λ before m. (in_force before.0 (events_of_message m), before.1 + 1)) (templates, count) offset bytes
+    items_from {S = InForce × ℕ} (λ rest. length rest == 0)
+    (λ before. message_next before.0 before.1)
+    (λ before m. (in_force before.0 (events_of_message m), before.1 + 1))
+    (templates, count) offset bytes
 
 -- the messages of a File, or its first fault
 abbrev pub file_reading : List ℕ → Result (List MessageView) ReadFault
 file_reading bytes = messages_from no_templates 0 0 bytes
+
+-- The bytes so far have no fault, but may end within a message, and this is the fault of a reader that failed there. The
+-- fault has the offset of the message that was being read. `size` is the number of the bytes.
+abbrev pub StopsAfter : ℕ → Result (List MessageView) ReadFault → ReadFault → Type 0
+StopsAfter size (Ok messages) stop = stop ≡ read_fault size
+StopsAfter size (Err fault) stop =
+    ((fault.kind ≡ TruncatedHeader) ⊎ (fault.kind ≡ TruncatedMessage))
+    × (stop ≡ read_fault fault.offset)
+
+-- this is so of bytes that are read on, and of those of a whole File
+abbrev pub StopsFrom : InForce → ℕ → ℕ → List ℕ → ReadFault → Type 0
+StopsFrom templates count offset bytes stop =
+    StopsAfter (offset + length bytes) (messages_from templates count offset bytes) stop
+
+abbrev pub StopsReading : List ℕ → ReadFault → Type 0
+StopsReading bytes stop = StopsFrom no_templates 0 0 bytes stop
+
+-- Below: only contracts of parts and proofs use these; no promise of the program rests on them.
+
+-- the template events of messages
+abbrev pub events_of_messages : List MessageView → List (ℕ × TemplateEvent)
+events_of_messages messages = flat_map events_of_message messages
 
 -- the bytes are the beginning of a message that isn't complete, and have no fault so far: if they ended here, the
 -- message would be truncated
 abbrev pub IsIncomplete : ℕ → List ℕ → Type 0
 IsIncomplete count bytes =
     (header_fault count bytes ≡ Some TruncatedHeader) ⊎ (header_fault count bytes ≡ Some TruncatedMessage)
-
--- The bytes so far have no fault, but may end within a message, and this is the fault of a reader that failed there. The
--- fault has the offset of the message that was being read. `size` is the number of the bytes.
-abbrev pub StopsAfter : ℕ → Result (List MessageView) ReadFault → ReadFault → Type 0
-StopsAfter size (Ok messages) stop = stop ≡ read_fault size
-StopsAfter size (Err fault) stop = ((fault.kind ≡ TruncatedHeader) ⊎ (fault.kind ≡ TruncatedMessage)) × (stop ≡ read_fault fault.offset)
-
--- this is so of bytes that are read on, and of those of a whole File
-abbrev pub StopsFrom : InForce → ℕ → ℕ → List ℕ → ReadFault → Type 0
-StopsFrom templates count offset bytes stop = StopsAfter (offset + length bytes) (messages_from templates count offset bytes) stop
-
-abbrev pub StopsReading : List ℕ → ReadFault → Type 0
-StopsReading bytes stop = StopsFrom no_templates 0 0 bytes stop
 
 -- The messages of a File, one call after another.
 

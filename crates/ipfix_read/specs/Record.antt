@@ -10,7 +10,8 @@ use Rattle.ipfix_read.specs.Value.{values_at}
 
 -- the record of this template at the start of the bytes, and the bytes after it
 abbrev pub record_at : Template → List ℕ → Option (Record × List ℕ)
-record_at t bytes = option_map (λ v. (record { kind = t.kind; fields = v.0 }, v.1)) (values_at t.fields bytes)
+record_at t bytes =
+    option_map (λ v. (record { kind = t.kind; fields = v.0 }, v.1)) (values_at t.fields bytes)
 
 -- the bytes are padding: they are fewer than the shortest record has, or records would be empty (section 3.3.1)
 abbrev pub is_padding : Template → List ℕ → Bool
@@ -18,8 +19,10 @@ is_padding t bytes = least_length t.fields == 0 || nat_lt (length bytes) (least_
 
 -- the record at the start of bytes at this offset, and the bytes after it; or the fault that it extends beyond the bytes
 abbrev pub record_next : Template → ℕ → List ℕ → Result (Record × List ℕ) ReadFault
-record_next t offset bytes = ok_or (record_at t bytes) (record { kind = BadRecord; offset = offset })
+record_next t offset bytes =
+    ok_or (record_at t bytes) (record { kind = BadRecord; offset = offset })
 
 -- the records of a data set, given the bytes after its header, which begin at this offset; or the first fault
 abbrev pub data_set_reading : Template → ℕ → List ℕ → Result (List Record) ReadFault
-data_set_reading t offset bytes = items_from (is_padding t) (λ _. record_next t) (λ _ _. tt) (tt {0}) offset bytes
+data_set_reading t offset bytes =
+    items_from (is_padding t) (λ _. record_next t) (λ _ _. tt) (tt {0}) offset bytes

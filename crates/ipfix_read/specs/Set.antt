@@ -22,17 +22,22 @@ use Rattle.ipfix_read.specs.Record.{data_set_reading}
 abbrev pub in_domain : ℕ → List TemplateEvent → List (ℕ × TemplateEvent)
 in_domain domain events = map (λ event. (domain, event)) events
 
--- the template events of a set, and of sets in order
+-- the template events of a set
+abbrev pub events_in : Set → List TemplateEvent
+events_in (Templates kind events) = events
+events_in _ = []
+
+-- the template events of a set, and of sets in order, each with its domain
 abbrev pub events_of_set : ℕ → Set → List (ℕ × TemplateEvent)
-events_of_set domain (Templates kind events) = in_domain domain events
-events_of_set domain set = []
+events_of_set domain set = in_domain domain (events_in set)
 
 abbrev pub events_of_sets : ℕ → List Set → List (ℕ × TemplateEvent)
 events_of_sets domain sets = flat_map (events_of_set domain) sets
 
 -- the kind of the templates that a set with this ID holds, if it holds templates
 abbrev pub template_kind : ℕ → Option Kind
-template_kind id = if id == set_id Flow then Some Flow else (if id == set_id Options then Some Options else None)
+template_kind id =
+    if id == set_id Flow then Some Flow else (if id == set_id Options then Some Options else None)
 
 -- the fault of a template set as a fault of the File; the set's records begin at this offset
 abbrev pub in_file : ℕ → TemplateFaultKind × ℕ → ReadFault
@@ -43,8 +48,10 @@ in_file base fault = record { kind = BadTemplate fault.0; offset = base + fault.
 -- in force.
 abbrev pub content_reading : InForce → ℕ → ℕ → ℕ → List ℕ → Result Set ReadFault
 content_reading templates domain id offset bytes =
-    option_map_or (λ kind. result_map_both (Templates kind) (in_file offset) (template_set_reading kind bytes)) (template_kind id)
-    (option_map_or (λ t. result_map_both (Values t.kind) (λ fault. fault) (data_set_reading t offset bytes)) (if nat_lt id 256 then None else templates domain id)
+    option_map_or (λ kind. result_map_both (Templates kind) (in_file offset)
+    (template_set_reading kind bytes)) (template_kind id)
+    (option_map_or (λ t. result_map_both (Values t.kind) (λ fault. fault)
+    (data_set_reading t offset bytes)) (if nat_lt id 256 then None else templates domain id)
     (Ok (Skipped id)))
 
 -- the length in a set's header, and in a message's header
@@ -56,14 +63,18 @@ written_length bytes = big_number 2 (drop 2 bytes)
 abbrev pub set_next : InForce → ℕ → ℕ → List ℕ → Result (Set × List ℕ) ReadFault
 set_next templates domain offset bytes =
     let size = written_length bytes in
-    if nat_lt (length bytes) 4 || (nat_lt size 4 || nat_lt (length bytes) size) then Err (record { kind = BadSetLength; offset = offset })
+    if nat_lt (length bytes) 4 || (nat_lt size 4 || nat_lt (length bytes) size)
+    then Err (record { kind = BadSetLength; offset = offset })
     else result_map_both (λ set. (set, drop size bytes)) (λ fault. fault)
     (content_reading templates domain (big_number 2 bytes) (offset + 4) (drop 4 (take size bytes)))
 
 -- the sets of a message, given the bytes after its header, which begin at this offset; or the first fault
 abbrev pub sets_reading : InForce → ℕ → ℕ → List ℕ → Result (List Set) ReadFault
 sets_reading templates domain offset bytes =
-    items_from (λ rest. length rest == 0) (λ before. set_next before domain) (λ before set. in_force before (events_of_set domain set)) templates offset bytes
+    items_from (λ rest. length rest == 0) (λ before. set_next before domain)
+    (λ before set. in_force before (events_of_set domain set)) templates offset bytes
+
+-- Below: only contracts of parts and proofs use these; no promise of the program rests on them.
 
 -- the result of reading under a table, and the table after it, which the events of an item change
 abbrev pub ReadsUnder : {A : Type 0} → TemplateTable → TemplateTable → (A → List (ℕ × TemplateEvent)) → Result A ReadFault → Result A ReadFault → Type 0

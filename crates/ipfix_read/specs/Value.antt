@@ -10,13 +10,10 @@ pub record FieldValueView : Type 0 where
   pub field : Field
   pub value : List ℕ
 
--- the value of a field of fixed length has that length
-abbrev pub IsValueOf : Field → List ℕ → Type 0
-IsValueOf field value = is_variable field ≡ false → length value ≡ field.length
-
 -- the given number of bytes at the start, and the bytes after them
 abbrev pub bytes_at : ℕ → List ℕ → Option (List ℕ × List ℕ)
-bytes_at count bytes = if nat_lt (length bytes) count then None else Some (take count bytes, drop count bytes)
+bytes_at count bytes =
+    if nat_lt (length bytes) count then None else Some (take count bytes, drop count bytes)
 
 -- a length in one byte below 255, or in the two bytes after a byte 255, followed by the value
 abbrev pub variable_at : List ℕ → Option (List ℕ × List ℕ)
@@ -34,8 +31,15 @@ unfoldable pub values_at : List Field → List ℕ → Option (List FieldValueVi
 values_at [] bytes = Some ([], bytes)
 values_at (field ∷ fields) bytes =
     option_and_then
-    (λ v. option_and_then (λ vs. Some (record { field = field; value = v.0 } ∷ vs.0, vs.1)) (values_at fields v.1))
+    (λ v. option_and_then (λ vs. Some (record { field = field; value = v.0 } ∷ vs.0, vs.1))
+    (values_at fields v.1))
     (value_at field bytes)
+
+-- Below: only contracts of parts and proofs use these; no promise of the program rests on them.
+
+-- the value of a field of fixed length has that length
+abbrev pub IsValueOf : Field → List ℕ → Type 0
+IsValueOf field value = is_variable field ≡ false → length value ≡ field.length
 
 -- the values of these fields, in order, as far as they are complete in the bytes
 unfoldable pub whole_values : List Field → List ℕ → List FieldValueView

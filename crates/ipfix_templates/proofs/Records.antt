@@ -2,7 +2,7 @@
 use Rattle.std.proofs.Common.{◌≡◌, false, ℕ, suc, ◌+◌, ◌-◌, ◌<◌, ◌≤◌, List, [], ◌∷◌, ◌++◌, length, Option, Some, None, refl, ap, append_assoc, arith, zero, drop, Result, Ok, Err, length-drop}
 use Rattle.std.specs.Prelude.{nat_lt, option_and_then}
 use Rattle.ipfix_templates.specs.Template.{Field, Kind, Flow, Options}
-use Rattle.ipfix_templates.specs.Reading.{field_at, fields_at, defined_by, definition_at, template_record_at, template_next, after_items, at_offset, items_from, TemplateFaultKind}
+use Rattle.ipfix_templates.specs.Reading.{field_at, fields_at, defined_by, definition_at, template_record_at, template_next, after_items, with_offset, items_from, TemplateFaultKind}
 use Rattle.std.proofs.lemmas.Grind.{common_steps}
 use Rattle.std.proofs.lemmas.Bool.{ltb-false, lt-ltb, le-ltb}
 use Rattle.byteorder.specs.Endian.{big_number}
@@ -72,7 +72,7 @@ record_shorter kind bytes x long e =
 abbrev pub events_from : Kind → ℕ → List ℕ → Result (List TemplateEvent) (TemplateFaultKind × ℕ)
 events_from kind offset bytes = items_from (λ rest. nat_lt (length rest) 4) (λ _. template_next kind) (λ _ _. tt) (tt {0}) offset bytes
 
-record_is : (offset : ℕ) (read : Result (TemplateEvent × List ℕ) TemplateFaultKind) (x : TemplateEvent × List ℕ) → at_offset offset read ≡ Ok x → read ≡ Ok x
+record_is : (offset : ℕ) (read : Result (TemplateEvent × List ℕ) TemplateFaultKind) (x : TemplateEvent × List ℕ) → with_offset offset read ≡ Ok x → read ≡ Ok x
 record_is offset (Ok y) x e = cc
 record_is offset (Err fault) x e = absurd (cc)
 

@@ -6,7 +6,9 @@ use Rattle.ipfix_templates.specs.declared.layout.TheConstants.{ELEMENTS, REVERSE
 
 -- the element belongs to a row, and a field of it may have this length
 unfoldable pub fits : ℕ → ℕ → Bool
-fits number len = option_map_or (λ e. nat_le e.1.0 len && nat_le len e.1.1) (find (λ e. e.0 == number) ELEMENTS) false
+fits number len =
+    option_map_or (λ e. nat_le e.1.0 len && nat_le len e.1.1)
+    (find (λ e. e.0 == number) ELEMENTS) false
 
 -- the enterprise number of the elements of the record's own direction, which is missing, and of the reverse direction
 -- (RFC 5103 section 6.1)
@@ -19,4 +21,5 @@ back = Some REVERSE
 -- a field is usable for the element with this number in a direction: it has the element's number and the direction's
 -- enterprise number, and its length fits the element
 abbrev pub is_usable : Option ℕ → ℕ → FieldView → Bool
-is_usable direction number f = (f.number == number) && (option_eq nat_eq f.enterprise direction && fits number f.length)
+is_usable direction number f =
+    (f.number == number) && (option_eq nat_eq f.enterprise direction && fits number f.length)

@@ -15,7 +15,8 @@ no_templates domain id = None
 
 -- these templates, but with this one or none at a domain and an ID
 abbrev pub changed_at : InForce → ℕ → ℕ → Option TemplateView → InForce
-changed_at before at number value domain id = if at == domain && number == id then value else before domain id
+changed_at before at number value domain id =
+    if at == domain && number == id then value else before domain id
 
 -- the templates in force after one more event in a domain: it puts a template at its ID, removes the one at an ID, or
 -- removes all of a kind
@@ -23,11 +24,14 @@ abbrev pub after_event : InForce → ℕ × TemplateEvent → InForce
 after_event before (at, Define t) = changed_at before at t.id (Some t)
 after_event before (at, Withdraw id) = changed_at before at id None
 after_event before (at, WithdrawAll kind) = λ domain id.
-    option_and_then (λ t. if at == domain && same_kind kind t.kind then None else Some t) (before domain id)
+    option_and_then (λ t. if at == domain && same_kind kind t.kind then None else Some t)
+    (before domain id)
 
 -- the templates in force after these events, given those before them
 unfoldable pub in_force : InForce → List (ℕ × TemplateEvent) → InForce
 in_force before events = fold after_event before events
+
+-- Below: only contracts of parts and proofs use these; no promise of the program rests on them.
 
 -- the template that the table has at a domain and an ID
 abbrev pub template_at : TemplateTable → InForce

@@ -23,7 +23,9 @@ module _ {S A F : Type 0} (ends : List ℕ → Bool) (next : S → ℕ → List 
   items_by (suc most) before offset bytes =
       if ends bytes then Ok []
       else result_flatten (result_map_both
-      (λ x. after_items (x.0 ∷ []) (items_by most (with_one before x.0) (offset + (length bytes - length x.1)) x.1)) (λ fault. fault) (next before offset bytes))
+      (λ x. after_items (x.0 ∷ [])
+      (items_by most (with_one before x.0) (offset + (length bytes - length x.1)) x.1))
+      (λ fault. fault) (next before offset bytes))
 
   -- all items, or the first fault; an item has at least one byte, so there are at most as many as bytes
   abbrev pub items_from : S → ℕ → List ℕ → Result (List A) F
@@ -38,21 +40,36 @@ field_at bytes =
     let number = big_number 2 bytes in
     let size = big_number 2 (drop 2 bytes) in
     if nat_lt (length bytes) 4 then None
-    else (if nat_lt number 32768 then Some (record { enterprise = None; number = number; length = size }, drop 4 bytes)
+    else (if nat_lt number 32768
+    then Some (record { enterprise = None; number = number; length = size }, drop 4 bytes)
     else (if nat_lt (length bytes) 8 then None
-    else Some (record { enterprise = Some (big_number 4 (drop 4 bytes)); number = number - 32768; length = size }, drop 8 bytes)))
+    else Some (
+      record {
+        enterprise = Some (big_number 4 (drop 4 bytes));
+        number = number - 32768;
+        length = size;
+      },
+      drop 8 bytes,
+    )))
 
 -- `n` specifiers at the start, and the bytes after them
 unfoldable pub fields_at : ℕ → List ℕ → Option (List Field × List ℕ)
 fields_at zero bytes = Some ([], bytes)
-fields_at (suc n) bytes = option_and_then (λ f. option_and_then (λ fs. Some (f.0 ∷ fs.0, fs.1)) (fields_at n f.1)) (field_at bytes)
+fields_at (suc n) bytes =
+    option_and_then (λ f. option_and_then (λ fs. Some (f.0 ∷ fs.0, fs.1)) (fields_at n f.1))
+    (field_at bytes)
 
 -- the definition that ends with these specifiers, and the bytes after it
-abbrev pub defined_by : Kind → ℕ → ℕ → Option (List Field × List ℕ) → Result (TemplateEvent × List ℕ) TemplateFaultKind
-defined_by kind id scopes fields = ok_or (option_map (λ fs. (Define (record { id = id; kind = kind; scope_count = scopes; fields = fs.0 }), fs.1)) fields) Truncated
+abbrev pub defined_by : Kind → ℕ → ℕ → Option (List Field × List ℕ)
+    → Result (TemplateEvent × List ℕ) TemplateFaultKind
+defined_by kind id scopes fields =
+    ok_or (option_map (λ fs.
+    (Define (record { id = id; kind = kind; scope_count = scopes; fields = fs.0 }), fs.1)) fields)
+    Truncated
 
 -- the definition of `count` fields after its ID and field count; in an options template a scope field count comes first
-unfoldable pub definition_at : Kind → ℕ → ℕ → List ℕ → Result (TemplateEvent × List ℕ) TemplateFaultKind
+unfoldable pub definition_at : Kind → ℕ → ℕ → List ℕ
+    → Result (TemplateEvent × List ℕ) TemplateFaultKind
 definition_at Flow id count bytes = defined_by Flow id 0 (fields_at count bytes)
 definition_at Options id count bytes =
     let scopes = big_number 2 bytes in
@@ -62,7 +79,8 @@ definition_at Options id count bytes =
 
 -- The template record at the start and the bytes after it, or the first fault of these bytes. A record without fields
 -- withdraws the template with its ID, or all of the kind if the ID is that of the set (section 8.1).
-unfoldable pub template_record_at : Kind → List ℕ → Result (TemplateEvent × List ℕ) TemplateFaultKind
+unfoldable pub template_record_at : Kind → List ℕ
+    → Result (TemplateEvent × List ℕ) TemplateFaultKind
 template_record_at kind bytes =
     let id = big_number 2 bytes in
     let count = big_number 2 (drop 2 bytes) in
@@ -72,19 +90,26 @@ template_record_at kind bytes =
     else definition_at kind id count (drop 4 bytes)))
 
 -- the result of reading the template record at this offset
-abbrev pub at_offset : {A : Type 0} → ℕ → Result A TemplateFaultKind → Result A (TemplateFaultKind × ℕ)
-at_offset offset read = result_map_both (λ item. item) (λ kind. (kind, offset)) read
+abbrev pub with_offset : {A : Type 0} → ℕ → Result A TemplateFaultKind
+    → Result A (TemplateFaultKind × ℕ)
+with_offset offset read = result_map_both (λ item. item) (λ kind. (kind, offset)) read
 
 -- the template record at the start of bytes at this offset, and the bytes after it, or its fault
-abbrev pub template_next : Kind → ℕ → List ℕ → Result (TemplateEvent × List ℕ) (TemplateFaultKind × ℕ)
-template_next kind offset bytes = at_offset offset (template_record_at kind bytes)
+abbrev pub template_next : Kind → ℕ → List ℕ
+    → Result (TemplateEvent × List ℕ) (TemplateFaultKind × ℕ)
+template_next kind offset bytes = with_offset offset (template_record_at kind bytes)
 
 -- the records of a template set, given the bytes after its header, or the first fault with its offset; fewer bytes than a
 -- record has are padding
-abbrev pub template_set_reading : Kind → List ℕ → Result (List TemplateEvent) (TemplateFaultKind × ℕ)
-template_set_reading kind bytes = items_from (λ rest. nat_lt (length rest) 4) (λ _. template_next kind) (λ _ _. tt) (tt {0}) 0 bytes
+abbrev pub template_set_reading : Kind → List ℕ
+    → Result (List TemplateEvent) (TemplateFaultKind × ℕ)
+template_set_reading kind bytes =
+    items_from (λ rest. nat_lt (length rest) 4) (λ _. template_next kind) (λ _ _. tt)
+    (tt {0}) 0 bytes
+
+-- Below: only contracts of parts and proofs use these; no promise of the program rests on them.
 
 -- the fault is that of the reading, at most at the limit, or that an allocation failed
-abbrev pub IsFaultOf : {A : Type 0} → ℕ → Result A (TemplateFaultKind × ℕ) → TemplateFault → Type 0
-IsFaultOf limit reading (Malformed kind offset) = (offset ≤ limit) × (reading ≡ Err (kind, offset))
-IsFaultOf limit reading NoMemory = Unit {0}
+abbrev pub IsFaultWithin : {A : Type 0} → ℕ → Result A (TemplateFaultKind × ℕ) → TemplateFault → Type 0
+IsFaultWithin limit reading (Malformed kind offset) = (offset ≤ limit) × (reading ≡ Err (kind, offset))
+IsFaultWithin limit reading NoMemory = Unit {0}

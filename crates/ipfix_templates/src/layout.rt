@@ -1,7 +1,7 @@
 //! The places of the numbers of flow rows in the records of a template, determined once.
 ghost use Rattle.std.specs.Prelude.{◌≡◌, ◌≤◌, ◌==◌, find, length};
 ghost use Rattle.ipfix_templates.specs.Elements.{back, fits, forward, is_usable};
-ghost use Rattle.ipfix_templates.specs.Layout.{first_places, flow_layout, is_there, place, place_or, places_between, second_places};
+ghost use Rattle.ipfix_templates.specs.Layout.{first_places, flow_layout, is_there, place_of_element, place_or, places_between, second_places};
 
 use crate::field::Field;
 
@@ -121,7 +121,7 @@ fn is_usable(direction: Option<u32>, number: u16, field: Field) -> bool
 // Returns the place of the value of the first field that is usable for an element in a direction.
 fn place_of(direction: Option<u32>, number: u16, fields: &[Field]) -> Place
     requires { length fields.now ≤ 65535 }
-    ensures { result ≡ place direction number 0 0 fields.now }
+    ensures { result ≡ place_of_element direction number 0 0 fields.now }
 {
     let mut offset = 0u32;
     let mut skips = 0u16;
@@ -151,7 +151,7 @@ fn place_of(direction: Option<u32>, number: u16, fields: &[Field]) -> Place
 // Returns the places of the first row, given those of its addresses.
 fn places_between(is_v4: bool, src: Place, dst: Place, fields: &[Field]) -> Places
     requires { length fields.now ≤ 65535 }
-    ensures { result ≡ places_between is_v4 src dst (λ number. place forward number 0 0 fields.now) }
+    ensures { result ≡ places_between is_v4 src dst (λ number. place_of_element forward number 0 0 fields.now) }
 {
     Places {
         src,
@@ -172,7 +172,7 @@ fn places_between(is_v4: bool, src: Place, dst: Place, fields: &[Field]) -> Plac
 // take precedence.
 fn first_places(fields: &[Field]) -> Option<Places>
     requires { length fields.now ≤ 65535 }
-    ensures { result ≡ first_places (λ number. place forward number 0 0 fields.now) }
+    ensures { result ≡ first_places (λ number. place_of_element forward number 0 0 fields.now) }
 {
     let src_v4 = place_of(None, 8, fields);
     let dst_v4 = place_of(None, 12, fields);
@@ -190,7 +190,7 @@ fn first_places(fields: &[Field]) -> Option<Places>
 // Returns the places of the second row, given those of the first.
 fn second_places(first: &Places, fields: &[Field]) -> Places
     requires { length fields.now ≤ 65535 }
-    ensures { result ≡ second_places first.now (λ number. place back number 0 0 fields.now) }
+    ensures { result ≡ second_places first.now (λ number. place_of_element back number 0 0 fields.now) }
 {
     let direction = Some(REVERSE);
     Places {

@@ -1,5 +1,5 @@
 ghost use Rattle.std.specs.Prelude.{◌≡◌, ◌<◌, ◌≤◌, length, IfErr, IfOk, IfSome, Ok, option_map};
-ghost use Rattle.ipfix_templates.specs.Reading.{IsFaultOf, at_offset, definition_at, field_at, fields_at, template_record_at};
+ghost use Rattle.ipfix_templates.specs.Reading.{IsFaultWithin, with_offset, definition_at, field_at, fields_at, template_record_at};
 
 use crate::event::TemplateEvent;
 use crate::fault::{TemplateFault, TemplateFaultKind};
@@ -79,7 +79,7 @@ fn read_definition(
     requires id { 256 ≤ id }
     requires some { 0 < count }
     ensures ok { IfOk result (λ x. definition_at kind id count bytes.now ≡ Ok (x.0, x.1.now)) }
-    ensures fault { IfErr result (IsFaultOf offset (at_offset offset (definition_at kind id count bytes.now))) }
+    ensures fault { IfErr result (IsFaultWithin offset (with_offset offset (definition_at kind id count bytes.now))) }
 {
     let mut rest = bytes;
     let mut scope_count = 0;
@@ -116,7 +116,7 @@ pub fn read_record(
 ) -> Result<(TemplateEvent, &[u8]), TemplateFault>
     requires { 4 ≤ length bytes.now }
     ensures ok { IfOk result (λ x. template_record_at kind bytes.now ≡ Ok (x.0, x.1.now)) }
-    ensures fault { IfErr result (IsFaultOf offset (at_offset offset (template_record_at kind bytes.now))) }
+    ensures fault { IfErr result (IsFaultWithin offset (with_offset offset (template_record_at kind bytes.now))) }
 {
     let id = BigEndian::read_u16(bytes);
     let count = BigEndian::read_u16(&bytes[2..]);

@@ -1,6 +1,6 @@
 //! Template sets.
 ghost use Rattle.std.specs.Prelude.{◌≡◌, ◌≤◌, length, IfErr, IfOk, Ok};
-ghost use Rattle.ipfix_templates.specs.Reading.{IsFaultOf, template_set_reading};
+ghost use Rattle.ipfix_templates.specs.Reading.{IsFaultWithin, template_set_reading};
 
 use crate::event::TemplateEvents;
 use crate::fault::TemplateFault;
@@ -22,7 +22,7 @@ pub fn read_template_set(
 ) -> Result<TemplateEvents, TemplateFault>
     ensures ok { IfOk result (λ events. template_set_reading kind bytes.now ≡ Ok events) }
     ensures few { IfOk result (λ events. length events ≤ length bytes.now) }
-    ensures fault { IfErr result (IsFaultOf (length bytes.now) (template_set_reading kind bytes.now)) }
+    ensures fault { IfErr result (IsFaultWithin (length bytes.now) (template_set_reading kind bytes.now)) }
 {
     let mut events = TemplateEvents::new(alloc);
     let mut rest = bytes;

@@ -24,7 +24,10 @@ pub record Labelling : Type 0 where
 -- the labelling of the addresses of a version by a function of their numbers; other numbers have no label
 abbrev pub labelling : Version → (ℕ → Option Label) → Labelling
 labelling version label =
-    record { version = version; label = λ a. if nat_lt a (2 ^ width_of version) then label a else None }
+    record {
+      version = version;
+      label = λ a. if nat_lt a (2 ^ width_of version) then label a else None;
+    }
 
 -- the labelling of a map, which has a label for each address, and that of a prefix list
 abbrev pub labelling_of_map : MapModel → Labelling
@@ -41,6 +44,8 @@ label_by l address = option_and_then (λ place. l.label place.1) (converted l.ve
 -- the label of an address if there is a labelling; without one no address has a label
 abbrev pub label_where : Option Labelling → AddressOf → Option Label
 label_where labels address = option_and_then (λ l. label_by l address) labels
+
+-- Below: only contracts of parts and proofs use these; no promise of the program rests on them.
 
 abbrev pub labelling_by : {L : Type 0} → (L → Version) → (L → ℕ → Option Label) → L → Labelling
 labelling_by version_of label_of labeller = record { version = version_of labeller; label = label_of labeller }

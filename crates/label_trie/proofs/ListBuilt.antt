@@ -15,7 +15,7 @@ use Rattle.pmap_text.specs.declared.prefix_list.PrefixList.{PrefixList}
 use Rattle.pmap_text.specs.declared.statement.Statement.{Statement}
 use Rattle.pmap_text.specs.declared.stretches.window.Window.{Window}
 use Rattle.label_trie.specs.Leaves.{leaves_in}
-use Rattle.label_trie.specs.TrieModel.{IsDecidedLeaf, LeafModel}
+use Rattle.label_trie.specs.TrieModel.{IsLeafSettledByList, LeafModel}
 use Rattle.pmap_text.proofs.Blocks.{block_number-half}
 use Rattle.pmap_text.proofs.Decided.{held_seen, split_has_inside}
 use Rattle.pmap_text.proofs.Finds.{Contains-cases, Contains-nil}
@@ -29,9 +29,9 @@ use Rattle.label_trie.proofs.Leaves.{each_leaf, leaves_most}
 abbrev IsSeenLeaf : ℕ → List Label → List Prefix → LeafModel → Type 0
 IsSeenLeaf W table ps leaf = IsSeen W table ps leaf.bits leaf.number leaf.label
 
--- a leaf at which the list's label is seen is decided by the list
+-- a leaf at which the list's label is seen is settled by the list
 leaf_decided : (l : ListModel) (leaf : LeafModel) → AreBlocks (width_of l.version) l.prefixes
-    → IsSeen (width_of l.version) l.table l.prefixes leaf.bits leaf.number leaf.label → IsDecidedLeaf l leaf
+    → IsSeen (width_of l.version) l.table l.prefixes leaf.bits leaf.number leaf.label → IsLeafSettledByList l leaf
 leaf_decided l leaf blocks f =
     let W = width_of l.version in
     record {
@@ -91,10 +91,10 @@ module _ (l : PrefixList) (s : StretchesModel) (version : s.version ≡ l.versio
       held_seen l s version ss first are w.len (window_number s w) w.from (starts w is)
       (subst (λ (a : ℕ). a ≤ last_at s w.from) is.block.last_is (subst (λ (i : ℕ). w.last ≤ last_at s i) (sym same) is.end.to)))
 
-  -- so each leaf is decided by the list
-  pub list_decided : All (IsDecidedLeaf (list_of l)) (leaves_in s W 0 0)
+  -- so each leaf is settled by the list
+  pub list_decided : All (IsLeafSettledByList (list_of l)) (leaves_in s W 0 0)
   list_decided =
-      All-weaker (IsSeenLeaf W l.labels ps) (IsDecidedLeaf (list_of l))
+      All-weaker (IsSeenLeaf W l.labels ps) (IsLeafSettledByList (list_of l))
       (λ leaf g. leaf_decided (list_of l) leaf (list_blocks l) (rw version at g)) (leaves_in s W 0 0) leaves_seen
 
   pub list_bounded : 2 * length (leaves_in s W 0 0) ≤ 2 + 2 * W * length l.entries

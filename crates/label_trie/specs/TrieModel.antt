@@ -60,9 +60,9 @@ pub record IsSettledLeaf (m : MapModel) (leaf : LeafModel) : Type 0 where
 abbrev pub IsUndivided : MapModel → LeafModel → Type 0
 IsUndivided m leaf = (k : ℕ) → k < leaf.bits → settled_label m k (leaf.number / 2 ^ (leaf.bits - k)) ≡ None
 
--- The prefix list decides the whole block of the leaf: no entry lies strictly inside the block, and the longest entry
+-- The prefix list settles the block of the leaf: no entry lies strictly inside the block, and the longest entry
 -- that covers it has the leaf's label. If no entry covers the block, the leaf has no label.
-pub record IsDecidedLeaf (l : ListModel) (leaf : LeafModel) : Type 0 where
+pub record IsLeafSettledByList (l : ListModel) (leaf : LeafModel) : Type 0 where
   pub inside : filter (lies_inside (width_of l.version) leaf.bits leaf.number) l.prefixes ≡ []
   pub longest : label_below (width_of l.version) l.prefixes (suc leaf.bits) (first_of (width_of l.version) leaf.bits leaf.number)
       ≡ option_and_then (slice_get l.table) leaf.label

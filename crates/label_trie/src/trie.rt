@@ -9,7 +9,7 @@ ghost use Rattle.label_trie.specs.Leaves.{leaves_in, leaves_of};
 ghost use Rattle.label_trie.specs.Nodes.{stored_of};
 ghost use Rattle.label_trie.specs.Parts.{IsMet, IsRoot};
 ghost use Rattle.label_trie.specs.Stored.{IsNodeAt, IsStoredAs};
-ghost use Rattle.label_trie.specs.TrieModel.{model_of, IsCut, IsDecidedLeaf, IsNode, IsSettledLeaf, IsUndivided, label_in};
+ghost use Rattle.label_trie.specs.TrieModel.{model_of, IsCut, IsLeafSettledByList, IsNode, IsSettledLeaf, IsUndivided, label_in};
 
 use crate::cursor::{Cursor, Parts, cursor_at};
 use crate::leaf::Leaf;
@@ -64,7 +64,7 @@ impl Trie {
         requires { length list.now.entries ≤ 1000000 }
         ensures version { IfOk result (λ t. t.version ≡ list.now.version) }
         ensures cut { IfOk result (λ t. let W = width_of list.now.version in IsCut W 0 (2 ^ W) t.leaves) }
-        ensures decided { IfOk result (λ t. All (IsDecidedLeaf (list_of list.now)) t.leaves) }
+        ensures decided { IfOk result (λ t. All (IsLeafSettledByList (list_of list.now)) t.leaves) }
         ensures labels { IfOk result (λ t. (a : ℕ) → a < 2 ^ width_of list.now.version
             → option_and_then (slice_get list.now.labels) (label_in t a) ≡ list_label (list_of list.now) a) }
         ensures bounded { IfOk result (λ t. 2 * length t.leaves

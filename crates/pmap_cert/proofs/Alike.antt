@@ -4,10 +4,11 @@ use Rattle.std.proofs.lemmas.List.Elements.{All-head, All-tail}
 use Rattle.prefix_keys.specs.Block.{width_of}
 use Rattle.pmap_text.specs.ListModel.{ListModel}
 use Rattle.pmap_text.specs.MapModel.{Label, MapModel, Mapping, last_such, meets, settled_by, spans_all}
-use Rattle.pmap_cert.specs.CertificateModel.{CertificateModel, ChainNode, InnerNode, LeafNode, Tree, claim_of, has, exact_claim}
+use Rattle.pmap_cert.specs.CertificateModel.{CertificateModel, ChainNode, InnerNode, LeafNode, Tree, claim_of, exact_claim}
 use Rattle.pmap_cert.specs.Acceptance.{HasItsLabels, IsMinimalPair, StandsFor, entries_of, in_table_order}
 use Rattle.pmap_cert.proofs.Sets.{exact_claim-labels, has-single, same-listed}
 use Rattle.pmap_text.proofs.LastSuch.{last_such-cases}
+use Rattle.pmap_text.specs.Label.{has_label}
 
 -- A map has only one minimal pair.
 
@@ -47,30 +48,30 @@ module _ (m : MapModel) (l l' : ListModel) (c c' : CertificateModel) (pair : IsM
 
 -- the label of the last mapping that passes a test is in the table if all mappings' labels are
 table-mapping : (table : List Label) (test : Mapping → Bool) (ms : List Mapping) (s : Mapping) →
-    All (λ p. IsTrue (has table p.label)) ms → last_such test ms ≡ Some s → has table s.label ≡ true
+    All (λ p. IsTrue (has_label table p.label)) ms → last_such test ms ≡ Some s → has_label table s.label ≡ true
 table-mapping table test [] s all e = cc
 table-mapping table test (m ∷ ms) s all e =
     elim (last_such-cases test m ms s e) [
-      | inl h ↦ table-mapping table test ms s (All-tail (λ (p : Mapping). IsTrue (has table p.label)) m ms all) h
+      | inl h ↦ table-mapping table test ms s (All-tail (λ (p : Mapping). IsTrue (has_label table p.label)) m ms all) h
       | inr h ↦
-          subst (λ (p : Mapping). has table p.label ≡ true) h.2
-          (All-head (λ (p : Mapping). IsTrue (has table p.label)) m ms all)
+          subst (λ (p : Mapping). has_label table p.label ≡ true) h.2
+          (All-head (λ (p : Mapping). IsTrue (has_label table p.label)) m ms all)
     ]
 
 table-settled_by : (W n q : ℕ) (table : List Label) (fallback x : Label) (ms : List Mapping) (o : Option Mapping) →
-    IsTrue (has table fallback) → All (λ p. IsTrue (has table p.label)) ms → last_such (meets W n q) ms ≡ o →
-    settled_by W n q fallback o ≡ Some x → has table x ≡ true
+    IsTrue (has_label table fallback) → All (λ p. IsTrue (has_label table p.label)) ms → last_such (meets W n q) ms ≡ o →
+    settled_by W n q fallback o ≡ Some x → has_label table x ≡ true
 table-settled_by W n q table fallback x ms None default all last h =
-    subst (λ (y : Label). has table y ≡ true) (same_Some fallback x h) default
+    subst (λ (y : Label). has_label table y ≡ true) (same_Some fallback x h) default
 table-settled_by W n q table fallback x ms (Some s) default all last h =
     let parts = cond_some (spans_all W n q s) s.label x h in
-    subst (λ (y : Label). has table y ≡ true) parts.1 (table-mapping table (meets W n q) ms s all last)
+    subst (λ (y : Label). has_label table y ≡ true) parts.1 (table-mapping table (meets W n q) ms s all last)
 
 -- each label of a node's set is in the map's table
 pub table-node : (m : MapModel) → HasItsLabels m → (t : Tree) (n q : ℕ) → StandsFor m t n q → (x : Label) →
-    has (claim_of t).labels x ≡ true → has m.table x ≡ true
+    has_label (claim_of t).labels x ≡ true → has_label m.table x ≡ true
 table-node m inside (LeafNode y) n q stands x h =
-    subst (λ (z : Label). has m.table z ≡ true) (has-single y x h)
+    subst (λ (z : Label). has_label m.table z ≡ true) (has-single y x h)
     (table-settled_by (width_of m.version) n q m.table m.fallback y m.mappings
     (last_such (meets (width_of m.version) n q) m.mappings) inside.fallback inside.mappings refl stands)
 table-node m inside (ChainNode p bits side end) n q stands x h = absurd stands

@@ -3,8 +3,9 @@ use Rattle.pmap_text.specs.ListModel.{ListModel, Prefix}
 use Rattle.pmap_text.specs.MapModel.{Label, MapModel}
 use Rattle.prefix_keys.specs.Block.{width_of}
 use Rattle.pmap_cert.specs.Acceptance.{AreBitsAccepted, IsAccepted, IsLeafAccepted, IsNodeAccepted, IsWithinExact}
-use Rattle.pmap_cert.specs.CertificateModel.{CertificateModel, ChainNode, InnerNode, LeafNode, Claim, Tree, claim_of, has, IsPlain, chain_labels, chain_opened, chain_claim, chosen_half, link, link_claim, links, opened, opened_certificate, claim_by_bits, side_half, IsSameClaim, exact_claim}
+use Rattle.pmap_cert.specs.CertificateModel.{CertificateModel, ChainNode, InnerNode, LeafNode, Claim, Tree, claim_of, IsPlain, chain_labels, chain_opened, chain_claim, chosen_half, link, link_claim, links, opened_tree, opened_certificate, claim_by_bits, side_half, IsSameClaim, exact_claim}
 use Rattle.pmap_cert.proofs.Sets.{exact_claim-apart, exact_claim-common, has-head, has-own, has-single, same-exact_claim, same-then}
+use Rattle.pmap_text.specs.Label.{has_label}
 
 -- A chain's exact claim is the exact claim taken bit by bit, and an accepted certificate with chains is accepted with
 -- each chain opened.
@@ -17,11 +18,11 @@ same-itself : (a : Claim) → IsSameClaim a a
 same-itself a = record { cost = refl; labels = λ x. refl }
 
 -- a set has or lacks each label of the side leaf's set as it has or lacks the side label
-at-own : (s : List Label) (side x : Label) (b : Bool) → has s side ≡ b → has (side ∷ []) x ≡ true → has s x ≡ b
-at-own s side x b known own = subst (λ (y : Label). has s y ≡ b) (has-single side x own) known
+at-own : (s : List Label) (side x : Label) (b : Bool) → has_label s side ≡ b → has_label (side ∷ []) x ≡ true → has_label s x ≡ b
+at-own s side x b known own = subst (λ (y : Label). has_label s y ≡ b) (has-single side x own) known
 
 -- the exact claim of a side leaf and a node whose set has the side label
-link-has : (bit : Bool) (side : Label) (p : Claim) → has p.labels side ≡ true →
+link-has : (bit : Bool) (side : Label) (p : Claim) → has_label p.labels side ≡ true →
     IsSameClaim (record { cost = p.cost; labels = side ∷ [] }) (link_claim bit side p)
 link-has true side p known =
     let h = exact_claim-common (side_claim side) p side (has-own side) known in
@@ -37,7 +38,7 @@ link-has false side p known =
     }
 
 -- the exact claim of a side leaf and a node whose set lacks the side label
-link-lacks : (bit : Bool) (side : Label) (p : Claim) → has p.labels side ≡ false →
+link-lacks : (bit : Bool) (side : Label) (p : Claim) → has_label p.labels side ≡ false →
     IsSameClaim (record { cost = p.cost + 1; labels = side ∷ p.labels }) (link_claim bit side p)
 link-lacks true side p known =
     let h = exact_claim-apart (side_claim side) p
@@ -61,9 +62,9 @@ same-link false side p r same = same-exact_claim p (side_claim side) r (side_cla
 
 -- the exact claim of a chain of one bit is that of its link
 claim-first : (bit : Bool) (side : Label) (e : Claim) → IsSameClaim (chain_claim (suc zero) side e) (link_claim bit side e)
-claim-first bit side e = by_test (has e.labels side) refl
+claim-first bit side e = by_test (has_label e.labels side) refl
   where
-    by_test : (b : Bool) → has e.labels side ≡ b →
+    by_test : (b : Bool) → has_label e.labels side ≡ b →
         IsSameClaim
         (cond b (record { cost = e.cost; labels = side ∷ [] }) (record { cost = e.cost + 1; labels = side ∷ e.labels }))
         (link_claim bit side e)
@@ -71,14 +72,14 @@ claim-first bit side e = by_test (has e.labels side) refl
     by_test false known = link-lacks bit side e known
 
 -- the exact set of a chain with a bit has the side label
-has-chain_labels : (n : ℕ) (side : Label) (s : List Label) → has (chain_labels (suc n) side s) side ≡ true
+has-chain_labels : (n : ℕ) (side : Label) (s : List Label) → has_label (chain_labels (suc n) side s) side ≡ true
 has-chain_labels zero side s = has-head side s
 has-chain_labels (suc n) side s = has-own side
 
 -- the exact claim of a chain with one more bit is that of its first link
 claim-more : (bit : Bool) (n : ℕ) (side : Label) (e : Claim) →
     IsSameClaim (chain_claim (suc (suc n)) side e) (link_claim bit side (chain_claim (suc n) side e))
-claim-more bit n side e = by_test (has e.labels side)
+claim-more bit n side e = by_test (has_label e.labels side)
   where
     by_test : (b : Bool) →
         IsSameClaim
@@ -112,10 +113,10 @@ claim-chain_opened claim [] side t some = absurd (omega arith)
 claim-chain_opened claim (bit ∷ bits) side t some = claim-link claim bit side (links bits side t)
 
 pub claim-opened : (m : MapModel) (ps : List Prefix) (t : Tree) (n q : ℕ) → IsNodeAccepted m ps t n q →
-    claim_of (opened t) ≡ claim_of t
+    claim_of (opened_tree t) ≡ claim_of t
 claim-opened m ps (LeafNode x) n q h = refl
 claim-opened m ps (InnerNode claim lower upper) n q h = refl
-claim-opened m ps (ChainNode claim bits side end) n q h = claim-chain_opened claim bits side (opened end) h.0
+claim-opened m ps (ChainNode claim bits side end) n q h = claim-chain_opened claim bits side (opened_tree end) h.0
 
 -- a claim that is within a claim is within one that is the same
 pub within-same_claim : (claim e e' : Claim) → IsSameClaim e e' → IsWithinExact claim e → IsWithinExact claim e'
@@ -181,7 +182,7 @@ module _ (m : MapModel) (ps : List Prefix) (side : Label) where
 
 -- an accepted node is accepted with its chains opened
 pub opened-node : (m : MapModel) (ps : List Prefix) (t : Tree) (n q : ℕ) → IsNodeAccepted m ps t n q →
-    IsNodeAccepted m ps (opened t) n q
+    IsNodeAccepted m ps (opened_tree t) n q
 opened-node m ps (LeafNode x) n q h = h
 opened-node m ps (InnerNode claim lower upper) n q h = (
   h.0,
@@ -192,8 +193,8 @@ opened-node m ps (InnerNode claim lower upper) n q h = (
 )
 opened-node m ps (ChainNode claim bits side end) n q h =
     let last = at-end m ps side (IsNodeAccepted m ps end) bits n q h.1 in
-    top-accepted m ps side claim bits (opened end) n q h.0
-    (bits-end m ps side (IsNodeAccepted m ps end) (IsNodeAccepted m ps (opened end)) (opened-node m ps end) bits n q h.1)
+    top-accepted m ps side claim bits (opened_tree end) n q h.0
+    (bits-end m ps side (IsNodeAccepted m ps end) (IsNodeAccepted m ps (opened_tree end)) (opened-node m ps end) bits n q h.1)
     (subst (λ (p : Claim). IsWithinExact claim (chain_claim (length bits) side p)) (sym (claim-opened m ps end last.0 last.1 last.2)) h.2)
 
 -- an opened tree has no chain
@@ -207,10 +208,10 @@ plain-chain_opened claim [] side t h = h
 plain-chain_opened claim (true ∷ bits) side t h = (tt, plain-links bits side t h)
 plain-chain_opened claim (false ∷ bits) side t h = (plain-links bits side t h, tt)
 
-pub opened-plain : (t : Tree) → IsPlain (opened t)
+pub opened-plain : (t : Tree) → IsPlain (opened_tree t)
 opened-plain (LeafNode x) = tt
 opened-plain (InnerNode claim lower upper) = (opened-plain lower, opened-plain upper)
-opened-plain (ChainNode claim bits side end) = plain-chain_opened claim bits side (opened end) (opened-plain end)
+opened-plain (ChainNode claim bits side end) = plain-chain_opened claim bits side (opened_tree end) (opened-plain end)
 
 -- an accepted certificate is accepted with its chains opened
 pub opened-accepted : (m : MapModel) (l : ListModel) (c : CertificateModel) → IsAccepted m l c → IsAccepted m l (opened_certificate c)

@@ -9,7 +9,7 @@ use Rattle.pmap_cert.specs.CertificateModel.{CertificateModel, ChainNode, ClaimO
 use Rattle.pmap_cert.specs.Compacting.{compact, compacted, leaf_label, run_bits, run_compacted, run_end, side_of}
 use Rattle.pmap_cert.specs.Format.{format_number, Format, One, Two}
 use Rattle.pmap_cert.specs.FormatReading.{ChainLine, DueLine}
-use Rattle.pmap_cert.specs.Node.{HasChainForm, Node, first_line, lines_of, node_of, tree_of}
+use Rattle.pmap_cert.specs.Node.{HasChainForm, Node, first_line, node_lines, node_of, tree_of}
 use Rattle.pmap_cert.specs.Inner.{IsShort, side_below}
 use Rattle.pmap_cert.proofs.Compacts.{compact-again, compact-first}
 use Rattle.pmap_cert.proofs.Relabelled.{compacted-texts}
@@ -33,8 +33,8 @@ module _ (claim : ClaimOf ℕ) (lower upper : Node) where
       ∙ run_compacted-chain nat_eq (compacted nat_eq) claim lower upper side (le-leb _ _ long)
 
 -- the line of a leaf is that of the leaf compacted
-pub leaf-lines : (node : Node) → IsSome (leaf_label node) → first_line node ∷ [] ≡ lines_of (compacted nat_eq node)
-leaf-lines (LeafNode number) leaf = ap lines_of (sym (compacted-leaf nat_eq number))
+pub leaf-lines : (node : Node) → IsSome (leaf_label node) → first_line node ∷ [] ≡ node_lines (compacted nat_eq node)
+leaf-lines (LeafNode number) leaf = ap node_lines (sym (compacted-leaf nat_eq number))
 leaf-lines (InnerNode claim lower upper) leaf = absurd (let e : false ≡ true = leaf in cc)
 leaf-lines (ChainNode claim bits side end) leaf = absurd (let e : false ≡ true = leaf in cc)
 
@@ -42,19 +42,19 @@ module _ (node : Node) (claim : ClaimOf ℕ) (lower upper : Node) (node_is : nod
   pub chain-lines : (side : ℕ) (line : DueLine) (cost' : ℕ) (set' : List ℕ) (bits : List Bool) (down : Node) → side_below node ≡ Some side
       → bits ≡ run_bits nat_eq side node → down ≡ run_end nat_eq side node → 2 ≤ length bits → line ≡ first_line node
       → cost' ≡ (claim_of (node_of line)).cost → set' ≡ (claim_of (node_of line)).labels
-      → ChainLine cost' bits side set' ∷ lines_of (compacted nat_eq down) ≡ lines_of (compacted nat_eq node)
+      → ChainLine cost' bits side set' ∷ node_lines (compacted nat_eq down) ≡ node_lines (compacted nat_eq node)
   chain-lines side line cost' set' bits down sides are is long line_is cost_is set_is =
       let here = ap (λ (l : DueLine). claim_of (node_of l)) (line_is ∙ ap first_line node_is) in
       let run = are ∙ ap (run_bits nat_eq side) node_is in
       let count = ap length run in
       (λ i. ChainLine ((cost_is ∙ ap (λ (c : ClaimOf ℕ). c.cost) here) i) (run i) side ((set_is ∙ ap (λ (c : ClaimOf ℕ). c.labels) here) i)
-      ∷ lines_of (compacted nat_eq ((is ∙ ap (run_end nat_eq side) node_is) i)))
-      ∙ ap lines_of (sym (ap (compacted nat_eq) node_is ∙ compact-chain claim lower upper side (sym (ap side_below node_is) ∙ sides) (omega arith)))
+      ∷ node_lines (compacted nat_eq ((is ∙ ap (run_end nat_eq side) node_is) i)))
+      ∙ ap node_lines (sym (ap (compacted nat_eq) node_is ∙ compact-chain claim lower upper side (sym (ap side_below node_is) ∙ sides) (omega arith)))
 
-  pub inner-lines : IsShort node → first_line node ∷ (lines_of (compacted nat_eq lower) ++ lines_of (compacted nat_eq upper)) ≡ lines_of (compacted nat_eq node)
+  pub inner-lines : IsShort node → first_line node ∷ (node_lines (compacted nat_eq lower) ++ node_lines (compacted nat_eq upper)) ≡ node_lines (compacted nat_eq node)
   inner-lines short =
-      ap (λ (n : Node). first_line n ∷ (lines_of (compacted nat_eq lower) ++ lines_of (compacted nat_eq upper))) node_is
-      ∙ ap lines_of
+      ap (λ (n : Node). first_line n ∷ (node_lines (compacted nat_eq lower) ++ node_lines (compacted nat_eq upper))) node_is
+      ∙ ap node_lines
       (sym (ap (compacted nat_eq) node_is ∙ compact-short claim lower upper (λ side e.
       let few = short side (ap side_below node_is ∙ e) in
       let count = ap (λ (n : Node). length (run_bits nat_eq side n)) node_is in

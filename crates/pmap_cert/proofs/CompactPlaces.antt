@@ -5,7 +5,7 @@ use Rattle.std.proofs.lemmas.List.Elements.{All-append, All-cons, All-head, All-
 use Rattle.pmap_cert.specs.FormatReading.{ChainLine, DueLine, InnerLine, LeafLine}
 use Rattle.pmap_cert.specs.CertificateModel.{ChainNode, ClaimOf, InnerNode, IsPlain, LeafNode}
 use Rattle.pmap_cert.specs.Compacting.{leaf_label, run_bits, run_end}
-use Rattle.pmap_cert.specs.Node.{AreWhole, HasChainForm, Node, claiming, first_line, first_node, from_next_line, joined, lines_of, nodes_of, node_of}
+use Rattle.pmap_cert.specs.Node.{AreWhole, HasChainForm, Node, claiming, first_line, first_node, from_next_line, joined, node_lines, nodes_of, node_of}
 use Rattle.pmap_cert.specs.Inner.{AreEndsFrom, ArePlain, EndsAt, HasHalves, HasPlace, IsShallow, node_from}
 use Rattle.pmap_cert.proofs.ChainWords.{left-room}
 use Rattle.pmap_cert.proofs.CompactForms.{form-run}
@@ -15,11 +15,11 @@ use Rattle.pmap_cert.proofs.NodeWalk.{line-here, nodes-next, root-of, tree-whole
 abbrev IsPlainLine : DueLine → Type 0
 IsPlainLine line = IsPlain (node_of line)
 
-pub plain-lines : (node : Node) → IsPlain node → All IsPlainLine (lines_of node)
+pub plain-lines : (node : Node) → IsPlain node → All IsPlainLine (node_lines node)
 plain-lines (LeafNode number) plain = All-cons IsPlainLine (LeafLine number) [] tt (All-nil IsPlainLine)
 plain-lines (InnerNode claim lower upper) plain =
-    All-cons IsPlainLine (InnerLine claim.cost claim.labels) (lines_of lower ++ lines_of upper) (tt, tt)
-    (All-append IsPlainLine (lines_of lower) (lines_of upper) (plain-lines lower plain.0) (plain-lines upper plain.1))
+    All-cons IsPlainLine (InnerLine claim.cost claim.labels) (node_lines lower ++ node_lines upper) (tt, tt)
+    (All-append IsPlainLine (node_lines lower) (node_lines upper) (plain-lines lower plain.0) (plain-lines upper plain.1))
 plain-lines (ChainNode claim bits side end) plain = absurd plain
 
 pub whole-drop : (lines : List DueLine) (k : ℕ) → AreWhole lines → AreWhole (drop k lines)
@@ -156,7 +156,7 @@ first-short side (node ∷ nodes) all =
     omega (arith, shallow.2, last.1)
 
 -- the lines of a shallow node without chains are plain
-pub plain-of : (node : Node) (lines : List DueLine) → lines ≡ lines_of node → IsPlain node → IsShallow node → ArePlain lines
+pub plain-of : (node : Node) (lines : List DueLine) → lines ≡ node_lines node → IsPlain node → IsShallow node → ArePlain lines
 plain-of node lines is plain shallow = record {
   whole = tree-whole lines node is;
   plain = subst (All IsPlainLine) (sym is) (plain-lines node plain);
@@ -164,8 +164,8 @@ plain-of node lines is plain shallow = record {
       (shallow-from lines k (tree-whole lines node is) (subst (All IsShallow) (sym (root-of lines node is)) (All-cons IsShallow node [] shallow (All-nil IsShallow))));
 }
 
-pub root-at : (node : Node) (lines : List DueLine) → lines ≡ lines_of node → node_from lines 0 ≡ node
+pub root-at : (node : Node) (lines : List DueLine) → lines ≡ node_lines node → node_from lines 0 ≡ node
 root-at node lines is = ap first_node (root-of lines node is)
 
-pub some-lines : (node : Node) (lines : List DueLine) → lines ≡ lines_of node → 0 < length lines
+pub some-lines : (node : Node) (lines : List DueLine) → lines ≡ node_lines node → 0 < length lines
 some-lines node lines is = let e = ap length (root-of lines node is) in within lines 0 (omega arith)

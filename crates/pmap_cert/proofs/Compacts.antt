@@ -4,7 +4,7 @@ use Rattle.std.proofs.lemmas.Bool.{cond-false, cond-true, eq-eqb, ne_eqb}
 use Rattle.pmap_text.specs.ListModel.{ListModel}
 use Rattle.pmap_text.specs.MapModel.{MapModel}
 use Rattle.pmap_cert.specs.Acceptance.{IsAccepted}
-use Rattle.pmap_cert.specs.CertificateModel.{CertificateModel, Claim, IsOfFormat, IsPlain, opened}
+use Rattle.pmap_cert.specs.CertificateModel.{CertificateModel, Claim, IsOfFormat, IsPlain, opened_tree}
 use Rattle.pmap_cert.specs.Compacting.{HasNoRun, IsSameShape, OpensTo, compact, compacted, line_count}
 use Rattle.pmap_cert.proofs.Opening.{claim-opening, lines-opening, opening-accepted}
 use Rattle.pmap_cert.proofs.Runs.{compacted_in-no_run, compacted_in-opens, shape-opens}
@@ -62,7 +62,7 @@ compact-lines c of =
 pub compact-claims : (c : CertificateModel) → c.format ≡ 1 → IsPlain c.root → OpensTo (compact c).root c.root
 compact-claims c first plain = subst (λ (k : CertificateModel). OpensTo k.root c.root) (sym (compact-first c first)) (opens c plain)
 
-pub compact-shape : (c : CertificateModel) → c.format ≡ 1 → IsPlain c.root → IsSameShape (opened (compact c).root) c.root
+pub compact-shape : (c : CertificateModel) → c.format ≡ 1 → IsPlain c.root → IsSameShape (opened_tree (compact c).root) c.root
 compact-shape c first plain = shape-opens (compact c).root c.root (compact-claims c first plain)
 
 pub compact-runs : (c : CertificateModel) → c.format ≡ 1 → IsPlain c.root → HasNoRun (compact c).root

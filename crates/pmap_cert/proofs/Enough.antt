@@ -3,7 +3,7 @@ use Rattle.prefix_keys.specs.Block.{block_number, first_of, width_of}
 use Rattle.prefix_keys.specs.declared.version.Version.{Version}
 use Rattle.pmap_text.specs.ListModel.{IsEquivalent, ListModel, Prefix, label_below}
 use Rattle.pmap_text.specs.MapModel.{Label, MapModel, map_label}
-use Rattle.pmap_cert.specs.Acceptance.{IsAccepted, IsDecided, IsLeast, IsNodeAccepted}
+use Rattle.pmap_cert.specs.Acceptance.{IsAccepted, ListSettles, IsLeast, IsNodeAccepted}
 use Rattle.pmap_cert.specs.CertificateModel.{CertificateModel, ChainNode, InnerNode, LeafNode, Claim, Tree, claim_of, IsPlain, opened_certificate}
 use Rattle.pmap_cert.proofs.Chains.{claim-opened, opened-accepted, opened-plain}
 use Rattle.pmap_text.proofs.Blocks.{block_number-first_of, block_number-halves, block_number-zero}
@@ -16,7 +16,7 @@ use Rattle.pmap_text.proofs.Settled.{map_label-settled}
 
 -- a list that decides a block by a label gives it to each address of the block
 label_below-decided : (W : ℕ) (ps : List Prefix) (n q a : ℕ) (x : Label) → n ≤ W → block_number W n a ≡ q →
-    IsDecided W ps n q x → label_below W ps (suc W) a ≡ Some x
+    ListSettles W ps n q x → label_below W ps (suc W) a ≡ Some x
 label_below-decided W ps n q a x le e decided =
     let s : suc W ≡ suc n + (W - n) = omega arith in
     ap (λ (j : ℕ). label_below W ps j a) s

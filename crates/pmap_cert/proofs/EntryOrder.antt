@@ -8,8 +8,7 @@ use Rattle.std.proofs.lemmas.List.Sorted.{Contains-permutation, IsPermutation-co
 use Rattle.std.proofs.lemmas.Map.Keys.{IsDistinct-IsPermutation, IsDistinct-head, IsDistinct-tail}
 use Rattle.pmap_cert.specs.Acceptance.{IsInOrder, begins_before}
 use Rattle.pmap_text.specs.ListEntries.{HasDistinctBlocks, rank_of, same_block}
-use Rattle.pmap_text.specs.Inner.{same_key}
-use Rattle.pmap_text.specs.ListModel.{Prefix}
+use Rattle.pmap_text.specs.ListModel.{Prefix, same_start_and_bits}
 use Rattle.pmap_text.specs.MapModel.{Label}
 use Rattle.pmap_text.specs.PrefixList.{prefix_of}
 use Rattle.pmap_text.specs.declared.entry.Entry.{Entry}
@@ -31,7 +30,7 @@ before-trans p r s a b = grind (arith, nat_tests)
 before-once : (p r : Prefix) → begins_before p r ≡ true → begins_before r p ≡ true → ⊥
 before-once p r a b = grind (arith, nat_tests)
 
-before-other : (p r : Prefix) → begins_before r p ≡ false → same_key p r ≡ false → begins_before p r ≡ true
+before-other : (p r : Prefix) → begins_before r p ≡ false → same_start_and_bits p r ≡ false → begins_before p r ≡ true
 before-other p r not ne = grind (arith, nat_tests)
 
 before-not : (p r : Prefix) → begins_before p r ≡ true → begins_before r p ≡ false
@@ -84,7 +83,7 @@ all-before : (p r : Prefix) (rs : List Prefix) → begins_before p r ≡ true �
 all-before p r [] is all = tt
 all-before p r (s ∷ ss) is all = (before-trans p r s is all.0, all-before p r ss is all.1)
 
-with_entry-order : (p : Prefix) (ps : List Prefix) → IsInOrder ps → AllByRecursion (λ r. same_key p r ≡ false) ps → IsInOrder (with_entry p ps)
+with_entry-order : (p : Prefix) (ps : List Prefix) → IsInOrder ps → AllByRecursion (λ r. same_start_and_bits p r ≡ false) ps → IsInOrder (with_entry p ps)
 with_entry-order p [] ordered other = (tt, tt)
 with_entry-order p (r ∷ rs) ordered other = by (begins_before r p) refl (with_entry-order p rs ordered.1 other.1)
   where
@@ -92,18 +91,18 @@ with_entry-order p (r ∷ rs) ordered other = by (begins_before r p) refl (with_
     by true e ih = (with_entry-all (λ s. begins_before r s ≡ true) p rs e ordered.0, ih)
     by false e ih = let is = before-other p r e other.0 in ((is, all-before p r rs is ordered.0), ordered)
 
-pub alike-flips : (p r : Prefix) → same_key p r ≡ same_key r p
+pub alike-flips : (p r : Prefix) → same_start_and_bits p r ≡ same_start_and_bits r p
 alike-flips p r = grind arith
 
-pub in_order-order : (ps : List Prefix) → IsDistinct same_key ps → IsInOrder (entries_in_order ps)
+pub in_order-order : (ps : List Prefix) → IsDistinct same_start_and_bits ps → IsInOrder (entries_in_order ps)
 in_order-order [] distinct = tt
 in_order-order (p ∷ ps) distinct =
-    let more : IsDistinct same_key (p ∷ entries_in_order ps) =
-    IsDistinct-IsPermutation same_key alike-flips (p ∷ ps) (p ∷ entries_in_order ps) (IsPermutation-cons p ps (entries_in_order ps) (in_order-moves ps)) distinct in
-    with_entry-order p (entries_in_order ps) (in_order-order ps (IsDistinct-tail same_key p ps distinct)) (IsDistinct-head same_key p (entries_in_order ps) more)
+    let more : IsDistinct same_start_and_bits (p ∷ entries_in_order ps) =
+    IsDistinct-IsPermutation same_start_and_bits alike-flips (p ∷ ps) (p ∷ entries_in_order ps) (IsPermutation-cons p ps (entries_in_order ps) (in_order-moves ps)) distinct in
+    with_entry-order p (entries_in_order ps) (in_order-order ps (IsDistinct-tail same_start_and_bits p ps distinct)) (IsDistinct-head same_start_and_bits p (entries_in_order ps) more)
 
 -- there is only one order of a list's entries
-pub in_order-one : (ps rs : List Prefix) → IsDistinct same_key ps → IsPermutation ps rs → IsInOrder rs → rs ≡ entries_in_order ps
+pub in_order-one : (ps rs : List Prefix) → IsDistinct same_start_and_bits ps → IsPermutation ps rs → IsInOrder rs → rs ≡ entries_in_order ps
 in_order-one ps rs distinct moved ordered =
     let both = IsPermutation-trans rs ps (entries_in_order ps) (IsPermutation-sym ps rs moved) (in_order-moves ps) in
     order-one rs (entries_in_order ps) ordered (in_order-order ps distinct) (λ s. Contains-permutation rs (entries_in_order ps) s both)
@@ -127,8 +126,8 @@ entries-order table (e ∷ es) ascending =
     )
 
 -- the sorted entries are those of the list in its order
-alike-blocks : (table : List Label) (es : List Entry) → HasDistinctBlocks es → IsDistinct same_key (map (prefix_of table) es)
-alike-blocks table es distinct = distinct_to_map (prefix_of table) same_key es distinct
+alike-blocks : (table : List Label) (es : List Entry) → HasDistinctBlocks es → IsDistinct same_start_and_bits (map (prefix_of table) es)
+alike-blocks table es distinct = distinct_to_map (prefix_of table) same_start_and_bits es distinct
 
 pub sorted-order : (table : List Label) (es sorted : List Entry) → IsPermutation es sorted → IsNonDecreasingBy (λ e. rank_of e.block) sorted → HasDistinctBlocks es
     → map (prefix_of table) sorted ≡ entries_in_order (map (prefix_of table) es)

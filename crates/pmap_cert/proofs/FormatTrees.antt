@@ -5,32 +5,32 @@ use Rattle.std.proofs.lemmas.List.{append_assoc, length-append, map-append}
 use Rattle.pmap_text.specs.MapModel.{Label}
 use Rattle.pmap_text.specs.Reading.{◌>>=◌}
 use Rattle.pmap_text.specs.MapText.{text_at}
-use Rattle.pmap_cert.specs.CertificateText.{HasChainForm, lines_of}
+use Rattle.pmap_cert.specs.CertificateText.{HasChainForm, node_lines}
 use Rattle.pmap_cert.specs.Node.{Node, claiming, tree_of}
 use Rattle.pmap_cert.specs.CertificateModel.{ChainNode, InnerNode, LeafNode, Claim, Tree, IsPlain}
-use Rattle.pmap_cert.specs.FormatReading.{ChainLine, DueLine, InnerLine, LeafLine, Place, due_node, fault_at, fits_line, is_ended, likely_line, line_due_at, line_text, nodes_at, CertFault, BadNode, NodesMissing, TooDeep}
+use Rattle.pmap_cert.specs.FormatReading.{ChainLine, DueLine, InnerLine, LeafLine, Place, due_node, fault_at, fits_line, is_ended, likely_line, line_due_at, node_line_text, nodes_at, CertFault, BadNode, NodesMissing, TooDeep}
 use Rattle.pmap_cert.proofs.ChainWords.{left-room, room-left}
 use Rattle.pmap_cert.proofs.PrintedLines.{FitsLine, IsNumbered, due-again, line-fits, printed-found}
 use Rattle.pmap_cert.proofs.Tables.{bind_ok, ok_is}
 
 -- a line that is read is the text of its value, which fits
 pub line_due-found : (format most count : ℕ) (place : Place) (x : DueLine × Place) → line_due_at format most count place ≡ Ok x →
-    (place.pieces ≡ line_text x.0 ∷ x.1.pieces) × FitsLine format most count x.0
+    (place.pieces ≡ node_line_text x.0 ∷ x.1.pieces) × FitsLine format most count x.0
 line_due-found format most count place x e =
-    let found = printed-found (fits_line format most count) line_text likely_line (cond (is_ended place.pieces) NodesMissing BadNode) place x e in
+    let found = printed-found (fits_line format most count) node_line_text likely_line (cond (is_ended place.pieces) NodesMissing BadNode) place x e in
     (found.0, line-fits format most count x.0 found.1)
 
 -- the lines that were read are those of a node with the tree's labels, which is well formed and has no chain in format 1
 pub record IsReadIn (table : List Label) (format room : ℕ) (place : Place) (x : Tree × Place) : Type 0 where
   pub node : Node
   pub tree : tree_of table node ≡ x.0
-  pub lines : place.pieces ≡ map line_text (lines_of node) ++ x.1.pieces
+  pub lines : place.pieces ≡ map node_line_text (node_lines node) ++ x.1.pieces
   pub form : HasChainForm (length table) node room
   pub plain : format ≡ 1 → IsPlain node
 
 -- the texts of two lists of lines before others
-pub lines-append : (lines more : List DueLine) (rest : List (List ℕ)) → map line_text (lines ++ more) ++ rest ≡ map line_text lines ++ (map line_text more ++ rest)
-lines-append lines more rest = ap (λ (t : List (List ℕ)). t ++ rest) (map-append line_text lines more) ∙ append_assoc (map line_text lines) (map line_text more) rest
+pub lines-append : (lines more : List DueLine) (rest : List (List ℕ)) → map node_line_text (lines ++ more) ++ rest ≡ map node_line_text lines ++ (map node_line_text more ++ rest)
+lines-append lines more rest = ap (λ (t : List (List ℕ)). t ++ rest) (map-append node_line_text lines more) ∙ append_assoc (map node_line_text lines) (map node_line_text more) rest
 
 not-ok : (fault : CertFault) (x : Tree × Place) → ◌≡◌ {A = Result (Tree × Place) CertFault} (Err fault) (Ok x) → ⊥
 not-ok fault x e = cc
@@ -68,7 +68,7 @@ module _ (table : List Label) (format most : ℕ) where
 
   -- the line is the next one, and it fits
   abbrev IsNext : DueLine → Place → Place → Type 0
-  IsNext line place after = (place.pieces ≡ line_text line ∷ after.pieces) × FitsLine format most (length table) line
+  IsNext line place after = (place.pieces ≡ node_line_text line ∷ after.pieces) × FitsLine format most (length table) line
 
   leaf-read : (room number : ℕ) (place after : Place) (x : Tree × Place) → IsNext (LeafLine number) place after →
       ◌≡◌ {A = Result (Tree × Place) CertFault} (Ok (LeafNode (text_at table number), after)) (Ok x) → IsReadIn table format room place x
@@ -85,9 +85,9 @@ module _ (table : List Label) (format most : ℕ) where
         tree = λ i. InnerNode (claim_at cost numbers) (low.tree i) (up.tree i);
         lines =
             next.0
-            ∙ ap (λ (more : List (List ℕ)). line_text (InnerLine cost numbers) ∷ more)
-            (low.lines ∙ ap (λ (more : List (List ℕ)). map line_text (lines_of low.node) ++ more) up.lines
-            ∙ sym (lines-append (lines_of low.node) (lines_of up.node) upper.1.pieces));
+            ∙ ap (λ (more : List (List ℕ)). node_line_text (InnerLine cost numbers) ∷ more)
+            (low.lines ∙ ap (λ (more : List (List ℕ)). map node_line_text (node_lines low.node) ++ more) up.lines
+            ∙ sym (lines-append (node_lines low.node) (node_lines up.node) upper.1.pieces));
         form = (next.1.0, next.1.1, low.form, up.form);
         plain = λ first. (low.plain first, up.plain first);
       })
@@ -103,7 +103,7 @@ module _ (table : List Label) (format most : ℕ) where
       subst (IsReadIn table format room place) e (record {
         node = ChainNode (claiming cost numbers) bits side end.node;
         tree = ap (ChainNode (claim_at cost numbers) bits (text_at table side)) end.tree;
-        lines = next.0 ∙ ap (λ (more : List (List ℕ)). line_text (ChainLine cost bits side numbers) ∷ more) end.lines;
+        lines = next.0 ∙ ap (λ (more : List (List ℕ)). node_line_text (ChainLine cost bits side numbers) ∷ more) end.lines;
         form = (next.1.1, next.1.5, next.1.4, next.1.2, room-left (HasChainForm (length table) end.node) bits room left deep end.form);
         plain = λ first. absurd (not-both first next.1.0);
       })
@@ -167,29 +167,29 @@ module _ (table : List Label) (format most : ℕ) where
 
   abbrev IsAgain : Node → ℕ → List (List ℕ) → ℕ → Type 0
   IsAgain node room rest number =
-      (n : ℕ) × (nodes_at due table room zero (at number (map line_text (lines_of node) ++ rest)) ≡ Ok (tree_of table node, at n rest))
+      (n : ℕ) × (nodes_at due table room zero (at number (map node_line_text (node_lines node) ++ rest)) ≡ Ok (tree_of table node, at n rest))
 
   -- the lines of a well-formed node are read as the node
   pub nodes_at-again : length table ≤ 2 ^ 32 → (node : Node) (room : ℕ) (rest : List (List ℕ)) (number : ℕ) → room ≤ most → HasChainForm (length table) node room
       → IsNumbered format → (format ≡ 1 → IsPlain node) → 0 < length rest → IsAgain node room rest number
   unfolding nodes_at
   nodes_at-again few (LeafNode label) room rest number most_room form numbered plain some =
-      let here : Place = at number (line_text (LeafLine label) ∷ rest) in (
+      let here : Place = at number (node_line_text (LeafLine label) ∷ rest) in (
         number + 1,
         nodes-step due table room here
             ∙ ap (λ (r : Result (DueLine × Place) CertFault). r >>= (λ line. due_node table room here (inside_of due table room here) line.0 line.1)) (due-again format most (length table) few (LeafLine label) number rest form some),
       )
   nodes_at-again few (InnerNode claim lower upper) zero rest number most_room form numbered plain some = absurd form
   nodes_at-again few (InnerNode claim lower upper) (suc room) rest number most_room form numbered plain some =
-      let low : List (List ℕ) = map line_text (lines_of lower) in
-      let up : List (List ℕ) = map line_text (lines_of upper) in
+      let low : List (List ℕ) = map node_line_text (node_lines lower) in
+      let up : List (List ℕ) = map node_line_text (node_lines upper) in
       let following : 0 < length (up ++ rest) = omega (arith, length-append up rest) in
       let line = due-again format most (length table) few (InnerLine claim.cost claim.labels) number (low ++ (up ++ rest)) (form.0, form.1) (omega (arith, length-append low (up ++ rest))) in
       let first = nodes_at-again few lower room (up ++ rest) (number + 1) (omega arith) form.2 numbered (λ one. (plain one).0) following in
       let second = nodes_at-again few upper room rest first.0 (omega arith) form.3 numbered (λ one. (plain one).1) some in
-      let here : Place = at number (line_text (InnerLine claim.cost claim.labels) ∷ (low ++ (up ++ rest))) in (
+      let here : Place = at number (node_line_text (InnerLine claim.cost claim.labels) ∷ (low ++ (up ++ rest))) in (
         second.0,
-        ap (λ (lines : List (List ℕ)). nodes_at due table (suc room) zero (at number (line_text (InnerLine claim.cost claim.labels) ∷ lines))) (lines-append (lines_of lower) (lines_of upper) rest)
+        ap (λ (lines : List (List ℕ)). nodes_at due table (suc room) zero (at number (node_line_text (InnerLine claim.cost claim.labels) ∷ lines))) (lines-append (node_lines lower) (node_lines upper) rest)
             ∙ ap (λ (r : Result (DueLine × Place) CertFault). r >>= (λ line. due_node table (suc room) here (nodes_at due table room) line.0 line.1)) line
             ∙ ap (λ (r : Result (Tree × Place) CertFault). r >>= (λ l. nodes_at due table room 0 l.1 >>= (λ u. Ok (InnerNode (claim_at claim.cost claim.labels) l.0 u.0, u.1)))) first.1
             ∙ ap (λ (r : Result (Tree × Place) CertFault). r >>= (λ u. Ok (InnerNode (claim_at claim.cost claim.labels) (tree_of table lower) u.0, u.1))) second.1,
@@ -200,11 +200,11 @@ module _ (table : List Label) (format most : ℕ) where
   nodes_at-again few (ChainNode claim (bit ∷ bits) side end) (suc room) rest number most_room form numbered plain some =
       let two : format ≡ 2 = ⊎_elim (λ one. absurd (plain one)) (λ two. two) numbered in
       let below = left-room (HasChainForm (length table) end) bits room form.4 in
-      let lines : List (List ℕ) = map line_text (lines_of end) in
+      let lines : List (List ℕ) = map node_line_text (node_lines end) in
       let line = due-again format most (length table) few (ChainLine claim.cost (bit ∷ bits) side claim.labels) number (lines ++ rest)
       (two, form.0, omega arith, omega (arith, below.1), form.2, form.1) (omega (arith, length-append lines rest)) in
       let last = nodes_at-again few end below.0 rest (number + 1) (omega (arith, below.1)) below.2 numbered (λ one. absurd (not-both one two)) some in
-      let here : Place = at number (line_text (ChainLine claim.cost (bit ∷ bits) side claim.labels) ∷ (lines ++ rest)) in
+      let here : Place = at number (node_line_text (ChainLine claim.cost (bit ∷ bits) side claim.labels) ∷ (lines ++ rest)) in
       let chain : Tree × Place → Result (Tree × Place) CertFault =
       λ e. Ok (ChainNode (claim_at claim.cost claim.labels) (bit ∷ bits) (text_at table side) e.0, e.1) in (
         last.0,

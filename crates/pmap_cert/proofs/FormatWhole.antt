@@ -10,10 +10,10 @@ use Rattle.pmap_text.specs.MapModel.{Label}
 use Rattle.pmap_text.specs.MapText.{text_at}
 use Rattle.pmap_text.specs.Reading.{◌>>=◌}
 use Rattle.pmap_cert.specs.Certificate.{certificate_of, Certificate}
-use Rattle.pmap_cert.specs.CertificateText.{HasChainForm, HasFormatText, HasNodeForm, certificate_text, format_header, lines_of, place_of}
+use Rattle.pmap_cert.specs.CertificateText.{HasChainForm, HasFormatText, HasNodeForm, certificate_text, format_header, node_lines, place_of}
 use Rattle.pmap_cert.specs.Node.{Node}
 use Rattle.pmap_cert.specs.CertificateModel.{CertificateModel, Tree, ChainNode, InnerNode, LeafNode, IsOfFormat, IsPlain, map_tree}
-use Rattle.pmap_cert.specs.FormatReading.{ChainLine, DueLine, InnerLine, LeafLine, Place, ended_by, fault_at, fits_header, format_header_at, format_reading, is_ended, labels_at, likely_header, line_due_at, line_text, nodes_at, pieces_of, start_of, CertFault, CertFaultKind, BadHeader, BadLabelTable, BadNode, NoMemory, NodesLeft, NodesMissing, TooDeep}
+use Rattle.pmap_cert.specs.FormatReading.{ChainLine, DueLine, InnerLine, LeafLine, Place, ended_by, fault_at, fits_header, format_header_at, format_reading, is_ended, labels_at, likely_header, line_due_at, node_line_text, nodes_at, pieces_of, start_of, CertFault, CertFaultKind, BadHeader, BadLabelTable, BadNode, NoMemory, NodesLeft, NodesMissing, TooDeep}
 use Rattle.pmap_cert.proofs.Filters.{all-append}
 use Rattle.pmap_cert.proofs.PrintedLines.{FitsLine, IsNumbered, Said, fits-header, fits-line, header-fits, header-read, line-lacks, printed-again, printed-found}
 use Rattle.pmap_cert.proofs.FormatTrees.{nodes_at-again, nodes_at-found}
@@ -21,7 +21,7 @@ use Rattle.pmap_cert.proofs.Headers.{table-lacks}
 use Rattle.pmap_cert.proofs.Pieces.{pieces-lines, text_from_pieces}
 use Rattle.pmap_cert.proofs.Relabelled.{plain-map}
 use Rattle.pmap_cert.proofs.Tables.{bind_ok, labels_at-again, labels_at-found, ok_is}
-use Rattle.pmap_cert.proofs.Written.{line_texts-tree, node_form, node_lines, texts-tree}
+use Rattle.pmap_cert.proofs.Written.{line_texts-tree, node_form, node_line_texts, texts-tree}
 use Rattle.std.specs.List.{AllByRecursion}
 use Rattle.std.proofs.lemmas.Option.{none-some}
 use Rattle.prefix_keys.proofs.Printed.{Lacks}
@@ -49,11 +49,11 @@ ended_by-found c place x e = by (is_ended place.pieces) refl
 
 -- no line of a certificate has a line feed inside
 module _ (table : List Label) (ok : IsLabelTable table) where
-  lacks : (most : ℕ) (line : DueLine) → FitsLine 2 most (length table) line → Lacks 10 (line_text line)
+  lacks : (most : ℕ) (line : DueLine) → FitsLine 2 most (length table) line → Lacks 10 (node_line_text line)
   lacks most line fits =
       let few = ok.few in line-lacks 2 most (length table) (omega arith) line (fits-line 2 most (length table) line fits)
 
-  nodes-lack : (node : Node) (room : ℕ) → HasChainForm (length table) node room → AllByRecursion (Lacks 10) (map line_text (lines_of node))
+  nodes-lack : (node : Node) (room : ℕ) → HasChainForm (length table) node room → AllByRecursion (Lacks 10) (map node_line_text (node_lines node))
   nodes-lack (LeafNode number) room form = (lacks 0 (LeafLine number) form, tt)
   nodes-lack (ChainNode claim bits side end) room form =
       let last = left-room (HasChainForm (length table) end) bits room form.4 in (
@@ -63,8 +63,8 @@ module _ (table : List Label) (ok : IsLabelTable table) where
   nodes-lack (InnerNode claim lower upper) zero form = absurd form
   nodes-lack (InnerNode claim lower upper) (suc room) form = (
     lacks 0 (InnerLine claim.cost claim.labels) (form.0, form.1),
-    subst (AllByRecursion (Lacks 10)) (sym (map-append line_text (lines_of lower) (lines_of upper)))
-        (all-append (Lacks 10) (map line_text (lines_of lower)) (map line_text (lines_of upper)) (nodes-lack lower room form.2) (nodes-lack upper room form.3)),
+    subst (AllByRecursion (Lacks 10)) (sym (map-append node_line_text (node_lines lower) (node_lines upper)))
+        (all-append (Lacks 10) (map node_line_text (node_lines lower)) (map node_line_text (node_lines upper)) (nodes-lack lower room form.2) (nodes-lack upper room form.3)),
   )
 
 abbrev pub certificate_at : ℕ → Version → List Label → Tree → CertificateModel
@@ -106,7 +106,7 @@ of-format c (inr second) plain = inr second
 abbrev certificate_lines : CertificateModel → List (List ℕ)
 certificate_lines c =
     format_header (c.format, (c.version, length c.table))
-    ∷ (c.table ++ map line_text (lines_of (map_tree (place_of c.table) c.root)))
+    ∷ (c.table ++ map node_line_text (node_lines (map_tree (place_of c.table) c.root)))
 
 pub pieces-found : (pieces : List (List ℕ)) (c : CertificateModel) → header_then (format_header_at (record { number = 0; pieces = pieces })) ≡ Ok c
     → HasFormatText c × (pieces ≡ certificate_lines c ++ [] ∷ [])
@@ -126,11 +126,11 @@ pieces-found pieces c e =
     let read = labels_at-found count [] header.0.1 labels.0 labels.1 no_labels few in
     let nodes = nodes_at-found table format (width_of version) (width_of version) 0 (width_of version) labels.0.1 root.0 (omega arith) root.1 in
     let W : ℕ = width_of version in
-    let texts : map line_text (lines_of nodes.node) ≡ node_lines table root.0.0 = line_texts-tree table read.3 nodes.node W nodes.form ∙ ap (node_lines table) nodes.tree in
+    let texts : map node_line_text (node_lines nodes.node) ≡ node_line_texts table root.0.0 = line_texts-tree table read.3 nodes.node W nodes.form ∙ ap (node_line_texts table) nodes.tree in
     let count_is : count ≡ length table = sym read.4 ∙ ap (λ (t : List Label). length t) (sym read.1) in
     let made : CertificateModel = certificate_at format version table root.0.0 in
     let lines : pieces ≡ certificate_lines made ++ [] ∷ [] =
-    joined-pieces pieces header.0.1.pieces labels.0.1.pieces root.0.1.pieces format version count table (node_lines table root.0.0)
+    joined-pieces pieces header.0.1.pieces labels.0.1.pieces root.0.1.pieces format version count table (node_line_texts table root.0.0)
     head.0 (read.2 ∙ ap (λ (t : List Label). t ++ labels.0.1.pieces) (sym read.1)) (nodes.lines ∙ ap (λ (t : List (List ℕ)). t ++ root.0.1.pieces) texts) end.0 count_is in
     subst (λ (c : CertificateModel). HasFormatText c × (pieces ≡ certificate_lines c ++ [] ∷ [])) {x = made} end.1 (
       record {
@@ -163,7 +163,7 @@ format-again c form =
     let table : List Label = c.table in
     let count : ℕ = length table in
     let few : length table ≤ 65536 = form.table.few in
-    let nodes : List (List ℕ) = node_lines table c.root in
+    let nodes : List (List ℕ) = node_line_texts table c.root in
     let fits = fits-header format version count (numbered c form.format) few in
     let following : 0 < length (nodes ++ [] ∷ []) = omega (arith, length-append nodes ([] ∷ [])) in
     let pieces : pieces_of (certificate_text c) ≡ format_header (format, (version, count)) ∷ (table ++ (nodes ++ [] ∷ [])) =

@@ -7,7 +7,7 @@ use Rattle.std.proofs.Math.Nat.{mul-mod_left}
 use Rattle.prefix_keys.specs.Block.{block_number, first_of, last_of, width_of}
 use Rattle.pmap_text.specs.ListModel.{ListModel, Prefix}
 use Rattle.pmap_text.specs.MapModel.{Label, MapModel}
-use Rattle.pmap_cert.specs.CertificateModel.{CertificateModel, ChainNode, InnerNode, LeafNode, Tree, claim_of, has}
+use Rattle.pmap_cert.specs.CertificateModel.{CertificateModel, ChainNode, InnerNode, LeafNode, Tree, claim_of}
 use Rattle.pmap_cert.specs.Acceptance.{HasBlock, HasListForm, IsInOrder, begins_before, HasItsLabels, IsMinimalPair, StandsFor, entries_of, handed_on, has_inherited, least_label, own_entry}
 use Rattle.pmap_cert.proofs.Alike.{table-node}
 use Rattle.pmap_text.proofs.Blocks.{address-first, address-last, first_of-below, first_of-lower}
@@ -16,6 +16,7 @@ use Rattle.pmap_cert.proofs.Entries.{own-all, within-entries}
 use Rattle.pmap_cert.proofs.Filters.{all-append, all-weaker}
 use Rattle.pmap_cert.proofs.Handed.{has-least_label, inhabited}
 use Rattle.pmap_text.proofs.Settled.{unsettled-halves}
+use Rattle.pmap_text.specs.Label.{has_label}
 
 -- two lists in order are in order when joined if each entry of the first comes before each of the second
 in_order-append : (P Q : Prefix → Type 0) → ((p r : Prefix) → P p → Q r → begins_before p r ≡ true) → (xs ys : List Prefix)
@@ -110,13 +111,13 @@ own-block W n q x le small = record {
   no_host_bit = mul-mod_left q (2 ^ (W - n));
 }
 
-own-label : (m : MapModel) → HasItsLabels m → (t : Tree) (n q : ℕ) → StandsFor m t n q → has m.table (least_label m.table (claim_of t).labels) ≡ true
+own-label : (m : MapModel) → HasItsLabels m → (t : Tree) (n q : ℕ) → StandsFor m t n q → has_label m.table (least_label m.table (claim_of t).labels) ≡ true
 own-label m inside t n q stands =
     table-node m inside t n q stands (least_label m.table (claim_of t).labels) (has-least_label m.table (claim_of t).labels (inhabited m t n q stands))
 
 module _ (m : MapModel) (inside_table : HasItsLabels m) where
   abbrev FitsMap : Prefix → Type 0
-  FitsMap p = HasBlock (width_of m.version) p × (has m.table p.label ≡ true)
+  FitsMap p = HasBlock (width_of m.version) p × (has_label m.table p.label ≡ true)
 
   entries-fit : (t : Tree) (h : Option Label) (n q : ℕ) → n ≤ width_of m.version → q < 2 ^ n → StandsFor m t n q → AllByRecursion FitsMap (entries_of (width_of m.version) m.table t h n q)
   entries-fit (LeafNode x) h n q le small stands =
@@ -139,8 +140,8 @@ list-form m l c pair inside_table =
     let fit = entries-fit m inside_table c.root None 0 0 (omega arith) (omega arith) pair.root in
     let order : IsInOrder l.prefixes = subst IsInOrder (sym pair.prefixes) (in_order m m.table c.root None 0 0 (omega arith) pair.root) in
     let blocks : All (HasBlock W) entries = All-from_recursion (HasBlock W) entries (all-weaker (FitsMap m inside_table) (HasBlock W) (λ p f. f.0) entries fit) in
-    let labels : All (λ p. IsTrue (has m.table p.label)) entries =
-    All-from_recursion (λ p. IsTrue (has m.table p.label)) entries (all-weaker (FitsMap m inside_table) (λ p. IsTrue (has m.table p.label)) (λ p f. f.1) entries fit) in
+    let labels : All (λ p. IsTrue (has_label m.table p.label)) entries =
+    All-from_recursion (λ p. IsTrue (has_label m.table p.label)) entries (all-weaker (FitsMap m inside_table) (λ p. IsTrue (has_label m.table p.label)) (λ p f. f.1) entries fit) in
     record {
       order = order;
       blocks = rw (pair.list_version, pair.prefixes) blocks;

@@ -4,7 +4,7 @@ use Rattle.std.proofs.lemmas.Bool.{ltb-true, or_right}
 use Rattle.prefix_keys.specs.Block.{width_of}
 use Rattle.pmap_text.proofs.LabelTexts.{any_place}
 use Rattle.pmap_text.proofs.Settled.{unsettled-halves}
-use Rattle.pmap_text.specs.Label.{IsLabelTable}
+use Rattle.pmap_text.specs.Label.{IsLabelTable, has_label}
 use Rattle.pmap_text.specs.ListModel.{ListModel}
 use Rattle.pmap_text.specs.MapModel.{Label, MapModel}
 use Rattle.pmap_text.specs.Reading.{mapping_limit, map_reading}
@@ -17,7 +17,7 @@ use Rattle.pmap_cert.proofs.Pieces.{found_at}
 use Rattle.pmap_cert.proofs.Sets.{has-head, has-own, same-listed}
 use Rattle.pmap_cert.proofs.Tables.{ascending-lower}
 use Rattle.pmap_cert.specs.CertificateText.{HasNodeForm, HasTextForm, IsAscending, place_of}
-use Rattle.pmap_cert.specs.CertificateModel.{CertificateModel, ChainNode, InnerNode, LeafNode, Claim, Tree, claim_of, has, exact_claim}
+use Rattle.pmap_cert.specs.CertificateModel.{CertificateModel, ChainNode, InnerNode, LeafNode, Claim, Tree, claim_of, exact_claim}
 use Rattle.pmap_cert.specs.Acceptance.{HasItsLabels, IsMinimalPair, StandsFor, in_table_order}
 
 ascending-kept : (table : List Label) (p : Label → Bool) (i : ℕ) (xs : List Label) → i + length xs ≡ length table
@@ -40,16 +40,16 @@ ascending-table table p ok =
     (λ j x e. let there = (found_at (bytes_eq x) table j (ok.places j x e)).1 in omega arith)
 
 -- no label of a set is missing in a table that has all of them
-none-left : (table xs : List Label) → ((x : Label) → has xs x ≡ true → has table x ≡ true) → filter (λ x. not (has table x)) xs ≡ []
+none-left : (table xs : List Label) → ((x : Label) → has_label xs x ≡ true → has_label table x ≡ true) → filter (λ x. not (has_label table x)) xs ≡ []
 none-left table [] inside = refl
 none-left table (y ∷ ys) inside =
     let known = inside y (has-head y ys) in
-    rw known (none-left table ys (λ x h. inside x (or_right (bytes_eq x y) (has ys x) h)))
+    rw known (none-left table ys (λ x h. inside x (or_right (bytes_eq x y) (has_label ys x) h)))
 
-pub listed-known : (table : List Label) (claim : Claim) → ((x : Label) → has claim.labels x ≡ true → has table x ≡ true)
-    → (in_table_order table claim).labels ≡ filter (has claim.labels) table
+pub listed-known : (table : List Label) (claim : Claim) → ((x : Label) → has_label claim.labels x ≡ true → has_label table x ≡ true)
+    → (in_table_order table claim).labels ≡ filter (has_label claim.labels) table
 listed-known table claim inside =
-    ap (λ (xs : List Label). filter (has claim.labels) table ++ xs) (none-left table claim.labels inside) ∙ append-nil (filter (has claim.labels) table)
+    ap (λ (xs : List Label). filter (has_label claim.labels) table ++ xs) (none-left table claim.labels inside) ∙ append-nil (filter (has_label claim.labels) table)
 
 module _ (m : MapModel) (inside : HasItsLabels m) (ok : IsLabelTable m.table) (few : length m.mappings ≤ mapping_limit) where
   form-listed : (t : Tree) (left n q : ℕ) → n + left ≡ width_of m.version → StandsFor m t n q → HasNodeForm m.table t left
@@ -63,11 +63,11 @@ module _ (m : MapModel) (inside : HasItsLabels m) (ok : IsLabelTable m.table) (f
   form-listed (InnerNode p l r) (suc left) n q e stands =
       let exact = exact_claim (claim_of l) (claim_of r) in
       let same = same-listed m.table p exact stands.1 in
-      let labels : p.labels ≡ filter (has exact.labels) m.table =
+      let labels : p.labels ≡ filter (has_label exact.labels) m.table =
       ap (λ (c : Claim). c.labels) stands.1
       ∙ listed-known m.table exact (λ x h. table-node m inside (InnerNode p l r) n q stands x (same.labels x ∙ h)) in (
         cost-fits m (InnerNode p l r) (suc left) n q few e stands,
-        subst (λ (xs : List Label). IsAscending (length m.table) 0 (map (place_of m.table) xs)) (sym labels) (ascending-table m.table (has exact.labels) ok),
+        subst (λ (xs : List Label). IsAscending (length m.table) 0 (map (place_of m.table) xs)) (sym labels) (ascending-table m.table (has_label exact.labels) ok),
         form-listed l left (suc n) (2 * q) (omega arith) stands.2,
         form-listed r left (suc n) (2 * q + 1) (omega arith) stands.3,
       )

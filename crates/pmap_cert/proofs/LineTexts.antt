@@ -11,11 +11,11 @@ use Rattle.std.proofs.lemmas.List.Concat.{flat_map-cons}
 use Rattle.std.proofs.lemmas.Option.{none-some, same_Some}
 use Rattle.prefix_keys.specs.Text.{decimal_value, is_digit}
 use Rattle.prefix_keys.specs.declared.version.Version.{Version}
-use Rattle.pmap_cert.specs.CertificateText.{IsAscending, bit_digits, format_header, format_word, line_text, version_word}
+use Rattle.pmap_cert.specs.CertificateText.{IsAscending, bit_digits, format_header, format_word, node_line_text, version_word}
 use Rattle.pmap_cert.specs.Format.{Format, One, Two, format_number}
 use Rattle.std.specs.Prelude.{IfSome}
 use Rattle.pmap_cert.specs.FormatReading.{ChainLine, DueLine, InnerLine, LeafLine}
-use Rattle.pmap_cert.specs.Inner.{BeginsWithBits, BeginsWithChain, BeginsWithClaim, BeginsWithHeader, BeginsWithLine, BeginsWithNumber, BeginsWithSet, GoesOnWithout, Finds, Then, after_byte, header_name, is_bit}
+use Rattle.pmap_cert.specs.Inner.{BeginsWithBits, BeginsWithChain, BeginsWithClaim, BeginsWithHeader, BeginsWithLine, BeginsWithNumber, BeginsWithSet, GoesOnWithout, Finds, BeginsWithBoth, after_byte, header_name, is_bit}
 use Rattle.pmap_cert.proofs.ChainWords.{bits-back, bits-digits, digits-back}
 use Rattle.pmap_cert.proofs.PrintedLines.{IsNumbered, fits-line, header-fits, line-fits}
 use Rattle.pmap_cert.proofs.Written.{joined-numbers}
@@ -339,7 +339,7 @@ module _ (bound low : ℕ) (text ns rest : List ℕ) (so_far : IsReadTo bound lo
 -- Reading one part after another.
 module _ {A B : Type 0} (First : A → List ℕ → Type 0) (Second : List ℕ → B → List ℕ → Type 0) where
   abbrev Both : A × B → List ℕ → Type 0
-  Both = Then First Second
+  Both = BeginsWithBoth First Second
 
   module _ (a : A) (rest : List ℕ) (first : Finds First (Some (a, rest))) where
     second-is : (both : A × B) (r : List ℕ) → Both both r → (a ≡ both.0) × Second rest both.1 r
@@ -360,12 +360,12 @@ module _ {A B : Type 0} (First : A → List ℕ → Type 0) (Second : List ℕ �
     }
 
 -- Reading lines by their first letters.
-inner-text : (cost : ℕ) (numbers r : List ℕ) → line_text (InnerLine cost numbers) ++ 10 ∷ r ≡ 110 ∷ 32 ∷ (decimal cost ++ (words numbers ++ 10 ∷ r))
+inner-text : (cost : ℕ) (numbers r : List ℕ) → node_line_text (InnerLine cost numbers) ++ 10 ∷ r ≡ 110 ∷ 32 ∷ (decimal cost ++ (words numbers ++ 10 ∷ r))
 inner-text cost numbers r =
     ap (λ (t : List ℕ). 110 ∷ 32 ∷ (t ++ 10 ∷ r)) (joined-numbers (decimal cost) numbers)
     ∙ ap (λ (t : List ℕ). 110 ∷ 32 ∷ t) (append_assoc (decimal cost) (words numbers) (10 ∷ r))
 
-chain-text : (cost : ℕ) (bits : List Bool) (side : ℕ) (numbers r : List ℕ) → line_text (ChainLine cost bits side numbers) ++ 10 ∷ r
+chain-text : (cost : ℕ) (bits : List Bool) (side : ℕ) (numbers r : List ℕ) → node_line_text (ChainLine cost bits side numbers) ++ 10 ∷ r
     ≡ 99 ∷ 32 ∷ (decimal cost ++ 32 ∷ (bit_digits bits ++ 32 ∷ (decimal side ++ (words numbers ++ 10 ∷ r))))
 chain-text cost bits side numbers r =
     let last : List ℕ = decimal side ++ words numbers in

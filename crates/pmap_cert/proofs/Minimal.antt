@@ -5,7 +5,7 @@ use Rattle.std.proofs.lemmas.Bool.Decides.{nat_tests}
 use Rattle.prefix_keys.specs.Block.{block_number, first_of, width_of}
 use Rattle.pmap_text.specs.ListModel.{ListModel, Prefix, covers, label_below, lies_inside}
 use Rattle.pmap_text.specs.MapModel.{Label, MapModel}
-use Rattle.pmap_cert.specs.Acceptance.{IsAccepted, IsDecided, IsNodeAccepted, IsWithinExact, IsMinimalPair, StandsFor, entries_of, handed_on, has_inherited, least_label, own_entry}
+use Rattle.pmap_cert.specs.Acceptance.{IsAccepted, ListSettles, IsNodeAccepted, IsWithinExact, IsMinimalPair, StandsFor, entries_of, handed_on, has_inherited, least_label, own_entry}
 use Rattle.pmap_cert.specs.CertificateModel.{CertificateModel, ChainNode, InnerNode, LeafNode, Claim, Tree, claim_of, IsSameClaim, exact_claim}
 use Rattle.pmap_text.proofs.Blocks.{block_number-first_of}
 use Rattle.pmap_cert.proofs.Counts.{is_within}
@@ -83,7 +83,7 @@ module _ (m : MapModel) (table : List Label) (ps : List Prefix) where
   leaf-decided : (x : Label) (h : Option Label) (n q : ℕ) →
       filter (is_within (width_of m.version) n q) ps ≡ own_entry (width_of m.version) table (x ∷ []) h n q →
       label_below (width_of m.version) ps n (first_of (width_of m.version) n q) ≡ h →
-      IsDecided (width_of m.version) ps n q x
+      ListSettles (width_of m.version) ps n q x
   leaf-decided x h n q given inherited = record {
     inside =
         filter-given n q (own_entry (width_of m.version) table (x ∷ []) h n q) (lies_inside (width_of m.version) n q)

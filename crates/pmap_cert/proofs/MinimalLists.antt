@@ -9,12 +9,12 @@ use Rattle.std.proofs.lemmas.Option.{slice_get-get_or}
 use Rattle.std.proofs.lemmas.Slice.Eq.{bytes_eq-Decides}
 use Rattle.prefix_keys.specs.Block.{block_number, width_of}
 use Rattle.pmap_cert.specs.Acceptance.{IsAccepted, IsNodeAccepted, HasBlock, HasListForm, IsInOrder, begins_before, IsMinimalPair}
-use Rattle.pmap_cert.specs.CertificateModel.{CertificateModel, claim_of, has}
+use Rattle.pmap_cert.specs.CertificateModel.{CertificateModel, claim_of}
 use Rattle.pmap_cert.proofs.InOrder.{list-form}
 use Rattle.pmap_cert.proofs.MapLimits.{labels-read}
 use Rattle.pmap_cert.proofs.MapLimits.{IsLimited, limits-read}
 use Rattle.pmap_cert.proofs.Minimal.{accepted-minimal}
-use Rattle.pmap_text.specs.Label.{is_label}
+use Rattle.pmap_text.specs.Label.{is_label, has_label}
 use Rattle.pmap_text.specs.ListModel.{ListModel, Prefix, is_same_prefix}
 use Rattle.pmap_text.specs.MapModel.{Label, MapModel}
 use Rattle.pmap_text.specs.Reading.{label_limit, mapping_limit, map_reading}
@@ -41,8 +41,8 @@ before-apart W p r hp hr before =
 
 all-apart : (W : ℕ) (p : Prefix) (ps : List Prefix) → HasBlock W p → AllByRecursion (HasBlock W) ps → AllByRecursion (λ r. IsTrue (begins_before p r)) ps
     → AllByRecursion (λ r. is_same_prefix W p r ≡ false) ps
-all-apart W p [] has blocks before = tt
-all-apart W p (r ∷ rs) has blocks before = (before-apart W p r has blocks.0 before.0, all-apart W p rs has blocks.1 before.1)
+all-apart W p [] has_label blocks before = tt
+all-apart W p (r ∷ rs) has_label blocks before = (before-apart W p r has_label blocks.0 before.0, all-apart W p rs has_label blocks.1 before.1)
 
 order-distinct : (W : ℕ) (ps : List Prefix) → IsInOrder ps → AllByRecursion (HasBlock W) ps → IsDistinct (is_same_prefix W) ps
 unfolding IsDistinct
@@ -51,11 +51,11 @@ order-distinct W (p ∷ ps) ordered blocks =
     IsDistinct-cons (is_same_prefix W) p ps (all-apart W p ps blocks.0 blocks.1 ordered.0) (order-distinct W ps ordered.1 blocks.1)
 
 -- a label of a table of well-formed labels is well formed
-label-known : (table : List Label) (x : Label) → AllByRecursion (λ y. IsTrue (is_label y)) table → has table x ≡ true → IsTrue (is_label x)
+label-known : (table : List Label) (x : Label) → AllByRecursion (λ y. IsTrue (is_label y)) table → has_label table x ≡ true → IsTrue (is_label x)
 label-known [] x all h = absurd cc
-label-known (y ∷ ys) x all h = by (or_cases (bytes_eq x y) (has ys x) h) (λ inside. label-known ys x all.1 inside)
+label-known (y ∷ ys) x all h = by (or_cases (bytes_eq x y) (has_label ys x) h) (λ inside. label-known ys x all.1 inside)
   where
-    by : (bytes_eq x y ≡ true) ⊎ (has ys x ≡ true) → (has ys x ≡ true → IsTrue (is_label x)) → IsTrue (is_label x)
+    by : (bytes_eq x y ≡ true) ⊎ (has_label ys x ≡ true) → (has_label ys x ≡ true → IsTrue (is_label x)) → IsTrue (is_label x)
     by (inl same) rest = subst (λ (z : Label). IsTrue (is_label z)) (sym ((bytes_eq-Decides x y).0 same)) all.0
     by (inr inside) rest = rest inside
 

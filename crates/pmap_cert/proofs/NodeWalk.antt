@@ -3,7 +3,7 @@ use Rattle.std.proofs.Common.{◌≡◌, Bool, ℕ, zero, suc, ◌<◌, ◌≤�
 use Rattle.std.proofs.lemmas.List.{append-nil, append_assoc}
 use Rattle.pmap_cert.specs.FormatReading.{ChainLine, DueLine, InnerLine, LeafLine}
 use Rattle.pmap_cert.specs.CertificateModel.{ChainNode, ClaimOf, InnerNode, LeafNode}
-use Rattle.pmap_cert.specs.Node.{AreWhole, IsTree, Node, chained, claiming, first_line, first_node, from_next_line, joined, lines_of, nodes-lines, nodes_of}
+use Rattle.pmap_cert.specs.Node.{AreWhole, IsTree, Node, chained, claiming, first_line, first_node, from_next_line, joined, node_lines, nodes-lines, nodes_of}
 
 -- the bits and the side label of a chain's line
 abbrev pub bits_of : DueLine → List Bool
@@ -14,25 +14,25 @@ abbrev pub side_of : DueLine → Option ℕ
 side_of (ChainLine cost bits side numbers) = Some side
 side_of _ = None
 
-pub whole-lines : (node : Node) (rest : List DueLine) → AreWhole rest → AreWhole (lines_of node ++ rest)
+pub whole-lines : (node : Node) (rest : List DueLine) → AreWhole rest → AreWhole (node_lines node ++ rest)
 whole-lines (LeafNode number) rest whole = whole
 whole-lines (InnerNode claim lower upper) rest whole =
-    let nodes : nodes_of (lines_of lower ++ (lines_of upper ++ rest)) ≡ lower ∷ upper ∷ nodes_of rest =
-    nodes-lines lower (lines_of upper ++ rest) ∙ ap (λ (ns : List Node). lower ∷ ns) (nodes-lines upper rest) in
-    subst (λ (ls : List DueLine). (2 ≤ length (nodes_of ls)) × AreWhole ls) (sym (append_assoc (lines_of lower) (lines_of upper) rest))
-    (subst (λ (ns : List Node). 2 ≤ length ns) (sym nodes) (omega arith), whole-lines lower (lines_of upper ++ rest) (whole-lines upper rest whole))
+    let nodes : nodes_of (node_lines lower ++ (node_lines upper ++ rest)) ≡ lower ∷ upper ∷ nodes_of rest =
+    nodes-lines lower (node_lines upper ++ rest) ∙ ap (λ (ns : List Node). lower ∷ ns) (nodes-lines upper rest) in
+    subst (λ (ls : List DueLine). (2 ≤ length (nodes_of ls)) × AreWhole ls) (sym (append_assoc (node_lines lower) (node_lines upper) rest))
+    (subst (λ (ns : List Node). 2 ≤ length ns) (sym nodes) (omega arith), whole-lines lower (node_lines upper ++ rest) (whole-lines upper rest whole))
 whole-lines (ChainNode claim bits side end) rest whole =
     (subst (λ (ns : List Node). 1 ≤ length ns) (sym (nodes-lines end rest)) (omega arith), whole-lines end rest whole)
 
 -- the lines of a tree have one node
-pub root-of : (lines : List DueLine) (node : Node) → lines ≡ lines_of node → nodes_of lines ≡ node ∷ []
-root-of lines node is = ap nodes_of (is ∙ sym (append-nil (lines_of node))) ∙ nodes-lines node []
+pub root-of : (lines : List DueLine) (node : Node) → lines ≡ node_lines node → nodes_of lines ≡ node ∷ []
+root-of lines node is = ap nodes_of (is ∙ sym (append-nil (node_lines node))) ∙ nodes-lines node []
 
-pub tree-whole : (lines : List DueLine) (node : Node) → lines ≡ lines_of node → AreWhole lines
-tree-whole lines node is = subst AreWhole (sym (is ∙ sym (append-nil (lines_of node)))) (whole-lines node [] tt)
+pub tree-whole : (lines : List DueLine) (node : Node) → lines ≡ node_lines node → AreWhole lines
+tree-whole lines node is = subst AreWhole (sym (is ∙ sym (append-nil (node_lines node)))) (whole-lines node [] tt)
 
-pub tree-lines : (lines : List DueLine) (node : Node) → IsTree lines → first_node (nodes_of lines) ≡ node → lines ≡ lines_of node
-tree-lines lines node tree is = tree.is ∙ ap lines_of (sym (ap first_node (root-of lines tree.node tree.is)) ∙ is)
+pub tree-lines : (lines : List DueLine) (node : Node) → IsTree lines → first_node (nodes_of lines) ≡ node → lines ≡ node_lines node
+tree-lines lines node tree is = tree.is ∙ ap node_lines (sym (ap first_node (root-of lines tree.node tree.is)) ∙ is)
 
 -- the nodes from a line on are whole, and so are those from the next line on
 pub whole-next : (lines : List DueLine) (k : ℕ) → AreWhole (drop k lines) → AreWhole (drop (suc k) lines)

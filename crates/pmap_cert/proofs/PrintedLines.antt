@@ -13,7 +13,7 @@ use Rattle.prefix_keys.specs.Text.{decimal_value}
 use Rattle.prefix_keys.specs.declared.version.Version.{Version}
 use Rattle.prefix_keys.specs.declared.version.Version.TheVariants.{V4, V6}
 use Rattle.pmap_cert.specs.CertificateText.{IsAscending, bit_digits, format_header}
-use Rattle.pmap_cert.specs.FormatReading.{ChainLine, DueLine, InnerLine, LeafLine, Place, fault_at, fits_header, fits_line, is_ended, likely_header, likely_line, line_due_at, line_text, pieces_of, printed_at, line_value, CertFault, CertFaultKind, BadNode, NodesMissing}
+use Rattle.pmap_cert.specs.FormatReading.{ChainLine, DueLine, InnerLine, LeafLine, Place, fault_at, fits_header, fits_line, is_ended, likely_header, likely_line, line_due_at, node_line_text, pieces_of, printed_at, line_value, CertFault, CertFaultKind, BadNode, NodesMissing}
 use Rattle.pmap_cert.specs.Inner.{BeginsWithLineOf, Finds}
 use Rattle.pmap_cert.proofs.ChainWords.{Lacks-bits, bits-back}
 use Rattle.pmap_cert.proofs.Headers.{Lacks-line, Lacks-tested}
@@ -149,7 +149,7 @@ line_words (LeafLine number) = (codes "l", decimal number ∷ [])
 line_words (InnerLine cost numbers) = (codes "n", decimal cost ∷ map decimal numbers)
 line_words (ChainLine cost bits side numbers) = (codes "c", decimal cost ∷ bit_digits bits ∷ decimal side ∷ map decimal numbers)
 
-text-words : (line : DueLine) → line_text line ≡ join_with_byte 32 ((line_words line).0 ∷ (line_words line).1)
+text-words : (line : DueLine) → node_line_text line ≡ join_with_byte 32 ((line_words line).0 ∷ (line_words line).1)
 text-words (LeafLine number) = refl
 text-words (InnerLine cost numbers) = refl
 text-words (ChainLine cost bits side numbers) = refl
@@ -211,7 +211,7 @@ module _ (format most count : ℕ) where
         ),
       )
 
-    pub line-lacks : (line : DueLine) → Passes line → Lacks 10 (line_text line)
+    pub line-lacks : (line : DueLine) → Passes line → Lacks 10 (node_line_text line)
     line-lacks line h =
         subst (Lacks 10) (sym (text-words line))
         (Lacks-line 10 ((line_words line).0 ∷ (line_words line).1) refl (words-lack 10 (omega arith) line (line-fits line h)))
@@ -224,7 +224,7 @@ module _ (format most count : ℕ) where
         λ i. ChainLine (decimal_value-decimal cost (omega (arith, h.1)) i) (bits-back bits i) (decimal_value-decimal side (omega (arith, h.4, few)) i)
         (values-decimals count 0 numbers (omega (arith, few)) h.5 i)
 
-    pub line-back : (line : DueLine) → Passes line → likely_line (words_of (line_text line)) ≡ line
+    pub line-back : (line : DueLine) → Passes line → likely_line (words_of (node_line_text line)) ≡ line
     line-back line h =
         let fits = line-fits line h in
         let lack = words-lack 32 (omega arith) line fits in
@@ -233,7 +233,7 @@ module _ (format most count : ℕ) where
 
     -- a line that fits is read from its text
     pub due-again : (line : DueLine) (number : ℕ) (rest : List (List ℕ)) → FitsLine format most count line → 0 < length rest
-        → line_due_at format most count (at number (line_text line ∷ rest)) ≡ Ok (line, at (number + 1) rest)
+        → line_due_at format most count (at number (node_line_text line ∷ rest)) ≡ Ok (line, at (number + 1) rest)
     due-again line number rest h some =
-        printed-again (fits_line format most count) line_text likely_line line-lacks line-back (cond (is_ended (line_text line ∷ rest)) NodesMissing BadNode)
+        printed-again (fits_line format most count) node_line_text likely_line line-lacks line-back (cond (is_ended (node_line_text line ∷ rest)) NodesMissing BadNode)
         line number rest (fits-line line h) some

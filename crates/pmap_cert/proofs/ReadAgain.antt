@@ -19,8 +19,8 @@ use Rattle.prefix_keys.proofs.Printed.{Lacks}
 use Rattle.pmap_cert.specs.Acceptance.{HasBlock}
 use Rattle.pmap_text.specs.Label.{is_label}
 use Rattle.pmap_text.specs.Reading.{◌>>=◌, Earlier, lines_read, no_lines, unknown, map_reading, list_reading}
-use Rattle.pmap_text.specs.Inner.{text_read, list_from, map_from, same_key}
-use Rattle.pmap_text.specs.ListModel.{ListModel, Prefix, label_below, list_label, CoversAddress, IsLongestMatch, is_same_prefix}
+use Rattle.pmap_text.specs.Inner.{text_read, list_from, map_from}
+use Rattle.pmap_text.specs.ListModel.{ListModel, Prefix, label_below, list_label, CoversAddress, IsLongestMatch, is_same_prefix, same_start_and_bits}
 use Rattle.pmap_text.specs.MapModel.{Label, MapModel, Mapping, last_such, spans}
 use Rattle.pmap_text.specs.declared.fault.MapFault.{MapFault}
 use Rattle.pmap_text.specs.declared.reading.form.Form.{Form}
@@ -64,16 +64,16 @@ lines-feed version name ps label each =
     (All-weaker (IsPrintedEntry version) (λ p. Lacks 10 (entry_line version p)) (entry-feed version) ps each)))
 
 -- entries that begin alike have the same block, so entries with distinct blocks don't begin alike
-alike-same : (W : ℕ) (p r : Prefix) → same_key p r ≡ true → is_same_prefix W p r ≡ true
+alike-same : (W : ℕ) (p r : Prefix) → same_start_and_bits p r ≡ true → is_same_prefix W p r ≡ true
 alike-same W p r e =
     let start : p.start ≡ r.start = grind (arith, nat_tests) in
     let bits : p.bits ≡ r.bits = grind (arith, nat_tests) in
     rw (start, bits) (and_from (r.bits == r.bits) _ (eq-eqb r.bits r.bits refl) (eq-eqb _ _ refl))
 
-alike-distinct : (W : ℕ) (ps : List Prefix) → IsDistinct (is_same_prefix W) ps → IsDistinct same_key ps
+alike-distinct : (W : ℕ) (ps : List Prefix) → IsDistinct (is_same_prefix W) ps → IsDistinct same_start_and_bits ps
 alike-distinct W ps distinct =
-    IsDistinct-from_apart same_key ps
-    (λ i j d under within. false_from_ne_true (same_key (get_or ps i d) (get_or ps j d))
+    IsDistinct-from_apart same_start_and_bits ps
+    (λ i j d under within. false_from_ne_true (same_start_and_bits (get_or ps i d) (get_or ps j d))
     (λ e. both_ways (is_same_prefix W (get_or ps i d) (get_or ps j d)) (apart_from_distinct (is_same_prefix W) ps i j d distinct under within)
     (alike-same W (get_or ps i d) (get_or ps j d) e)))
 
@@ -100,7 +100,7 @@ found-label W a ps (inr found) =
     ∙ sym (ap (λ (o : Option Label). unwrap_or o unknown) (label-longest W ps a found.0 found.2))
 
 module _ (l : ListModel) (can : CanBeReadAgain l) where
-  distinct : IsDistinct same_key l.prefixes
+  distinct : IsDistinct same_start_and_bits l.prefixes
   distinct = alike-distinct (width_of l.version) l.prefixes can.form.distinct
 
   moved : IsPermutation l.prefixes (entries_in_order l.prefixes)
@@ -113,7 +113,7 @@ module _ (l : ListModel) (can : CanBeReadAgain l) where
   read : (kind : Form) → (e : Earlier) × (text_read kind (list_text l) ≡ Ok e) × HasRead kind l.version l.name e (entries_in_order l.prefixes)
   read kind =
       let found = lines-read kind l.version l.name (entries_in_order l.prefixes) can.form.name each
-      (IsDistinct-IsPermutation same_key alike-flips l.prefixes (entries_in_order l.prefixes) moved distinct)
+      (IsDistinct-IsPermutation same_start_and_bits alike-flips l.prefixes (entries_in_order l.prefixes) moved distinct)
       (omega (arith, can.few_entries, length_permutation l.prefixes (entries_in_order l.prefixes) moved)) can.few_labels in (
         found.0,
         ap (lines_read kind 0 (Ok no_lines)) (lines-text _ (lines-feed l.version l.name (entries_in_order l.prefixes) can.form.name each)) ∙ found.1,

@@ -13,10 +13,9 @@ use Rattle.std.proofs.lemmas.Map.Keys.{apart_from_distinct}
 use Rattle.prefix_keys.specs.Block.{width_of}
 use Rattle.prefix_keys.specs.declared.version.Version.{Version}
 use Rattle.pmap_text.specs.Label.{is_label, with_label}
-use Rattle.pmap_text.specs.ListModel.{Prefix}
+use Rattle.pmap_text.specs.ListModel.{Prefix, same_start_and_bits}
 use Rattle.pmap_text.specs.MapModel.{Label, Mapping}
-use Rattle.pmap_text.specs.Reading.{content_line, content_of, Earlier, label_limit, lines_read, mapping_limit, no_lines}
-use Rattle.pmap_text.specs.Inner.{has_prefix, has_room, same_key}
+use Rattle.pmap_text.specs.Reading.{content_line, content_of, Earlier, label_limit, lines_read, mapping_limit, no_lines, has_room, has_prefix}
 use Rattle.pmap_text.specs.declared.fault.MapFaultKind.{MapFaultKind}
 use Rattle.pmap_text.specs.declared.reading.form.Form.{Form}
 use Rattle.pmap_text.specs.declared.reading.form.Form.TheVariants as form
@@ -68,15 +67,15 @@ has_read-entered form.Map version name earlier done p has = record {
 }
 
 -- the block of an entry differs from those of the entries before it
-block-new : (done : List Prefix) (p : Prefix) (ps : List Prefix) → IsDistinct same_key (done ++ p ∷ ps)
+block-new : (done : List Prefix) (p : Prefix) (ps : List Prefix) → IsDistinct same_start_and_bits (done ++ p ∷ ps)
     → list_any (λ (r : Prefix). r.start == p.start && r.bits == p.bits) done ≡ false
 block-new done p ps distinct =
     list_any_none (λ (r : Prefix). r.start == p.start && r.bits == p.bits) done
     (λ k d below.
-    let apart : same_key (get_or (done ++ p ∷ ps) k d) (get_or (done ++ p ∷ ps) (length done) d) ≡ false =
-    apart_from_distinct same_key (done ++ p ∷ ps) k (length done) d distinct below (omega (arith, length-append done (p ∷ ps))) in
-    ap (λ (r : Prefix). same_key r p) (sym (get_or_append_left done (p ∷ ps) d k below))
-    ∙ ap (same_key (get_or (done ++ p ∷ ps) k d)) (sym (get_or_at done p ps d (length done) refl)) ∙ apart)
+    let apart : same_start_and_bits (get_or (done ++ p ∷ ps) k d) (get_or (done ++ p ∷ ps) (length done) d) ≡ false =
+    apart_from_distinct same_start_and_bits (done ++ p ∷ ps) k (length done) d distinct below (omega (arith, length-append done (p ∷ ps))) in
+    ap (λ (r : Prefix). same_start_and_bits r p) (sym (get_or_append_left done (p ∷ ps) d k below))
+    ∙ ap (same_start_and_bits (get_or (done ++ p ∷ ps) k d)) (sym (get_or_at done p ps d (length done) refl)) ∙ apart)
 
 -- there is room for the label of the next entry
 fold-length : (table : List Label) (xs : List Label) → length table ≤ length (fold with_label table xs)
@@ -94,7 +93,7 @@ entry-room done p ps few =
 
 -- the line of the next entry is read as that entry
 next-entry : (kind : Form) (version : Version) (name : Option Label) (earlier : Earlier) (done : List Prefix) (p : Prefix) (ps : List Prefix)
-    → HasRead kind version name earlier done → IsPrintedEntry version p → IsDistinct same_key (done ++ p ∷ ps)
+    → HasRead kind version name earlier done → IsPrintedEntry version p → IsDistinct same_start_and_bits (done ++ p ∷ ps)
     → length (done ++ p ∷ ps) ≤ mapping_limit → length (labels_of (done ++ p ∷ ps)) ≤ label_limit
     → content_line kind earlier (content_of (entry_line version p)) ≡ Ok (entered kind version p earlier)
 next-entry form.List version name earlier done p ps has is distinct few few_labels =
@@ -120,7 +119,7 @@ lines-more : (kind : Form) (earlier next : Earlier) (number : ℕ) (line : List 
 lines-more kind earlier next number line lines e = ap (λ (r : Result Earlier MapFaultKind). lines_read kind (number + 1) r lines) e
 
 read-entries : (kind : Form) (version : Version) (name : Option Label) (earlier : Earlier) (number : ℕ) (done ps : List Prefix)
-    → HasRead kind version name earlier done → AllByRecursion (IsPrintedEntry version) ps → IsDistinct same_key (done ++ ps)
+    → HasRead kind version name earlier done → AllByRecursion (IsPrintedEntry version) ps → IsDistinct same_start_and_bits (done ++ ps)
     → length (done ++ ps) ≤ mapping_limit → length (labels_of (done ++ ps)) ≤ label_limit
     → AllRead kind version name earlier number ps (done ++ ps)
 read-entries kind version name earlier number done [] has each distinct few few_labels =
@@ -129,7 +128,7 @@ read-entries kind version name earlier number done (p ∷ ps) has each distinct 
     let same : (done ++ p ∷ []) ++ ps ≡ done ++ p ∷ ps = append_assoc done (p ∷ []) ps in
     let rest = read-entries kind version name (entered kind version p earlier) (number + 1) (done ++ p ∷ []) ps
     (has_read-entered kind version name earlier done p has) each.1
-    (subst (λ (rs : List Prefix). IsDistinct same_key rs) (sym same) distinct)
+    (subst (λ (rs : List Prefix). IsDistinct same_start_and_bits rs) (sym same) distinct)
     (subst (λ (rs : List Prefix). length rs ≤ mapping_limit) (sym same) few)
     (subst (λ (rs : List Prefix). length (labels_of rs) ≤ label_limit) (sym same) few_labels) in (
       rest.0,
@@ -147,7 +146,7 @@ head-read form.List version name = record { version_is = refl; name_is = refl; d
 head-read form.Map version name = record { version_is = refl; name_is = refl; declared = refl; fallback = refl; entries = refl; table = refl }
 
 pub lines-read : (kind : Form) (version : Version) (name : Option Label) (ps : List Prefix) → ForSome name (λ n. IsTrue (is_label n))
-    → All (IsPrintedEntry version) ps → IsDistinct same_key ps → length ps ≤ mapping_limit → length (labels_of ps) ≤ label_limit
+    → All (IsPrintedEntry version) ps → IsDistinct same_start_and_bits ps → length ps ≤ mapping_limit → length (labels_of ps) ≤ label_limit
     → (read : Earlier) × (lines_read kind 0 (Ok no_lines) (name_lines name ++ mode_text version ∷ map (entry_line version) ps) ≡ Ok read)
     × HasRead kind version name read ps
 lines-read kind version None ps label each distinct few few_labels =

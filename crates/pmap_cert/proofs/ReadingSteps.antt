@@ -8,7 +8,7 @@ use Rattle.pmap_text.specs.MapText.{text_at}
 use Rattle.pmap_cert.specs.CertificateModel.{ChainNode, InnerNode, LeafNode, Claim, Tree}
 use Rattle.pmap_cert.specs.Format.{format_number, Format}
 use Rattle.pmap_cert.specs.FormatReading.{ChainLine, DueLine, InnerLine, LeafLine, Place, due_node, fault_at, labels_at, line_due_at, new_label, nodes_at, line_value, CertFault, BadLabelTable, TooDeep}
-use Rattle.pmap_cert.specs.Node.{HasChainForm, Node, claiming, lines_of, tree_of}
+use Rattle.pmap_cert.specs.Node.{HasChainForm, Node, claiming, node_lines, tree_of}
 use Rattle.pmap_cert.specs.Inner.{IsReadNode}
 use Rattle.pmap_cert.proofs.ChainWords.{room-left}
 use Rattle.pmap_cert.proofs.FormatTrees.{inside_of, line_due-found, nodes-step, nodes_at-down}
@@ -149,9 +149,9 @@ module _ (format : Format) (most : ℕ) (table : List Label) where
         form = subst (HasChainForm (length table) node) more (said.1.0, said.1.1, low.form, up.form);
         kind = λ one. (low.kind one, up.kind one);
         lines =
-            up.lines ∙ ap (λ (ls : List DueLine). ls ++ lines_of up.node) (low.lines ∙ ap (λ (ls : List DueLine). ls ++ lines_of low.node) is)
-            ∙ append_assoc (old ++ InnerLine cost numbers ∷ []) (lines_of low.node) (lines_of up.node)
-            ∙ append_assoc old (InnerLine cost numbers ∷ []) (lines_of low.node ++ lines_of up.node);
+            up.lines ∙ ap (λ (ls : List DueLine). ls ++ node_lines up.node) (low.lines ∙ ap (λ (ls : List DueLine). ls ++ node_lines low.node) is)
+            ∙ append_assoc (old ++ InnerLine cost numbers ∷ []) (node_lines low.node) (node_lines up.node)
+            ∙ append_assoc old (InnerLine cost numbers ∷ []) (node_lines low.node ++ node_lines up.node);
       }
 
   pub read-chain : (room : ℕ) (place after end : Place) (cost : ℕ) (bits : List Bool) (side : ℕ) (numbers : List ℕ) (old first second : List DueLine)
@@ -173,6 +173,6 @@ module _ (format : Format) (most : ℕ) (table : List Label) where
         );
         kind = λ one. absurd (omega (arith, said.1.0, ap format_number one));
         lines =
-            last.lines ∙ ap (λ (ls : List DueLine). ls ++ lines_of last.node) is
-            ∙ append_assoc old (ChainLine cost bits side numbers ∷ []) (lines_of last.node);
+            last.lines ∙ ap (λ (ls : List DueLine). ls ++ node_lines last.node) is
+            ∙ append_assoc old (ChainLine cost bits side numbers ∷ []) (node_lines last.node);
       }

@@ -5,7 +5,7 @@ use Rattle.std.proofs.lemmas.Bool.{cond-false, cond-true, false≢true, le-leb, 
 use Rattle.std.proofs.lemmas.Option.{none-some, same_Some}
 use Rattle.std.proofs.lemmas.Slice.Eq.{bytes_eq-Decides}
 use Rattle.pmap_text.specs.MapModel.{Label}
-use Rattle.pmap_cert.specs.CertificateModel.{ChainNode, InnerNode, LeafNode, Claim, ClaimOf, Tree, TreeOf, IsPlain, chain_opened, links, opened}
+use Rattle.pmap_cert.specs.CertificateModel.{ChainNode, InnerNode, LeafNode, Claim, ClaimOf, Tree, TreeOf, IsPlain, chain_opened, links, opened_tree}
 use Rattle.pmap_cert.specs.Compacting.{HasNoRun, IsSameShape, IsPath, OpensTo, compacted, compacted_in, has_side, is_side, line_count, run_bits, run_compacted, run_end, side_of}
 use Rattle.pmap_cert.proofs.Sets.{bytes_eq-same}
 
@@ -234,14 +234,14 @@ module _ (side : Label) (IsEnd : Tree → Type 0) (end : Tree) (shapes : (t : Tr
   shape-chain claim (true ∷ bits) t some path = shape-path (true ∷ bits) t path
   shape-chain claim (false ∷ bits) t some path = shape-path (false ∷ bits) t path
 
-pub shape-opens : (c t : Tree) → OpensTo c t → IsSameShape (opened c) t
+pub shape-opens : (c t : Tree) → OpensTo c t → IsSameShape (opened_tree c) t
 shape-opens (LeafNode x) t h = leaf-shape x t h
 shape-opens (InnerNode claim lower upper) (LeafNode y) h = absurd h
 shape-opens (InnerNode claim lower upper) (ChainNode claim' bits side end) h = absurd h
 shape-opens (InnerNode claim lower upper) (InnerNode claim' lower' upper') h =
     (shape-opens lower lower' h.1, shape-opens upper upper' h.2)
 shape-opens (ChainNode claim bits side end) t h =
-    shape-chain side (OpensTo end) (opened end) (shape-opens end) claim bits t h.0 h.2
+    shape-chain side (OpensTo end) (opened_tree end) (shape-opens end) claim bits t h.0 h.2
 
 -- a compacted node is a leaf with the label exactly if the original is
 side-same : (x : Label) (steps : ℕ) (t : Tree) → IsPlain t → is_side bytes_eq x (compacted_in bytes_eq steps t) ≡ is_side bytes_eq x t

@@ -8,17 +8,18 @@ use Rattle.prefix_keys.specs.Block.{block_number, first_of, width_of}
 use Rattle.pmap_text.specs.MapModel.{Label, MapModel, Mapping, map_label}
 use Rattle.pmap_text.proofs.Blocks.{block_number-first_of, block_number-half, first_of-below}
 use Rattle.pmap_text.proofs.Settled.{map_label-settled, unsettled-halves}
-use Rattle.pmap_cert.specs.CertificateModel.{ChainNode, InnerNode, LeafNode, Claim, IsSameClaim, Tree, claim_of, exact_claim, exact_claim_by, has}
+use Rattle.pmap_cert.specs.CertificateModel.{ChainNode, InnerNode, LeafNode, Claim, IsSameClaim, Tree, claim_of, exact_claim, exact_claim_by}
 use Rattle.pmap_cert.specs.Acceptance.{HasItsLabels, StandsFor, entries_of, handed_on, has_inherited, least_label, own_entry}
 use Rattle.pmap_cert.proofs.Alike.{table-node}
 use Rattle.pmap_cert.proofs.Handed.{handed_on-leaf, inhabited}
 use Rattle.pmap_cert.proofs.Sets.{has-own, same-back, same-exact_claim, same-listed, same-then}
+use Rattle.pmap_text.specs.Label.{has_label}
 
 -- a test that a label of the table passes is passed by the one that is found
-found-some : (test : Label → Bool) (table : List Label) (x : Label) → has table x ≡ true → test x ≡ true → find test table ≡ None → ⊥
+found-some : (test : Label → Bool) (table : List Label) (x : Label) → has_label table x ≡ true → test x ≡ true → find test table ≡ None → ⊥
 found-some test [] x h passes none = cc
 found-some test (y ∷ ys) x h passes none =
-    elim (or_cases (bytes_eq x y) (has ys x) h) [
+    elim (or_cases (bytes_eq x y) (has_label ys x) h) [
       | inl same ↦
           let own : test y ≡ true = ap test (sym ((bytes_eq-Decides x y).0 same)) ∙ passes in
           by true own (λ e. both_ways (test y) e own)
@@ -30,12 +31,12 @@ found-some test (y ∷ ys) x h passes none =
     by false e other = other e
 
 -- Two sets with the same labels, one of which is in the table.
-module _ (W : ℕ) (table s s' : List Label) (same : (x : Label) → has s x ≡ has s' x) (x : Label) (inside : has s x ≡ true) (known : has table x ≡ true) where
+module _ (W : ℕ) (table s s' : List Label) (same : (x : Label) → has_label s x ≡ has_label s' x) (x : Label) (inside : has_label s x ≡ true) (known : has_label table x ≡ true) where
   same-least : least_label table s ≡ least_label table s'
-  same-least = by (find (has s) table) refl ∙ (λ i. unwrap_or (find (λ y. same y i) table) (slice_index_or s' 0 []))
+  same-least = by (find (has_label s) table) refl ∙ (λ i. unwrap_or (find (λ y. same y i) table) (slice_index_or s' 0 []))
     where
-      by : (o : Option Label) → find (has s) table ≡ o → unwrap_or (find (has s) table) (slice_index_or s 0 []) ≡ unwrap_or (find (has s) table) (slice_index_or s' 0 [])
-      by None e = absurd (found-some (has s) table x known inside e)
+      by : (o : Option Label) → find (has_label s) table ≡ o → unwrap_or (find (has_label s) table) (slice_index_or s 0 []) ≡ unwrap_or (find (has_label s) table) (slice_index_or s' 0 [])
+      by None e = absurd (found-some (has_label s) table x known inside e)
       by (Some y) e = rw e refl
 
   same-inherited : (h : Option Label) → has_inherited s h ≡ has_inherited s' h
@@ -82,7 +83,7 @@ module _ (m : MapModel) (inside : HasItsLabels m) where
   of-one-label x (LeafNode y) n q le small stands all =
       let label : y ≡ x =
       sym (map_label-settled m n q (first_of W n q) y (block_number-first_of W n q) stands) ∙ all (first_of W n q) (first_of-below W n q le small) (block_number-first_of W n q) in (
-        record { cost = refl; labels = λ z i. has (label i ∷ []) z },
+        record { cost = refl; labels = λ z i. has_label (label i ∷ []) z },
         λ h i. own_entry W m.table (label i ∷ []) h n q,
       )
   of-one-label x (ChainNode p bits side end) n q le small stands all = absurd stands

@@ -3,8 +3,9 @@ use Rattle.std.proofs.lemmas.Bool.{and_from, and_parts, false≢true, or_cases, 
 use Rattle.std.proofs.lemmas.Slice.Eq.{bytes_eq-Decides}
 use Rattle.std.proofs.Math.Bool.{or-false, or_assoc}
 use Rattle.pmap_text.specs.MapModel.{Label}
-use Rattle.pmap_cert.specs.CertificateModel.{Claim, has, IsClaimWith, IsSameClaim, exact_claim, exact_claim_by}
+use Rattle.pmap_cert.specs.CertificateModel.{Claim, IsClaimWith, IsSameClaim, exact_claim, exact_claim_by}
 use Rattle.pmap_cert.specs.Acceptance.{has_inherited, in_table_order}
+use Rattle.pmap_text.specs.Label.{has_label}
 
 -- Sets of labels, and the cost of the exact claim of two claims.
 
@@ -13,34 +14,34 @@ pub bytes_eq-same : (x : Label) → bytes_eq x x ≡ true
 bytes_eq-same x = (bytes_eq-Decides x x).1 refl
 
 -- a set of one label has this label
-pub has-own : (x : Label) → has (x ∷ []) x ≡ true
+pub has-own : (x : Label) → has_label (x ∷ []) x ≡ true
 has-own x = rw (bytes_eq-same x)
 
 -- a set has the first label of its list
-pub has-head : (x : Label) (xs : List Label) → has (x ∷ xs) x ≡ true
-has-head x xs = or_left (bytes_eq x x) (has xs x) (bytes_eq-same x)
+pub has-head : (x : Label) (xs : List Label) → has_label (x ∷ xs) x ≡ true
+has-head x xs = or_left (bytes_eq x x) (has_label xs x) (bytes_eq-same x)
 
 -- a set of one label has no other label
-pub has-single : (x y : Label) → has (x ∷ []) y ≡ true → x ≡ y
+pub has-single : (x y : Label) → has_label (x ∷ []) y ≡ true → x ≡ y
 has-single x y h = sym ((bytes_eq-Decides y x).0 (sym (or-false (bytes_eq y x)) ∙ h))
 
 -- a joined list has the labels of both lists
-pub has-append : (xs ys : List Label) (x : Label) → has (xs ++ ys) x ≡ (has xs x || has ys x)
+pub has-append : (xs ys : List Label) (x : Label) → has_label (xs ++ ys) x ≡ (has_label xs x || has_label ys x)
 has-append [] ys x = refl
-has-append (y ∷ xs) ys x = let ih = has-append xs ys x in rw ih (sym (or_assoc (bytes_eq x y) (has xs x) (has ys x)))
+has-append (y ∷ xs) ys x = let ih = has-append xs ys x in rw ih (sym (or_assoc (bytes_eq x y) (has_label xs x) (has_label ys x)))
 
 -- a list filtered by a set has the labels that both have
 has-filter-step : (a b c d e f : Bool) → (a ≡ true → c ≡ d) → e ≡ (b && d) → f ≡ cond c (a || e) e → f ≡ ((a || b) && d)
 has-filter-step a b c d e f same ih is = grind arith
 
-has-cond : (c : Bool) (xs ys : List Label) (x : Label) → has (cond c xs ys) x ≡ cond c (has xs x) (has ys x)
+has-cond : (c : Bool) (xs ys : List Label) (x : Label) → has_label (cond c xs ys) x ≡ cond c (has_label xs x) (has_label ys x)
 has-cond true xs ys x = refl
 has-cond false xs ys x = refl
 
-pub has-filter : (test : Label → Bool) (xs : List Label) (x : Label) → has (filter test xs) x ≡ (has xs x && test x)
+pub has-filter : (test : Label → Bool) (xs : List Label) (x : Label) → has_label (filter test xs) x ≡ (has_label xs x && test x)
 has-filter test [] x = refl
 has-filter test (y ∷ xs) x =
-    has-filter-step (bytes_eq x y) (has xs x) (test y) (test x) (has (filter test xs) x) (has (filter test (y ∷ xs)) x)
+    has-filter-step (bytes_eq x y) (has_label xs x) (test y) (test x) (has_label (filter test xs) x) (has_label (filter test (y ∷ xs)) x)
     (λ e. ap test (sym ((bytes_eq-Decides x y).0 e)))
     (has-filter test xs x)
     (has-cond (test y) (y ∷ filter test xs) (filter test xs) x)
@@ -53,10 +54,10 @@ pub same-listed : (table : List Label) (claim e : Claim) → claim ≡ in_table_
 same-listed table claim e is = record {
   cost = ap (λ (p : Claim). p.cost) is;
   labels = λ x.
-      ap (λ (p : Claim). has p.labels x) is
-      ∙ has-append (filter (has e.labels) table) (filter (λ y. not (has table y)) e.labels) x
-      ∙ ap₂ ◌||◌ (has-filter (has e.labels) table x) (has-filter (λ y. not (has table y)) e.labels x)
-      ∙ either-way (has table x) (has e.labels x);
+      ap (λ (p : Claim). has_label p.labels x) is
+      ∙ has-append (filter (has_label e.labels) table) (filter (λ y. not (has_label table y)) e.labels) x
+      ∙ ap₂ ◌||◌ (has-filter (has_label e.labels) table x) (has-filter (λ y. not (has_label table y)) e.labels x)
+      ∙ either-way (has_label table x) (has_label e.labels x);
 }
 
 -- the cost of an inherited label for a block with the set s: 0 if the set has it, otherwise 1 entry
@@ -75,34 +76,34 @@ same-back p r same = record { cost = sym same.cost; labels = λ x. sym (same.lab
 
 -- The exact claim of two claims is that of their common labels, or, without any, of the labels of both.
 pub data IsExact (p r e : Claim) : Type 0 where
-  common : (x : Label) (low : has p.labels x ≡ true) (up : has r.labels x ≡ true)
-      (is : IsClaimWith e (p.cost + r.cost) (λ y. has p.labels y && has r.labels y)) → IsExact p r e
-  apart : (none : (x : Label) → (has p.labels x && has r.labels x) ≡ false)
-      (is : IsClaimWith e (p.cost + r.cost + 1) (λ y. has p.labels y || has r.labels y)) → IsExact p r e
+  common : (x : Label) (low : has_label p.labels x ≡ true) (up : has_label r.labels x ≡ true)
+      (is : IsClaimWith e (p.cost + r.cost) (λ y. has_label p.labels y && has_label r.labels y)) → IsExact p r e
+  apart : (none : (x : Label) → (has_label p.labels x && has_label r.labels x) ≡ false)
+      (is : IsClaimWith e (p.cost + r.cost + 1) (λ y. has_label p.labels y || has_label r.labels y)) → IsExact p r e
 
 pub exact : (p r : Claim) → IsExact p r (exact_claim p r)
-exact p r = by (filter (has r.labels) p.labels) (has-filter (has r.labels) p.labels)
+exact p r = by (filter (has_label r.labels) p.labels) (has-filter (has_label r.labels) p.labels)
   where
-    by : (xs : List Label) → ((x : Label) → has xs x ≡ (has p.labels x && has r.labels x)) → IsExact p r (exact_claim_by p r xs)
+    by : (xs : List Label) → ((x : Label) → has_label xs x ≡ (has_label p.labels x && has_label r.labels x)) → IsExact p r (exact_claim_by p r xs)
     by [] both = apart (λ x. sym (both x)) (record { cost = refl; labels = has-append p.labels r.labels })
     by (x ∷ xs) both =
-        let known = and_parts (has p.labels x) (has r.labels x) (sym (both x) ∙ has-head x xs) in
+        let known = and_parts (has_label p.labels x) (has_label r.labels x) (sym (both x) ∙ has-head x xs) in
         common x known.0 known.1 (record { cost = refl; labels = both })
 
-pub exact_claim-common : (p r : Claim) (x : Label) → has p.labels x ≡ true → has r.labels x ≡ true →
-    IsClaimWith (exact_claim p r) (p.cost + r.cost) (λ y. has p.labels y && has r.labels y)
+pub exact_claim-common : (p r : Claim) (x : Label) → has_label p.labels x ≡ true → has_label r.labels x ≡ true →
+    IsClaimWith (exact_claim p r) (p.cost + r.cost) (λ y. has_label p.labels y && has_label r.labels y)
 exact_claim-common p r x low up = by (exact p r)
   where
-    by : IsExact p r (exact_claim p r) → IsClaimWith (exact_claim p r) (p.cost + r.cost) (λ y. has p.labels y && has r.labels y)
+    by : IsExact p r (exact_claim p r) → IsClaimWith (exact_claim p r) (p.cost + r.cost) (λ y. has_label p.labels y && has_label r.labels y)
     by (common y l u is) = is
-    by (apart none is) = absurd (false≢true (sym (none x) ∙ and_from (has p.labels x) (has r.labels x) low up))
+    by (apart none is) = absurd (false≢true (sym (none x) ∙ and_from (has_label p.labels x) (has_label r.labels x) low up))
 
-pub exact_claim-apart : (p r : Claim) → ((x : Label) → (has p.labels x && has r.labels x) ≡ false) →
-    IsClaimWith (exact_claim p r) (p.cost + r.cost + 1) (λ y. has p.labels y || has r.labels y)
+pub exact_claim-apart : (p r : Claim) → ((x : Label) → (has_label p.labels x && has_label r.labels x) ≡ false) →
+    IsClaimWith (exact_claim p r) (p.cost + r.cost + 1) (λ y. has_label p.labels y || has_label r.labels y)
 exact_claim-apart p r none = by (exact p r)
   where
-    by : IsExact p r (exact_claim p r) → IsClaimWith (exact_claim p r) (p.cost + r.cost + 1) (λ y. has p.labels y || has r.labels y)
-    by (common x low up is) = absurd (false≢true (sym (none x) ∙ and_from (has p.labels x) (has r.labels x) low up))
+    by : IsExact p r (exact_claim p r) → IsClaimWith (exact_claim p r) (p.cost + r.cost + 1) (λ y. has_label p.labels y || has_label r.labels y)
+    by (common x low up is) = absurd (false≢true (sym (none x) ∙ and_from (has_label p.labels x) (has_label r.labels x) low up))
     by (apart nothing is) = is
 
 -- the exact claims of claims with the same costs and sets have the same cost and set
@@ -122,12 +123,12 @@ same-exact_claim p r p' r' same same' = by (exact p r)
         }
 
 -- each label of the exact claim is a label of one of the two claims
-pub exact_claim-labels : (p r : Claim) (x : Label) → has (exact_claim p r).labels x ≡ true → (has p.labels x ≡ true) ⊎ (has r.labels x ≡ true)
+pub exact_claim-labels : (p r : Claim) (x : Label) → has_label (exact_claim p r).labels x ≡ true → (has_label p.labels x ≡ true) ⊎ (has_label r.labels x ≡ true)
 exact_claim-labels p r x h = by (exact p r)
   where
-    by : IsExact p r (exact_claim p r) → (has p.labels x ≡ true) ⊎ (has r.labels x ≡ true)
-    by (common y low up is) = inl ((and_parts (has p.labels x) (has r.labels x) (sym (is.labels x) ∙ h)).0)
-    by (apart none is) = or_cases (has p.labels x) (has r.labels x) (sym (is.labels x) ∙ h)
+    by : IsExact p r (exact_claim p r) → (has_label p.labels x ≡ true) ⊎ (has_label r.labels x ≡ true)
+    by (common y low up is) = inl ((and_parts (has_label p.labels x) (has_label r.labels x) (sym (is.labels x) ∙ h)).0)
+    by (apart none is) = or_cases (has_label p.labels x) (has_label r.labels x) (sym (is.labels x) ∙ h)
 
 -- an inherited label costs with the exact claim no more than with both halves
 misses-union : (a b c : Bool) → false ≡ (a && b) → c ≡ (a || b) → 1 + cond c 0 1 ≤ cond a 0 1 + cond b 0 1
@@ -145,6 +146,6 @@ exact_claim-cost p r h = by h (exact p r)
     by None (common y low up is) = omega (arith, is.cost)
     by None (apart none is) = omega (arith, is.cost)
     by (Some x) (common y low up is) =
-        omega (arith, is.cost, misses-common (has p.labels x) (has r.labels x) (has (exact_claim p r).labels x) (is.labels x))
+        omega (arith, is.cost, misses-common (has_label p.labels x) (has_label r.labels x) (has_label (exact_claim p r).labels x) (is.labels x))
     by (Some x) (apart none is) =
-        omega (arith, is.cost, misses-union (has p.labels x) (has r.labels x) (has (exact_claim p r).labels x) (sym (none x)) (is.labels x))
+        omega (arith, is.cost, misses-union (has_label p.labels x) (has_label r.labels x) (has_label (exact_claim p r).labels x) (sym (none x)) (is.labels x))

@@ -7,8 +7,7 @@ use Rattle.std.proofs.lemmas.Bool.{both_ways, ne_eqb}
 use Rattle.std.proofs.lemmas.List.{drop_at, get_or-append-add, length-append, take_all, take_at}
 use Rattle.std.proofs.lemmas.List.Elements.{All-append, All-cons, All-drop, All-head, All-nil, All-tail, All-take, All-weaker}
 use Rattle.std.proofs.lemmas.List.Sums.{AllPass-from_list_all, position_or_len_is, suffix_len-take_no}
-use Rattle.prefix_keys.specs.Print.{address_text, block_text, joined_text, longest_run, shortened_text}
-use Rattle.prefix_keys.specs.Inner.{address_groups, address_groups_text}
+use Rattle.prefix_keys.specs.Print.{address_text, block_text, joined_text, longest_run, shortened_text, address_groups, address_groups_text}
 use Rattle.prefix_keys.specs.declared.version.Version.{Version}
 use Rattle.prefix_keys.specs.declared.version.Version.TheVariants.{V4, V6}
 use Rattle.prefix_keys.proofs.Digits.{All-digits}
@@ -16,8 +15,7 @@ use Rattle.prefix_keys.proofs.Groups.{address_bytes, bytes-below, groups-below}
 use Rattle.prefix_keys.proofs.Printed.{Lacks}
 use Rattle.pmap_cert.specs.CertificateText.{text_of_lines}
 use Rattle.pmap_text.specs.Label.{is_blank, is_label, is_label_byte}
-use Rattle.pmap_text.specs.Reading.{after_word, content_of, first_word, lines_of, trim_start}
-use Rattle.pmap_text.specs.Inner.{trim_end}
+use Rattle.pmap_text.specs.Reading.{after_word, content_of, first_word, lines_of, trim_start, trim_end}
 use Rattle.pmap_text.proofs.LeadingWords.{first-after}
 
 -- each printed line is read as one line

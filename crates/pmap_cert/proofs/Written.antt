@@ -9,7 +9,7 @@ use Rattle.prefix_keys.specs.declared.version.Version.{Version}
 use Rattle.pmap_text.specs.Label.{IsLabelTable}
 use Rattle.pmap_text.specs.MapModel.{Label}
 use Rattle.pmap_cert.specs.CertificateModel.{ChainNode, InnerNode, LeafNode, Tree, map_tree}
-use Rattle.pmap_cert.specs.CertificateText.{DueLine, HasChainForm, HasNodeForm, certificate_text, format_header, line_text, lines_of, place_of, text_of_lines}
+use Rattle.pmap_cert.specs.CertificateText.{DueLine, HasChainForm, HasNodeForm, certificate_text, format_header, node_line_text, node_lines, place_of, text_of_lines}
 use Rattle.pmap_cert.specs.Node.{Node, claiming, tree_of}
 use Rattle.pmap_cert.proofs.ChainWords.{left-room}
 use Rattle.pmap_cert.proofs.Tables.{place_of-text_at, places-texts, text_at-place_of, texts-places}
@@ -40,8 +40,8 @@ pub text_of_lines-append : (lines more : List (List ℕ)) → text_of_lines (lin
 text_of_lines-append lines more = flat_map-append (λ line. line ++ 10 ∷ []) lines more
 
 -- the lines of a tree whose labels are numbered as in the table
-abbrev pub node_lines : List Label → Tree → List (List ℕ)
-node_lines table tree = map line_text (lines_of (map_tree (place_of table) tree))
+abbrev pub node_line_texts : List Label → Tree → List (List ℕ)
+node_line_texts table tree = map node_line_text (node_lines (map_tree (place_of table) tree))
 
 -- the numbers of a node's labels are those of its tree, and the texts of a tree's labels are those of its node
 module _ (table : List Label) where
@@ -66,16 +66,16 @@ module _ (table : List Label) where
   pub node_form : IsLabelTable table → (node : Node) (room : ℕ) → HasChainForm (length table) node room → HasNodeForm table (tree_of table node) room
   node_form ok node room form = subst (λ (n : Node). HasChainForm (length table) n room) (sym (places-tree ok node room form)) form
 
-  pub line_texts-tree : IsLabelTable table → (node : Node) (room : ℕ) → HasChainForm (length table) node room → map line_text (lines_of node) ≡ node_lines table (tree_of table node)
-  line_texts-tree ok node room form = ap (λ (n : Node). map line_text (lines_of n)) (sym (places-tree ok node room form))
+  pub line_texts-tree : IsLabelTable table → (node : Node) (room : ℕ) → HasChainForm (length table) node room → map node_line_text (node_lines node) ≡ node_line_texts table (tree_of table node)
+  line_texts-tree ok node room form = ap (λ (n : Node). map node_line_text (node_lines n)) (sym (places-tree ok node room form))
 
 -- the header, the labels and the lines of the nodes are the certificate's text
 pub whole_text : (format : ℕ) (version : Version) (table : List Label) (root : Node) (room : ℕ) (nodes : List DueLine) (o1 o2 : List ℕ) → IsLabelTable table → HasChainForm (length table) root room
-    → nodes ≡ lines_of root → o1 ≡ text_of_lines (format_header (format, (version, length table)) ∷ table) → o2 ≡ o1 ++ text_of_lines (map line_text nodes)
+    → nodes ≡ node_lines root → o1 ≡ text_of_lines (format_header (format, (version, length table)) ∷ table) → o2 ≡ o1 ++ text_of_lines (map node_line_text nodes)
     → o2 ≡ certificate_text (record { format = format; version = version; table = table; root = tree_of table root })
 whole_text format version table root room nodes o1 o2 ok form same e1 e2 =
     let head : List (List ℕ) = format_header (format, (version, length table)) ∷ table in
-    let lines : List (List ℕ) = node_lines table (tree_of table root) in
-    let texts : text_of_lines (map line_text nodes) ≡ text_of_lines lines =
-    ap (λ (ls : List DueLine). text_of_lines (map line_text ls)) same ∙ ap text_of_lines (line_texts-tree table ok root room form) in
-    e2 ∙ ap (λ t. t ++ text_of_lines (map line_text nodes)) e1 ∙ ap (λ t. text_of_lines head ++ t) texts ∙ sym (text_of_lines-append head lines)
+    let lines : List (List ℕ) = node_line_texts table (tree_of table root) in
+    let texts : text_of_lines (map node_line_text nodes) ≡ text_of_lines lines =
+    ap (λ (ls : List DueLine). text_of_lines (map node_line_text ls)) same ∙ ap text_of_lines (line_texts-tree table ok root room form) in
+    e2 ∙ ap (λ t. t ++ text_of_lines (map node_line_text nodes)) e1 ∙ ap (λ t. text_of_lines head ++ t) texts ∙ sym (text_of_lines-append head lines)

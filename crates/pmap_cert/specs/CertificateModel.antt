@@ -13,10 +13,6 @@ pub record ClaimOf (L : Type 0) : Type 0 where
 abbrev pub Claim : Type 0
 Claim = ClaimOf Label
 
--- the set has the label, as a table has it
-abbrev pub has : List Label → Label → Bool
-has s x = has_label s x
-
 -- A node: a leaf with a label, an inner node with its claim and the nodes of its block's halves, or a chain. A chain
 -- represents nested inner nodes, each with a leaf in one half and the next node in the other. It has the claim of the
 -- first of them, a bit for each of them that is 1 if the path continues in the upper half, the label of all leaves
@@ -52,19 +48,9 @@ exact_claim_by p r [] = record { cost = p.cost + r.cost + 1; labels = p.labels +
 exact_claim_by p r (x ∷ xs) = record { cost = p.cost + r.cost; labels = x ∷ xs }
 
 abbrev pub exact_claim : Claim → Claim → Claim
-exact_claim p r = exact_claim_by p r (filter (has r.labels) p.labels)
+exact_claim p r = exact_claim_by p r (filter (has_label r.labels) p.labels)
 
--- two claims have the same cost and the same set
-pub record IsSameClaim (p r : Claim) : Type 0 where
-  pub cost : p.cost ≡ r.cost
-  pub labels : (x : Label) → has p.labels x ≡ has r.labels x
-
--- the claim has the given cost, and just the labels that pass the test
-pub record IsClaimWith (p : Claim) (total : ℕ) (test : Label → Bool) : Type 0 where
-  pub cost : p.cost ≡ total
-  pub labels : (x : Label) → has p.labels x ≡ test x
-
--- Chains: their exact claim, and the inner nodes and leaves that they represent.
+-- Chains: their exact claim, and the halves of the blocks on their path.
 
 -- the set of a chain's exact claim if the end's set lacks the side label: of one bit both, of more the side label alone
 abbrev pub chain_labels : ℕ → Label → List Label → List Label
@@ -74,7 +60,7 @@ chain_labels _ side s = side ∷ []
 -- the exact claim of a chain of n bits, by its side label and what its end claims
 abbrev pub chain_claim : ℕ → Label → Claim → Claim
 chain_claim n side end =
-    if has end.labels side
+    if has_label end.labels side
     then record { cost = end.cost; labels = side ∷ [] }
     else record { cost = end.cost + 1; labels = chain_labels n side end.labels }
 
@@ -85,6 +71,31 @@ chosen_half bit q = if bit then 2 * q + 1 else 2 * q
 -- the number of the half that a bit doesn't choose in the block with the number q
 abbrev pub side_half : Bool → ℕ → ℕ
 side_half bit q = if bit then 2 * q else 2 * q + 1
+
+-- the claim and the tree with each label replaced
+abbrev pub map_claim : {L M : Type 0} → (L → M) → ClaimOf L → ClaimOf M
+map_claim f claim = record { cost = claim.cost; labels = map f claim.labels }
+
+abbrev pub map_tree : {L M : Type 0} → (L → M) → TreeOf L → TreeOf M
+map_tree f (LeafNode x) = LeafNode (f x)
+map_tree f (InnerNode claim lower upper) =
+    InnerNode (map_claim f claim) (map_tree f lower) (map_tree f upper)
+map_tree f (ChainNode claim bits side end) =
+    ChainNode (map_claim f claim) bits (f side) (map_tree f end)
+
+-- Below: only contracts of parts and proofs use these; no promise of the program rests on them.
+
+-- two claims have the same cost and the same set
+pub record IsSameClaim (p r : Claim) : Type 0 where
+  pub cost : p.cost ≡ r.cost
+  pub labels : (x : Label) → has_label p.labels x ≡ has_label r.labels x
+
+-- the claim has the given cost, and just the labels that pass the test
+pub record IsClaimWith (p : Claim) (total : ℕ) (test : Label → Bool) : Type 0 where
+  pub cost : p.cost ≡ total
+  pub labels : (x : Label) → has_label p.labels x ≡ test x
+
+-- Chains opened: the inner nodes and leaves that they represent.
 
 -- the inner node with this claim whose chosen half is the node and whose other half is a leaf with the side label
 abbrev pub link : Claim → Bool → Label → Tree → Tree
@@ -102,29 +113,20 @@ chain_opened claim [] side end = end
 chain_opened claim (bit ∷ bits) side end = link claim bit side (links bits side end)
 
 -- the certificate tree without chains: each chain opened into its inner nodes and side leaves
-abbrev pub opened : Tree → Tree
-opened (LeafNode x) = LeafNode x
-opened (InnerNode claim lower upper) = InnerNode claim (opened lower) (opened upper)
-opened (ChainNode claim bits side end) = chain_opened claim bits side (opened end)
+abbrev pub opened_tree : Tree → Tree
+opened_tree (LeafNode x) = LeafNode x
+opened_tree (InnerNode claim lower upper) = InnerNode claim (opened_tree lower) (opened_tree upper)
+opened_tree (ChainNode claim bits side end) = chain_opened claim bits side (opened_tree end)
 
 -- the certificate with each chain opened
 abbrev pub opened_certificate : CertificateModel → CertificateModel
-opened_certificate c = record { format = c.format; version = c.version; table = c.table; root = opened c.root }
+opened_certificate c = record { format = c.format; version = c.version; table = c.table; root = opened_tree c.root }
 
 -- the tree has no chain
 abbrev pub IsPlain : {L : Type 0} → TreeOf L → Type 0
 IsPlain (LeafNode x) = Unit {0}
 IsPlain (InnerNode claim lower upper) = IsPlain lower × IsPlain upper
 IsPlain (ChainNode claim bits side end) = ⊥
-
--- the claim and the tree with each label replaced
-abbrev pub map_claim : {L M : Type 0} → (L → M) → ClaimOf L → ClaimOf M
-map_claim f claim = record { cost = claim.cost; labels = map f claim.labels }
-
-abbrev pub map_tree : {L M : Type 0} → (L → M) → TreeOf L → TreeOf M
-map_tree f (LeafNode x) = LeafNode (f x)
-map_tree f (InnerNode claim lower upper) = InnerNode (map_claim f claim) (map_tree f lower) (map_tree f upper)
-map_tree f (ChainNode claim bits side end) = ChainNode (map_claim f claim) bits (f side) (map_tree f end)
 
 -- the certificate is of format 1, which has no chains, or of format 2
 abbrev pub IsOfFormat : CertificateModel → Type 0

@@ -17,11 +17,14 @@ abbrev pub version_word : Version → List ℕ
 version_word V4 = codes "ipv4"
 version_word V6 = codes "ipv6"
 
+abbrev pub format_word : ℕ → List ℕ
+format_word format = if format == 1 then codes "1" else codes "2"
+
 -- `flowlabel-cert FORMAT VERSION COUNT`
 abbrev pub format_header : ℕ × (Version × ℕ) → List ℕ
 format_header header =
-    join_with_byte 32 (codes "flowlabel-cert" ∷ (if header.0 == 1 then codes "1" else codes "2")
-    ∷ version_word header.1.0 ∷ decimal header.1.1 ∷ [])
+    join_with_byte 32 (codes "flowlabel-cert" ∷ format_word header.0 ∷ version_word header.1.0
+    ∷ decimal header.1.1 ∷ [])
 
 -- a line of a leaf with its label's number, of an inner node with its cost and its set's numbers, or of a chain with its
 -- cost, its bits, and the numbers of its side label and its set
@@ -30,42 +33,43 @@ pub data DueLine : Type 0 where
   InnerLine : (cost : ℕ) (numbers : List ℕ) → DueLine
   ChainLine : (cost : ℕ) (bits : List Bool) (side : ℕ) (numbers : List ℕ) → DueLine
 
+-- a digit for each bit
+abbrev pub bit_digits : List Bool → List ℕ
+bit_digits bits = map (λ bit. if bit then 49 else 48) bits
+
 -- The text of a node's line: `l NUMBER`, `n COST NUMBER NUMBER ..`, or `c COST BITS SIDE NUMBER NUMBER ..`. A set's
 -- numbers come last. A bit is 1 if the path continues in the upper half.
-abbrev pub line_text : DueLine → List ℕ
-line_text (LeafLine number) = join_with_byte 32 (codes "l" ∷ decimal number ∷ [])
-line_text (InnerLine cost numbers) = join_with_byte 32 (codes "n" ∷ decimal cost ∷ map decimal numbers)
-line_text (ChainLine cost bits side numbers) =
-    join_with_byte 32 (codes "c" ∷ decimal cost ∷ map (λ bit. if bit then 49 else 48) bits ∷ decimal side ∷ map decimal numbers)
+abbrev pub node_line_text : DueLine → List ℕ
+node_line_text (LeafLine number) = join_with_byte 32 (codes "l" ∷ decimal number ∷ [])
+node_line_text (InnerLine cost numbers) =
+    join_with_byte 32 (codes "n" ∷ decimal cost ∷ map decimal numbers)
+node_line_text (ChainLine cost bits side numbers) =
+    join_with_byte 32 (codes "c" ∷ decimal cost ∷ bit_digits bits ∷ decimal side
+    ∷ map decimal numbers)
 
 -- the lines of a tree with label numbers, in preorder: first the node, then all of the lower half, then all of the
 -- upper, or all of a chain's end
-abbrev pub lines_of : TreeOf ℕ → List DueLine
-lines_of (LeafNode number) = LeafLine number ∷ []
-lines_of (InnerNode claim lower upper) = InnerLine claim.cost claim.labels ∷ (lines_of lower ++ lines_of upper)
-lines_of (ChainNode claim bits side end) = ChainLine claim.cost bits side claim.labels ∷ lines_of end
+abbrev pub node_lines : TreeOf ℕ → List DueLine
+node_lines (LeafNode number) = LeafLine number ∷ []
+node_lines (InnerNode claim lower upper) =
+    InnerLine claim.cost claim.labels ∷ (node_lines lower ++ node_lines upper)
+node_lines (ChainNode claim bits side end) =
+    ChainLine claim.cost bits side claim.labels ∷ node_lines end
 
--- the text of a certificate: the header, the labels of the table in order, and the nodes; the number of a label is its
--- index in the table
-abbrev pub certificate_text : CertificateModel → List ℕ
-certificate_text c = flat_map (λ line. line ++ 10 ∷ []) (format_header (c.format, (c.version, length c.table))
-    ∷ (c.table ++ map line_text (lines_of (map_tree (λ x. position_or_len (bytes_eq x) c.table) c.root))))
-
--- Parts of this text.
+-- the number of a label: its index in the table, or the table's length if the table lacks it
+abbrev pub place_of : List Label → Label → ℕ
+place_of table x = position_or_len (bytes_eq x) table
 
 -- the text of these lines, each ended by a line feed
 abbrev pub text_of_lines : List (List ℕ) → List ℕ
 text_of_lines lines = flat_map (λ line. line ++ 10 ∷ []) lines
 
--- the number of a label, or the table's length if the table lacks it
-abbrev pub place_of : List Label → Label → ℕ
-place_of table x = position_or_len (bytes_eq x) table
+-- the text of a certificate: the header, the labels of the table in order, and the nodes
+abbrev pub certificate_text : CertificateModel → List ℕ
+certificate_text c = text_of_lines (format_header (c.format, (c.version, length c.table))
+    ∷ (c.table ++ map node_line_text (node_lines (map_tree (place_of c.table) c.root))))
 
-abbrev pub format_word : ℕ → List ℕ
-format_word format = if format == 1 then codes "1" else codes "2"
-
-abbrev pub bit_digits : List Bool → List ℕ
-bit_digits bits = map (λ bit. if bit then 49 else 48) bits
+-- Below: only contracts of parts and proofs use these; no promise of the program rests on them.
 
 -- The certificates that have a text: each label is in the table, sets are listed by ascending numbers, costs are below
 -- 2 ^ 32, and no node is deeper than an address has bits.

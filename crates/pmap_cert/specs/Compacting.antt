@@ -17,6 +17,10 @@ abbrev pub leaf_label : {L : Type 0} → TreeOf L → Option L
 leaf_label (LeafNode x) = Some x
 leaf_label _ = None
 
+-- the side label of an inner node's run, by its halves: that of the lower one if it is a leaf, otherwise of the upper one
+abbrev pub side_of : {L : Type 0} → TreeOf L → TreeOf L → Option L
+side_of lower upper = option_or (leaf_label lower) (leaf_label upper)
+
 -- The following definitions take the test `same` whether two labels are equal.
 
 -- the node is a leaf with this label
@@ -41,7 +45,8 @@ run_end same side node = node
 
 -- An inner node compacted, with `inside` for the nodes below it. If its run has two bits or more, it turns into a chain
 -- with its claim, those bits and the compacted end of the run; otherwise its halves are compacted.
-abbrev pub run_compacted : {L : Type 0} → (L → L → Bool) → (TreeOf L → TreeOf L) → ClaimOf L → TreeOf L → TreeOf L → Option L → TreeOf L
+abbrev pub run_compacted : {L : Type 0} → (L → L → Bool) → (TreeOf L → TreeOf L) → ClaimOf L
+    → TreeOf L → TreeOf L → Option L → TreeOf L
 run_compacted same inside claim lower upper None = InnerNode claim (inside lower) (inside upper)
 run_compacted same inside claim lower upper (Some side) =
     if nat_le 2 (length (run_bits same side (InnerNode claim lower upper)))
@@ -49,14 +54,14 @@ run_compacted same inside claim lower upper (Some side) =
     (inside (run_end same side (InnerNode claim lower upper)))
     else InnerNode claim (inside lower) (inside upper)
 
--- A node compacted down to this many steps below it. The side label of an inner node's run is that of its lower half if
--- it is a leaf, otherwise that of its upper half.
+-- a node compacted down to this many steps below it
 unfoldable pub compacted_in : {L : Type 0} → (L → L → Bool) → ℕ → TreeOf L → TreeOf L
 compacted_in same zero node = node
 compacted_in same (suc steps) (LeafNode x) = LeafNode x
 compacted_in same (suc steps) (InnerNode claim lower upper) =
-    run_compacted same (compacted_in same steps) claim lower upper (option_or (leaf_label lower) (leaf_label upper))
-compacted_in same (suc steps) (ChainNode claim bits side end) = ChainNode claim bits side (compacted_in same steps end)
+    run_compacted same (compacted_in same steps) claim lower upper (side_of lower upper)
+compacted_in same (suc steps) (ChainNode claim bits side end) =
+    ChainNode claim bits side (compacted_in same steps end)
 
 -- a node compacted, which has fewer steps down than lines
 abbrev pub compacted : {L : Type 0} → (L → L → Bool) → TreeOf L → TreeOf L
@@ -66,12 +71,10 @@ compacted same node = compacted_in same (line_count node) node
 abbrev pub compact : CertificateModel → CertificateModel
 compact c =
     if c.format == 1
-    then record { format = 2; version = c.version; table = c.table; root = compacted bytes_eq c.root }
+    then record c { format = 2; root = compacted bytes_eq c.root }
     else c
 
--- the side label of an inner node's run, by its halves, as `compacted_in` has it
-abbrev pub side_of : {L : Type 0} → TreeOf L → TreeOf L → Option L
-side_of lower upper = option_or (leaf_label lower) (leaf_label upper)
+-- Below: only contracts of parts and proofs use these; no promise of the program rests on them.
 
 -- The bits are a path down the tree, with a side leaf beside each inner node's chosen half, to a node that meets
 -- `IsEnd`.

@@ -7,8 +7,8 @@ use Rattle.prefix_keys.specs.declared.version.Version.{Version}
 use Rattle.pmap_text.specs.MapModel.{Label}
 use Rattle.pmap_text.specs.Reading.{◌>>=◌}
 use Rattle.pmap_cert.specs.Format.{IsNodeOf, format_number, Format}
-use Rattle.pmap_cert.specs.FormatReading.{DueLine, Place, ended_by, fits_header, fits_line, line_due_at, line_text, nodes_at, CertFault}
-use Rattle.pmap_cert.specs.Node.{HasChainForm, Node, lines_of, tree_of, AreWhole, first_node, node_of, nodes_of}
+use Rattle.pmap_cert.specs.FormatReading.{DueLine, Place, ended_by, fits_header, fits_line, line_due_at, node_line_text, nodes_at, CertFault}
+use Rattle.pmap_cert.specs.Node.{HasChainForm, Node, node_lines, tree_of, AreWhole, first_node, node_of, nodes_of}
 use Rattle.pmap_cert.specs.CertificateModel.{CertificateModel, ClaimOf, InnerNode, IsPlain, Tree}
 use Rattle.pmap_cert.specs.CertificateText.{IsAscending, bit_digits, format_header, format_word, version_word}
 use Rattle.pmap_cert.specs.Compacting.{run_bits, run_end, side_of}
@@ -30,7 +30,7 @@ pub record IsReadNode (format : Format) (most : ℕ) (table : List Label) (room 
   pub read : node_due_at format most table room place ≡ Ok (tree_of table node, after)
   pub form : HasChainForm (length table) node room
   pub kind : IsNodeOf format node
-  pub lines : new ≡ old ++ lines_of node
+  pub lines : new ≡ old ++ node_lines node
 
 -- A reading of the text finds x and the rest exactly if `Begins x rest` holds.
 pub record Finds {A : Type 0} (Begins : A → List ℕ → Type 0) (found : Option (A × List ℕ)) : Type 0 where
@@ -79,7 +79,7 @@ abbrev pub BeginsWithLast : ℕ → List ℕ → ℕ → List ℕ → Type 0
 BeginsWithLast bound text = BeginsWithLineOf (λ n. nat_lt n bound) (λ n. 32 ∷ decimal n) text
 
 abbrev pub BeginsWithLine : ℕ → ℕ → ℕ → List ℕ → DueLine → List ℕ → Type 0
-BeginsWithLine format most count text = BeginsWithLineOf (fits_line format most count) line_text text
+BeginsWithLine format most count text = BeginsWithLineOf (fits_line format most count) node_line_text text
 
 abbrev pub BeginsWithHeader : List ℕ → ℕ × (Version × ℕ) → List ℕ → Type 0
 BeginsWithHeader text = BeginsWithLineOf fits_header format_header text
@@ -88,17 +88,17 @@ BeginsWithHeader text = BeginsWithLineOf fits_header format_header text
 abbrev pub header_name : ℕ → Version → List ℕ
 header_name format version = join_with_byte 32 (codes "flowlabel-cert" ∷ format_word format ∷ version_word version ∷ [])
 
-pub record Then {A B : Type 0} (First : A → List ℕ → Type 0) (Second : List ℕ → B → List ℕ → Type 0) (both : A × B) (rest : List ℕ) : Type 0 where
+pub record BeginsWithBoth {A B : Type 0} (First : A → List ℕ → Type 0) (Second : List ℕ → B → List ℕ → Type 0) (both : A × B) (rest : List ℕ) : Type 0 where
   pub middle : List ℕ
   pub first : First both.0 middle
   pub second : Second middle both.1 rest
 
 abbrev pub BeginsWithClaim : ℕ → ℕ → List ℕ → ℕ × List ℕ → List ℕ → Type 0
-BeginsWithClaim bound count text = Then (BeginsWithNumber bound text) (BeginsWithSet count 0)
+BeginsWithClaim bound count text = BeginsWithBoth (BeginsWithNumber bound text) (BeginsWithSet count 0)
 
 abbrev pub BeginsWithChain : ℕ → ℕ → List ℕ → ℕ × (List Bool × (ℕ × List ℕ)) → List ℕ → Type 0
 BeginsWithChain most count text =
-    Then (BeginsWithNumber (2 ^ 32) text) (λ middle. Then (BeginsWithBits most middle) (BeginsWithClaim count count))
+    BeginsWithBoth (BeginsWithNumber (2 ^ 32) text) (λ middle. BeginsWithBoth (BeginsWithBits most middle) (BeginsWithClaim count count))
 
 abbrev pub node_from : List DueLine → ℕ → Node
 node_from lines number = first_node (nodes_of (drop number lines))

@@ -1,6 +1,6 @@
 use Rattle.std.specs.Prelude.{List, [], ◌∷◌, ◌++◌, codes, map, ℕ, ◌≡◌, ◌^◌, ◌<◌, ◌≤◌, All, IsTrue, fold, length, unwrap_or}
 use Rattle.std.specs.Option.{ForSome, option_map_or}
-use Rattle.std.specs.List.{IsDistinct, flat_map}
+use Rattle.std.specs.List.{IsDistinct}
 use Rattle.prefix_keys.specs.Print.{block_text}
 use Rattle.prefix_keys.specs.declared.version.Version.{Version}
 use Rattle.prefix_keys.specs.Block.{width_of}
@@ -9,34 +9,36 @@ use Rattle.pmap_text.specs.MapModel.{Label, MapModel, map_label}
 use Rattle.pmap_text.specs.Label.{is_label, with_label}
 use Rattle.pmap_text.specs.Reading.{label_limit, mapping_limit, unknown}
 use Rattle.pmap_cert.specs.Acceptance.{begins_before, HasBlock}
-use Rattle.pmap_cert.specs.CertificateText.{version_word}
+use Rattle.pmap_cert.specs.CertificateText.{text_of_lines, version_word}
 use Rattle.pmap_text.specs.Sorting.{in_order}
 
--- The printed text of a prefix list: `map-name NAME` if there is a name, `mode VERSION`, and `BLOCK LABEL` for each
--- entry, in order of their first addresses, and the shorter prefix first of two with the same one.
-abbrev pub list_text : ListModel → List ℕ
-list_text l =
-    flat_map (λ line. line ++ 10 ∷ []) (option_map_or (λ name. (codes "map-name" ++ 32 ∷ name) ∷ []) l.name []
-    ++ (codes "mode" ++ 32 ∷ version_word l.version)
-    ∷ map (λ p. block_text l.version p.start p.bits ++ 32 ∷ p.label) (in_order begins_before l.prefixes))
-
--- Parts of this text.
-
+-- the line of an entry: `BLOCK LABEL`
 abbrev pub entry_line : Version → Prefix → List ℕ
 entry_line version p = block_text version p.start p.bits ++ 32 ∷ p.label
 
+-- the entries in order of their first addresses, and the shorter prefix first of two with the same one
 abbrev pub entries_in_order : List Prefix → List Prefix
 entries_in_order ps = in_order begins_before ps
+
+-- the printed text of a prefix list: `map-name NAME` if there is a name, `mode VERSION`, and the lines of the entries in
+-- order
+abbrev pub list_text : ListModel → List ℕ
+list_text l =
+    text_of_lines (option_map_or (λ name. (codes "map-name" ++ 32 ∷ name) ∷ []) l.name []
+    ++ (codes "mode" ++ 32 ∷ version_word l.version)
+    ∷ map (entry_line l.version) (entries_in_order l.prefixes))
+
+-- the label texts of entries, in the order of first occurrence
+abbrev pub labels_of : List Prefix → List Label
+labels_of prefixes = fold with_label [] (map (λ p. p.label) prefixes)
+
+-- Below: only contracts of parts and proofs use these; no promise of the program rests on them.
 
 -- A prefix list whose printed text can be read again.
 
 -- the entry has a block of the version and a well-formed label
 abbrev pub IsPrintedEntry : Version → Prefix → Type 0
 IsPrintedEntry version p = HasBlock (width_of version) p × IsTrue (is_label p.label)
-
--- the label texts of entries, in the order of first occurrence
-abbrev pub labels_of : List Prefix → List Label
-labels_of prefixes = fold with_label [] (map (λ p. p.label) prefixes)
 
 -- each entry has a block and a well-formed label, no two blocks are equal, and the name is well formed
 pub record IsWellFormed (l : ListModel) : Type 0 where

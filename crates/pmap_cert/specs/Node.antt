@@ -6,7 +6,7 @@ use Rattle.std.specs.Coded.{Coded, code_by, coded_bool, coded_list, coded_ℕ, c
 use Rattle.pmap_text.specs.MapModel.{Label}
 use Rattle.pmap_text.specs.MapText.{text_at}
 use Rattle.pmap_cert.specs.CertificateText.{ChainLine, DueLine, HasRoomBelow, InnerLine, IsAscending-prop, LeafLine}
-pub use Rattle.pmap_cert.specs.CertificateText.{HasChainForm, line_text, lines_of}
+pub use Rattle.pmap_cert.specs.CertificateText.{HasChainForm, node_line_text, node_lines}
 use Rattle.pmap_cert.specs.CertificateModel.{ChainNode, ClaimOf, InnerNode, IsPlain, LeafNode, Tree, TreeOf, map_tree}
 
 -- a node with label numbers, as the code has it
@@ -63,7 +63,7 @@ node_of (ChainLine cost bits side numbers) = ChainNode (claiming cost numbers) b
 -- the lines are those of one node and of the nodes below it
 pub record IsTree (lines : List DueLine) : Type 0 where
   pub node : Node
-  pub is : lines ≡ lines_of node
+  pub is : lines ≡ node_lines node
 
 -- an inner node's line takes the next two nodes as its halves, and a chain's line the next as its end
 abbrev pub joined : ClaimOf ℕ → List Node → List Node
@@ -123,12 +123,12 @@ line_code =
     (coded⊎ coded_ℕ (coded⊎ (coded× coded_ℕ (coded_list coded_ℕ)) (coded× (coded× coded_ℕ (coded_list coded_bool)) (coded× coded_ℕ (coded_list coded_ℕ)))))
     split_line join_line joined_line
 
-pub nodes-lines : (node : Node) (rest : List DueLine) → nodes_of (lines_of node ++ rest) ≡ node ∷ nodes_of rest
+pub nodes-lines : (node : Node) (rest : List DueLine) → nodes_of (node_lines node ++ rest) ≡ node ∷ nodes_of rest
 nodes-lines (LeafNode number) rest = refl
 nodes-lines (InnerNode claim lower upper) rest =
-    ap (λ (ls : List DueLine). joined claim (nodes_of ls)) (append_assoc (lines_of lower) (lines_of upper) rest)
-    ∙ ap (joined claim) (nodes-lines lower (lines_of upper ++ rest) ∙ ap (λ (ns : List Node). lower ∷ ns) (nodes-lines upper rest))
+    ap (λ (ls : List DueLine). joined claim (nodes_of ls)) (append_assoc (node_lines lower) (node_lines upper) rest)
+    ∙ ap (joined claim) (nodes-lines lower (node_lines upper ++ rest) ∙ ap (λ (ns : List Node). lower ∷ ns) (nodes-lines upper rest))
 nodes-lines (ChainNode claim bits side end) rest = ap (chained claim bits side) (nodes-lines end rest)
 
 abbrev pub node_code : Coded Node
-node_code = code_by (List DueLine) (coded_list line_code) (λ node. lines_of node ++ []) (λ lines. first_node (nodes_of lines)) (λ node. ap first_node (nodes-lines node []))
+node_code = code_by (List DueLine) (coded_list line_code) (λ node. node_lines node ++ []) (λ lines. first_node (nodes_of lines)) (λ node. ap first_node (nodes-lines node []))

@@ -1,6 +1,6 @@
 use Rattle.std.specs.Prelude.{◌≡◌, ◌≢◌, ℕ, [], ◌∷◌, ◌++◌, All, Err, IfErr, IfOk, Ok, Result, drop, length, map, true}
 use Rattle.pmap_cert.specs.Format.{format_number}
-use Rattle.pmap_cert.specs.FormatReading.{NoMemory, Place, fits_line, line_due_at, line_text}
+use Rattle.pmap_cert.specs.FormatReading.{NoMemory, Place, fits_line, line_due_at, node_line_text}
 use Rattle.pmap_cert.specs.Packed.{Node, line_of}
 use Rattle.pmap_cert.specs.declared.fault.CertFault.{CertFault}
 use Rattle.pmap_cert.specs.declared.node_line.LineLimits.{LineLimits}
@@ -10,7 +10,7 @@ use Rattle.pmap_cert.specs.declared.node_source.NodeSource.TheVariants.{Nodes, T
 -- the rest of the text, or of the text that the nodes' lines have
 abbrev pub place_in : NodeSource → Place
 place_in (Text lines) = lines
-place_in (Nodes rest) = record { number = rest.number; pieces = map line_text (drop rest.number rest.nodes.now) ++ [] ∷ [] }
+place_in (Nodes rest) = record { number = rest.number; pieces = map node_line_text (drop rest.number rest.nodes.now) ++ [] ∷ [] }
 
 -- Each line of the nodes fits a certificate of this format with `count` labels for addresses of `most` bits. Lines of a
 -- text are tested when they are read.

@@ -6,7 +6,7 @@ ghost use Rattle.pmap_text.specs.ListModel.{ListModel};
 ghost use Rattle.pmap_text.specs.MapModel.{Label, MapModel};
 ghost use Rattle.pmap_cert.specs.Acceptance.{IsAccepted};
 ghost use Rattle.pmap_cert.specs.CertificateText.{HasFormatText, HasTextForm, certificate_text};
-ghost use Rattle.pmap_cert.specs.CertificateModel.{CertificateModel, InnerNode, LeafNode, Claim, Tree, claim_of, IsOfFormat, IsPlain, chain_claim, opened, opened_certificate, claim_by_bits, IsSameClaim};
+ghost use Rattle.pmap_cert.specs.CertificateModel.{CertificateModel, InnerNode, LeafNode, Claim, Tree, claim_of, IsOfFormat, IsPlain, chain_claim, opened_tree, opened_certificate, claim_by_bits, IsSameClaim};
 ghost use Rattle.pmap_cert.specs.Compacting.{HasNoRun, IsSameShape, IsPath, OpensTo, compact, compacted, line_count, run_bits, run_compacted, run_end, side_of};
 ghost use Rattle.pmap_cert.specs.FormatReading.{format_reading, CertFault};
 
@@ -46,7 +46,7 @@ pub fn compact_has_no_more_lines()
 /// same claims except at the inner nodes below a chain's top. No run is left in the compacted certificate.
 pub fn compact_opens_to_the_same()
     ensures shape { (c : CertificateModel) → c.format ≡ 1 → IsPlain c.root →
-        IsSameShape (opened (compact c).root) c.root }
+        IsSameShape (opened_tree (compact c).root) c.root }
     ensures claims { (c : CertificateModel) → c.format ≡ 1 → IsPlain c.root → OpensTo (compact c).root c.root }
     ensures runs { (c : CertificateModel) → c.format ≡ 1 → IsPlain c.root → HasNoRun (compact c).root }
 {}

@@ -2,7 +2,7 @@
 ghost use Rattle.std.specs.Prelude.{◌≡◌, ◌<◌, [], IfOk, IsSome, MatchOption, OnOk, length, nat_eq, option_map};
 ghost use Rattle.pmap_cert.specs.Certificate.{certificate_of};
 ghost use Rattle.pmap_cert.specs.CertificateModel.{IsPlain};
-ghost use Rattle.pmap_cert.specs.CertificateText.{certificate_text, lines_of};
+ghost use Rattle.pmap_cert.specs.CertificateText.{certificate_text, node_lines};
 ghost use Rattle.pmap_cert.specs.Compacting.{compact, compacted, is_side, leaf_label, side_of};
 ghost use Rattle.pmap_cert.specs.Packed.{bits_in};
 ghost use Rattle.pmap_cert.specs.Inner.{AreEndsFrom, ArePlain, EndsAt, HasHalves, HasPlace, IsLong, IsRun, IsShallow, IsShort, IsStep, node_from};
@@ -147,7 +147,7 @@ fn compact_node<S: NodeSink>(
     number: usize,
 ) -> Result<(), AllocError>
     requires { HasPlace nodes.now ends.now number }
-    ensures { OnOk result (S.has_added out.old (lines_of (compacted nat_eq (node_from nodes.now number))) out.new) }
+    ensures { OnOk result (S.has_added out.old (node_lines (compacted nat_eq (node_from nodes.now number))) out.new) }
 {
     let Some(halves) = halves_of(nodes, ends, number) else {
         out.add(nodes.node(number))?;
@@ -176,7 +176,7 @@ fn compact_node<S: NodeSink>(
 fn push_compacted<S: NodeSink>(out: &mut S, alloc: Global, root: &Root) -> Result<(), AllocError>
     requires plain { IsPlain root.now }
     requires shallow { IsShallow root.now }
-    ensures { OnOk result (S.has_added out.old (lines_of (compacted nat_eq root.now)) out.new) }
+    ensures { OnOk result (S.has_added out.old (node_lines (compacted nat_eq root.now)) out.new) }
 {
     let nodes = root.nodes();
     let ends = ends_of(alloc, nodes)?;

@@ -6,7 +6,8 @@ ghost use Rattle.pmap_text.specs.MapModel.{Label, MapModel};
 ghost use Rattle.pmap_text.specs.Reading.{map_reading};
 ghost use Rattle.pmap_cert.specs.Acceptance.{IsAccepted, IsLeast, HasListForm, HasItsLabels, IsMinimalPair};
 ghost use Rattle.pmap_cert.specs.CertificateText.{HasTextForm};
-ghost use Rattle.pmap_cert.specs.CertificateModel.{CertificateModel, Claim, claim_of, has, IsClaimWith, IsSameClaim, exact_claim};
+ghost use Rattle.pmap_cert.specs.CertificateModel.{CertificateModel, Claim, claim_of, IsClaimWith, IsSameClaim, exact_claim};
+ghost use Rattle.pmap_text.specs.Label.{has_label};
 
 /// An accepted certificate is enough, whoever made it: its list labels every address as the map does, and no list that
 /// does so has fewer entries. Each such list has at least as many entries as the root's cost plus one.
@@ -69,10 +70,10 @@ pub fn minimal_list_is_in_order()
 /// The exact claim of two claims depends only on their costs and sets, however these are listed: if a label is common,
 /// it is the sum of the costs with the common labels, otherwise one more with the labels of either.
 pub fn exact_claim_is_of_sets()
-    ensures common { (p r : Claim) (x : Label) → IsTrue (has p.labels x) → IsTrue (has r.labels x) →
-        IsClaimWith (exact_claim p r) (p.cost + r.cost) (λ y. has p.labels y && has r.labels y) }
-    ensures apart { (p r : Claim) → ((x : Label) → (has p.labels x && has r.labels x) ≡ false) →
-        IsClaimWith (exact_claim p r) (p.cost + r.cost + 1) (λ y. has p.labels y || has r.labels y) }
+    ensures common { (p r : Claim) (x : Label) → IsTrue (has_label p.labels x) → IsTrue (has_label r.labels x) →
+        IsClaimWith (exact_claim p r) (p.cost + r.cost) (λ y. has_label p.labels y && has_label r.labels y) }
+    ensures apart { (p r : Claim) → ((x : Label) → (has_label p.labels x && has_label r.labels x) ≡ false) →
+        IsClaimWith (exact_claim p r) (p.cost + r.cost + 1) (λ y. has_label p.labels y || has_label r.labels y) }
     ensures same { (p r p' r' : Claim) → IsSameClaim p p' → IsSameClaim r r' →
         IsSameClaim (exact_claim p r) (exact_claim p' r') }
 {}

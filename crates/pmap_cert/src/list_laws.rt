@@ -3,8 +3,7 @@
 ghost use Rattle.std.specs.Prelude.{◌≡◌, ◌≤◌, ℕ, List, length, Ok};
 ghost use Rattle.std.specs.List.{IsDistinct};
 ghost use Rattle.std.specs.List.Sorted.{IsPermutation};
-ghost use Rattle.pmap_text.specs.Inner.{same_key};
-ghost use Rattle.pmap_text.specs.ListModel.{ListModel, Prefix};
+ghost use Rattle.pmap_text.specs.ListModel.{ListModel, Prefix, same_start_and_bits};
 ghost use Rattle.pmap_text.specs.MapModel.{MapModel};
 ghost use Rattle.pmap_text.specs.Reading.{label_limit, mapping_limit, map_reading, list_reading};
 ghost use Rattle.pmap_cert.specs.Acceptance.{IsAccepted, IsInOrder, IsMinimalPair};
@@ -14,8 +13,8 @@ ghost use Rattle.pmap_cert.specs.ListText.{list_text, entries_in_order, CanBeRea
 /// A list is printed in the only order in which each entry precedes all that follow it. A list in that order keeps it.
 pub fn printed_order_is_one()
     ensures entries { (ps : List Prefix) → IsPermutation ps (entries_in_order ps) }
-    ensures order { (ps : List Prefix) → IsDistinct same_key ps → IsInOrder (entries_in_order ps) }
-    ensures one { (ps rs : List Prefix) → IsDistinct same_key ps → IsPermutation ps rs → IsInOrder rs →
+    ensures order { (ps : List Prefix) → IsDistinct same_start_and_bits ps → IsInOrder (entries_in_order ps) }
+    ensures one { (ps rs : List Prefix) → IsDistinct same_start_and_bits ps → IsPermutation ps rs → IsInOrder rs →
         rs ≡ entries_in_order ps }
     ensures kept { (ps : List Prefix) → IsInOrder ps → entries_in_order ps ≡ ps }
 {}

@@ -1,6 +1,6 @@
 //! What the nodes of a certificate are added to, in the order of their lines.
 ghost use Rattle.std.specs.Prelude.{◌≡◌, ◌++◌, ◌∷◌, [], List, OnOk, map};
-ghost use Rattle.pmap_cert.specs.CertificateText.{DueLine, line_text, text_of_lines};
+ghost use Rattle.pmap_cert.specs.CertificateText.{DueLine, node_line_text, text_of_lines};
 ghost use Rattle.pmap_cert.specs.Packed.{line_of};
 ghost use Rattle.pmap_cert.specs.Sinks.{lines-joined, texts-joined};
 
@@ -34,7 +34,7 @@ impl NodeSink for Nodes {
 }
 
 impl NodeSink for Vec<u8> {
-    ghost has_added = { λ old lines new. new.items ≡ old.items ++ text_of_lines (map line_text lines) };
+    ghost has_added = { λ old lines new. new.items ≡ old.items ++ text_of_lines (map node_line_text lines) };
 
     ghost has_added_both = { λ old mid new lines more. texts-joined old.items mid.items new.items lines more };
 

@@ -1,5 +1,5 @@
 ghost use Rattle.std.specs.Prelude.{◌≡◌, IfOk, reverse};
-ghost use Rattle.pmap_cert.specs.Node.{IsTree, Node, lines_of};
+ghost use Rattle.pmap_cert.specs.Node.{IsTree, Node, node_lines};
 
 use crate::nodes::Nodes;
 use std::alloc::{AllocError, Global};
@@ -29,7 +29,7 @@ impl Root {
     /// Returns the tree with these lines, which must be those of one node and the nodes below it.
     pub fn new(nodes: Nodes) -> Root
         requires { IsTree nodes }
-        ensures { (node : Node) → nodes ≡ lines_of node → result ≡ node }
+        ensures { (node : Node) → nodes ≡ node_lines node → result ≡ node }
     {
         Root { nodes }
     }
@@ -37,7 +37,7 @@ impl Root {
     /// Returns the tree whose lines in reverse order are these: the line of a node follows those of the nodes below it.
     pub fn of_reversed(nodes: Nodes) -> Root
         requires { IsTree (reverse nodes) }
-        ensures { (node : Node) → reverse nodes ≡ lines_of node → result ≡ node }
+        ensures { (node : Node) → reverse nodes ≡ node_lines node → result ≡ node }
     {
         let mut nodes = nodes;
         nodes.reverse();
@@ -46,7 +46,7 @@ impl Root {
 
     /// Returns the lines of the tree.
     pub fn nodes(&self) -> &Nodes
-        ensures { result.now ≡ lines_of self.now }
+        ensures { result.now ≡ node_lines self.now }
     {
         &self.nodes
     }

@@ -3,7 +3,7 @@ ghost use Rattle.std.specs.Prelude.{◌≡◌, ◌++◌, ◌∷◌, [], IfOk, On
 ghost use Rattle.std.specs.List.{flat_map};
 ghost use Rattle.std.specs.Fmt.{decimal};
 ghost use Rattle.pmap_cert.specs.Certificate.{certificate_of};
-ghost use Rattle.pmap_cert.specs.CertificateText.{ChainLine, InnerLine, LeafLine, bit_digits, certificate_text, format_header, format_word, line_text, text_of_lines, version_word};
+ghost use Rattle.pmap_cert.specs.CertificateText.{ChainLine, InnerLine, LeafLine, bit_digits, certificate_text, format_header, format_word, node_line_text, text_of_lines, version_word};
 ghost use Rattle.pmap_cert.specs.Format.{format_number};
 ghost use Rattle.pmap_cert.specs.Packed.{bits_in, line_of};
 
@@ -67,7 +67,7 @@ fn push_set(out: &mut Vec<u8>, set: &[LabelId]) -> Result<(), AllocError>
 
 #[tactic(auto, using(crate::proofs::Written::kept_then))]
 fn push_leaf(out: &mut Vec<u8>, id: LabelId) -> Result<(), AllocError>
-    ensures ok { OnOk result (out.new.items ≡ out.old.items ++ (line_text (LeafLine id.0) ++ 10 ∷ [])) }
+    ensures ok { OnOk result (out.new.items ≡ out.old.items ++ (node_line_text (LeafLine id.0) ++ 10 ∷ [])) }
     ensures kept { take (length out.old.items) out.new.items ≡ out.old.items }
 {
     out.push(b'l')?;
@@ -79,7 +79,7 @@ fn push_leaf(out: &mut Vec<u8>, id: LabelId) -> Result<(), AllocError>
 #[tactic(auto, using(crate::proofs::Written::kept_then))]
 fn push_inner(out: &mut Vec<u8>, claim: Claim) -> Result<(), AllocError>
     ensures ok { OnOk result (out.new.items ≡ out.old.items
-        ++ (line_text (InnerLine claim.entry.cost (map (λ id. id.0) claim.entry.set.now)) ++ 10 ∷ [])) }
+        ++ (node_line_text (InnerLine claim.entry.cost (map (λ id. id.0) claim.entry.set.now)) ++ 10 ∷ [])) }
     ensures kept { take (length out.old.items) out.new.items ≡ out.old.items }
 {
     out.push(b'n')?;
@@ -109,7 +109,7 @@ fn push_bits(out: &mut Vec<u8>, path: &Path) -> Result<(), AllocError>
 
 #[tactic(auto, using(crate::proofs::Written::kept_then))]
 fn push_chain(out: &mut Vec<u8>, claim: Claim, path: &Path, side: LabelId) -> Result<(), AllocError>
-    ensures ok { OnOk result (out.new.items ≡ out.old.items ++ (line_text
+    ensures ok { OnOk result (out.new.items ≡ out.old.items ++ (node_line_text
         (ChainLine claim.entry.cost (bits_in path.now) side.0 (map (λ id. id.0) claim.entry.set.now)) ++ 10 ∷ [])) }
     ensures kept { take (length out.old.items) out.new.items ≡ out.old.items }
 {
@@ -125,7 +125,7 @@ fn push_chain(out: &mut Vec<u8>, claim: Claim, path: &Path, side: LabelId) -> Re
 /// Appends the line of a node. If an allocation fails, `out` may have a part of it.
 #[inline(always)]
 pub fn push_whole(out: &mut Vec<u8>, node: Node) -> Result<(), AllocError>
-    ensures ok { OnOk result (out.new.items ≡ out.old.items ++ (line_text (line_of node.entry) ++ 10 ∷ [])) }
+    ensures ok { OnOk result (out.new.items ≡ out.old.items ++ (node_line_text (line_of node.entry) ++ 10 ∷ [])) }
     ensures kept { take (length out.old.items) out.new.items ≡ out.old.items }
 {
     match node {
@@ -138,7 +138,7 @@ pub fn push_whole(out: &mut Vec<u8>, node: Node) -> Result<(), AllocError>
 /// Appends the line of a node. If an allocation fails, `out` is unchanged.
 #[inline(always)]
 pub fn push_line(out: &mut Vec<u8>, node: Node) -> Result<(), AllocError>
-    ensures ok { OnOk result (out.new.items ≡ out.old.items ++ (line_text (line_of node.entry) ++ 10 ∷ [])) }
+    ensures ok { OnOk result (out.new.items ≡ out.old.items ++ (node_line_text (line_of node.entry) ++ 10 ∷ [])) }
     ensures err { OnErr result (out.new.items ≡ out.old.items) }
 {
     let len = out.len();
@@ -150,7 +150,7 @@ pub fn push_line(out: &mut Vec<u8>, node: Node) -> Result<(), AllocError>
 }
 
 pub fn push_nodes(out: &mut Vec<u8>, nodes: &Nodes) -> Result<(), AllocError>
-    ensures { OnOk result (out.new.items ≡ out.old.items ++ text_of_lines (map line_text nodes.now)) }
+    ensures { OnOk result (out.new.items ≡ out.old.items ++ text_of_lines (map node_line_text nodes.now)) }
 {
     // Usual nodes take less. Memory that isn't written to isn't used.
     out.reserve(nodes.len().saturating_mul(32))?;

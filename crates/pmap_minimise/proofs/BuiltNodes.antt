@@ -12,7 +12,7 @@ use Rattle.pmap_text.specs.declared.map_text.MapText.{MapText}
 use Rattle.pmap_cert.specs.FormatReading.{ChainLine, DueLine, InnerLine, LeafLine}
 use Rattle.pmap_cert.specs.CertificateModel.{ChainNode, ClaimOf, InnerNode, LeafNode, claim_of}
 use Rattle.pmap_cert.specs.Compacting.{compacted, leaf_label, run_bits, run_end, side_of}
-use Rattle.pmap_cert.specs.Node.{Node, lines_of, node_of}
+use Rattle.pmap_cert.specs.Node.{Node, node_lines, node_of}
 use Rattle.pmap_cert.specs.CertificateText.{IsAscending}
 use Rattle.pmap_cert.specs.Inner.{IsShort, side_below}
 use Rattle.pmap_cert.proofs.CompactNodes.{compact-chain, compact-short}
@@ -21,7 +21,7 @@ use Rattle.pmap_text.specs.MapModel.{MapModel}
 use Rattle.pmap_text.specs.Label.{IsLabelTable}
 use Rattle.pmap_text.proofs.Ends.{ends_most}
 use Rattle.pmap_text.proofs.Settling.{map_is}
-use Rattle.pmap_minimise.specs.Runs.{AreCountable, AreCountedHalves, HasNoLongRun, IsCounted, IsChoice, IsMade, IsMapOn, AreSteps, IsRunTo, IsStepInto, IsStop, own_label}
+use Rattle.pmap_minimise.specs.Runs.{AreCountable, AreCountedHalves, HasNoLongRun, IsCounted, IsChoice, IsWindowNode, IsMapOn, AreSteps, IsRunTo, IsStepInto, IsStop, own_label}
 use Rattle.pmap_text.specs.Windows.{IsWindow, window_number}
 use Rattle.pmap_text.specs.declared.stretches.window.Window.{Window}
 use Rattle.pmap_minimise.specs.Built.{AddsInner, AreHalves, IsBuilt, IsBuiltIn, claim_at, last_claim}
@@ -42,50 +42,50 @@ pub record HasClaimOf (lines : List DueLine) (number : ℕ) (node : Node) : Type
 
 -- the last of a node's lines in reverse order has the claim of the node
 module _ (front more : List DueLine) where
-  has-claim : (node : Node) (line : DueLine) (rest : List DueLine) → lines_of node ≡ line ∷ rest → claim_of (node_of line) ≡ claim_of node
-      → HasClaimOf ((front ++ reverse (lines_of node)) ++ more) (length (front ++ reverse (lines_of node)) - 1) node
+  has-claim : (node : Node) (line : DueLine) (rest : List DueLine) → node_lines node ≡ line ∷ rest → claim_of (node_of line) ≡ claim_of node
+      → HasClaimOf ((front ++ reverse (node_lines node)) ++ more) (length (front ++ reverse (node_lines node)) - 1) node
   has-claim node line rest is claim =
       let before = front ++ reverse rest in
-      let whole : front ++ reverse (lines_of node) ≡ before ++ line ∷ [] =
+      let whole : front ++ reverse (node_lines node) ≡ before ++ line ∷ [] =
       ap (λ (l : List DueLine). front ++ reverse l) is ∙ ap (λ (l : List DueLine). front ++ l) (reverse-append (line ∷ []) rest) ∙ sym (append_assoc front (reverse rest) (line ∷ [])) in
-      let number : length (front ++ reverse (lines_of node)) - 1 ≡ length before = omega (arith, ap length whole, length-append before (line ∷ [])) in
-      let there : slice_index_or ((front ++ reverse (lines_of node)) ++ more) (length (front ++ reverse (lines_of node)) - 1) (LeafLine 0) ≡ line =
+      let number : length (front ++ reverse (node_lines node)) - 1 ≡ length before = omega (arith, ap length whole, length-append before (line ∷ [])) in
+      let there : slice_index_or ((front ++ reverse (node_lines node)) ++ more) (length (front ++ reverse (node_lines node)) - 1) (LeafLine 0) ≡ line =
       (λ i. get_or (whole i ++ more) (number i) (LeafLine 0)) ∙ ap (λ (l : List DueLine). get_or l (length before) (LeafLine 0)) (append_assoc before (line ∷ []) more)
       ∙ get_or-append_seam before line more (LeafLine 0) in
       record {
-        inside = omega (arith, length-append (front ++ reverse (lines_of node)) more, ap length whole, length-append before (line ∷ []));
+        inside = omega (arith, length-append (front ++ reverse (node_lines node)) more, ap length whole, length-append before (line ∷ []));
         claim = ap (λ (l : DueLine). claim_of (node_of l)) there ∙ claim;
       }
 
-  pub node-claim : (node : Node) → HasClaimOf ((front ++ reverse (lines_of node)) ++ more) (length (front ++ reverse (lines_of node)) - 1) node
+  pub node-claim : (node : Node) → HasClaimOf ((front ++ reverse (node_lines node)) ++ more) (length (front ++ reverse (node_lines node)) - 1) node
   node-claim (LeafNode label) = has-claim (LeafNode label) _ _ refl refl
   node-claim (InnerNode claim lower upper) = has-claim (InnerNode claim lower upper) _ _ refl refl
   node-claim (ChainNode claim bits side end) = has-claim (ChainNode claim bits side end) _ _ refl refl
 
 -- lines that end with those of a node, in reverse order
-pub last-claim : (front lines : List DueLine) (node : Node) → lines ≡ front ++ reverse (lines_of node) → HasClaimOf lines (length lines - 1) node
+pub last-claim : (front lines : List DueLine) (node : Node) → lines ≡ front ++ reverse (node_lines node) → HasClaimOf lines (length lines - 1) node
 last-claim front lines node are =
     subst (λ (l : List DueLine). HasClaimOf l (length l - 1) node) (sym are)
-    (subst (λ (l : List DueLine). HasClaimOf l (length (front ++ reverse (lines_of node)) - 1) node) (append-nil (front ++ reverse (lines_of node))) (node-claim front [] node))
+    (subst (λ (l : List DueLine). HasClaimOf l (length (front ++ reverse (node_lines node)) - 1) node) (append-nil (front ++ reverse (node_lines node))) (node-claim front [] node))
 
 -- and lines to which those of another node were added
-pub earlier-claim : (front middle lines : List DueLine) (node other : Node) → middle ≡ front ++ reverse (lines_of node) → lines ≡ middle ++ reverse (lines_of other)
+pub earlier-claim : (front middle lines : List DueLine) (node other : Node) → middle ≡ front ++ reverse (node_lines node) → lines ≡ middle ++ reverse (node_lines other)
     → HasClaimOf lines (length middle - 1) node
 earlier-claim front middle lines node other are more =
     subst (λ (l : List DueLine). HasClaimOf l (length middle - 1) node) (sym more)
-    (subst (λ (l : List DueLine). HasClaimOf (l ++ reverse (lines_of other)) (length l - 1) node) (sym are) (node-claim front (reverse (lines_of other)) node))
+    (subst (λ (l : List DueLine). HasClaimOf (l ++ reverse (node_lines other)) (length l - 1) node) (sym are) (node-claim front (reverse (node_lines other)) node))
 
 -- an inner node's line completes the lines of its halves
-pub inner-lines : (old middle after new : List DueLine) (claim : ClaimOf ℕ) (lower upper : Node) → middle ≡ old ++ reverse (lines_of upper) → after ≡ middle ++ reverse (lines_of lower)
-    → new ≡ after ++ InnerLine claim.cost claim.labels ∷ [] → new ≡ old ++ reverse (lines_of (InnerNode claim lower upper))
+pub inner-lines : (old middle after new : List DueLine) (claim : ClaimOf ℕ) (lower upper : Node) → middle ≡ old ++ reverse (node_lines upper) → after ≡ middle ++ reverse (node_lines lower)
+    → new ≡ after ++ InnerLine claim.cost claim.labels ∷ [] → new ≡ old ++ reverse (node_lines (InnerNode claim lower upper))
 inner-lines old middle after new claim lower upper high low own =
     let line = InnerLine claim.cost claim.labels ∷ [] in
-    let up = reverse (lines_of upper) in
-    let down = reverse (lines_of lower) in
+    let up = reverse (node_lines upper) in
+    let down = reverse (node_lines lower) in
     own ∙ (λ i. (low ∙ ap (λ (l : List DueLine). l ++ down) high) i ++ line)
     ∙ append_assoc (old ++ up) down line ∙ append_assoc old up (down ++ line)
-    ∙ ap (λ (l : List DueLine). old ++ l) (sym (append_assoc up down line) ∙ ap (λ (l : List DueLine). l ++ line) (sym (reverse-append (lines_of lower) (lines_of upper)))
-    ∙ sym (reverse-append line (lines_of lower ++ lines_of upper)))
+    ∙ ap (λ (l : List DueLine). old ++ l) (sym (append_assoc up down line) ∙ ap (λ (l : List DueLine). l ++ line) (sym (reverse-append (node_lines lower) (node_lines upper)))
+    ∙ sym (reverse-append line (node_lines lower ++ node_lines upper)))
 
 pub are-halves : (lines : List DueLine) (upper : ℕ) (low high : Node) → HasClaimOf lines (length lines - 1) low → HasClaimOf lines upper high
     → IsAscending (2 ^ 32) 0 (claim_of low).labels → IsAscending (2 ^ 32) 0 (claim_of high).labels → (claim_of low).cost + (claim_of high).cost + 1 < 2 ^ 32 → AreHalves lines upper
@@ -125,7 +125,7 @@ leaf-built s a n old new is own fits lines = record {
   node = LeafNode n;
   made = leaf-made s a n is own fits;
   opens = subst (λ (c : Node). Opens c (LeafNode n)) (sym (compacted-leaf nat_eq n)) refl;
-  lines_are = lines ∙ ap (λ (node : Node). old ++ reverse (lines_of node)) (sym (compacted-leaf nat_eq n));
+  lines_are = lines ∙ ap (λ (node : Node). old ++ reverse (node_lines node)) (sym (compacted-leaf nat_eq n));
 }
 
 -- a node with a label is a leaf
@@ -135,9 +135,9 @@ leaf-of (InnerNode claim lower upper) n is = absurd (none-some n is)
 leaf-of (ChainNode claim bits side end) n is = absurd (none-some n is)
 
 -- The node of two halves.
-module _ (s : StretchesModel) (a low high : Window) (lower upper : Node) (are : AreCountedHalves s a low high) (low_made : IsMade s low lower) (high_made : IsMade s high upper) where
+module _ (s : StretchesModel) (a low high : Window) (lower upper : Node) (are : AreCountedHalves s a low high) (low_made : IsWindowNode s low lower) (high_made : IsWindowNode s high upper) where
   -- the run of the node has at most one bit if that of the block has
-  short-run : (claim : ClaimOf ℕ) (side : ℕ) (end : Window) → IsMade s a (InnerNode claim lower upper) → (run : IsRunTo s side a end) → run.count < 2
+  short-run : (claim : ClaimOf ℕ) (side : ℕ) (end : Window) → IsWindowNode s a (InnerNode claim lower upper) → (run : IsRunTo s side a end) → run.count < 2
       → length (run_bits nat_eq side (InnerNode claim lower upper)) < 2
   short-run claim side end made run few = by run.count few run.run
     where
@@ -214,13 +214,13 @@ halves-built s a low high old middle after new is are short upper lower adds =
           (record { lower = lower.node; upper = upper.node; low = lower.opens; high = upper.opens; node_is = refl });
       lines_are =
           inner-lines old middle after new adds.claim (compacted nat_eq lower.node) (compacted nat_eq upper.node) upper.lines_are lower.lines_are adds.lines_are
-          ∙ ap (λ (c : Node). old ++ reverse (lines_of c)) (sym compact);
+          ∙ ap (λ (c : Node). old ++ reverse (node_lines c)) (sym compact);
     }
   where
     labels : side_of lower.node upper.node ≡ option_or (own_label s low) (own_label s high)
     labels = λ i. option_or (lower.made.own i) (upper.made.own i)
 
-    few : IsMade s a (InnerNode adds.claim lower.node upper.node) → (o : Option ℕ) → option_or (own_label s low) (own_label s high) ≡ o → IsShortRun s a o
+    few : IsWindowNode s a (InnerNode adds.claim lower.node upper.node) → (o : Option ℕ) → option_or (own_label s low) (own_label s high) ≡ o → IsShortRun s a o
         → IsShort (InnerNode adds.claim lower.node upper.node)
     few made None e short = λ side f. absurd (none-some side (sym (labels ∙ e) ∙ f))
     few made (Some other) e short = λ side f.
@@ -268,14 +268,14 @@ chain-built s a low high end old middle new side number bits is are label fits r
       opens = subst (λ (c : Node). Opens c node) (sym compact_is) opens;
       lines_are =
           own ∙ (λ i. built.lines_are i ++ ChainLine (cost i) (path_to (number_is i) (bits_is i)) side (side ∷ []) ∷ [])
-          ∙ append_assoc old (reverse (lines_of (compacted nat_eq built.node))) _
-          ∙ ap (λ (l : List DueLine). old ++ l) (sym (reverse-append (ChainLine claim.cost (path_to value count) side (side ∷ []) ∷ []) (lines_of (compacted nat_eq built.node))))
-          ∙ ap (λ (c : Node). old ++ reverse (lines_of c)) (sym compact_is);
+          ∙ append_assoc old (reverse (node_lines (compacted nat_eq built.node))) _
+          ∙ ap (λ (l : List DueLine). old ++ l) (sym (reverse-append (ChainLine claim.cost (path_to value count) side (side ∷ []) ∷ []) (node_lines (compacted nat_eq built.node))))
+          ∙ ap (λ (c : Node). old ++ reverse (node_lines c)) (sym compact_is);
     }
 
 -- all lines, reversed, are those of the node
-pub reversed-lines : (old new : List DueLine) (node : Node) → old ≡ [] → new ≡ old ++ reverse (lines_of node) → reverse new ≡ lines_of node
-reversed-lines old new node none is = ap reverse (is ∙ ap (λ (l : List DueLine). l ++ reverse (lines_of node)) none) ∙ reverse-reverse (lines_of node)
+pub reversed-lines : (old new : List DueLine) (node : Node) → old ≡ [] → new ≡ old ++ reverse (node_lines node) → reverse new ≡ node_lines node
+reversed-lines old new node none is = ap reverse (is ∙ ap (λ (l : List DueLine). l ++ reverse (node_lines node)) none) ∙ reverse-reverse (node_lines node)
 
 whole-window : (s : StretchesModel) (a : Window) → a.first ≡ 0 → window_number s a ≡ 0
 whole-window s a first =
@@ -284,7 +284,7 @@ whole-window s a first =
 
 -- what is built for the whole address space is the node of each map on the stretches
 pub whole-built : (s : StretchesModel) (a : Window) (old new : List DueLine) (root : Node) → a.first ≡ 0 → a.len ≡ 0 → old ≡ [] → IsBuilt s a old new
-    → ((node : Node) → reverse new ≡ lines_of node → root ≡ node) → (m : MapModel) → IsMapOn s m → IsBuiltIn m root
+    → ((node : Node) → reverse new ≡ node_lines node → root ≡ node) → (m : MapModel) → IsMapOn s m → IsBuiltIn m root
 whole-built s a old new root first len none built root_is m on =
     let room : width_of s.version - a.len ≡ width_of m.version = omega (arith, len, on.is.width) in
     let compact_is = root_is (compacted nat_eq built.node) (reversed-lines old new (compacted nat_eq built.node) none built.lines_are) in

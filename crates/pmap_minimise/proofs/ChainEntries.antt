@@ -7,12 +7,12 @@ use Rattle.prefix_keys.specs.declared.block.Block.{Block}
 use Rattle.prefix_keys.specs.declared.version.Version.{Version}
 use Rattle.pmap_text.specs.ListModel.{Prefix}
 use Rattle.pmap_text.specs.MapModel.{Label}
-use Rattle.pmap_text.specs.MapText.{text_at}
+use Rattle.pmap_text.specs.MapText.{text_at, text_if_some}
 use Rattle.pmap_text.specs.PrefixList.{prefix_of}
 use Rattle.pmap_text.specs.declared.entry.Entry.{Entry}
 use Rattle.pmap_text.specs.declared.label.LabelId.{LabelId}
 use Rattle.label_trie.specs.TrieModel.{number_of}
-use Rattle.pmap_cert.specs.CertificateModel.{ClaimOf, InnerNode, LeafNode, chosen_half, claim_of, has}
+use Rattle.pmap_cert.specs.CertificateModel.{ClaimOf, InnerNode, LeafNode, chosen_half, claim_of}
 use Rattle.pmap_cert.specs.CertificateText.{IsAscending}
 use Rattle.pmap_cert.specs.Acceptance.{entries_of, handed_on, has_inherited, least_label, own_entry}
 use Rattle.pmap_cert.specs.Node.{HasNumberForm, Node, tree_of}
@@ -20,11 +20,12 @@ use Rattle.pmap_cert.specs.Paths.{LeadsTo, digit, path_number, path_to}
 use Rattle.pmap_cert.proofs.Handed.{handed_on-leaf}
 use Rattle.pmap_cert.proofs.Paths.{path-length}
 use Rattle.pmap_cert.proofs.Sets.{bytes_eq-same, has-own}
-use Rattle.pmap_minimise.specs.Listing.{AddsEntries, IsEntryOf, text_of}
+use Rattle.pmap_minimise.specs.Listing.{AddsEntries, IsEntryOf}
 use Rattle.pmap_minimise.specs.Numbers.{IsOwn, IsSound, has_number, numbers_of}
 use Rattle.pmap_minimise.specs.Opened.{claim_above, node_over, path_node, set_above}
 use Rattle.pmap_minimise.proofs.Entered.{half-entries, handed, one-known}
 use Rattle.pmap_minimise.proofs.Paths.{above-has}
+use Rattle.pmap_text.specs.Label.{has_label}
 
 -- A property of nodes at a depth that an inner node passes on to its halves, one level deeper.
 abbrev PassesOn : (Node → ℕ → Type 0) → Type 0
@@ -59,16 +60,16 @@ module _ (Is : Node → ℕ → Type 0) (passes : PassesOn Is) where
       record { left = rest.left; room_is = omega arith; is = rest.is }
 
 -- the set has the label's text if it has the label's number
-texts-have : (table : List Label) (side : ℕ) (ns : List ℕ) → has_number ns side ≡ true → has (map (text_at table) ns) (text_at table side) ≡ true
+texts-have : (table : List Label) (side : ℕ) (ns : List ℕ) → has_number ns side ≡ true → has_label (map (text_at table) ns) (text_at table side) ≡ true
 texts-have table side [] e = e
 texts-have table side (n ∷ ns) e = by (side == n) refl e (texts-have table side ns)
   where
     x : Label
     x = text_at table side
 
-    by : (b : Bool) → (side == n) ≡ b → (b || has_number ns side) ≡ true → (has_number ns side ≡ true → has (map (text_at table) ns) x ≡ true) → has (map (text_at table) (n ∷ ns)) x ≡ true
-    by true same e rest = or_left (bytes_eq x (text_at table n)) (has (map (text_at table) ns) x) (ap (λ (k : ℕ). bytes_eq x (text_at table k)) (sym (eqb-true side n same)) ∙ bytes_eq-same x)
-    by false same e rest = or_right (bytes_eq x (text_at table n)) (has (map (text_at table) ns) x) (rest e)
+    by : (b : Bool) → (side == n) ≡ b → (b || has_number ns side) ≡ true → (has_number ns side ≡ true → has_label (map (text_at table) ns) x ≡ true) → has_label (map (text_at table) (n ∷ ns)) x ≡ true
+    by true same e rest = or_left (bytes_eq x (text_at table n)) (has_label (map (text_at table) ns) x) (ap (λ (k : ℕ). bytes_eq x (text_at table k)) (sym (eqb-true side n same)) ∙ bytes_eq-same x)
+    by false same e rest = or_right (bytes_eq x (text_at table n)) (has_label (map (text_at table) ns) x) (rest e)
 
 module _ (W : ℕ) (table : List Label) (side value : ℕ) (end : Node) where
   abbrev x : Label
@@ -81,10 +82,10 @@ module _ (W : ℕ) (table : List Label) (side value : ℕ) (end : Node) where
   set bits = map (text_at table) (set_above side (claim_of end).labels bits)
 
   -- a node whose set has the inherited label passes it on, and has no entry of its own
-  kept : (s : List Label) → has s x ≡ true → handed_on table s (Some x) ≡ Some x
+  kept : (s : List Label) → has_label s x ≡ true → handed_on table s (Some x) ≡ Some x
   kept s there = cond-true (has_inherited s (Some x)) (Some x) (Some (least_label table s)) there
 
-  none : (s : List Label) (n q : ℕ) → has s x ≡ true → own_entry W table s (Some x) n q ≡ []
+  none : (s : List Label) (n q : ℕ) → has_label s x ≡ true → own_entry W table s (Some x) n q ≡ []
   none s n q there = cond-true (has_inherited s (Some x)) [] _ there
 
   -- the entries of a run's node that passes on the side label: those of the half that the run chooses, since the side
@@ -143,7 +144,7 @@ module _ (side value bits : ℕ) (end : Node) (long : 2 ≤ bits) (block last : 
       let x = text_at table side in
       let fits = side-known count (width_of block.version - block.len) form in
       let hand = handed table ok ids block inherited old middle id (subst (IsAscending count 0) (sym claimed) (omega arith, fits, tt)) known (side ∷ []) claimed own in
-      let passed : Some x ≡ Some (text_at table id.0) = sym (handed_on-leaf table x (text_of table inherited)) ∙ hand.label in
+      let passed : Some x ≡ Some (text_at table id.0) = sym (handed_on-leaf table x (text_if_some table inherited)) ∙ hand.label in
       let len : last.len ≡ block.len + bits = let is = down.len in omega (arith, path-length value bits) in
       let deep = path-deep (HasNumberForm count) (form-passes count) side value bits end (width_of block.version - block.len) form in
       let room = deep.room_is in
@@ -155,11 +156,11 @@ module _ (side value bits : ℕ) (end : Node) (long : 2 ≤ bits) (block last : 
         entries = below.entries
             ∙ ap (λ (ps : List Prefix). ps ++ entries_of (width_of last.version) table (tree_of table end) (Some (text_at table id.0)) last.len (number_of last)) hand.adds.entries
             ∙ append_assoc (map (prefix_of table) old) _ _
-            ∙ ap (λ (ps : List Prefix). map (prefix_of table) old ++ (own_entry (width_of block.version) table (x ∷ []) (text_of table inherited) block.len (number_of block) ++ ps))
+            ∙ ap (λ (ps : List Prefix). map (prefix_of table) old ++ (own_entry (width_of block.version) table (x ∷ []) (text_if_some table inherited) block.len (number_of block) ++ ps))
             (half-entries table (tree_of table end) (Some x) (Some (text_at table id.0)) (width_of block.version) (width_of last.version) (block.len + bits) last.len
             (path_number (path_to value bits) (number_of block)) (number_of last) width (sym passed) len down.number)
             ∙ ap (λ (ps : List Prefix). map (prefix_of table) old ++ ps)
-            (sym (chain-entries (width_of block.version) table side value end bits block.len (number_of block) (text_of table inherited) long));
+            (sym (chain-entries (width_of block.version) table side value end bits block.len (number_of block) (text_if_some table inherited) long));
         fit = λ all.
             let middle_all = subst (λ (v : Version). All (IsEntryOf v count) middle) (sym down.version) (hand.adds.fit all) in
             subst (λ (v : Version). All (IsEntryOf v count) new) down.version (below.fit middle_all);

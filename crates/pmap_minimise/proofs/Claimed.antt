@@ -12,7 +12,7 @@ use Rattle.pmap_text.proofs.Finds.{All-left, All-right}
 use Rattle.pmap_cert.specs.FormatReading.{DueLine, InnerLine, LeafLine}
 use Rattle.pmap_cert.specs.CertificateText.{IsAscending}
 use Rattle.pmap_cert.specs.CertificateModel.{InnerNode, LeafNode, claim_of}
-use Rattle.pmap_cert.specs.Node.{Node, lines_of}
+use Rattle.pmap_cert.specs.Node.{Node, node_lines}
 use Rattle.label_trie.specs.Stored.{IsInnerAt, IsLeafAt, IsNodeAt}
 use Rattle.label_trie.specs.TrieModel.{IsSettledLeaf, IsUndivided, LeafModel, NodeModel, TrieModel}
 use Rattle.pmap_minimise.specs.Built.{AddsInner, AreHalves}
@@ -26,7 +26,7 @@ pub record IsClaimed (W : ℕ) (place : NodeModel) (old new : List DueLine) : Ty
   pub node : Node
   pub certified : IsCertified place.bits place.number (W - place.bits) place.leaves node
   pub ascending : IsAscending (2 ^ 32) 0 (claim_of node).labels
-  pub lines_are : new ≡ old ++ reverse (lines_of node)
+  pub lines_are : new ≡ old ++ reverse (node_lines node)
 
 leaf-claimed : (W : ℕ) (leaf : LeafModel) (id : ℕ) (old new : List DueLine) → id < 2 ^ 32 → leaf.label ≡ Some id → new ≡ old ++ LeafLine id ∷ []
     → IsClaimed W (record { bits = leaf.bits; number = leaf.number; leaves = leaf ∷ [] }) old new
@@ -223,7 +223,7 @@ unlabelled t n all is =
 
 -- the lines of all nodes are the certificate's
 pub root-claimed : (t : TrieModel) (lines : List DueLine) → IsNodeAt t 0 (record { bits = 0; number = 0; leaves = t.leaves }) → length t.nodes + 1 ≡ 2 * length t.leaves
-    → AreClaimed t 0 lines → (node : Node) × (reverse lines ≡ lines_of node) × IsCertified 0 0 (width_of t.version) t.leaves node
+    → AreClaimed t 0 lines → (node : Node) × (reverse lines ≡ node_lines node) × IsCertified 0 0 (width_of t.version) t.leaves node
 root-claimed t lines place twice are =
     let here = are.each 0 _ (omega arith) place.there in
     let first : here.from ≡ 0 = omega (arith, here.from_is, twice) in

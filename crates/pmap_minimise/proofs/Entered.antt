@@ -11,7 +11,7 @@ use Rattle.prefix_keys.specs.declared.version.Version.{Version}
 use Rattle.pmap_text.specs.Label.{IsLabelTable}
 use Rattle.pmap_text.specs.ListModel.{Prefix}
 use Rattle.pmap_text.specs.MapModel.{Label}
-use Rattle.pmap_text.specs.MapText.{text_at}
+use Rattle.pmap_text.specs.MapText.{text_at, text_if_some}
 use Rattle.pmap_text.specs.PrefixList.{prefix_of}
 use Rattle.pmap_text.specs.declared.entry.Entry.{Entry}
 use Rattle.pmap_text.specs.declared.label.LabelId.{LabelId}
@@ -22,7 +22,7 @@ use Rattle.pmap_cert.specs.Acceptance.{entries_of, handed_on, has_inherited, lea
 use Rattle.pmap_cert.specs.Node.{HasNumberForm, Node, tree_of}
 use Rattle.label_trie.specs.TrieModel.{number_of}
 use Rattle.label_trie.specs.Parts.{IsHalf}
-use Rattle.pmap_minimise.specs.Listing.{AddsEntries, AddsPrefixes, IsEntryOf, text_of}
+use Rattle.pmap_minimise.specs.Listing.{AddsEntries, AddsPrefixes, IsEntryOf}
 use Rattle.pmap_minimise.specs.Numbers.{IsOwn, IsOwnBy, keeps, numbers_of}
 use Rattle.pmap_minimise.proofs.Joined.{half-room}
 use Rattle.pmap_minimise.proofs.Texts.{keeps-texts, least-texts}
@@ -34,8 +34,8 @@ block-first block =
 
 -- a node with the set s adds its own entry, if it has one, and passes on the label `id`
 pub record IsHanded (table : List Label) (s : List Label) (block : Block) (inherited : Option LabelId) (old new : List Entry) (id : LabelId) : Type 0 where
-  pub adds : AddsPrefixes table block.version (own_entry (width_of block.version) table s (text_of table inherited) block.len (number_of block)) old new
-  pub label : handed_on table s (text_of table inherited) ≡ Some (text_at table id.0)
+  pub adds : AddsPrefixes table block.version (own_entry (width_of block.version) table s (text_if_some table inherited) block.len (number_of block)) old new
+  pub label : handed_on table s (text_if_some table inherited) ≡ Some (text_at table id.0)
   pub known : id.0 < length table
 
 module _ (table : List Label) (ok : IsLabelTable table) (ids : List LabelId) (block : Block) (inherited : Option LabelId) (old new : List Entry) (id : LabelId)
@@ -48,19 +48,19 @@ module _ (table : List Label) (ok : IsLabelTable table) (ids : List LabelId) (bl
 
   by_test : (b : Bool) → keeps ids inherited ≡ b → IsOwnBy b ids block inherited old new id → (ids' : List LabelId) → ids ≡ ids' → IsHanded table s block inherited old new id
   by_test true e own ids' same =
-      let test : has_inherited s (text_of table inherited) ≡ true = keeps-texts table ok ids inherited ascending known ∙ e in
+      let test : has_inherited s (text_if_some table inherited) ≡ true = keeps-texts table ok ids inherited ascending known ∙ e in
       record {
         adds = record {
           entries = ap (λ (es : List Entry). map (prefix_of table) es) own.0 ∙ sym (append-nil (map (prefix_of table) old))
-              ∙ ap (λ (ps : List Prefix). map (prefix_of table) old ++ ps) (sym (cond-true (has_inherited s (text_of table inherited)) [] (own_prefix ∷ []) test));
+              ∙ ap (λ (ps : List Prefix). map (prefix_of table) old ++ ps) (sym (cond-true (has_inherited s (text_if_some table inherited)) [] (own_prefix ∷ []) test));
           fit = subst (All (IsEntryOf block.version (length table))) (sym own.0);
         };
-        label = cond-true (has_inherited s (text_of table inherited)) (text_of table inherited) (Some (least_label table s)) test ∙ ap (text_of table) own.1;
+        label = cond-true (has_inherited s (text_if_some table inherited)) (text_if_some table inherited) (Some (least_label table s)) test ∙ ap (text_if_some table) own.1;
         known = known id own.1;
       }
   by_test false e own [] same = absurd (none-some id (subst (λ (l : List LabelId). slice_get l 0 ≡ Some id) same own.1))
   by_test false e own (first ∷ rest) same =
-      let test : has_inherited s (text_of table inherited) ≡ false = keeps-texts table ok ids inherited ascending known ∙ e in
+      let test : has_inherited s (text_if_some table inherited) ≡ false = keeps-texts table ok ids inherited ascending known ∙ e in
       let is : first ≡ id = same_Some first id (subst (λ (l : List LabelId). slice_get l 0 ≡ Some id) same own.1) in
       let up : IsAscending (length table) 0 (first.0 ∷ numbers_of rest) = subst (λ (l : List LabelId). IsAscending (length table) 0 (numbers_of l)) same ascending in
       let least : least_label table s ≡ text_at table id.0 =
@@ -73,11 +73,11 @@ module _ (table : List Label) (ok : IsLabelTable table) (ids : List LabelId) (bl
         adds = record {
           entries = ap (λ (es : List Entry). map (prefix_of table) es) own.0 ∙ map-append (prefix_of table) old (record { block = block; label = id } ∷ [])
               ∙ ap (λ (p : Prefix). map (prefix_of table) old ++ p ∷ []) prefix
-              ∙ ap (λ (ps : List Prefix). map (prefix_of table) old ++ ps) (sym (cond-false (has_inherited s (text_of table inherited)) [] (own_prefix ∷ []) test));
+              ∙ ap (λ (ps : List Prefix). map (prefix_of table) old ++ ps) (sym (cond-false (has_inherited s (text_if_some table inherited)) [] (own_prefix ∷ []) test));
           fit = λ all. subst (All (IsEntryOf block.version (length table))) (sym own.0)
               (All-push (IsEntryOf block.version (length table)) old (record { block = block; label = id }) all (record { version_is = refl; known = small }));
         };
-        label = cond-false (has_inherited s (text_of table inherited)) (text_of table inherited) (Some (least_label table s)) test ∙ ap (λ (x : Label). Some x) least;
+        label = cond-false (has_inherited s (text_if_some table inherited)) (text_if_some table inherited) (Some (least_label table s)) test ∙ ap (λ (x : Label). Some x) least;
         known = small;
       }
 
@@ -116,7 +116,7 @@ inner-adds claim left right block low high inherited old new0 new1 new2 ids id i
     let inner = subst (HasNumberForm (length table) (InnerNode claim left right)) room form in
     let up = subst (λ (ns : List ℕ). IsAscending (length table) 0 ns) (sym is) inner.0.1 in
     let hand = handed table ok ids block inherited old new0 id up known claim.labels is own in
-    let passed = handed_on table (map (text_at table) claim.labels) (text_of table inherited) in
+    let passed = handed_on table (map (text_at table) claim.labels) (text_if_some table inherited) in
     let next = one-known (length table) id hand.known in
     let below = lower table ok next (inner.0.2, inner.1.0) in
     let above = upper table ok next (subst (HasNumberForm (length table) right) level (inner.0.3, inner.1.1)) in

@@ -6,7 +6,7 @@ use Rattle.std.proofs.lemmas.List.Elements.{All-map, All-weaker}
 use Rattle.std.proofs.lemmas.Option.{option_and_then_some, same_Some, slice_get_within}
 use Rattle.prefix_keys.specs.Block.{width_of}
 use Rattle.prefix_keys.specs.declared.version.Version.{Version}
-use Rattle.pmap_text.specs.Label.{IsLabelTable}
+use Rattle.pmap_text.specs.Label.{IsLabelTable, has_label}
 use Rattle.pmap_text.specs.ListEntries.{HasDistinctBlocks}
 use Rattle.pmap_text.specs.ListModel.{ListModel}
 use Rattle.pmap_text.specs.MapModel.{Label, MapModel, Mapping, map_label}
@@ -20,7 +20,7 @@ use Rattle.pmap_text.specs.declared.statement.Statement.{Statement}
 use Rattle.pmap_text.proofs.Layers.{are-layers, layer-wins, layers, layers-known, length-layers_to}
 use Rattle.pmap_text.proofs.Ranges.{holder, ordered_at, text_at_index}
 use Rattle.pmap_cert.specs.Acceptance.{HasItsLabels, IsMinimalPair}
-use Rattle.pmap_cert.specs.CertificateModel.{CertificateModel, has}
+use Rattle.pmap_cert.specs.CertificateModel.{CertificateModel}
 use Rattle.pmap_cert.specs.CertificateText.{HasTextForm}
 use Rattle.pmap_cert.specs.Node.{Node, tree_of}
 use Rattle.pmap_cert.proofs.InOrder.{list-form}
@@ -75,8 +75,8 @@ module _ (m : MapText) (s : StretchesModel) (version : s.version ≡ m.version) 
   runs-labels = record {
     fallback = table-has m.labels default.0 default-known;
     mappings =
-        All-map (λ p. IsTrue (has m.labels p.label)) (mapping_of m.labels) (layers s)
-        (All-weaker (λ x. x.label.0 < length m.labels) (λ x. IsTrue (has m.labels (text_at m.labels x.label.0))) (λ x is. table-has m.labels x.label.0 is) (layers s) known);
+        All-map (λ p. IsTrue (has_label m.labels p.label)) (mapping_of m.labels) (layers s)
+        (All-weaker (λ x. x.label.0 < length m.labels) (λ x. IsTrue (has_label m.labels (text_at m.labels x.label.0))) (λ x is. table-has m.labels x.label.0 is) (layers s) known);
   }
 
   runs-same : (a : ℕ) → a < 2 ^ width_of m.version → map_label runs_map a ≡ map_label (map_of m) a

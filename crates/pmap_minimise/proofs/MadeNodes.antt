@@ -20,7 +20,7 @@ use Rattle.pmap_text.proofs.Settling.{Settles, window_divided, window_most, wind
 use Rattle.pmap_text.specs.Windows.{AreHalvesOf, IsWindow, window_number}
 use Rattle.pmap_text.specs.declared.stretches.window.Window.{Window}
 use Rattle.pmap_text.proofs.Windows.{one_index, ordered_window}
-use Rattle.pmap_minimise.specs.Runs.{AreCountedHalves, IsCounted, IsChoice, IsMade, AreSteps, IsRunTo, IsStepInto, IsStop, own_label}
+use Rattle.pmap_minimise.specs.Runs.{AreCountedHalves, IsCounted, IsChoice, IsWindowNode, AreSteps, IsRunTo, IsStepInto, IsStop, own_label}
 use Rattle.pmap_cert.specs.Paths.{digit, path_to}
 use Rattle.pmap_minimise.specs.Opened.{claim_above, node_over, path_node}
 use Rattle.pmap_minimise.specs.Numbers.{IsExact, IsMapNode, IsSound}
@@ -101,7 +101,7 @@ own-label-is None n is = absurd (none-some n is)
 own-label-is (Some id) n is = ap (λ (k : ℕ). Some (id_of k)) (same_Some id.0 n is)
 
 -- a block in one stretch has the node of a leaf
-pub leaf-made : (s : StretchesModel) (a : Window) (n : ℕ) → IsCounted s a → own_label s a ≡ Some n → n < 2 ^ 32 → IsMade s a (LeafNode n)
+pub leaf-made : (s : StretchesModel) (a : Window) (n : ℕ) → IsCounted s a → own_label s a ≡ Some n → n < 2 ^ 32 → IsWindowNode s a (LeafNode n)
 leaf-made s a n is own fits =
     let single = own-single s a n is.window.ordered own in
     let label : label_at s a.from ≡ Some (id_of n) = own-label-is (label_at s a.from) n (sym (own-is s a single) ∙ own) in
@@ -119,7 +119,7 @@ leaf-made s a n is own fits =
 
 -- the node of a block is built from those of its halves
 module _ (s : StretchesModel) (a low high : Window) (lower upper : Node) (is : IsCounted s a) (are : AreCountedHalves s a low high)
-    (low_made : IsMade s low lower) (high_made : IsMade s high upper) where
+    (low_made : IsWindowNode s low lower) (high_made : IsWindowNode s high upper) where
   other : a.from ≡ a.to → ⊥
   other same = let divided = are.divided in absurd (omega arith)
 
@@ -128,7 +128,7 @@ module _ (s : StretchesModel) (a low high : Window) (lower upper : Node) (is : I
   both-cost ss default stretches =
       omega (arith, window_most s a is.window ss default stretches other low high are.halves, low_made.few ss default stretches, high_made.few ss default stretches)
 
-  pub halves-made : (claim : ClaimOf ℕ) → IsExact (claim_of lower) (claim_of upper) claim → IsAscending (2 ^ 32) 0 claim.labels → IsMade s a (InnerNode claim lower upper)
+  pub halves-made : (claim : ClaimOf ℕ) → IsExact (claim_of lower) (claim_of upper) claim → IsAscending (2 ^ 32) 0 claim.labels → IsWindowNode s a (InnerNode claim lower upper)
   halves-made claim exact ascending =
       let W : ℕ = width_of s.version in
       let below = window_divided s a is.window is.few.statements is.few.default is.few.stretches other in
@@ -166,7 +166,7 @@ module _ (s : StretchesModel) (a low high : Window) (lower upper : Node) (is : I
       }
 
 -- if no step leads on from a block, its node has no run
-pub made-stop : (s : StretchesModel) (side : ℕ) (a : Window) (node : Node) → IsMade s a node → IsStop s side a
+pub made-stop : (s : StretchesModel) (side : ℕ) (a : Window) (node : Node) → IsWindowNode s a node → IsStop s side a
     → (run_bits nat_eq side node ≡ []) × (run_end nat_eq side node ≡ node)
 made-stop s side a node made (inl single) =
     let leaf = made.single single in
@@ -285,19 +285,19 @@ run-below s side (suc count) a end is run =
     }
 
 -- the node from which a run leads to the node of its end
-module _ (s : StretchesModel) (side : ℕ) (fits : side < 2 ^ 32) (end : Window) (node : Node) (made : IsMade s end node) where
+module _ (s : StretchesModel) (side : ℕ) (fits : side < 2 ^ 32) (end : Window) (node : Node) (made : IsWindowNode s end node) where
   abbrev value : ℕ
   value = window_number s end
 
   abbrev node_of : ℕ → Node
   node_of count = path_node side value count node
 
-  over-made : (a : Window) (count d : ℕ) → IsMade s a (node_over d (claim_above side (claim_of node) count) (node_of count) (LeafNode side)) → digit value count ≡ d
-      → IsMade s a (node_of (suc count))
-  over-made a count d is same = subst (λ (k : ℕ). IsMade s a (node_over k (claim_above side (claim_of node) count) (node_of count) (LeafNode side))) (sym same) is
+  over-made : (a : Window) (count d : ℕ) → IsWindowNode s a (node_over d (claim_above side (claim_of node) count) (node_of count) (LeafNode side)) → digit value count ≡ d
+      → IsWindowNode s a (node_of (suc count))
+  over-made a count d is same = subst (λ (k : ℕ). IsWindowNode s a (node_over k (claim_above side (claim_of node) count) (node_of count) (LeafNode side))) (sym same) is
 
-  pub run-made : (count : ℕ) (a : Window) → IsCounted s a → AreSteps s side count a end → IsMade s a (node_of count)
-  run-made zero a is run = subst (λ (b : Window). IsMade s b node) run made
+  pub run-made : (count : ℕ) (a : Window) → IsCounted s a → AreSteps s side count a end → IsWindowNode s a (node_of count)
+  run-made zero a is run = subst (λ (b : Window). IsWindowNode s b node) run made
   run-made (suc count) a is run =
       let step = step-by s side a run.0 run.1 in
       by (run-below s side count run.0 end step.counted run.2) (run-made count run.0 step.counted run.2) run.1.choice
@@ -305,18 +305,18 @@ module _ (s : StretchesModel) (side : ℕ) (fits : side < 2 ^ 32) (end : Window)
       halves : AreCountedHalves s a run.1.low run.1.high
       halves = run.1.halves
 
-      by : IsBelow s count run.0 end → IsMade s run.0 (node_of count) → IsChoice s side run.1.low run.1.high run.0 → IsMade s a (node_of (suc count))
+      by : IsBelow s count run.0 end → IsWindowNode s run.0 (node_of count) → IsChoice s side run.1.low run.1.high run.0 → IsWindowNode s a (node_of (suc count))
       by below rest (inl high) =
           let number = below.number ∙ ap (window_number s) high.0 ∙ halves.halves.high_number in
           over-made a count 1
           (halves-made s a run.1.low run.1.high (LeafNode side) (node_of count) is halves (leaf-made s run.1.low side halves.low_counted high.1 fits)
-          (subst (λ (b : Window). IsMade s b (node_of count)) high.0 rest) (claim_above side (claim_of node) count)
+          (subst (λ (b : Window). IsWindowNode s b (node_of count)) high.0 rest) (claim_above side (claim_of node) count)
           (path-high side fits node made.ascending value count) (above-ascending side fits node made.ascending count))
           (omega arith)
       by below rest (inr low) =
           let number = below.number ∙ ap (window_number s) low.0 ∙ halves.halves.low_number in
           over-made a count 0
-          (halves-made s a run.1.low run.1.high (node_of count) (LeafNode side) is halves (subst (λ (b : Window). IsMade s b (node_of count)) low.0 rest)
+          (halves-made s a run.1.low run.1.high (node_of count) (LeafNode side) is halves (subst (λ (b : Window). IsWindowNode s b (node_of count)) low.0 rest)
           (leaf-made s run.1.high side halves.high_counted low.2 fits) (claim_above side (claim_of node) count)
           (path-low side fits node made.ascending value count) (above-ascending side fits node made.ascending count))
           (omega arith)
@@ -357,7 +357,7 @@ module _ (s : StretchesModel) (side : ℕ) (fits : side < 2 ^ 32) (end : Window)
         let step = step-by s side a run.0 run.1 in
         by (run-below s side count run.0 end step.counted run.2) (run-made count run.0 step.counted run.2) (run-down count run.0 step.counted run.2) run.1.choice
       where
-        by : IsBelow s count run.0 end → IsMade s run.0 (node_of count) → GoesDown count
+        by : IsBelow s count run.0 end → IsWindowNode s run.0 (node_of count) → GoesDown count
             → IsChoice s side run.1.low run.1.high run.0 → GoesDown (suc count)
         by below chosen rest (inl high) =
             let number = below.number ∙ ap (window_number s) high.0 ∙ run.1.halves.halves.high_number in
@@ -367,7 +367,7 @@ module _ (s : StretchesModel) (side : ℕ) (fits : side < 2 ^ 32) (end : Window)
             over-down count 0 (omega arith) (omega arith) (λ none e. low.1 (ap (own_label s) (sym low.0) ∙ sym chosen.own ∙ e)) rest
 
 -- the side label of a run is that of a leaf right below the run's first node
-pub made-side : (s : StretchesModel) (a low high : Window) (node : Node) → IsMade s a node → AreCountedHalves s a low high
+pub made-side : (s : StretchesModel) (a low high : Window) (node : Node) → IsWindowNode s a node → AreCountedHalves s a low high
     → side_below node ≡ option_or (own_label s low) (own_label s high)
 made-side s a low high node made are =
     let own = made.halves low high are in

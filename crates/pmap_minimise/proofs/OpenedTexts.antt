@@ -5,11 +5,11 @@ use Rattle.std.proofs.lemmas.List.{append-nil, append_assoc, map-append}
 use Rattle.std.proofs.lemmas.Option.{same_Some}
 use Rattle.pmap_cert.proofs.Paths.{path-length}
 use Rattle.pmap_cert.proofs.Written.{text_of_lines-append}
-use Rattle.pmap_cert.specs.CertificateText.{InnerLine, LeafLine, line_text, text_of_lines}
+use Rattle.pmap_cert.specs.CertificateText.{InnerLine, LeafLine, node_line_text, text_of_lines}
 use Rattle.pmap_cert.specs.FormatReading.{ChainLine, DueLine}
 use Rattle.pmap_cert.proofs.NodeWalk.{bits_of, side_of}
 use Rattle.pmap_cert.specs.CertificateModel.{ChainNode, ClaimOf, InnerNode, LeafNode, claim_of}
-use Rattle.pmap_cert.specs.Node.{Node, first_line, first_node, from_next_line, lines_of, node_of}
+use Rattle.pmap_cert.specs.Node.{Node, first_line, first_node, from_next_line, node_lines, node_of}
 use Rattle.pmap_cert.specs.Paths.{digit, path_to}
 use Rattle.pmap_minimise.specs.Numbers.{has_number}
 use Rattle.pmap_minimise.specs.Opened.{Opens, claim_above, cost_above, node_over, node_text, path_node, set_above, with_number}
@@ -18,36 +18,36 @@ use Rattle.pmap_minimise.specs.Opened.{Opens, claim_above, cost_above, node_over
 abbrev ended : List ℕ → List ℕ
 ended text = text ++ 10 ∷ []
 
-lines-text : (a b : List DueLine) → text_of_lines (map line_text (a ++ b)) ≡ text_of_lines (map line_text a) ++ text_of_lines (map line_text b)
-lines-text a b = ap text_of_lines (map-append line_text a b) ∙ text_of_lines-append (map line_text a) (map line_text b)
+lines-text : (a b : List DueLine) → text_of_lines (map node_line_text (a ++ b)) ≡ text_of_lines (map node_line_text a) ++ text_of_lines (map node_line_text b)
+lines-text a b = ap text_of_lines (map-append node_line_text a b) ∙ text_of_lines-append (map node_line_text a) (map node_line_text b)
 
-leaf-text : (n : ℕ) → node_text (LeafNode n) ≡ ended (line_text (LeafLine n))
-leaf-text n = append-nil (ended (line_text (LeafLine n)))
+leaf-text : (n : ℕ) → node_text (LeafNode n) ≡ ended (node_line_text (LeafLine n))
+leaf-text n = append-nil (ended (node_line_text (LeafLine n)))
 
-inner-text : (claim : ClaimOf ℕ) (lower upper : Node) → node_text (InnerNode claim lower upper) ≡ ended (line_text (InnerLine claim.cost claim.labels)) ++ (node_text lower ++ node_text upper)
-inner-text claim lower upper = ap (λ (t : List ℕ). ended (line_text (InnerLine claim.cost claim.labels)) ++ t) (lines-text (lines_of lower) (lines_of upper))
+inner-text : (claim : ClaimOf ℕ) (lower upper : Node) → node_text (InnerNode claim lower upper) ≡ ended (node_line_text (InnerLine claim.cost claim.labels)) ++ (node_text lower ++ node_text upper)
+inner-text claim lower upper = ap (λ (t : List ℕ). ended (node_line_text (InnerLine claim.cost claim.labels)) ++ t) (lines-text (node_lines lower) (node_lines upper))
 
 -- the text of an inner node is appended: its own line, and those of its halves
-pub inner-added : (claim : ClaimOf ℕ) (lower upper : Node) (old own middle new : List ℕ) → own ≡ old ++ ended (line_text (InnerLine claim.cost claim.labels)) → middle ≡ own ++ node_text lower → new ≡ middle ++ node_text upper
+pub inner-added : (claim : ClaimOf ℕ) (lower upper : Node) (old own middle new : List ℕ) → own ≡ old ++ ended (node_line_text (InnerLine claim.cost claim.labels)) → middle ≡ own ++ node_text lower → new ≡ middle ++ node_text upper
     → new ≡ old ++ node_text (InnerNode claim lower upper)
 inner-added claim lower upper old own middle new first second third =
     third ∙ ap (λ (t : List ℕ). t ++ node_text upper) (second ∙ ap (λ (t : List ℕ). t ++ node_text lower) first)
-    ∙ append_assoc (old ++ ended (line_text (InnerLine claim.cost claim.labels))) (node_text lower) (node_text upper)
-    ∙ append_assoc old (ended (line_text (InnerLine claim.cost claim.labels))) (node_text lower ++ node_text upper)
+    ∙ append_assoc (old ++ ended (node_line_text (InnerLine claim.cost claim.labels))) (node_text lower) (node_text upper)
+    ∙ append_assoc old (ended (node_line_text (InnerLine claim.cost claim.labels))) (node_text lower ++ node_text upper)
     ∙ ap (λ (t : List ℕ). old ++ t) (sym (inner-text claim lower upper))
 
 -- The lines of a run's node are appended, and of its side block if that comes before the end. With those of the end, `E`,
 -- and of the side blocks after it, `U`, the lines below them are those of the half that the run chooses.
-pub over-down : (d side : ℕ) (claim : ClaimOf ℕ) (path : Node) (old own new E U : List ℕ) → d < 2 → own ≡ old ++ (ended (line_text (InnerLine claim.cost claim.labels)) ++ cond (d == 1) (ended (line_text (LeafLine side))) [])
-    → new ++ (E ++ U) ≡ own ++ node_text path → new ++ (E ++ (U ++ cond (d == 0) (ended (line_text (LeafLine side))) [])) ≡ old ++ node_text (node_over d claim path (LeafNode side))
+pub over-down : (d side : ℕ) (claim : ClaimOf ℕ) (path : Node) (old own new E U : List ℕ) → d < 2 → own ≡ old ++ (ended (node_line_text (InnerLine claim.cost claim.labels)) ++ cond (d == 1) (ended (node_line_text (LeafLine side))) [])
+    → new ++ (E ++ U) ≡ own ++ node_text path → new ++ (E ++ (U ++ cond (d == 0) (ended (node_line_text (LeafLine side))) [])) ≡ old ++ node_text (node_over d claim path (LeafNode side))
 over-down zero side claim path old own new E U small first second =
-    ap (λ (t : List ℕ). new ++ t) (sym (append_assoc E U (ended (line_text (LeafLine side))))) ∙ sym (append_assoc new (E ++ U) (ended (line_text (LeafLine side))))
-    ∙ inner-added claim path (LeafNode side) old own (new ++ (E ++ U)) _ (first ∙ ap (λ (t : List ℕ). old ++ t) (append-nil (ended (line_text (InnerLine claim.cost claim.labels))))) second
+    ap (λ (t : List ℕ). new ++ t) (sym (append_assoc E U (ended (node_line_text (LeafLine side))))) ∙ sym (append_assoc new (E ++ U) (ended (node_line_text (LeafLine side))))
+    ∙ inner-added claim path (LeafNode side) old own (new ++ (E ++ U)) _ (first ∙ ap (λ (t : List ℕ). old ++ t) (append-nil (ended (node_line_text (InnerLine claim.cost claim.labels))))) second
     (ap (λ (t : List ℕ). (new ++ (E ++ U)) ++ t) (sym (leaf-text side)))
 over-down (suc zero) side claim path old own new E U small first second =
     ap (λ (t : List ℕ). new ++ (E ++ t)) (append-nil U)
-    ∙ inner-added claim (LeafNode side) path old (old ++ ended (line_text (InnerLine claim.cost claim.labels))) own _ refl
-    (first ∙ sym (append_assoc old (ended (line_text (InnerLine claim.cost claim.labels))) (ended (line_text (LeafLine side)))) ∙ ap (λ (t : List ℕ). (old ++ ended (line_text (InnerLine claim.cost claim.labels))) ++ t) (sym (leaf-text side))) second
+    ∙ inner-added claim (LeafNode side) path old (old ++ ended (node_line_text (InnerLine claim.cost claim.labels))) own _ refl
+    (first ∙ sym (append_assoc old (ended (node_line_text (InnerLine claim.cost claim.labels))) (ended (node_line_text (LeafLine side)))) ∙ ap (λ (t : List ℕ). (old ++ ended (node_line_text (InnerLine claim.cost claim.labels))) ++ t) (sym (leaf-text side))) second
 over-down (suc (suc d)) side claim path old own new E U small first second = absurd (omega arith)
 
 -- equal bits lead to the end from the same node

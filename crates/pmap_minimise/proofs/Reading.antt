@@ -10,7 +10,7 @@ use Rattle.label_trie.specs.Parts.{IsHalf}
 use Rattle.pmap_cert.specs.FormatReading.{ChainLine, InnerLine, LeafLine}
 use Rattle.pmap_cert.proofs.NodeWalk.{bits_of}
 use Rattle.pmap_cert.specs.CertificateModel.{ChainNode, ClaimOf, InnerNode, LeafNode, claim_of}
-use Rattle.pmap_cert.specs.Node.{Node, first_line, first_node, from_next_line, lines_of}
+use Rattle.pmap_cert.specs.Node.{Node, first_line, first_node, from_next_line, node_lines}
 use Rattle.pmap_cert.specs.Paths.{LeadsTo, path_to}
 use Rattle.pmap_cert.proofs.Paths.{path-length}
 use Rattle.pmap_minimise.specs.Listing.{AddsEntries, IsListedBy}
@@ -62,12 +62,12 @@ pub record IsEndAt (nodes : List Node) (count room : ℕ) : Type 0 where
 -- the number of lines of the nodes
 abbrev pub lines_left : List Node → ℕ
 lines_left [] = 0
-lines_left (node ∷ nodes) = length (lines_of node) + lines_left nodes
+lines_left (node ∷ nodes) = length (node_lines node) + lines_left nodes
 
 pub next-left : (nodes : List Node) → 0 < length nodes → lines_left (from_next_line nodes) < lines_left nodes
 next-left [] some = absurd (omega arith)
 next-left (LeafNode n ∷ rest) some = omega arith
-next-left (InnerNode claim lower upper ∷ rest) some = omega (arith, length-append (lines_of lower) (lines_of upper))
+next-left (InnerNode claim lower upper ∷ rest) some = omega (arith, length-append (node_lines lower) (node_lines upper))
 next-left (ChainNode claim bits side end ∷ rest) some = omega arith
 
 pub due-some : (nodes : List Node) (due : Due) (dues : List Due) → AreDue nodes (due ∷ dues) → 0 < length nodes

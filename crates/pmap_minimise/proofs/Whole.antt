@@ -4,18 +4,18 @@ use Rattle.std.proofs.lemmas.List.Elements.{All-from_recursion, All-map, All-wea
 use Rattle.std.proofs.lemmas.Option.{none-some}
 use Rattle.prefix_keys.specs.Block.{width_of}
 use Rattle.prefix_keys.specs.declared.version.Version.{Version}
-use Rattle.pmap_text.specs.Label.{IsLabelTable}
+use Rattle.pmap_text.specs.Label.{IsLabelTable, has_label}
 use Rattle.pmap_text.specs.ListModel.{ListModel}
 use Rattle.pmap_text.specs.MapModel.{MapModel}
 use Rattle.pmap_text.specs.MapText.{map_of, mapping_of, text_at}
 use Rattle.pmap_text.specs.PrefixList.{prefix_of}
 use Rattle.pmap_text.specs.declared.entry.Entry.{Entry}
 use Rattle.pmap_text.specs.declared.map_text.MapText.{MapText}
-use Rattle.pmap_cert.specs.CertificateModel.{CertificateModel, Tree, has}
+use Rattle.pmap_cert.specs.CertificateModel.{CertificateModel, Tree}
 use Rattle.pmap_cert.specs.Acceptance.{HasListForm, IsInOrder, HasItsLabels, IsMinimalPair, StandsFor, entries_of}
 use Rattle.pmap_cert.specs.CertificateText.{certificate_text, format_header, text_of_lines, HasTextForm}
 use Rattle.pmap_cert.specs.Compacting.{compact}
-use Rattle.pmap_cert.specs.Node.{HasNumberForm, Node, lines_of, tree_of}
+use Rattle.pmap_cert.specs.Node.{HasNumberForm, Node, node_lines, tree_of}
 use Rattle.pmap_cert.specs.declared.format.Format.TheVariants.{One}
 use Rattle.label_trie.specs.TrieModel.{number_of, IsSettledLeaf, IsUndivided, LeafModel}
 use Rattle.pmap_cert.proofs.CompactNodes.{compact-one}
@@ -50,8 +50,8 @@ pub own-labels : (map : MapText) → HasItsLabels (map_of map)
 own-labels m = record {
   fallback = table-has m.labels m.default.0 m.default_known;
   mappings =
-      All-map (λ p. IsTrue (has m.labels p.label)) (mapping_of m.labels) m.statements
-      (All-weaker (λ s. s.label.0 < length m.labels) (λ s. IsTrue (has m.labels (text_at m.labels s.label.0))) (λ s known. table-has m.labels s.label.0 known)
+      All-map (λ p. IsTrue (has_label m.labels p.label)) (mapping_of m.labels) m.statements
+      (All-weaker (λ s. s.label.0 < length m.labels) (λ s. IsTrue (has_label m.labels (text_at m.labels s.label.0))) (λ s known. table-has m.labels s.label.0 known)
       m.statements m.numbers_known);
 }
 
@@ -101,7 +101,7 @@ module _ (m : MapText) (compacted : Node) (built : IsBuiltIn (map_of m) compacte
     root_certificate m built.node,
     minimal (map_of m) _ _ (tree_of m.labels built.node) built.is.stands refl refl,
     root-form m built.node built.is.form built.table,
-    whole_text 1 m.version m.labels built.node (width_of m.version) (lines_of built.node) head text built.table built.is.form.0 refl head_is text_is,
+    whole_text 1 m.version m.labels built.node (width_of m.version) (node_lines built.node) head text built.table built.is.form.0 refl head_is text_is,
   )
 
   -- and the text of its compacted certificate

@@ -8,10 +8,10 @@ use Rattle.pmap_cert.specs.CertificateText.{IsAscending}
 use Rattle.pmap_cert.specs.FormatReading.{DueLine, InnerLine, LeafLine}
 use Rattle.pmap_cert.specs.CertificateModel.{ClaimOf, claim_of}
 use Rattle.pmap_cert.specs.Compacting.{compacted}
-use Rattle.pmap_cert.specs.Node.{Node, lines_of, node_of}
+use Rattle.pmap_cert.specs.Node.{Node, node_lines, node_of}
 use Rattle.pmap_minimise.specs.Numbers.{IsExact, IsMapNode, IsSound}
 use Rattle.pmap_minimise.specs.Opened.{Opens}
-use Rattle.pmap_minimise.specs.Runs.{IsMade}
+use Rattle.pmap_minimise.specs.Runs.{IsWindowNode}
 
 -- The lines of nodes as they are built, in reverse order: the line of a node follows those of the nodes below it, and
 -- the higher half of a node comes before the lower one.
@@ -43,9 +43,9 @@ AddsInner upper old new = AddsExact (last_claim old) (claim_at old upper) old ne
 -- the lines of the block's node, compacted, were added
 pub record IsBuilt (s : StretchesModel) (a : Window) (old new : List DueLine) : Type 0 where
   pub node : Node
-  pub made : IsMade s a node
+  pub made : IsWindowNode s a node
   pub opens : Opens (compacted nat_eq node) node
-  pub lines_are : new ≡ old ++ reverse (lines_of (compacted nat_eq node))
+  pub lines_are : new ≡ old ++ reverse (node_lines (compacted nat_eq node))
 
 -- `compact` is the map's node for the address space, compacted
 pub record IsBuiltIn (m : MapModel) (compact : Node) : Type 0 where

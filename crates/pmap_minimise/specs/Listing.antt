@@ -1,4 +1,4 @@
-use Rattle.std.specs.Prelude.{◌≡◌, List, map, ℕ, ◌-◌, ◌<◌, ◌++◌, Option, All, length, option_map, [], None}
+use Rattle.std.specs.Prelude.{◌≡◌, List, map, ℕ, ◌-◌, ◌<◌, ◌++◌, Option, All, length, [], None}
 use Rattle.std.specs.Option.{ForSome}
 use Rattle.prefix_keys.specs.declared.block.Block.{Block}
 use Rattle.prefix_keys.specs.declared.version.Version.{Version}
@@ -8,14 +8,11 @@ use Rattle.pmap_text.specs.PrefixList.{prefix_of}
 use Rattle.pmap_text.specs.declared.entry.Entry.{Entry}
 use Rattle.pmap_text.specs.Label.{IsLabelTable}
 use Rattle.pmap_text.specs.MapModel.{Label}
-use Rattle.pmap_text.specs.MapText.{text_at}
+use Rattle.pmap_text.specs.MapText.{text_if_some}
 use Rattle.pmap_text.specs.declared.label.LabelId.{LabelId}
 use Rattle.label_trie.specs.TrieModel.{number_of}
 use Rattle.pmap_cert.specs.Acceptance.{entries_of}
 use Rattle.pmap_cert.specs.Node.{HasNumberForm, Node, tree_of}
-
-abbrev pub text_of : List Label → Option LabelId → Option Label
-text_of table inherited = option_map (λ id. text_at table id.0) inherited
 
 pub record IsEntryOf (version : Version) (count : ℕ) (e : Entry) : Type 0 where
   pub version_is : e.block.version ≡ version
@@ -31,7 +28,7 @@ pub record AddsPrefixes (table : List Label) (version : Version) (added : List P
 abbrev pub AddsEntries : Node → Block → Option LabelId → List Entry → List Entry → Type 0
 AddsEntries node block inherited old new =
     (table : List Label) → IsLabelTable table → ForSome inherited (λ id. id.0 < length table) → HasNumberForm (length table) node (width_of block.version - block.len)
-    → AddsPrefixes table block.version (entries_of (width_of block.version) table (tree_of table node) (text_of table inherited) block.len (number_of block)) old new
+    → AddsPrefixes table block.version (entries_of (width_of block.version) table (tree_of table node) (text_if_some table inherited) block.len (number_of block)) old new
 
 -- the entries are those of the node for the address space
 pub record IsListedBy (version : Version) (node : Node) (entries : List Entry) : Type 0 where

@@ -1,7 +1,7 @@
 use Rattle.std.specs.Prelude.{◌≡◌, ℕ, zero, suc, ◌+◌, ◌<◌, ◌≤◌, ◌==◌, Bool, List, [], ◌∷◌, ◌++◌, if◌then◌else◌, length, map, nat_lt}
-use Rattle.pmap_cert.specs.CertificateText.{LeafLine, line_text, text_of_lines}
+use Rattle.pmap_cert.specs.CertificateText.{LeafLine, node_line_text, text_of_lines}
 use Rattle.pmap_cert.specs.CertificateModel.{ChainNode, ClaimOf, InnerNode, LeafNode, claim_of}
-use Rattle.pmap_cert.specs.Node.{Node, first_node, lines_of}
+use Rattle.pmap_cert.specs.Node.{Node, first_node, node_lines}
 use Rattle.pmap_cert.specs.Paths.{digit, path_to}
 use Rattle.pmap_minimise.specs.Numbers.{has_number}
 
@@ -67,10 +67,10 @@ pub record IsOpenedAt (nodes : List Node) : Type 0 where
   pub opens : Opens (first_node nodes) node
 
 abbrev pub node_text : Node → List ℕ
-node_text node = text_of_lines (map line_text (lines_of node))
+node_text node = text_of_lines (map node_line_text (node_lines node))
 
 -- the text of the side blocks after a chain's end, for the last `bits` nodes of the chain
 abbrev pub text_up : ℕ → ℕ → ℕ → List ℕ
 text_up side value zero = []
 text_up side value (suc bits) =
-    text_up side value bits ++ (if digit value bits == 0 then line_text (LeafLine side) ++ 10 ∷ [] else [])
+    text_up side value bits ++ (if digit value bits == 0 then node_line_text (LeafLine side) ++ 10 ∷ [] else [])

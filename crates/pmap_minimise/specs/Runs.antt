@@ -108,7 +108,7 @@ pub record HasLabelledHalves (s : StretchesModel) (low high : Window) (node : No
   pub high_label : leaf_label upper ≡ own_label s high
 
 -- The node represents the block in each map on the stretches. It costs at most as often as the block is divided.
-pub record IsMade (s : StretchesModel) (a : Window) (node : Node) : Type 0 where
+pub record IsWindowNode (s : StretchesModel) (a : Window) (node : Node) : Type 0 where
   pub each : (m : MapModel) → IsMapOn s m → IsMapNode m a.len (window_number s a) (width_of s.version - a.len) node
   pub few : (ss : List Statement) (default : Option LabelId) → AreStretches ss default s → (claim_of node).cost ≤ divisions s a ss
   pub sound : IsSound node (width_of s.version - a.len)

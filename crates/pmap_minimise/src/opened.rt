@@ -1,6 +1,6 @@
 //! Writes the lines of a certificate's nodes, with each chain opened.
 ghost use Rattle.std.specs.Prelude.{◌≡◌, ◌≤◌, ◌++◌, ◌∷◌, [], OnOk, drop, if◌then◌else◌};
-ghost use Rattle.pmap_cert.specs.CertificateText.{InnerLine, LeafLine, line_text};
+ghost use Rattle.pmap_cert.specs.CertificateText.{InnerLine, LeafLine, node_line_text};
 ghost use Rattle.pmap_cert.specs.CertificateModel.{claim_of};
 ghost use Rattle.pmap_cert.specs.Node.{Node as AnyNode, first_node};
 ghost use Rattle.pmap_minimise.specs.Numbers.{numbers_of};
@@ -22,8 +22,8 @@ struct Chain<'a> {
     node: &'a [u8],
     leaf: &'a [u8],
     both: &'a [u8],
-    ghost node_is: { node.now ≡ line_text (InnerLine cost (side.0 ∷ [])) ++ 10 ∷ [] },
-    ghost leaf_is: { leaf.now ≡ line_text (LeafLine side.0) ++ 10 ∷ [] },
+    ghost node_is: { node.now ≡ node_line_text (InnerLine cost (side.0 ∷ [])) ++ 10 ∷ [] },
+    ghost leaf_is: { leaf.now ≡ node_line_text (LeafLine side.0) ++ 10 ∷ [] },
     ghost both_is: { both.now ≡ node.now ++ leaf.now },
 }
 
@@ -58,8 +58,8 @@ fn push_step(
     before: bool,
 ) -> Result<(), AllocError>
     ensures { OnOk result (out.new.items ≡ out.old.items
-        ++ ((line_text (InnerLine chain.now.cost (set_above chain.now.side.0 (numbers_of set.now) more)) ++ 10 ∷ [])
-        ++ (if before then line_text (LeafLine chain.now.side.0) ++ 10 ∷ [] else []))) }
+        ++ ((node_line_text (InnerLine chain.now.cost (set_above chain.now.side.0 (numbers_of set.now) more)) ++ 10 ∷ [])
+        ++ (if before then node_line_text (LeafLine chain.now.side.0) ++ 10 ∷ [] else []))) }
 {
     if more > 0 || has_label(set, chain.side) {
         out.extend_from_slice(if before { chain.both } else { chain.node })?;
@@ -104,7 +104,7 @@ fn push_down(
 
 // Appends the lines of the side blocks after a chain's end, each of which is this line.
 fn push_up(out: &mut Vec<u8>, path: &Path, side: LabelId, leaf: &[u8]) -> Result<(), AllocError>
-    requires { leaf.now ≡ line_text (LeafLine side.0) ++ 10 ∷ [] }
+    requires { leaf.now ≡ node_line_text (LeafLine side.0) ++ 10 ∷ [] }
     ensures { OnOk result (out.new.items ≡ out.old.items ++ text_up side.0 path.now.value path.now.count) }
 {
     let mut rest = path.value;

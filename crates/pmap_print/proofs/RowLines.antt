@@ -5,7 +5,7 @@ use Rattle.std.specs.Option.{ForSome}
 use Rattle.std.proofs.lemmas.List.{get_or-map, length-map, take_all, take_more}
 use Rattle.std.proofs.lemmas.Slice.Zip.{get_or-zip, length-zip}
 use Rattle.flow_rows.specs.Elements.{RowView}
-use Rattle.pmap_print.specs.Reports.{RowLabels, labels_at, LabelTexts, given_labels, label_fields, label_texts, row_fields, row_line, row_lines, title_line}
+use Rattle.pmap_print.specs.Reports.{RowLabels, labels_of_row, LabelTexts, given_labels, label_fields, label_texts, row_fields, row_line, row_lines, title_line}
 use Rattle.pmap_print.specs.Table.{Line}
 
 -- the lines of rows, with labels if they are given
@@ -23,7 +23,7 @@ length-lines rows (Some given) has =
 -- the line of a row is after the header and the lines of the rows before it
 line_at : (rows : List RowView) (labels : Option (Bor (List RowLabels))) (i : ℕ) (row : RowView) → ForSome labels (λ given. length given.now ≡ length rows)
     → get_or rows i row ≡ row → i < length rows
-    → get_or (lines_of rows labels) (suc i) [] ≡ row_line row (labels_at (given_labels labels) i)
+    → get_or (lines_of rows labels) (suc i) [] ≡ row_line row (labels_of_row (given_labels labels) i)
 line_at rows None i row has found within =
     get_or-map row_fields rows i row [] within ∙ ap row_fields found
 line_at rows (Some given) i row has found within =
@@ -39,7 +39,7 @@ header_alone rows None = refl
 header_alone rows (Some given) = refl
 
 pub line_added : (rows : List RowView) (labels : Option (Bor (List RowLabels))) (i : ℕ) (row : RowView) (own : Option LabelTexts)
-    → ForSome labels (λ given. length given.now ≡ length rows) → row ≡ get_or rows i row → i < length rows → own ≡ labels_at (given_labels labels) i
+    → ForSome labels (λ given. length given.now ≡ length rows) → row ≡ get_or rows i row → i < length rows → own ≡ labels_of_row (given_labels labels) i
     → take (i + 1) (lines_of rows labels) ++ row_line row own ∷ [] ≡ take (i + 1 + 1) (lines_of rows labels)
 line_added rows labels i row own has is within same =
     let at : get_or (lines_of rows labels) (i + 1) [] ≡ row_line row own =

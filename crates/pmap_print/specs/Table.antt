@@ -11,16 +11,21 @@ pub use Rattle.pmap_print.specs.declared.mark.Mark.TheVariants.{End, Length}
 
 -- the width of a column: the length of its longest field
 abbrev pub column_width : List Line → ℕ → ℕ
-column_width lines index = fold max 0 (map (λ fields. length (slice_index_or fields index [])) lines)
+column_width lines index =
+    fold max 0 (map (λ fields. length (slice_index_or fields index [])) lines)
 
 -- a line in which spaces on the left of each field make it as wide as its column
 abbrev pub filled_line : (ℕ → ℕ) → Line → Line
-filled_line width fields = map (λ e. replicate (width e.0 - length e.1) 32 ++ e.1) (enumerate_from 0 fields)
+filled_line width fields =
+    map (λ e. replicate (width e.0 - length e.1) 32 ++ e.1) (enumerate_from 0 fields)
 
 -- the text of a table, whose first line is its header: its lines as they are, or with each field filled to the width of
 -- its column
 abbrev pub table_text : Bool → List Line → Text
-table_text columns lines = flat_map line_text (if columns then map (filled_line (column_width lines)) lines else lines)
+table_text columns lines =
+    flat_map line_text (if columns then map (filled_line (column_width lines)) lines else lines)
+
+-- Below: only contracts of parts and proofs use these; no promise of the program rests on them.
 
 -- How a table is built: each of its fields follows a byte, which is the field's length if the table will be padded.
 
@@ -46,8 +51,8 @@ abbrev pub added_line : Bool → Line → Text
 added_line columns line = if columns then marked_line Length Length line else marked_line (End 10) (End 124) line
 
 -- a text begins with another one
-abbrev pub BeginsWith : Text → Text → Type 0
-BeginsWith front text = take (length front) text ≡ front
+abbrev pub IsFrontOf : Text → Text → Type 0
+IsFrontOf front text = take (length front) text ≡ front
 
 -- fields that each follow the byte of their length
 abbrev pub sized : Line → Text

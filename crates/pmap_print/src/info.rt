@@ -1,6 +1,6 @@
 //! The printed text of counts.
 ghost use Rattle.std.specs.Prelude.{◌≡◌, ◌++◌, ◌∷◌, [], IfOk, OnOk, decimal};
-ghost use Rattle.flow_rows.specs.Counts.{numbers_of};
+ghost use Rattle.flow_rows.specs.Counts.{count_list};
 ghost use Rattle.pmap_print.specs.Reports.{info_text};
 
 use crate::mark::Mark;
@@ -19,7 +19,7 @@ fn print_count(out: &mut Text, name: &[u8], number: u64) -> Result<(), AllocErro
 
 /// Returns the text of counts: a line for each, with its name and its number.
 pub fn print_info(alloc: Global, counts: &Counts) -> Result<Vec<u8>, AllocError>
-    ensures { IfOk result (λ out. out.items ≡ info_text (numbers_of counts.now)) }
+    ensures { IfOk result (λ out. out.items ≡ info_text (count_list counts.now)) }
 {
     let mut out = Text::new(alloc);
     print_count(&mut out, b"messages", counts.messages)?;

@@ -4,8 +4,8 @@ ghost use Rattle.std.specs.Fmt.{decimal};
 ghost use Rattle.std.specs.List.{flat_map};
 ghost use Rattle.std.specs.Option.{ForSome};
 ghost use Rattle.prefix_keys.specs.Print.{address_text};
-ghost use Rattle.pmap_print.specs.Table.{BeginsWith, has_columns, header_text, IsTable, Line, marked, marked_line};
-ghost use Rattle.pmap_print.specs.Reports.{column_count, labels_at, given_labels, label_fields, label_texts, row_fields, row_line, rows_text, title_line};
+ghost use Rattle.pmap_print.specs.Table.{IsFrontOf, has_columns, header_text, IsTable, Line, marked, marked_line};
+ghost use Rattle.pmap_print.specs.Reports.{column_count, labels_of_row, given_labels, label_fields, label_texts, row_fields, row_line, rows_text, title_line};
 
 use crate::mark::Mark;
 use crate::row_labels::RowLabels;
@@ -47,7 +47,7 @@ fn print_fields(out: &mut Text, row: &Row<'_>, first: Mark, mark: Mark) -> Resul
 #[inline(always)]
 fn print_labels(out: &mut Text, labels: RowLabels<'_>, mark: Mark) -> Result<(), AllocError>
     ensures ok { OnOk result (out.new ≡ out.old ++ flat_map (marked mark) (label_fields (label_texts labels.entry))) }
-    ensures err { OnErr result (BeginsWith out.old out.new) }
+    ensures err { OnErr result (IsFrontOf out.old out.new) }
 {
     out.push_field(mark, labels.src.unwrap_or(b""))?;
     out.push_field(mark, labels.dst.unwrap_or(b""))
@@ -154,7 +154,7 @@ impl Table {
 fn labels_at<'a>(labels: Option<&[RowLabels<'a>]>, index: usize) -> Option<RowLabels<'a>>
     requires { ForSome labels (λ given. index < length given.now) }
     ensures given { is_some result ≡ is_some labels.entry }
-    ensures texts { option_map label_texts result ≡ labels_at (given_labels labels.entry) index }
+    ensures texts { option_map label_texts result ≡ labels_of_row (given_labels labels.entry) index }
 {
     Some(labels?[index])
 }

@@ -1,7 +1,7 @@
 //! A text that is written field by field.
 ghost use Rattle.std.specs.Prelude.{◌≡◌, ◌+◌, ◌^◌, ◌<◌, ◌≤◌, ◌++◌, [], OnErr, OnOk, decimal, drop, length, take};
 ghost use Rattle.prefix_keys.specs.Print.{address_text};
-ghost use Rattle.pmap_print.specs.Table.{BeginsWith, marked};
+ghost use Rattle.pmap_print.specs.Table.{IsFrontOf, marked};
 
 use crate::mark::Mark;
 use itoa::{Buffer, write_digits};
@@ -129,7 +129,7 @@ impl Text {
     pub fn push_field(&mut self, mark: Mark, field: &[u8]) -> Result<(), AllocError>
         requires { length field.now ≤ 255 }
         ensures ok { OnOk result (self.new ≡ self.old ++ marked mark field.now) }
-        ensures err { OnErr result (BeginsWith self.old self.new) }
+        ensures err { OnErr result (IsFrontOf self.old self.new) }
     {
         self.push_start(&[mark.of(field.len())], 1)?;
         self.push_start(field, field.len())

@@ -6,7 +6,7 @@ use Rattle.std.proofs.lemmas.List.{length-map}
 use Rattle.prefix_keys.specs.Block.{first_of, last_of}
 use Rattle.pmap_text.specs.MapModel.{Label, Mapping, last_such, meets, settled_by, spans_all}
 use Rattle.pmap_text.specs.MapText.{mapping_of, Statement}
-use Rattle.pmap_text.specs.Settled.{ends, ends_inside, ends_of, one_if}
+use Rattle.pmap_text.specs.Settled.{ends, ends_inside, ends_of_mapping, one_if}
 use Rattle.pmap_text.specs.Stretches.{mappings_of}
 use Rattle.pmap_text.proofs.Blocks.{first_of-lower, pow-half}
 use Rattle.pmap_text.proofs.LastSuch.{last_such-cases, last_such-passes}
@@ -17,8 +17,8 @@ IsUnsettled W ss n q =
     (table : List Label) (x : Label) → settled_by W n q x (last_such (meets W n q) (mappings_of table ss)) ≡ None
 
 ends_of-split : (first middle last : ℕ) (m : Mapping) → first ≤ middle → middle + 1 ≤ last
-    → ends_of first middle m + ends_of (middle + 1) last m ≤ ends_of first last m
-unfolding ends_of
+    → ends_of_mapping first middle m + ends_of_mapping (middle + 1) last m ≤ ends_of_mapping first last m
+unfolding ends_of_mapping
 ends_of-split first middle last m le le' = by m.low m.high le le'
   where
     by : (low high : ℕ) → first ≤ middle → middle + 1 ≤ last
@@ -41,8 +41,8 @@ ends-parted : (first first' middle middle' last last' : ℕ) (ms : List Mapping)
     → first ≤ middle → middle + 1 ≤ last → ends first' middle ms + ends middle' last' ms ≤ ends first last ms
 ends-parted first first' middle middle' last last' ms e f g le le' = rw (e, f, g) (ends-split first middle last ms le le')
 
-ends_of-two : (first last : ℕ) (m : Mapping) → ends_of first last m ≤ 2
-unfolding ends_of
+ends_of-two : (first last : ℕ) (m : Mapping) → ends_of_mapping first last m ≤ 2
+unfolding ends_of_mapping
 ends_of-two first last m = by (nat_lt first m.low && nat_le m.low last) (nat_le first m.high && nat_lt m.high last)
   where
     by : (a b : Bool) → one_if a + one_if b ≤ 2
@@ -60,21 +60,21 @@ ends-few first last (m ∷ ms) =
     omega arith
 
 -- a mapping that meets a block but doesn't cover it has an end inside
-ends_of-met : (W n q : ℕ) (m : Mapping) → meets W n q m ≡ true → spans_all W n q m ≡ false → 1 ≤ ends_of (first_of W n q) (last_of W n q) m
-unfolding ends_of
+ends_of-met : (W n q : ℕ) (m : Mapping) → meets W n q m ≡ true → spans_all W n q m ≡ false → 1 ≤ ends_of_mapping (first_of W n q) (last_of W n q) m
+unfolding ends_of_mapping
 ends_of-met W n q m met part = by m.low m.high (first_of W n q) (last_of W n q) met part
   where
     by : (low high first last : ℕ) → (nat_le low last && nat_le first high) ≡ true → (nat_le low first && nat_le last high) ≡ false
         → 1 ≤ one_if (nat_lt first low && nat_le low last) + one_if (nat_le first high && nat_lt high last)
     by low high first last met part = grind (arith, nat_tests)
 
-ends-last : (first last : ℕ) (test : Mapping → Bool) (ms : List Mapping) (s : Mapping) → last_such test ms ≡ Some s → ends_of first last s ≤ ends first last ms
+ends-last : (first last : ℕ) (test : Mapping → Bool) (ms : List Mapping) (s : Mapping) → last_such test ms ≡ Some s → ends_of_mapping first last s ≤ ends first last ms
 unfolding ends
 ends-last first last test [] s e = absurd cc
 ends-last first last test (m ∷ ms) s e =
     elim (last_such-cases test m ms s e) [
       | inl h ↦ let rest = ends-last first last test ms s h in omega arith
-      | inr h ↦ subst (λ (p : Mapping). ends_of first last p ≤ ends_of first last m + ends first last ms) h.2 (omega arith)
+      | inr h ↦ subst (λ (p : Mapping). ends_of_mapping first last p ≤ ends_of_mapping first last m + ends first last ms) h.2 (omega arith)
     ]
 
 -- a block that isn't settled has an end inside

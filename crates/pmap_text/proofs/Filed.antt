@@ -14,11 +14,12 @@ use Rattle.std.specs.Ordering.{is_eq, nat_cmp, ordering_then}
 use Rattle.std.specs.Prelude.{nat_lt}
 use Rattle.std.specs.declared.cmp.Ordering.{Ordering}
 use Rattle.std.specs.declared.cmp.Ordering.TheVariants.{Equal, Greater, Less}
-use Rattle.pmap_text.specs.Inner.{HasDistinctKeys, IsFirstRepeat, has_key, key_cmp, same_key, has_prefix}
+use Rattle.pmap_text.specs.Inner.{HasDistinctKeys, IsFirstRepeat, has_key, key_cmp}
 use Rattle.pmap_text.specs.ListEntries.{HasDistinctBlocks, rank_of, same_block}
-use Rattle.pmap_text.specs.ListModel.{Prefix}
+use Rattle.pmap_text.specs.ListModel.{Prefix, same_start_and_bits}
 use Rattle.pmap_text.specs.MapModel.{Label}
 use Rattle.pmap_text.specs.PrefixList.{prefix_of, Entry}
+use Rattle.pmap_text.specs.Reading.{has_prefix}
 
 -- the keys are the starts and lengths of the entries' blocks, no two of which are equal
 pub record AreFiled (prefixes : List Prefix) (keys : List (ℕ × ℕ)) : Type 0 where
@@ -77,7 +78,7 @@ cond-or true false = refl
 cond-or false true = refl
 cond-or false false = refl
 
-same_key-equiv : IsEquivalence same_key
+same_key-equiv : IsEquivalence same_start_and_bits
 same_key-equiv = and_equiv (on_equiv (λ p. p.start) nat_eq_equiv) (on_equiv (λ p. p.bits) nat_eq_equiv)
 
 pub AreFiled-push : (prefixes : List Prefix) (p : Prefix) (keys more : List (ℕ × ℕ)) → AreFiled prefixes keys →
@@ -119,12 +120,12 @@ all_last P (x ∷ xs) y h = all_last P xs y h.1
 pub once-front : (ps : List Prefix) (p : Prefix) → HasDistinctKeys (ps ++ p ∷ []) → HasDistinctKeys ps
 unfolding IsDistinct
 once-front [] p h = tt
-once-front (q ∷ qs) p h = (all_front (λ r. same_key q r ≡ false) qs p h.0, once-front qs p h.1)
+once-front (q ∷ qs) p h = (all_front (λ r. same_start_and_bits q r ≡ false) qs p h.0, once-front qs p h.1)
 
 pub once-last : (ps : List Prefix) (p : Prefix) → HasDistinctKeys (ps ++ p ∷ []) → has_prefix ps p.start p.bits ≡ false
 unfolding IsDistinct
 once-last [] p h = refl
-once-last (q ∷ qs) p h = ap₂ ◌||◌ (all_last (λ r. same_key q r ≡ false) qs p h.0) (once-last qs p h.1)
+once-last (q ∷ qs) p h = ap₂ ◌||◌ (all_last (λ r. same_start_and_bits q r ≡ false) qs p h.0) (once-last qs p h.1)
 
 -- entries that ascend have distinct blocks
 rank_apart : (d e : Entry) → rank_of d.block < rank_of e.block → same_block d e ≡ false
@@ -149,7 +150,7 @@ distinct_sorted es sorted moved = IsDistinct-IsPermutation same_block flips sort
 
 -- and so for their prefixes
 pub distinct_keys : (table : List Label) (es : List Entry) → HasDistinctBlocks es → HasDistinctKeys (map (prefix_of table) es)
-distinct_keys table es = distinct_to_map (prefix_of table) same_key es
+distinct_keys table es = distinct_to_map (prefix_of table) same_start_and_bits es
 
 -- one more key
 pub filed_more : (table : List Label) (es : List Entry) (i : ℕ) (e : Entry) (keys more : List (ℕ × ℕ)) → i < length es → e ≡ get_or es i e

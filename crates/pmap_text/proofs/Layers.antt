@@ -10,7 +10,7 @@ use Rattle.std.proofs.lemmas.Option.{same_Some}
 use Rattle.prefix_keys.specs.Block.{width_of}
 use Rattle.pmap_text.specs.MapModel.{Label, Mapping, MapModel, last_such, spans}
 use Rattle.pmap_text.specs.MapText.{Statement, mapping_of}
-use Rattle.pmap_text.specs.Settled.{ends, ends_of, one_if}
+use Rattle.pmap_text.specs.Settled.{ends, ends_of_mapping, one_if}
 use Rattle.pmap_text.specs.Stretches.{AreStretches, HasEveryAddress, HoldsAddress, IsStretch, LabelId, StretchesModel, count_begun, first_at, label_at, last_at, mappings_of, winner}
 use Rattle.pmap_text.proofs.Ends.{ends-few}
 use Rattle.pmap_text.proofs.LastSuch.{last_such-push}
@@ -158,8 +158,8 @@ module _ (s : StretchesModel) (every : HasEveryAddress s) where
 
 -- The number of stretches.
 
-ends_of-shared : (first middle last : ℕ) (m : Mapping) → first ≤ middle → middle ≤ last → ends_of first middle m + ends_of middle last m ≤ ends_of first last m
-unfolding ends_of
+ends_of-shared : (first middle last : ℕ) (m : Mapping) → first ≤ middle → middle ≤ last → ends_of_mapping first middle m + ends_of_mapping middle last m ≤ ends_of_mapping first last m
+unfolding ends_of_mapping
 ends_of-shared first middle last m le le' = by m.low m.high le le'
   where
     by : (low high : ℕ) → first ≤ middle → middle ≤ last
@@ -174,8 +174,8 @@ ends-shared first middle last [] le le' = omega arith
 ends-shared first middle last (m ∷ ms) le le' = omega (arith, ends_of-shared first middle last m le le', ends-shared first middle last ms le le')
 
 -- without an end between two neighbours, a mapping covers both or neither
-ends_of-none : (a : ℕ) (m : Mapping) → ends_of a (a + 1) m ≡ 0 → spans a m ≡ spans (a + 1) m
-unfolding ends_of
+ends_of-none : (a : ℕ) (m : Mapping) → ends_of_mapping a (a + 1) m ≡ 0 → spans a m ≡ spans (a + 1) m
+unfolding ends_of_mapping
 ends_of-none a m none = by m.low m.high none
   where
     by : (low high : ℕ) → one_if (nat_lt a low && nat_le low (a + 1)) + one_if (nat_le a high && nat_lt high (a + 1)) ≡ 0

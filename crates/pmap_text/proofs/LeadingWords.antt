@@ -12,10 +12,10 @@ use Rattle.prefix_keys.proofs.Bytes.{all-weaker, apart, lacks, none-passes}
 use Rattle.prefix_keys.proofs.LeadingGroups.{colon-in}
 use Rattle.prefix_keys.proofs.Pieces.{is_point, of_all}
 use Rattle.prefix_keys.specs.Block.{block_number, first_of, width_of}
-use Rattle.prefix_keys.specs.Inner.{BeginsWith, is_colon_byte, colon_address}
+use Rattle.prefix_keys.specs.Inner.{BeginsWith, is_colon_byte}
 use Rattle.prefix_keys.proofs.ReadBack.{block_from}
 use Rattle.std.specs.Char.{is_ascii_hexdigit}
-use Rattle.prefix_keys.specs.Text.{AddressOf, BlockOf, address_of, block_of_text, decimal_value, dotted_address, four_bytes, is_digit, decimal_number}
+use Rattle.prefix_keys.specs.Text.{AddressOf, BlockOf, address_of, block_of_text, decimal_value, dotted_address, four_bytes, is_digit, decimal_number, colon_address}
 use Rattle.prefix_keys.specs.declared.addr.Addr.{Addr}
 use Rattle.prefix_keys.specs.declared.block.Block.{Block}
 use Rattle.prefix_keys.specs.declared.text.BlockFault.TheVariants.{BadLength}

@@ -8,9 +8,13 @@ use Rattle.std.proofs.lemmas.List.{append_assoc}
 use Rattle.std.proofs.lemmas.List.Elements.{All-append, All-cons, All-contains, All-contains_itself, Contains-append_right}
 use Rattle.std.proofs.lemmas.List.Sorted.{Contains-permutation, IsPermutation-sym}
 use Rattle.prefix_keys.specs.Block.{block_number}
-use Rattle.pmap_text.specs.ListModel.{Prefix, covers, label_of_length, label_below, CoversAddress, HasSamePrefixes, IsLongestMatch, LabelsBlocksOnce, is_same_prefix}
+use Rattle.pmap_text.specs.ListModel.{Prefix, covers, label_below, CoversAddress, HasSamePrefixes, IsLongestMatch, LabelsBlocksOnce, is_same_prefix}
 use Rattle.pmap_text.specs.MapModel.{Label}
 use Rattle.pmap_text.proofs.Finds.{All-left, All-right, Contains-first, distinct_same, find-fails, find-first, find-place, find_alike, find_none}
+
+-- the label of the first entry of n bits that covers the address
+abbrev pub label_of_length : ℕ → List Prefix → ℕ → ℕ → Option Label
+label_of_length W ps n a = option_map (λ p. p.label) (find (covers W n a) ps)
 
 -- an entry passes the test for n bits if it has n bits and covers the address
 pub covers-true : (W n a : ℕ) (p : Prefix) → n ≤ W → covers W n a p ≡ true → (p.bits ≡ n) × CoversAddress W a p

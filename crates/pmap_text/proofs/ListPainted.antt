@@ -12,7 +12,7 @@ use Rattle.pmap_text.specs.ListModel.{Prefix, list_label}
 use Rattle.pmap_text.specs.MapModel.{Label, Mapping, last_such, spans}
 use Rattle.pmap_text.specs.MapText.{mapping_of, text_at, Statement}
 use Rattle.pmap_text.specs.PrefixList.{AreShortestFirst, HasStatement, list_of, prefix_of, Entry, PrefixList}
-use Rattle.pmap_text.specs.Stretches.{mappings_of, text_won}
+use Rattle.pmap_text.specs.Stretches.{mappings_of}
 use Rattle.pmap_text.proofs.Finds.{Contains-from_map, distinct_same}
 use Rattle.pmap_text.proofs.ListBlocks.{block_short, same_block-from}
 use Rattle.pmap_text.proofs.Longest.{AreBlocks, label_seen}
@@ -20,6 +20,7 @@ use Rattle.pmap_text.proofs.Orders.{known_text}
 use Rattle.pmap_text.proofs.Painted.{IsAscending, IsSeen, painted, ascending, seen_by, seen_permuted, unmet}
 use Rattle.pmap_text.proofs.Seen.{last_such-is}
 use Rattle.pmap_text.proofs.SeenBlocks.{IsWhole, address_whole, ordered_of}
+use Rattle.pmap_text.proofs.Winners.{text_won}
 
 -- what is true of each entry is true of its statement in another form
 pub zip_all : (P : Entry → Type 0) (Q : Statement → Type 0) → ((e : Entry) (s : Statement) → HasStatement e s → P e → Q s) → (es : List Entry)

@@ -6,12 +6,13 @@ use Rattle.std.proofs.lemmas.Bool.{and_from, and_parts, both_ways, cases_eq, cas
 use Rattle.std.proofs.lemmas.Option.{none-some, same_Some}
 use Rattle.std.proofs.lemmas.List.Elements.{All-contains, All-weaker}
 use Rattle.prefix_keys.specs.Block.{block_number, first_of, last_of}
-use Rattle.pmap_text.specs.ListModel.{Prefix, covers, label_of_length, label_below, lies_inside}
+use Rattle.pmap_text.specs.ListModel.{Prefix, covers, label_below, lies_inside}
 use Rattle.pmap_text.specs.MapModel.{Label, meets, spans_all}
 use Rattle.pmap_text.proofs.Finds.{filter_none, find_alike, find_none}
 use Rattle.pmap_text.proofs.Blocks.{address-between, address-first, address-last}
 use Rattle.pmap_text.proofs.Orders.{both_le, known_text, le_both}
 use Rattle.pmap_text.proofs.Painted.{painted, IsTop, IsSeen}
+use Rattle.pmap_text.proofs.ListLabels.{label_of_length}
 
 -- prefixes of blocks; those with the same block have the same label
 pub record AreBlocks (W : ℕ) (ps : List Prefix) : Type 0 where

@@ -14,8 +14,8 @@ use Rattle.pmap_text.specs.MapModel.{Label, MapModel}
 use Rattle.pmap_text.specs.MapText.{mapping_of, text_at, Statement}
 use Rattle.pmap_text.specs.PrefixList.{prefix_of, Entry}
 use Rattle.pmap_text.specs.Progress.{IsProgress, progress_of}
-use Rattle.pmap_text.specs.Reading.{label_limit, unknown}
-use Rattle.pmap_text.specs.Inner.{has_prefix, map_from}
+use Rattle.pmap_text.specs.Reading.{label_limit, unknown, has_prefix}
+use Rattle.pmap_text.specs.Inner.{map_from}
 use Rattle.pmap_text.specs.declared.label.LabelId.{LabelId}
 use Rattle.pmap_text.proofs.LabelTexts.{list_any-map, slice_get-with_label, with_label-known}
 

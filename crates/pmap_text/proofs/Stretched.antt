@@ -6,14 +6,14 @@ use Rattle.std.proofs.lemmas.List.{get_or_default}
 use Rattle.std.proofs.lemmas.Option.{same_Some}
 use Rattle.prefix_keys.specs.Block.{width_of}
 use Rattle.pmap_text.specs.MapModel.{Label}
-use Rattle.pmap_text.specs.Stretches.{AreLabelsBelow, HasEveryAddress, StretchesModel, first_at, label_at, label_seen, last_at, text_held, text_won, LabelId}
+use Rattle.pmap_text.specs.Stretches.{AreLabelsBelow, HasEveryAddress, StretchesModel, first_at, label_at, label_seen, last_at, text_held, LabelId}
 use Rattle.pmap_text.specs.Inner.{AreAlike, AreStretchesTo, AreSwept, HasTop, HaveLabelsWon, IsBegin, IsWinner, last_first, statement_won, top_of}
 use Rattle.pmap_text.specs.declared.statement.Statement.{Statement}
 use Rattle.pmap_text.specs.declared.stretches.growing.Growing.{Growing}
 use Rattle.pmap_text.proofs.Layers.{last-within, stretches-few}
 use Rattle.pmap_text.proofs.Ranges.{Adds, first_early, first_late, held_index, holder, label_early, label_late, last_early, last_end, last_late, length_added, next_first, ordered_at}
 use Rattle.pmap_text.proofs.Seen.{seen_at}
-use Rattle.pmap_text.proofs.Winners.{known_won, stretch_of, winner_one, winner_text, winners_apart}
+use Rattle.pmap_text.proofs.Winners.{known_won, stretch_of, winner_one, winner_text, winners_apart, text_won}
 
 number_one : (x y : Option LabelId) → option_map (λ id. id.0) x ≡ option_map (λ id. id.0) y → x ≡ y
 number_one None None e = refl

@@ -5,12 +5,17 @@ use Rattle.std.specs.Prelude.{nat_eq}
 use Rattle.std.proofs.lemmas.Bool.{eq-eqb, eqb-true}
 use Rattle.std.proofs.lemmas.List.Elements.{All-contains}
 use Rattle.std.proofs.lemmas.Option.{get_or_from_slice_get, same_Some, slice_get_within}
-use Rattle.pmap_text.specs.MapModel.{Label, Mapping}
+use Rattle.pmap_text.specs.MapModel.{Label, Mapping, last_such, spans}
 use Rattle.pmap_text.specs.MapText.{mapping_of, text_at, Statement}
-use Rattle.pmap_text.specs.Stretches.{HasStretch, label_seen, text_won, LabelId}
+use Rattle.pmap_text.specs.Stretches.{HasStretch, label_seen, mappings_of, LabelId}
 use Rattle.pmap_text.specs.Inner.{IsWinner, statement_won}
 use Rattle.pmap_text.proofs.Orders.{known_text}
 use Rattle.pmap_text.proofs.Seen.{none_at, seen_at, seen_last}
+
+-- the label text that statements give an address: that of the statement that wins there, otherwise the default's
+abbrev pub text_won : List Label → Option LabelId → List Statement → ℕ → Option Label
+text_won table default ss a =
+    option_or (option_map (λ m. m.label) (last_such (spans a) (mappings_of table ss))) (option_map (λ id. text_at table id.0) default)
 
 -- the statement that is seen is the one that wins
 pub winner_seen : (table : List Label) (ss : List Statement) (a : ℕ) (won : Option ℕ) → IsWinner ss a won

@@ -1,6 +1,6 @@
-use Rattle.std.specs.Prelude.{ℕ, ◌*◌, ◌-◌, ◌/◌, ◌%◌, ◌^◌, List, bit_and, bit_or, bit_xor, drop, length, ◌≡◌, ◌||◌, ◌==◌, Bool, true, false, if◌then◌else◌, ◌∷◌, ◌++◌, Some, Ok, nat_lt, ◌+◌, ◌<◌, ◌≤◌, ◌⊎◌, Option, All, Contains, IsSomeAnd, option_and_then, option_map, slice_get, unwrap_or, ◌&&◌, None, take, ◌≢◌, [], Result, Err, IfErr, IfOk, OnErr, OnOk}
+use Rattle.std.specs.Prelude.{ℕ, ◌*◌, ◌-◌, ◌/◌, ◌%◌, ◌^◌, List, bit_and, bit_or, bit_xor, drop, length, ◌≡◌, ◌||◌, ◌==◌, Bool, true, false, if◌then◌else◌, ◌∷◌, ◌++◌, Some, Ok, ◌+◌, ◌<◌, ◌≤◌, ◌⊎◌, Option, All, Contains, IsSomeAnd, option_and_then, option_map, slice_get, unwrap_or, ◌&&◌, None, take, ◌≢◌, [], Result, Err, IfErr, IfOk, OnErr, OnOk}
 use Rattle.std.specs.Int.{from_le_bytes, w64}
-use Rattle.std.specs.List.{fold, list_any, suffix_len, IsDistinct}
+use Rattle.std.specs.List.{fold, list_any, IsDistinct}
 use Rattle.std.specs.Simd.{first_chunks}
 use Rattle.std.specs.Option.{ForSome, option_map_or}
 use Rattle.std.specs.Ordering.{is_eq, nat_cmp, ordering_then}
@@ -8,7 +8,7 @@ use Rattle.std.specs.declared.cmp.Ordering.{Ordering}
 use Rattle.std.specs.Char.{is_ascii_hexdigit}
 use Rattle.prefix_keys.specs.Text.{AddressOf, address_of, block_of_text, is_digit}
 use Rattle.pmap_text.specs.declared.hashing.KeyHasher.{KeyHasher}
-use Rattle.pmap_text.specs.Label.{has_label, is_blank, meant_text, with_label}
+use Rattle.pmap_text.specs.Label.{is_blank, meant_text, with_label}
 pub use Rattle.pmap_text.specs.declared.reading.leading.Word.{Word}
 pub use Rattle.pmap_text.specs.declared.reading.leading.Word.TheVariants.{Address}
 use Rattle.pmap_text.specs.declared.reading.leading.Word.TheVariants.{Block as block_word}
@@ -19,8 +19,8 @@ use Rattle.pmap_text.specs.declared.stretches.growing.Growing.{Growing}
 use Rattle.pmap_text.specs.Stretches.{AreRunsOf, AreStretches, HasEveryAddress, LabelId, StretchesModel, first_at, label_at, label_held, label_seen, last_at}
 use Rattle.prefix_keys.specs.Block.{width_of}
 use Rattle.prefix_keys.specs.declared.version.Version.TheVariants.{V4}
-use Rattle.pmap_text.specs.ListModel.{ListModel, Prefix}
-use Rattle.pmap_text.specs.Reading.{◌>>=◌, after_word, block_line, label_limit, label_of, lines_of, lines_read, no_lines, range_line, unknown, Earlier, MapFault, MapFaultKind, DuplicateBlock, NoMemory, Form}
+use Rattle.pmap_text.specs.ListModel.{ListModel, Prefix, same_start_and_bits}
+use Rattle.pmap_text.specs.Reading.{after_word, block_line, lines_of, lines_read, no_lines, range_line, unknown, Earlier, MapFault, MapFaultKind, DuplicateBlock, NoMemory, Form, has_prefix, has_room}
 use Rattle.pmap_text.specs.MapModel.{Label, MapModel}
 
 -- The hash that a `KeyHasher` computes. No other contract depends on it.
@@ -179,21 +179,6 @@ pub record Continues (joins : Bool) (ss : List Statement) (old new : Ascent) : T
 
 -- Steps of the reading of a line, and of a text.
 
-abbrev pub trim_end : List ℕ → List ℕ
-trim_end text = take (length text - suffix_len is_blank text) text
-
--- `map-name NAME`
-abbrev pub name_line : Earlier → List ℕ → Result Earlier MapFaultKind
-name_line earlier rest = label_of rest >>= (λ name. Ok (record earlier { name = Some name }))
-
--- the text is known, or there is room for one more
-abbrev pub has_room : List Label → Label → Bool
-has_room table text = has_label table text || nat_lt (length table) label_limit
-
--- whether there is an entry for the block of this length with this first address
-abbrev pub has_prefix : List Prefix → ℕ → ℕ → Bool
-has_prefix prefixes start bits = list_any (λ p. p.start == start && p.bits == bits) prefixes
-
 -- a line that begins with an address, and with a second one if there is one
 abbrev pub one_or_two : Form → Earlier → AddressOf → Option AddressOf → List ℕ → Result Earlier MapFaultKind
 one_or_two form earlier first second rest =
@@ -220,11 +205,8 @@ list_from lines =
 
 -- How a repeated block is found. This is private, and callers of the crate need not read it.
 
-abbrev pub same_key : Prefix → Prefix → Bool
-same_key p r = p.start == r.start && p.bits == r.bits
-
 abbrev pub HasDistinctKeys : List Prefix → Type 0
-HasDistinctKeys prefixes = IsDistinct same_key prefixes
+HasDistinctKeys prefixes = IsDistinct same_start_and_bits prefixes
 
 abbrev pub key_cmp : ℕ × ℕ → ℕ × ℕ → Ordering
 key_cmp x y = ordering_then (nat_cmp x.0 y.0) (nat_cmp x.1 y.1)

@@ -26,7 +26,8 @@ covers W n a p = p.bits == n && block_number W n p.start == block_number W n a
 -- the label of the longest entry of fewer than n bits that covers the address, and of equal blocks the first
 abbrev pub label_below : ℕ → List Prefix → ℕ → ℕ → Option Label
 label_below W ps zero a = None
-label_below W ps (suc n) a = option_or (option_map (λ p. p.label) (find (covers W n a) ps)) (label_below W ps n a)
+label_below W ps (suc n) a =
+    option_or (option_map (λ p. p.label) (find (covers W n a) ps)) (label_below W ps n a)
 
 -- the label of the longest entry that covers the address, or none if no entry covers it
 abbrev pub list_label : ListModel → ℕ → Option Label
@@ -41,11 +42,9 @@ pub record IsEquivalent (l : ListModel) (m : MapModel) : Type 0 where
 abbrev pub lies_inside : ℕ → ℕ → ℕ → Prefix → Bool
 lies_inside W n q p = nat_lt n p.bits && block_number W n p.start == q
 
--- The terms of the laws about prefix lists: the longest entry that covers an address, and lists with the same entries.
+-- Below: only contracts of parts and proofs use these; no promise of the program rests on them.
 
--- the label of the first entry of n bits that covers the address
-abbrev pub label_of_length : ℕ → List Prefix → ℕ → ℕ → Option Label
-label_of_length W ps n a = option_map (λ p. p.label) (find (covers W n a) ps)
+-- The terms of the laws about prefix lists: the longest entry that covers an address, and lists with the same entries.
 
 -- among addresses of W bits, the entry's block covers the address
 pub record CoversAddress (W a : ℕ) (p : Prefix) : Type 0 where
@@ -64,6 +63,10 @@ pub record IsLongestMatch (W : ℕ) (ps : List Prefix) (a : ℕ) (p : Prefix) : 
 -- two entries have the same block
 abbrev pub is_same_prefix : ℕ → Prefix → Prefix → Bool
 is_same_prefix W p r = p.bits == r.bits && block_number W p.bits p.start == block_number W r.bits r.start
+
+-- two entries have the same start and number of bits, so if a start has no host bits, the same block
+abbrev pub same_start_and_bits : Prefix → Prefix → Bool
+same_start_and_bits p r = p.start == r.start && p.bits == r.bits
 
 -- entries with the same block have the same label
 abbrev pub LabelsBlocksOnce : ℕ → List Prefix → Type 0

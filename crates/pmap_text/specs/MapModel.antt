@@ -28,9 +28,13 @@ abbrev pub last_such : (Mapping → Bool) → List Mapping → Option Mapping
 last_such p [] = None
 last_such p (m ∷ ms) = option_or (last_such p ms) (if p m then Some m else None)
 
+-- the mapping's span covers the address
+abbrev pub spans : ℕ → Mapping → Bool
+spans a m = nat_le m.low a && nat_le a m.high
+
 -- the label of an address: that of the last mapping that covers it, otherwise the default
 abbrev pub map_label : MapModel → ℕ → Label
-map_label m a = option_map_or (λ p. p.label) (last_such (λ p. nat_le p.low a && nat_le a p.high) m.mappings) m.fallback
+map_label m a = option_map_or (λ p. p.label) (last_such (spans a) m.mappings) m.fallback
 
 -- among addresses of W bits, the mapping's span covers some address of the block of n bits with the number q
 abbrev pub meets : ℕ → ℕ → ℕ → Mapping → Bool
@@ -50,12 +54,11 @@ settled_by W n q x (Some m) = if spans_all W n q m then Some m.label else None
 -- mapping meets it and the default is that label. None means that the block is not settled.
 abbrev pub settled_label : MapModel → ℕ → ℕ → Option Label
 settled_label m n q =
-    settled_by (width_of m.version) n q m.fallback (last_such (meets (width_of m.version) n q) m.mappings)
+    settled_by (width_of m.version) n q m.fallback
+    (last_such (meets (width_of m.version) n q) m.mappings)
+
+-- Below: only contracts of parts and proofs use these; no promise of the program rests on them.
 
 -- the block of n bits with the number q is settled with the label x
 abbrev pub IsSettled : MapModel → ℕ → ℕ → Label → Type 0
 IsSettled m n q x = settled_label m n q ≡ Some x
-
--- the mapping's span covers the address
-abbrev pub spans : ℕ → Mapping → Bool
-spans a m = nat_le m.low a && nat_le a m.high

@@ -1,11 +1,18 @@
-use Rattle.std.specs.Prelude.{ℕ, List, [], map, slice_get, unwrap_or}
+use Rattle.std.specs.Prelude.{ℕ, List, [], Option, map, option_map, slice_get, unwrap_or}
 use Rattle.pmap_text.specs.MapModel.{Label, Mapping, MapModel}
+use Rattle.pmap_text.specs.declared.label.LabelId.{LabelId}
 pub use Rattle.pmap_text.specs.declared.map_text.MapText.{MapText}
 pub use Rattle.pmap_text.specs.declared.statement.Statement.{Statement}
 
 -- the label text with a number
 abbrev pub text_at : List Label → ℕ → Label
 text_at table number = unwrap_or (slice_get table number) []
+
+-- Below: only contracts of parts and proofs use these; no promise of the program rests on them.
+
+-- the label text with a number, if there is a number
+abbrev pub text_if_some : List Label → Option LabelId → Option Label
+text_if_some table number = option_map (λ id. text_at table id.0) number
 
 -- a statement as a mapping to a label text
 abbrev pub mapping_of : List Label → Statement → Mapping

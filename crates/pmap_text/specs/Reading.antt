@@ -31,10 +31,13 @@ lines_of (b ∷ bs) = if b == 10 then [] ∷ lines_of bs else onto_first b (line
 abbrev pub trim_start : List ℕ → List ℕ
 trim_start text = drop (position_or_len (λ b. not (is_blank b)) text) text
 
+-- a text without its trailing blanks
+abbrev pub trim_end : List ℕ → List ℕ
+trim_end text = take (length text - suffix_len is_blank text) text
+
 -- the content of a line: the text before the first `#`, without outer blanks
 abbrev pub content_of : List ℕ → List ℕ
-content_of line =
-    let text = trim_start (before_first (λ b. b == 35) line) in take (length text - suffix_len is_blank text) text
+content_of line = trim_end (trim_start (before_first (λ b. b == 35) line))
 
 -- the first word of a line's content, and the text after it
 abbrev pub first_word : List ℕ → List ℕ
@@ -59,7 +62,15 @@ pub record Earlier : Type 0 where
 -- the state before the first line
 abbrev pub no_lines : Earlier
 no_lines =
-    record { version = None; name = None; declared = []; fallback = None; mappings = []; prefixes = []; table = [] }
+    record {
+      version = None;
+      name = None;
+      declared = [];
+      fallback = None;
+      mappings = [];
+      prefixes = [];
+      table = [];
+    }
 
 -- the maximum number of mappings, and of label texts, of a text
 abbrev pub mapping_limit : ℕ
@@ -79,12 +90,19 @@ abbrev pub label_of : List ℕ → Result Label MapFaultKind
 label_of [] = Err MissingLabel
 label_of (b ∷ bs) = if is_label (b ∷ bs) then Ok (b ∷ bs) else Err BadLabel
 
--- a text added to the table, if there is room for what the line says, and the text is known or there is room for one
--- more
+-- the text is known, or there is room for one more
+abbrev pub has_room : List Label → Label → Bool
+has_room table text = has_label table text || nat_lt (length table) label_limit
+
+-- a text added to the table, if there is room for what the line says and for the text
 abbrev pub with_text : Bool → Label → Earlier → Result Earlier MapFaultKind
 with_text room text earlier =
-    if room && (has_label earlier.table text || nat_lt (length earlier.table) label_limit)
+    if room && has_room earlier.table text
     then Ok (record earlier { table = with_label earlier.table text }) else Err TooMany
+
+-- `map-name NAME`
+abbrev pub name_line : Earlier → List ℕ → Result Earlier MapFaultKind
+name_line earlier rest = label_of rest >>= (λ name. Ok (record earlier { name = Some name }))
 
 -- the version that the word of a mode names
 abbrev pub mode_version : List ℕ → Option Version
@@ -96,7 +114,8 @@ mode_version word =
 abbrev pub mode_line : Earlier → Option Version → Result Earlier MapFaultKind
 mode_line earlier named = ok_or named BadMode >>= (λ version.
     if nat_lt 0 (length earlier.mappings + length earlier.prefixes) then Err ModeLate
-    else (if is_some earlier.version then Err ModeRepeated else Ok (record earlier { version = Some version })))
+    else (if is_some earlier.version then Err ModeRepeated
+    else Ok (record earlier { version = Some version })))
 
 -- `label NUMBER TEXT`: the text is a label that doesn't consist of digits alone, no number has two texts, and no text
 -- has two numbers
@@ -104,7 +123,8 @@ abbrev pub label_line : Earlier → Option ℕ → List ℕ → Result Earlier M
 label_line earlier named rest = ok_or named BadStatement >>= (λ number. label_of rest >>= (λ text.
     if list_all is_digit text then Err BadLabel
     else (if conflicts earlier.declared number text then Err LabelConflict
-    else with_text true text (record earlier { declared = with_declared earlier.declared (number, text) }))))
+    else with_text true text
+    (record earlier { declared = with_declared earlier.declared (number, text) }))))
 
 -- `default LABEL`, which is not allowed in a list
 abbrev pub default_line : Form → Earlier → List ℕ → Result Earlier MapFaultKind
@@ -122,14 +142,19 @@ span_line earlier version low high rest =
       mappings = earlier.mappings ++ record { low = low; high = high; label = text } ∷ [];
     }))
 
+-- whether there is an entry for the block of this length with this first address
+abbrev pub has_prefix : List Prefix → ℕ → ℕ → Bool
+has_prefix prefixes start bits = list_any (λ p. p.start == start && p.bits == bits) prefixes
+
 -- the block of this length with this first address, followed by a label: in a map the span of its addresses, in a list
 -- the block itself, which no earlier entry has
 abbrev pub placed_line : Form → Earlier → Version → ℕ → ℕ → List ℕ → Result Earlier MapFaultKind
 placed_line form.Map earlier version start bits rest =
-    span_line earlier version start (last_of (width_of version) bits (block_number (width_of version) bits start)) rest
+    span_line earlier version start
+    (last_of (width_of version) bits (block_number (width_of version) bits start)) rest
 placed_line form.List earlier version start bits rest =
     label_of rest >>= (λ label. let text = meant_text earlier.declared label in
-    if list_any (λ p. p.start == start && p.bits == bits) earlier.prefixes then Err DuplicateBlock
+    if has_prefix earlier.prefixes start bits then Err DuplicateBlock
     else with_text (nat_lt (length earlier.prefixes) mapping_limit) text (record earlier {
       version = Some version;
       prefixes = earlier.prefixes ++ record { start = start; bits = bits; label = text } ∷ [];
@@ -143,16 +168,19 @@ number_in V6 (V4, value) = Ok (value + mapped_prefix)
 number_in _ (_, value) = Ok value
 
 -- `BLOCK LABEL`: the length grows with the width of the address
-abbrev pub block_line : Form → Earlier → Result BlockOf BlockFault → List ℕ → Result Earlier MapFaultKind
+abbrev pub block_line : Form → Earlier → Result BlockOf BlockFault → List ℕ
+    → Result Earlier MapFaultKind
 block_line form earlier (Ok (own, first, len)) rest =
     let version = unwrap_or earlier.version own in
     number_in version (own, first)
-    >>= (λ start. placed_line form earlier version start (len + (width_of version - width_of own)) rest)
+    >>= (λ start. placed_line form earlier version start
+    (len + (width_of version - width_of own)) rest)
 block_line form earlier (Err block_faults.BadAddress) rest = Err BadAddress
 block_line form earlier (Err block_faults.BadLength) rest = Err BadLength
 
 -- `LOW HIGH LABEL`, which is not allowed in a list
-abbrev pub range_line : Form → Earlier → AddressOf → AddressOf → List ℕ → Result Earlier MapFaultKind
+abbrev pub range_line : Form → Earlier → AddressOf → AddressOf → List ℕ
+    → Result Earlier MapFaultKind
 range_line form.List earlier first second rest = Err NotAList
 range_line form.Map earlier first second rest =
     let version = unwrap_or earlier.version first.0 in
@@ -161,19 +189,23 @@ range_line form.Map earlier first second rest =
 
 -- A line whose first word is an address: a range if a second address follows, otherwise `ADDRESS LABEL`, the block of
 -- this address alone. Any other word begins no statement; it may look like an address.
-abbrev pub address_line : Form → Earlier → List ℕ → Option AddressOf → List ℕ → Result Earlier MapFaultKind
+abbrev pub address_line : Form → Earlier → List ℕ → Option AddressOf → List ℕ
+    → Result Earlier MapFaultKind
 address_line form earlier word (Some first) rest =
     option_map_or (λ second. range_line form earlier first second (after_word rest))
-    (address_of (first_word rest)) (block_line form earlier (Ok (first.0, first.1, width_of first.0)) rest)
+    (address_of (first_word rest))
+    (block_line form earlier (Ok (first.0, first.1, width_of first.0)) rest)
 address_line form earlier word None rest =
-    Err (if is_digit (slice_index word 0) || list_any (λ b. b == 58) word then BadAddress else BadStatement)
+    Err (if is_digit (slice_index word 0) || list_any (λ b. b == 58) word then BadAddress
+    else BadStatement)
 
 -- a line with a word, by its first word and the text after it
 abbrev pub statement_line : Form → Earlier → List ℕ → List ℕ → Result Earlier MapFaultKind
 statement_line form earlier word rest =
-    if bytes_eq word (codes "map-name") then label_of rest >>= (λ name. Ok (record earlier { name = Some name }))
+    if bytes_eq word (codes "map-name") then name_line earlier rest
     else (if bytes_eq word (codes "mode") then mode_line earlier (mode_version rest)
-    else (if bytes_eq word (codes "label") then label_line earlier (label_number (first_word rest)) (after_word rest)
+    else (if bytes_eq word (codes "label")
+    then label_line earlier (label_number (first_word rest)) (after_word rest)
     else (if bytes_eq word (codes "default") then default_line form earlier rest
     else (if list_any (λ b. b == 47) word then block_line form earlier (block_of_text word) rest
     else address_line form earlier word (address_of word) rest))))
@@ -181,11 +213,13 @@ statement_line form earlier word rest =
 -- the content of a line, by its words
 abbrev pub content_line : Form → Earlier → List ℕ → Result Earlier MapFaultKind
 content_line form earlier [] = Ok earlier
-content_line form earlier (b ∷ bs) = statement_line form earlier (first_word (b ∷ bs)) (after_word (b ∷ bs))
+content_line form earlier (b ∷ bs) =
+    statement_line form earlier (first_word (b ∷ bs)) (after_word (b ∷ bs))
 
 -- the state after the lines of a text, given that after the first ones, whose number is `number`; the first faulty line
 -- ends the reading
-abbrev pub lines_read : Form → ℕ → Result Earlier MapFaultKind → List (List ℕ) → Result Earlier MapFault
+abbrev pub lines_read : Form → ℕ → Result Earlier MapFaultKind → List (List ℕ)
+    → Result Earlier MapFault
 lines_read form number (Err kind) lines = Err (record { kind = kind; line = number })
 lines_read form number (Ok earlier) [] = Ok earlier
 lines_read form number (Ok earlier) (line ∷ lines) =
@@ -208,7 +242,14 @@ map_reading text = lines_read form.Map 0 (Ok no_lines) (lines_of text) >>= (λ l
 
 abbrev pub list_reading : List ℕ → Result ListModel MapFault
 list_reading text = lines_read form.List 0 (Ok no_lines) (lines_of text) >>= (λ l.
-    Ok (record { version = unwrap_or l.version V4; name = l.name; prefixes = l.prefixes; table = l.table }))
+    Ok (record {
+      version = unwrap_or l.version V4;
+      name = l.name;
+      prefixes = l.prefixes;
+      table = l.table;
+    }))
+
+-- Below: only contracts of parts and proofs use these; no promise of the program rests on them.
 
 -- the result of reading a text as a map, or as a list; a failed allocation is reported with line 0
 pub record ReturnsMap (text : List ℕ) (result : Result MapText MapFault) : Type 0 where

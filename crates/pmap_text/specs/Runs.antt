@@ -19,9 +19,12 @@ pub record HasOneLabel (label_of : ℕ → Option Label) (run : Run) : Type 0 wh
 abbrev pub AreRuns : (ℕ → Option Label) → ℕ → ℕ → List Run → Type 0
 AreRuns label_of from to [] = from ≡ to
 AreRuns label_of from to (run ∷ runs) =
-    (run.low ≡ from) × HasOneLabel label_of run × (run.high + 1 < to → label_of (run.high + 1) ≢ run.label)
+    (run.low ≡ from) × HasOneLabel label_of run
+    × (run.high + 1 < to → label_of (run.high + 1) ≢ run.label)
     × AreRuns label_of (run.high + 1) to runs
 
 -- exactly one of the runs has the address, and it has the address's label
 abbrev pub HasOneRun : (ℕ → Option Label) → List Run → ℕ → Type 0
-HasOneRun label_of runs a = (run : Run) × (filter (λ r. nat_le r.low a && nat_le a r.high) runs ≡ run ∷ []) × (run.label ≡ label_of a)
+HasOneRun label_of runs a =
+    (run : Run) × (filter (λ r. nat_le r.low a && nat_le a r.high) runs ≡ run ∷ [])
+    × (run.label ≡ label_of a)

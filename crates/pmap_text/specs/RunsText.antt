@@ -28,13 +28,16 @@ run_fields version run =
 -- the text of runs: a header, and a line for each run
 abbrev pub runs_text : Version → List Run → Text
 runs_text version runs =
-    flat_map line_text ((codes "low" ∷ codes "high" ∷ codes "label" ∷ []) ∷ map (run_fields version) runs)
+    flat_map line_text ((codes "low" ∷ codes "high" ∷ codes "label" ∷ [])
+    ∷ map (run_fields version) runs)
 
 -- the text of the runs of a labelling of the version's addresses
 pub record IsRunsText (version : Version) (label_of : ℕ → Option Label) (text : Text) : Type 0 where
   pub runs : List Run
   pub are : AreRuns label_of 0 (2 ^ width_of version) runs
   pub is : text ≡ runs_text version runs
+
+-- Below: only contracts of parts and proofs use these; no promise of the program rests on them.
 
 -- a stretch as a run
 abbrev pub run_at : List Label → StretchesModel → ℕ → Run

@@ -21,13 +21,13 @@ one_if b = if b then 1 else 0
 
 -- the number of ends of mappings between two addresses; at an end a mapping covers one of two neighbours and not the
 -- other
-unfoldable pub ends_of : ℕ → ℕ → Mapping → ℕ
-ends_of first last m =
+unfoldable pub ends_of_mapping : ℕ → ℕ → Mapping → ℕ
+ends_of_mapping first last m =
     one_if (nat_lt first m.low && nat_le m.low last) + one_if (nat_le first m.high && nat_lt m.high last)
 
 unfoldable pub ends : ℕ → ℕ → List Mapping → ℕ
 ends first last [] = 0
-ends first last (m ∷ ms) = ends_of first last m + ends first last ms
+ends first last (m ∷ ms) = ends_of_mapping first last m + ends first last ms
 
 -- the ends of statements inside a block
 abbrev pub ends_inside : ℕ → List Statement → ℕ → ℕ → ℕ

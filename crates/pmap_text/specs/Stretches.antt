@@ -1,11 +1,11 @@
 use Rattle.std.specs.Prelude.{◌≡◌, ◌≢◌, ℕ, ◌+◌, ◌-◌, ◌*◌, ◌<◌, ◌≤◌, ◌^◌, List, Option, Some, None, All, Contains, length, map, nat_le, nat_lt, option_and_then, option_map, slice_get, slice_index, slice_index_or, if◌then◌else◌, ◌==◌}
 use Rattle.std.specs.List.{prefix_len}
-use Rattle.std.specs.Option.{ForSome, option_or}
+use Rattle.std.specs.Option.{ForSome}
 use Rattle.prefix_keys.specs.Block.{width_of}
 use Rattle.prefix_keys.specs.declared.version.Version.{Version}
 use Rattle.prefix_keys.specs.declared.version.Version.TheVariants.{V4, V6}
 use Rattle.pmap_text.specs.MapModel.{Label, Mapping, MapModel, last_such, spans}
-use Rattle.pmap_text.specs.MapText.{mapping_of, text_at, Statement}
+use Rattle.pmap_text.specs.MapText.{mapping_of, Statement}
 pub use Rattle.pmap_text.specs.declared.label.LabelId.{LabelId}
 use Rattle.pmap_text.specs.declared.stretches.Begins.{Begins}
 pub use Rattle.pmap_text.specs.declared.stretches.Begins.TheVariants.{Narrow, Wide}
@@ -34,11 +34,6 @@ mappings_of table ss = map (mapping_of table) ss
 abbrev pub label_seen : Option LabelId → Option Statement → Option LabelId
 label_seen default None = default
 label_seen default (Some s) = Some s.label
-
--- the label text that statements give an address: that of the statement that wins there, otherwise the default's
-abbrev pub text_won : List Label → Option LabelId → List Statement → ℕ → Option Label
-text_won table default ss a =
-    option_or (option_map (λ m. m.label) (last_such (spans a) (mappings_of table ss))) (option_map (λ id. text_at table id.0) default)
 
 -- Among addresses of W bits, those from `first` to `last` are a stretch of each map of these statements, whatever the
 -- texts of its labels. They have the label of the statement that wins there, or the default if none does.

@@ -1,9 +1,9 @@
 ghost use Rattle.std.specs.Prelude.{◌≡◌, ◌<◌, ◌≤◌, ◌++◌, ◌∷◌, [], Some, true, false, ◌⊎◌, length, option_map, slice_get, unwrap_or, IsTrue, IfOk, IfErr, IfSome, OnOk, OnErr};
 ghost use Rattle.pmap_text.specs.Label.{meant_text, has_label, is_label as is_label_text, number_of, with_label};
-ghost use Rattle.pmap_text.specs.Inner.{HasDistinctKeys, IsFirstRepeat, has_prefix as has_prefix_of, has_room, list_from, map_from};
+ghost use Rattle.pmap_text.specs.Inner.{HasDistinctKeys, IsFirstRepeat, list_from, map_from};
 ghost use Rattle.pmap_text.specs.MapText.{map_of, text_at};
 ghost use Rattle.pmap_text.specs.PrefixList.{list_of};
-ghost use Rattle.pmap_text.specs.Reading.{Earlier, no_lines, NoMemory, TooMany};
+ghost use Rattle.pmap_text.specs.Reading.{Earlier, no_lines, NoMemory, TooMany, has_room, has_prefix as has_prefix_of};
 ghost use Rattle.pmap_text.specs.declared.reading.TheConstants.{LABEL_LIMIT, MAPPING_LIMIT};
 
 use crate::entries::Entries;

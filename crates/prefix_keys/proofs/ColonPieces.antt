@@ -3,8 +3,8 @@ use Rattle.std.specs.List.{slice_split, before_first, after_first, position_or_l
 use Rattle.std.proofs.lemmas.List.{length-take, take_all}
 use Rattle.std.proofs.lemmas.List.Splits.{slice_split_first, length-slice_split}
 use Rattle.std.proofs.lemmas.Bool.Decides.{nat_tests}
-use Rattle.prefix_keys.specs.Text.{groups_of_pieces, hex_group}
-use Rattle.prefix_keys.specs.Inner.{more_groups, text_groups, last_groups}
+use Rattle.prefix_keys.specs.Text.{groups_of_pieces, hex_group, last_groups, text_groups}
+use Rattle.prefix_keys.specs.Inner.{more_groups}
 use Rattle.prefix_keys.proofs.Pieces.{split-whole}
 
 -- The groups of the pieces of a text between colons, one piece after another.

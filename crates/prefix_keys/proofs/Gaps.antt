@@ -1,7 +1,6 @@
 use Rattle.std.proofs.Common.{ℕ, zero, suc, ◌≡◌, ◌<◌, ◌==◌, ◌&&◌, ◌∙◌, Bool, true, false, List, [], ◌∷◌, Option, Some, None, length, get_or, take, drop, ap, sym, refl, arith, option_map, if◌then◌else◌}
 use Rattle.std.proofs.lemmas.Bool.{false≢true}
-use Rattle.prefix_keys.specs.Text.{around_gap, around_address, gap_address, side_groups}
-use Rattle.prefix_keys.specs.Inner.{colon_address}
+use Rattle.prefix_keys.specs.Text.{around_gap, around_address, gap_address, side_groups, colon_address}
 
 -- The first `::` of a text.
 

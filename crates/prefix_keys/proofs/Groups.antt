@@ -1,7 +1,6 @@
 use Rattle.std.proofs.Common.{ℕ, zero, suc, ◌≡◌, ◌+◌, ◌*◌, ◌/◌, ◌%◌, ◌^◌, ◌<◌, ◌≤◌, ◌∙◌, List, [], ◌∷◌, All, fold, arith, ap, sym}
 use Rattle.std.proofs.Math.Nat.{mod-lt, div-one, div-eq_of_lt, div-div-eq-div-mul, div-add-mod'}
-use Rattle.prefix_keys.specs.Print.{parts_at}
-use Rattle.prefix_keys.specs.Inner.{address_groups}
+use Rattle.prefix_keys.specs.Print.{parts_at, address_groups}
 use Rattle.prefix_keys.specs.Text.{groups_number}
 use Rattle.std.proofs.lemmas.Nat.{pow-add}
 use Rattle.prefix_keys.specs.Block.{width_of, Version, V4, V6}

@@ -2,11 +2,12 @@ use Rattle.std.proofs.Common.{ℕ, ◌≡◌, ◌<◌, ◌==◌, ◌&&◌, ◌�
 use Rattle.std.proofs.lemmas.List.{append_assoc, append-nil}
 use Rattle.std.proofs.lemmas.List.Elements.{All-head, All-tail}
 use Rattle.std.specs.Fmt.{digits}
-use Rattle.prefix_keys.specs.Inner.{following, address_groups_text}
+use Rattle.prefix_keys.specs.Inner.{following}
 use Rattle.prefix_keys.specs.Text.{around_gap}
 use Rattle.prefix_keys.proofs.Printed.{Lacks, Lacks-digits, no_colon}
 use Rattle.prefix_keys.proofs.Digits.{digits_some}
 use Rattle.prefix_keys.proofs.Gaps.{onto_front as onto}
+use Rattle.prefix_keys.specs.Print.{address_groups_text}
 
 -- The first `::` of a printed text.
 

@@ -11,9 +11,8 @@ use Rattle.prefix_keys.specs.declared.text.BlockFault.{BlockFault}
 use Rattle.prefix_keys.specs.declared.text.BlockFault.TheVariants.{BadAddress, BadLength}
 use Rattle.std.proofs.Math.Nat.{div-add-mod'}
 use Rattle.std.proofs.lemmas.List.Sums.{position_or_len_is}
-use Rattle.prefix_keys.specs.Print.{address_text, joined_text, longest_run, shortened_text, AddressIsReadBack, BlockIsReadBack, IsZeroRun}
-use Rattle.prefix_keys.specs.Text.{groups_of_pieces, side_groups, groups_number, gap_address, around_address, hex_group, dotted_address, decimal_number, four_bytes, address_of, AddressOf, BlockOf}
-use Rattle.prefix_keys.specs.Inner.{last_groups, text_groups, colon_address, address_groups, address_groups_text}
+use Rattle.prefix_keys.specs.Print.{address_text, joined_text, longest_run, shortened_text, AddressIsReadBack, BlockIsReadBack, IsZeroRun, address_groups, address_groups_text}
+use Rattle.prefix_keys.specs.Text.{groups_of_pieces, side_groups, groups_number, gap_address, around_address, hex_group, dotted_address, decimal_number, four_bytes, address_of, AddressOf, BlockOf, last_groups, text_groups, colon_address}
 use Rattle.prefix_keys.proofs.Pieces.{of_all}
 use Rattle.prefix_keys.proofs.Printed.{Lacks, Lacks-digits, no_colon, no_point, no_slash, split-joined, joined-some, hex_group-digits, short_number-decimal, Lacks-joined}
 use Rattle.prefix_keys.proofs.ColonPieces.{onto_groups}

@@ -12,6 +12,7 @@ mapped_prefix = 65535 * 2 ^ 32
 -- address
 abbrev pub converted : Version → AddressOf → Option AddressOf
 converted V4 (V6, value) =
-    if block_number 128 96 value == block_number 128 96 mapped_prefix then Some (V4, value - mapped_prefix) else None
+    if block_number 128 96 value == block_number 128 96 mapped_prefix
+    then Some (V4, value - mapped_prefix) else None
 converted V6 (V4, value) = Some (V6, value + mapped_prefix)
 converted _ address = Some address

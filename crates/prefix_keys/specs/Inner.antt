@@ -1,29 +1,9 @@
-use Rattle.std.specs.Prelude.{ℕ, ◌+◌, ◌*◌, List, [], ◌∷◌, Option, Some, None, fold, length, nat_le, if◌then◌else◌, ◌≡◌, ◌||◌, ◌==◌, Bool, true, ◌++◌, option_map}
-use Rattle.std.specs.List.{list_all, slice_split}
+use Rattle.std.specs.Prelude.{ℕ, ◌+◌, ◌*◌, List, [], Option, Some, None, fold, length, nat_le, if◌then◌else◌, ◌≡◌, ◌||◌, ◌==◌, Bool, true, ◌++◌, option_map}
+use Rattle.std.specs.List.{list_all}
 use Rattle.std.specs.Char.{is_ascii_hexdigit}
-use Rattle.prefix_keys.specs.Print.{joined_text, parts_at}
-use Rattle.prefix_keys.specs.Text.{around_address, around_gap, groups_of_pieces, side_groups}
+use Rattle.prefix_keys.specs.Text.{around_gap, side_groups}
 
 -- Steps of the code, for the contracts of private functions. Callers of the crate need not read them.
-
--- the eight groups of an IPv6 address, the highest first
-abbrev pub address_groups : ℕ → List ℕ
-address_groups = parts_at 16 (7 ∷ 6 ∷ 5 ∷ 4 ∷ 3 ∷ 2 ∷ 1 ∷ 0 ∷ [])
-
--- groups in lower-case hexadecimal, separated by colons
-abbrev pub address_groups_text : List ℕ → List ℕ
-address_groups_text groups = joined_text 16 58 groups
-
--- the groups of the last piece of a text, of any pieces, and of a text with a colon or of one group
-abbrev pub last_groups : Bool → List ℕ → Option (List ℕ)
-last_groups dotted piece = groups_of_pieces dotted (piece ∷ [])
-
-abbrev pub text_groups : Bool → List ℕ → Option (List ℕ)
-text_groups dotted text = groups_of_pieces dotted (slice_split (λ b. b == 58) text)
-
--- the IPv6 address of a text
-abbrev pub colon_address : List ℕ → Option ℕ
-colon_address text = around_address text (around_gap text)
 
 -- groups appended to other groups, given by their count and their number: the count and the number of all, if they are
 -- at most eight

@@ -22,25 +22,37 @@ longer_run here (start, len) = if nat_le len here then (0, here) else (start + 1
 -- the start of the first longest run of zeros, and its length: the zeros at the start, unless a later run is longer
 abbrev pub longest_run : List ℕ → ℕ × ℕ
 longest_run [] = (0, 0)
-longest_run (group ∷ groups) = longer_run (prefix_len (λ g. g == 0) (group ∷ groups)) (longest_run groups)
+longest_run (group ∷ groups) =
+    longer_run (prefix_len (λ g. g == 0) (group ∷ groups)) (longest_run groups)
 
--- groups in lower-case hexadecimal, separated by colons, in which `::` replaces a run of two or more
+-- groups in lower-case hexadecimal, separated by colons
+abbrev pub address_groups_text : List ℕ → List ℕ
+address_groups_text groups = joined_text 16 58 groups
+
+-- the text of groups, in which `::` replaces a run of two or more
 abbrev pub shortened_text : List ℕ → ℕ × ℕ → List ℕ
 shortened_text groups (start, len) =
     if nat_le 2 len
-    then joined_text 16 58 (take start groups) ++ 58 ∷ 58 ∷ joined_text 16 58 (drop (start + len) groups)
-    else joined_text 16 58 groups
+    then address_groups_text (take start groups) ++ 58 ∷ 58
+    ∷ address_groups_text (drop (start + len) groups)
+    else address_groups_text groups
+
+-- the eight groups of an IPv6 address, the highest first
+abbrev pub address_groups : ℕ → List ℕ
+address_groups = parts_at 16 (7 ∷ 6 ∷ 5 ∷ 4 ∷ 3 ∷ 2 ∷ 1 ∷ 0 ∷ [])
 
 -- an IPv4 address: its four bytes in decimal, separated by points; an IPv6 address: its eight groups, with the first
 -- longest run of zeros shortened
 abbrev pub address_text : Version → ℕ → List ℕ
 address_text V4 number = joined_text 10 46 (parts_at 8 (3 ∷ 2 ∷ 1 ∷ 0 ∷ []) number)
 address_text V6 number =
-    let groups = parts_at 16 (7 ∷ 6 ∷ 5 ∷ 4 ∷ 3 ∷ 2 ∷ 1 ∷ 0 ∷ []) number in shortened_text groups (longest_run groups)
+    let groups = address_groups number in shortened_text groups (longest_run groups)
 
 -- a block: its address, a `/`, and its length in decimal
 abbrev pub block_text : Version → ℕ → ℕ → List ℕ
 block_text version number len = address_text version number ++ 47 ∷ decimal len
+
+-- Below: only contracts of parts and proofs use these; no promise of the program rests on them.
 
 -- Laws about the texts.
 

@@ -19,7 +19,8 @@ decimal_value digits = fold (λ n b. n * 10 + (b - 48)) 0 digits
 -- the number that 1 to `digits` decimal digits represent, at most the limit
 abbrev pub decimal_number : ℕ → ℕ → List ℕ → Option ℕ
 decimal_number digits limit text =
-    if nat_le 1 (length text) && (nat_le (length text) digits && (list_all is_digit text && nat_le (decimal_value text) limit))
+    if nat_le 1 (length text) && (nat_le (length text) digits
+    && (list_all is_digit text && nat_le (decimal_value text) limit))
     then Some (decimal_value text) else None
 
 -- the items, if all exist
@@ -35,7 +36,9 @@ four_bytes _ = None
 -- the IPv4 address of a text in dotted decimal form: four numbers from 0 to 255, of one to three digits each, separated
 -- by points
 abbrev pub dotted_address : List ℕ → Option ℕ
-dotted_address text = option_and_then four_bytes (all_some (map (decimal_number 3 255) (slice_split (λ b. b == 46) text)))
+dotted_address text =
+    option_and_then four_bytes
+    (all_some (map (decimal_number 3 255) (slice_split (λ b. b == 46) text)))
 
 -- the value of one hexadecimal digit
 abbrev pub hex_digit_value : ℕ → ℕ
@@ -47,19 +50,28 @@ hex_group text =
     if nat_le 1 (length text) && (nat_le (length text) 4 && list_all is_ascii_hexdigit text)
     then Some (fold (λ n b. n * 16 + hex_digit_value b) 0 text) else None
 
--- the groups of pieces, if all exist: one for each piece, and for the last two if an IPv4 text is allowed and it is one
-abbrev pub groups_of_pieces : Bool → List (List ℕ) → Option (List ℕ)
-groups_of_pieces dotted [] = None
-groups_of_pieces dotted (piece ∷ []) = if dotted && list_any (λ b. b == 46) piece
+-- the groups of the last piece of a text: one, or two if an IPv4 text is allowed and the piece has a point
+abbrev pub last_groups : Bool → List ℕ → Option (List ℕ)
+last_groups dotted piece = if dotted && list_any (λ b. b == 46) piece
     then option_map (λ value. value / 65536 ∷ value % 65536 ∷ []) (dotted_address piece)
     else option_map (λ group. group ∷ []) (hex_group piece)
-groups_of_pieces dotted (piece ∷ pieces) =
-    option_and_then (λ group. option_map (λ groups. group ∷ groups) (groups_of_pieces dotted pieces)) (hex_group piece)
 
--- the groups of a text of pieces separated by colons, or none of an empty text
+-- the groups of pieces, if all exist: one for each piece except the last, and those of the last one
+abbrev pub groups_of_pieces : Bool → List (List ℕ) → Option (List ℕ)
+groups_of_pieces dotted [] = None
+groups_of_pieces dotted (piece ∷ []) = last_groups dotted piece
+groups_of_pieces dotted (piece ∷ pieces) =
+    option_and_then (λ group.
+    option_map (λ groups. group ∷ groups) (groups_of_pieces dotted pieces)) (hex_group piece)
+
+-- the groups of a text of pieces separated by colons
+abbrev pub text_groups : Bool → List ℕ → Option (List ℕ)
+text_groups dotted text = groups_of_pieces dotted (slice_split (λ b. b == 58) text)
+
+-- the groups of one side of a `::`: those of its text, or none if it is empty
 abbrev pub side_groups : Bool → List ℕ → Option (List ℕ)
 side_groups dotted [] = Some []
-side_groups dotted text = groups_of_pieces dotted (slice_split (λ b. b == 58) text)
+side_groups dotted text = text_groups dotted text
 
 -- the number that groups form, the first the highest
 abbrev pub groups_number : List ℕ → ℕ
@@ -69,7 +81,8 @@ groups_number groups = fold (λ n group. n * 65536 + group) 0 groups
 abbrev pub gap_address : Option (List ℕ) → Option (List ℕ) → Option ℕ
 gap_address (Some front) (Some back) =
     if nat_le (length front + length back) 7
-    then Some (groups_number (front ++ (replicate (8 - (length front + length back)) 0 ++ back))) else None
+    then Some (groups_number (front ++ (replicate (8 - (length front + length back)) 0 ++ back)))
+    else None
 gap_address _ _ = None
 
 -- the text before the first `::` and the text after it, if there is one
@@ -82,9 +95,15 @@ around_gap _ = None
 -- the IPv6 address of a text with these sides of its `::`, or without one (RFC 4291, section 2.2): eight groups
 -- separated by colons, in which one `::` may replace one or more groups of zero, and an IPv4 text the last two groups
 abbrev pub around_address : List ℕ → Option (List ℕ × List ℕ) → Option ℕ
-around_address text (Some (front, back)) = gap_address (side_groups false front) (side_groups true back)
+around_address text (Some (front, back)) =
+    gap_address (side_groups false front) (side_groups true back)
 around_address text None =
-    option_and_then (λ groups. if length groups == 8 then Some (groups_number groups) else None) (side_groups true text)
+    option_and_then (λ groups. if length groups == 8 then Some (groups_number groups) else None)
+    (side_groups true text)
+
+-- the IPv6 address of a text
+abbrev pub colon_address : List ℕ → Option ℕ
+colon_address text = around_address text (around_gap text)
 
 -- an address without its proof that it is one: the version and the number
 abbrev pub AddressOf : Type 0
@@ -95,7 +114,7 @@ AddressOf = Version × ℕ
 abbrev pub address_of : List ℕ → Option AddressOf
 address_of text =
     if list_any (λ b. b == 58) text
-    then option_map (λ value. (V6, value)) (around_address text (around_gap text))
+    then option_map (λ value. (V6, value)) (colon_address text)
     else option_map (λ value. (V4, value)) (dotted_address text)
 
 -- a block without its proof that it is one: the version, the number and the length

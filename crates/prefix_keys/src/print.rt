@@ -1,8 +1,7 @@
 //! The texts of addresses and blocks.
 ghost use Rattle.std.specs.Prelude.{◌≡◌, ◌+◌, ◌*◌, ◌/◌, ◌%◌, ◌^◌, ◌<◌, ◌≤◌, ◌++◌, OnOk, OnErr, drop, length};
 ghost use Rattle.prefix_keys.specs.Block.{V4, V6};
-ghost use Rattle.prefix_keys.specs.Inner.{address_groups};
-ghost use Rattle.prefix_keys.specs.Print.{address_text, block_text, longest_run};
+ghost use Rattle.prefix_keys.specs.Print.{address_text, block_text, longest_run, address_groups};
 
 mod digits;
 

@@ -5,7 +5,7 @@ ghost use Rattle.pmap_text.specs.MapText.{map_of};
 ghost use Rattle.pmap_text.specs.PrefixList.{list_of};
 ghost use Rattle.pmap_cert.specs.FormatReading.{format_reading};
 ghost use Rattle.flowlabel.specs.declared.bytes_fault.BytesFault.TheVariants.{Certificate as InCertificate};
-ghost use Rattle.flowlabel.specs.Output.{Checks, IsOutput, Returns, Then};
+ghost use Rattle.flowlabel.specs.Output.{IsVerdict, IsOutput, Returns, Then};
 ghost use Rattle.flowlabel.specs.Reports.{IsMade};
 ghost use Rattle.flowlabel.specs.Request.{Check, Text};
 ghost use Rattle.flowlabel.specs.Run.{AreUnread, any_failed};
@@ -28,7 +28,7 @@ fn checked(
     text: &[u8],
     hashing: KeyHashing,
 ) -> Result<Vec<u8>, OutputFault>
-    ensures { Returns (Then InCertificate (Checks (map_of map.now) (list_of list.now)) (format_reading text.now)) result }
+    ensures { Returns (Then InCertificate (IsVerdict (map_of map.now) (list_of list.now)) (format_reading text.now)) result }
 {
     match check_text(alloc, map, list, text, hashing) {
         Ok(count) => Ok(format!(in alloc; "minimal {count}\n")?.into_bytes()),

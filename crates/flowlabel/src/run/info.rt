@@ -1,7 +1,7 @@
 //! The output of `info`.
 ghost use Rattle.std.specs.Prelude.{◌≡◌, false};
 ghost use Rattle.std.specs.Borrow.{Bor};
-ghost use Rattle.flow_rows.specs.Counts.{counts_of, numbers_of};
+ghost use Rattle.flow_rows.specs.Counts.{counts_of, count_list};
 ghost use Rattle.flowlabel.specs.Output.{IsOutput};
 ghost use Rattle.flowlabel.specs.Reports.{IsMade, ReadsInto};
 ghost use Rattle.flowlabel.specs.Request.{Info, Text};
@@ -23,7 +23,7 @@ fn counts_of<R: Input>(
     flows: &mut Option<Source<'_, R>>,
 ) -> Result<Counts, OutputFault>
     requires { (view_of R.input flows.old).failed ≡ false }
-    ensures { ReadsInto (λ messages counts. numbers_of counts ≡ counts_of messages)
+    ensures { ReadsInto (λ messages counts. count_list counts ≡ counts_of messages)
         (view_of R.input flows.old) (view_of R.input flows.new) result }
 {
     let mut counts = Counts::new();

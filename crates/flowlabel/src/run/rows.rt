@@ -1,7 +1,7 @@
 //! The output of `rows`.
 ghost use Rattle.std.specs.Prelude.{◌≡◌, ◌++◌, Bool, List, OnOk, false, option_map};
 ghost use Rattle.std.specs.Borrow.{Bor};
-ghost use Rattle.flow_rows.specs.Counts.{rows_of, rows_of_messages};
+ghost use Rattle.flow_rows.specs.Counts.{rows_of_sets, rows_of_messages};
 ghost use Rattle.flow_rows.specs.Elements.{RowView};
 ghost use Rattle.pmap_print.specs.Reports.{label_texts};
 ghost use Rattle.flowlabel.specs.Output.{IsOutput, row_labels};
@@ -47,7 +47,7 @@ fn add_rows(
         × HasRows filter.now columns (labelling_found labels) rows table.old }
     ensures { OnOk result ((columns : Bool) (rows : List RowView)
         → HasRows filter.now columns (labelling_found labels.entry) rows table.old
-        → HasRows filter.now columns (labelling_found labels.entry) (rows ++ rows_of message.now.sets) table.new) }
+        → HasRows filter.now columns (labelling_found labels.entry) (rows ++ rows_of_sets message.now.sets) table.new) }
 {
     for row in rows_of(message) {
         if filter.passes(&row, labels) {

@@ -1,7 +1,7 @@
 //! The output of `uniq`.
 ghost use Rattle.std.specs.Prelude.{◌≡◌, ◌≤◌, ◌<◌, ◌^◌, ◌+◌, ◌++◌, List, OnOk, false};
 ghost use Rattle.std.specs.Borrow.{Bor};
-ghost use Rattle.flow_rows.specs.Counts.{rows_of, rows_of_messages};
+ghost use Rattle.flow_rows.specs.Counts.{rows_of_sets, rows_of_messages};
 ghost use Rattle.flow_rows.specs.Elements.{RowView};
 ghost use Rattle.flow_uniq.specs.Groups.{record_count};
 ghost use Rattle.flow_uniq.specs.declared.field.KeyField.{KeyField};
@@ -51,7 +51,7 @@ fn add_rows(
     ensures count { OnOk result (record_count groups.new.groups ≤ record_count groups.old.groups + 131070) }
     ensures rows { OnOk result ((keys : List KeyField) (rows : List RowView)
         → HasGroups keys filter.now (labelling_found labels.entry) rows groups.old
-        → HasGroups keys filter.now (labelling_found labels.entry) (rows ++ rows_of message.now.sets) groups.new) }
+        → HasGroups keys filter.now (labelling_found labels.entry) (rows ++ rows_of_sets message.now.sets) groups.new) }
 {
     for row in rows_of(message) {
         if filter.passes(&row, labels) {

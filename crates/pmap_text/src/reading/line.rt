@@ -3,9 +3,9 @@ ghost use Rattle.std.specs.Prelude.{◌≡◌, ◌<◌, ◌≤◌, ◌==◌, ◌
 ghost use Rattle.std.specs.List.{list_any};
 ghost use Rattle.prefix_keys.specs.Text.{address_of, block_of_text, is_digit};
 ghost use Rattle.pmap_text.specs.Label.{label_number as number_of_label, meant_text, is_label as is_label_text, with_label};
-ghost use Rattle.pmap_text.specs.Reading.{after_word, first_word, block_line, content_line, default_line, label_line, label_of, mode_line, mode_version, placed_line, range_line, span_line, statement_line, BadAddress, BadStatement, NoMemory, TooMany};
+ghost use Rattle.pmap_text.specs.Reading.{after_word, first_word, block_line, content_line, default_line, label_line, label_of, mode_line, mode_version, placed_line, range_line, span_line, statement_line, BadAddress, BadStatement, NoMemory, TooMany, name_line};
 ghost use Rattle.pmap_text.specs.declared.reading.form.Form.TheVariants.{List as list_form};
-ghost use Rattle.pmap_text.specs.Inner.{ReadsLine, has_label_room, one_or_two, name_line};
+ghost use Rattle.pmap_text.specs.Inner.{ReadsLine, has_label_room, one_or_two};
 
 use crate::fault::MapFaultKind;
 use crate::label::{LabelId, is_label};

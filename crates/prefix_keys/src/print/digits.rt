@@ -1,7 +1,7 @@
 //! Printing numbers from their last digit backwards.
 ghost use Rattle.std.specs.Prelude.{◌≡◌, ◌+◌, ◌*◌, ◌<◌, ◌≤◌, ◌++◌, drop, false, length};
 ghost use Rattle.std.specs.Fmt.{decimal, digits};
-ghost use Rattle.prefix_keys.specs.Inner.{address_groups_text};
+ghost use Rattle.prefix_keys.specs.Print.{address_groups_text};
 
 // The decimal numbers from 000 to 255, each after a point.
 static OCTETS: [u8; 1024] = *b"\

@@ -1,7 +1,7 @@
 ghost use Rattle.std.specs.Prelude.{◌≡◌, ◌≤◌, ◌<◌, ◌+◌, ◌*◌, ◌-◌, ◌^◌, IfSome, Some, None, List, [], ◌∷◌, option_map, nat_le, if◌then◌else◌};
 ghost use Rattle.std.specs.Char.{is_ascii_hexdigit};
-ghost use Rattle.prefix_keys.specs.Text.{hex_digit_value, hex_group, side_groups, around_gap};
-ghost use Rattle.prefix_keys.specs.Inner.{BeginsWith, BeginsWithSide, colon_address, is_colon_byte, last_groups, more_groups, text_groups};
+ghost use Rattle.prefix_keys.specs.Text.{hex_digit_value, hex_group, side_groups, around_gap, last_groups, text_groups, colon_address};
+ghost use Rattle.prefix_keys.specs.Inner.{BeginsWith, BeginsWithSide, is_colon_byte, more_groups};
 
 use crate::cutting::cut;
 use crate::text::dotted::read_dotted;

@@ -15,7 +15,7 @@ use Rattle.pmap_cert.proofs.FormatTrees.{line_due-found}
 use Rattle.pmap_cert.proofs.Paths.{path-length}
 use Rattle.pmap_cert.proofs.ReadingSteps.{chain-below, chain-over, deeper, due_in, node-deep, node-fault, node-leaf}
 use Rattle.cert_check.specs.Checking.{claim_fault}
-use Rattle.cert_check.specs.Inner.{FitsPath, IsAnswer, IsHeld, Read, chain_reading, claim_with, fault_of_node, fault_with, halves_reading, reading_at}
+use Rattle.cert_check.specs.Inner.{FitsPath, IsWalkResult, IsHeld, Read, chain_reading, claim_with, fault_of_node, fault_with, halves_reading, reading_at}
 use Rattle.cert_check.proofs.Nodes.{half-by}
 use Rattle.cert_check.proofs.Sets.{numbers}
 use Rattle.cert_check.proofs.Walks.{chain-passed, end-unread, halves-passed, held-at, low-piece, lower-unread, own-piece, sets-kept, up-piece, upper-unread}
@@ -79,9 +79,9 @@ check_node-returns-in-Ok-hold t c =
     deeper due table (place_in c.args.walk.now.nodes) (place_in c.next_node.new.self) c.in-Inner.claim.cost numbers' (rw c.in-Inner.is at c.in-Ok.ensures.next.ok) (limits.width - n) (omega (arith, some))
     ∙ ap (λ (m : ℕ). nodes_at due table m 0 (place_in c.next_node.new.self) >>= (λ lower. nodes_at due table m 0 lower.1 >>= (λ upper.
     Ok (InnerNode claim lower.0 upper.0, upper.1)))) less in
-    subst (λ (r : Read). IsAnswer s r (fault_of_node s c.args.block.now) c.args.walk.now.number c.args.walk.now.sets.items c.args.walk.now.fault c.check_inner.new.walk c.check_inner.result)
+    subst (λ (r : Read). IsWalkResult s r (fault_of_node s c.args.block.now) c.args.walk.now.number c.args.walk.now.sets.items c.args.walk.now.fault c.check_inner.new.walk c.check_inner.result)
     (sym is)
-    (subst (λ (x : Claim × List LabelId). IsAnswer s (halves_reading s n x.0 (place_in c.next_node.new.self)) (fault_of_node s c.args.block.now) c.args.walk.now.number x.1 c.args.walk.now.fault c.check_inner.new.walk c.check_inner.result)
+    (subst (λ (x : Claim × List LabelId). IsWalkResult s (halves_reading s n x.0 (place_in c.next_node.new.self)) (fault_of_node s c.args.block.now) c.args.walk.now.number x.1 c.args.walk.now.fault c.check_inner.new.walk c.check_inner.result)
     (λ i. (claim_with table (c.in-Ok-hold.ensures.cost i) (numbers (held.1 i)), held.0 i)) (c.check_inner.ensures c.args.block.now
     (half-by c.args.block.now low _ c.in-Some.ensures.versions.0 c.in-Some.ensures.lens.0 c.in-Some.ensures.lower_number)
     (half-by c.args.block.now high _ c.in-Some.ensures.versions.1 c.in-Some.ensures.lens.1 c.in-Some.ensures.upper_number)))
@@ -125,9 +125,9 @@ check_node-returns-in-Ok-hold-2 t c =
     chain-below limits.format limits.width table (place_in c.args.walk.now.nodes) (place_in c.next_node.new.self) c.in-Chain.claim.cost bits c.in-Chain.side.0 numbers' (rw c.in-Chain.is at c.in-Ok.ensures.next.ok)
     (limits.width - n) c.len.result c.len.ensures (omega (arith, c.if-len-sources.false)) (reading_at s (n + length bits) (place_in c.next_node.new.self))
     (ap (λ (m : ℕ). nodes_at (due_in limits.format limits.width table) table m 0 (place_in c.next_node.new.self)) less) in
-    subst (λ (r : Read). IsAnswer s r (fault_of_node s c.args.block.now) c.args.walk.now.number c.args.walk.now.sets.items c.args.walk.now.fault c.check_chain.new.walk c.check_chain.result)
+    subst (λ (r : Read). IsWalkResult s r (fault_of_node s c.args.block.now) c.args.walk.now.number c.args.walk.now.sets.items c.args.walk.now.fault c.check_chain.new.walk c.check_chain.result)
     (sym is)
-    (subst (λ (x : Claim × List LabelId). IsAnswer s (chain_reading s n x.0 bits c.in-Chain.side.0 (place_in c.next_node.new.self)) (fault_of_node s c.args.block.now) c.args.walk.now.number x.1 c.args.walk.now.fault c.check_chain.new.walk c.check_chain.result)
+    (subst (λ (x : Claim × List LabelId). IsWalkResult s (chain_reading s n x.0 bits c.in-Chain.side.0 (place_in c.next_node.new.self)) (fault_of_node s c.args.block.now) c.args.walk.now.number x.1 c.args.walk.now.fault c.check_chain.new.walk c.check_chain.result)
     (λ i. (claim_with table (c.in-Ok-hold-2.ensures.cost i) (numbers (held.1 i)), held.0 i)) c.check_chain.ensures)
 
 pub check_node-returns-in-Ok-hold_leaf : goal.check_node-returns-in-Ok-hold_leaf

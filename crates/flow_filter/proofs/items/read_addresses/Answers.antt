@@ -1,5 +1,5 @@
 use Rattle.std.proofs.Common.{◌≡◌, Some, arith}
-use Rattle.flow_filter.specs.Filters.{view_of}
+use Rattle.flow_filter.specs.Filters.{plain_block}
 use Rattle.flow_filter.specs.Texts.{address_item}
 use Rattle.flow_filter.proofs.Places.{places_covered, whole_block}
 use Rattle.flow_filter.proofs.items.read_addresses.Goals as goal
@@ -8,7 +8,7 @@ use Rattle.flow_filter.proofs.items.read_addresses.Goals.{then-contains+in_ok-bl
 pub returns : goal.returns
 returns c = λ address.
     let block = c.if-contains.block in
-    let read : Some (view_of block) ≡ address_item c.args.text.now = elim c.if-contains.branch [
+    let read : Some (plain_block block) ≡ address_item c.args.text.now = elim c.if-contains.branch [
       | then-contains+in_ok-block w ↦ grind arith
       | else-contains+in_ok-addr w ↦
           let address = w.in_ok-addr.addr in

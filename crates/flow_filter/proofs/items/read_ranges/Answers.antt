@@ -5,7 +5,7 @@ use Rattle.std.proofs.lemmas.Iterator.Consumers.{YieldsList-end, YieldsList-turn
 use Rattle.std.proofs.lemmas.Iterator.Splits.{YieldsList-from_slice_split}
 use Rattle.std.proofs.lemmas.List.{get_or-map, length-map, map_push}
 use Rattle.flow_filter.specs.Condition.{RowTest, is_malformed, item_test}
-use Rattle.flow_filter.specs.Filters.{by_range, number_of}
+use Rattle.flow_filter.specs.Filters.{by_range, tested_number}
 use Rattle.flow_filter.specs.Options.{is_list, kind_of}
 use Rattle.prefix_keys.specs.Text.{all_some}
 use Rattle.flow_filter.proofs.Reading.{all_some-none, all_some-push, label_sound, ranges_meet}
@@ -74,5 +74,5 @@ returns-clause-ok c =
     record {
       sound = ap is_none tests;
       ascending = λ _. c.sort_ranges.ensures.ascending;
-      numbers = λ _ label row. ranges_meet o c.args.text.now label row c.loop-item.ranges.items tests ∙ (λ i. sym c.sort_ranges.ensures.same i (number_of o row));
+      numbers = λ _ label row. ranges_meet o c.args.text.now label row c.loop-item.ranges.items tests ∙ (λ i. sym c.sort_ranges.ensures.same i (tested_number o row));
     }

@@ -1,14 +1,14 @@
 use Rattle.std.proofs.lemmas.List.Sums.{AllPass-from_list_all, list_all-from_AllPass}
 use Rattle.label_lookup.specs.Labelling.{label_where}
-use Rattle.flow_filter.specs.Condition.{meets}
+use Rattle.flow_filter.specs.Condition.{meets_option}
 use Rattle.flow_filter.proofs.Together.{passing-left, passing-together}
 use Rattle.flow_filter.proofs.laws.options_hold_together.Goals as goal
 
 pub returns-clause-each : goal.returns-clause-each
-returns-clause-each c condition labels row passes = AllPass-from_list_all (meets (label_where labels) row) condition passes
+returns-clause-each c condition labels row passes = AllPass-from_list_all (meets_option (label_where labels) row) condition passes
 
 pub returns-clause-all : goal.returns-clause-all
-returns-clause-all c condition labels row each = list_all-from_AllPass (meets (label_where labels) row) condition each
+returns-clause-all c condition labels row each = list_all-from_AllPass (meets_option (label_where labels) row) condition each
 
 pub returns-clause-together : goal.returns-clause-together
 returns-clause-together c one other labels rows = passing-together labels one other rows

@@ -9,15 +9,16 @@ use Rattle.ipfix_templates.specs.declared.kind.Kind.TheVariants.{Flow, Options}
 use Rattle.ipfix_read.specs.declared.set.Set.{Set}
 use Rattle.ipfix_read.specs.Message.{MessageView}
 use Rattle.flow_rows.specs.Elements.{rows_of_record}
-use Rattle.flow_rows.specs.Counts.{counts_in, counts_of, defines, events_in, is_data_set, is_skipped, is_withdrawal, records_in, records_of, rows_of, sets_of}
+use Rattle.flow_rows.specs.Counts.{counts_in, counts_of, defines, is_data_set, is_skipped, is_withdrawal, records_in, records_of, rows_of_sets, sets_of}
 use Rattle.flow_rows.specs.Laws.{sums}
 use Rattle.flow_rows.proofs.laws.counts_add_up.Goals as goal
+use Rattle.ipfix_read.specs.Set.{events_in}
 
 count-append : {X : Type 0} (p : X → Bool) (xs ys : List X) → count_by p (xs ++ ys) ≡ count_by p xs + count_by p ys
 count-append p = sum_by-append (λ x. cond (p x) 1 0)
 
 -- the rows of sets, and a count of what sets have
-rows-append : (xs ys : List Set) → rows_of (xs ++ ys) ≡ rows_of xs ++ rows_of ys
+rows-append : (xs ys : List Set) → rows_of_sets (xs ++ ys) ≡ rows_of_sets xs ++ rows_of_sets ys
 rows-append xs ys =
     ap (flat_map rows_of_record) (flat_map-append records_in xs ys) ∙ flat_map-append rows_of_record (records_of xs) (records_of ys)
 
@@ -29,7 +30,7 @@ sets-append : (front back : List MessageView) → sets_of (front ++ back) ≡ se
 sets-append front back = flat_map-append (λ (message : MessageView). message.sets) front back
 
 pub returns-clause-rows : goal.returns-clause-rows
-returns-clause-rows c front back = ap rows_of (sets-append front back) ∙ rows-append (sets_of front) (sets_of back)
+returns-clause-rows c front back = ap rows_of_sets (sets-append front back) ∙ rows-append (sets_of front) (sets_of back)
 
 counts-append : (front back : List MessageView) → counts_of (front ++ back) ≡ sums (counts_of front) (counts_of back)
 counts-append front back =
@@ -45,7 +46,7 @@ counts-append front back =
     ∷ count-append is_skipped xs ys i
     ∷ has-append (λ r. same_kind r.kind Flow) records_in xs ys i
     ∷ has-append (λ r. same_kind r.kind Options) records_in xs ys i
-    ∷ (ap length (rows-append xs ys) ∙ length-append (rows_of xs) (rows_of ys)) i
+    ∷ (ap length (rows-append xs ys) ∙ length-append (rows_of_sets xs) (rows_of_sets ys)) i
     ∷ [])
 
 pub returns-clause-counts : goal.returns-clause-counts

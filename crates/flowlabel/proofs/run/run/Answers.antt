@@ -1,5 +1,5 @@
 use Rattle.std.proofs.Common.{List, ℕ, subst}
-use Rattle.flow_io.specs.Devices.{StopsWriting, Writes}
+use Rattle.flow_io.specs.Devices.{StopsWriting, WritesWhole}
 use Rattle.flowlabel.specs.ByFile.{ByFile}
 use Rattle.flowlabel.specs.Request.{Text}
 use Rattle.flowlabel.specs.Run.{IsNamed}
@@ -17,7 +17,7 @@ returns-in-Err g c = record {
 pub returns-in-Ok-write_whole : goal.returns-in-Ok-write_whole
 returns-in-Ok-write_whole g c =
     let (is, works) = c.in-Ok.ensures.made in
-    let (takes, flushed, whole) = subst (λ (bytes : List ℕ). Writes (g.W.Output.output c.args.writer.now) (g.W.Output.output c.write_whole.new.writer) bytes) c.as_slice.ensures.value c.in-Ok-write_whole.ensures.whole in
+    let (takes, flushed, whole) = subst (λ (bytes : List ℕ). WritesWhole (g.W.Output.output c.args.writer.now) (g.W.Output.output c.write_whole.new.writer) bytes) c.as_slice.ensures.value c.in-Ok-write_whole.ensures.whole in
     record {
       ends = (
         c.in-Ok.out.items,

@@ -2,7 +2,7 @@ use Rattle.std.proofs.Common.{◌∙◌, ap, map, get_or, List, ◌++◌, ◌∷
 use Rattle.pmap_text.specs.declared.label.LabelId.{LabelId}
 use Rattle.pmap_cert.specs.Compacting.{compacted}
 use Rattle.pmap_cert.specs.FormatReading.{DueLine, LeafLine}
-use Rattle.pmap_cert.specs.Node.{lines_of}
+use Rattle.pmap_cert.specs.Node.{node_lines}
 use Rattle.pmap_cert.specs.Packed.{bits_in}
 use Rattle.pmap_cert.specs.Inner.{node_from}
 use Rattle.pmap_cert.proofs.CompactNodes.{chain-lines, inner-lines, leaf-lines}
@@ -36,7 +36,7 @@ returns-in_ok-compact_node-in-None-2 g t c =
     let halves = rw c.in-Some.is at c.halves_of.ensures in
     let both = g.met.S.NodeSink.has_added_both in
     subst (λ (ls : List DueLine). g.S.NodeSink.has_added c.args.out.now ls c.compact_node-in-None-2.new.out)
-    (ap (λ (l : DueLine). l ∷ (lines_of (compacted nat_eq (node_from lines c.in-Some.halves.0)) ++ lines_of (compacted nat_eq (node_from lines c.in-Some.halves.1))))
+    (ap (λ (l : DueLine). l ∷ (node_lines (compacted nat_eq (node_from lines c.in-Some.halves.0)) ++ node_lines (compacted nat_eq (node_from lines c.in-Some.halves.1))))
     (c.node-in-None.ensures ∙ line-of lines c.args.number c.requires.plain c.requires.within)
     ∙ inner-lines (node_from lines c.args.number) halves.claim (node_from lines c.in-Some.halves.0) (node_from lines c.in-Some.halves.1) halves.node
     (rw c.in-None.is at c.run_of.ensures))

@@ -1,5 +1,5 @@
 use Rattle.std.proofs.Common.{ℕ, List, OnOk, arith, nat_eq, subst, sym}
-use Rattle.pmap_cert.specs.Node.{Node, lines_of}
+use Rattle.pmap_cert.specs.Node.{Node, node_lines}
 use Rattle.pmap_cert.specs.Compacting.{compacted}
 use Rattle.pmap_cert.specs.Inner.{AreEndsFrom}
 use Rattle.pmap_cert.proofs.CompactPlaces.{ends-later, plain-of, root-at, some-lines}
@@ -20,4 +20,4 @@ compact_node-requires g c = record {
 pub returns : goal.returns
 returns g c =
     let is = root-at c.args.root.now c.nodes-nodes.result.now c.nodes-nodes.ensures in
-    subst (λ (n : Node). OnOk c.compact_node.result (g.S.NodeSink.has_added c.args.out.now (lines_of (compacted nat_eq n)) c.compact_node.new.out)) is c.compact_node.ensures
+    subst (λ (n : Node). OnOk c.compact_node.result (g.S.NodeSink.has_added c.args.out.now (node_lines (compacted nat_eq n)) c.compact_node.new.out)) is c.compact_node.ensures

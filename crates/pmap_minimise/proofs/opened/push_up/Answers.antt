@@ -1,7 +1,7 @@
 use Rattle.std.proofs.Common.{◌≡◌, ◌+◌, ◌%◌, ◌==◌, ◌∙◌, ◌++◌, ◌∷◌, [], ℕ, List, suc, if◌then◌else◌, ap, arith, sym}
 use Rattle.std.proofs.lemmas.Bool.{ne_eqb}
 use Rattle.std.proofs.lemmas.List.{append-nil, append_assoc}
-use Rattle.pmap_cert.specs.CertificateText.{LeafLine, line_text}
+use Rattle.pmap_cert.specs.CertificateText.{LeafLine, node_line_text}
 use Rattle.pmap_cert.proofs.Paths.{digits-left}
 use Rattle.pmap_minimise.specs.Opened.{text_up}
 use Rattle.pmap_minimise.proofs.opened.push_up.Goals as goal
@@ -14,7 +14,7 @@ loop-place-preserved c =
     let place = c.loop-place.place in
     let next : place + 1 ≡ suc place = omega arith in
     let before : List ℕ = text_up side value place in
-    let line : List ℕ = line_text (LeafLine side) ++ 10 ∷ [] in
+    let line : List ℕ = node_line_text (LeafLine side) ++ 10 ∷ [] in
     let up : text_up side value (place + 1) ≡ before ++ (if c.loop-place.rest % 2 == 0 then line else []) =
     ap (text_up side value) next ∙ ap (λ (n : ℕ). before ++ (if n % 2 == 0 then line else [])) (sym c.loop-place.invariant.rest) in
     record {

@@ -14,7 +14,7 @@ use Rattle.flowlabel.specs.BytesFault.{role_of}
 use Rattle.flowlabel.specs.ByFile.{ByFile, turn}
 use Rattle.flowlabel.specs.declared.by_file.Role.TheVariants as role
 use Rattle.flowlabel.specs.declared.bytes_fault.BytesFault.TheVariants.{Map as InMap, List as InList, Certificate as InCertificate, Check as InCheck}
-use Rattle.flowlabel.specs.Output.{BytesFault, Checks, Outcome, OutputFault, Returns}
+use Rattle.flowlabel.specs.Output.{BytesFault, IsVerdict, Outcome, OutputFault, Returns}
 use Rattle.flowlabel.proofs.Outcomes.{CertificateThen, ListThen, MapThen, checked}
 use Rattle.flowlabel.specs.Reports.{IsMade, IsReadOf}
 use Rattle.flowlabel.specs.Request.{Text}
@@ -24,13 +24,13 @@ use Rattle.flowlabel.proofs.run.check.output.Goals as goal
 
 -- the outcomes over all three texts, once the map is read, and once the list is too
 abbrev OverMap : ByFile Text → Outcome → Type 0
-OverMap texts = MapThen (λ m. ListThen (λ l. CertificateThen (Checks m l) texts.certificate) texts.list) texts.map
+OverMap texts = MapThen (λ m. ListThen (λ l. CertificateThen (IsVerdict m l) texts.certificate) texts.list) texts.map
 
 abbrev OverList : MapModel → ByFile Text → Outcome → Type 0
-OverList m texts = ListThen (λ l. CertificateThen (Checks m l) texts.certificate) texts.list
+OverList m texts = ListThen (λ l. CertificateThen (IsVerdict m l) texts.certificate) texts.list
 
 abbrev OverCertificate : MapModel → ListModel → ByFile Text → Outcome → Type 0
-OverCertificate m l texts = CertificateThen (Checks m l) texts.certificate
+OverCertificate m l texts = CertificateThen (IsVerdict m l) texts.certificate
 
 not_checked : (found : Option CheckFault) (count : ℕ) (fault : BytesFault) → Err fault ≡ checked found count → 2 ≤ turn (role_of fault)
 not_checked None count fault is = cc
@@ -39,7 +39,7 @@ not_checked (Some own) count fault is = cc
 
 certificate_follows : (m : MapModel) (l : ListModel) (texts : ByFile Text) (fault : BytesFault) → OverCertificate m l texts (Err fault) → 2 ≤ turn (role_of fault)
 certificate_follows m l texts fault =
-    then_first InCertificate (Checks m l) 2 (format_reading texts.certificate) fault (λ own. omega arith)
+    then_first InCertificate (IsVerdict m l) 2 (format_reading texts.certificate) fault (λ own. omega arith)
     (λ c. not_checked (first_fault m l c) (length l.prefixes) fault)
 
 list_follows : (m : MapModel) (texts : ByFile Text) (fault : BytesFault) → OverList m texts (Err fault) → 1 ≤ turn (role_of fault)
@@ -104,7 +104,7 @@ pub returns : goal.returns
 returns g c map list certificate =
     let m = map_of c.in_ok-map.map in
     let l = list_of c.in_ok-list.list in
-    let returned = subst (λ (t : List ℕ). Returns (CertificateThen (Checks m l) t) c.checked.result) c.as_slice.ensures.value c.checked.ensures in
+    let returned = subst (λ (t : List ℕ). Returns (CertificateThen (IsVerdict m l) t) c.checked.result) c.as_slice.ensures.value c.checked.ensures in
     (from_map c.requires.works m (λ q _. c.requires.unread q) c.in_ok-text.ensures c.in_ok-map.ensures (λ none fresh. from_list none m l fresh c.in_ok-text-2.ensures c.in_ok-list.ensures (λ none' fresh'.
     whole_from none' (OverCertificate m l) role.Certificate c.checked.result fresh' (certificate_follows m l) c.in_ok-text-3.ensures
-    (λ texts same. subst (λ (t : List ℕ). Returns (CertificateThen (Checks m l) t) c.checked.result) (sym same) returned)))).made
+    (λ texts same. subst (λ (t : List ℕ). Returns (CertificateThen (IsVerdict m l) t) c.checked.result) (sym same) returned)))).made

@@ -1,5 +1,5 @@
 use Rattle.std.proofs.Common.{◌≡◌, [], arith, length}
-use Rattle.flow_rows.specs.Counts.{counts_of, numbers_of}
+use Rattle.flow_rows.specs.Counts.{counts_of, count_list}
 use Rattle.flowlabel.specs.Run.{view_of}
 use Rattle.flowlabel.proofs.TakenLemmas.{fault_next, fewer_left, none_so_far, one_counted, one_more}
 use Rattle.flowlabel.proofs.run.info.counts_of.Goals as goal
@@ -19,7 +19,7 @@ returns-in_err-message g c =
 pub add-requires : goal.add-requires
 add-requires g c =
     let had = c.loop-progress.invariant in
-    let is : numbers_of c.loop-progress.counts ≡ counts_of had.messages = had.is in
+    let is : count_list c.loop-progress.counts ≡ counts_of had.messages = had.is in
     let all : c.loop-progress.counts.messages ≡ length had.messages = cc in
     let one = one_counted had c.in-Some.message c.next_message.new.progress (view_of g.R.Input.input c.next_message.new.flows)
     (rw c.in-Some.is at (c.in_ok-message.ensures _ _ had.so_far)) in omega (arith, one.1, had.so_far.read.counted, all)

@@ -11,7 +11,7 @@ use Rattle.ipfix_read.specs.Messages.{file_reading}
 use Rattle.flow_rows.specs.Counts.{counts_of}
 use Rattle.pmap_print.specs.Reports.{info_text}
 use Rattle.pmap_text.specs.RunsText.{IsRunsText, runs_text}
-use Rattle.flowlabel.specs.Output.{BytesFault, Checks, FlowsThen, LabelsThen, Outcome, Prints, Then, label_text, shrunk_text}
+use Rattle.flowlabel.specs.Output.{BytesFault, IsVerdict, FlowsThen, LabelsThen, Outcome, Prints, Then, label_text, shrunk_text}
 use Rattle.flowlabel.proofs.Outcomes.{CertificateThen, ListThen, PrintsCompact, PrintsMinimal, PrintsRuns, ReportsOf, report_of_groups, report_of_rows, checked}
 use Rattle.flowlabel.specs.ByFile.{ByFile}
 use Rattle.flowlabel.specs.declared.bytes_fault.BytesFault.TheVariants.{Map as InMap, List as InList, Flows as InFlows, Certificate as InCertificate}
@@ -71,9 +71,9 @@ returns c (Shrink map printed) texts =
           cc,
     ))
 returns c (Check map list certificate) texts =
-    value_one InMap (map_reading texts.map) (λ m. ListThen (λ l. CertificateThen (Checks m l) texts.certificate) texts.list)
-    (λ m reads. value_one InList (list_reading texts.list) (λ l. CertificateThen (Checks m l) texts.certificate)
-    (λ l reads'. value_one InCertificate (format_reading texts.certificate) (Checks m l)
+    value_one InMap (map_reading texts.map) (λ m. ListThen (λ l. CertificateThen (IsVerdict m l) texts.certificate) texts.list)
+    (λ m reads. value_one InList (list_reading texts.list) (λ l. CertificateThen (IsVerdict m l) texts.certificate)
+    (λ l reads'. value_one InCertificate (format_reading texts.certificate) (IsVerdict m l)
     (λ k reads''. (checked (first_fault m l k) (length l.prefixes), refl, (λ other is. is)))))
 returns c (Recert certificate) texts =
     value_one InCertificate (format_reading texts.certificate) PrintsCompact (λ k reads. prints_one (certificate_text (compact k)))

@@ -27,7 +27,7 @@ use Rattle.flow_uniq.specs.Laws.{DivideRows}
 use Rattle.pmap_print.specs.Reports.{info_text, label_fields, label_titles, row_fields, row_titles}
 use Rattle.pmap_print.specs.Table.{Line, table_text}
 use Rattle.flowlabel.specs.Headline.{IsSameUnder, PrintsEachOnce, PrintsGroups, PrintsList, PrintsRows, row_columns}
-use Rattle.flowlabel.specs.Output.{BytesFault, Checks, IsOutput, LabelsThen, Outcome, Prints, Then, FlowsThen, label_text, labelled_row_lines, minimal_text, row_labels}
+use Rattle.flowlabel.specs.Output.{BytesFault, IsVerdict, IsOutput, LabelsThen, Outcome, Prints, Then, FlowsThen, label_text, labelled_row_lines, minimal_text, row_labels}
 use Rattle.flowlabel.proofs.Outcomes.{CertificateThen, ListThen, PrintsCompact, PrintsMinimal, PrintsRuns, ReportsOf, passing_rows, report_of_groups, report_of_rows, checked}
 use Rattle.std.specs.Borrow.{Bor}
 use Rattle.flowlabel.specs.ByFile.{ByFile}
@@ -53,9 +53,9 @@ checked_of : (name : Bor Text) (texts : ByFile Text) (out : List ℕ) → IsOutp
     → (m : MapModel) × (l : ListModel) × (c : CertificateModel) × (map_reading texts.map ≡ Ok m) × (list_reading texts.list ≡ Ok l) × (format_reading texts.certificate ≡ Ok c)
     × (first_fault m l c ≡ None) × (out ≡ minimal_text (length l.prefixes))
 checked_of name texts out is =
-    let (m, map_is, listed) = printed_of InMap (λ m. ListThen (λ l. CertificateThen (Checks m l) texts.certificate) texts.list) (map_reading texts.map) out is in
-    let (l, list_is, certified) = printed_of InList (λ l. CertificateThen (Checks m l) texts.certificate) (list_reading texts.list) out listed in
-    let (c, certificate_is, found) = printed_of InCertificate (Checks m l) (format_reading texts.certificate) out certified in
+    let (m, map_is, listed) = printed_of InMap (λ m. ListThen (λ l. CertificateThen (IsVerdict m l) texts.certificate) texts.list) (map_reading texts.map) out is in
+    let (l, list_is, certified) = printed_of InList (λ l. CertificateThen (IsVerdict m l) texts.certificate) (list_reading texts.list) out listed in
+    let (c, certificate_is, found) = printed_of InCertificate (IsVerdict m l) (format_reading texts.certificate) out certified in
     let (none, text) = faultless (first_fault m l c) (length l.prefixes) out found in (m, l, c, map_is, list_is, certificate_is, none, text)
 
 -- a text under a file of labels is the same under an equivalent one, since the labellings are equal

@@ -1,6 +1,6 @@
 use Rattle.std.proofs.Common.{◌≡◌, ◌∙◌, ◌++◌, ◌∷◌, [], Bool, true, false, List, Option, ap, is_some, option_map, rules, subst, sym}
 use Rattle.flow_filter.specs.Condition.{Condition, passing, row_passes}
-use Rattle.flow_rows.specs.Counts.{rows_of}
+use Rattle.flow_rows.specs.Counts.{rows_of_sets}
 use Rattle.flow_rows.specs.Elements.{RowView}
 use Rattle.label_lookup.specs.Labelling.{Labelling, label_where}
 use Rattle.pmap_print.specs.Reports.{column_count, label_texts, row_line}
@@ -28,7 +28,7 @@ loop-row-preserved-in-Continue-1 c =
     let row : RowView = c.in-Some.row in
     let passed : row_passes condition (label_where labels) row ≡ true = search rules in
     let same = same_labelled labels c.labels_under.result row c.labels_under.ensures in
-    one_added (λ columns. HasRows condition columns labels) (rows_of c.args.message.now.sets) c.loop-row.row-iterator c.next.new.self
+    one_added (λ columns. HasRows condition columns labels) (rows_of_sets c.args.message.now.sets) c.loop-row.row-iterator c.next.new.self
     row c.args.table.now c.loop-row.table c.add_row.new.self c.in-Some.ensures.steps c.loop-row.invariant
     (λ columns rows has.
     let lines : List Line = labelled_row_lines labels (passing condition labels rows) in
@@ -49,11 +49,11 @@ loop-row-preserved c =
     let labels : Option Labelling = labelling_found c.args.labels in
     let condition : Condition = c.args.filter.now in
     let failed : row_passes condition (label_where labels) c.in-Some.row ≡ false = search rules in
-    one_added (λ columns. HasRows condition columns labels) (rows_of c.args.message.now.sets) c.loop-row.row-iterator c.next.new.self
+    one_added (λ columns. HasRows condition columns labels) (rows_of_sets c.args.message.now.sets) c.loop-row.row-iterator c.next.new.self
     c.in-Some.row c.args.table.now c.loop-row.table c.loop-row.table c.in-Some.ensures.steps c.loop-row.invariant
     (λ columns rows has. failing_row condition columns labels rows c.in-Some.row c.loop-row.table has failed)
 
 pub returns : goal.returns
 returns c =
-    all_added (λ columns. HasRows c.args.filter.now columns (labelling_found c.args.labels)) (rows_of c.args.message.now.sets) c.loop-row.row-iterator
+    all_added (λ columns. HasRows c.args.filter.now columns (labelling_found c.args.labels)) (rows_of_sets c.args.message.now.sets) c.loop-row.row-iterator
     c.args.table.now c.loop-row.table c.in-None.ensures.steps.0 c.loop-row.invariant

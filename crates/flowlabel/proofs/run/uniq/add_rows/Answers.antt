@@ -1,7 +1,7 @@
 use Rattle.std.proofs.Common.{◌≡◌, ◌∙◌, ◌++◌, ◌∷◌, [], List, Option, true, false, ap, arith, length, rules, sym}
 use Rattle.std.proofs.lemmas.List.{map-append}
 use Rattle.flow_filter.specs.Condition.{Condition, passing, row_passes}
-use Rattle.flow_rows.specs.Counts.{rows_of}
+use Rattle.flow_rows.specs.Counts.{rows_of_sets}
 use Rattle.flow_rows.specs.Elements.{RowView}
 use Rattle.flow_uniq.specs.Groups.{groups_of, groups_of_keyed}
 use Rattle.flow_uniq.proofs.Grouping.{keyed}
@@ -20,7 +20,7 @@ loop-row-preserved-in-Continue-1 c =
     let passed : row_passes condition (label_where labels) row ≡ true = search rules in
     record {
       rows =
-          one_added (λ keys. HasGroups keys condition labels) (rows_of c.args.message.now.sets) c.loop-row.row-iterator c.next.new.self
+          one_added (λ keys. HasGroups keys condition labels) (rows_of_sets c.args.message.now.sets) c.loop-row.row-iterator c.next.new.self
           row c.args.groups.now c.loop-row.groups c.add.new.self c.in-Some.ensures.steps c.loop-row.invariant.rows
           (λ keys rows has.
           let shown : List RowView = passing condition labels rows in
@@ -42,7 +42,7 @@ loop-row-preserved c =
     let failed : row_passes condition (label_where labels) c.in-Some.row ≡ false = search rules in
     record {
       rows =
-          one_added (λ keys. HasGroups keys condition labels) (rows_of c.args.message.now.sets) c.loop-row.row-iterator c.next.new.self
+          one_added (λ keys. HasGroups keys condition labels) (rows_of_sets c.args.message.now.sets) c.loop-row.row-iterator c.next.new.self
           c.in-Some.row c.args.groups.now c.loop-row.groups c.loop-row.groups c.in-Some.ensures.steps c.loop-row.invariant.rows
           (λ keys rows has. failing_in_group keys condition labels rows c.in-Some.row c.loop-row.groups has failed);
       few = omega (arith, c.loop-row.invariant.few, ap length c.in-Some.ensures.steps);

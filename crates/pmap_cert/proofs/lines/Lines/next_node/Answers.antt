@@ -1,6 +1,6 @@
 use Rattle.std.proofs.Common.{◌≤◌, ◌^◌, ◌≡◌, ◌∙◌, ℕ, Bool, Err, ap, arith, cond, false, refl, sym}
 use Rattle.pmap_cert.specs.Format.{format_number}
-use Rattle.pmap_cert.specs.FormatReading.{Place, fault_at, fits_line, is_ended, likely_line, line_text, pieces_of, BadNode, NodesMissing}
+use Rattle.pmap_cert.specs.FormatReading.{Place, fault_at, fits_line, is_ended, likely_line, node_line_text, pieces_of, BadNode, NodesMissing}
 use Rattle.pmap_cert.specs.Packed.{line_of}
 use Rattle.pmap_cert.proofs.PrintedLines.{line-back, line-lacks, nowhere, there}
 use Rattle.pmap_cert.proofs.lines.Lines.next_node.Goals as goal
@@ -17,7 +17,7 @@ returns-in-Some c =
       unchanged = tt;
       ok =
           rw (← c.self.view_is, ← c.len-count.ensures)
-          (there (fits_line format limits.width count) line_text likely_line (line-lacks format limits.width count few) (line-back format limits.width count few)
+          (there (fits_line format limits.width count) node_line_text likely_line (line-lacks format limits.width count few) (line-back format limits.width count few)
           (cond (is_ended (pieces_of c.self.inside.rest.now)) NodesMissing BadNode) c.self.inside.number c.self.inside.rest.now
           (line_of c.in-Some.node) c.in-Some.rest.now (rw c.in-Some.is at c.in_ok-node.ensures).right);
     }
@@ -37,7 +37,7 @@ returns-in-None-2 c =
       unchanged = refl;
       err = λ _.
           rw (c.fault-in-None-2.ensures, ← c.self.view_is, ← c.len-count.ensures)
-          (nowhere (fits_line format limits.width count) line_text likely_line (line-lacks format limits.width count few) (line-back format limits.width count few)
+          (nowhere (fits_line format limits.width count) node_line_text likely_line (line-lacks format limits.width count few) (line-back format limits.width count few)
           (cond (is_ended (pieces_of text)) NodesMissing BadNode) c.self.inside.number text (rw c.in-None-2.is at c.in_ok-node.ensures)
           ∙ ap (λ (b : Bool). Err (fault_at (record { number = c.self.inside.number; pieces = pieces_of text }) (cond b NodesMissing BadNode))) more);
     }

@@ -1,10 +1,11 @@
 use Rattle.std.proofs.Common.{sym, subst, ◌∙◌, get_or}
-use Rattle.pmap_text.specs.Inner.{HasDistinctKeys, same_key}
+use Rattle.pmap_text.specs.Inner.{HasDistinctKeys}
 use Rattle.pmap_text.specs.PrefixList.{prefix_of}
 use Rattle.pmap_text.specs.Reading.{Earlier}
 use Rattle.pmap_text.proofs.Filed.{distinct_from_map}
 use Rattle.pmap_text.proofs.ProgressSteps.{version-decided}
 use Rattle.pmap_text.proofs.reading.Reading.into_list.Goals as goal
+use Rattle.pmap_text.specs.ListModel.{same_start_and_bits}
 
 pub invariant_of-result-clause-one_version : goal.invariant_of-result-clause-one_version
 invariant_of-result-clause-one_version c = λ k d within.
@@ -16,5 +17,5 @@ invariant_of-result-clause-numbers_known c = c.self.invariant.entry_numbers
 
 pub invariant_of-result-clause-blocks_distinct : goal.invariant_of-result-clause-blocks_distinct
 invariant_of-result-clause-blocks_distinct c =
-    distinct_from_map (prefix_of c.self.inside.labels) same_key c.self.inside.entries
+    distinct_from_map (prefix_of c.self.inside.labels) same_start_and_bits c.self.inside.entries
     (subst (λ (e : Earlier). HasDistinctKeys e.prefixes) (sym c.self.view_is) c.requires)

@@ -1,8 +1,7 @@
 use Rattle.std.proofs.Common.{◌≡◌, eqb, arith, ap, sym, ◌∙◌}
 use Rattle.std.proofs.lemmas.Grind.{common_steps}
 use Rattle.std.specs.List.{before_first}
-use Rattle.pmap_text.specs.Reading.{trim_start}
-use Rattle.pmap_text.specs.Inner.{trim_end}
+use Rattle.pmap_text.specs.Reading.{trim_start, trim_end}
 use Rattle.pmap_text.proofs.Places.{end_at-feed}
 use Rattle.pmap_text.proofs.reading.lines.split_content.Goals as goal
 

@@ -1,11 +1,11 @@
 use Rattle.std.proofs.Common.{ℕ, ◌≡◌, ◌+◌, ◌-◌, ◌<◌, ◌∙◌, [], ◌∷◌, ◌++◌, List, false, ap, sym, drop, get_or, length, append_assoc, arith}
 use Rattle.std.specs.Fmt.{digits}
 use Rattle.std.proofs.lemmas.List.{drop_all}
-use Rattle.prefix_keys.specs.Inner.{address_groups_text}
 use Rattle.prefix_keys.proofs.Joined.{joined-before, joined-last}
 use Rattle.prefix_keys.proofs.Places.{put}
 use Rattle.prefix_keys.proofs.print.digits.write_groups.Goals as goal
 use Rattle.prefix_keys.proofs.print.digits.write_groups.Goals.{then-i-groups, else-i-groups}
+use Rattle.prefix_keys.specs.Print.{address_groups_text}
 
 pub loop-i-preserved : goal.loop-i-preserved
 loop-i-preserved c =

@@ -1,6 +1,6 @@
 use Rattle.std.proofs.Common.{◌≡◌, ◌+◌, ◌*◌, ◌≤◌, ◌++◌, drop, length}
-use Rattle.prefix_keys.specs.Inner.{address_groups_text}
 use Rattle.prefix_keys.proofs.print.digits.write_groups.Given as goal
+use Rattle.prefix_keys.specs.Print.{address_groups_text}
 
 -- the groups from i on are written
 abbrev pub invariant-loop-i : goal.invariant-loop-i

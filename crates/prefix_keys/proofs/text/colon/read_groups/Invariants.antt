@@ -1,6 +1,7 @@
 use Rattle.std.proofs.Common.{◌≡◌, ◌≤◌, ◌<◌, ◌*◌, ◌^◌, length}
-use Rattle.prefix_keys.specs.Inner.{more_groups, text_groups}
+use Rattle.prefix_keys.specs.Inner.{more_groups}
 use Rattle.prefix_keys.proofs.text.colon.read_groups.Given as goal
+use Rattle.prefix_keys.specs.Text.{text_groups}
 
 -- the groups so far and those of the rest are those of the text
 abbrev pub invariant-loop-rest : goal.invariant-loop-rest
