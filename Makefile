@@ -25,7 +25,7 @@ files = bin/flowlabel share/man/man1/flowlabel.1 share/man/man1/flowlabel-script
 checks = 'docs/trusted >out/trusted' docs/words tests/out_of_memory tests/by_hand tests/contracts tests/pages \
 	tests/calls/run tests/borrow tests/build tests/program tests/system tests/hashing tests/instructions tests/memory \
 	tests/install tests/verify tests/evaluate tests/shared 'tests/report --without-packages' \
-	'tests/lint flows lost' 'examples/run --without-packages'
+	'tests/many --without-packages' 'tests/lint flows lost' 'examples/run --without-packages'
 # Scripts that check the scripts of examples/ and the packages.
 checks_of_scripts = tests/capture tests/country tests/endings tests/fib tests/lint tests/many tests/package \
 	tests/pictures tests/report tests/table

@@ -139,8 +139,11 @@ class Parser(argparse.ArgumentParser):
 
 def shown(text):
     """Returns a text whose unprintable characters are escapes, so that it is in one line."""
+    text = str(text)
+    if text.isprintable():
+        return text
     return "".join(c if c.isprintable() else f"\\x{ord(c):02x}" if ord(c) < 0x100 else f"\\u{ord(c):04x}"
-                   for c in str(text))
+                   for c in text)
 
 
 def write(parts):
@@ -206,7 +209,7 @@ def block(text):
     Raises ValueError for another text. Host bits may be set."""
     first, slash, length = text.partition("/")
     version, number = address(first)
-    if slash and not (re.fullmatch("[0-9]{1,3}", length) and int(length) <= WIDTHS[version]):
+    if slash and not (length.isascii() and length.isdigit() and len(length) <= 3 and int(length) <= WIDTHS[version]):
         raise ValueError(f"no length of a block: {length}")
     return version, number, int(length) if slash else WIDTHS[version]
 
