@@ -5,6 +5,7 @@ A number is an int, a truth value or a statement is a bool, and a list is a tupl
 
 import functools
 import itertools
+from collections.abc import Sequence
 from dataclasses import dataclass
 
 from specs import cannot
@@ -40,10 +41,8 @@ class Function:
     got: tuple = ()
 
 
-class Tail:
-    """A long list without its first items, which shares the rest with that list."""
-
-    __slots__ = ("items", "start")
+class Tail(Sequence):
+    """A long list without its first items, which shares the others with that list."""
 
     def __init__(self, items, start):
         self.items, self.start = items, start
@@ -55,10 +54,7 @@ class Tail:
         return len(self.items) - self.start
 
     def __getitem__(self, index):
-        if type(index) is int:
-            return self.items[self.start + index]
-        start, stop, step = index.indices(len(self))
-        return self.whole()[index] if step != 1 or stop < len(self) else tail(self.items, self.start + start)
+        return self.items[self.start + index] if type(index) is int else self.whole()[index]
 
     def __iter__(self):
         return iter(self.whole())
@@ -70,7 +66,7 @@ class Tail:
         return other + self.whole()
 
     def __eq__(self, other):
-        return self.whole() == (other.whole() if type(other) is Tail else other)
+        return self.whole() == tuple(other)
 
 
 def tail(items, start=1):

@@ -187,6 +187,9 @@ class Definition:
     error: str = None
 
     def read(self):
+        """Reads the equations or fields, the first time that they are needed."""
+        if self.arity is not None or self.error or self.kind == "data":
+            return self
         try:
             if self.kind == "function":
                 start = r"\S.* = " if "◌" in self.name else re.escape(self.name) + " "
@@ -200,6 +203,7 @@ class Definition:
                 self.arity = len(self.outer) + len(self.params)
         except Malformed as error:
             self.error = f"{self.name}: {error}"
+        return self
 
     def texts(self, start):
         """Divides the lines of the definition at those that begin so."""
@@ -248,7 +252,6 @@ class Module:
             elif current:
                 current.lines.append(line)
         for definition in self.definitions.values():
-            definition.read()
             if definition.kind == "data":
                 names = [line.split(" :")[0].strip() for line in definition.lines[1:] if " :" in line]
                 self.constructors |= {name: f"{self.key}.{definition.name}.{name}" for name in names}
