@@ -9,7 +9,6 @@ names, type, body), which says that there are such values (×) or speaks of all 
 import functools
 import itertools
 import re
-from dataclasses import dataclass
 
 
 class CannotEvaluate(Exception):
@@ -168,42 +167,49 @@ PASSED_OVER = re.compile(r"\s*(--|((pub|ghost) )*use |pub mod |infix|unfolding\b
 EXPLICIT = re.compile(r"\(([\w' ]+) :")  # the names of parameters that calls give
 
 
-@dataclass(eq=False)
-class Definition:
-    """A definition as it is in its file. `outer` are the parameters of the part of the module that it is in, `sides` the
-    patterns and the right side of each equation, and `fields` those of a record that is a statement."""
+def words_of(tree):
+    """Returns the names in a tree, without the fields that follow them."""
+    if tree[:1] == ("name",) and isinstance(tree[1], str):
+        return {tree[1].split(".")[0]}
+    return set().union(*(words_of(part) for part in tree if isinstance(part, (tuple, list))))
 
-    name: str
-    kind: str
-    line: int
-    depth: int
-    outer: list
-    lines: list
-    equations: tuple = ()
-    sides: tuple = ()
-    params: tuple = ()
-    fields: tuple = ()
-    arity: int = None
-    error: str = None
+
+class Definition:
+    """A definition as it is in its file. `outer` are the parameters of the part of the module that it is in, and `sides`
+    the patterns and the right side of each equation. A record with parameters is a statement, that its fields hold."""
+
+    def __init__(self, name, kind, line, depth, outer, lines):
+        self.name, self.kind, self.line, self.depth, self.outer, self.lines = name, kind, line, depth, outer, lines
+        self.sides, self.arity, self.error = None, None, None
 
     def read(self):
-        """Reads the equations or fields, the first time that they are needed."""
-        if self.arity is not None or self.error or self.kind == "data":
-            return self
-        try:
-            if self.kind == "function":
-                start = r"\S.* = " if "◌" in self.name else re.escape(self.name) + " "
-                self.equations = self.texts(f" {{{self.depth}}}{start}")
-                self.sides = [self.sides_of(lex(text)) for text in self.equations] or cannot("no equation", Malformed)
-                self.arity = len(self.outer) + len(self.sides[0][0])
-            elif self.kind == "record" and "(" in " ".join(self.lines).split(" : Type")[0]:
-                self.params = " ".join(EXPLICIT.findall(" ".join(self.lines).split(" : Type")[0])).split()
-                fields = [re.match(r"pub (\S+) : (.*)", text, re.S) for text in self.texts(r"\s+pub \S+ : ")]
-                self.fields = [(match[1], Parser(lex(match[2])).whole()) for match in fields]
-                self.arity = len(self.outer) + len(self.params)
-        except Malformed as error:
-            self.error = f"{self.name}: {error}"
+        """Reads the equations or the fields, the first time that they are needed."""
+        if self.sides is None:
+            try:
+                self.sides = self.equations() if self.kind == "function" else self.statement()
+                self.arity = len(self.outer) + len(self.sides[0][0]) if self.sides else None
+            except Malformed as error:
+                self.sides, self.error = (), f"{self.name}: {error}"
         return self
+
+    def equations(self):
+        start = r"\S.* = " if "◌" in self.name else re.escape(self.name) + " "
+        texts = self.texts(f" {{{self.depth}}}{start}")
+        return [self.sides_of(lex(text)) for text in texts] or cannot("no equation", Malformed)
+
+    def statement(self):
+        """Returns the statement of a record as an equation. A field that other fields name is a value that there is."""
+        params = " ".join(EXPLICIT.findall(" ".join(self.lines).split(" : Type")[0])).split()
+        fields = [re.match(r"pub (\S+) : (.*)", text, re.S).groups() for text in self.texts(r"\s+pub \S+ : ")]
+        if self.kind == "data" or not params or not fields:
+            return ()
+        trees = {name: Parser(lex(text)).whole() for name, text in fields}
+        used = set().union(*map(words_of, trees.values())) - {*params}
+        values = [name for name in trees if name in used]
+        parts = [tree for name, tree in trees.items() if name not in used]
+        body = functools.reduce(lambda later, part: ("operator", "×", part, later), parts[-2::-1], parts[-1])
+        body = ("binder", "×", values, ("name", "value"), body) if values else body
+        return [([("name", name) for name in params], body)]
 
     def texts(self, start):
         """Divides the lines of the definition at those that begin so."""
