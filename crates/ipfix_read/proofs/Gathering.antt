@@ -55,7 +55,7 @@ pub header_sound : (count : ℕ) (bytes : List ℕ) → header_fault count bytes
 header_sound count bytes e =
     let own : own_fault count bytes ≡ None = grind (arith, nat_tests, common_steps) in (own_sound count bytes own, grind (arith, nat_tests, common_steps))
 
-own_none : (count : ℕ) (bytes : List ℕ) → count < 4294967295 → big_number 2 bytes ≡ 10 → 16 ≤ written_length bytes → own_fault count bytes ≡ None
+pub own_none : (count : ℕ) (bytes : List ℕ) → count < 4294967295 → big_number 2 bytes ≡ 10 → 16 ≤ written_length bytes → own_fault count bytes ≡ None
 own_none count bytes counted version least = grind (arith, nat_tests, common_steps)
 
 -- the header of a whole message, whatever bytes follow the message

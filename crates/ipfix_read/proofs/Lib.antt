@@ -3,3 +3,4 @@ pub mod Sets
 pub mod Readings
 pub mod Gathering
 pub mod Joining
+pub mod Following

@@ -47,17 +47,28 @@ module _ (templates : InForce) (count offset : ℕ) (bytes : List ℕ) where
   pub message_cut : (kind : ReadFaultKind) → header_fault count bytes ≡ Some kind → message_next templates count offset bytes ≡ Err (record { kind = kind; offset = offset })
   message_cut kind found = rw found refl
 
+  pub message_headed : (m : MessageView) (after : List ℕ) → message_next templates count offset bytes ≡ Ok (m, after) → header_fault count bytes ≡ None
+  message_headed m after e =
+      elim (header_fault count bytes) as (λ o. header_fault count bytes ≡ o → header_fault count bytes ≡ None) [
+        | Some kind ↦ λ found. let wrong : ◌≡◌ {A = Result (MessageView × List ℕ) ReadFault} (Err (record { kind = kind; offset = offset })) (Ok (m, after)) = sym (message_cut kind found) ∙ e in absurd (cc)
+        | None ↦ λ none. none
+      ] refl
+
+  -- the bytes of a message that was read, and the bytes after it
+  pub message_whole : (m : MessageView) (after : List ℕ) → message_next templates count offset bytes ≡ Ok (m, after)
+      → (x : MessageView) × (whole_reading templates offset (take (written_length bytes) bytes) ≡ Ok x)
+      × (◌≡◌ {A = MessageView × List ℕ} (x, drop (written_length bytes) bytes) (m, after))
+  message_whole m after e =
+      let size = written_length bytes in
+      result_mapped (whole_reading templates offset (take size bytes)) (λ (x : MessageView). (x, drop size bytes)) (m, after)
+      (sym (message_read size (message_headed m after e) refl) ∙ e)
+
   message_smaller : (m : MessageView) (after : List ℕ) → message_next templates count offset bytes ≡ Ok (m, after) → length after < length bytes
   message_smaller m after e =
-      elim (header_fault count bytes) as (λ o. header_fault count bytes ≡ o → length after < length bytes) [
-        | Some kind ↦ λ found. let wrong : ◌≡◌ {A = Result (MessageView × List ℕ) ReadFault} (Err (record { kind = kind; offset = offset })) (Ok (m, after)) = sym (message_cut kind found) ∙ e in absurd (cc)
-        | None ↦ λ none.
-            let sound = header_sound count bytes none in
-            let header = sound.0 in
-            let size = written_length bytes in
-            let read = result_mapped (whole_reading templates offset (take size bytes)) (λ (x : MessageView). (x, drop size bytes)) (m, after) (sym (message_read size none refl) ∙ e) in
-            omega (arith, header.least, sound.1, ap (λ (x : MessageView × List ℕ). length x.1) read.2, length-drop size bytes)
-      ] refl
+      let sound = header_sound count bytes (message_headed m after e) in
+      let header = sound.0 in
+      let read = message_whole m after e in
+      omega (arith, header.least, sound.1, ap (λ (x : MessageView × List ℕ). length x.1) read.2, length-drop (written_length bytes) bytes)
 
 -- the message in a buffer, whatever bytes follow it
 pub front_read : (templates : InForce) (count offset : ℕ) (front rest : List ℕ) → count < 4294967295 → HasHeader front

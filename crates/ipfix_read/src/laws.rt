@@ -1,5 +1,5 @@
 //! Laws about reading Files.
-ghost use Rattle.ipfix_read.specs.Laws.{CallsJoinFile, CallsStart, FirstMessageAndRest};
+ghost use Rattle.ipfix_read.specs.Laws.{CallsJoinFile, CallsStart, FileAfterFile, FirstMessageAndRest, JoinedFileIsRead};
 
 /// A first message, followed by the rest read after it, is the whole, under any templates in force, after any number of
 /// messages and at any offset.
@@ -13,4 +13,12 @@ pub fn first_message_and_rest()
 pub fn calls_join_file()
     ensures start { CallsStart }
     ensures join { CallsJoinFile }
+{}
+
+/// If a File has no fault, and no data set of it lacks a template when it is read alone, then it has the same messages
+/// after another File without a fault. So a joined File has the messages of all its Files, unless they are more than a
+/// File can have.
+pub fn file_after_file()
+    ensures two { FileAfterFile }
+    ensures many { JoinedFileIsRead }
 {}
