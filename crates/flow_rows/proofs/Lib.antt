@@ -2,3 +2,4 @@ pub mod Usable
 pub mod Reading
 pub mod LayoutRows
 pub mod Walking
+pub mod Adding

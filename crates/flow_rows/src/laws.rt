@@ -1,8 +1,8 @@
-//! A law about counts.
+//! Laws about counts and rows.
 ghost use Rattle.std.specs.Prelude.{◌≡◌, ◌++◌, List};
 ghost use Rattle.ipfix_read.specs.Message.{MessageView};
 ghost use Rattle.flow_rows.specs.Counts.{counts_of, rows_of_messages};
-ghost use Rattle.flow_rows.specs.Laws.{summed_counts, sums};
+ghost use Rattle.flow_rows.specs.Laws.{JoinedFileAddsUp, NoneSkipped, summed_counts, sums};
 
 /// The counts of messages are the sums of those of the first messages and of the others, and so of those of each
 /// message. The rows of messages are those of the first messages followed by those of the others.
@@ -12,4 +12,12 @@ pub fn counts_add_up()
     ensures each { (messages : List MessageView) → counts_of messages ≡ summed_counts messages }
     ensures rows { (front back : List MessageView) →
         rows_of_messages (front ++ back) ≡ rows_of_messages front ++ rows_of_messages back }
+{}
+
+/// If Files are joined, and no data set of the later ones lacks a template when they are read alone, then the rows are
+/// those of each File, in order, and the counts are the sums of those of each File. A File without skipped sets may be a
+/// later one.
+pub fn joined_file_adds_up()
+    ensures joined { JoinedFileAddsUp }
+    ensures alone { NoneSkipped }
 {}

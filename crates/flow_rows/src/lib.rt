@@ -30,7 +30,7 @@ mod row;
 mod walk;
 
 pub use counts::Counts;
-pub use laws::counts_add_up;
+pub use laws::{counts_add_up, joined_file_adds_up};
 pub use record::{reverse_row_of, row_of};
 pub use row::Row;
 pub use walk::{Rows, rows_of};
