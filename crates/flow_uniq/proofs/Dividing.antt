@@ -1,5 +1,5 @@
 -- Groups divide rows.
-use Rattle.std.proofs.Common.{◌≡◌, ℕ, ◌+◌, ◌<◌, All, Bool, true, false, not, ◌||◌, cond, List, [], ◌∷◌, length, map, filter, true≢false, refl, sym, ap, subst, ◌∙◌, arith}
+use Rattle.std.proofs.Common.{◌≡◌, ℕ, ◌+◌, ◌<◌, All, Bool, true, false, not, ◌||◌, cond, Option, List, [], ◌∷◌, length, map, filter, true≢false, refl, sym, ap, subst, ◌∙◌, arith}
 use Rattle.std.specs.Prelude.{sum_by}
 use Rattle.std.specs.List.{AllByRecursion, IsDistinct, list_any}
 use Rattle.std.proofs.lemmas.Bool.{not-true, or_right}
@@ -10,10 +10,13 @@ use Rattle.std.proofs.lemmas.List.Sums.{sum_by-cons}
 use Rattle.std.proofs.lemmas.Map.Keys.{IsDistinct-head, IsDistinct-tail}
 use Rattle.std.proofs.lemmas.Simd.{map-map}
 use Rattle.flow_rows.specs.Elements.{RowView}
-use Rattle.flow_uniq.specs.Key.{Key, same_key}
-use Rattle.flow_uniq.specs.Groups.{GroupModel, distinct_keys, groups_of_keyed, totals_of}
-use Rattle.flow_uniq.specs.Laws.{SumsItsRows}
-use Rattle.flow_uniq.proofs.Grouping.{rows_with, same_key-equiv, any-distinct_keys}
+use Rattle.prefix_keys.specs.Text.{AddressOf}
+use Rattle.pmap_text.specs.MapModel.{Label}
+use Rattle.flow_uniq.specs.Key.{Key, KeyField, key_of, same_key}
+use Rattle.flow_uniq.specs.Groups.{GroupModel, distinct_keys, groups_of, groups_of_keyed, totals_of}
+use Rattle.flow_uniq.specs.Laws.{DivideRows, SumsItsRows}
+use Rattle.flow_uniq.proofs.Filtering.{filter-weaker}
+use Rattle.flow_uniq.proofs.Grouping.{keyed, rows_with, same_key-equiv, any-distinct_keys}
 
 -- The keys of groups are distinct.
 
@@ -36,7 +39,7 @@ others_differ k ks =
     (All-weaker (λ o. not (same_key k o) ≡ true) (λ o. same_key k o ≡ false) (λ o h. not-true (same_key k o) h) kept
     (filter_passes (λ o. not (same_key k o)) ks))
 
-distinct-distinct_keys : (ks : List Key) → IsDistinct same_key (distinct_keys ks)
+pub distinct-distinct_keys : (ks : List Key) → IsDistinct same_key (distinct_keys ks)
 unfolding IsDistinct
 distinct-distinct_keys [] = tt
 distinct-distinct_keys (k ∷ ks) = (
@@ -54,7 +57,7 @@ groups-distinct rows =
 -- Each group sums the rows that have its key.
 
 -- a sum over rows with keys is that over the rows
-abbrev keyed_by : (RowView → Key) → List RowView → List (Key × RowView)
+abbrev pub keyed_by : (RowView → Key) → List RowView → List (Key × RowView)
 keyed_by key rows = map (λ row. (key row, row)) rows
 
 pub sum_by-keyed : (key : RowView → Key) (f : RowView → ℕ) (rows : List RowView)
@@ -69,7 +72,7 @@ sum_by-keyed key f (row ∷ rows) =
     )
 
 -- each distinct key is the key of a row
-have-rows : (ks : List Key) → AllByRecursion (λ d. list_any (same_key d) ks ≡ true) (distinct_keys ks)
+pub have-rows : (ks : List Key) → AllByRecursion (λ d. list_any (same_key d) ks ≡ true) (distinct_keys ks)
 have-rows [] = tt
 have-rows (k ∷ ks) =
     let P : Key → Type 0 = λ d. list_any (same_key d) (k ∷ ks) ≡ true in
@@ -82,7 +85,7 @@ have-rows (k ∷ ks) =
     )
 
 -- a key of a row has a row
-has-row : (d : Key) (rows : List (Key × RowView)) → list_any (same_key d) (map (λ r. r.0) rows) ≡ true → 0 < length (rows_with d rows)
+pub has-row : (d : Key) (rows : List (Key × RowView)) → list_any (same_key d) (map (λ r. r.0) rows) ≡ true → 0 < length (rows_with d rows)
 has-row d [] none = absurd (true≢false (sym none))
 has-row d (r ∷ rows) some = by (same_key d r.0) (has-row d rows) some
   where
@@ -95,7 +98,7 @@ has-row d (r ∷ rows) some = by (same_key d r.0) (has-row d rows) some
     by false ih h = ih h
 
 -- the rows with a key, after their keys are left out
-rows_with-keyed : (key : RowView → Key) (d : Key) (rows : List RowView)
+pub rows_with-keyed : (key : RowView → Key) (d : Key) (rows : List RowView)
     → rows_with d (keyed_by key rows) ≡ keyed_by key (filter (λ row. same_key d (key row)) rows)
 rows_with-keyed key d [] = refl
 rows_with-keyed key d (row ∷ rows) = by (same_key d (key row)) (rows_with-keyed key d rows)
@@ -137,14 +140,14 @@ groups-sum_their_rows key rows = All-map (SumsItsRows key rows) group ds (All-we
 
 -- What all rows have, added up, is the sum over the groups.
 
-abbrev other_rows : Key → List (Key × RowView) → List (Key × RowView)
+abbrev pub other_rows : Key → List (Key × RowView) → List (Key × RowView)
 other_rows d rows = filter (λ r. not (same_key d r.0)) rows
 
 -- each row has one of the keys
-abbrev HaveKeys : List Key → List (Key × RowView) → Type 0
+abbrev pub HaveKeys : List Key → List (Key × RowView) → Type 0
 HaveKeys ds rows = AllByRecursion (λ r. list_any (same_key r.0) ds ≡ true) rows
 
-have-more : (all : List Key) (rows : List (Key × RowView))
+pub have-more : (all : List Key) (rows : List (Key × RowView))
     → ((k : Key) → list_any (same_key k) (map (λ r. r.0) rows) ≡ true → list_any (same_key k) all ≡ true) → HaveKeys all rows
 have-more all [] up = tt
 have-more all (r ∷ rows) up = (
@@ -164,25 +167,17 @@ have-others d ds (r ∷ rows) all = by (same_key d r.0) refl (have-others d ds r
 
 -- the rows with another key are among the others
 with-others : (d e : Key) → same_key d e ≡ false → (rows : List (Key × RowView)) → rows_with e (other_rows d rows) ≡ rows_with e rows
-with-others d e apart [] = refl
-with-others d e apart (r ∷ rows) = by (same_key d r.0) (same_key e r.0) refl refl (with-others d e apart rows)
-  where
-    by : (a b : Bool) → same_key d r.0 ≡ a → same_key e r.0 ≡ b → rows_with e (other_rows d rows) ≡ rows_with e rows
-        → rows_with e (cond (not a) (r ∷ other_rows d rows) (other_rows d rows)) ≡ cond b (r ∷ rows_with e rows) (rows_with e rows)
-    by true true s t ih =
-        absurd (true≢false (sym t ∙ sym (same_key-equiv.symm r.0 e) ∙ sym (same_key-equiv.congr d r.0 e s) ∙ apart))
-    by true false s t ih = ih
-    by false b s t ih =
-        ap (λ c. cond c (r ∷ rows_with e (other_rows d rows)) (rows_with e (other_rows d rows))) t
-        ∙ ap (λ (l : List (Key × RowView)). cond b (r ∷ l) l) ih
+with-others d e apart =
+    filter-weaker (λ (r : Key × RowView). not (same_key d r.0)) (λ r. same_key e r.0)
+    (λ r s. ap not (same_key-equiv.symm d r.0 ∙ sym (same_key-equiv.congr e r.0 d s) ∙ same_key-equiv.symm e d ∙ apart))
 
 -- a sum over rows that is that of the rows with a key and of the others
 module _ (F : List (Key × RowView) → ℕ) (empty : F [] ≡ 0)
     (both : (d : Key) (rows : List (Key × RowView)) → F (rows_with d rows) + F (other_rows d rows) ≡ F rows) where
-  abbrev by_key : List Key → List (Key × RowView) → ℕ
+  abbrev pub by_key : List Key → List (Key × RowView) → ℕ
   by_key ds rows = sum_by (λ d. F (rows_with d rows)) ds
 
-  by_key-others : (d : Key) (ds : List Key) (rows : List (Key × RowView)) → AllByRecursion (λ e. same_key d e ≡ false) ds
+  pub by_key-others : (d : Key) (ds : List Key) (rows : List (Key × RowView)) → AllByRecursion (λ e. same_key d e ≡ false) ds
       → by_key ds (other_rows d rows) ≡ by_key ds rows
   by_key-others d [] rows apart = refl
   by_key-others d (e ∷ ds) rows apart =
@@ -194,7 +189,7 @@ module _ (F : List (Key × RowView) → ℕ) (empty : F [] ≡ 0)
         by_key-others d ds rows apart.1,
       )
 
-  by_key-all : (ds : List Key) (rows : List (Key × RowView)) → IsDistinct same_key ds → HaveKeys ds rows → by_key ds rows ≡ F rows
+  pub by_key-all : (ds : List Key) (rows : List (Key × RowView)) → IsDistinct same_key ds → HaveKeys ds rows → by_key ds rows ≡ F rows
   by_key-all [] [] apart all = sym empty
   by_key-all [] (r ∷ rows) apart all = absurd (true≢false (sym all.0))
   by_key-all (d ∷ ds) rows apart all =
@@ -241,3 +236,16 @@ module _ (f : RowView → ℕ) where
   groups-numbers =
       groups-sum (sum_by (λ r. f r.1)) refl
       (λ d. sum_by-filter_both (λ (r : Key × RowView). same_key d r.0) (λ r. not (same_key d r.0)) (λ r. refl) (λ (r : Key × RowView). f r.1))
+
+-- Groups divide the rows.
+
+pub groups-divide : (fields : List KeyField) (label : AddressOf → Option Label) (rows : List RowView) → DivideRows (key_of label fields) rows (groups_of fields label rows)
+groups-divide fields label rows = let key = key_of label fields in record {
+  keys = groups-distinct (keyed fields label rows);
+  each = groups-sum_their_rows key rows;
+  records = groups-records (keyed fields label rows) ∙ length-map rows (λ (row : RowView). let R : Key × RowView = (key row, row) in R);
+  packets = groups-numbers (λ row. row.packets) (λ g. g.totals.packets) (λ k rs. refl) (keyed fields label rows)
+      ∙ sum_by-keyed key (λ row. row.packets) rows;
+  octets = groups-numbers (λ row. row.octets) (λ g. g.totals.octets) (λ k rs. refl) (keyed fields label rows)
+      ∙ sum_by-keyed key (λ row. row.octets) rows;
+}

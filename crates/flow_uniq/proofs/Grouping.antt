@@ -36,7 +36,8 @@ grown k row g = record { key = g.key; totals = if same_key k g.key then with_row
 abbrev pub entered : Key → RowView → List GroupModel → List GroupModel
 entered k row groups = map (grown k row) groups ++ (if list_any (λ g. same_key k g.key) groups then [] else fresh k row ∷ [])
 
-abbrev other_than : Key → Key → Bool
+-- the keys that differ from a key
+abbrev pub other_than : Key → Key → Bool
 other_than x o = not (same_key x o)
 
 -- the distinct keys contain each key

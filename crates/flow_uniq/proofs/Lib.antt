@@ -6,3 +6,6 @@ pub mod Entering
 pub mod Reading
 pub mod Listing
 pub mod Dividing
+pub mod Filtering
+pub mod Merging
+pub mod MergedParts

@@ -7,7 +7,7 @@ ghost use Rattle.pmap_text.specs.Sorting.{in_order};
 ghost use Rattle.flow_rows.specs.Elements.{RowView};
 ghost use Rattle.flow_uniq.specs.Key.{KeyField, key_of};
 ghost use Rattle.flow_uniq.specs.Groups.{GroupModel, groups_of, is_before, shown_groups};
-ghost use Rattle.flow_uniq.specs.Laws.{DivideRows};
+ghost use Rattle.flow_uniq.specs.Laws.{DivideRows, MergedAreAll, MergedDivide};
 
 /// The groups of rows have distinct keys, and each sums exactly the rows that have its key. Their records, packets and
 /// bytes add up to those of the rows.
@@ -20,4 +20,11 @@ pub fn groups_divide_the_rows()
 pub fn sorted_groups_are_in_order()
     ensures same { (groups : List GroupModel) → IsPermutation groups (in_order is_before groups) }
     ensures ascends { (groups : List GroupModel) → IsSortedBy is_before (in_order is_before groups) }
+{}
+
+/// If groups divide each part of the rows, then these groups, merged by key with their totals added, divide all rows.
+/// The groups of all rows are the groups of the parts, merged: in the order of their first rows, or sorted.
+pub fn merged_groups_divide_the_rows()
+    ensures divide { MergedDivide }
+    ensures all { MergedAreAll }
 {}

@@ -151,7 +151,7 @@ module _ {X : Type 0} (lt : X → X → Bool) (o : IsStrictWeakOrder lt) where
   pub in_order-sorted : (xs : List X) → IsSortedBy lt (in_order lt xs)
   in_order-sorted xs = sorted_from_ascends (in_order lt xs) (ascends-in_order xs)
 
-  stable-in_order : (z : X) (xs : List X) → filter (ties lt z) (in_order lt xs) ≡ filter (ties lt z) xs
+  pub stable-in_order : (z : X) (xs : List X) → filter (ties lt z) (in_order lt xs) ≡ filter (ties lt z) xs
   stable-in_order z [] = refl
   stable-in_order z (x ∷ xs) =
       stable-with_in_order z x (in_order lt xs) ∙ ap (λ (l : List X). cond (ties lt z x) (x ∷ l) l) (stable-in_order z xs)

@@ -1,13 +1,12 @@
-use Rattle.std.proofs.Common.{Bool, true, false, List, refl, ◌∙◌}
-use Rattle.std.proofs.lemmas.List.{length-map}
+use Rattle.std.proofs.Common.{Bool, true, false, List, ◌∙◌}
 use Rattle.std.proofs.lemmas.List.Sorted.{All-permutation, IsPermutation-map, sum_by-IsPermutation}
 use Rattle.std.proofs.lemmas.Map.Keys.{IsDistinct-IsPermutation}
 use Rattle.flow_rows.specs.Elements.{RowView}
 use Rattle.flow_uniq.specs.Key.{Key, key_of, same_key}
 use Rattle.flow_uniq.specs.Groups.{GroupModel, groups_of, is_before, shown_groups}
 use Rattle.flow_uniq.specs.Laws.{DivideRows, SumsItsRows}
-use Rattle.flow_uniq.proofs.Dividing.{groups-distinct, groups-numbers, groups-records, groups-sum_their_rows, sum_by-keyed}
-use Rattle.flow_uniq.proofs.Grouping.{keyed, same_key-equiv}
+use Rattle.flow_uniq.proofs.Dividing.{groups-divide}
+use Rattle.flow_uniq.proofs.Grouping.{same_key-equiv}
 use Rattle.pmap_text.specs.Sorting.{in_order}
 use Rattle.pmap_text.proofs.Sorting.{same-in_order}
 use Rattle.flow_uniq.proofs.laws.groups_divide_the_rows.Goals as goal
@@ -30,17 +29,6 @@ returns c fields label sorted rows = by sorted
     key : RowView → Key
     key = key_of label fields
 
-    of : DivideRows key rows (groups_of fields label rows)
-    of = record {
-      keys = groups-distinct (keyed fields label rows);
-      each = groups-sum_their_rows key rows;
-      records = groups-records (keyed fields label rows) ∙ length-map rows (λ (row : RowView). let R : Key × RowView = (key row, row) in R);
-      packets = groups-numbers (λ row. row.packets) (λ g. g.totals.packets) (λ k rs. refl) (keyed fields label rows)
-          ∙ sum_by-keyed key (λ row. row.packets) rows;
-      octets = groups-numbers (λ row. row.octets) (λ g. g.totals.octets) (λ k rs. refl) (keyed fields label rows)
-          ∙ sum_by-keyed key (λ row. row.octets) rows;
-    }
-
     by : (b : Bool) → DivideRows key rows (shown_groups b (groups_of fields label rows))
-    by true = divide-sorted key rows (groups_of fields label rows) of
-    by false = of
+    by true = divide-sorted key rows (groups_of fields label rows) (groups-divide fields label rows)
+    by false = groups-divide fields label rows
