@@ -1,7 +1,9 @@
-use Rattle.std.specs.Prelude.{ℕ, List, [], ◌∷◌, Result, Ok, Err, codes}
+use Rattle.std.specs.Prelude.{ℕ, Bool, List, [], ◌∷◌, Result, Ok, Err, codes}
+use Rattle.std.specs.List.{list_any}
 use Rattle.ipfix_templates.specs.Elements.{fits}
 use Rattle.ipfix_templates.specs.InForce.{in_force}
 use Rattle.ipfix_templates.specs.Reading.{definition_at, field_at, fields_at, template_record_at}
+use Rattle.ipfix_read.specs.Laws.{lacks_template}
 use Rattle.ipfix_read.specs.Message.{MessageView}
 use Rattle.ipfix_read.specs.Messages.{file_reading}
 use Rattle.ipfix_read.specs.Value.{value_at, values_at}
@@ -34,6 +36,10 @@ counts text = of_messages counts_of (file_reading (hex text))
 
 abbrev pub rows : List ℕ → Result (List RowView) ReadFault
 rows text = of_messages rows_of_messages (file_reading (hex text))
+
+-- whether a data set of a File lacks a template
+abbrev pub lacks : List ℕ → Result Bool ReadFault
+lacks text = of_messages (λ messages. list_any (λ m. list_any lacks_template m.sets) messages) (file_reading (hex text))
 
 -- the fault at an offset
 abbrev pub at_offset : ReadFaultKind → ℕ → ReadFault

@@ -1,4 +1,5 @@
 use Rattle.std.specs.Prelude.{ℕ, List, Bool, false, Option, None, Result, Ok, map}
+use Rattle.std.specs.List.{flat_map}
 use Rattle.prefix_keys.specs.Text.{AddressOf}
 use Rattle.pmap_text.specs.MapModel.{Label}
 use Rattle.pmap_text.specs.Reading.{◌>>=◌, list_reading}
@@ -7,6 +8,7 @@ use Rattle.ipfix_read.specs.declared.set.Set.{Set}
 use Rattle.flow_rows.specs.Counts.{counts_of}
 use Rattle.flow_rows.specs.Elements.{RowView}
 use Rattle.flow_uniq.specs.Groups.{groups_of, shown_groups}
+use Rattle.flow_uniq.specs.Laws.{merged}
 use Rattle.flow_uniq.specs.Key.{keys_reading}
 use Rattle.flow_uniq.specs.declared.fault.KeyFault.{KeyFault}
 use Rattle.pmap_cert.specs.ListText.{list_text}
@@ -25,6 +27,11 @@ groups_in columns names sorted label rows =
 
 abbrev pub uniq : List ℕ → Bool → (AddressOf → Option Label) → List RowView → Result (List ℕ) KeyFault
 uniq = groups_in false
+
+-- what `uniq` prints of the groups of parts of the rows, merged
+abbrev pub uniq_of_parts : List ℕ → Bool → (AddressOf → Option Label) → List (List RowView) → Result (List ℕ) KeyFault
+uniq_of_parts names sorted label parts =
+    keys_reading names >>= (λ fields. Ok (groups_text fields (shown_groups sorted (merged (flat_map (λ rows. shown_groups sorted (groups_of fields label rows)) parts))) false))
 
 -- what `rows` prints of rows without labels
 abbrev pub rows : Bool → List RowView → List ℕ

@@ -1,14 +1,14 @@
 //! IPFIX Files: what is counted and which rows there are, and each fault with its offset. Bytes are in hexadecimal.
 #![tactic(auto, unfolding(crate::specs::Files::opened))]
 
-ghost use Rattle.definition_examples.specs.Files.{at_offset, counts, rfc_decoded, rfc_message, rows};
+ghost use Rattle.definition_examples.specs.Files.{at_offset, counts, lacks, rfc_decoded, rfc_message, rows};
 ghost use Rattle.definition_examples.specs.Rows.{hex, plain};
 ghost use Rattle.ipfix_read.specs.Message.{own_fault};
 ghost use Rattle.ipfix_read.specs.Messages.{StopsReading, file_reading};
 ghost use Rattle.ipfix_read.specs.Value.{variable_at};
 ghost use Rattle.ipfix_read.specs.declared.fault.ReadFaultKind.TheVariants.{BadMessageLength, BadRecord, BadSetLength, BadTemplate, BadVersion, ReadFault as Unread, TooManyMessages, TruncatedHeader, TruncatedMessage};
 ghost use Rattle.ipfix_templates.specs.declared.fault.TemplateFaultKind.TheVariants.{BadScope, BadTemplateId, Truncated};
-ghost use Rattle.std.specs.Prelude.{◌≡◌, ◌++◌, ◌∷◌, [], codes, Err, None, Ok, replicate, Some, take};
+ghost use Rattle.std.specs.Prelude.{◌≡◌, ◌++◌, ◌∷◌, [], codes, Err, false, None, Ok, replicate, Some, take, true};
 
 /// RFC 7011, appendix A: one template, one options template, three records and two options records.
 pub fn the_message_of_rfc_7011()
@@ -198,4 +198,39 @@ pub fn faults_of_sets_and_records()
     ensures the_withdrawal_of_all_of_the_other_kind { counts
         (codes "000a0018 00000000 00000000 00000001 00020008 00030000")
         ≡ Err (at_offset (BadTemplate BadTemplateId) 20) }
+{}
+
+/// RFC 7011, section 8.1: a later File may define a template again, here with the destination before the source. Joined
+/// to the earlier File it has the same row as alone.
+pub fn a_later_file_has_its_own_templates()
+    ensures the_first { rows
+        (codes "000a002c 00000000 00000000 00000001 00020010 01000002 00080004 000c0004 0100000c 0a000001 0a000002")
+        ≡ Ok (plain ∷ []) }
+    ensures the_second { rows
+        (codes "000a002c 00000000 00000000 00000001 00020010 01000002 000c0004 00080004 0100000c 0a000003 0a000004")
+        ≡ Ok (record plain { src = 0x0a00_0004; dst = 0x0a00_0003 } ∷ []) }
+    ensures lacks_none { lacks
+        (codes "000a002c 00000000 00000000 00000001 00020010 01000002 000c0004 00080004 0100000c 0a000003 0a000004")
+        ≡ Ok false }
+    ensures both { rows
+        (codes "000a002c 00000000 00000000 00000001 00020010 01000002 00080004 000c0004 0100000c 0a000001 0a000002 000a002c 00000000 00000000 00000001 00020010 01000002 000c0004 00080004 0100000c 0a000003 0a000004")
+        ≡ Ok (plain ∷ record plain { src = 0x0a00_0004; dst = 0x0a00_0003 } ∷ []) }
+    ensures counts_of_both { counts
+        (codes "000a002c 00000000 00000000 00000001 00020010 01000002 00080004 000c0004 0100000c 0a000001 0a000002 000a002c 00000000 00000000 00000001 00020010 01000002 000c0004 00080004 0100000c 0a000003 0a000004")
+        ≡ Ok (2 ∷ 2 ∷ 0 ∷ 0 ∷ 2 ∷ 0 ∷ 2 ∷ 0 ∷ 2 ∷ []) }
+{}
+
+/// A later File that needs a template of the earlier one: the joined File has a row more than both alone. A skipped set
+/// with a reserved ID needs none.
+pub fn a_later_file_may_lack_a_template()
+    ensures alone { counts
+        (codes "000a001c 00000000 00000000 00000001 0100000c 0a000003 0a000004")
+        ≡ Ok (1 ∷ 0 ∷ 0 ∷ 0 ∷ 0 ∷ 1 ∷ 0 ∷ 0 ∷ 0 ∷ []) }
+    ensures lacks_one { lacks (codes "000a001c 00000000 00000000 00000001 0100000c 0a000003 0a000004") ≡ Ok true }
+    ensures both { counts
+        (codes "000a002c 00000000 00000000 00000001 00020010 01000002 00080004 000c0004 0100000c 0a000001 0a000002 000a001c 00000000 00000000 00000001 0100000c 0a000003 0a000004")
+        ≡ Ok (2 ∷ 1 ∷ 0 ∷ 0 ∷ 2 ∷ 0 ∷ 2 ∷ 0 ∷ 2 ∷ []) }
+    ensures reserved { counts (codes "000a0014 00000000 00000000 00000001 00ff0004")
+        ≡ Ok (1 ∷ 0 ∷ 0 ∷ 0 ∷ 0 ∷ 1 ∷ 0 ∷ 0 ∷ 0 ∷ []) }
+    ensures reserved_lacks_none { lacks (codes "000a0014 00000000 00000000 00000001 00ff0004") ≡ Ok false }
 {}

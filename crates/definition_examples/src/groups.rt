@@ -2,7 +2,7 @@
 #![tactic(auto, unfolding(crate::specs::Rows::opened))]
 
 ghost use Rattle.definition_examples.specs.Maps.{by_map};
-ghost use Rattle.definition_examples.specs.Reports.{uniq, unlabelled};
+ghost use Rattle.definition_examples.specs.Reports.{uniq, uniq_of_parts, unlabelled};
 ghost use Rattle.definition_examples.specs.Rows.{tcp, tcp_back};
 ghost use Rattle.flow_uniq.specs.declared.fault.KeyFault.TheVariants.{BadField, FieldRepeated};
 ghost use Rattle.prefix_keys.specs.declared.version.Version.TheVariants.{V4, V6};
@@ -159,4 +159,16 @@ pub fn u1_and_u2()
     ensures twice_with_one_between { uniq (codes "sip,dip,sip") false unlabelled [] ≡ Err FieldRepeated }
     ensures twice_before_an_unknown_one { uniq (codes "sip,sip,x") false unlabelled [] ≡ Err BadField }
     ensures a_label_twice { uniq (codes "src-label,src-label") false unlabelled [] ≡ Err FieldRepeated }
+{}
+
+/// The groups of parts of the rows, merged by key: their records, packets and bytes are added.
+pub fn groups_of_parts_are_merged()
+    ensures in_order_of_first_rows { uniq_of_parts (codes "dport") false unlabelled
+        ((tcp ∷ tcp_back ∷ []) ∷ (record tcp { dport = 53; packets = 7; octets = 70 } ∷ tcp ∷ tcp ∷ []) ∷ [])
+        ≡ Ok (codes "dport|records|packets|bytes\n443|3|15|1638\n1804|1|2|80\n53|1|7|70\n") }
+    ensures in_order_of_keys { uniq_of_parts (codes "dport") true unlabelled
+        ((tcp ∷ tcp_back ∷ []) ∷ (record tcp { dport = 53; packets = 7; octets = 70 } ∷ tcp ∷ tcp ∷ []) ∷ [])
+        ≡ Ok (codes "dport|records|packets|bytes\n53|1|7|70\n443|3|15|1638\n1804|1|2|80\n") }
+    ensures of_no_parts { uniq_of_parts (codes "dport") true unlabelled []
+        ≡ Ok (codes "dport|records|packets|bytes\n") }
 {}
