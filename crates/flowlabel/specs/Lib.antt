@@ -11,3 +11,4 @@ pub mod Run
 pub mod Reports
 pub mod Opening
 pub mod Ending
+pub mod Joined

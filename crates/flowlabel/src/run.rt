@@ -16,6 +16,7 @@ mod cat;
 mod check;
 mod examples;
 mod info;
+mod joined;
 mod label;
 mod labels;
 mod laws;
@@ -26,6 +27,7 @@ mod rows;
 mod shrink;
 mod uniq;
 
+pub use joined::output_of_joined_file;
 pub use laws::{one_output, output_keeps_headline, shrunk_list_is_least};
 use reading::read;
 use uniq::Grouping;

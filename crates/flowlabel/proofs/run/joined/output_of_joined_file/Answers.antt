@@ -1,0 +1,190 @@
+use Rattle.std.proofs.Common.{◌≡◌, ◌∙◌, [], ◌∷◌, ◌++◌, All, Bool, List, Option, None, Some, Result, Ok, Err, ap, drop, filter, map, refl, subst, sym}
+use Rattle.std.specs.Prelude.{is_some}
+use Rattle.std.specs.Borrow.{Bor}
+use Rattle.std.specs.List.{flat_map}
+use Rattle.std.proofs.lemmas.List.{map-append}
+use Rattle.std.proofs.lemmas.List.Elements.{All-cons, All-weaker, filter-append}
+use Rattle.ipfix_read.specs.Message.{MessageView}
+use Rattle.ipfix_read.specs.Messages.{file_reading}
+use Rattle.ipfix_read.specs.Laws.{CanFollow, File, IsRead, IsSelfContained, joined}
+use Rattle.flow_rows.specs.Counts.{counts_of, rows_of_messages}
+use Rattle.flow_rows.specs.Elements.{RowView}
+use Rattle.flow_rows.proofs.Adding.{joined_file_adds_up}
+use Rattle.flow_filter.specs.Condition.{Condition, passing, row_passes}
+use Rattle.flow_uniq.specs.declared.field.KeyField.{KeyField}
+use Rattle.flow_uniq.specs.Groups.{GroupModel, groups_of, shown_groups}
+use Rattle.flow_uniq.specs.Laws.{merged}
+use Rattle.flow_uniq.proofs.MergedParts.{merged_are_all}
+use Rattle.label_lookup.specs.Labelling.{Labelling, label_where, labelling_of_list, labelling_of_map}
+use Rattle.pmap_text.specs.Reading.{list_reading, map_reading}
+use Rattle.pmap_print.specs.Reports.{groups_text, info_text, label_fields, row_fields, title_line}
+use Rattle.pmap_print.specs.Table.{Line, table_text}
+use Rattle.flowlabel.specs.ByFile.{ByFile, with_at}
+use Rattle.flowlabel.specs.declared.by_file.Role.TheVariants as role
+use Rattle.flowlabel.specs.declared.bytes_fault.BytesFault.TheVariants.{Map as InMap, List as InList, Flows as InFlows}
+use Rattle.flowlabel.specs.declared.command.Command.TheVariants.{Cat, Check, Info, Label, Recert, Rows, Shrink, Uniq}
+use Rattle.flowlabel.specs.declared.command.LabelFile.{LabelFile}
+use Rattle.flowlabel.specs.declared.command.LabelFile.TheVariants.{Map, List as Prefixes}
+use Rattle.flowlabel.specs.Joined.{IsPutTogether}
+use Rattle.flowlabel.specs.Output.{BytesFault, FlowsThen, IsOutput, Outcome, Prints, Then, labelled_row_lines, row_labels}
+use Rattle.flowlabel.specs.Request.{Text}
+use Rattle.flowlabel.proofs.run.joined.output_of_joined_file.Goals as goal
+
+-- ---- lists in parts
+
+module _ {X A : Type 0} (f : List A → List X) (empty : f [] ≡ []) (append : (xs ys : List A) → f (xs ++ ys) ≡ f xs ++ f ys) where
+  of_parts : {F : Type 0} (part : F → List A) (files : List F) → f (flat_map part files) ≡ flat_map (λ file. f (part file)) files
+  of_parts part [] = empty
+  of_parts part (file ∷ files) = append (part file) (flat_map part files) ∙ ap (λ (l : List X). f (part file) ++ l) (of_parts part files)
+
+changed_parts : {F A B : Type 0} (f : List A → List B) (part : F → List A) (files : List F)
+    → flat_map f (map part files) ≡ flat_map (λ file. f (part file)) files
+changed_parts f part [] = refl
+changed_parts {B = B} f part (file ∷ files) = ap (λ (l : List B). f (part file) ++ l) (changed_parts f part files)
+
+-- ---- the lines of rows
+
+module _ (l : Option Labelling) where
+  -- without the header
+  abbrev body : List RowView → List Line
+  body rows = drop 1 (labelled_row_lines l rows)
+
+body-append : (l : Option Labelling) (xs ys : List RowView) → body l (xs ++ ys) ≡ body l xs ++ body l ys
+body-append None xs ys = map-append row_fields xs ys
+body-append (Some l) [] ys = refl
+body-append (Some l) (x ∷ xs) ys = ap (λ (lines : List Line). (row_fields x ++ label_fields (row_labels l x)) ∷ lines) (body-append (Some l) xs ys)
+
+body-empty : (l : Option Labelling) → body l [] ≡ []
+body-empty None = refl
+body-empty (Some l) = refl
+
+lines_are : (l : Option Labelling) (rows : List RowView) → labelled_row_lines l rows ≡ title_line (is_some l) ∷ body l rows
+lines_are None rows = refl
+lines_are (Some l) rows = refl
+
+-- ---- the outcome over a File
+
+text_is : (out text : Text) → ◌≡◌ {A = Outcome} (Ok out) (Ok text) → out ≡ text
+text_is out text e = cc
+
+module _ (rest : Option Labelling → List MessageView → Outcome → Type 0) (whole : File) (read : IsRead whole) (texts : ByFile Text) (out : Text) where
+  -- the labelling of the outcome over a File, under which other Files are read too
+  record UnderLabels (labels : Option LabelFile) : Type 0 where
+    given : Option Labelling
+    outcome : rest given whole.1 (Ok out)
+    others : (file : File) (text : Text) → IsRead file → rest given file.1 (Ok text) → FlowsThen rest labels (with_at role.Flows file.0 texts) (Ok text)
+
+  there : (l : Option Labelling) (file : File) (text : Text) → IsRead file → rest l file.1 (Ok text) → Then InFlows (rest l) (file_reading file.0) (Ok text)
+  there l file text is r = subst (λ (m : Result (List MessageView) _). Then InFlows (rest l) m (Ok text)) (sym is) r
+
+  here : (l : Option Labelling) → Then InFlows (rest l) (file_reading whole.0) (Ok out) → rest l whole.1 (Ok out)
+  here l is = subst (λ (m : Result (List MessageView) _). Then InFlows (rest l) m (Ok out)) read is
+
+  module _ {F A : Type 0} (in_file : F → BytesFault) (of : A → Labelling) where
+    abbrev Over : Result A F → Text → Text → Type 0
+    Over labels flows text = Then in_file (λ value. Then InFlows (rest (Some (of value))) (file_reading flows)) labels (Ok text)
+
+    given_labels : (labels : Result A F) → Over labels whole.0 out
+        → (l : Option Labelling) × rest l whole.1 (Ok out)
+        × ((file : File) (text : Text) → IsRead file → rest l file.1 (Ok text) → Over labels file.0 text)
+    given_labels (Ok value) is = (Some (of value), here (Some (of value)) is, there (Some (of value)))
+    given_labels (Err fault) is = absurd (cc)
+
+  under : (labels : Option LabelFile) → FlowsThen rest labels (with_at role.Flows whole.0 texts) (Ok out) → UnderLabels labels
+  under None is = record { given = None; outcome = here None is; others = there None }
+  under (Some (Map file)) is =
+      let l = given_labels InMap labelling_of_map (map_reading texts.map) is in record { given = l.0; outcome = l.1; others = l.2 }
+  under (Some (Prefixes file)) is =
+      let l = given_labels InList labelling_of_list (list_reading texts.list) is in record { given = l.0; outcome = l.1; others = l.2 }
+
+-- ---- the commands
+
+module _ (first : File) (later : List File) (follow : CanFollow first later) (texts : ByFile Text) (out : Text) where
+  abbrev files : List File
+  files = first ∷ later
+
+  abbrev whole : File
+  whole = joined files
+
+  all_read : All IsRead files
+  all_read = All-cons IsRead first later follow.reads (All-weaker IsSelfContained IsRead (λ file alone. alone.0) later follow.alone)
+
+  -- the rows of the joined File that are shown
+  abbrev shown : Condition → Option Labelling → File → List RowView
+  shown condition l file = passing condition l (rows_of_messages file.1)
+
+  shown_are : (condition : Condition) (l : Option Labelling) → shown condition l whole ≡ flat_map (shown condition l) files
+  shown_are condition l =
+      let passes = row_passes condition (label_where l) in
+      ap (passing condition l) (joined_file_adds_up first later follow).1
+      ∙ of_parts (filter passes) refl (filter-append passes) (λ (file : File). rows_of_messages file.1) files
+
+  module _ (rest : Option Labelling → List MessageView → Outcome → Type 0) (labels : Option LabelFile) (is : FlowsThen rest labels (with_at role.Flows whole.0 texts) (Ok out)) where
+    abbrev whole_read : IsRead whole
+    whole_read = (joined_file_adds_up first later follow).0
+
+    abbrev found : UnderLabels rest whole whole_read texts out labels
+    found = under rest whole whole_read texts out labels is
+
+    each_prints : (text : File → Text) → ((file : File) → rest found.given file.1 (Ok (text file)))
+        → All (λ file. FlowsThen rest labels (with_at role.Flows file.0 texts) (Ok (text file))) files
+    each_prints text prints =
+        All-weaker IsRead (λ file. FlowsThen rest labels (with_at role.Flows file.0 texts) (Ok (text file)))
+        (λ file read. found.others file (text file) read (prints file)) files all_read
+
+  info_output : (flows : Bor Text) → IsOutput (Info flows) (with_at role.Flows whole.0 texts) (Ok out) → IsPutTogether (Info flows) texts files out
+  info_output flows is =
+      let rest : Option Labelling → List MessageView → Outcome → Type 0 = λ l messages. Prints (info_text (counts_of messages)) in (
+        each_prints rest None is (λ file. info_text (counts_of file.1)) (λ file. refl),
+        text_is out (info_text (counts_of whole.1)) (found rest None is).outcome ∙ ap info_text (joined_file_adds_up first later follow).2,
+      )
+
+  rows_output : (labels : Option LabelFile) (condition : Condition) (columns : Bool) (flows : Bor Text)
+      → IsOutput (Rows labels condition columns flows) (with_at role.Flows whole.0 texts) (Ok out) → IsPutTogether (Rows labels condition columns flows) texts files out
+  rows_output labels condition columns flows is =
+      let printed : Option Labelling → List RowView → Text = λ l rows. table_text columns (labelled_row_lines l rows) in
+      let rest : Option Labelling → List MessageView → Outcome → Type 0 =
+      λ l messages. Prints (printed l (passing condition l (rows_of_messages messages))) in
+      let l : Option Labelling = (found rest labels is).given in
+      let lines : body l (shown condition l whole) ≡ flat_map (λ file. body l (shown condition l file)) files =
+      ap (body l) (shown_are condition l) ∙ of_parts (body l) (body-empty l) (body-append l) (shown condition l) files in (
+        l,
+        (
+          each_prints rest labels is (λ file. printed l (shown condition l file)) (λ file. refl),
+          text_is out (printed l (shown condition l whole)) (found rest labels is).outcome
+              ∙ ap (table_text columns) (lines_are l (shown condition l whole) ∙ ap (λ (own : List Line). title_line (is_some l) ∷ own) lines),
+        ),
+      )
+
+  uniq_output : (fields : List KeyField) (labels : Option LabelFile) (condition : Condition) (sorted columns : Bool) (flows : Bor Text)
+      → IsOutput (Uniq fields labels condition sorted columns flows) (with_at role.Flows whole.0 texts) (Ok out)
+      → IsPutTogether (Uniq fields labels condition sorted columns flows) texts files out
+  uniq_output fields labels condition sorted columns flows is =
+      let grouped : Option Labelling → List RowView → List GroupModel = λ l rows. shown_groups sorted (groups_of fields (label_where l) rows) in
+      let printed : List GroupModel → Text = λ groups. groups_text fields groups columns in
+      let rest : Option Labelling → List MessageView → Outcome → Type 0 =
+      λ l messages. Prints (printed (grouped l (passing condition l (rows_of_messages messages)))) in
+      let l : Option Labelling = (found rest labels is).given in
+      let groups : grouped l (shown condition l whole) ≡ shown_groups sorted (merged (flat_map (λ file. grouped l (shown condition l file)) files)) =
+      ap (grouped l) (shown_are condition l ∙ sym (changed_parts (λ (rows : List RowView). rows) (shown condition l) files))
+      ∙ merged_are_all fields (label_where l) sorted (map (shown condition l) files)
+      ∙ ap (λ (all : List GroupModel). shown_groups sorted (merged all)) (changed_parts (grouped l) (shown condition l) files) in (
+        l,
+        (
+          each_prints rest labels is (λ file. printed (grouped l (shown condition l file))) (λ file. refl),
+          text_is out (printed (grouped l (shown condition l whole))) (found rest labels is).outcome ∙ ap printed groups,
+        ),
+      )
+
+pub returns : goal.returns
+returns c first later follow (Info flows) texts out is = info_output first later follow texts out flows is
+returns c first later follow (Rows labels condition columns flows) texts out is = rows_output first later follow texts out labels condition columns flows is
+returns c first later follow (Uniq fields labels condition sorted columns flows) texts out is =
+    uniq_output first later follow texts out fields labels condition sorted columns flows is
+returns c first later follow (Label (Map file) addr) texts out is = λ k d low. is
+returns c first later follow (Label (Prefixes file) addr) texts out is = λ k d low. is
+returns c first later follow (Cat (Map file)) texts out is = λ k d low. is
+returns c first later follow (Cat (Prefixes file)) texts out is = λ k d low. is
+returns c first later follow (Shrink file printed) texts out is = λ k d low. is
+returns c first later follow (Check a b d) texts out is = λ k e low. is
+returns c first later follow (Recert certificate) texts out is = λ k d low. is
