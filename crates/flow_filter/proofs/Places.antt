@@ -97,6 +97,7 @@ places_covered block low high first last v n v' n' is is' address =
 abbrev pub single : AddressOf → BlockOf
 single address = (address.0, address.1, width_of address.0)
 
+-- a block of all bits is that of its address
 pub whole_block : (v w : Version) (value first len n : ℕ) → w ≡ v → len ≡ n → n ≡ width_of v →
     first ≡ first_of (width_of v) n (block_number (width_of v) n value) → (w, first, len) ≡ single (v, value)
 whole_block v w value first len n same is all start =

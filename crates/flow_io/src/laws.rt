@@ -8,35 +8,35 @@ ghost use Rattle.flow_io.specs.declared.watch.Watched.{Watched};
 
 /// A file is a `Watched` reader that a `ReadAhead` asks for its bytes. Contracts see what both note: the bytes that the
 /// system returned are those that the `ReadAhead` returned, followed by those ahead, and the end is found only when no
-/// byte is ahead. `left` gives the bytes that the inner reader reports.
-pub fn readers_show_what_they_note<T>()
-    ensures fetched { (left : T → Option (List ℕ)) (reader : ReadAhead (Watched T)) →
+/// byte is ahead. The inner reader is of any type, here a list. `left` gives the bytes that it reports.
+pub fn readers_show_what_they_note()
+    ensures fetched { (left : List ℕ → Option (List ℕ)) (reader : ReadAhead (Watched (List ℕ))) →
         AreFetched (input_ahead (input_watched left) reader) →
         reader.inner.read.bytes ≡ reader.returned.bytes ++ bytes_in reader.ahead }
-    ensures returned { (left : T → Option (List ℕ)) (reader : ReadAhead (Watched T)) →
+    ensures returned { (left : List ℕ → Option (List ℕ)) (reader : ReadAhead (Watched (List ℕ))) →
         (input_ahead (input_watched left) reader).returned ≡ reader.returned.bytes }
-    ensures failed { (left : T → Option (List ℕ)) (reader : ReadAhead (Watched T)) →
+    ensures failed { (left : List ℕ → Option (List ℕ)) (reader : ReadAhead (Watched (List ℕ))) →
         (input_ahead (input_watched left) reader).failed ≡ reader.inner.failed }
-    ensures ended { (left : T → Option (List ℕ)) (reader : ReadAhead (Watched T)) →
+    ensures ended { (left : List ℕ → Option (List ℕ)) (reader : ReadAhead (Watched (List ℕ))) →
         has_ended (input_ahead (input_watched left) reader) ≡ true →
         (reader.ended ≡ true) × (bytes_in reader.ahead ≡ []) }
-    ensures left { (left : T → Option (List ℕ)) (reader : ReadAhead (Watched T)) (rest : List ℕ) →
+    ensures left { (left : List ℕ → Option (List ℕ)) (reader : ReadAhead (Watched (List ℕ))) (rest : List ℕ) →
         left reader.inner.inner ≡ Some rest →
         (input_ahead (input_watched left) reader).left ≡ Some (bytes_in reader.ahead ++ rest) }
-    ensures alone { (left : T → Option (List ℕ)) (reader : Watched T) → AreFetched (input_watched left reader) }
-    ensures found { (left : T → Option (List ℕ)) (reader : Watched T) →
+    ensures alone { (left : List ℕ → Option (List ℕ)) (reader : Watched (List ℕ)) → AreFetched (input_watched left reader) }
+    ensures found { (left : List ℕ → Option (List ℕ)) (reader : Watched (List ℕ)) →
         has_ended (input_watched left reader) ≡ true → reader.ended ≡ true }
 {}
 
 /// Contracts see of a watched writer the bytes that its writes have noted as taken, whether it failed, its last call, and
-/// what the inner writer reports. `contents` gives the bytes that the inner writer reports.
-pub fn writers_show_what_they_note<T>()
-    ensures taken { (contents : T → Option (List ℕ)) (writer : Watched T) →
+/// what the inner writer, here a list, reports. `contents` gives the bytes that it reports.
+pub fn writers_show_what_they_note()
+    ensures taken { (contents : List ℕ → Option (List ℕ)) (writer : Watched (List ℕ)) →
         (output_watched contents writer).taken ≡ writer.taken.bytes }
-    ensures failed { (contents : T → Option (List ℕ)) (writer : Watched T) →
+    ensures failed { (contents : List ℕ → Option (List ℕ)) (writer : Watched (List ℕ)) →
         (output_watched contents writer).failed ≡ writer.failed }
-    ensures last { (contents : T → Option (List ℕ)) (writer : Watched T) →
+    ensures last { (contents : List ℕ → Option (List ℕ)) (writer : Watched (List ℕ)) →
         (output_watched contents writer).last_call ≡ writer.last_call }
-    ensures contents { (contents : T → Option (List ℕ)) (writer : Watched T) →
+    ensures contents { (contents : List ℕ → Option (List ℕ)) (writer : Watched (List ℕ)) →
         (output_watched contents writer).contents ≡ contents writer.inner }
 {}

@@ -79,7 +79,7 @@ module _ (m : MapModel) (table : List Label) (ps : List Prefix) where
   filter-given n q given test within e =
       sym (filter-filter (is_within (width_of m.version) n q) test within ps) ∙ ap (filter test) e
 
-  -- the list decides the block of a leaf
+  -- the list settles the block of a leaf
   leaf-decided : (x : Label) (h : Option Label) (n q : ℕ) →
       filter (is_within (width_of m.version) n q) ps ≡ own_entry (width_of m.version) table (x ∷ []) h n q →
       label_below (width_of m.version) ps n (first_of (width_of m.version) n q) ≡ h →
