@@ -183,6 +183,10 @@ LAZY = {("unwrap_or", 1), ("option_map_or", 2), ("option_or", 1)}
 EACH = lambda p, xs: all(map(python(p), xs))
 IF_SOME = lambda o, p: not is_some(o) or apply(p, o.args[0])
 LIBRARY = {
+    "Appends": (3, "the bytes known before, if they are, and these are those known after", lambda old, new, items: (
+        not is_some(old) or is_some(new) and new.args[0] == old.args[0] + items)),
+    "Consumes": (3, "the bytes known before, if they are, are these and those known after", lambda old, new, items: (
+        not is_some(old) or is_some(new) and old.args[0] == items + new.args[0])),
     "true": (0, "true", True), "false": (0, "false", False), "zero": (0, "0", 0), "[]": (0, "a list without items", ()),
     "⊤": (0, "a statement that holds", True), "⊥": (0, "a statement that doesn't hold", False),
     "Unit": (0, "a statement that holds", True), "tt": (0, "the value of the type with one value", UNIT),

@@ -36,6 +36,11 @@ abbrev pub AreMinimalPair : Result MapModel MapFault → Result ListModel MapFau
 AreMinimalPair (Ok m) (Ok l) (Ok c) = IsMinimalPair m (record l { table = m.table }) c
 AreMinimalPair _ _ _ = ⊥
 
+-- like `AreMinimalPair`, but with the label table of the text of the list
+abbrev pub AreMinimalAsRead : Result MapModel MapFault → Result ListModel MapFault → Result CertificateModel CertFault → Type 0
+AreMinimalAsRead (Ok m) (Ok l) (Ok c) = IsMinimalPair m l c
+AreMinimalAsRead _ _ _ = ⊥
+
 -- the number of entries of an accepted list, or the fault of the certificate
 abbrev pub verdict_by : ListModel → Option CheckFault → Result ℕ CheckFault
 verdict_by l None = Ok (length l.prefixes)

@@ -1,5 +1,6 @@
 pub mod Addresses
 pub mod Certificates
+pub mod Devices
 pub mod Filters
 pub mod Maps
 pub mod Reports

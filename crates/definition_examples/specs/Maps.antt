@@ -5,7 +5,7 @@ use Rattle.pmap_text.specs.MapModel.{Label, MapModel}
 use Rattle.pmap_text.specs.Reading.{◌>>=◌, list_reading, map_reading}
 use Rattle.pmap_text.specs.declared.fault.MapFault.{MapFault}
 use Rattle.pmap_text.specs.declared.fault.MapFaultKind.{MapFaultKind}
-use Rattle.label_lookup.specs.Labelling.{label_by, labelling_of_list, labelling_of_map}
+use Rattle.label_lookup.specs.Labelling.{Labelling, label_by, labelling_of_list, labelling_of_map}
 
 -- What examples ask of maps and lists.
 
@@ -35,6 +35,10 @@ by_reading (Err fault) address = None
 
 abbrev pub by_map : List ℕ → AddressOf → Option Label
 by_map text address = by_reading (map_reading text) address
+
+-- the label that a labelling gives a number
+abbrev pub label_at : Labelling → ℕ → Option Label
+label_at l a = l.label a
 
 -- The texts of FORMATS.md.
 

@@ -16,3 +16,11 @@ IsNotLeast map list = IsDenied IsLeast (map_reading map) (list_reading list)
 
 abbrev pub IsNotEquivalent : List ℕ → List ℕ → Type 0
 IsNotEquivalent map list = IsDenied (λ m l. IsEquivalent l m) (map_reading map) (list_reading list)
+
+-- the list of a text labels every address as the map of a text does
+abbrev pub HoldsOfRead : (MapModel → ListModel → Type 0) → Result MapModel MapFault → Result ListModel MapFault → Type 0
+HoldsOfRead Is (Ok m) (Ok l) = Is m l
+HoldsOfRead Is _ _ = ⊥
+
+abbrev pub IsEquivalentRead : List ℕ → List ℕ → Type 0
+IsEquivalentRead map list = HoldsOfRead (λ m l. IsEquivalent l m) (map_reading map) (list_reading list)

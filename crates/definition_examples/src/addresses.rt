@@ -1,5 +1,6 @@
 //! Addresses and blocks as texts represent them. The numbers are those of Python's `ipaddress`.
 
+ghost use Rattle.prefix_keys.specs.Conversion.{converted};
 ghost use Rattle.prefix_keys.specs.declared.version.Version.TheVariants.{V4, V6};
 ghost use Rattle.prefix_keys.specs.Text.{address_of, block_of_text};
 ghost use Rattle.prefix_keys.specs.declared.text.BlockFault.TheVariants.{BadAddress, BadLength};
@@ -198,4 +199,12 @@ pub fn other_texts_are_no_block()
     ensures both_malformed { block_of_text (codes "10.0.0/33") ≡ Err BadAddress }
     ensures a_word { block_of_text (codes "x/8") ≡ Err BadAddress }
     ensures the_length_belongs_to_the_version_as_written { block_of_text (codes "10.0.0.0/104") ≡ Err BadLength }
+{}
+
+/// RFC 4291, section 2.5.5.2.
+pub fn an_address_has_another_version()
+    ensures ipv6_as_ipv4 { converted V4 (V6, 0xffff_0a00_0001) ≡ Some (V4, 0x0a00_0001) }
+    ensures ipv4_as_ipv6 { converted V6 (V4, 0x0a00_0001) ≡ Some (V6, 0xffff_0a00_0001) }
+    ensures no_ipv4_address { converted V4 (V6, 0x0a00_0001) ≡ None }
+    ensures the_same_version { converted V6 (V6, 1) ≡ Some (V6, 1) }
 {}

@@ -2,8 +2,9 @@
 #![tactic(auto, unfolding(crate::specs::Certificates::opened))]
 
 ghost use Rattle.definition_examples.specs.Certificates.{compacted_text, last, last_opened, nested, nested_tree, opened_text, quarters};
-ghost use Rattle.pmap_cert.specs.CertificateModel.{ChainNode, InnerNode, LeafNode};
+ghost use Rattle.pmap_cert.specs.CertificateModel.{ChainNode, InnerNode, LeafNode, chain_claim, chosen_half, exact_claim, side_half};
 ghost use Rattle.pmap_cert.specs.CertificateText.{certificate_text};
+ghost use Rattle.pmap_cert.specs.Compacting.{compact, line_count};
 ghost use Rattle.pmap_cert.specs.FormatReading.{format_reading};
 ghost use Rattle.prefix_keys.specs.declared.version.Version.TheVariants.{V4, V6};
 ghost use Rattle.std.specs.Prelude.{◌≡◌, ◌∷◌, [], codes, false, Ok, replicate, true};
@@ -132,4 +133,28 @@ pub fn paths_are_compacted()
 /// FORMATS.md, "Chains": a chain opened into its inner nodes and leaves.
 pub fn chains_are_opened()
     ensures the_second_of_the_page { opened_text last ≡ Ok (last_opened (codes "2")) }
+{}
+
+/// DEFINITIONS.md, "Certificates": the cost of the entries, and the labels that the block may inherit at this cost.
+pub fn a_claim_of_two_halves_is_exact()
+    ensures with_a_common_label { exact_claim (record { cost = 2; labels = codes "A" ∷ codes "B" ∷ [] }) (record { cost = 5; labels = codes "C" ∷ codes "A" ∷ [] }) ≡ record { cost = 7; labels = codes "A" ∷ [] } }
+    ensures without_a_common_label { exact_claim (record { cost = 2; labels = codes "A" ∷ [] }) (record { cost = 5; labels = codes "B" ∷ codes "C" ∷ [] }) ≡ record { cost = 8; labels = codes "A" ∷ codes "B" ∷ codes "C" ∷ [] } }
+    ensures of_two_common_labels { exact_claim (record { cost = 2; labels = codes "B" ∷ codes "A" ∷ codes "C" ∷ [] }) (record { cost = 0; labels = codes "A" ∷ codes "B" ∷ [] }) ≡ record { cost = 2; labels = codes "B" ∷ codes "A" ∷ [] } }
+{}
+
+/// DEFINITIONS.md, "Chains".
+pub fn a_chain_has_an_exact_claim()
+    ensures the_end_has_the_side_label { chain_claim 2 (codes "A") (record { cost = 3; labels = codes "B" ∷ codes "A" ∷ [] }) ≡ record { cost = 3; labels = codes "A" ∷ [] } }
+    ensures of_one_bit { chain_claim 1 (codes "A") (record { cost = 3; labels = codes "B" ∷ codes "C" ∷ [] }) ≡ record { cost = 4; labels = codes "A" ∷ codes "B" ∷ codes "C" ∷ [] } }
+    ensures of_two_bits { chain_claim 2 (codes "A") (record { cost = 3; labels = codes "B" ∷ codes "C" ∷ [] }) ≡ record { cost = 4; labels = codes "A" ∷ [] } }
+    ensures the_upper_half_is_chosen { chosen_half true 5 ≡ 11 }
+    ensures the_lower_half_is_chosen { chosen_half false 5 ≡ 10 }
+    ensures beside_the_upper_half { side_half true 5 ≡ 10 }
+    ensures beside_the_lower_half { side_half false 5 ≡ 11 }
+{}
+
+/// FORMATS.md, "Chains".
+pub fn a_compact_certificate_has_format_2()
+    ensures of_a_leaf { compact (record { format = 1; version = V4; table = codes "A" ∷ []; root = LeafNode (codes "A") }) ≡ record { format = 2; version = V4; table = codes "A" ∷ []; root = LeafNode (codes "A") } }
+    ensures lines_of_a_tree { line_count (InnerNode (record { cost = 1; labels = [] }) (LeafNode (codes "A")) (InnerNode (record { cost = 1; labels = [] }) (LeafNode (codes "A")) (ChainNode (record { cost = 1; labels = [] }) (true ∷ true ∷ []) (codes "A") (LeafNode (codes "B"))))) ≡ 6 }
 {}

@@ -5,6 +5,7 @@ ghost use Rattle.definition_examples.specs.Filters.{of_option, passes, passes_al
 ghost use Rattle.definition_examples.specs.Maps.{by_map};
 ghost use Rattle.definition_examples.specs.Rows.{tcp, tcp_back};
 ghost use Rattle.flow_filter.specs.Condition.{passing};
+ghost use Rattle.flow_filter.specs.Laws.{rows_left};
 ghost use Rattle.flow_filter.specs.declared.fault.FilterFaultKind.TheVariants.{BadBlock, BadNumberList, BadRange};
 ghost use Rattle.flow_filter.specs.declared.option.FilterOption.TheVariants.{AnyLabel, Bytes, DestinationAddress, DestinationLabel, DestinationPort, Packets, Protocol, SourceAddress, SourceLabel, SourcePort};
 ghost use Rattle.prefix_keys.specs.declared.version.Version.TheVariants.{V6};
@@ -35,6 +36,7 @@ pub fn numbers_and_ranges()
     ensures ports_below_1024 { passes SourcePort (codes "0-1023") tcp ≡ Ok false }
     ensures web { passes DestinationPort (codes "80,443") tcp ≡ Ok true }
     ensures up_to_the_last_port { passes DestinationPort (codes "443-65535") tcp ≡ Ok true }
+    ensures a_list_of_source_ports { passes SourcePort (codes "80,1804") tcp ≡ Ok true }
 {}
 
 /// FORMATS.md, "Filters": `--saddress` and `--daddress`. Membership is that of Python's `ipaddress`.
@@ -138,6 +140,8 @@ pub fn labels()
     ensures under_a_labelling { passing_by (codes "10.0.0.0/8 Inside\n") ((SourceLabel, codes "Inside") ∷ [])
         (tcp ∷ tcp_back ∷ []) ≡ Ok (tcp ∷ []) }
     ensures without_a_labelling { passing ((SourceLabel, codes "Inside") ∷ []) None (tcp ∷ []) ≡ [] }
+    ensures a_source_label_with_a_comma { passes_all ((SourceLabel, codes "Out, far") ∷ []) (by_map (codes "10.0.0.0/8 Inside\n198.51.100.0/24 Out, far\n")) tcp_back ≡ Ok true }
+    ensures no_row_meets_a_malformed_option { passing ((Protocol, codes "x") ∷ []) None (tcp ∷ []) ≡ [] }
 {}
 
 /// FORMATS.md, "Filters": a row passes if it meets the condition of each option given.
@@ -155,6 +159,7 @@ pub fn a_row_must_pass_each_option()
     ensures two_of_three { passes_all
         ((SourceLabel, codes "Inside") ∷ (Packets, codes "5-") ∷ (Bytes, codes "545") ∷ [])
         (by_map (codes "10.0.0.0/8 Inside\n198.51.100.0/24 Out, far\n")) tcp ≡ Ok false }
+    ensures one_option_after_another { rows_left ((Protocol, codes "6") ∷ (Packets, codes "5") ∷ []) None (tcp ∷ record tcp { protocol = 17 } ∷ tcp_back ∷ []) ≡ tcp ∷ [] }
 {}
 
 /// FORMATS.md, "Statuses and fault lines": L1. NUMBERS contain no blanks, and have 1 to 20 digits.
@@ -178,6 +183,9 @@ pub fn l1_bad_number_list()
     ensures a_sign { passes Protocol (codes "+6") tcp ≡ Err (of_option Protocol BadNumberList) }
     ensures a_malformed_item_after_one_that_passes { passes Protocol (codes "6,x") tcp
         ≡ Err (of_option Protocol BadNumberList) }
+    ensures an_open_range_of_source_ports { passes SourcePort (codes "5-") tcp ≡ Err (of_option SourcePort BadNumberList) }
+    ensures an_open_range_of_destination_ports { passes DestinationPort (codes "5-") tcp ≡ Err (of_option DestinationPort BadNumberList) }
+    ensures a_blank_between { passes Protocol (codes "6 17") tcp ≡ Err (of_option Protocol BadNumberList) }
 {}
 
 /// FORMATS.md, "Statuses and fault lines": L2.
@@ -191,6 +199,9 @@ pub fn l2_bad_range()
     ensures a_list { passes Packets (codes "5,6") tcp ≡ Err (of_option Packets BadRange) }
     ensures two_dashes { passes Packets (codes "5--6") tcp ≡ Err (of_option Packets BadRange) }
     ensures of_21_digits { passes Packets (codes "000000000000000000005") tcp ≡ Err (of_option Packets BadRange) }
+    ensures a_list_of_bytes { passes Bytes (codes "5,6") tcp ≡ Err (of_option Bytes BadRange) }
+    ensures two_to_the_64_packets { passes Packets (codes "18446744073709551616") tcp ≡ Err (of_option Packets BadRange) }
+    ensures an_end_of_21_digits { passes Packets (codes "5-000000000000000000006") tcp ≡ Err (of_option Packets BadRange) }
 {}
 
 /// FORMATS.md, "Statuses and fault lines": L3.

@@ -2,7 +2,7 @@
 
 ghost use Rattle.pmap_text.specs.ListModel.{Prefix};
 ghost use Rattle.pmap_text.specs.MapModel.{Mapping};
-ghost use Rattle.pmap_text.specs.Reading.{content_line, no_lines};
+ghost use Rattle.pmap_text.specs.Reading.{content_line, no_lines, label_limit, mapping_limit, with_text};
 ghost use Rattle.pmap_text.specs.declared.fault.MapFaultKind.TheVariants.{TooMany};
 ghost use Rattle.pmap_text.specs.declared.reading.form.Form.TheVariants as form;
 ghost use Rattle.std.specs.List.{list_any};
@@ -36,4 +36,11 @@ pub fn a_text_has_at_most_1000000_mappings()
     ensures no_room_for_an_entry { (ps : List Prefix)
         → list_any (λ p. p.start == 0x0a00_0000 && p.bits == 8) ps ≡ false → length ps ≡ 1000000
         → content_line form.List (record no_lines { prefixes = ps }) (codes "10.0.0.0/8 A") ≡ Err TooMany }
+{}
+
+/// FORMATS.md, "Limits".
+pub fn a_text_has_limits()
+    ensures mappings { mapping_limit ≡ 1000000 }
+    ensures labels { label_limit ≡ 65535 }
+    ensures no_room { with_text false (codes "A") no_lines ≡ Err TooMany }
 {}

@@ -1,6 +1,8 @@
 //! Maps: how the lines of a text are read, and the label of an address under the map.
 
-ghost use Rattle.definition_examples.specs.Maps.{of_map, offices, under_map};
+ghost use Rattle.definition_examples.specs.Maps.{of_map, offices, under_map, label_at};
+ghost use Rattle.label_lookup.specs.Labelling.{labelling};
+ghost use Rattle.pmap_text.specs.Label.{with_declared};
 ghost use Rattle.prefix_keys.specs.declared.version.Version.TheVariants.{V4, V6};
 ghost use Rattle.std.specs.Prelude.{◌≡◌, ◌++◌, ◌∷◌, [], codes, None, Ok, replicate, Some};
 
@@ -213,6 +215,8 @@ pub fn a_label_is_the_rest_of_its_line()
     ensures bytes_above_127 { of_map (λ m. m.fallback) (codes "default " ++ 195 ∷ 169 ∷ []) ≡ Ok (195 ∷ 169 ∷ []) }
     ensures any_byte_above_127 { of_map (λ m. m.fallback) (codes "default " ++ 128 ∷ 255 ∷ []) ≡ Ok (128 ∷ 255 ∷ []) }
     ensures of_255_bytes { of_map (λ m. m.fallback) (codes "default " ++ replicate 255 120) ≡ Ok (replicate 255 120) }
+    ensures a_declared_label_with_a_digit { under_map (codes "label 5 AS5\n10.0.0.0/8 5\n") (codes "10.0.0.0") ≡ Ok (Some (codes "AS5")) }
+    ensures no_break_space_is_no_blank { under_map (codes "10.0.0.0/8 A" ++ 194 ∷ 160 ∷ codes "\n") (codes "10.0.0.0") ≡ Ok (Some (codes "A" ++ 194 ∷ 160 ∷ [])) }
 {}
 
 /// FORMATS.md, "Limits" and "Certificates": in the order of first occurrence, with `UNKNOWN` last if there is no
@@ -232,4 +236,16 @@ pub fn the_label_table_has_each_label_once()
     ensures without_the_name { of_map (λ m. m.table) (codes "map-name A\ndefault B\n") ≡ Ok (codes "B" ∷ []) }
     ensures with_a_default_that_does_not_count { of_map (λ m. m.table) (codes "default A\ndefault B\n")
         ≡ Ok (codes "A" ∷ codes "B" ∷ []) }
+{}
+
+/// FORMATS.md, "Statements": `label NUMBER TEXT`.
+pub fn a_text_declares_labels_by_numbers()
+    ensures in_order { with_declared ((5, codes "red") ∷ []) (6, codes "blue") ≡ (5, codes "red") ∷ (6, codes "blue") ∷ [] }
+    ensures once { with_declared ((5, codes "red") ∷ []) (5, codes "red") ≡ (5, codes "red") ∷ [] }
+{}
+
+/// RFC 791: an IPv4 address has 32 bits.
+pub fn no_number_above_the_addresses_has_a_label()
+    ensures the_greatest { label_at (labelling V4 (λ a. Some (codes "A"))) 0xffff_ffff ≡ Some (codes "A") }
+    ensures one_more { label_at (labelling V4 (λ a. Some (codes "A"))) 0x1_0000_0000 ≡ None }
 {}

@@ -4,9 +4,10 @@
 ghost use Rattle.definition_examples.specs.Rows.{field, first_ipv6, hex, plain, plain_back, plain_ipv6, reverse, rows_of, rows_with, second_ipv6, tcp, tcp_back, tcp_values, value};
 ghost use Rattle.flow_rows.specs.Elements.{rows_of_record};
 ghost use Rattle.ipfix_read.specs.Value.{values_at};
+ghost use Rattle.ipfix_templates.specs.Elements.{fits};
 ghost use Rattle.ipfix_templates.specs.declared.kind.Kind.TheVariants.{Flow, Options};
 ghost use Rattle.prefix_keys.specs.declared.version.Version.TheVariants.{V4, V6};
-ghost use Rattle.std.specs.Prelude.{◌≡◌, ◌++◌, ◌∷◌, [], codes, None, Some};
+ghost use Rattle.std.specs.Prelude.{◌≡◌, ◌++◌, ◌∷◌, [], codes, None, Some, false};
 
 /// FORMATS.md, "Rows of a File": the table. The values are those of Python's `int.from_bytes`.
 pub fn a_number_has_its_element()
@@ -47,6 +48,7 @@ pub fn a_number_may_be_sent_in_fewer_bytes()
         ≡ record plain { octets = 281474976710656 } ∷ [] }
     ensures total_packets_in_six_bytes { rows_with (value 86 (codes "010203040506") ∷ [])
         ≡ record plain { packets = 1108152157446 } ∷ [] }
+    ensures three_bytes_have_no_sign { rows_with (value 2 (codes "ff0000") ∷ []) ≡ record plain { packets = 16711680 } ∷ [] }
 {}
 
 /// FORMATS.md, "Rows of a File": the column of lengths.
@@ -66,6 +68,7 @@ pub fn fields_of_other_lengths_are_not_used()
         ≡ [] }
     ensures total_packets_in_place_of_unused_ones { rows_with
         (value 2 (codes "000000000000000005") ∷ value 86 (codes "07") ∷ []) ≡ record plain { packets = 7 } ∷ [] }
+    ensures an_element_of_no_row { fits 3 4 ≡ false }
 {}
 
 /// FORMATS.md, "Rows of a File".

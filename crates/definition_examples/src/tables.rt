@@ -8,6 +8,7 @@ ghost use Rattle.ipfix_read.specs.declared.set.Set.TheVariants.{Skipped, Templat
 ghost use Rattle.ipfix_templates.specs.declared.event.TemplateEvent.TheVariants.{Define, Withdraw, WithdrawAll};
 ghost use Rattle.ipfix_templates.specs.declared.kind.Kind.TheVariants.{Flow, Options};
 ghost use Rattle.pmap_print.specs.Reports.{rows_text};
+ghost use Rattle.pmap_print.specs.Table.{column_width};
 ghost use Rattle.prefix_keys.specs.declared.version.Version.TheVariants.{V6};
 ghost use Rattle.std.specs.Prelude.{◌≡◌, ◌∷◌, [], codes, false, None, Ok, Some, true};
 
@@ -56,6 +57,7 @@ pub fn columns_are_padded_on_the_left()
         (tcp ∷ record tcp { protocol = 17; octets = 123456789 } ∷ [])
         ≡ Ok
         (codes "proto|records|packets|    bytes\n    6|      1|      5|      546\n   17|      1|      5|123456789\n") }
+    ensures a_column_of_17_bytes { groups_in true (codes "sip") false unlabelled (record tcp { version = V6; src = 0x2001_0db8_0000_0000_0000_0000_1234_5678 } ∷ record tcp { version = V6; src = 1 } ∷ []) ≡ Ok (codes "                sip|records|packets|bytes\n2001:db8::1234:5678|      1|      5|  546\n                ::1|      1|      5|  546\n") }
 {}
 
 /// FORMATS.md, "Printed texts", `shrink`: entries are sorted by first address and then by length.
@@ -134,4 +136,10 @@ pub fn info_counts_records_and_rows()
         ∷ record { kind = Options; fields = value 8 (codes "0a000001") ∷ value 12 (codes "0a000002") ∷ [] } ∷ []) ∷ [])
         ∷ [])
         ≡ codes "messages 1\ntemplates 0\noptions-templates 0\nwithdrawals 0\ndata-sets 1\nskipped-sets 0\nrecords 0\noptions-records 3\nrows 0\n" }
+{}
+
+/// FORMATS.md, "Printed texts": `--columns`.
+pub fn a_column_is_as_wide_as_its_longest_field()
+    ensures of_empty_fields { column_width (([] ∷ []) ∷ ([] ∷ []) ∷ []) 0 ≡ 0 }
+    ensures of_the_second_column { column_width ((codes "abc" ∷ codes "de" ∷ []) ∷ (codes "a" ∷ codes "defg" ∷ []) ∷ []) 1 ≡ 4 }
 {}
