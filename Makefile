@@ -27,8 +27,8 @@ checks = 'docs/trusted >out/trusted' docs/words tests/out_of_memory tests/by_han
 	tests/install tests/verify tests/evaluate tests/shared 'tests/report --without-packages' \
 	'tests/many --without-packages' 'tests/lint flows lost' 'examples/run --without-packages'
 # Scripts that check the scripts of examples/ and the packages.
-checks_of_scripts = tests/capture tests/country tests/customers tests/endings tests/fib tests/lint tests/many tests/package \
-	tests/pictures tests/report tests/table
+checks_of_scripts = tests/capture tests/country tests/customers tests/endings tests/fib tests/lint tests/many \
+	tests/nfcapd tests/package tests/pictures tests/report tests/table
 
 # The gate also builds the program, so bin/flowlabel has nothing to build.
 test:

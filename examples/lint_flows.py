@@ -21,11 +21,12 @@ NO_FILES = (
     (rb"\xd4\xc3\xb2\xa1|\xa1\xb2\xc3\xd4|\x4d\x3c\xb2\xa1|\xa1\xb2\x3c\x4d|\x0a\x0d\x0d\x0a",
      "It is a packet capture (pcap). examples/capture makes a File of its flows. If its packets are the messages of an "
      "exporter, use the lines for tshark in examples/README.md"),
-    (rb"\x0c\xa5|\xa5\x0c", "It is a file of nfcapd. Have nfcapd forward the messages (-R), and record these"),
-    (rb"\0[\x01\x05\x07\x08]", "It is NetFlow version {version}. Have the exporter send IPFIX (version 10)"),
-    (rb"\0\x09", "It is NetFlow version 9. Have the exporter send IPFIX (version 10), such as softflowd with -v 10"),
-    (rb"\0\0\0[\x02\x04\x05]\0\0\0[\x01\x02]", "It is sFlow. Have the switch send IPFIX, or use an exporter "
-     "such as softflowd or pmacctd"),
+    (rb"\x0c\xa5|\xa5\x0c", "It is a file of nfcapd. Use examples/nfcapd FILE >flows.ipfix"),
+    (rb"\0[\x01\x05\x07\x08]", "It is NetFlow version {version}. Have the exporter send IPFIX (version 10), or collect "
+     "version 5 with nfcapd, and use examples/nfcapd"),
+    (rb"\0\x09", "It is NetFlow version 9. Collect it with nfcapd, and use examples/nfcapd, or have the exporter send IPFIX "
+     "(version 10), such as softflowd with -v 10"),
+    (rb"\0\0\0[\x02\x04\x05]\0\0\0[\x01\x02]", "It is sFlow. Collect it with sfcapd, and use examples/nfcapd"),
     (rb"\xde\xad\xbe\xef", "It is a file of SiLK. Convert it with rwsilk2ipfix"),
     (rb"PK\x03\x04", "It is a zip archive. Unpack it"),
     (rb"\0{16}", "It begins with zero bytes. The recording has failed, or the disk was full"),
