@@ -29,12 +29,16 @@ part_with-numbers (LabelPart (Some text)) = refl
 abbrev same_part : KeyPartModel → KeyPartModel → Bool
 same_part p q = bytes_eq (part_numbers p) (part_numbers q)
 
+-- parts with the same numbers are equal
+pub same_part-numbers : (p q : KeyPartModel) → part_numbers p ≡ part_numbers q → p ≡ q
+same_part-numbers p q e = sym (part_with-numbers p) ∙ ap part_with e ∙ part_with-numbers q
+
 same_part-Decides : (p q : KeyPartModel) → Decides (same_part p q) (p ≡ q)
 same_part-Decides p q =
-    Decides-like (same_part p q) (λ e. sym (part_with-numbers p) ∙ ap part_with e ∙ part_with-numbers q) (λ e. ap part_numbers e)
+    Decides-like (same_part p q) (same_part-numbers p q) (λ e. ap part_numbers e)
     (bytes_eq-Decides (part_numbers p) (part_numbers q))
 
-same_key-Decides : (a b : Key) → Decides (same_key a b) (a ≡ b)
+pub same_key-Decides : (a b : Key) → Decides (same_key a b) (a ≡ b)
 same_key-Decides a b = slice_eq-Decides same_part-Decides a b (same_key a b) refl
 
 -- small keys have equal codes if they are equal

@@ -155,7 +155,7 @@ have-more all (r ∷ rows) up = (
   have-more all rows (λ k h. up k (grind (arith, h))),
 )
 
-have-others : (d : Key) (ds : List Key) (rows : List (Key × RowView)) → HaveKeys (d ∷ ds) rows → HaveKeys ds (other_rows d rows)
+pub have-others : (d : Key) (ds : List Key) (rows : List (Key × RowView)) → HaveKeys (d ∷ ds) rows → HaveKeys ds (other_rows d rows)
 have-others d ds [] all = tt
 have-others d ds (r ∷ rows) all = by (same_key d r.0) refl (have-others d ds rows all.1)
   where
@@ -166,7 +166,7 @@ have-others d ds (r ∷ rows) all = by (same_key d r.0) refl (have-others d ds r
         (sym (ap (λ b. b || list_any (same_key r.0) ds) (same_key-equiv.symm r.0 d ∙ e)) ∙ all.0, rest)
 
 -- the rows with another key are among the others
-with-others : (d e : Key) → same_key d e ≡ false → (rows : List (Key × RowView)) → rows_with e (other_rows d rows) ≡ rows_with e rows
+pub with-others : (d e : Key) → same_key d e ≡ false → (rows : List (Key × RowView)) → rows_with e (other_rows d rows) ≡ rows_with e rows
 with-others d e apart =
     filter-weaker (λ (r : Key × RowView). not (same_key d r.0)) (λ r. same_key e r.0)
     (λ r s. ap not (same_key-equiv.symm d r.0 ∙ sym (same_key-equiv.congr e r.0 d s) ∙ same_key-equiv.symm e d ∙ apart))

@@ -28,8 +28,6 @@ pub record DivideRows (key : RowView → Key) (rows : List RowView)
   pub packets : sum_by (λ g. g.totals.packets) groups ≡ sum_by (λ row. row.packets) rows
   pub octets : sum_by (λ g. g.totals.octets) groups ≡ sum_by (λ row. row.octets) rows
 
--- Below: only contracts of parts and proofs use these; no promise of the program rests on them.
-
 -- Groups of several parts of the rows, merged.
 
 -- the totals of the groups that have the key, added up

@@ -3,3 +3,4 @@ pub mod Groups
 pub mod Codes
 pub mod Inner
 pub mod Laws
+pub mod Grouped

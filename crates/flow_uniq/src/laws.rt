@@ -1,5 +1,5 @@
 //! Laws about groups.
-ghost use Rattle.std.specs.Prelude.{Bool, List, Option};
+ghost use Rattle.std.specs.Prelude.{◌≡◌, ◌∷◌, Bool, List, Option, map};
 ghost use Rattle.std.specs.List.Sorted.{IsPermutation, IsSortedBy};
 ghost use Rattle.prefix_keys.specs.Text.{AddressOf};
 ghost use Rattle.pmap_text.specs.MapModel.{Label};
@@ -7,6 +7,7 @@ ghost use Rattle.pmap_text.specs.Sorting.{in_order};
 ghost use Rattle.flow_rows.specs.Elements.{RowView};
 ghost use Rattle.flow_uniq.specs.Key.{KeyField, key_of};
 ghost use Rattle.flow_uniq.specs.Groups.{GroupModel, groups_of, is_before, shown_groups};
+ghost use Rattle.flow_uniq.specs.Grouped.{AreGrouped, group_with};
 ghost use Rattle.flow_uniq.specs.Laws.{DivideRows, MergedAreAll, MergedDivide};
 
 /// The groups of rows have distinct keys, and each sums exactly the rows that have its key. Their records, packets and
@@ -27,4 +28,12 @@ pub fn sorted_groups_are_in_order()
 pub fn merged_groups_divide_the_rows()
     ensures divide { MergedDivide }
     ensures all { MergedAreAll }
+{}
+
+/// The rows are grouped by their fields, without regard to keys. Each group has the fields of its first row, and sums its
+/// rows.
+pub fn rows_are_grouped_by_fields()
+    ensures { (fields : List KeyField) (label : AddressOf → Option Label) (sorted : Bool) (rows : List RowView) →
+        (groups : List (RowView × List RowView)) × AreGrouped label fields sorted rows (map (λ g. g.0 ∷ g.1) groups)
+        × (shown_groups sorted (groups_of fields label rows) ≡ map (group_with label fields) groups) }
 {}

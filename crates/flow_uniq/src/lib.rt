@@ -31,4 +31,7 @@ pub use fault::KeyFault;
 pub use field::KeyField;
 pub use groups::{Group, Groups, Totals};
 pub use keys::Keys;
-pub use laws::{groups_divide_the_rows, merged_groups_divide_the_rows, sorted_groups_are_in_order};
+pub use laws::{
+    groups_divide_the_rows, merged_groups_divide_the_rows, rows_are_grouped_by_fields,
+    sorted_groups_are_in_order,
+};

@@ -1,5 +1,6 @@
 pub mod AnswerLemmas
 pub mod CheckedLemmas
+pub mod CoveringLabels
 pub mod DefinitionLemmas
 pub mod EndLemmas
 pub mod LineLemmas
@@ -7,4 +8,5 @@ pub mod MadeLemmas
 pub mod Outcomes
 pub mod RequestLemmas
 pub mod RowLemmas
+pub mod RunLemmas
 pub mod TakenLemmas

@@ -1,32 +1,33 @@
-use Rattle.std.specs.Prelude.{◌≡◌, ◌≤◌, ◌<◌, ◌^◌, ◌⊎◌, ◌∷◌, ◌++◌, [], ℕ, All, IsTrue, List, Bool, true, Option, None, Some, Ok, codes, decimal, length, map, unwrap_or}
+use Rattle.std.specs.Prelude.{◌≡◌, ◌≢◌, ◌≤◌, ◌<◌, ◌+◌, ◌^◌, ◌↔◌, ◌⊎◌, ◌&&◌, ◌∷◌, ◌++◌, [], ℕ, All, Contains, IsTrue, List, Bool, Option, None, Some, Ok, codes, decimal, filter, find, is_some, length, map, nat_le, nat_lt, option_map, slice_get, sum_by, unwrap_or}
 use Rattle.std.specs.Borrow.{Bor}
-use Rattle.std.specs.List.Sorted.{IsSortedBy}
-use Rattle.std.specs.Option.{ForSome, option_map_or}
+use Rattle.std.specs.List.{last_or}
+use Rattle.std.specs.Option.{option_map_or}
+use Rattle.std.specs.Str.{bytes_eq}
 use Rattle.prefix_keys.specs.Block.{width_of}
 use Rattle.prefix_keys.specs.Print.{address_text}
-use Rattle.pmap_text.specs.ListModel.{IsEquivalent, ListModel}
+use Rattle.pmap_text.specs.ListModel.{IsEquivalent, ListModel, covers}
 use Rattle.pmap_text.specs.Label.{is_label}
-use Rattle.pmap_text.specs.MapModel.{Label as LabelOf, MapModel}
+use Rattle.pmap_text.specs.MapModel.{Label as LabelOf, MapModel, spans}
 use Rattle.pmap_text.specs.Reading.{label_limit, list_reading, map_reading, mapping_limit}
+use Rattle.pmap_text.specs.Sorting.{in_order}
 use Rattle.pmap_cert.specs.Acceptance.{HasBlock, IsInOrder, IsLeast}
 use Rattle.pmap_cert.specs.CertificateModel.{CertificateModel}
 use Rattle.pmap_cert.specs.Compacting.{compact, line_count}
 use Rattle.pmap_cert.specs.FormatReading.{format_reading}
 use Rattle.cert_check.specs.Checking.{first_fault}
 use Rattle.pmap_text.specs.Runs.{HasOneRun, Run}
-use Rattle.label_lookup.specs.Labelling.{Labelling, label_by, label_where}
+use Rattle.label_lookup.specs.Labelling.{Labelling, label_by, label_where, labelling}
 use Rattle.flow_rows.specs.Counts.{rows_of_messages}
 use Rattle.flow_rows.specs.Elements.{RowView}
 use Rattle.flow_rows.specs.Laws.{summed_counts}
 use Rattle.flow_filter.specs.Laws.{rows_left}
-use Rattle.flow_uniq.specs.Groups.{GroupModel, is_before}
-use Rattle.flow_uniq.specs.Key.{key_of}
-use Rattle.flow_uniq.specs.Laws.{DivideRows}
+use Rattle.flow_uniq.specs.Key.{field_name}
+use Rattle.flow_uniq.specs.Grouped.{AreGrouped}
 use Rattle.flow_uniq.specs.declared.field.KeyField.{KeyField}
 use Rattle.pmap_cert.specs.ListText.{labels_of, list_text}
-use Rattle.pmap_print.specs.Reports.{groups_text, info_text, label_titles, row_titles}
+use Rattle.pmap_print.specs.Reports.{group_titles, info_text, title_line}
 use Rattle.pmap_text.specs.RunsText.{runs_text}
-use Rattle.pmap_print.specs.Table.{Line, table_text}
+use Rattle.pmap_print.specs.Table.{table_text}
 use Rattle.flowlabel.specs.Output.{FlowsThen, IsOutput, LabelsThen, Outcome, Prints, minimal_text}
 use Rattle.flowlabel.specs.ByFile.{ByFile}
 use Rattle.flowlabel.specs.Request.{Cat, Check, Command, Info, Label, Recert, Rows, Shrink, Text, Uniq}
@@ -56,21 +57,16 @@ pub record IsReadAgain (l : ListModel) (text : Text) : Type 0 where
 
 abbrev pub PrintsList : ListModel → Text → Type 0
 PrintsList l text = (text ≡ list_text l)
-    × (length l.prefixes ≤ mapping_limit → length (labels_of l.prefixes) ≤ label_limit → IsReadAgain l text)
+    × (length l.prefixes ≤ mapping_limit → length (labels_of l.prefixes) ≤ label_limit
+    → IsReadAgain l text)
 
--- the certificate and the compacted certificate have no fault for the map and the list
-pub record IsCertificateFor (m : MapModel) (l : ListModel) (c : CertificateModel) : Type 0 where
-  pub accepted : first_fault m l c ≡ None
-  pub compact_accepted : first_fault m l (compact c) ≡ None
-
--- If the text is the output under a map text, it is also the output under each list text whose list labels every address
--- as the map does. It is likewise with the map and the list exchanged. The command takes its labels from a map or a
--- list.
-abbrev pub IsSameUnder : (LabelFile → Command) → LabelFile → ByFile Text → List ℕ → Type 0
-IsSameUnder command (Map file) texts out = (m : MapModel) (l : ListModel) (list : Text) → map_reading texts.map ≡ Ok m
-    → list_reading list ≡ Ok l → IsEquivalent l m → IsOutput (command (Prefixes file)) (record texts { list = list }) (Ok out)
-IsSameUnder command (Prefixes file) texts out = (m : MapModel) (l : ListModel) (map : Text) → list_reading texts.list ≡ Ok l
-    → map_reading map ≡ Ok m → IsEquivalent l m → IsOutput (command (Map file)) (record texts { map = map }) (Ok out)
+-- With equivalent texts of a map and a list, and the same other texts, the command has the same outcome under the map and
+-- under the list. The command takes its labels from a map or a list, of any name.
+abbrev pub IsSameUnder : (LabelFile → Command) → ByFile Text → Type 0
+IsSameUnder command texts = (name : Bor Text) (m : MapModel) (l : ListModel) (map list : Text)
+    (out : Outcome) → map_reading map ≡ Ok m → list_reading list ≡ Ok l → IsEquivalent l m
+    → let given = record texts { map = map; list = list } in
+    IsOutput (command (Map name)) given out ↔ IsOutput (command (Prefixes name)) given out
 
 -- A certificate that `recert` prints has no more node lines than the one that it read, `recert` prints it unchanged, and
 -- it has no fault for a map and a list for which the one that was read has none.
@@ -80,71 +76,115 @@ pub record IsAsGood (command : Command) (texts : ByFile Text) (out : Text) : Typ
   pub reads_new : format_reading out ≡ Ok (compact old)
   pub lines : line_count (compact old).root ≤ line_count old.root
   pub again : IsOutput command (record texts { certificate = out }) (Ok out)
-  pub checks : (m : MapModel) (l : ListModel) → first_fault m l old ≡ None → first_fault m l (compact old) ≡ None
+  pub checks : (m : MapModel) (l : ListModel)
+      → first_fault m l old ≡ None → first_fault m l (compact old) ≡ None
+
+-- The labels of addresses in the text of a map or a list. Under a map, the label of an address is that of the last
+-- statement that covers it, or the default if none does. Under a list, it is that of the first of the entries that cover it,
+-- with the longest blocks first.
+abbrev pub GivesLabels : LabelFile → ByFile Text → Labelling → Type 0
+GivesLabels (Map file) texts labels = (m : MapModel) × (map_reading texts.map ≡ Ok m)
+    × (labels ≡ labelling m.version (λ a.
+    last_or (Some m.fallback) (map (λ p. p.label) (filter (spans a) m.mappings))))
+GivesLabels (Prefixes file) texts labels = (l : ListModel) × (list_reading texts.list ≡ Ok l)
+    × (let W = width_of l.version in labels ≡ labelling l.version (λ a. option_map (λ p. p.label)
+    (slice_get (in_order (λ p q. nat_lt q.bits p.bits)
+    (filter (λ p. nat_le p.bits W && covers W p.bits a p) l.prefixes)) 0)))
 
 -- the columns of a row, each with its title and the row's field; the last two are the labels of its addresses, if there is
 -- a labelling
 abbrev pub row_columns : Option Labelling → RowView → List (Text × Text)
 row_columns labels row =
-    (codes "sip", address_text row.version row.src) ∷ (codes "dip", address_text row.version row.dst)
-    ∷ (codes "sport", decimal row.sport) ∷ (codes "dport", decimal row.dport) ∷ (codes "proto", decimal row.protocol)
-    ∷ (codes "flags", decimal row.flags) ∷ (codes "packets", decimal row.packets) ∷ (codes "bytes", decimal row.octets)
+    (codes "sip", address_text row.version row.src)
+    ∷ (codes "dip", address_text row.version row.dst)
+    ∷ (codes "sport", decimal row.sport) ∷ (codes "dport", decimal row.dport)
+    ∷ (codes "proto", decimal row.protocol) ∷ (codes "flags", decimal row.flags)
+    ∷ (codes "packets", decimal row.packets) ∷ (codes "bytes", decimal row.octets)
     ∷ (codes "stime", decimal row.start_ms) ∷ (codes "etime", decimal row.end_ms)
     ∷ option_map_or (λ l. (codes "src-label", unwrap_or (label_by l (row.version, row.src)) [])
     ∷ (codes "dst-label", unwrap_or (label_by l (row.version, row.dst)) []) ∷ []) labels []
 
 -- The outcome is a table of a header and a line for each row, in order. The header has the titles of each row's columns,
 -- and the row's line has the fields.
-pub record PrintsRows (columns : Bool) (labels : Option Labelling) (shown : List RowView) (outcome : Outcome) : Type 0 where
-  pub titles : Line
-  pub header : titles ≡ row_titles ++ option_map_or (λ l. label_titles) labels []
-  pub under : All (λ row. map (λ c. c.0) (row_columns labels row) ≡ titles) shown
-  pub prints : Prints (table_text columns (titles ∷ map (λ row. map (λ c. c.1) (row_columns labels row)) shown)) outcome
+abbrev pub PrintsRows : Bool → Option Labelling → List RowView → Outcome → Type 0
+PrintsRows columns labels shown outcome = let titles = title_line (is_some labels) in
+    All (λ row. map (λ c. c.0) (row_columns labels row) ≡ titles) shown
+    × Prints (table_text columns
+    (titles ∷ map (λ row. map (λ c. c.1) (row_columns labels row)) shown)) outcome
 
--- the outcome is the text of groups that divide the rows by their keys, in the order of the keys if asked
-abbrev pub PrintsGroups : List KeyField → Bool → Bool → Option Labelling → List RowView → Outcome → Type 0
-PrintsGroups fields sorted columns labels shown outcome = (groups : List GroupModel)
-    × DivideRows (key_of (label_where labels) fields) shown groups
-    × (sorted ≡ true → IsSortedBy is_before groups) × Prints (groups_text fields groups columns) outcome
+-- The outcome is a table of groups of the rows, each with a first row and others. The line of a group has the columns of
+-- the fields as in the first row, empty if there is no such column, the number of its rows, and the sums of their packets
+-- and bytes.
+abbrev pub PrintsGroups : List KeyField → Bool → Bool → Option Labelling → List RowView → Outcome
+    → Type 0
+PrintsGroups fields sorted columns labels shown outcome = (groups : List (RowView × List RowView))
+    × AreGrouped (label_where labels) fields sorted shown (map (λ g. g.0 ∷ g.1) groups)
+    × Prints (table_text columns (group_titles fields ∷ map (λ g. let rows = g.0 ∷ g.1 in
+    map (λ f. option_map_or (λ c. c.1)
+    (find (λ c. bytes_eq c.0 (field_name f)) (row_columns labels g.0)) []) fields
+    ++ decimal (length rows) ∷ decimal (sum_by (λ r. r.packets) rows)
+    ∷ decimal (sum_by (λ r. r.octets) rows) ∷ []) groups)) outcome
 
--- the outcome is the text of runs of which exactly one has each address
+-- The outcome is the text of runs. Exactly one run has each address. If a run begins right after another one, their labels
+-- differ. No run is empty.
 abbrev pub PrintsEachOnce : Labelling → Outcome → Type 0
-PrintsEachOnce labels outcome = (runs : List Run) × ((a : ℕ) → a < 2 ^ width_of labels.version → HasOneRun labels.label runs a)
+PrintsEachOnce labels outcome = (runs : List Run)
+    × ((a : ℕ) → a < 2 ^ width_of labels.version → HasOneRun labels.label runs a)
+    × ((r s : Run) → Contains runs r → Contains runs s
+    → (r.low ≤ r.high) × (s.low ≡ r.high + 1 → s.label ≢ r.label))
     × Prints (runs_text labels.version runs) outcome
 
--- The headline for the text that a command writes for the texts of its files. `info`: the numbers are the sums of those
--- of each message. `rows`: it is a table of the rows that each option in turn leaves. `uniq`: the groups divide these rows.
--- `cat`: exactly one run has each address. `shrink`: it is read as a shortest list for the map, or as its
--- certificate. `check`: it is the number of entries of the list, which is equivalent and least. `recert`: it is a
--- certificate as good as the one read. Under a map or a list: it is the same under an equivalent list or map.
-abbrev pub IsHeadline : Command → ByFile Text → List ℕ → Type 0
-IsHeadline (Label labels addr) texts out = IsSameUnder (λ other. Label other addr) labels texts out
-IsHeadline (Info flows) texts out = FlowsThen (λ labels messages. Prints (info_text (summed_counts messages))) None texts (Ok out)
-IsHeadline (Rows labels condition columns flows) texts out =
-    ForSome labels (λ given. IsSameUnder (λ other. Rows (Some other) condition columns flows) given texts out)
-    × FlowsThen (λ l messages. PrintsRows columns l (rows_left condition l (rows_of_messages messages))) labels texts (Ok out)
-IsHeadline (Uniq fields labels condition sorted columns flows) texts out =
-    ForSome labels (λ given. IsSameUnder (λ o. Uniq fields (Some o) condition sorted columns flows) given texts out)
-    × FlowsThen (λ l messages. PrintsGroups fields sorted columns l (rows_left condition l (rows_of_messages messages))) labels texts (Ok out)
-IsHeadline (Cat labels) texts out = IsSameUnder Cat labels texts out × LabelsThen PrintsEachOnce labels texts (Ok out)
-IsHeadline (Shrink map shrunk.List) texts out = (m : MapModel) × (l : ListModel) × (map_reading texts.map ≡ Ok m) × IsShortest m l × PrintsList l out
-IsHeadline (Shrink map shrunk.Certificate) texts out = (m : MapModel) × (l : ListModel) × (c : CertificateModel)
-    × (map_reading texts.map ≡ Ok m) × IsShortest m l × IsCertificateFor m l c × (format_reading out ≡ Ok c)
-IsHeadline (Shrink map shrunk.Compact) texts out = (m : MapModel) × (l : ListModel) × (c : CertificateModel)
-    × (map_reading texts.map ≡ Ok m) × IsShortest m l × IsCertificateFor m l c × (format_reading out ≡ Ok (compact c))
-IsHeadline (Check map list certificate) texts out = (m : MapModel) × (l : ListModel) × (map_reading texts.map ≡ Ok m)
-    × (list_reading texts.list ≡ Ok l) × IsEquivalent l m × IsLeast m l × (out ≡ minimal_text (length l.prefixes))
-IsHeadline (Recert certificate) texts out = IsAsGood (Recert certificate) texts out
-
--- What `shrink` prints for a map text, each way, is one list and its certificate. If the list is within the limits of a
--- text, `check` over the map's text, the list's text and the certificate's text, compacted or not, prints the number of
--- the list's entries. The files have any name.
-pub record AreShrunk (name : Bor Text) (texts : ByFile Text) (m : MapModel) (l : ListModel) (c : CertificateModel) : Type 0 where
+-- What `shrink` prints for a map text, each way, is one list and its certificate. The certificate, compacted or not, has no
+-- fault for the map and the list. If the list is within the limits of a text, `check` over the map's text, the list's text
+-- and the certificate's text prints the number of the list's entries. The files have any name.
+pub record AreShrunk (name : Bor Text) (texts : ByFile Text)
+    (m : MapModel) (l : ListModel) (c : CertificateModel) : Type 0 where
   pub shortest : IsShortest m l
-  pub certificate : IsCertificateFor m l c
-  pub prints_list : (out : Text) × IsOutput (Shrink name shrunk.List) texts (Ok out) × PrintsList l out
-  pub prints : (out : Text) × IsOutput (Shrink name shrunk.Certificate) texts (Ok out) × (format_reading out ≡ Ok c)
-  pub prints_compact : (out : Text) × IsOutput (Shrink name shrunk.Compact) texts (Ok out) × (format_reading out ≡ Ok (compact c))
-  pub checks : length l.prefixes ≤ mapping_limit → length (labels_of l.prefixes) ≤ label_limit → (printed : Text)
-      → (format_reading printed ≡ Ok c) ⊎ (format_reading printed ≡ Ok (compact c))
-      → IsOutput (Check name name name) (record texts { list = list_text l; certificate = printed }) (Ok (minimal_text (length l.prefixes)))
+  pub accepted : first_fault m l c ≡ None
+  pub compact_accepted : first_fault m l (compact c) ≡ None
+  pub prints_list : (out : Text) × IsOutput (Shrink name shrunk.List) texts (Ok out)
+      × PrintsList l out
+  pub prints : (out : Text) × IsOutput (Shrink name shrunk.Certificate) texts (Ok out)
+      × (format_reading out ≡ Ok c)
+  pub prints_compact : (out : Text) × IsOutput (Shrink name shrunk.Compact) texts (Ok out)
+      × (format_reading out ≡ Ok (compact c))
+  pub checks : length l.prefixes ≤ mapping_limit → length (labels_of l.prefixes) ≤ label_limit
+      → (text : Text) → (format_reading text ≡ Ok c) ⊎ (format_reading text ≡ Ok (compact c))
+      → IsOutput (Check name name name) (record texts { list = list_text l; certificate = text })
+      (Ok (minimal_text (length l.prefixes)))
+
+-- The headline for the text that a command writes for the texts of its files. `label`: it is the line of the address's
+-- label. `info`: the numbers are the sums of those of each message. `rows`: it is a table of the rows that each option in
+-- turn leaves. `uniq`: it is a table of the groups of these rows. `cat`: exactly one run has each address. `shrink`: it is
+-- read as a shortest list for the map, or as a certificate for this list. `check`: it is the number of entries of the
+-- list, which is equivalent and least. `recert`: it is a certificate as good as the one read. Under a map or a list: it is
+-- the same under an equivalent list or map.
+abbrev pub IsHeadline : Command → ByFile Text → Text → Type 0
+IsHeadline (Label labels addr) texts out = IsSameUnder (λ other. Label other addr) texts
+    × ((given : Labelling) × GivesLabels labels texts given
+    × (out ≡ unwrap_or (label_by given (addr.version, addr.value)) [] ++ 10 ∷ []))
+IsHeadline (Info flows) texts out =
+    FlowsThen (λ l ms. Prints (info_text (summed_counts ms))) None texts (Ok out)
+IsHeadline (Rows labels options columns flows) texts out =
+    IsSameUnder (λ other. Rows (Some other) options columns flows) texts
+    × FlowsThen (λ l ms. PrintsRows columns l (rows_left options l (rows_of_messages ms)))
+    labels texts (Ok out)
+IsHeadline (Uniq fields labels options sorted columns flows) texts out =
+    IsSameUnder (λ other. Uniq fields (Some other) options sorted columns flows) texts
+    × FlowsThen (λ l ms.
+    PrintsGroups fields sorted columns l (rows_left options l (rows_of_messages ms)))
+    labels texts (Ok out)
+IsHeadline (Cat labels) texts out =
+    IsSameUnder Cat texts × LabelsThen PrintsEachOnce labels texts (Ok out)
+IsHeadline (Shrink map shrunk.List) texts out = (m : MapModel) × (l : ListModel)
+    × (map_reading texts.map ≡ Ok m) × IsShortest m l × PrintsList l out
+IsHeadline (Shrink map shrunk.Certificate) texts out =
+    (m : MapModel) × (l : ListModel) × (c : CertificateModel) × (map_reading texts.map ≡ Ok m)
+    × AreShrunk map texts m l c × (format_reading out ≡ Ok c)
+IsHeadline (Shrink map shrunk.Compact) texts out =
+    (m : MapModel) × (l : ListModel) × (c : CertificateModel) × (map_reading texts.map ≡ Ok m)
+    × AreShrunk map texts m l c × (format_reading out ≡ Ok (compact c))
+IsHeadline (Check map list certificate) texts out = (m : MapModel) × (l : ListModel)
+    × (map_reading texts.map ≡ Ok m) × (list_reading texts.list ≡ Ok l) × IsEquivalent l m
+    × IsLeast m l × (out ≡ minimal_text (length l.prefixes))
+IsHeadline (Recert certificate) texts out = IsAsGood (Recert certificate) texts out

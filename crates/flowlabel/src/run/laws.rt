@@ -1,18 +1,28 @@
-ghost use Rattle.std.specs.Prelude.{◌≡◌, ℕ, List, Ok};
+ghost use Rattle.std.specs.Prelude.{◌≡◌, ◌≤◌, ℕ, Bool, List, Ok, Some, length};
 ghost use Rattle.std.specs.Borrow.{Bor};
 ghost use Rattle.pmap_text.specs.ListModel.{ListModel};
 ghost use Rattle.pmap_text.specs.MapModel.{MapModel};
-ghost use Rattle.pmap_text.specs.Reading.{map_reading};
+ghost use Rattle.pmap_text.specs.Reading.{label_limit, map_reading, mapping_limit};
 ghost use Rattle.pmap_cert.specs.CertificateModel.{CertificateModel};
-ghost use Rattle.flowlabel.specs.Headline.{AreShrunk, IsHeadline};
+ghost use Rattle.pmap_cert.specs.ListText.{labels_of, list_text};
+ghost use Rattle.label_lookup.specs.Labelling.{labelling_of_map};
+ghost use Rattle.ipfix_read.specs.Message.{MessageView};
+ghost use Rattle.ipfix_read.specs.Messages.{file_reading};
+ghost use Rattle.flow_rows.specs.Counts.{rows_of_messages};
+ghost use Rattle.flow_filter.specs.Condition.{Condition};
+ghost use Rattle.flow_filter.specs.Laws.{rows_left};
+ghost use Rattle.flow_uniq.specs.declared.field.KeyField.{KeyField};
+ghost use Rattle.flowlabel.specs.Headline.{AreShrunk, IsHeadline, PrintsGroups, PrintsRows};
 ghost use Rattle.flowlabel.specs.Output.{IsOutput, Outcome};
 ghost use Rattle.flowlabel.specs.ByFile.{ByFile};
-ghost use Rattle.flowlabel.specs.Request.{Command, Text};
+ghost use Rattle.flowlabel.specs.Request.{Command, Rows, Shrink, Text, Uniq};
+ghost use Rattle.flowlabel.specs.declared.command.LabelFile.TheVariants.{List as Prefixes, Map};
+ghost use Rattle.flowlabel.specs.declared.command.Shrunk.TheVariants as shrunk;
 
 use cert_check::no_fault_is_acceptance;
 use flow_filter::options_hold_together;
 use flow_rows::counts_add_up;
-use flow_uniq::{groups_divide_the_rows, sorted_groups_are_in_order};
+use flow_uniq::rows_are_grouped_by_fields;
 use pmap_cert::{
     acceptance_is_enough, compact_gives_back_equal, compact_has_a_text, compact_has_no_more_lines,
     compact_keeps_acceptance, map_text_has_a_minimal_pair, map_text_has_its_labels,
@@ -70,7 +80,29 @@ pub fn output_keeps_headline()
     compact_keeps_acceptance();
     counts_add_up();
     options_hold_together();
-    groups_divide_the_rows();
-    sorted_groups_are_in_order();
+    rows_are_grouped_by_fields();
     runs_cover_each_address_once();
+}
+
+/// For each map text and each File, `rows` and `uniq` print the same text under the map as under the list that `shrink`
+/// prints, if this list is within the limits of a text: the rows that the options leave, and the groups of these rows.
+pub fn shrunk_list_keeps_reports()
+    ensures { (name : Bor Text) (texts : ByFile Text) (m : MapModel) (messages : List MessageView) (printed : Text) →
+        map_reading texts.map ≡ Ok m → file_reading texts.flows ≡ Ok messages →
+        IsOutput (Shrink name shrunk.List) texts (Ok printed) → (l : ListModel) × (printed ≡ list_text l)
+        × (length l.prefixes ≤ mapping_limit → length (labels_of l.prefixes) ≤ label_limit →
+        let labels = Some (labelling_of_map m) in let with_list = record texts { list = printed } in
+        let left = λ (condition : Condition). rows_left condition labels (rows_of_messages messages) in
+        ((condition : Condition) (columns : Bool) → (out : Text)
+        × IsOutput (Rows (Some (Map name)) condition columns name) texts (Ok out)
+        × IsOutput (Rows (Some (Prefixes name)) condition columns name) with_list (Ok out)
+        × PrintsRows columns labels (left condition) (Ok out))
+        × ((fields : List KeyField) (condition : Condition) (sorted columns : Bool) → (out : Text)
+        × IsOutput (Uniq fields (Some (Map name)) condition sorted columns name) texts (Ok out)
+        × IsOutput (Uniq fields (Some (Prefixes name)) condition sorted columns name) with_list (Ok out)
+        × PrintsGroups fields sorted columns labels (left condition) (Ok out))) }
+{
+    one_output();
+    shrunk_list_is_least();
+    output_keeps_headline();
 }

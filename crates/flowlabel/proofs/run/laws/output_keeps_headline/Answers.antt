@@ -1,11 +1,12 @@
-use Rattle.std.proofs.Common.{◌≡◌, ◌∙◌, ℕ, Bool, true, false, true≢false, List, [], ◌∷◌, ◌++◌, Option, None, Some, Result, Ok, Err, ap, map, refl, subst, sym}
-use Rattle.std.specs.Prelude.{length, slice_index_or}
-use Rattle.std.specs.List.Sorted.{IsSortedBy}
+use Rattle.std.proofs.Common.{◌≡◌, ◌∙◌, ◌^◌, ℕ, Bool, List, [], ◌∷◌, ◌++◌, Option, None, Some, Result, Ok, Err, ap, map, refl, subst, sym}
+use Rattle.std.specs.Prelude.{◌↔◌, decimal, find, is_some, length, slice_index_or, unwrap_or, sum_by}
 use Rattle.std.specs.List.{zip}
-use Rattle.std.specs.Option.{ForSome, option_map_or}
+use Rattle.std.specs.Str.{bytes_eq}
+use Rattle.std.specs.Option.{option_map_or}
 use Rattle.pmap_text.specs.ListModel.{ListModel}
-use Rattle.pmap_text.specs.Sorting.{in_order}
 use Rattle.pmap_text.specs.MapModel.{MapModel}
+use Rattle.prefix_keys.specs.Block.{width_of}
+use Rattle.prefix_keys.specs.Text.{AddressOf}
 use Rattle.pmap_cert.specs.FormatReading.{format_reading}
 use Rattle.pmap_text.specs.Reading.{list_reading, map_reading}
 use Rattle.pmap_cert.specs.CertificateText.{certificate_text}
@@ -13,20 +14,23 @@ use Rattle.pmap_cert.specs.CertificateModel.{CertificateModel}
 use Rattle.pmap_cert.specs.Compacting.{compact}
 use Rattle.cert_check.specs.Checking.{first_fault}
 use Rattle.cert_check.specs.declared.fault.CheckFault.{CheckFault}
-use Rattle.label_lookup.specs.Labelling.{Labelling, label_where, labelling_of_list, labelling_of_map}
+use Rattle.label_lookup.specs.Labelling.{Labelling, label_by, label_where, labelling_of_list, labelling_of_map}
+use Rattle.flowlabel.proofs.CoveringLabels.{labelling-of_list, labelling-of_map}
 use Rattle.label_lookup.proofs.Labellings.{same_labelling}
+use Rattle.flowlabel.proofs.RunLemmas.{apart-runs}
 use Rattle.ipfix_read.specs.Message.{MessageView}
 use Rattle.ipfix_read.specs.Messages.{file_reading}
 use Rattle.flow_rows.specs.Counts.{counts_of, rows_of_messages}
 use Rattle.flow_rows.specs.Elements.{RowView}
 use Rattle.flow_rows.specs.Laws.{summed_counts}
 use Rattle.flow_filter.specs.Laws.{rows_left}
-use Rattle.flow_uniq.specs.Groups.{GroupModel, groups_of, is_before, shown_groups}
-use Rattle.flow_uniq.specs.Key.{key_of}
-use Rattle.flow_uniq.specs.Laws.{DivideRows}
-use Rattle.pmap_print.specs.Reports.{info_text, label_fields, label_titles, row_fields, row_titles}
+use Rattle.flow_uniq.specs.declared.field.KeyField.{KeyField}
+use Rattle.flow_uniq.specs.declared.field.KeyField.TheVariants.{SourceAddress, DestinationAddress, SourcePort, DestinationPort, Protocol, Flags, SourceLabel, DestinationLabel}
+use Rattle.flow_uniq.specs.Key.{field_name, key_of, key_part}
+use Rattle.flow_uniq.specs.Grouped.{AreGrouped, group_with}
+use Rattle.pmap_print.specs.Reports.{group_fields, group_titles, info_text, label_fields, label_titles, part_text, row_fields, row_titles, title_line}
 use Rattle.pmap_print.specs.Table.{Line, table_text}
-use Rattle.flowlabel.specs.Headline.{IsSameUnder, PrintsEachOnce, PrintsGroups, PrintsList, PrintsRows, row_columns}
+use Rattle.flowlabel.specs.Headline.{GivesLabels, IsSameUnder, PrintsEachOnce, PrintsGroups, PrintsList, PrintsRows, row_columns}
 use Rattle.flowlabel.specs.Output.{BytesFault, IsVerdict, IsOutput, LabelsThen, Outcome, Prints, Then, FlowsThen, label_text, labelled_row_lines, minimal_text, row_labels}
 use Rattle.flowlabel.proofs.Outcomes.{CertificateThen, ListThen, PrintsCompact, PrintsMinimal, PrintsRuns, ReportsOf, passing_rows, report_of_groups, report_of_rows, checked}
 use Rattle.std.specs.Borrow.{Bor}
@@ -58,28 +62,32 @@ checked_of name texts out is =
     let (c, certificate_is, found) = printed_of InCertificate (IsVerdict m l) (format_reading texts.certificate) out certified in
     let (none, text) = faultless (first_fault m l c) (length l.prefixes) out found in (m, l, c, map_is, list_is, certificate_is, none, text)
 
--- a text under a file of labels is the same under an equivalent one, since the labellings are equal
+-- a command has the same outcome under an equivalent file of labels, since the labellings are equal
 same_under : (rest : Labelling → Outcome → Type 0) (command : LabelFile → Command) (texts : ByFile Text)
     → ((file : LabelFile) (map list : Text) (outcome : Outcome) → LabelsThen rest file (record texts { map = map; list = list }) outcome
-    → IsOutput (command file) (record texts { map = map; list = list }) outcome)
-    → (file : LabelFile) (out : List ℕ) → LabelsThen rest file texts (Ok out) → IsSameUnder command file texts out
-same_under rest command texts there (Map file) out is =
-    λ m l list reads_map reads_list equivalent.
-    there (Prefixes file) texts.map list (Ok out) (rw reads_list (subst (λ (k : Labelling). rest k (Ok out)) (sym (same_labelling l m equivalent)) (rw reads_map at is)))
-same_under rest command texts there (Prefixes file) out is =
-    λ m l map reads_list reads_map equivalent.
-    there (Map file) map texts.list (Ok out) (rw reads_map (subst (λ (k : Labelling). rest k (Ok out)) (same_labelling l m equivalent) (rw reads_list at is)))
+    ↔ IsOutput (command file) (record texts { map = map; list = list }) outcome)
+    → IsSameUnder command texts
+same_under rest command texts is name m l map list outcome reads_map reads_list equivalent =
+    let given : ByFile Text = record texts { map = map; list = list } in
+    let same : labelling_of_list l ≡ labelling_of_map m = same_labelling l m equivalent in
+    let under_map : LabelsThen rest (Map name) given outcome ↔ rest (labelling_of_map m) outcome = (λ h. rw reads_map at h, λ h. rw reads_map h) in
+    let under_list : LabelsThen rest (Prefixes name) given outcome ↔ rest (labelling_of_list l) outcome = (λ h. rw reads_list at h, λ h. rw reads_list h) in (
+      λ h. (is (Prefixes name) map list outcome).0
+          (under_list.1 (subst (λ (k : Labelling). rest k outcome) (sym same) (under_map.0 ((is (Map name) map list outcome).1 h)))),
+      λ h. (is (Map name) map list outcome).0
+          (under_map.1 (subst (λ (k : Labelling). rest k outcome) same (under_list.0 ((is (Prefixes name) map list outcome).1 h)))),
+    )
 
--- a report under the labels of a file is the same under an equivalent one
-same_report : (text : Option Labelling → List MessageView → List ℕ) (texts : ByFile Text) (command : Option LabelFile → Command)
-    → ((file : Option LabelFile) (map list : Text) (outcome : Outcome) → FlowsThen (λ labels messages. Prints (text labels messages)) file (record texts { map = map; list = list }) outcome
-    → IsOutput (command file) (record texts { map = map; list = list }) outcome)
-    → (file : Option LabelFile) (out : List ℕ) → FlowsThen (λ labels messages. Prints (text labels messages)) file texts (Ok out)
-    → ForSome file (λ given. IsSameUnder (λ other. command (Some other)) given texts out)
-same_report text texts command there file out is =
-    λ given same.
-    same_under (λ labels. ReportsOf text (Some labels) texts.flows) (λ other. command (Some other)) texts (λ other map list outcome found. there (Some other) map list outcome found)
-    given out (subst (λ (f : Option LabelFile). FlowsThen (λ labels messages. Prints (text labels messages)) f texts (Ok out)) same is)
+-- the line of an address has its label
+line_of_label : (address : AddressOf) (file : LabelFile) (texts : ByFile Text) (out : List ℕ)
+    → LabelsThen (λ labels. Prints (label_text address labels)) file texts (Ok out)
+    → (given : Labelling) × GivesLabels file texts given × (out ≡ unwrap_or (label_by given address) [] ++ 10 ∷ [])
+line_of_label address (Map file) texts out is =
+    let (m, reads, prints) = printed_of InMap (λ m. Prints (label_text address (labelling_of_map m))) (map_reading texts.map) out is in
+    (labelling_of_map m, (m, reads, labelling-of_map m), cc)
+line_of_label address (Prefixes file) texts out is =
+    let (l, reads, prints) = printed_of InList (λ l. Prints (label_text address (labelling_of_list l))) (list_reading texts.list) out is in
+    (labelling_of_list l, (l, reads, labelling-of_list l), cc)
 
 -- a text that meets one condition meets another that follows for each value
 then_keep : {F A : Type 0} (in_file : F → BytesFault) (this that : A → Outcome → Type 0)
@@ -118,20 +126,51 @@ titles_of_rows : (labels : Option Labelling) (row : RowView) → map (λ c. c.0)
 titles_of_rows None row = refl
 titles_of_rows (Some l) row = refl
 
+titles_given : (labels : Option Labelling) → row_titles ++ option_map_or (λ l. label_titles) labels [] ≡ title_line (is_some labels)
+titles_given None = refl
+titles_given (Some l) = refl
+
 prints_rows : (columns : Bool) (labels : Option Labelling) (shown : List RowView) (outcome : Outcome)
     → outcome ≡ Ok (table_text columns (labelled_row_lines labels shown)) → PrintsRows columns labels shown outcome
-prints_rows columns labels shown outcome made = record {
-  titles = row_titles ++ option_map_or (λ l. label_titles) labels [];
-  header = refl;
-  under = λ k d below. titles_of_rows labels (slice_index_or shown k d);
-  prints = made ∙ ap (λ (lines : List Line). Ok (table_text columns lines)) (lines_of_rows labels shown);
-}
+prints_rows columns labels shown outcome made = (
+  λ k d below. titles_of_rows labels (slice_index_or shown k d) ∙ titles_given labels,
+  made ∙ ap (λ (lines : List Line). Ok (table_text columns lines)) (lines_of_rows labels shown)
+      ∙ ap (λ (titles : Line). Ok (table_text columns (titles ∷ map (λ row. map (λ c. c.1) (row_columns labels row)) shown))) (titles_given labels),
+)
 
--- groups are in order if they are sorted
-in_order_if : (sorted : Bool) (groups : List GroupModel) → IsSortedBy is_before (in_order is_before groups) → sorted ≡ true
-    → IsSortedBy is_before (shown_groups sorted groups)
-in_order_if true groups up e = up
-in_order_if false groups up e = absurd (true≢false (sym e))
+-- the line of a group has what a row has in the columns of the fields
+abbrev column_text : Option Labelling → RowView → KeyField → Text
+column_text labels row field = option_map_or (λ c. c.1) (find (λ c. bytes_eq c.0 (field_name field)) (row_columns labels row)) []
+
+text_of_field : (labels : Option Labelling) (row : RowView) (field : KeyField) → part_text (key_part (label_where labels) row field) ≡ column_text labels row field
+text_of_field labels row SourceAddress = refl
+text_of_field labels row DestinationAddress = refl
+text_of_field labels row SourcePort = refl
+text_of_field labels row DestinationPort = refl
+text_of_field labels row Protocol = refl
+text_of_field labels row Flags = refl
+text_of_field None row SourceLabel = refl
+text_of_field (Some l) row SourceLabel = refl
+text_of_field None row DestinationLabel = refl
+text_of_field (Some l) row DestinationLabel = refl
+
+texts_of_fields : (labels : Option Labelling) (row : RowView) (fields : List KeyField)
+    → map part_text (key_of (label_where labels) fields row) ≡ map (column_text labels row) fields
+texts_of_fields labels row [] = refl
+texts_of_fields labels row (field ∷ fields) = λ i. text_of_field labels row field i ∷ texts_of_fields labels row fields i
+
+abbrev group_line : List KeyField → Option Labelling → RowView × List RowView → Line
+group_line fields labels g =
+    let rows : List RowView = g.0 ∷ g.1 in
+    map (column_text labels g.0) fields ++ decimal (length rows) ∷ decimal (sum_by (λ r. r.packets) rows) ∷ decimal (sum_by (λ r. r.octets) rows) ∷ []
+
+lines_of_groups : (fields : List KeyField) (labels : Option Labelling) (groups : List (RowView × List RowView))
+    → map group_fields (map (group_with (label_where labels) fields) groups) ≡ map (group_line fields labels) groups
+lines_of_groups fields labels [] = refl
+lines_of_groups fields labels (group ∷ groups) =
+    let g = group_with (label_where labels) fields group in
+    λ i. (texts_of_fields labels group.0 fields i ++ decimal g.totals.records ∷ decimal g.totals.packets ∷ decimal g.totals.octets ∷ [])
+    ∷ lines_of_groups fields labels groups i
 
 -- two texts that a command prints are equal
 only : (command : Command) (texts : ByFile Text) → (outcome : Outcome) × IsOutput command texts outcome × ((other : Outcome) → IsOutput command texts other → other ≡ outcome)
@@ -142,13 +181,16 @@ only command texts (outcome, made, one) {this} {that} first second =
     cc
 
 pub returns : goal.returns
-returns c (Label file addr) texts out is =
-    same_under (λ labels. Prints (label_text (addr.version, addr.value) labels)) (λ other. Label other addr) texts (λ other map list outcome found. found) file out is
+returns c (Label file addr) texts out is = (
+  same_under (λ labels. Prints (label_text (addr.version, addr.value) labels)) (λ other. Label other addr) texts (λ other map list outcome. (λ h. h, λ h. h)),
+  line_of_label (addr.version, addr.value) file texts out is,
+)
 returns c (Info flows) texts out is =
     flows_keep (λ labels messages. Prints (info_text (counts_of messages))) (λ labels messages. Prints (info_text (summed_counts messages)))
     (λ labels messages text made. made ∙ ap (λ counts. Ok (info_text counts)) (c.counts_add_up.ensures.each messages)) None texts out is
 returns c (Rows file condition columns flows) texts out is = (
-  same_report (report_of_rows condition columns) texts (λ other. Rows other condition columns flows) (λ other map list outcome found. found) file out is,
+  same_under (λ labels. ReportsOf (report_of_rows condition columns) (Some labels) texts.flows)
+      (λ other. Rows (Some other) condition columns flows) texts (λ other map list outcome. (λ h. h, λ h. h)),
   flows_keep (λ labels messages. Prints (report_of_rows condition columns labels messages))
       (λ labels messages. PrintsRows columns labels (rows_left condition labels (rows_of_messages messages)))
       (λ labels messages text made.
@@ -159,28 +201,29 @@ returns c (Rows file condition columns flows) texts out is = (
       file texts out is,
 )
 returns c (Uniq fields file condition sorted columns flows) texts out is = (
-  same_report (report_of_groups fields condition sorted columns) texts (λ other. Uniq fields other condition sorted columns flows)
-      (λ other map list outcome found. found) file out is,
+  same_under (λ labels. ReportsOf (report_of_groups fields condition sorted columns) (Some labels) texts.flows)
+      (λ other. Uniq fields (Some other) condition sorted columns flows) texts (λ other map list outcome. (λ h. h, λ h. h)),
   flows_keep (λ labels messages. Prints (report_of_groups fields condition sorted columns labels messages))
       (λ labels messages. PrintsGroups fields sorted columns labels (rows_left condition labels (rows_of_messages messages)))
       (λ labels messages text made.
       let shown : List RowView = passing_rows condition labels messages in
-      let groups : List GroupModel = groups_of fields (label_where labels) shown in (
-        shown_groups sorted groups,
-        subst (λ (left : List RowView). DivideRows (key_of (label_where labels) fields) left (shown_groups sorted groups))
-            (c.options_hold_together.ensures.left condition labels (rows_of_messages messages))
-            (c.groups_divide_the_rows.ensures fields (label_where labels) sorted shown),
-        in_order_if sorted groups (c.sorted_groups_are_in_order.ensures.ascends groups),
-        made,
+      let (groups, divide, are) = c.rows_are_grouped_by_fields.ensures fields (label_where labels) sorted shown in (
+        groups,
+        subst (λ (left : List RowView). AreGrouped (label_where labels) fields sorted left (map (λ g. g.0 ∷ g.1) groups))
+            (c.options_hold_together.ensures.left condition labels (rows_of_messages messages)) divide,
+        made
+            ∙ ap (λ (lines : List Line). Ok (table_text columns (group_titles fields ∷ lines)))
+            (ap (map group_fields) are ∙ lines_of_groups fields labels groups),
       ))
       file texts out is,
 )
 returns c (Cat file) texts out is = (
-  same_under PrintsRuns Cat texts (λ other map list outcome found. found) file out is,
+  same_under PrintsRuns Cat texts (λ other map list outcome. (λ h. h, λ h. h)),
   labels_keep PrintsRuns PrintsEachOnce
       (λ labels text (lines, runs, made). (
         runs.runs,
         (λ a below. c.runs_cover_each_address_once.ensures.once labels.version labels.label runs.runs runs.are a below),
+        (λ r s. apart-runs labels.label 0 (2 ^ width_of labels.version) runs.runs runs.are r s),
         made ∙ ap Ok runs.is,
       ))
       file texts out is,
@@ -194,12 +237,12 @@ returns c (Shrink map shrunk.Certificate) texts out is =
     let (m, reads, found) = printed_of InMap (PrintsMinimal shrunk.Certificate) (map_reading texts.map) out is in
     let (l, k, all) = c.shrunk_list_is_least.ensures map texts m reads in
     let (text, printed, again) = all.prints in
-    (m, l, k, reads, all.shortest, all.certificate, ap format_reading (only (Shrink map shrunk.Certificate) texts (c.one_output.ensures (Shrink map shrunk.Certificate) texts) is printed) ∙ again)
+    (m, l, k, reads, all, ap format_reading (only (Shrink map shrunk.Certificate) texts (c.one_output.ensures (Shrink map shrunk.Certificate) texts) is printed) ∙ again)
 returns c (Shrink map shrunk.Compact) texts out is =
     let (m, reads, found) = printed_of InMap (PrintsMinimal shrunk.Compact) (map_reading texts.map) out is in
     let (l, k, all) = c.shrunk_list_is_least.ensures map texts m reads in
     let (text, printed, again) = all.prints_compact in
-    (m, l, k, reads, all.shortest, all.certificate, ap format_reading (only (Shrink map shrunk.Compact) texts (c.one_output.ensures (Shrink map shrunk.Compact) texts) is printed) ∙ again)
+    (m, l, k, reads, all, ap format_reading (only (Shrink map shrunk.Compact) texts (c.one_output.ensures (Shrink map shrunk.Compact) texts) is printed) ∙ again)
 returns c (Check map list certificate) texts out is =
     let (m, l, k, reads_map, reads_list, reads, none, text) = checked_of map texts out is in
     let form = ((c.text_of_format_is_read_or_has_a_fault.ensures.read texts.certificate k).0 reads).0 in

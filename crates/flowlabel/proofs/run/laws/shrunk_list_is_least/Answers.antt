@@ -35,10 +35,8 @@ returns c name texts m reads =
           entries = (c.minimal_list_can_be_read_again.ensures.form texts.map m l k reads pair).entries;
           order = (c.minimal_list_is_in_order.ensures m l k pair (c.map_text_has_its_labels.ensures texts.map m reads)).order;
         };
-        certificate = record {
-          accepted = faultless m l k accepted;
-          compact_accepted = faultless m l (compact k) (c.compact_keeps_acceptance.ensures m l k formed.format accepted);
-        };
+        accepted = faultless m l k accepted;
+        compact_accepted = faultless m l (compact k) (c.compact_keeps_acceptance.ensures m l k formed.format accepted);
         prints_list = (
           list_text l,
           (rw reads (l, k, pair, refl)),

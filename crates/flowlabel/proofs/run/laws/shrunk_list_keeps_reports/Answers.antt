@@ -1,0 +1,43 @@
+use Rattle.std.proofs.Common.{◌≡◌, ◌∙◌, Some, Ok, ap, refl}
+use Rattle.pmap_text.specs.ListModel.{IsEquivalent, ListModel}
+use Rattle.pmap_text.specs.Reading.{list_reading}
+use Rattle.label_lookup.specs.Labelling.{labelling_of_map}
+use Rattle.flowlabel.specs.Headline.{IsReadAgain}
+use Rattle.flowlabel.specs.Output.{IsOutput}
+use Rattle.flowlabel.specs.ByFile.{ByFile}
+use Rattle.flowlabel.specs.Request.{Rows, Shrink, Text, Uniq}
+use Rattle.flowlabel.specs.declared.command.LabelFile.TheVariants.{Map}
+use Rattle.flowlabel.specs.declared.command.Shrunk.TheVariants as shrunk
+use Rattle.flowlabel.proofs.Outcomes.{report_of_groups, report_of_rows}
+use Rattle.flowlabel.proofs.run.laws.shrunk_list_keeps_reports.Goals as goal
+
+pub returns : goal.returns
+returns c name texts m messages printed reads reads_flows is =
+    let (l, k, all) = c.shrunk_list_is_least.ensures name texts m reads in
+    let (text, shrinks, again) = all.prints_list in
+    let (outcome, made, one) = c.one_output.ensures (Shrink name shrunk.List) texts in
+    let left : Ok printed ≡ outcome = one (Ok printed) is in
+    let right : Ok text ≡ outcome = one (Ok text) shrinks in
+    let same : printed ≡ text = cc in (
+      l,
+      same ∙ again.0,
+      λ few few_labels.
+          let read : IsReadAgain l text = again.1 few few_labels in
+          let list : ListModel = record l { table = read.table } in
+          let reads_list : list_reading printed ≡ Ok list = ap list_reading same ∙ read.reads in
+          let alike : IsEquivalent list m = record { version = all.shortest.equivalent.version; labels = all.shortest.equivalent.labels } in
+          let given : ByFile Text = record texts { list = printed } in (
+            λ condition columns.
+                let out : Text = report_of_rows condition columns (Some (labelling_of_map m)) messages in
+                let under_map : IsOutput (Rows (Some (Map name)) condition columns name) texts (Ok out) = rw (reads, reads_flows) refl in
+                let with_list : IsOutput (Rows (Some (Map name)) condition columns name) given (Ok out) = under_map in
+                let (under, says) = c.output_keeps_headline.ensures (Rows (Some (Map name)) condition columns name) texts out under_map in
+                (out, under_map, (under name m list texts.map printed (Ok out) reads reads_list alike).0 with_list, rw (reads, reads_flows) at says),
+            λ fields condition sorted columns.
+                let out : Text = report_of_groups fields condition sorted columns (Some (labelling_of_map m)) messages in
+                let under_map : IsOutput (Uniq fields (Some (Map name)) condition sorted columns name) texts (Ok out) = rw (reads, reads_flows) refl in
+                let with_list : IsOutput (Uniq fields (Some (Map name)) condition sorted columns name) given (Ok out) = under_map in
+                let (under, says) = c.output_keeps_headline.ensures (Uniq fields (Some (Map name)) condition sorted columns name) texts out under_map in
+                (out, under_map, (under name m list texts.map printed (Ok out) reads reads_list alike).0 with_list, rw (reads, reads_flows) at says),
+          ),
+    )
