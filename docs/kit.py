@@ -264,6 +264,10 @@ LIBRARY = {
     "OnErr": (2, "the statement holds, if it is a fault", lambda r, p: is_ok(r) or p),
     "MatchResult": (3, "one statement of the result, or another one of the fault", lambda r, p, q: (
         apply(p if is_ok(r) else q, r.args[0]))),
+    "Appends": (3, "if the bytes before are known, those after are, and are these bytes more", lambda old, new, items: (
+        not is_some(old) or is_some(new) and new.args[0] == old.args[0] + items)),
+    "Consumes": (3, "if the bytes before are known, those after are, and are these bytes fewer", lambda old, new, items: (
+        not is_some(old) or is_some(new) and old.args[0] == items + new.args[0])),
     "codes": (1, "the bytes of a text", lambda text: text), "string_bytes": (1, "the same", lambda s: s.f_bytes.f_items),
     "decimal": (1, "the decimal digits of a number", lambda n: codes(str(n))),
     "digits": (3, "the digits of a number in a base, upper-case or not", digits),

@@ -76,7 +76,10 @@ class Parser:
             self.next()
             return ("function", [name.rstrip(".") for name in names], self.term())
         if word == "let":
-            _, name, _ = self.next(), self.next(), self.next("=")
+            _, name = self.next(), self.next()
+            if self.next("=", ":") == ":":
+                self.term()
+                self.next("=")
             value, _ = self.term(), self.next("in")
             return ("let", name, value, self.term())
         if word == "if":
