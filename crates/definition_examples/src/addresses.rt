@@ -199,6 +199,7 @@ pub fn other_texts_are_no_block()
     ensures both_malformed { block_of_text (codes "10.0.0/33") ≡ Err BadAddress }
     ensures a_word { block_of_text (codes "x/8") ≡ Err BadAddress }
     ensures the_length_belongs_to_the_version_as_written { block_of_text (codes "10.0.0.0/104") ≡ Err BadLength }
+    ensures a_colon_in_a_length { block_of_text (codes "10.0.0.0/1:") ≡ Err BadLength }
 {}
 
 /// RFC 4291, section 2.5.5.2.
@@ -207,4 +208,5 @@ pub fn an_address_has_another_version()
     ensures ipv4_as_ipv6 { converted V6 (V4, 0x0a00_0001) ≡ Some (V6, 0xffff_0a00_0001) }
     ensures no_ipv4_address { converted V4 (V6, 0x0a00_0001) ≡ None }
     ensures the_same_version { converted V6 (V6, 1) ≡ Some (V6, 1) }
+    ensures ipv4_within_ipv6 { address_of (codes "::255.255.0.0") ≡ Some (V6, 0xffff_0000) }
 {}

@@ -4,7 +4,9 @@
 ghost use Rattle.definition_examples.specs.Maps.{by_map};
 ghost use Rattle.definition_examples.specs.Reports.{uniq, uniq_of_parts, unlabelled};
 ghost use Rattle.definition_examples.specs.Rows.{tcp, tcp_back};
+ghost use Rattle.flow_uniq.specs.Key.{fields_need_labels};
 ghost use Rattle.flow_uniq.specs.declared.fault.KeyFault.TheVariants.{BadField, FieldRepeated};
+ghost use Rattle.flow_uniq.specs.declared.field.KeyField.TheVariants.{Flags, SourceAddress, SourceLabel};
 ghost use Rattle.prefix_keys.specs.declared.version.Version.TheVariants.{V4, V6};
 ghost use Rattle.std.specs.Prelude.{◌≡◌, ◌∷◌, [], codes, Err, false, Ok, true};
 
@@ -165,6 +167,9 @@ pub fn u1_and_u2()
     ensures twice_with_one_between { uniq (codes "sip,dip,sip") false unlabelled [] ≡ Err FieldRepeated }
     ensures twice_before_an_unknown_one { uniq (codes "sip,sip,x") false unlabelled [] ≡ Err BadField }
     ensures a_label_twice { uniq (codes "src-label,src-label") false unlabelled [] ≡ Err FieldRepeated }
+    ensures a_blank_between { uniq (codes "sip dip") false unlabelled [] ≡ Err BadField }
+    ensures one_label_of_two_fields { fields_need_labels (SourceAddress ∷ SourceLabel ∷ []) ≡ true }
+    ensures no_label { fields_need_labels (SourceAddress ∷ Flags ∷ []) ≡ false }
 {}
 
 /// The groups of parts of the rows, merged by key: their records, packets and bytes are added.

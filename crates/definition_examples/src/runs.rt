@@ -1,7 +1,7 @@
 //! Printed runs, as `cat` prints them: FORMATS.md, "Printed texts".
 #![tactic(auto, unfolding(crate::specs::Addresses::opened))]
 
-ghost use Rattle.pmap_text.specs.Runs.{AreRuns, HasOneRun};
+ghost use Rattle.pmap_text.specs.Runs.{AreRuns, HasOneRun, HasOneLabel};
 ghost use Rattle.pmap_text.specs.RunsText.{runs_text};
 ghost use Rattle.prefix_keys.specs.declared.version.Version.TheVariants.{V4, V6};
 ghost use Rattle.std.specs.Prelude.{◌≡◌, ◌∷◌, [], codes, None, Some, nat_lt, if◌then◌else◌};
@@ -37,4 +37,13 @@ pub fn runs_divide_the_addresses()
     ensures two_runs_have_the_address { HasOneRun (λ a. if nat_lt a 2 then Some (codes "A") else None) (record { low = 0; high = 1; label = Some (codes "A") } ∷ record { low = 1; high = 3; label = None } ∷ []) 1 → ⊥ }
     ensures no_run_has_the_address { HasOneRun (λ a. if nat_lt a 2 then Some (codes "A") else None) (record { low = 0; high = 0; label = Some (codes "A") } ∷ record { low = 2; high = 3; label = None } ∷ []) 1 → ⊥ }
     ensures a_run_of_another_label { HasOneRun (λ a. if nat_lt a 2 then Some (codes "A") else None) (record { low = 0; high = 1; label = None } ∷ record { low = 2; high = 3; label = None } ∷ []) 1 → ⊥ }
+    ensures the_last_two_of_one_label { AreRuns (λ a. if nat_lt a 2 then Some (codes "A") else None) 0 4 ((record { low = 0; high = 1; label = Some (codes "A") }) ∷ (record { low = 2; high = 2; label = None }) ∷ (record { low = 3; high = 3; label = None }) ∷ []) → ⊥ }
+{}
+
+/// The addresses 0 and 1 have another label than those from 2 on.
+pub fn a_run_has_one_label()
+    ensures of_one_address { HasOneLabel (λ a. if nat_lt a 2 then None else Some (codes "A")) (record { low = 1; high = 1; label = None }) }
+    ensures no_address { HasOneLabel (λ a. if nat_lt a 2 then None else Some (codes "A")) (record { low = 1; high = 0; label = None }) → ⊥ }
+    ensures the_first_has_another { HasOneLabel (λ a. if nat_lt a 2 then Some (codes "A") else None) (record { low = 1; high = 2; label = None }) → ⊥ }
+    ensures the_last_has_another { HasOneLabel (λ a. if nat_lt a 2 then None else Some (codes "A")) (record { low = 1; high = 2; label = None }) → ⊥ }
 {}
