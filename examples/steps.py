@@ -72,8 +72,8 @@ class Steps:
 
     def undo(self, action, *words):
         """Names what undoes the next step, whether or not that step does anything before it fails."""
-        self.check()
         self.undoing.append((action, *words))
+        self.check()
 
     def at_end(self, action, *words):
         """Names what remains to do when nothing can fail any more."""
@@ -96,6 +96,9 @@ class Steps:
             raise shared.Failure(f"there is no {words[0]} (Debian: {package})")
         with subprocess.Popen(words, stdin=subprocess.PIPE, stdout=subprocess.PIPE, stderr=subprocess.PIPE, text=True,
                               errors="surrogateescape") as self.program:
+            # A signal may have come while the program was started.
+            if self.signal and not self.is_quiet:
+                self.program.terminate()
             output, said = self.program.communicate(stdin)
         status, self.program = self.program.returncode, None
         self.check()

@@ -1,0 +1,50 @@
+"""Two maps of nftables with intervals, for examples/table. All lines of a file take effect at once, or none does."""
+
+import re
+
+import shared
+from table_kind import Table as Kind
+from table_kind import text
+
+ENTRY = re.compile(r"([0-9a-f.:]+)(?:/(\d+)|-([0-9a-f.:]+))? : (0x[0-9a-f]+)")
+
+
+class Table(Kind):
+    """Maps from ranges to numbers of labels."""
+
+    of_ranges = can_update = True
+
+    def elements(self, verb, version, half):
+        """Yields the lines that add or delete elements."""
+        if half:
+            yield f"{verb} element inet {self.name} label{version} {{"
+            yield from (f"{key} : {number}," for key, number in half.items())
+            yield "}"
+
+    def inputs(self, halves):
+        lines = [f"add table inet {self.name}"]
+        for version, half in halves.items():
+            lines += [f"add map inet {self.name} label{version} {{ type ipv{version}_addr : mark; flags interval; }}",
+                      f"flush map inet {self.name} label{version}", *self.elements("add", version, half)]
+        return {".nft": text(lines)}
+
+    def switch(self, halves):
+        # What nft does can't be undone, so it is the last step, which no signal ends.
+        self.steps.quiet()
+        self.run("nft", "-f", "-", stdin=self.inputs(halves)[".nft"])
+
+    def content(self, version):
+        for low, length, high, number in ENTRY.findall(
+                self.run("nft", "-n", "list", "map", "inet", self.name, f"label{version}")):
+            if length:
+                high = shared.address_text(version, shared.ends(*shared.block(f"{low}/{length}"))[1])
+            yield f"{low}-{high or low}", int(number, 16)
+
+    def update(self, differences):
+        lines = []
+        for verb, side in (("delete", 0), ("add", 1)):
+            for version, half in differences.items():
+                changed = {key: pair[side] for key, pair in half.items() if pair[side] is not None}
+                lines += self.elements(verb, version, changed)
+        self.steps.quiet()
+        self.run("nft", "-f", "-", stdin=text(lines))
