@@ -1,6 +1,8 @@
-use Rattle.std.specs.Prelude.{◌≡◌, ◌+◌, ◌*◌, ℕ, List, [], ◌∷◌, ◌++◌, Option, Some, Result, Ok, Err, codes, false, unwrap_or}
+use Rattle.std.specs.Prelude.{◌≡◌, ◌+◌, ◌*◌, ◌==◌, ℕ, Bool, List, [], ◌∷◌, ◌++◌, Option, None, Some, Result, Ok, Err, codes, false, if◌then◌else◌, unwrap_or}
 use Rattle.std.specs.Borrow.{Bor}
 use Rattle.std.specs.Fmt.{digits}
+use Rattle.std.specs.List.{list_any, slice_split}
+use Rattle.std.specs.Str.{bytes_eq}
 use Rattle.std.specs.String.{string_bytes}
 use lib.Dec.{lit<}
 use Rattle.prefix_keys.specs.Text.{hex_digit_value}
@@ -16,12 +18,17 @@ use Rattle.pmap_cert.specs.FormatReading.{format_reading, nodes_at}
 use Rattle.pmap_cert.specs.declared.fault.CertFault.{CertFault}
 use Rattle.flow_filter.specs.declared.option.FilterOption.{FilterOption}
 use Rattle.flow_uniq.specs.declared.field.KeyField.{KeyField}
+use Rattle.clap.specs.Words.{fault_of}
+use Rattle.flow_io.specs.Devices.{InputView, OutputView}
+use Rattle.flow_io.specs.declared.devices.LastCall.{LastCall}
+use Rattle.flowlabel.specs.Answer.{Answers, UsageFault, is_help, is_mistake}
 use Rattle.flowlabel.specs.BytesFault.{role_of}
 use Rattle.flowlabel.specs.ByFile.{ByFile, at}
+use Rattle.flowlabel.specs.Definition.{flowlabel_app}
 use Rattle.flowlabel.specs.Faults.{exit_status_of, fault_text}
 use Rattle.flowlabel.specs.Output.{IsOutput, Outcome}
-use Rattle.flowlabel.specs.Request.{Check, Command, Info, Label, Recert, Rows, Text, Uniq, files_of, request_of}
-use Rattle.flowlabel.specs.Run.{File, RunFault, Usage}
+use Rattle.flowlabel.specs.Request.{Check, Command, Info, Label, Recert, Request, Rows, Text, Uniq, files_of, request_of}
+use Rattle.flowlabel.specs.Run.{File, RunFault, Source, Usage}
 use Rattle.flowlabel.specs.declared.command.LabelFile.{LabelFile}
 use Rattle.flowlabel.specs.declared.command.LabelFile.TheVariants.{Map, List as Prefixes}
 use Rattle.flowlabel.specs.declared.usage.UsageFault.TheVariants.{Help}
@@ -181,6 +188,58 @@ Keeps option text = Writes (Rows (Some by_map) ((option, text) ∷ []) false day
 -- `uniq` by these fields writes these lines for the File of one flow with the labels
 abbrev pub Groups : List KeyField → Text → Type 0
 Groups fields out = Writes (Uniq fields (Some by_map) [] false false day) labelled_flow out
+
+-- Claims about command lines, whose words are those between the blanks of a text.
+
+abbrev pub words_of : Text → List Text
+words_of line = slice_split (λ b. b == 32) line
+
+-- the command line asks for this, or has this fault
+abbrev pub Asks : Text → Request → Type 0
+Asks line request = Answers (words_of line) (Ok request)
+
+abbrev pub HasUsageFault : Text → UsageFault → Type 0
+HasUsageFault line fault = Answers (words_of line) (Err fault)
+
+-- clap refuses the command line, or it asks for help or the version
+abbrev pub is_refused : Text → Bool
+is_refused line = list_any is_mistake (fault_of flowlabel_app (words_of line))
+
+abbrev pub asks_for_help : Text → Bool
+asks_for_help line = list_any is_help (fault_of flowlabel_app (words_of line))
+
+-- Claims about files and their readers. The reader of a file is what contracts see of it.
+
+-- a file with this name can be opened, and its reader is then this number; no other file can
+abbrev pub opens : Text → Option ℕ → Type 0
+opens name reader = reader ≡ (if bytes_eq name (codes "there") then Some 7 else None)
+
+-- a file with a name and a reader
+abbrev pub file_with : {R : Type 0} → Text → R → Option (Source R)
+file_with name reader = Some (record { name = named name; reader = reader })
+
+-- something for each file, in the order in which they are read
+abbrev pub of_files : {T : Type 0} → T → T → T → T → ByFile T
+of_files map list certificate flows = record { map = map; list = list; certificate = certificate; flows = flows }
+
+-- a reader that has returned these bytes and reads these ahead; whether it has ended, and whether it has failed
+abbrev pub reader_of : Bool → Bool → Text → Text → InputView
+reader_of failed ended returned ahead =
+    record { failed = failed; returned = returned; fetched = returned ++ ahead; ahead = ahead; stopped = ended; left = None }
+
+abbrev pub seen_of : InputView → InputView
+seen_of view = view
+
+-- the files of `label` under a map, with the map's reader
+abbrev pub map_read : InputView → ByFile (Option (Source InputView))
+map_read reader = of_files (file_with (codes "map.txt") reader) None None None
+
+-- a writer that has taken these bytes, whose last call was this one, and that has failed or not
+abbrev pub writer_of : Bool → LastCall → Text → OutputView
+writer_of failed last taken = record { failed = failed; last_call = last; taken = taken; contents = None }
+
+abbrev pub shown_of : OutputView → OutputView
+shown_of view = view
 
 -- The examples unfold `opened`, and with it the opaque definitions that are named here after `unfolding`.
 unfoldable pub opened : List ℕ → Result CertificateModel CertFault

@@ -4,20 +4,40 @@
 //! small, and what they give is worked out by hand from the rules of docs/FORMATS.md, or is in that page or an RFC.
 #![tactic(auto, unfolding(crate::specs::Examples::opened))]
 
-ghost use Rattle.std.specs.Prelude.{◌≡◌, ◌++◌, ◌∷◌, [], Err, None, Some, codes, false, replicate, take, true};
+ghost use Rattle.flow_io.specs.declared.devices.LastCall.TheVariants.{Flush, Nothing};
+ghost use Rattle.flowlabel.specs.Answer.{is_help, is_mistake, words_fault_of};
+ghost use Rattle.flowlabel.specs.ByFile.{each, turn};
+ghost use Rattle.flowlabel.specs.BytesFault.{certificate_fault_name, check_fault_name, flows_fault_name, map_fault_name};
+ghost use Rattle.flowlabel.specs.Ending.{IsReported, IsWritten};
+ghost use Rattle.flowlabel.specs.Faults.{filter_fault_text, key_fault_text};
+ghost use Rattle.flowlabel.specs.Opening.{AreOpened, CanOpen, CannotOpenFirst, CannotOpenNamed, IsOpened};
+ghost use Rattle.flowlabel.specs.declared.bytes_fault.BytesFault.TheVariants.{Map as InMap, Flows as InFlows};
+ghost use Rattle.ipfix_read.specs.declared.fault.ReadFaultKind.TheVariants.{TooManyMessages};
+ghost use Rattle.pmap_text.specs.declared.fault.MapFaultKind.TheVariants.{NoMemory as NoMemoryForMap, TooMany};
+ghost use Rattle.prefix_keys.specs.declared.version.Version.TheVariants.{V4, V6};
+ghost use Rattle.std.specs.Prelude.{◌≡◌, ◌++◌, ◌∷◌, [], Err, None, Some, codes, false, replicate, take, true, ◌+◌, Ok};
 ghost use Rattle.std.specs.String.{string_bytes};
 ghost use Rattle.std.specs.declared.alloc.Global.{Global};
 ghost use Rattle.std.specs.declared.string.String.{String};
-ghost use Rattle.flow_filter.specs.declared.fault.FilterFaultKind.TheVariants.{BadNumberList};
+ghost use Rattle.flow_filter.specs.declared.fault.FilterFaultKind.TheVariants.{BadNumberList, BadBlock, BadRange};
 ghost use Rattle.flow_filter.specs.declared.option.FilterOption.TheVariants.{AnyLabel, Bytes, DestinationAddress, DestinationLabel, DestinationPort, Packets, Protocol, SourceAddress, SourceLabel, SourcePort};
-ghost use Rattle.flow_uniq.specs.declared.fault.KeyFault.TheVariants.{BadField};
+ghost use Rattle.flow_uniq.specs.declared.fault.KeyFault.TheVariants.{BadField, FieldRepeated, NoMemory as NoMemoryForKeys};
 ghost use Rattle.flow_uniq.specs.declared.field.KeyField.TheVariants as field;
-ghost use Rattle.flowlabel.specs.Examples.{Checks, Counts, Drops, Groups, HasCertificateFault, HasCheckFault, HasFlowsFault, HasListFault, HasMapFault, Keeps, Labels, LabelsByList, Recerts, Reports, StandardError, StandardOutput, Writes, both_ways, by_list, by_map, day, empty, halves_certificate, halves_map, head, labelled_flow, labelled_header, long_address, named, of_flows, of_list, of_map, one_flow, quarters_list, quarters_map, quarters_nodes, seen};
-ghost use Rattle.flowlabel.specs.Run.{CannotOpen, CannotRead, CannotWrite, MayHave, NoMemory, Usage};
-ghost use Rattle.flowlabel.specs.Request.{Text};
+ghost use Rattle.flowlabel.specs.Examples.{Checks, Counts, Drops, Groups, HasCertificateFault, HasCheckFault, HasFlowsFault, HasListFault, HasMapFault, Keeps, Labels, LabelsByList, Recerts, Reports, StandardError, StandardOutput, Writes, both_ways, by_list, by_map, day, empty, halves_certificate, halves_map, head, labelled_flow, labelled_header, long_address, named, of_flows, of_list, of_map, one_flow, quarters_list, quarters_map, quarters_nodes, seen, Asks, HasUsageFault, asks_for_help, is_refused, file_with, map_read, of_files, opens, reader_of, seen_of, shown_of, writer_of};
+ghost use Rattle.flowlabel.specs.Run.{CannotOpen, CannotRead, CannotWrite, MayHave, NoMemory, Usage, File, AreAllFetched, AreLaterUntouched, AreTexts, AreUnread, IsNamed, any_failed, view_of};
+ghost use Rattle.flowlabel.specs.Request.{Text, FromList, FromMap, IsProper};
 ghost use Rattle.flowlabel.specs.declared.command.Command.TheVariants as command;
 ghost use Rattle.flowlabel.specs.declared.command.Shrunk.TheVariants as shrunk;
 ghost use Rattle.flowlabel.specs.declared.usage.UsageFault.TheVariants as usage;
+ghost use Rattle.clap.specs.declared.error.kind.ErrorKind.TheVariants as kind;
+ghost use Rattle.std.specs.declared.io.ErrorKind.TheVariants as io;
+ghost use Rattle.flowlabel.specs.Request as ask;
+ghost use Rattle.ipfix_read.specs.declared.fault.ReadFaultKind.TheVariants as flows;
+ghost use Rattle.pmap_cert.specs.declared.fault.CertFaultKind.TheVariants as certificate;
+ghost use Rattle.cert_check.specs.declared.fault.CheckFaultKind.TheVariants as check;
+ghost use Rattle.flow_filter.specs.declared.fault.FilterFaultKind.TheVariants as filters;
+ghost use Rattle.flowlabel.specs.declared.by_file.Role.TheVariants as role;
+ghost use Rattle.flowlabel.specs.declared.output_fault.OutputFault.TheVariants as output;
 
 /// FORMATS.md, "Statements" and "Addresses and versions": the label of 10.1.2.3 under a map.
 pub fn label_prints_a_line()
@@ -222,6 +242,16 @@ pub fn a_run_reports_any_other_fault()
     ensures cannot_open { seen (Err (CannotOpen (named (codes "day.ipfix")))) ≡ (4, StandardError, codes "flowlabel: day.ipfix: cannot open\n") }
     ensures cannot_read { seen (Err (CannotRead (named (codes "day.ipfix")))) ≡ (4, StandardError, codes "flowlabel: day.ipfix: cannot read\n") }
     ensures cannot_write { seen (Err CannotWrite) ≡ (4, StandardError, codes "flowlabel: output: cannot write\n") }
+    ensures not_utf8 { seen (Err (Usage usage.NotUtf8)) ≡ (2, StandardError, codes "flowlabel: usage: P1 NotUtf8\n") }
+    ensures two_sources { seen (Err (Usage usage.MapTwice)) ≡ (2, StandardError, codes "flowlabel: usage: P3 MapTwice\n") }
+    ensures no_address { seen (Err (Usage usage.BadAddress)) ≡ (2, StandardError, codes "flowlabel: usage: P4 BadAddress\n") }
+    ensures no_map_for_labels { seen (Err (Usage usage.LabelNeedsMap)) ≡ (2, StandardError, codes "flowlabel: usage: P5 LabelNeedsMap\n") }
+    ensures compact_alone { seen (Err (Usage usage.CompactAlone)) ≡ (2, StandardError, codes "flowlabel: usage: P6 CompactAlone\n") }
+    ensures a_range { seen (Err (Usage (usage.Filter (record { option = Packets; kind = BadRange })))) ≡ (2, StandardError, codes "flowlabel: usage: --packets L2 BadRange\n") }
+    ensures a_block { seen (Err (Usage (usage.Filter (record { option = DestinationAddress; kind = BadBlock })))) ≡ (2, StandardError, codes "flowlabel: usage: --daddress L3 BadBlock\n") }
+    ensures a_field_twice { seen (Err (Usage (usage.Key FieldRepeated))) ≡ (2, StandardError, codes "flowlabel: usage: --fields U2 FieldRepeated\n") }
+    ensures a_fault_of_a_map { seen (Err (File (named (codes "m")) (InMap (record { kind = TooMany; line = 7 })))) ≡ (1, StandardError, codes "flowlabel: m: M12 TooMany at 7\n") }
+    ensures too_many_messages { seen (Err (File (named (codes "day")) (InFlows (record { kind = TooManyMessages; offset = 9 })))) ≡ (1, StandardError, codes "flowlabel: day: F9 TooManyMessages at 9\n") }
 {}
 
 /// A file that was read to its end has the bytes that were read. Any bytes may follow those of another file.
@@ -229,4 +259,192 @@ pub fn a_file_may_have_a_text()
     ensures whole { (text : Text) → MayHave (record { failed = false; returned = codes "mode ipv4\n"; fetched = codes "mode ipv4\n"; ahead = []; stopped = true; left = None }) text → text ≡ codes "mode ipv4\n" }
     ensures begun { (rest : Text) → MayHave (record { failed = false; returned = codes "mode ipv4\n"; fetched = codes "mode ipv4\n"; ahead = []; stopped = false; left = None }) (codes "mode ipv4\n" ++ rest) }
     ensures not_at_its_end { (rest : Text) → MayHave (record { failed = false; returned = codes "mode ipv4\n"; fetched = codes "mode ipv4\n"; ahead = []; stopped = true; left = Some (codes "x") }) (codes "mode ipv4\n" ++ rest) }
+{}
+
+/// FORMATS.md, "Commands" and "Filters": what the words of a command line ask for.
+pub fn a_command_line_asks_for_a_command()
+    ensures label_by_a_map { Asks (codes "flowlabel label --pmap m 10.1.2.3") (ask.label (FromMap (codes "m")) (V4, 0x0a01_0203)) }
+    ensures label_by_a_list { Asks (codes "flowlabel label --list l ::1") (ask.label (FromList (codes "l")) (V6, 1)) }
+    ensures info { Asks (codes "flowlabel info day") (ask.info (codes "day")) }
+    ensures rows { Asks (codes "flowlabel rows day") (ask.rows None [] false (codes "day")) }
+    ensures rows_with_all_options { Asks (codes "flowlabel rows --protocol 6 --sport 1 --dport 2 --saddress 10.0.0.0/8 --daddress ::1 --packets 3- --bytes 4- --src-label A --dst-label B --any-label C --pmap m --columns day") (ask.rows (Some (FromMap (codes "m"))) ((Protocol, codes "6") ∷ (SourcePort, codes "1") ∷ (DestinationPort, codes "2") ∷ (SourceAddress, codes "10.0.0.0/8") ∷ (DestinationAddress, codes "::1") ∷ (Packets, codes "3-") ∷ (Bytes, codes "4-") ∷ (SourceLabel, codes "A") ∷ (DestinationLabel, codes "B") ∷ (AnyLabel, codes "C") ∷ []) true (codes "day")) }
+    ensures uniq { Asks (codes "flowlabel uniq --fields sip,dip day") (ask.uniq (field.SourceAddress ∷ field.DestinationAddress ∷ []) None [] false false (codes "day")) }
+    ensures uniq_by_all_fields { Asks (codes "flowlabel uniq --fields sip,dip,sport,dport,proto,flags,src-label,dst-label --list l day") (ask.uniq (field.SourceAddress ∷ field.DestinationAddress ∷ field.SourcePort ∷ field.DestinationPort ∷ field.Protocol ∷ field.Flags ∷ field.SourceLabel ∷ field.DestinationLabel ∷ []) (Some (FromList (codes "l"))) [] false false (codes "day")) }
+    ensures uniq_sorted { Asks (codes "flowlabel uniq --fields proto --bytes 5 --sort-output day") (ask.uniq (field.Protocol ∷ []) None ((Bytes, codes "5") ∷ []) true false (codes "day")) }
+    ensures uniq_in_columns { Asks (codes "flowlabel uniq --fields proto --columns day") (ask.uniq (field.Protocol ∷ []) None [] false true (codes "day")) }
+    ensures cat { Asks (codes "flowlabel cat --list l") (ask.cat (FromList (codes "l"))) }
+    ensures shrink { Asks (codes "flowlabel shrink --pmap m") (ask.shrink (codes "m") shrunk.List) }
+    ensures shrink_to_a_certificate { Asks (codes "flowlabel shrink --pmap m --certificate") (ask.shrink (codes "m") shrunk.Certificate) }
+    ensures shrink_to_a_compact_certificate { Asks (codes "flowlabel shrink --pmap m --compact --certificate") (ask.shrink (codes "m") shrunk.Compact) }
+    ensures check { Asks (codes "flowlabel check --pmap m --list l --cert c") (ask.check (codes "m") (codes "l") (codes "c")) }
+    ensures recert { Asks (codes "flowlabel recert --cert c") (ask.recert (codes "c")) }
+{}
+
+/// FORMATS.md, "Statuses and fault lines": the first usage fault of a command line.
+pub fn a_command_line_has_a_usage_fault()
+    ensures no_labels { HasUsageFault (codes "flowlabel label 10.1.2.3") usage.MapMissing }
+    ensures two_sources { HasUsageFault (codes "flowlabel label --pmap m --list l x") usage.MapTwice }
+    ensures no_address { HasUsageFault (codes "flowlabel label --pmap m 10.1.2") usage.BadAddress }
+    ensures no_labels_for_cat { HasUsageFault (codes "flowlabel cat") usage.MapMissing }
+    ensures two_sources_of_cat { HasUsageFault (codes "flowlabel cat --pmap m --list l") usage.MapTwice }
+    ensures two_sources_of_rows { HasUsageFault (codes "flowlabel rows --pmap m --list l --sport x day") usage.MapTwice }
+    ensures a_malformed_option { HasUsageFault (codes "flowlabel rows --src-label A --sport x day") (usage.Filter (record { option = SourcePort; kind = BadNumberList })) }
+    ensures a_source_label_without_a_map { HasUsageFault (codes "flowlabel rows --src-label A day") usage.LabelNeedsMap }
+    ensures a_destination_label_without_a_map { HasUsageFault (codes "flowlabel rows --dst-label A day") usage.LabelNeedsMap }
+    ensures any_label_without_a_map { HasUsageFault (codes "flowlabel rows --any-label A day") usage.LabelNeedsMap }
+    ensures two_sources_of_uniq { HasUsageFault (codes "flowlabel uniq --fields x --pmap m --list l day") usage.MapTwice }
+    ensures a_malformed_option_before_a_field { HasUsageFault (codes "flowlabel uniq --fields x --bytes 5,6 day") (usage.Filter (record { option = Bytes; kind = BadRange })) }
+    ensures an_unknown_field { HasUsageFault (codes "flowlabel uniq --fields src-label,x day") (usage.Key BadField) }
+    ensures a_field_twice { HasUsageFault (codes "flowlabel uniq --fields src-label,src-label day") (usage.Key FieldRepeated) }
+    ensures a_field_of_source_labels { HasUsageFault (codes "flowlabel uniq --fields src-label day") usage.LabelNeedsMap }
+    ensures a_field_of_destination_labels { HasUsageFault (codes "flowlabel uniq --fields dst-label day") usage.LabelNeedsMap }
+    ensures uniq_by_a_label_without_a_map { HasUsageFault (codes "flowlabel uniq --fields sip --any-label A day") usage.LabelNeedsMap }
+    ensures compact_alone { HasUsageFault (codes "flowlabel shrink --pmap m --compact") usage.CompactAlone }
+{}
+
+/// FORMATS.md, "Statuses and fault lines": P0, help and the version.
+pub fn clap_refuses_other_words()
+    ensures no_command { is_refused (codes "flowlabel") ≡ true }
+    ensures help_is_an_option { is_refused (codes "flowlabel help") ≡ true }
+    ensures another_command { is_refused (codes "flowlabel lable") ≡ true }
+    ensures another_option { is_refused (codes "flowlabel cat --map m") ≡ true }
+    ensures no_address { is_refused (codes "flowlabel label --pmap m") ≡ true }
+    ensures two_addresses { is_refused (codes "flowlabel label --pmap m 10.0.0.1 10.0.0.2") ≡ true }
+    ensures no_file_for_info { is_refused (codes "flowlabel info") ≡ true }
+    ensures no_file_for_rows { is_refused (codes "flowlabel rows") ≡ true }
+    ensures no_file_for_uniq { is_refused (codes "flowlabel uniq --fields sip") ≡ true }
+    ensures no_fields { is_refused (codes "flowlabel uniq day") ≡ true }
+    ensures no_map_for_shrink { is_refused (codes "flowlabel shrink") ≡ true }
+    ensures no_map_for_check { is_refused (codes "flowlabel check --list l --cert c") ≡ true }
+    ensures no_list_for_check { is_refused (codes "flowlabel check --pmap m --cert c") ≡ true }
+    ensures no_certificate_for_check { is_refused (codes "flowlabel check --pmap m --list l") ≡ true }
+    ensures no_certificate_for_recert { is_refused (codes "flowlabel recert") ≡ true }
+    ensures rows_sorted { is_refused (codes "flowlabel rows --sort-output day") ≡ true }
+    ensures a_list_to_shrink { is_refused (codes "flowlabel shrink --list l") ≡ true }
+    ensures an_option_twice { is_refused (codes "flowlabel rows --sport 1 --sport 2 day") ≡ true }
+    ensures a_word_after_cat { is_refused (codes "flowlabel cat --pmap m x") ≡ true }
+    ensures the_version { asks_for_help (codes "flowlabel --version") ≡ true }
+    ensures help { asks_for_help (codes "flowlabel --help") ≡ true }
+    ensures help_for_a_command { asks_for_help (codes "flowlabel shrink --help") ≡ true }
+{}
+
+/// What the errors of clap, and of getting the words, say.
+pub fn a_usage_fault_has_its_kind()
+    ensures help { is_help kind.DisplayHelp ≡ true }
+    ensures the_version { is_help kind.DisplayVersion ≡ true }
+    ensures no_help { is_help kind.UnknownArgument ≡ false }
+    ensures help_is_no_mistake { is_mistake kind.DisplayHelp ≡ false }
+    ensures the_version_is_no_mistake { is_mistake kind.DisplayVersion ≡ false }
+    ensures no_memory_is_no_mistake { is_mistake kind.OutOfMemory ≡ false }
+    ensures a_mistake { is_mistake kind.UnknownArgument ≡ true }
+    ensures words_that_are_not_utf8 { words_fault_of io.InvalidData ≡ usage.NotUtf8 }
+    ensures no_memory_for_words { words_fault_of io.OutOfMemory ≡ usage.NoMemory }
+{}
+
+/// FORMATS.md, "Statuses and fault lines": the codes of faults that the program reports in another way.
+pub fn a_fault_without_a_line_has_a_name()
+    ensures of_a_map { map_fault_name NoMemoryForMap ≡ codes "M15 NoMemory" }
+    ensures of_a_failed_reader { flows_fault_name flows.ReadFault ≡ codes "F8 ReadFault" }
+    ensures of_a_file { flows_fault_name flows.NoMemory ≡ codes "F10 NoMemory" }
+    ensures of_a_call_after_a_fault { flows_fault_name flows.Failed ≡ codes "F11 Failed" }
+    ensures of_a_certificate { certificate_fault_name certificate.NoMemory ≡ codes "C7 NoMemory" }
+    ensures of_a_check { check_fault_name check.NoMemory ≡ codes "K7 NoMemory" }
+    ensures of_a_filter { filter_fault_text filters.NoMemory ≡ codes "L4 NoMemory" }
+    ensures of_fields { key_fault_text NoMemoryForKeys ≡ codes "U3 NoMemory" }
+{}
+
+/// FORMATS.md, "Statuses and fault lines": the map, the list, the certificate and the File are read in this order.
+pub fn each_file_has_its_turn()
+    ensures the_map { turn role.Map ≡ 0 }
+    ensures the_list { turn role.List ≡ 1 }
+    ensures the_certificate { turn role.Certificate ≡ 2 }
+    ensures the_flows { turn role.Flows ≡ 3 }
+    ensures something_for_each { each (λ n. n + 10) (of_files 0 1 2 3) ≡ of_files 10 11 12 13 }
+{}
+
+/// A command line names files, and each that can be opened has a reader.
+pub fn a_named_file_is_opened()
+    ensures no_file { IsOpened opens None None }
+    ensures a_file { IsOpened opens (Some (codes "there")) (file_with (codes "there") 7) }
+    ensures files { AreOpened opens (of_files (Some (codes "there")) None None (Some (codes "there"))) (of_files (file_with (codes "there") 7) None None (file_with (codes "there") 7)) }
+    ensures no_name_can_be_opened { CanOpen opens None }
+    ensures a_name_can_be_opened { CanOpen opens (Some (codes "there")) }
+    ensures no_memory { CannotOpenNamed opens (Some (codes "there")) NoMemory }
+    ensures a_file_that_is_missing { CannotOpenNamed opens (Some (codes "gone")) (CannotOpen (named (codes "gone"))) }
+    ensures the_first_that_is_missing { CannotOpenFirst opens (of_files (Some (codes "gone")) None None (Some (codes "lost"))) (CannotOpen (named (codes "gone"))) }
+    ensures a_later_one { CannotOpenFirst opens (of_files (Some (codes "there")) None None (Some (codes "lost"))) (CannotOpen (named (codes "lost"))) }
+{}
+
+/// A file that isn't named, or a fault that isn't of the first file that can't be opened.
+pub fn another_file_is_not_opened()
+    ensures another_name { IsOpened opens (Some (codes "there")) (file_with (codes "gone") 7) → ⊥ }
+    ensures another_reader { IsOpened opens (Some (codes "there")) (file_with (codes "there") 8) → ⊥ }
+    ensures not_opened { IsOpened opens (Some (codes "there")) None → ⊥ }
+    ensures not_named { IsOpened opens None (file_with (codes "there") 7) → ⊥ }
+    ensures one_of_two { AreOpened opens (of_files (Some (codes "there")) None None (Some (codes "there"))) (of_files (file_with (codes "there") 7) None None None) → ⊥ }
+    ensures a_missing_file_can_be_opened { CanOpen opens (Some (codes "gone")) → ⊥ }
+    ensures a_file_that_is_there { CannotOpenNamed opens (Some (codes "there")) (CannotOpen (named (codes "there"))) → ⊥ }
+    ensures the_name_of_another { CannotOpenNamed opens (Some (codes "gone")) (CannotOpen (named (codes "lost"))) → ⊥ }
+    ensures a_fault_of_the_writer { CannotOpenNamed opens (Some (codes "gone")) CannotWrite → ⊥ }
+    ensures the_later_of_two { CannotOpenFirst opens (of_files (Some (codes "gone")) None None (Some (codes "lost"))) (CannotOpen (named (codes "lost"))) → ⊥ }
+{}
+
+/// FORMATS.md, "Statuses and fault lines".
+pub fn a_fault_names_its_file()
+    ensures no_memory { IsNamed (of_files (codes "m") (codes "l") (codes "c") (codes "f")) output.NoMemory NoMemory }
+    ensures a_reader { IsNamed (of_files (codes "m") (codes "l") (codes "c") (codes "f")) (output.Unread role.List) (CannotRead (named (codes "l"))) }
+    ensures a_fault_of_a_map { IsNamed (of_files (codes "m") (codes "l") (codes "c") (codes "f")) (output.Faulty (InMap (record { kind = TooMany; line = 7 }))) (File (named (codes "m")) (InMap (record { kind = TooMany; line = 7 }))) }
+{}
+
+/// Another file, or another fault.
+pub fn a_fault_names_no_other_file()
+    ensures another_reader { IsNamed (of_files (codes "m") (codes "l") (codes "c") (codes "f")) (output.Unread role.List) (CannotRead (named (codes "m"))) → ⊥ }
+    ensures another_file { IsNamed (of_files (codes "m") (codes "l") (codes "c") (codes "f")) (output.Faulty (InMap (record { kind = TooMany; line = 7 }))) (File (named (codes "l")) (InMap (record { kind = TooMany; line = 7 }))) → ⊥ }
+    ensures another_fault { IsNamed (of_files (codes "m") (codes "l") (codes "c") (codes "f")) (output.Faulty (InMap (record { kind = TooMany; line = 7 }))) (File (named (codes "m")) (InMap (record { kind = NoMemoryForMap; line = 7 }))) → ⊥ }
+    ensures another_end { IsNamed (of_files (codes "m") (codes "l") (codes "c") (codes "f")) output.NoMemory CannotWrite → ⊥ }
+{}
+
+/// The texts that a file may have, by the bytes that its reads returned.
+pub fn a_reader_may_have_a_text()
+    ensures all_of_it { MayHave (reader_of false true (codes "ab") (codes "")) (codes "ab") }
+    ensures not_more_after_the_end { MayHave (reader_of false true (codes "ab") (codes "")) (codes "abc") → ⊥ }
+    ensures of_one_file { AreTexts seen_of (map_read (reader_of false true (codes "ab") (codes ""))) (of_map (codes "ab")) }
+    ensures not_of_a_file_that_is_missing { AreTexts seen_of (map_read (reader_of false true (codes "ab") (codes ""))) (of_list (codes "ab")) → ⊥ }
+{}
+
+/// What contracts see of the readers of a command's files.
+pub fn readers_are_seen()
+    ensures a_missing_file { view_of seen_of None ≡ record (reader_of false true [] []) { left = Some [] } }
+    ensures a_file { view_of seen_of (file_with (codes "x") (reader_of false false (codes "ab") (codes "c"))) ≡ (reader_of false false (codes "ab") (codes "c")) }
+    ensures none_failed { any_failed seen_of (map_read (reader_of false false (codes "ab") (codes ""))) ≡ false }
+    ensures the_map_failed { any_failed seen_of (of_files (file_with (codes "x") (reader_of true false (codes "ab") (codes ""))) None None None) ≡ true }
+    ensures the_list_failed { any_failed seen_of (of_files None (file_with (codes "x") (reader_of true false (codes "ab") (codes ""))) None None) ≡ true }
+    ensures the_certificate_failed { any_failed seen_of (of_files None None (file_with (codes "x") (reader_of true false (codes "ab") (codes ""))) None) ≡ true }
+    ensures the_flows_failed { any_failed seen_of (of_files None None None (file_with (codes "x") (reader_of true false (codes "ab") (codes "")))) ≡ true }
+    ensures nothing_is_read { AreUnread seen_of (map_read (reader_of false false (codes "") (codes ""))) }
+    ensures something_is_read { AreUnread seen_of (map_read (reader_of false false (codes "a") (codes ""))) → ⊥ }
+    ensures all_is_fetched { AreAllFetched seen_of (map_read (reader_of false false (codes "a") (codes "b"))) }
+    ensures something_else_is_fetched { AreAllFetched seen_of (map_read (record (reader_of false false (codes "a") (codes "b")) { fetched = codes "ba" })) → ⊥ }
+    ensures more_is_fetched { AreAllFetched seen_of (map_read (record (reader_of false false (codes "a") (codes "b")) { fetched = codes "a" })) → ⊥ }
+    ensures less_is_fetched { AreAllFetched seen_of (map_read (record (reader_of false false (codes "a") (codes "b")) { fetched = codes "b" })) → ⊥ }
+    ensures later_files_are_untouched { AreLaterUntouched role.Map (of_files (file_with (codes "x") 1) None None None) (of_files (file_with (codes "x") 2) None None None) }
+    ensures a_later_file_is_touched { AreLaterUntouched role.Map (of_files None None None (file_with (codes "x") 1)) (of_files None None None (file_with (codes "x") 2)) → ⊥ }
+    ensures bytes_are_ahead { AreUnread seen_of (map_read (reader_of false false [] (codes "x"))) }
+{}
+
+/// FORMATS.md, "Statuses and fault lines": the line of a fault goes to standard error, if there is memory for it.
+pub fn a_fault_is_reported()
+    ensures written { IsWritten (writer_of false Nothing (codes "")) (writer_of false Flush (codes "ab")) (codes "ab") }
+    ensures nothing_to_report { IsReported shown_of shown_of (Ok tt) (writer_of false Nothing (codes "")) (writer_of false Nothing (codes "")) (writer_of false Nothing (codes "")) (writer_of false Nothing (codes "")) }
+    ensures a_line { IsReported shown_of shown_of (Err CannotWrite) (writer_of false Nothing (codes "")) (writer_of false Nothing (codes "")) (writer_of false Nothing (codes "")) (writer_of false Flush (codes "flowlabel: output: cannot write\n")) }
+    ensures a_line_on_standard_output { IsReported shown_of shown_of (Err CannotWrite) (writer_of false Nothing (codes "")) (writer_of false Flush (codes "x")) (writer_of false Nothing (codes "")) (writer_of false Nothing (codes "")) → ⊥ }
+    ensures output_after_a_success { IsReported shown_of shown_of (Ok tt) (writer_of false Nothing (codes "")) (writer_of false Flush (codes "x")) (writer_of false Nothing (codes "")) (writer_of false Nothing (codes "")) → ⊥ }
+    ensures a_line_after_a_success { IsReported shown_of shown_of (Ok tt) (writer_of false Nothing (codes "")) (writer_of false Nothing (codes "")) (writer_of false Nothing (codes "")) (writer_of false Flush (codes "x")) → ⊥ }
+{}
+
+/// RFC 791: an IPv4 address has 32 bits.
+pub fn an_address_of_a_request_is_one()
+    ensures the_greatest { IsProper (ask.label (FromMap []) (V4, 4294967295)) }
+    ensures one_more { IsProper (ask.label (FromMap []) (V4, 4294967296)) → ⊥ }
+    ensures of_ipv6 { IsProper (ask.label (FromMap []) (V6, 4294967296)) }
 {}
