@@ -2,7 +2,7 @@
 # costs. Then tests/run runs the scripts of `checks` below, whose first lines describe them, and reports what was skipped.
 # make examples: all examples of the pages. make scripts: the scripts of examples/ and the packages of make package.
 # Whatever needs a missing package is skipped.
-# make definitions: changes of definitions, each of which must break an example or a law.
+# make definitions: changes of the trusted definitions, each of which an example or a law must see.
 # make bench: the speed of the program.
 # make install, make uninstall: the proved program with its manual pages, completions, scripts, pages and examples, below
 # DESTDIR and PREFIX.
