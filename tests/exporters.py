@@ -11,6 +11,8 @@ import time
 ROOT = os.path.dirname(os.path.dirname(os.path.realpath(__file__)))
 # How many seconds a busy machine may need.
 PATIENCE = 600
+# How many seconds of silence before it is looked at whether an exporter has ended.
+PAUSE = 0.1
 # nfcapd and others end with the test, also if it is killed.
 BOUND = ("setpriv", "--pdeathsig", "KILL")
 QUIET = {"stdin": subprocess.DEVNULL, "stdout": subprocess.DEVNULL, "stderr": subprocess.DEVNULL}
@@ -46,7 +48,7 @@ def received(command):
     with socket.socket(socket.AF_INET, socket.SOCK_DGRAM) as receiver:
         receiver.setsockopt(socket.SOL_SOCKET, socket.SO_RCVBUF, 1 << 24)
         receiver.bind(("127.0.0.1", 0))
-        receiver.settimeout(0.1)
+        receiver.settimeout(PAUSE)
         messages, has_ended = [], False
         with subprocess.Popen([*BOUND, *command(receiver.getsockname()[1])], **QUIET) as exporter:
             while True:
