@@ -1,11 +1,11 @@
 //! Keys as bytes, which are in the order of the keys. The bytes that are written for the key of a row are read back as
 //! this key, part by part.
-ghost use Rattle.std.specs.Prelude.{bytes_eq, ◌≡◌, ◌++◌, ◌∷◌, ◌↔◌, [], IfNone, IfOk, IfSome, IsTrue, OnOk, option_copied, option_map};
+ghost use Rattle.std.specs.Prelude.{bytes_eq, ◌≡◌, ◌++◌, ◌∷◌, [], IfNone, IfOk, IfSome, IsTrue, OnOk, option_copied, option_map};
 ghost use Rattle.std.specs.Cmp.Lexicographic.{slice_cmp};
 ghost use Rattle.std.specs.Ordering.{nat_cmp};
 ghost use Rattle.label_lookup.specs.Labelling.{label_where, labelling_borrowed};
-ghost use Rattle.flow_uniq.specs.Key.{AddressPart, Key as Parts, key_of, key_part, part_numbers};
-ghost use Rattle.flow_uniq.specs.Codes.{AreSmall, IsCode, IsCode-prop, IsSmall, first_part, front_label, key_code, key_in, part_code, part_model};
+ghost use Rattle.flow_uniq.specs.Key.{AddressPart, key_of, key_part, part_numbers};
+ghost use Rattle.flow_uniq.specs.Codes.{IsCode, IsCode-prop, IsSmall, first_part, front_label, key_code, key_in, part_code, part_model};
 
 use crate::field::KeyField;
 use flow_rows::Row;
@@ -274,8 +274,3 @@ pub fn compare_keys(a: Key<'_>, b: Key<'_>) -> Ordering
 {
     a.code.cmp(b.code)
 }
-
-/// Keys with numbers that fit in their bytes and well-formed labels are equal if and only if their codes are equal.
-pub fn equal_codes_are_equal_keys()
-    ensures { (a b : Parts) → AreSmall a → AreSmall b → (key_code a ≡ key_code b) ↔ (a ≡ b) }
-{}

@@ -26,7 +26,7 @@ mod keys;
 mod laws;
 mod recent;
 
-pub use codec::{Key, KeyPart, equal_codes_are_equal_keys};
+pub use codec::{Key, KeyPart};
 pub use fault::KeyFault;
 pub use field::KeyField;
 pub use groups::{Group, Groups, Totals};
