@@ -1,4 +1,3 @@
 pub mod Scanned
 pub mod Labellings
 pub mod Tops
-pub mod Scanning

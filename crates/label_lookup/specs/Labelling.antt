@@ -1,15 +1,12 @@
-use Rattle.std.specs.Prelude.{◌^◌, ℕ, Option, Some, None, nat_lt, option_and_then, option_map, if◌then◌else◌, ◌≤◌, List, All, Contains, ◌<◌, length, slice_get, ◌≡◌, ◌+◌, ◌-◌, ◌*◌, slice_index}
+use Rattle.std.specs.Prelude.{◌^◌, ℕ, Option, Some, None, nat_lt, option_and_then, option_map, if◌then◌else◌, ◌≤◌, List, All, ◌<◌, length, slice_get, ◌≡◌, ◌+◌, ◌-◌, ◌*◌, slice_index}
 use Rattle.std.specs.Borrow.{Bor}
 use Rattle.std.specs.Option.{ForSome}
 use Rattle.prefix_keys.specs.Conversion.{converted}
 use Rattle.prefix_keys.specs.Text.{AddressOf}
 use Rattle.prefix_keys.specs.Block.{width_of}
 use Rattle.prefix_keys.specs.declared.version.Version.{Version}
-use Rattle.prefix_keys.specs.Covers.{BlockCovers}
-use Rattle.prefix_keys.specs.declared.addr.Addr.{Addr}
 use Rattle.pmap_text.specs.ListModel.{ListModel, list_label}
 use Rattle.pmap_text.specs.MapModel.{Label, MapModel, map_label}
-use Rattle.pmap_text.specs.declared.entry.Entry.{Entry}
 use Rattle.pmap_text.specs.Stretches.{StretchesModel, first_at, last_at, text_held}
 use Rattle.label_trie.specs.TrieModel.{TrieModel, label_in}
 
@@ -52,12 +49,6 @@ labelling_by version_of label_of labeller = record { version = version_of labell
 
 abbrev pub labelling_borrowed : {L : Type 0} → (L → Version) → (L → ℕ → Option Label) → Option (Bor L) → Option Labelling
 labelling_borrowed version_of label_of labeller = option_map (λ l. labelling_by version_of label_of l.now) labeller
-
--- one of the longest entries that cover the address, for the contracts of private functions
-abbrev pub IsLongest : List Entry → Addr → Option Entry → Type 0
-IsLongest entries addr None = All (λ e. BlockCovers e.block addr → ⊥) entries
-IsLongest entries addr (Some e) =
-    Contains entries e × BlockCovers e.block addr × All (λ r. BlockCovers r.block addr → r.block.len ≤ e.block.len) entries
 
 -- a trie of label numbers, with the table of their texts
 pub record TrieLabels : Type 0 where

@@ -2,18 +2,17 @@ ghost use Rattle.std.specs.Prelude.{◌≡◌, IfOk};
 ghost use Rattle.pmap_text.specs.PrefixList.{list_of};
 
 use crate::labeller::Labeller;
-use crate::stretch_index::StretchIndex;
-use pmap_text::PrefixList;
+use pmap_text::{PrefixList, Runs, Stretches};
 use prefix_keys::{Addr, Version};
 use std::alloc::{AllocError, Global};
 use std::marker::Model;
 
-/// The labels of a prefix list under longest match, found by a search in the stretches of addresses that have one label
-/// each.
+/// The labels of a prefix list under longest match, found by a search in its runs, the stretches of addresses that have
+/// one label each. For many look-ups a [`StretchIndex`](crate::StretchIndex) is faster, but it takes longer to build.
 #[derive(Drop)]
 pub struct ListIndex<'a> {
     list: &'a PrefixList,
-    index: StretchIndex<'a>,
+    stretches: Stretches,
 }
 
 impl<'a> Model for ListIndex<'a> {
@@ -27,7 +26,8 @@ impl<'a> Model for ListIndex<'a> {
 
     ghost view = { λ i. list_of i.list.now };
 
-    ghost invariant = { λ i. labelling_of_stretches i.index ≡ labelling_of_list (list_of i.list.now) };
+    ghost invariant = { λ i. labelling_of_stretches (record { table = i.list.now.labels; stretches = i.stretches })
+        ≡ labelling_of_list (list_of i.list.now) };
 }
 
 impl<'a> ListIndex<'a> {
@@ -35,9 +35,10 @@ impl<'a> ListIndex<'a> {
     pub fn build(alloc: Global, list: &'a PrefixList) -> Result<ListIndex<'a>, AllocError>
         ensures { IfOk result (λ index. index ≡ list_of list.now) }
     {
+        let runs = Runs::of_list(alloc, list)?;
         Ok(ListIndex {
             list,
-            index: StretchIndex::of_list(alloc, list)?,
+            stretches: runs.stretches,
         })
     }
 }
@@ -54,6 +55,9 @@ impl<'a> Labeller for ListIndex<'a> {
     }
 
     fn label_of(&self, addr: Addr) -> Option<&[u8]> {
-        self.index.label_of(addr)
+        self.stretches.laws();
+        let index = self.stretches.find_near(0, addr.value);
+        let id = self.stretches.label(index)?;
+        self.list.labels.text(id)
     }
 }
