@@ -13,7 +13,7 @@ PREFIX = /usr/local
 DESTDIR =
 INSTALL = install
 
-program = crates/flowlabel/out/flowlabel
+program = crates/flowlabel_main/out/flowlabel_main
 to = "$(DESTDIR)$(PREFIX)"
 pages = share/doc/flowlabel
 files = bin/flowlabel share/man/man1/flowlabel.1 share/man/man1/flowlabel-scripts.1 \

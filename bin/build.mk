@@ -1,5 +1,5 @@
 # Proves the libraries, side by side when they don't depend on one another, then the program, and links it:
-#     make -f bin/build.mk -j LIBRARIES JOBS=JOBS flowlabel
+#     make -f bin/build.mk -j LIBRARIES JOBS=JOBS flowlabel_main
 # bin/record runs it at the top of the repository for bin/flowlabel. A line of crates.txt is a rule: a crate follows what it depends on.
 include crates.txt
 
@@ -26,7 +26,7 @@ room = out/rooms/$@
 leave = rm -rf crates/$@/out && mv $(room)/crates/$@/out crates/$@ && rm -rf $(room) \
 	&& rmdir --ignore-fail-on-non-empty out/rooms
 
-$(filter-out flowlabel,$(crates)):
+$(filter-out flowlabel_main,$(crates)):
 	$(begins)
 	@flock crates/$@ flock crates sh -ec "if [ -d $(room)/crates/$@/out ]; then $(leave); fi; \
 		mkdir -p $(room) crates/$@/out; \
@@ -37,7 +37,7 @@ $(filter-out flowlabel,$(crates)):
 	$(proved)
 
 # Under rt run the program is proved, is linked and runs once, and --help needs no file.
-flowlabel:
+flowlabel_main:
 	$(begins)
 	@cd crates/$@ && exec rt run --jobs $(JOBS) -- --help </dev/null
 	$(proved)

@@ -9,3 +9,4 @@ pub mod Files
 pub mod Samples
 pub mod Shortest
 pub mod Templates
+pub mod Commands

@@ -9,6 +9,7 @@ pub mod addresses;
 pub mod certificate_faults;
 pub mod certificates;
 pub mod checks;
+pub mod commands;
 pub mod devices;
 pub mod files;
 pub mod filters;

@@ -5,7 +5,6 @@ pub mod Answer
 pub mod BytesFault
 pub mod Faults
 pub mod Output
-pub mod Examples
 pub mod Headline
 pub mod Run
 pub mod Reports

@@ -14,7 +14,6 @@ use std::alloc::Global;
 
 mod cat;
 mod check;
-mod examples;
 mod info;
 mod joined;
 mod label;
@@ -28,7 +27,9 @@ mod shrink;
 mod uniq;
 
 pub use joined::output_of_joined_file;
-pub use laws::{one_output, output_keeps_headline, shrunk_list_is_least};
+pub use laws::{
+    one_output, output_keeps_headline, shrunk_list_is_least, shrunk_list_keeps_reports,
+};
 use reading::read;
 use uniq::Grouping;
 

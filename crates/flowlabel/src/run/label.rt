@@ -8,7 +8,7 @@ ghost use Rattle.flowlabel.specs.Request.{Label};
 use crate::command::LabelFile;
 use crate::output_fault::OutputFault;
 use crate::run::reading::{list_in, map_in};
-use label_lookup::{Labeller, ListScan, Scan};
+use label_lookup::{Labeller, ListIndex, Scan};
 use pmap_text::KeyHashing;
 use prefix_keys::{Addr, convert};
 use std::alloc::{AllocError, Global};
@@ -34,8 +34,8 @@ fn line_by<L: Labeller>(alloc: Global, labels: &L, addr: Addr) -> Result<Vec<u8>
     }
 }
 
-/// Returns the line of the label that the text of a map or a list gives an address. It searches all statements or
-/// entries once, which takes less time than building an index.
+/// Returns the line of the label that the text of a map or a list gives an address. It searches all statements of a map
+/// once, and builds an index of a list.
 pub fn output(
     alloc: Global,
     labels: LabelFile<'_>,
@@ -52,7 +52,7 @@ pub fn output(
         }
         LabelFile::List(_) => {
             let list = list_in(alloc, text, hashing)?;
-            Ok(line_by(alloc, &ListScan::new(&list), addr)?)
+            Ok(line_by(alloc, &ListIndex::build(alloc, &list)?, addr)?)
         }
     }
 }

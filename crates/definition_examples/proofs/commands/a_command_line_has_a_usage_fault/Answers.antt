@@ -2,8 +2,8 @@
 use Rattle.std.proofs.Common.{refl}
 use Rattle.clap.proofs.OnLiterals.{clap_on_literals}
 use Rattle.flowlabel.specs.Definition.{flowlabel_app}
-use Rattle.flowlabel.specs.Examples.{opened}
-use Rattle.flowlabel.proofs.run.examples.a_command_line_has_a_usage_fault.Goals as goal
+use Rattle.definition_examples.specs.Commands.{opened}
+use Rattle.definition_examples.proofs.commands.a_command_line_has_a_usage_fault.Goals as goal
 
 pub returns-clause-no_labels : goal.returns-clause-no_labels
 unfolding flowlabel_app clap_on_literals opened

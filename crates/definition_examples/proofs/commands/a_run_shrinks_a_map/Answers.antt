@@ -7,8 +7,8 @@ use Rattle.pmap_text.specs.Reading.{map_reading}
 use Rattle.pmap_text.specs.declared.fault.MapFault.{MapFault}
 use Rattle.pmap_cert.specs.Acceptance.{IsMinimalPair, entries_of}
 use Rattle.pmap_cert.specs.CertificateModel.{CertificateModel, InnerNode, LeafNode, Tree}
-use Rattle.flowlabel.specs.Examples.{opened, quarters_map}
-use Rattle.flowlabel.proofs.run.examples.a_run_shrinks_a_map.Goals as goal
+use Rattle.definition_examples.specs.Commands.{opened, quarters_map}
+use Rattle.definition_examples.proofs.commands.a_run_shrinks_a_map.Goals as goal
 
 abbrev table : List Label
 table = codes "A" ∷ codes "B" ∷ codes "C" ∷ codes "UNKNOWN" ∷ []

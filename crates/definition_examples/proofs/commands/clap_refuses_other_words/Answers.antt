@@ -2,8 +2,8 @@
 use Rattle.std.proofs.Common.{refl}
 use Rattle.clap.proofs.OnLiterals.{clap_on_literals}
 use Rattle.flowlabel.specs.Definition.{flowlabel_app}
-use Rattle.flowlabel.specs.Examples.{opened}
-use Rattle.flowlabel.proofs.run.examples.clap_refuses_other_words.Goals as goal
+use Rattle.definition_examples.specs.Commands.{opened}
+use Rattle.definition_examples.proofs.commands.clap_refuses_other_words.Goals as goal
 
 pub returns-clause-no_command : goal.returns-clause-no_command
 unfolding flowlabel_app clap_on_literals opened

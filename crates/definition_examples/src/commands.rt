@@ -2,7 +2,7 @@
 //!
 //! The functions do nothing. Each clause is a claim that the prover computes, or that its proof file shows. The texts are
 //! small, and what they give is worked out by hand from the rules of docs/FORMATS.md, or is in that page or an RFC.
-#![tactic(auto, unfolding(crate::specs::Examples::opened))]
+#![tactic(auto, unfolding(crate::specs::Commands::opened))]
 
 ghost use Rattle.flow_io.specs.declared.devices.LastCall.TheVariants.{Flush, Nothing};
 ghost use Rattle.flowlabel.specs.Answer.{is_help, is_mistake, words_fault_of};
@@ -23,11 +23,12 @@ ghost use Rattle.flow_filter.specs.declared.fault.FilterFaultKind.TheVariants.{B
 ghost use Rattle.flow_filter.specs.declared.option.FilterOption.TheVariants.{AnyLabel, Bytes, DestinationAddress, DestinationLabel, DestinationPort, Packets, Protocol, SourceAddress, SourceLabel, SourcePort};
 ghost use Rattle.flow_uniq.specs.declared.fault.KeyFault.TheVariants.{BadField, FieldRepeated, NoMemory as NoMemoryForKeys};
 ghost use Rattle.flow_uniq.specs.declared.field.KeyField.TheVariants as field;
-ghost use Rattle.flowlabel.specs.Examples.{Checks, Counts, Drops, Groups, HasCertificateFault, HasCheckFault, HasFlowsFault, HasListFault, HasMapFault, Keeps, Labels, LabelsByList, Recerts, Reports, StandardError, StandardOutput, Writes, both_ways, by_list, by_map, day, empty, halves_certificate, halves_map, head, labelled_flow, labelled_header, long_address, named, of_flows, of_list, of_map, one_flow, quarters_list, quarters_map, quarters_nodes, seen, Asks, HasUsageFault, asks_for_help, is_refused, file_with, map_read, of_files, opens, reader_of, seen_of, shown_of, writer_of};
-ghost use Rattle.flowlabel.specs.Run.{CannotOpen, CannotRead, CannotWrite, MayHave, NoMemory, Usage, File, AreAllFetched, AreLaterUntouched, AreTexts, AreUnread, IsNamed, any_failed, view_of};
+ghost use Rattle.definition_examples.specs.Commands.{Checks, Counts, Drops, Groups, HasCertificateFault, HasCheckFault, HasFlowsFault, HasListFault, HasMapFault, Keeps, Labels, LabelsByList, Recerts, Reports, StandardError, StandardOutput, Writes, both_ways, by_list, by_map, day, empty, halves_certificate, halves_map, head, labelled_flow, labelled_header, long_address, named, of_flows, of_list, of_map, one_flow, quarters_list, quarters_map, quarters_nodes, seen, Asks, HasUsageFault, asks_for_help, is_refused, file_with, map_read, of_files, opens, reader_of, seen_of, shown_of, writer_of};
+ghost use Rattle.flowlabel.specs.Run.{AreAllFetched, AreLaterUntouched, AreTexts, AreUnread, IsNamed, MayHave, any_failed, view_of};
 ghost use Rattle.flowlabel.specs.Request.{Text, FromList, FromMap, IsProper};
 ghost use Rattle.flowlabel.specs.declared.command.Command.TheVariants as command;
 ghost use Rattle.flowlabel.specs.declared.command.Shrunk.TheVariants as shrunk;
+ghost use Rattle.flowlabel.specs.declared.fault.RunFault.TheVariants.{CannotOpen, CannotRead, CannotWrite, File, NoMemory, Usage};
 ghost use Rattle.flowlabel.specs.declared.usage.UsageFault.TheVariants as usage;
 ghost use Rattle.clap.specs.declared.error.kind.ErrorKind.TheVariants as kind;
 ghost use Rattle.std.specs.declared.io.ErrorKind.TheVariants as io;

@@ -3,8 +3,8 @@ use Rattle.std.proofs.Common.{◌≡◌, [], ◌∷◌, None, Ok, Some, codes, r
 use Rattle.std.proofs.lemmas.Bool.{lt-ltb}
 use Rattle.prefix_keys.specs.Block.{block_number}
 use Rattle.pmap_text.specs.Runs.{Run}
-use Rattle.flowlabel.specs.Examples.{opened}
-use Rattle.flowlabel.proofs.run.examples.a_run_prints_ranges.Goals as goal
+use Rattle.definition_examples.specs.Commands.{opened}
+use Rattle.definition_examples.proofs.commands.a_run_prints_ranges.Goals as goal
 
 abbrev low : Run
 low = record { low = 0; high = 2147483647; label = Some (codes "A") }

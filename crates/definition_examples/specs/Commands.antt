@@ -21,16 +21,22 @@ use Rattle.flow_uniq.specs.declared.field.KeyField.{KeyField}
 use Rattle.clap.specs.Words.{fault_of}
 use Rattle.flow_io.specs.Devices.{InputView, OutputView}
 use Rattle.flow_io.specs.declared.devices.LastCall.{LastCall}
-use Rattle.flowlabel.specs.Answer.{Answers, UsageFault, is_help, is_mistake}
+use Rattle.flowlabel.specs.Answer.{Answers, is_help, is_mistake}
 use Rattle.flowlabel.specs.BytesFault.{role_of}
-use Rattle.flowlabel.specs.ByFile.{ByFile, at}
+use Rattle.flowlabel.specs.ByFile.{at}
 use Rattle.flowlabel.specs.Definition.{flowlabel_app}
 use Rattle.flowlabel.specs.Faults.{exit_status_of, fault_text}
 use Rattle.flowlabel.specs.Output.{IsOutput, Outcome}
-use Rattle.flowlabel.specs.Request.{Check, Command, Info, Label, Recert, Request, Rows, Text, Uniq, files_of, request_of}
-use Rattle.flowlabel.specs.Run.{File, RunFault, Source, Usage}
+use Rattle.flowlabel.specs.Request.{Request, Text, files_of, request_of}
+use Rattle.flowlabel.specs.declared.by_file.ByFile.{ByFile}
+use Rattle.flowlabel.specs.declared.command.Command.{Command}
+use Rattle.flowlabel.specs.declared.command.Command.TheVariants.{Check, Info, Label, Recert, Rows, Uniq}
 use Rattle.flowlabel.specs.declared.command.LabelFile.{LabelFile}
 use Rattle.flowlabel.specs.declared.command.LabelFile.TheVariants.{Map, List as Prefixes}
+use Rattle.flowlabel.specs.declared.fault.RunFault.{RunFault}
+use Rattle.flowlabel.specs.declared.fault.RunFault.TheVariants.{File, Usage}
+use Rattle.flowlabel.specs.declared.inputs.Source.{Source}
+use Rattle.flowlabel.specs.declared.usage.UsageFault.{UsageFault}
 use Rattle.flowlabel.specs.declared.usage.UsageFault.TheVariants.{Help}
 
 -- Texts of the worked examples.
