@@ -12,25 +12,28 @@ import tempfile
 
 import shared
 
+# How a compressed file begins, the program that made it, and the one that reads it.
+COMPRESSED = ((rb"\x1f\x8b", "gzip", "zcat"), (rb"\x28\xb5\x2f\xfd", "zstd", "zstdcat"), (rb"\xfd7zXZ", "xz", "xzcat"),
+              (rb"BZh[1-9]", "bzip2", "bzcat"))
+PCAP = rb"\xd4\xc3\xb2\xa1|\xa1\xb2\xc3\xd4|\x4d\x3c\xb2\xa1|\xa1\xb2\x3c\x4d|\x0a\x0d\x0d\x0a"
+SFLOW = rb"\0\0\0[\x02\x04\x05]\0\0\0[\x01\x02]"
 # How a file begins that is no IPFIX File, with the cause and the cure.
 NO_FILES = (
-    (rb"\x1f\x8b", "It is compressed by gzip. Use zcat FILE | flowlabel rows /dev/stdin"),
-    (rb"\x28\xb5\x2f\xfd", "It is compressed by zstd. Use zstdcat FILE | flowlabel rows /dev/stdin"),
-    (rb"\xfd7zXZ", "It is compressed by xz. Use xzcat FILE | flowlabel rows /dev/stdin"),
-    (rb"BZh[1-9]", "It is compressed by bzip2. Use bzcat FILE | flowlabel rows /dev/stdin"),
-    (rb"\xd4\xc3\xb2\xa1|\xa1\xb2\xc3\xd4|\x4d\x3c\xb2\xa1|\xa1\xb2\x3c\x4d|\x0a\x0d\x0d\x0a",
-     "It is a packet capture (pcap). examples/capture makes a File of its flows. If its packets are the messages of an "
-     "exporter, use the lines for tshark in examples/README.md"),
+    *((form, f"It is compressed by {name}. Use {cat} FILE | flowlabel rows /dev/stdin")
+      for form, name, cat in COMPRESSED),
+    (PCAP, "It is a packet capture (pcap). examples/capture makes a File of its flows. If its packets are the messages "
+     "of an exporter, use the lines for tshark in examples/README.md"),
     (rb"\x0c\xa5|\xa5\x0c", "It is a file of nfcapd. Use examples/nfcapd FILE >flows.ipfix"),
     (rb"\0[\x01\x05\x07\x08]", "It is NetFlow version {version}. Have the exporter send IPFIX (version 10), or collect "
      "version 5 with nfcapd, and use examples/nfcapd"),
-    (rb"\0\x09", "It is NetFlow version 9. Collect it with nfcapd, and use examples/nfcapd, or have the exporter send IPFIX "
-     "(version 10), such as softflowd with -v 10"),
-    (rb"\0\0\0[\x02\x04\x05]\0\0\0[\x01\x02]", "It is sFlow. Collect it with sfcapd, and use examples/nfcapd"),
+    (rb"\0\x09", "It is NetFlow version 9. Collect it with nfcapd, and use examples/nfcapd, or have the exporter send "
+     "IPFIX (version 10), such as softflowd with -v 10"),
+    (SFLOW, "It is sFlow. Collect it with sfcapd, and use examples/nfcapd"),
     (rb"\xde\xad\xbe\xef", "It is a file of SiLK. Convert it with rwsilk2ipfix"),
     (rb"PK\x03\x04", "It is a zip archive. Unpack it"),
     (rb"\0{16}", "It begins with zero bytes. The recording has failed, or the disk was full"),
     (rb"[\t\n\r -~]{4}", "It is a text. Pass the IPFIX File here, and a map with --pmap"),
+    (rb"(?!\0\x0a)", "It is no IPFIX File, which begins with the bytes 00 0a"),
 )
 CUT = "The recording ended within a message. head -c {message} FILE >whole.ipfix keeps the messages before it"
 LOST = ("Bytes were lost or inserted between two messages. head -c {message} FILE >whole.ipfix keeps the messages "
@@ -44,11 +47,11 @@ FLOW_CAUSES = {
     "F7": "Files of several sessions were joined, perhaps: read them one by one. " + DAMAGED,
     "F9": "It has too many messages. Cut it before a message in which the exporter sends its templates again",
 }
-# The numbers of usable elements of a row (docs/FORMATS.md), each with the least and the greatest length of its field.
+# The numbers of usable elements of a row (docs/FORMATS.md), each with the lengths of its field.
 # An element with an enterprise number has its upper bit set, so it is none of these.
 ADDRESSES = ((8, 12), (27, 28))
 COUNTS = (("packets (element 2 or 86)", {2, 86}), ("bytes (element 1 or 85)", {1, 85}))
-LENGTHS = {8: (4, 4), 12: (4, 4), 27: (16, 16), 28: (16, 16), 2: (1, 8), 86: (1, 8), 1: (1, 8), 85: (1, 8)}
+LENGTHS = {8: [4], 12: [4], 27: [16], 28: [16], **dict.fromkeys((1, 2, 85, 86), range(1, 9))}
 VARIABLE = 65535
 # An address of IPv4 in the form of IPv6.
 AS_IPV4 = re.compile(rb"::ffff:[0-9a-f]+:[0-9a-f]+|[0-9.]+")
@@ -75,13 +78,16 @@ class Message:
     definitions: int = 0
     is_skipped: bool = False
 
+    def __str__(self):
+        return f"the message {self.number} at {self.offset}"
+
     def spare(self):
         """Returns how much else an exporter might count in this message."""
         return self.options + self.definitions + (not self.flows)
 
 
 # How exporters count: what they count, its number in a message, and whether a sequence number is that of the message's
-# end. RFC 7011 comes first, then RFC 7011 without options records, softflowd, softflowd with options records, NetFlow 9.
+# end. First RFC 7011, then RFC 7011 without options records, softflowd, softflowd with options records, NetFlow 9.
 WAYS = (
     ("records", lambda message: message.flows + message.options, False),
     ("records", lambda message: message.flows, False),
@@ -114,8 +120,8 @@ class Numbers:
         # How many messages begin with the number at which the one before ended, how many of these show that templates
         # aren't counted, and how many messages came late.
         self.fitting = self.plain = self.late = 0
-        # The number that comes next in each session, the last session last, and the last message.
-        self.expected, self.last = [], None
+        # The number that comes next in each session, the last session last, and the last message. None is unknown.
+        self.expected, self.last = [None], None
         self.gaps, self.again, self.twice = [], [], []
         # The gaps since numbers last followed each other, if they can be those of one session.
         self.clear = []
@@ -143,10 +149,8 @@ class Numbers:
             begin = (end - self.count(message)) % MODULO
         else:
             end = (begin + self.count(message)) % MODULO
-        expected = self.expected[-1] if self.expected else None
-        if not self.expected:
-            self.expected.append(end)
-        elif begin == expected is not None:
+        expected = self.expected[-1]
+        if begin == expected is not None:
             self.fitting += 1
             self.plain += bool(self.counted(message).definitions)
             for gap in self.clear:
@@ -208,21 +212,24 @@ class Numbers:
 
 def places(gaps):
     """Returns how many records gaps have, and where the first gaps are."""
-    shown = [f"{gap.size()} before the message {gap.message.number} at {gap.message.offset}" for gap in gaps[:3]]
+    shown = [f"{gap.size()} before {gap.message}" for gap in gaps[:3]]
     more = [f"{len(gaps) - 3} more gaps"] * (len(gaps) > 3)
     return sum(map(Gap.size, gaps)), ", ".join(shown + more)
+
+
+def all_ways():
+    """Returns numbers that are counted in each way."""
+    return [Numbers(*way) for way in WAYS]
 
 
 class Loss:
     """The records that are missing in a File, by the sequence numbers of its messages (RFC 7011, section 3.1)."""
 
     def __init__(self):
-        self.domains, self.whole = {}, [Numbers(*way) for way in WAYS]
+        self.domains, self.whole = collections.defaultdict(all_ways), all_ways()
 
     def see(self, message):
         """Reads the number of the next message."""
-        if message.domain not in self.domains:
-            self.domains[message.domain] = [Numbers(*way) for way in WAYS]
         for numbers in itertools.chain(self.domains[message.domain], self.whole):
             numbers.see(message)
 
@@ -258,13 +265,12 @@ class Loss:
                 yield ("{} {} of {} may be missing: {}. Or the exporter counts more, began again, or isn't the only "
                        "one".format(places(gaps)[0], numbers.unit, whose, places(gaps)[1]))
             for message, begin in numbers.again[:3]:
-                yield f"the sequence numbers of {whose} begin again with {begin} in the message {message.number} at " \
-                      f"{message.offset}"
+                yield f"the sequence numbers of {whose} begin again with {begin} in {message}"
             if numbers.is_mixed:
                 yield f"{whose} has several sessions, perhaps of several exporters"
             if numbers.twice:
                 yield (f"{len(numbers.twice)} messages of {whose} came twice, so their records are in sums twice. The "
-                       f"first is the message {numbers.twice[0].number} at {numbers.twice[0].offset}")
+                       f"first is {numbers.twice[0]}")
             if numbers.late:
                 yield f"{numbers.late} messages of {whose} came late. Their records aren't missing"
 
@@ -338,8 +344,7 @@ class Templates:
             for _ in range(count):
                 element, length = PAIR.unpack_from(body, place)
                 place += 8 if element >> 15 else 4
-                low, high = LENGTHS.get(element, (1, 0))
-                elements += [element] if low <= length <= high else []
+                elements += [element] if length in LENGTHS.get(element, ()) else []
                 if length == VARIABLE:
                     lengths.append(0)
                 else:
@@ -401,57 +406,52 @@ def message_at(file, offset):
     return begin if offset < end else offset
 
 
-def explain(name, file, fault):
-    """Prints the fault of a File, what the File is or the usual cause, and the cure."""
+def printed(name, fault):
+    """Prints a fault of standard input with the file's name, and returns its code and its position, or None twice."""
     sys.stderr.buffer.write(fault.replace(b"/dev/stdin", shared.shown(name).encode()))
     sys.stderr.flush()
-    found = re.match(rb"flowlabel: /dev/stdin: (F\d+) \w+(?: (X\d))? at (\d+)\n", fault)
-    if not found:
+    found = re.match(rb"flowlabel: /dev/stdin: ([FM]\d+) \w+( X\d)? at (\d+)\n", fault)
+    return ((found[1] + (found[2] or b"")).decode(), int(found[3])) if found else (None, None)
+
+
+def explain(name, file, fault):
+    """Prints the fault of a File, what the File is or the usual cause, and the cure."""
+    code, offset = printed(name, fault)
+    if code is None:
         return
-    code, detail, offset = found[1].decode(), found[2], int(found[3])
     file.seek(0)
     start = file.read(16)
-    causes = [cause for form, cause in NO_FILES if re.match(form, start)] if offset == 0 else []
-    if not causes and offset == 0 and code in ("F1", "F2"):
-        causes = ["It is no IPFIX File, which begins with the bytes 00 0a"]
     file.seek(0)
-    cause = causes[0] if causes else FLOW_CAUSES[f"{code} {detail.decode()}" if detail else code]
+    causes = [cause for form, cause in NO_FILES if offset == 0 and re.match(form, start)]
+    cause = causes[0] if causes else FLOW_CAUSES[code]
     cause = cause.replace("{version}", "".join(map(str, start[1:2])))
     shared.warn(f"{name}: {cause.replace('{message}', str(message_at(file, offset)))}")
-
-
-def over(file, *words, **options):
-    """Runs flowlabel over an open File."""
-    file.seek(0)
-    return subprocess.Popen([shared.PROGRAM, *words, "/dev/stdin"], stdin=file, stdout=subprocess.PIPE, **options)
 
 
 def count_rows(file, labels_are_ipv4):
     """Returns the number of rows, and of those without packets, without bytes, and, under an IPv4 map, without a
     label."""
     rows = no_packets = no_bytes = unlabelled = 0
-    with over(file, "rows") as program:
-        next(program.stdout, None)
-        for row in program.stdout:
+    file.seek(0)
+    with shared.piped(shared.PROGRAM, "rows", "/dev/stdin", stdin=file) as table:
+        next(table, None)
+        for row in table:
             source, target, _, _, _, _, packets, octets, _ = row.split(b"|", 8)
             rows += 1
             no_packets += packets == b"0"
             no_bytes += octets == b"0"
             if labels_are_ipv4 and not (AS_IPV4.fullmatch(source) and AS_IPV4.fullmatch(target)):
                 unlabelled += 1
-    if program.returncode != 0:
-        sys.exit(program.returncode)
     return rows, no_packets, no_bytes, unlabelled
 
 
 def lint_file(name, file, labels_are_ipv4):
     """Prints what is found in an open File, and returns the exit status."""
-    with over(file, "info", stderr=subprocess.PIPE) as program:
-        info, fault = program.communicate()
-    if program.returncode != 0:
-        explain(name, file, fault)
-        return program.returncode
-    counted = {what: int(number) for what, number in map(str.split, info.decode().splitlines())}
+    ended = subprocess.run([shared.PROGRAM, "info", "/dev/stdin"], stdin=file, capture_output=True, check=False)
+    if ended.returncode != 0:
+        explain(name, file, ended.stderr)
+        return ended.returncode
+    counted = {what: int(number) for what, number in map(str.split, ended.stdout.decode().splitlines())}
     templates, loss, seen = Templates(), Loss(), collections.Counter()
     file.seek(0)
     for message in templates.read(file):
@@ -463,13 +463,9 @@ def lint_file(name, file, labels_are_ipv4):
     rows, no_packets, no_bytes, unlabelled = count_rows(file, labels_are_ipv4)
     missing, is_wrong = loss.missing()
     warnings = [*templates.warnings(), *loss.warnings()]
-    if no_packets:
-        warnings.append(f"{no_packets} of {rows} rows have 0 packets")
-    if no_bytes:
-        warnings.append(f"{no_bytes} of {rows} rows have 0 bytes")
-    if unlabelled:
-        warnings.append(f"{unlabelled} of {rows} rows have an IPv6 address, which has no label under an IPv4 map. Write "
-                        "'mode ipv6' at the top of the map")
+    warnings += [f"{count} of {rows} rows have {what}" for count, what in (
+        (no_packets, "0 packets"), (no_bytes, "0 bytes"), (unlabelled, "an IPv6 address, which has no label under an "
+         "IPv4 map. Write 'mode ipv6' at the top of the map")) if count]
     if not counted["records"]:
         warnings.append("it has no flow records" if counted["messages"] else "it is empty")
     for warning in warnings:

@@ -44,8 +44,8 @@ MAPPED = 0xFFFF << 32
 # The columns of tables of sums: addresses, labels, other fields, times and totals.
 ADDRESSES, LABELS = (b"sip", b"dip"), (b"src-label", b"dst-label")
 FIELDS = (*ADDRESSES, *LABELS, b"sport", b"dport", b"proto", b"flags")
-TIMES = {b"minute": re.compile(rb"0|(\d{4,})-\d\d-\d\dT\d\d:\d\dZ"), b"hour": re.compile(rb"0|(\d{4,})-\d\d-\d\dT\d\dZ"),
-         b"day": re.compile(rb"0|(\d{4,})-\d\d-\d\d")}
+TIMES = {name: re.compile(rb"0|(\d{4,})-\d\d-\d\d" + end)
+         for name, end in ((b"minute", rb"T\d\d:\d\dZ"), (b"hour", rb"T\d\dZ"), (b"day", b""))}
 TOTALS = (b"records", b"packets", b"bytes")
 NUMBER = re.compile(rb"0|[1-9][0-9]*")
 # Zeros before a number of an IPv4 address, which has at most three digits.
@@ -66,6 +66,8 @@ class Ended(BaseException):
 
 def end(number, _):
     """Ends the script by a signal. Nothing interrupts what undoes its steps."""
+    # Of a second signal at the same time Python would report that it is ignored.
+    sys.unraisablehook = lambda _: None
     for other in SIGNALS:
         signal.signal(other, signal.SIG_IGN)
     raise Ended(number)
@@ -85,7 +87,14 @@ def run(main, page):
             # nohup ignores SIGHUP.
             if number != signal.SIGHUP or signal.getsignal(number) != signal.SIG_IGN:
                 signal.signal(number, end)
-        status = status_of(main, page)
+        try:
+            if sys.argv[1:] in (["--help"], ["-h"]):
+                write([page.encode()])
+            else:
+                main()
+            status = 0
+        except SystemExit as ended:
+            status = ended.code
         flush()
     except Ended as ended:
         die(ended.args[0])
@@ -106,18 +115,6 @@ def run(main, page):
     sys.exit(status)
 
 
-def status_of(main, page):
-    """Runs a script, and returns the status with which it ends itself."""
-    try:
-        if sys.argv[1:] in (["--help"], ["-h"]):
-            write([page.encode()])
-        else:
-            main()
-    except SystemExit as ended:
-        return ended.code
-    return 0
-
-
 def usage(page):
     """Returns the fault of a command line: how the script is called, as the first lines of its page say."""
     calls = re.findall(rf"(?m)\b{NAME} .*$", page)
@@ -127,8 +124,8 @@ def usage(page):
 class Parser(argparse.ArgumentParser):
     """A parser of options whose faults have one line, and whose help is the script's page."""
 
-    def __init__(self, page):
-        super().__init__(prog=NAME, description=page, allow_abbrev=False)
+    def __init__(self, page, **options):
+        super().__init__(prog=NAME, description=page, allow_abbrev=False, **options)
 
     def format_help(self):
         return self.description
@@ -139,11 +136,8 @@ class Parser(argparse.ArgumentParser):
 
 def shown(text):
     """Returns a text whose unprintable characters are escapes, so that it is in one line."""
-    text = str(text)
-    if text.isprintable():
-        return text
     return "".join(c if c.isprintable() else f"\\x{ord(c):02x}" if ord(c) < 0x100 else f"\\u{ord(c):04x}"
-                   for c in text)
+                   for c in str(text))
 
 
 def write(parts):
@@ -185,6 +179,12 @@ def warn(line):
     if sys.stderr is not None:
         with contextlib.suppress(OSError):
             print(f"{NAME}: {shown(line)}", file=sys.stderr, flush=True)
+
+
+def warn_all(lines, what="more"):
+    """Prints the first 20 of some lines on standard error, and how many more there are."""
+    for line in lines[:20] + [f"and so in {len(lines) - 20} {what}"] * (len(lines) > 20):
+        warn(line)
 
 
 def address(text):
@@ -258,10 +258,10 @@ def flowlabel(*words, **options):
 
 
 @contextlib.contextmanager
-def piped(*words):
+def piped(*words, **options):
     """Yields what a command prints, while it runs. If it fails, its line is on standard error, and the script ends with
-    its status, whatever a table that it has cut short looks like."""
-    with subprocess.Popen(words, stdout=subprocess.PIPE) as process:
+    its status, whatever a table that it has cut short looks like. The options are those of subprocess.Popen."""
+    with subprocess.Popen(words, stdout=subprocess.PIPE, **options) as process:
         fault = None
         try:
             yield process.stdout
@@ -284,11 +284,16 @@ def ended_well(status):
         sys.exit(status if status > 0 else 128 - status)
 
 
+def need(name, package):
+    """Refuses to go on without a program, which is in a package of Debian."""
+    if not shutil.which(name):
+        raise Failure(f"there is no {name} (Debian: {package})")
+
+
 def output_of(*words, package, stdin=""):
     """Runs another program, and returns its output as a text. If it fails, the first line that it prints is the reason.
     PACKAGE is that of Debian."""
-    if not shutil.which(words[0]):
-        raise Failure(f"there is no {words[0]} (Debian: {package})")
+    need(words[0], package)
     ended = subprocess.run(words, input=stdin, capture_output=True, text=True, errors="surrogateescape", check=False)
     if ended.returncode != 0:
         lines = (ended.stderr.strip() or ended.stdout.strip() or f"the status is {ended.returncode}").splitlines()
@@ -296,16 +301,33 @@ def output_of(*words, package, stdin=""):
     return ended.stdout
 
 
-def is_fields(columns):
-    """Returns whether these columns may be those before the totals of a table of sums: fields, perhaps after a time."""
-    fields = columns[1:] if columns[:1] and columns[0] in TIMES else columns
-    return columns != [] and set(fields) <= {*FIELDS} and len(set(fields)) == len(fields)
+def is_sums(columns):
+    """Returns whether these may be the columns of a table of sums: fields, perhaps after a time, and the totals."""
+    fields = columns[columns[0] in TIMES:-3]
+    return len(columns) > 3 and columns[-3:] == [*TOTALS] and {*fields} <= {*FIELDS} and len({*fields}) == len(fields)
+
+
+class Groups(dict):
+    """The totals of groups, by a key of cells of some columns. A group that isn't there yet gets the totals 0."""
+
+    def __init__(self, columns):
+        super().__init__()
+        self.columns = columns
+
+    def order(self, key):
+        """Returns the order of a key, as that of its cells. Raises ValueError if the columns can't have these."""
+        return [*map(cell_order, self.columns, key)]
+
+    def __missing__(self, key):
+        self.order(key)
+        self[key] = [0, 0, 0]
+        return self[key]
 
 
 def cell_order(column, cell):
     """Returns the order of a cell among those of its column: addresses, times and numbers by value, and labels by their
-    bytes. Raises ValueError if the column can't have it."""
-    if column in LABELS:
+    bytes. The number of a time is its order. Raises ValueError if the column can't have it."""
+    if column in LABELS or isinstance(cell, int):
         return cell
     if column in TIMES:
         found = TIMES[column].fullmatch(cell)

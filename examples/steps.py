@@ -4,7 +4,6 @@ import contextlib
 import fcntl
 import os
 import re
-import shutil
 import signal
 import subprocess
 import time
@@ -92,8 +91,7 @@ class Steps:
         """Runs a program, and returns its output. The first line that it prints is the reason if it fails. A `silent`
         one also fails if it prints a line on standard error."""
         self.check()
-        if not shutil.which(words[0]):
-            raise shared.Failure(f"there is no {words[0]} (Debian: {package})")
+        shared.need(words[0], package)
         with subprocess.Popen(words, stdin=subprocess.PIPE, stdout=subprocess.PIPE, stderr=subprocess.PIPE, text=True,
                               errors="surrogateescape") as self.program:
             # A signal may have come while the program was started.

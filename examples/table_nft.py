@@ -28,10 +28,14 @@ class Table(Kind):
                       f"flush map inet {self.name} label{version}", *self.elements("add", version, half)]
         return {".nft": text(lines)}
 
-    def switch(self, halves):
-        # What nft does can't be undone, so it is the last step, which no signal ends.
+    def run_last(self, lines):
+        """Runs nft over lines. What it does can't be undone, so it is the last step, which no signal ends."""
+        self.steps.check()
         self.steps.quiet()
-        self.run("nft", "-f", "-", stdin=self.inputs(halves)[".nft"])
+        self.run("nft", "-f", "-", stdin=lines)
+
+    def switch(self, halves):
+        self.run_last(self.inputs(halves)[".nft"])
 
     def content(self, version):
         for low, length, high, number in ENTRY.findall(
@@ -46,5 +50,4 @@ class Table(Kind):
             for version, half in differences.items():
                 changed = {key: pair[side] for key, pair in half.items() if pair[side] is not None}
                 lines += self.elements(verb, version, changed)
-        self.steps.quiet()
-        self.run("nft", "-f", "-", stdin=text(lines))
+        self.run_last(text(lines))

@@ -8,6 +8,8 @@ import subprocess
 import sys
 import time
 
+import processes
+
 ROOT = os.path.dirname(os.path.dirname(os.path.realpath(__file__)))
 # How many seconds a busy machine may need.
 PATIENCE = 600
@@ -70,12 +72,6 @@ def queued(port):
     return None
 
 
-def is_idle(process):
-    """Returns whether a process sleeps: its state follows its name in parentheses."""
-    with open(f"/proc/{process.pid}/stat", encoding="utf-8") as file:
-        return file.read().rpartition(")")[2].split()[0] == "S"
-
-
 def wait(is_done):
     """Waits until something is done."""
     end = time.monotonic() + PATIENCE
@@ -100,7 +96,7 @@ def collect(messages, folder, *options, program="nfcapd", ending=signal.SIGTERM)
                     sender.sendto(message, ("127.0.0.1", port))
                     wait(lambda: queued(port) == 0)
                 # It has read the last message, and waits for another one.
-                wait(lambda: queued(port) == 0 and is_idle(collector))
+                wait(lambda: queued(port) == 0 and processes.is_asleep(collector.pid))
             finally:
                 collector.send_signal(ending)
     return os.path.join(folder, min(os.listdir(folder)))
