@@ -1,9 +1,9 @@
 """Reads the definitions of specs/: the modules with their imports, the equations of definitions, and terms as trees.
 
-A tree is a tuple whose first item says what it is: ("name", word), ("number", value), ("text", text), ("pair", first,
-second), ("field", tree, name), ("record", base or None, [(field, tree)..]), ("function", names, body), ("let", name,
-value, body), ("if", condition, yes, no), ("apply", head, arguments), ("operator", sign, left, right), or ("binder", sign,
-names, type, body), which says that there are such values (×) or speaks of all of them (→).
+A tree is a tuple whose first item says what it is: ("name", word), ("number", value), ("text", text), ("field", tree,
+name), ("record", base or None, [(field, tree)..]), ("function", names, body), ("apply", head, arguments), ("operator",
+sign, operands..), where the sign of a pair is a comma, or ("binder", sign, names, type, body), which says that there
+are such values (×) or speaks of all of them (→).
 """
 
 import functools
@@ -23,8 +23,11 @@ def cannot(why, sort=CannotEvaluate):
     raise sort(why)
 
 
-TOKEN = re.compile(r'\s+|--(?= |\n|$)[^\n]*|("(?:[^"\\]|\\.)*"|[(){},;]|[^\s(){},;"]+)')
+# A token is a text, a bracket or separator, or whatever has none of these and no blanks. Comments are no tokens. A
+# field after a closing bracket is a token that begins with a dot.
+TOKEN = re.compile(r'\s+|--(?= |\n|$)[^\n]*|("(?:[^"\\]|\\.)*"|[(){},;"]|[^\s(){},;"]+)')
 NUMBER = re.compile(r"(0x[0-9a-fA-F_]+|[0-9][0-9_]*)$")
+NAME = re.compile(r"[\w']+$")
 ESCAPED = {"n": "\n", "t": "\t", "r": "\r"}
 # How strongly each operator binds, and to which side it groups.
 OPERATORS = {sign: (strength, side) for strength, side, signs in (
@@ -35,23 +38,18 @@ ENDS = {")", "}", ";", ",", "then", "else", "in", "=", None}
 
 
 def lex(text):
-    """Returns the tokens of a text. A field after a closing bracket is a token that begins with a dot."""
-    tokens, place = [], 0
-    while place < len(text):
-        match = TOKEN.match(text, place) or cannot(f"no token is {text[place:place + 20]!r}", Malformed)
-        tokens += filter(None, [match[1]])
-        place = match.end()
-    return tokens
+    """Returns the tokens of a text, and None as their end."""
+    return [*filter(None, TOKEN.findall(text)), None]
 
 
 class Parser:
-    """Reads terms as trees, which are tuples whose first item says what they are."""
+    """Reads tokens as a tree."""
 
     def __init__(self, tokens):
         self.tokens, self.place = tokens, 0
 
-    def peek(self, ahead=0):
-        return self.tokens[self.place + ahead] if self.place + ahead < len(self.tokens) else None
+    def peek(self):
+        return self.tokens[self.place]
 
     def next(self, *expected):
         word = self.peek()
@@ -65,27 +63,30 @@ class Parser:
         return tree if self.peek() is None else cannot(f"{self.peek()} follows a term", Malformed)
 
     def term(self, least=-1):
-        word = self.peek()
-        if word == "(" and self.is_binder():
-            return self.binder()
-        if word == "λ":
-            names = []
-            while not names or not names[-1].endswith("."):
-                self.next()
-                names.append(self.peek())
-            self.next()
-            return ("function", [name.rstrip(".") for name in names], self.term())
-        if word == "let":
-            _, name = self.next(), self.next()
-            if self.next("=", ":") == ":":
-                self.term()
-                self.next("=")
-            value, _ = self.term(), self.next("in")
-            return ("let", name, value, self.term())
-        if word == "if":
-            _, condition, _ = self.next(), self.term(), self.next("then")
-            yes, _ = self.term(), self.next("else")
-            return ("if", condition, yes, self.term())
+        """Reads a term in which the operators outside of brackets bind at least so strongly."""
+        match self.peek():
+            case "(" if names := self.bound():
+                return self.binder(names)
+            case "λ":
+                names, word = [], self.next()
+                while not word.endswith("."):
+                    word = self.next()
+                    if word == "(":  # λ (NAME : TYPE).
+                        names, _, _, _ = [*names, self.next()], self.next(":"), self.term(), self.next(")")
+                    elif word != ".":
+                        names.append(word.rstrip("."))
+                return ("function", names, self.term())
+            case "let":
+                _, name = self.next(), self.next()
+                if self.next("=", ":") == ":":
+                    self.term()
+                    self.next("=")
+                value, _ = self.term(), self.next("in")
+                return ("apply", ("function", [name], self.term()), [value])
+            case "if":
+                _, condition, _ = self.next(), self.term(), self.next("then")
+                yes, _ = self.term(), self.next("else")
+                return ("operator", "if", condition, yes, self.term())
         left = self.application()
         while self.peek() in OPERATORS:
             strength, side = OPERATORS[self.peek()]
@@ -94,17 +95,17 @@ class Parser:
             left = ("operator", self.next(), left, self.term(strength))
         return left
 
-    def is_binder(self):
-        ahead = 1
-        while re.match(r"[\w']+$", self.peek(ahead) or ""):
-            ahead += 1
-        return ahead > 1 and self.peek(ahead) == ":"
+    def bound(self):
+        """Returns the names in brackets here, if they are names with a type."""
+        names = list(itertools.takewhile(NAME.match, self.tokens[self.place + 1:-1]))
+        return names if self.tokens[self.place + 1 + len(names)] == ":" else []
 
-    def binder(self):
+    def binder(self, names):
         """Names with a type and the term after them: there are such values (×), or for all such values (→)."""
-        self.next()
-        names = list(iter(self.next, ":"))
-        kind, _ = self.term(), self.next(")")
+        first = self.place + 2 + len(names)
+        self.place = first
+        self.term()
+        kind, _ = " ".join(word for word in self.tokens[first:self.place] if word not in "(){}"), self.next(")")
         sign = self.next("×", "→") if self.peek() != "(" else None
         body = self.term(1 if sign == "×" else 0)
         return ("binder", sign or body[1], names, kind, body)
@@ -114,10 +115,8 @@ class Parser:
         while self.peek() not in ENDS and self.peek() not in OPERATORS:
             if self.peek() == "{":
                 self.skip_braces()
-            elif self.peek() in ("λ", "let", "if"):
-                args.append(self.term())
             else:
-                args.append(self.atom())
+                args.append(self.term() if self.peek() in ("λ", "let", "if") else self.atom())
         return ("apply", head, args) if args else head
 
     def skip_braces(self):
@@ -129,17 +128,17 @@ class Parser:
 
     def atom(self):
         word = self.next()
-        if word in ENDS or word in OPERATORS or word == "{":
+        if word in ENDS or word in OPERATORS or word in '{"':
             cannot(f"{word} is where a term is expected", Malformed)
         if word == "(":
             parts = [("name", "tt")] if self.peek() == ")" else [self.term()]
             while self.next(",", ")") == ",":
                 parts += [self.term()] if self.peek() != ")" else []
-            tree = functools.reduce(lambda second, first: ("pair", first, second), parts[-2::-1], parts[-1])
+            tree = functools.reduce(lambda second, first: ("operator", ",", first, second), parts[-2::-1], parts[-1])
         elif word == "record":
             tree = self.record()
         elif word == "¬":
-            tree = ("apply", ("name", "not"), [self.application()])
+            tree = ("operator", "¬", self.application())
         elif word[0] == '"':
             tree = ("text", re.sub(r"\\(.)", lambda match: ESCAPED.get(match[1], match[1]), word[1:-1]))
         elif NUMBER.match(word):
@@ -147,20 +146,18 @@ class Parser:
         else:
             tree = ("name", word)
         while re.match(r"\.\w", self.peek() or ""):
-            for field in self.next()[1:].split("."):
-                tree = ("field", tree, field)
+            tree = functools.reduce(lambda tree, field: ("field", tree, field), self.next()[1:].split("."), tree)
         return tree
 
     def record(self):
-        base = None if self.peek() == "{" else self.atom()
-        fields = []
+        base, fields = None if self.peek() == "{" else self.atom(), []
         self.next("{")
-        while self.peek() != "}":
-            name, _ = self.next(), self.next("=")
-            fields.append((name, self.term()))
-            if self.next(";", "}") == "}":
-                return ("record", base, fields)
-        self.next()
+        while (name := self.next()) != "}":
+            if name in dict(fields):
+                cannot(f"{name} is given twice", Malformed)
+            _, value = self.next("="), self.term()
+            fields.append((name, value))
+            _ = self.peek() == "}" or self.next(";")
         return ("record", base, fields)
 
 
@@ -170,66 +167,56 @@ PASSED_OVER = re.compile(r"\s*(--|((pub|ghost) )*use |pub mod |infix|unfolding\b
 EXPLICIT = re.compile(r"\(([\w' ]+) :")  # the names of parameters that calls give
 
 
-def words_of(tree):
-    """Returns the names in a tree, without the fields that follow them."""
-    if tree[:1] == ("name",) and isinstance(tree[1], str):
-        return {tree[1].split(".")[0]}
-    return set().union(*(words_of(part) for part in tree if isinstance(part, (tuple, list))))
-
-
 class Definition:
-    """A definition as it is in its file. `outer` are the parameters of the part of the module that it is in, and `sides`
-    the patterns and the right side of each equation. A record with parameters is a statement, that its fields hold."""
+    """A definition as it is in its file. `outer` are the parameters of the part of the module that it is in."""
 
-    def __init__(self, name, kind, line, depth, outer, lines):
-        self.name, self.kind, self.line, self.depth, self.outer, self.lines = name, kind, line, depth, outer, lines
-        self.sides, self.arity, self.error = None, None, None
+    def __init__(self, name, kind, depth, outer, lines):
+        self.name, self.kind, self.depth, self.outer, self.lines = name, kind, depth, outer, lines
 
-    def read(self):
-        """Reads the equations or the fields, the first time that they are needed."""
-        if self.sides is None:
-            try:
-                self.sides = self.equations() if self.kind == "function" else self.statement()
-                self.arity = len(self.outer) + len(self.sides[0][0]) if self.sides else None
-            except Malformed as error:
-                self.sides, self.error = (), f"{self.name}: {error}"
-        return self
+    @functools.cached_property
+    def sides(self):
+        """The patterns and the right side of each equation, which are read when they are first needed."""
+        return self.statement() if self.kind == "record" else self.equations() if self.kind == "function" else []
+
+    @functools.cached_property
+    def arity(self):
+        """The number of arguments, or None if the definition is a type or malformed."""
+        try:
+            return len(self.outer) + len(self.sides[0][0]) if self.sides else None
+        except Malformed:
+            return None
 
     def equations(self):
-        start = r"\S.* = " if "◌" in self.name else re.escape(self.name) + " "
-        texts = self.texts(f" {{{self.depth}}}{start}")
-        return [self.sides_of(lex(text)) for text in texts] or cannot("no equation", Malformed)
+        return [*map(self.equation, self.texts(self.depth))] or cannot(f"{self.name} has no equation", Malformed)
+
+    def equation(self, text):
+        """Divides an equation at its first `=` outside of brackets, and the left side into patterns."""
+        tokens = lex(text)
+        depths = itertools.accumulate((word in ("(", "{")) - (word in (")", "}")) for word in tokens)
+        equals = next((place for place, depth in enumerate(depths) if not depth and tokens[place] == "="), 0)
+        left, right = Parser([*tokens[:equals], None]).whole(), Parser(tokens[equals + 1:]).whole()
+        return (left[2:] if "◌" in self.name else left[2] if left[0] == "apply" else []), right
 
     def statement(self):
-        """Returns the statement of a record as an equation. A field that other fields name is a value that there is."""
+        """Returns a record with parameters as an equation: its fields are statements that hold. A field that other
+        fields name, or that is a list, is a value that there is. A record without parameters is a type."""
         params = " ".join(EXPLICIT.findall(" ".join(self.lines).split(" : Type")[0])).split()
-        fields = [re.match(r"pub (\S+) : (.*)", text, re.S).groups() for text in self.texts(r"\s+pub \S+ : ")]
-        if self.kind == "data" or not params or not fields:
-            return ()
-        trees = {name: Parser(lex(text)).whole() for name, text in fields}
-        used = set().union(*map(words_of, trees.values())) - {*params}
-        values = [name for name in trees if name in used]
-        parts = [tree for name, tree in trees.items() if name not in used]
+        fields = {text.split()[1]: lex(text.partition(" : ")[2]) for text in self.texts(self.depth + 2)}
+        if not params or not fields:
+            return []
+        words = itertools.chain(*map(itertools.pairwise, fields.values()))
+        used = {word.split(".")[0] for word, after in words if after != "="} - {*params}
+        used |= {name for name, tokens in fields.items() if tokens[0] == "List"}
+        values = [name for name in fields if name in used]
+        parts = [Parser(tokens).whole() for name, tokens in fields.items() if name not in used]
         body = functools.reduce(lambda later, part: ("operator", "×", part, later), parts[-2::-1], parts[-1])
-        body = ("binder", "×", values, ("name", "value"), body) if values else body
+        body = ("binder", "×", values, "value", body) if values else body
         return [([("name", name) for name in params], body)]
 
-    def texts(self, start):
-        """Divides the lines of the definition at those that begin so."""
-        places = [place for place, line in enumerate(self.lines) if place and re.match(start, line + " ")]
+    def texts(self, depth):
+        """Divides the lines of the definition after the first at those that are this far in."""
+        places = [place for place, line in enumerate(self.lines) if place and re.match(f" {{{depth}}}[^\\s)}}]", line)]
         return ["\n".join(self.lines[a:b]).strip() for a, b in itertools.pairwise([*places, len(self.lines)])]
-
-    def sides_of(self, tokens):
-        depths = itertools.accumulate((word in "({") - (word in ")}") for word in tokens)
-        equals = next((place for place, depth in enumerate(depths) if not depth and tokens[place] == "="), 0)
-        left, right = tokens[:equals], Parser(tokens[equals + 1:]).whole()
-        if "◌" in self.name:
-            sign = left.index(self.name.strip("◌"))
-            return [Parser(left[:sign]).whole(), Parser(left[sign + 1:]).whole()], right
-        parser, patterns = Parser(left[1:]), []
-        while parser.peek() is not None:
-            patterns += [parser.atom()] if parser.peek() != "{" else parser.skip_braces() or []
-        return patterns, right
 
 
 class Module:
@@ -248,7 +235,7 @@ class Module:
         """Divides the text into definitions. The parameters of a line `module _ .. where` are first arguments of those
         that are further in."""
         current, outer = None, []
-        for number, line in enumerate(self.text.split("\n"), 1):
+        for line in self.text.split("\n"):
             depth, begins = len(line) - len(line.lstrip()), BEGINS.match(line)
             if PASSED_OVER.match(line):
                 continue
@@ -256,12 +243,11 @@ class Module:
                 current, outer = None, " ".join(EXPLICIT.findall(line)).split()
             elif begins and not (current and current.kind != "function" and depth > current.depth):
                 kind = {"pub record": "record", "pub data": "data"}.get(begins[2], "function")
-                current = Definition(begins[3], kind, number, depth, outer if depth else [], [begins[4]])
+                current = Definition(begins[3], kind, depth, outer if depth else [], [begins[4]])
                 self.definitions[current.name] = current
             elif current:
                 current.lines.append(line)
-        for definition in self.definitions.values():
-            if definition.kind == "data":
-                names = [line.split(" :")[0].strip() for line in definition.lines[1:] if " :" in line]
-                self.constructors |= {name: f"{self.key}.{definition.name}.{name}" for name in names}
+                if current.kind == "data" and " :" in line:
+                    name = line.split(" :")[0].strip()
+                    self.constructors[name] = f"{self.key}.{current.name}.{name}"
         return self
