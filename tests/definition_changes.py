@@ -499,9 +499,11 @@ class Definition:
                     yield f"{left} = ..: the right side of the next", text[:first] + its + text[last:]
 
     def field_changes(self):
-        """Without what a field of a record says."""
+        """Without what a field of a record says. A field that others name is a value, and says nothing."""
+        words = [word.split(".")[0] for part, begin in self.parts for word, _, _ in part.tokens[begin:]]
         for part, begin in self.parts if self.kind == "record" else []:
-            yield f"{part.word(1)}: without it", part.replaced(begin, len(part.tokens), "Unit {0}")
+            if part.word(1) not in words:
+                yield f"{part.word(1)}: without it", part.replaced(begin, len(part.tokens), "Unit {0}")
 
 
 def words_of(text):
