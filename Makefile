@@ -1,7 +1,8 @@
 # make test: the gate, with as many tasks at a time as there are processors (RT_JOBS=N: with N), and what each crate
 # costs. Then tests/run runs the scripts of `checks` below, whose first lines describe them, and reports what was skipped.
 # make examples: all examples of the pages. make scripts: the scripts of examples/ and the packages of make package.
-# Whatever needs a missing package is skipped.
+# Whatever needs a missing package, a right or a part of the kernel that isn't there is skipped. CI runs both, but not
+# the scripts of `not_in_ci`.
 # make definitions: changes of the trusted definitions, each of which an example or a law must see.
 # make bench: the speed of the program.
 # make install, make uninstall: the proved program with its manual pages, completions, scripts, pages and examples, below
@@ -26,9 +27,13 @@ checks = 'docs/trusted >out/trusted' docs/words tests/out_of_memory tests/by_han
 	tests/calls/run tests/borrow tests/build tests/program tests/system tests/hashing tests/instructions tests/memory \
 	tests/install tests/verify tests/evaluate tests/shared 'tests/report --without-packages' \
 	'tests/many --without-packages' 'tests/lint flows lost' 'examples/run --without-packages'
-# Scripts that check the scripts of examples/ and the packages.
-checks_of_scripts = tests/capture tests/country tests/customers tests/endings tests/fib tests/lint tests/many \
-	tests/nfcapd tests/package tests/pictures tests/report tests/table
+# Scripts that check the scripts of examples/.
+checks_of_scripts = tests/capture tests/country tests/customers tests/nfcapd tests/pictures
+# CI leaves these out. tests/package fetches a Debian tree from a mirror, which may not answer. tests/many starts Dask,
+# whose time limits a busy machine may pass. tests/lint and tests/report compare CPU seconds, which depend on what else
+# runs. `checks` has the parts of these three that need no package and measure nothing. tests/endings, tests/fib and
+# tests/table send signals and use namespaces: they haven't been seen as a whole on a machine that has no right to them.
+not_in_ci = tests/endings tests/fib tests/lint tests/many tests/package tests/report tests/table
 
 # The gate also builds the program, so bin/flowlabel has nothing to build.
 test:
@@ -39,7 +44,7 @@ examples:
 	examples/run
 
 scripts:
-	tests/run $(checks_of_scripts)
+	tests/run $(checks_of_scripts) $(not_in_ci)
 
 definitions:
 	tests/definitions
