@@ -19,6 +19,7 @@ use Rattle.pmap_cert.specs.declared.fault.CertFault.{CertFault}
 use Rattle.flow_filter.specs.declared.option.FilterOption.{FilterOption}
 use Rattle.flow_uniq.specs.declared.field.KeyField.{KeyField}
 use Rattle.clap.specs.Words.{fault_of}
+use Rattle.definition_examples.specs.Devices.{flushes_by}
 use Rattle.flow_io.specs.Devices.{InputView, OutputView}
 use Rattle.flow_io.specs.declared.devices.LastCall.{LastCall}
 use Rattle.flowlabel.specs.Answer.{Answers, is_help, is_mistake}
@@ -228,10 +229,9 @@ file_with name reader = Some (record { name = named name; reader = reader })
 abbrev pub of_files : {T : Type 0} → T → T → T → T → ByFile T
 of_files map list certificate flows = record { map = map; list = list; certificate = certificate; flows = flows }
 
--- a reader that has returned these bytes and reads these ahead; whether it has ended, and whether it has failed
-abbrev pub reader_of : Bool → Bool → Text → Text → InputView
-reader_of failed ended returned ahead =
-    record { failed = failed; returned = returned; fetched = returned ++ ahead; ahead = ahead; stopped = ended; left = None }
+-- a reader that has returned these bytes; whether it has failed, and whether it has ended
+abbrev pub reader_of : Bool → Bool → Text → InputView
+reader_of failed ended returned = record { failed = failed; returned = returned; stopped = ended; left = None }
 
 abbrev pub seen_of : InputView → InputView
 seen_of view = view
@@ -242,7 +242,7 @@ map_read reader = of_files (file_with (codes "map.txt") reader) None None None
 
 -- a writer that has taken these bytes, whose last call was this one, and that has failed or not
 abbrev pub writer_of : Bool → LastCall → Text → OutputView
-writer_of failed last taken = record { failed = failed; last_call = last; taken = taken; contents = None }
+writer_of failed last taken = record { failed = failed; last_call = last; flushes = flushes_by last; taken = taken; contents = None }
 
 abbrev pub shown_of : OutputView → OutputView
 shown_of view = view

@@ -24,7 +24,7 @@ ghost use Rattle.flow_filter.specs.declared.option.FilterOption.TheVariants.{Any
 ghost use Rattle.flow_uniq.specs.declared.fault.KeyFault.TheVariants.{BadField, FieldRepeated, NoMemory as NoMemoryForKeys};
 ghost use Rattle.flow_uniq.specs.declared.field.KeyField.TheVariants as field;
 ghost use Rattle.definition_examples.specs.Commands.{Checks, Counts, Drops, Groups, HasCertificateFault, HasCheckFault, HasFlowsFault, HasListFault, HasMapFault, Keeps, Labels, LabelsByList, Recerts, Reports, StandardError, StandardOutput, Writes, both_ways, by_list, by_map, day, empty, halves_certificate, halves_map, head, labelled_flow, labelled_header, long_address, named, of_flows, of_list, of_map, one_flow, quarters_list, quarters_map, quarters_nodes, seen, Asks, HasUsageFault, asks_for_help, is_refused, file_with, map_read, of_files, opens, reader_of, seen_of, shown_of, writer_of};
-ghost use Rattle.flowlabel.specs.Run.{AreAllFetched, AreLaterUntouched, AreTexts, AreUnread, IsNamed, MayHave, any_failed, view_of};
+ghost use Rattle.flowlabel.specs.Run.{AreLaterUntouched, AreTexts, AreUnread, IsNamed, MayHave, any_failed, view_of};
 ghost use Rattle.flowlabel.specs.Request.{Text, FromList, FromMap, IsProper};
 ghost use Rattle.flowlabel.specs.declared.command.Command.TheVariants as command;
 ghost use Rattle.flowlabel.specs.declared.command.Shrunk.TheVariants as shrunk;
@@ -257,9 +257,9 @@ pub fn a_run_reports_any_other_fault()
 
 /// A file that was read to its end has the bytes that were read. Any bytes may follow those of another file.
 pub fn a_file_may_have_a_text()
-    ensures whole { (text : Text) → MayHave (record { failed = false; returned = codes "mode ipv4\n"; fetched = codes "mode ipv4\n"; ahead = []; stopped = true; left = None }) text → text ≡ codes "mode ipv4\n" }
-    ensures begun { (rest : Text) → MayHave (record { failed = false; returned = codes "mode ipv4\n"; fetched = codes "mode ipv4\n"; ahead = []; stopped = false; left = None }) (codes "mode ipv4\n" ++ rest) }
-    ensures not_at_its_end { (rest : Text) → MayHave (record { failed = false; returned = codes "mode ipv4\n"; fetched = codes "mode ipv4\n"; ahead = []; stopped = true; left = Some (codes "x") }) (codes "mode ipv4\n" ++ rest) }
+    ensures whole { (text : Text) → MayHave (record { failed = false; returned = codes "mode ipv4\n"; stopped = true; left = None }) text → text ≡ codes "mode ipv4\n" }
+    ensures begun { (rest : Text) → MayHave (record { failed = false; returned = codes "mode ipv4\n"; stopped = false; left = None }) (codes "mode ipv4\n" ++ rest) }
+    ensures not_at_its_end { (rest : Text) → MayHave (record { failed = false; returned = codes "mode ipv4\n"; stopped = true; left = Some (codes "x") }) (codes "mode ipv4\n" ++ rest) }
 {}
 
 /// FORMATS.md, "Commands" and "Filters": what the words of a command line ask for.
@@ -404,23 +404,21 @@ pub fn a_fault_names_no_other_file()
 
 /// The texts that a file may have, by the bytes that its reads returned.
 pub fn a_reader_may_have_a_text()
-    ensures all_of_it { MayHave (reader_of false true (codes "ab") (codes "")) (codes "ab") }
-    ensures not_more_after_the_end { MayHave (reader_of false true (codes "ab") (codes "")) (codes "abc") → ⊥ }
-    ensures of_one_file { AreTexts seen_of (map_read (reader_of false true (codes "ab") (codes ""))) (of_map (codes "ab")) }
+    ensures all_of_it { MayHave (reader_of false true (codes "ab")) (codes "ab") }
+    ensures not_more_after_the_end { MayHave (reader_of false true (codes "ab")) (codes "abc") → ⊥ }
+    ensures of_one_file { AreTexts seen_of (map_read (reader_of false true (codes "ab"))) (of_map (codes "ab")) }
 {}
 
 /// What contracts see of the readers of a command's files.
 pub fn readers_are_seen()
-    ensures a_missing_file { view_of seen_of None ≡ record (reader_of false true [] []) { left = Some [] } }
-    ensures a_file { view_of seen_of (file_with (codes "x") (reader_of false false (codes "ab") (codes "c"))) ≡ (reader_of false false (codes "ab") (codes "c")) }
-    ensures none_failed { any_failed seen_of (map_read (reader_of false false (codes "ab") (codes ""))) ≡ false }
-    ensures the_map_failed { any_failed seen_of (of_files (file_with (codes "x") (reader_of true false (codes "ab") (codes ""))) None None None) ≡ true }
-    ensures the_list_failed { any_failed seen_of (of_files None (file_with (codes "x") (reader_of true false (codes "ab") (codes ""))) None None) ≡ true }
-    ensures the_certificate_failed { any_failed seen_of (of_files None None (file_with (codes "x") (reader_of true false (codes "ab") (codes ""))) None) ≡ true }
-    ensures the_flows_failed { any_failed seen_of (of_files None None None (file_with (codes "x") (reader_of true false (codes "ab") (codes "")))) ≡ true }
-    ensures nothing_is_read { AreUnread seen_of (map_read (reader_of false false (codes "") (codes ""))) }
-    ensures all_is_fetched { AreAllFetched seen_of (map_read (reader_of false false (codes "a") (codes "b"))) }
-    ensures bytes_are_ahead { AreUnread seen_of (map_read (reader_of false false [] (codes "x"))) }
+    ensures a_missing_file { view_of seen_of None ≡ record (reader_of false true []) { left = Some [] } }
+    ensures a_file { view_of seen_of (file_with (codes "x") (reader_of false false (codes "ab"))) ≡ (reader_of false false (codes "ab")) }
+    ensures none_failed { any_failed seen_of (map_read (reader_of false false (codes "ab"))) ≡ false }
+    ensures the_map_failed { any_failed seen_of (of_files (file_with (codes "x") (reader_of true false (codes "ab"))) None None None) ≡ true }
+    ensures the_list_failed { any_failed seen_of (of_files None (file_with (codes "x") (reader_of true false (codes "ab"))) None None) ≡ true }
+    ensures the_certificate_failed { any_failed seen_of (of_files None None (file_with (codes "x") (reader_of true false (codes "ab"))) None) ≡ true }
+    ensures the_flows_failed { any_failed seen_of (of_files None None None (file_with (codes "x") (reader_of true false (codes "ab")))) ≡ true }
+    ensures nothing_is_read { AreUnread seen_of (map_read (reader_of false false (codes ""))) }
 {}
 
 /// FORMATS.md, "Statuses and fault lines": the line of a fault goes to standard error, if there is memory for it.

@@ -1,17 +1,18 @@
 -- Bytes that readers return and writers take, one call after another.
-use Rattle.std.proofs.Common.{◌≡◌, ℕ, ◌+◌, ◌≤◌, List, [], ◌++◌, length, take, sym, ap, ◌∙◌, append_assoc, append-nil, length-take, arith}
+use Rattle.std.proofs.Common.{◌≡◌, ℕ, ◌+◌, ◌-◌, ◌≤◌, List, [], ◌++◌, length, take, drop, sym, ap, ◌∙◌, append_assoc, append-nil, length-take, arith, slice_range}
+use Rattle.std.proofs.Math.Seq.{take-add}
+use Rattle.std.proofs.lemmas.List.{drop-drop, take_at}
 use lib.Seq.{take-append-add, take-append-le}
 use borrow.Rule.Slice.PartMut.{put_mid, post_of}
 use Rattle.std.proofs.KnownBytes.{Appends-trans, Consumes-nil, Consumes-trans}
 use Rattle.flow_io.specs.Devices.{InputView, OutputView, Gives, Takes}
 
 pub gives_none : (a : InputView) → Gives a a []
-gives_none a = record { returned = sym (append-nil a.returned); fetched = λ same. same; left = Consumes-nil a.left }
+gives_none a = record { returned = sym (append-nil a.returned); left = Consumes-nil a.left }
 
 pub gives_more : {a b c : InputView} {front more : List ℕ} → Gives a b front → Gives b c more → Gives a c (front ++ more)
 gives_more {a} {b} {c} {front} {more} first second = record {
   returned = second.returned ∙ ap (λ l. l ++ more) first.returned ∙ append_assoc a.returned front more;
-  fetched = λ same. second.fetched (first.fetched same);
   left = Consumes-trans a.left b.left c.left front more first.left second.left;
 }
 
@@ -30,3 +31,13 @@ take_filled a k n xs ys within most =
     let whole = put_mid a k xs ys in
     let front = take a xs in
     ap (λ (m : ℕ). take (m + n) whole) (sym (take_length a xs within)) ∙ take-append-add front (ys ++ post_of a k xs) n ∙ ap (λ (l : List ℕ). front ++ l) (take-append-le n ys (post_of a k xs) most)
+
+-- from a on, n bytes are copied to the start of a buffer
+pub moved_ahead : (a b n : ℕ) (xs all ys rest : List ℕ) → n ≤ b - a → length ys ≡ n → ys ≡ slice_range all a (a + n) → all ≡ xs
+    → slice_range xs a b ≡ take n (ys ++ rest) ++ slice_range xs (a + n) b
+moved_ahead a b n xs all ys rest most len copied same =
+    let parts : b - a ≡ n + (b - (a + n)) = omega (arith, most) in
+    let front : take n (drop a xs) ≡ take n (ys ++ rest) =
+        ap (λ l. take n (drop a l)) (sym same) ∙ ap (λ m. take m (drop a all)) (omega arith) ∙ sym copied ∙ sym (take_at ys rest n len) in
+    ap (λ m. take m (drop a xs)) parts ∙ take-add n (b - (a + n)) (drop a xs) ∙ ap (λ l. l ++ take (b - (a + n)) (drop n (drop a xs))) front
+    ∙ ap (λ l. take n (ys ++ rest) ++ take (b - (a + n)) l) (drop-drop n a xs)

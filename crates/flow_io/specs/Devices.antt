@@ -1,37 +1,30 @@
-use Rattle.std.specs.Prelude.{◌≡◌, ◌==◌, ◌&&◌, ◌||◌, ◌+◌, ℕ, Bool, true, false, List, [], Option, Result, Ok, Err, length, take, ◌⊎◌, ◌++◌, nat_lt, unwrap_or}
+use Rattle.std.specs.Prelude.{◌≡◌, ◌==◌, ◌&&◌, ◌||◌, suc, ℕ, Bool, true, false, List, [], Option, Result, Ok, Err, length, take, ◌⊎◌, ◌++◌, nat_lt, unwrap_or}
 use Rattle.std.specs.Io.KnownBytes.{Appends, Consumes}
 pub use Rattle.flow_io.specs.declared.devices.LastCall.{LastCall}
 pub use Rattle.flow_io.specs.declared.devices.LastCall.TheVariants.{FailedFlush, Flush, Nothing, Write}
 use Rattle.flow_io.specs.declared.whole.ReadStop.{ReadStop}
 use Rattle.flow_io.specs.declared.whole.ReadStop.TheVariants.{ReadFault, NoMemory}
 
--- What contracts see of a reader: whether a read has failed, the bytes that reads have returned, the bytes that were
--- fetched for them, those of them that are still ahead, whether the last read returned no byte although there was room
--- for one, and the bytes that are left, if the reader reports them. A reader that doesn't read ahead fetches what it
--- returns.
+-- What contracts see of a reader: whether a read has failed, the bytes that reads have returned, whether the last read
+-- returned no byte although there was room for one, and the bytes that are left, if the reader reports them.
 pub record InputView : Type 0 where
   pub failed : Bool
   pub returned : List ℕ
-  pub fetched : List ℕ
-  pub ahead : List ℕ
   pub stopped : Bool
   pub left : Option (List ℕ)
 
--- the bytes fetched are the ones that reads have returned, and then the ones ahead
-abbrev pub AreFetched : InputView → Type 0
-AreFetched input = input.fetched ≡ input.returned ++ input.ahead
-
--- What contracts see of a writer: whether a call has failed, the last call, the bytes that writes have taken, and all
--- bytes that the writer holds, if it reports them.
+-- What contracts see of a writer: whether a call has failed, the last call, how many calls were flushes, the bytes that
+-- writes have taken, and all bytes that the writer holds, if it reports them.
 pub record OutputView : Type 0 where
   pub failed : Bool
   pub last_call : LastCall
+  pub flushes : ℕ
   pub taken : List ℕ
   pub contents : Option (List ℕ)
 
--- the last read found the end of the input, and no byte is ahead, or left, as far as the reader reports it
+-- the last read found the end of the input, and no byte is left, as far as the reader reports it
 abbrev pub has_ended : InputView → Bool
-has_ended input = input.stopped && length input.ahead + length (unwrap_or input.left []) == 0
+has_ended input = input.stopped && length (unwrap_or input.left []) == 0
 
 -- these bytes may follow those that reads have returned: none after the end, otherwise any
 abbrev pub MayFollow : Bool → List ℕ → Type 0
@@ -42,17 +35,20 @@ pub record Takes (old new : OutputView) (bytes : List ℕ) : Type 0 where
   pub taken : new.taken ≡ old.taken ++ bytes
   pub contents : Appends old.contents new.contents bytes
 
--- the writer took exactly these bytes, and was flushed last
+-- the writer took exactly these bytes, and was then flushed once
 abbrev pub WritesWhole : OutputView → OutputView → List ℕ → Type 0
-WritesWhole old new bytes = Takes old new bytes × (new.last_call ≡ Flush) × (new.failed ≡ false)
+WritesWhole old new bytes =
+    Takes old new bytes × (new.last_call ≡ Flush) × (new.flushes ≡ suc old.flushes)
+    × (new.failed ≡ false)
 
 -- the writer was to take these bytes and then be flushed, and failed: at a write, with a prefix of them taken, or at the
 -- flush, with all of them taken
 abbrev pub StopsWriting : OutputView → OutputView → List ℕ → Type 0
 StopsWriting old new bytes =
     (((front rest : List ℕ) × (bytes ≡ front ++ rest) × Takes old new front
-    × (new.last_call ≡ Write))
-    ⊎ (Takes old new bytes × (new.last_call ≡ FailedFlush))) × (new.failed ≡ true)
+    × (new.last_call ≡ Write) × (new.flushes ≡ old.flushes))
+    ⊎ (Takes old new bytes × (new.last_call ≡ FailedFlush)
+    × (new.flushes ≡ suc old.flushes))) × (new.failed ≡ true)
 
 -- Below: only contracts of parts and proofs use these; no promise of the program rests on them.
 
@@ -81,11 +77,9 @@ is_failed_read (Err NoMemory) = false
 
 -- Which bytes a reader returns.
 
--- reads return these bytes, which are among the bytes fetched; of a reader that reports the bytes left they are the first
--- ones
+-- reads return these bytes; of a reader that reports the bytes left they are the first ones
 pub record Gives (old new : InputView) (bytes : List ℕ) : Type 0 where
   pub returned : new.returned ≡ old.returned ++ bytes
-  pub fetched : AreFetched old → AreFetched new
   pub left : Consumes old.left new.left bytes
 
 -- a read returns the `count` bytes at the start of the buffer if it returns `Ok count`, and none if it returns `Err`

@@ -1,4 +1,4 @@
-use Rattle.std.specs.Prelude.{Some, ℕ, []}
+use Rattle.std.specs.Prelude.{Some, ℕ, length}
 use Rattle.flow_io.specs.Devices.{InputView, OutputView}
 use Rattle.flow_io.specs.declared.memory.MemoryInput.{MemoryInput}
 use Rattle.flow_io.specs.declared.memory.MemoryOutput.{MemoryOutput}
@@ -9,11 +9,15 @@ abbrev pub input_in : MemoryInput → InputView
 input_in memory = record {
   failed = memory.failed;
   returned = memory.read.bytes;
-  fetched = memory.read.bytes;
-  ahead = [];
   stopped = memory.ended;
   left = Some memory.left.now;
 }
 
 abbrev pub output_in : {N : ℕ} → MemoryOutput N → OutputView
-output_in memory = record { failed = memory.failed; last_call = memory.last_call; taken = memory.taken.items; contents = Some memory.taken.items }
+output_in memory = record {
+  failed = memory.failed;
+  last_call = memory.last_call;
+  flushes = length memory.flushed.bytes;
+  taken = memory.taken.items;
+  contents = Some memory.taken.items;
+}

@@ -1,4 +1,4 @@
-ghost use Rattle.std.specs.Prelude.{◌≡◌, ◌≤◌, [], IfOk, length};
+ghost use Rattle.std.specs.Prelude.{◌≡◌, ◌≤◌, [], IfOk, length, suc};
 ghost use Rattle.flow_io.specs.Devices.{FailsOnErr, FailsOnShortWrite, InputView, OutputView, GivesCount, Takes, TakesCount, finds_end, flush_call, has_ended, Write};
 
 use thiserror::Error;
@@ -39,9 +39,9 @@ pub trait Input {
         ensures { result ≡ (input self.now).failed };
 }
 
-/// A writer that remembers whether it failed, and which call was the last one.
+/// A writer that remembers whether it failed, which call was the last one, and how many were flushes.
 pub trait Output {
-    // Whether a write or a flush has failed, the last call, and which bytes writes have taken.
+    // Whether a write or a flush has failed, the last call, the number of flushes, and which bytes writes have taken.
     ghost output: { Self → OutputView };
 
     /// Takes bytes from the start of the slice, and returns their number. After an `Err` no byte of the slice was
@@ -50,13 +50,15 @@ pub trait Output {
         ensures within { IfOk result (λ count. count ≤ length slice.now) }
         ensures taken { TakesCount (output self.old) (output self.new) result slice.now }
         ensures fails { FailsOnShortWrite (output self.old).failed (output self.new).failed result slice.now }
-        ensures last { (output self.new).last_call ≡ Write };
+        ensures last { (output self.new).last_call ≡ Write }
+        ensures unflushed { (output self.new).flushes ≡ (output self.old).flushes };
 
     /// Passes on the bytes that the writer holds back. The bytes taken stay as they are.
     fn flush(&mut self) -> Result<(), DeviceFault>
         ensures taken { Takes (output self.old) (output self.new) [] }
         ensures fails { FailsOnErr (output self.old).failed (output self.new).failed result }
-        ensures last { (output self.new).last_call ≡ flush_call result };
+        ensures last { (output self.new).last_call ≡ flush_call result }
+        ensures flushed { (output self.new).flushes ≡ suc (output self.old).flushes };
 
     /// Returns `true` if a call of `write` or `flush` has returned `Err`, or if a call of `write` has returned 0 for a
     /// nonempty slice.

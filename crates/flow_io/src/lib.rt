@@ -12,8 +12,8 @@
 //! The program reads its files and writes its output through the traits `Input` and `Output`. A reader has failed from
 //! its first call on that returned `Err`. A writer has also failed from its first call on that took nothing of a
 //! nonempty slice. `failed` reports this, so a caller can prove that it returns a read fault or a write fault only if a
-//! device failed. A writer also reports its last call, so a caller can prove that the output was flushed after its last
-//! byte.
+//! device failed. A writer also reports its last call and the number of its flushes, so a caller can prove that the output
+//! was flushed once, after its last byte.
 //!
 //! Contracts see which bytes the reads of a reader have returned, and which bytes the writes of a writer have taken. A
 //! type may also report its bytes: those that a reader will still return, or those that a writer holds. Then they are
@@ -26,7 +26,6 @@
 //! `ReadAhead::new` allocate.
 #![tactic(auto)]
 
-mod ahead;
 mod devices;
 mod laws;
 mod memory;

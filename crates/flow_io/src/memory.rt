@@ -1,5 +1,5 @@
 //! Readers and writers in memory, for tests.
-ghost use Rattle.std.specs.Prelude.{◌≡◌, ◌-◌, ◌≤◌, ◌↔◌, false, [], IfOk, IsErr, drop, length, max, min, nat_eq, unwrap_or, if◌then◌else◌};
+ghost use Rattle.std.specs.Prelude.{◌≡◌, ◌-◌, ◌≤◌, ◌↔◌, false, [], IfOk, IsErr, drop, length, max, min, nat_eq, suc, unwrap_or, if◌then◌else◌};
 ghost use Rattle.std.specs.Result.{result_unwrap_or};
 ghost use Rattle.flow_io.specs.Devices.{FailsOnErr, FailsOnShortWrite, GivesCount, Takes, TakesCount, finds_end, flush_call, has_ended, Nothing, Write};
 ghost use Rattle.flow_io.specs.Memory.{input_in, output_in};
@@ -105,6 +105,8 @@ pub struct MemoryOutput<const N: usize> {
     pub failed: bool,
     /// The last call.
     pub last_call: LastCall,
+    /// A byte for each flush.
+    pub flushed: Record,
 }
 
 impl<const N: usize> MemoryOutput<N> {
@@ -114,7 +116,7 @@ impl<const N: usize> MemoryOutput<N> {
     pub fn new(step: usize, fail_at: Option<u64>, zero: bool) -> Self
         ensures taken { result.taken.items ≡ [] }
         ensures settings { (result.step ≡ step) × (result.failing_call ≡ unwrap_or fail_at 0) × (result.zero ≡ zero) }
-        ensures fresh { (result.failed ≡ false) × (result.last_call ≡ Nothing) }
+        ensures fresh { (result.failed ≡ false) × (result.last_call ≡ Nothing) × (result.flushed.bytes ≡ []) }
     {
         MemoryOutput {
             taken: ArrayVec::new(),
@@ -123,6 +125,7 @@ impl<const N: usize> MemoryOutput<N> {
             zero,
             failed: false,
             last_call: LastCall::Nothing,
+            flushed: Record::new(),
         }
     }
 
@@ -142,6 +145,7 @@ impl<const N: usize> Output for MemoryOutput<N> {
         ensures taken { TakesCount (output_in self.old) (output_in self.new) result slice.now }
         ensures fails { FailsOnShortWrite self.old.failed self.new.failed result slice.now }
         ensures last { self.new.last_call ≡ Write }
+        ensures unflushed { (output_in self.new).flushes ≡ (output_in self.old).flushes }
 
         // When the call fails, otherwise how many bytes it takes, and what stays the same.
         ensures err { IsErr result ↔ ((self.old.failing_call ≡ 1) × (self.old.zero ≡ false)) }
@@ -167,10 +171,12 @@ impl<const N: usize> Output for MemoryOutput<N> {
         ensures taken { Takes (output_in self.old) (output_in self.new) [] }
         ensures fails { FailsOnErr self.old.failed self.new.failed result }
         ensures last { self.new.last_call ≡ flush_call result }
+        ensures flushed { (output_in self.new).flushes ≡ suc (output_in self.old).flushes }
         ensures err { IsErr result ↔ (self.old.failing_call ≡ 1) }
         ensures settings { (self.new.step ≡ self.old.step) × (self.new.zero ≡ self.old.zero) }
         ensures counted { self.new.failing_call ≡ self.old.failing_call - 1 }
     {
+        self.flushed.note(&[0]);
         if is_due(&mut self.failing_call) {
             self.failed = true;
             self.last_call = LastCall::FailedFlush;

@@ -10,8 +10,8 @@ use std::io::{Read, Write};
 /// it as a writer was the last one. Each call is passed on unchanged. Any error, including an interrupted call, is a
 /// `DeviceFault`.
 ///
-/// For contracts it also remembers the bytes that its reads have returned and its writes have taken. If the inner
-/// reader or writer reports its bytes, they are the ones that it reports.
+/// For contracts it also remembers the bytes that its reads have returned and its writes have taken, and a byte for each
+/// flush. If the inner reader or writer reports its bytes, they are the ones that it reports.
 #[derive(Drop)]
 pub struct Watched<T> {
     inner: T,
@@ -20,6 +20,7 @@ pub struct Watched<T> {
     last_call: LastCall,
     read: Record,
     taken: Record,
+    flushed: Record,
 }
 
 impl<T> Watched<T> {
@@ -27,7 +28,7 @@ impl<T> Watched<T> {
     pub fn new(inner: T) -> Self
         ensures inner { result.inner ≡ inner }
         ensures fresh { (result.failed ≡ false) × (result.ended ≡ false) × (result.last_call ≡ Nothing) }
-        ensures unmoved { (result.read.bytes ≡ []) × (result.taken.bytes ≡ []) }
+        ensures unmoved { (result.read.bytes ≡ []) × (result.taken.bytes ≡ []) × (result.flushed.bytes ≡ []) }
     {
         Watched {
             inner,
@@ -36,6 +37,7 @@ impl<T> Watched<T> {
             last_call: LastCall::Nothing,
             read: Record::new(),
             taken: Record::new(),
+            flushed: Record::new(),
         }
     }
 }
@@ -72,6 +74,7 @@ impl<T: Write> Output for Watched<T> {
     }
 
     fn flush(&mut self) -> Result<(), DeviceFault> {
+        self.flushed.note(&[0]);
         if self.inner.flush().is_err() {
             self.failed = true;
             self.last_call = LastCall::FailedFlush;

@@ -69,7 +69,7 @@ pub fn fill<R: Input>(reader: &mut R, bytes: &mut [u8]) -> Result<usize, DeviceF
     Ok(filled)
 }
 
-/// Writes all the bytes, and flushes the writer last. If a write fails, the writer has taken a prefix of them. If the
+/// Writes all the bytes, and then flushes the writer once. If a write fails, the writer has taken a prefix of them. If the
 /// flush fails, the writer has taken all of them.
 pub fn write_whole<W: Output>(writer: &mut W, bytes: &[u8]) -> Result<(), DeviceFault>
     requires { (W.output writer.old).failed ≡ false }

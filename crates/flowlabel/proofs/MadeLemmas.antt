@@ -31,7 +31,7 @@ use Rattle.flowlabel.specs.Reports.{AreLabels, AreLabelsOf, IsMade, IsReadOf, Is
 use Rattle.flowlabel.specs.declared.command.LabelFile.{LabelFile}
 use Rattle.flowlabel.specs.declared.command.LabelFile.TheVariants.{Map, List as Prefixes}
 use Rattle.flowlabel.specs.Request.{Command, Text, role_in}
-use Rattle.flowlabel.specs.Run.{AreAllFetched, AreLaterUntouched, AreReadOn, AreTexts, AreUnread, EndsAs, IsFaultOf, IsNamed, MayHave, RunFault, CannotRead, File, NoMemory as OutOfMemory, Source, any_failed, is_unread, name_in, view_of}
+use Rattle.flowlabel.specs.Run.{AreLaterUntouched, AreReadOn, AreTexts, AreUnread, EndsAs, IsFaultOf, IsNamed, MayHave, RunFault, CannotRead, File, NoMemory as OutOfMemory, Source, any_failed, is_unread, name_in, view_of}
 
 -- a result that passes on a fault has the properties of one with this fault
 pub handed_on : {A F : Type 0} (P : Result A F → Type 0) (r : Result A F) (fault : F) → IsErrAnd r (λ y. y ≡ fault) → P (Err fault) → P r
@@ -448,18 +448,15 @@ found_is (Some l) owned labels is same = ap (option_map labelling_of_stretches) 
 
 -- What a reader reports of its text: what it gave are the first bytes, and all of them once it has ended.
 
-none_follows : (stopped : Bool) (ahead : ℕ) (rest : List ℕ) → (stopped && ahead + length rest == 0) ≡ true → rest ≡ []
-none_follows stopped ahead [] end = refl
-none_follows true ahead (byte ∷ bytes) end = let none : ahead + (1 + length bytes) ≡ 0 = grind (arith, nat_tests, common_steps) in absurd (omega (arith, none))
-none_follows false ahead (byte ∷ bytes) end = cc
+none_follows : (stopped : Bool) (rest : List ℕ) → (stopped && length rest == 0) ≡ true → rest ≡ []
+none_follows stopped [] end = refl
+none_follows true (byte ∷ bytes) end = let none : 1 + length bytes ≡ 0 = grind (arith, nat_tests, common_steps) in absurd (omega (arith, none))
+none_follows false (byte ∷ bytes) end = cc
 
 reports : (new : InputView) (text bytes : List ℕ) (left : Option (List ℕ)) → new.left ≡ left → Consumes (Some text) left bytes → new.returned ≡ bytes → MayHave new text
 reports new text bytes None same gone all = absurd gone
 reports new text bytes (Some rest) same gone all =
-    (rest, (λ end. none_follows new.stopped (length new.ahead) rest (subst (λ o. (new.stopped && length new.ahead + length (unwrap_or o []) == 0) ≡ true) same end)), gone ∙ ap (λ (l : List ℕ). l ++ rest) (sym all))
-
-pub are_fetched : {R : Type 0} (input : R → InputView) (old new : ByFile (Option (Source R))) → AreReadOn input old new → AreAllFetched input old → AreAllFetched input new
-are_fetched input old new read all role = (read role).1.fetched (all role)
+    (rest, (λ end. none_follows new.stopped rest (subst (λ o. (new.stopped && length (unwrap_or o []) == 0) ≡ true) same end)), gone ∙ ap (λ (l : List ℕ). l ++ rest) (sym all))
 
 pub are_reported : {R : Type 0} (input : R → InputView) (old new : ByFile (Option (Source R))) → AreUnread input old → AreReadOn input old new
     → (role : Role) (text : Text) → (view_of input (at role old)).left ≡ Some text → MayHave (view_of input (at role new)) text

@@ -8,7 +8,7 @@ use Rattle.flowlabel.specs.ByFile.{ByFile}
 use Rattle.flowlabel.specs.Faults.{exit_status_of, fault_text}
 use Rattle.flowlabel.specs.Opening.{AreOpened, CannotOpenFirst}
 use Rattle.flowlabel.specs.Request.{Command, Text, files_of, request_of}
-use Rattle.flowlabel.specs.Run.{AreAllFetched, AreUnread, IsRunOf, RunFault, Source, Usage}
+use Rattle.flowlabel.specs.Run.{AreUnread, IsRunOf, RunFault, Source, Usage}
 use Rattle.flowlabel.specs.declared.usage.UsageFault.TheVariants as usage
 
 -- What the program does: how it ends for its words, which text it writes to which stream, and its exit status.
@@ -24,7 +24,6 @@ module _ {R W : Type 0} (answers : Text → Option R → Type 0) (input : R → 
       (IsErrAnd result (CannotOpenFirst answers (files_of (request_of command))) × (new ≡ old))
       ⊎ ((files : ByFile (Option (Source R)))
       × AreOpened answers (files_of (request_of command)) files × AreUnread input files
-      × AreAllFetched input files
       × (files' : ByFile (Option (Source R)))
       × IsRunOf input output command files files' old new result))
 

@@ -1,7 +1,6 @@
 use Rattle.std.specs.Prelude.{◌≡◌, ◌≤◌, ◌<◌, ◌||◌, ◌++◌, ⊤, ℕ, List, [], Option, Some, Result, Ok, Err, Bool, true, false}
 use Rattle.std.specs.Option.{option_map_or}
-use Rattle.flow_io.specs.Devices.{InputView, OutputView, AreFetched, MayFollow, ReadsInput, StopsWriting, Takes, has_ended}
-use Rattle.flow_io.specs.declared.devices.LastCall.TheVariants.{Flush}
+use Rattle.flow_io.specs.Devices.{InputView, OutputView, MayFollow, ReadsInput, StopsWriting, WritesWhole, has_ended}
 use Rattle.ipfix_read.specs.Messages.{StopsReading}
 use Rattle.ipfix_read.specs.declared.fault.ReadFault.{ReadFault}
 use Rattle.flowlabel.specs.BytesFault.{role_of}
@@ -51,8 +50,6 @@ module _ {R : Type 0} (input : R → InputView) where
       (record {
         failed = false;
         returned = [];
-        fetched = [];
-        ahead = [];
         stopped = true;
         left = Some [];
       })
@@ -65,10 +62,6 @@ module _ {R : Type 0} (input : R → InputView) where
   -- nothing of the files is read yet
   abbrev pub AreUnread : Readers R → Type 0
   AreUnread files = (role : Role) → (view_of (at role files)).returned ≡ []
-
-  -- the bytes fetched of the files are the ones that reads have returned, and then the ones ahead
-  abbrev pub AreAllFetched : Readers R → Type 0
-  AreAllFetched files = (role : Role) → AreFetched (view_of (at role files))
 
   -- the files may have these texts
   abbrev pub AreTexts : Readers R → ByFile Text → Type 0
@@ -94,15 +87,14 @@ module _ {R : Type 0} (input : R → InputView) where
 -- The functions are what contracts see of a reader and of a writer.
 module _ {R W : Type 0} (input : R → InputView) (output : W → OutputView) where
   -- The writer took exactly the output over each text that the files may have, for which the headline holds, and was
-  -- flushed. After a write fault it has a prefix of the output, or all of it if the flush failed. Any other fault comes
+  -- then flushed once. After a write fault it has a prefix of the output, or all of it if the flush failed. Any other fault comes
   -- before it is called. A fault of a device comes exactly from a device that failed.
   abbrev pub EndsAs : Command → Readers R → Readers R → W → W
       → Result (Unit {0}) RunFault → Type 0
   EndsAs command old new writer writer' (Ok done) =
       (out : Text) × ((texts : ByFile Text) → AreTexts input new texts
       → IsOutput command texts (Ok out) × IsHeadline command texts out)
-      × Takes (output writer) (output writer') out × ((output writer').last_call ≡ Flush)
-      × ((output writer').failed ≡ false) × (any_failed input new ≡ false)
+      × WritesWhole (output writer) (output writer') out × (any_failed input new ≡ false)
   EndsAs command old new writer writer' (Err CannotWrite) =
       (out : Text) × ((texts : ByFile Text) → AreTexts input new texts
       → IsOutput command texts (Ok out))
@@ -111,12 +103,11 @@ module _ {R W : Type 0} (input : R → InputView) (output : W → OutputView) wh
       (made : OutputFault) × IsNamed (each name_in old) made fault
       × IsFaultOf input (IsOutput command) old new made × (writer' ≡ writer)
 
-  -- What a run does; that no other bytes were fetched; and that a text which a reader reports is among those that its file
-  -- may have: then the output is the one over this text.
+  -- What a run does; and that a text which a reader reports is among those that its file may have: then the output is the
+  -- one over this text.
   pub record IsRunOf (command : Command) (old new : Readers R)
       (writer writer' : W) (result : Result (Unit {0}) RunFault) : Type 0 where
     pub ends : EndsAs command old new writer writer' result
-    pub fetched : AreAllFetched input old → AreAllFetched input new
     pub reported : (role : Role) (text : Text) → (view_of input (at role old)).left ≡ Some text
         → MayHave (view_of input (at role new)) text
 

@@ -1,9 +1,8 @@
 //! Opens the files that a command line names.
 ghost use Rattle.std.specs.Prelude.{◌≡◌, [], false, IfErr, IfOk, IfSome, List, Option, ℕ, option_map};
-ghost use Rattle.flow_io.specs.Devices.{AreFetched};
 ghost use Rattle.flowlabel.specs.Opening.{AreOpened, CannotOpenFirst, CannotOpenNamed, IsOpened};
 ghost use Rattle.flowlabel.specs.Request.{names_of};
-ghost use Rattle.flowlabel.specs.Run.{AreAllFetched, AreUnread, any_failed, view_of};
+ghost use Rattle.flowlabel.specs.Run.{AreUnread, any_failed, view_of};
 
 use crate::by_file::ByFile;
 use crate::fault::RunFault;
@@ -23,8 +22,7 @@ pub trait Opener {
     fn open(&self, alloc: Global, name: &str) -> Result<Option<Self::Reader>, AllocError>
         ensures answer { IfOk result (answers self.now name.now) }
         ensures fresh { IfOk result (λ opened. IfSome opened (λ reader. (Self.Reader.input reader).failed ≡ false)) }
-        ensures unread { IfOk result (λ opened. IfSome opened (λ reader. (Self.Reader.input reader).returned ≡ [])) }
-        ensures fetched { IfOk result (λ opened. IfSome opened (λ reader. AreFetched (Self.Reader.input reader))) };
+        ensures unread { IfOk result (λ opened. IfSome opened (λ reader. (Self.Reader.input reader).returned ≡ [])) };
 }
 
 // Opens the files of the system. No contract says which files these are.
@@ -53,7 +51,6 @@ fn open_source<'a, O: Opener>(
     ensures opened { IfOk result (IsOpened (O.answers opener.now) (option_map (λ s. s.now) name.entry)) }
     ensures fresh { IfOk result (λ source. (view_of O.Reader.input source).failed ≡ false) }
     ensures unread { IfOk result (λ source. (view_of O.Reader.input source).returned ≡ []) }
-    ensures fetched { IfOk result (λ source. AreFetched (view_of O.Reader.input source)) }
     ensures err { IfErr result (CannotOpenNamed (O.answers opener.now) (option_map (λ s. s.now) name.entry)) }
 {
     let Some(name) = name else {
@@ -79,7 +76,6 @@ pub fn open_all<'a, O: Opener>(
     ensures opened { IfOk result (AreOpened (O.answers opener.now) (names_of names.entry)) }
     ensures fresh { IfOk result (λ files. any_failed O.Reader.input files ≡ false) }
     ensures unread { IfOk result (AreUnread O.Reader.input) }
-    ensures fetched { IfOk result (AreAllFetched O.Reader.input) }
     ensures err { IfErr result (CannotOpenFirst (O.answers opener.now) (names_of names.entry)) }
 {
     Ok(ByFile {

@@ -11,8 +11,8 @@ moves_front all front rest n e =
 
 pub loop-rest-preserved : goal.loop-rest-preserved
 loop-rest-preserved g c =
-    let (front, split, appended, sound) = c.loop-rest.invariant in
+    let (front, split, appended, sound, unflushed) = c.loop-rest.invariant in
     let rest = c.loop-rest.rest.now in
     let count = c.in-Ok.count in
     let some : 0 < count = omega arith in
-    (front ++ take count rest, moves_front _ front rest count split, takes_more appended c.in-Ok.ensures.taken, c.in-Ok.ensures.fails ∙ grind (arith, some, sound))
+    (front ++ take count rest, moves_front _ front rest count split, takes_more appended c.in-Ok.ensures.taken, c.in-Ok.ensures.fails ∙ grind (arith, some, sound), c.in-Ok.ensures.unflushed ∙ unflushed)
