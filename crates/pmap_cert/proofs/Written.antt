@@ -1,9 +1,9 @@
 -- The text that is written by label numbers is that of the certificate with label texts.
-use Rattle.std.proofs.Common.{◌≡◌, ℕ, zero, suc, ◌+◌, ◌/◌, ◌%◌, ◌<◌, ◌∙◌, List, [], ◌∷◌, ◌++◌, ◌≤◌, drop, length, map, take, sym, ap, arith, subst}
+use Rattle.std.proofs.Common.{◌≡◌, ℕ, zero, suc, ◌+◌, ◌/◌, ◌%◌, ◌<◌, ◌∙◌, ◌≤◌, List, [], ◌∷◌, ◌++◌, length, map, sym, ap, arith, subst}
 use Rattle.std.specs.Fmt.{decimal}
 use Rattle.std.specs.List.{flat_map, join_with_byte}
 use Rattle.std.proofs.lemmas.Fmt.{decimal_digit, decimal_step}
-use Rattle.std.proofs.lemmas.List.{append-nil, length-take, take-append-drop, take-append-le}
+use Rattle.std.proofs.lemmas.List.{append-nil}
 use Rattle.std.proofs.lemmas.List.Concat.{flat_map-append}
 use Rattle.prefix_keys.specs.declared.version.Version.{Version}
 use Rattle.pmap_text.specs.Label.{IsLabelTable}
@@ -13,13 +13,6 @@ use Rattle.pmap_cert.specs.CertificateText.{DueLine, HasChainForm, HasNodeForm, 
 use Rattle.pmap_cert.specs.Node.{Node, claiming, tree_of}
 use Rattle.pmap_cert.proofs.ChainWords.{left-room}
 use Rattle.pmap_cert.proofs.Tables.{place_of-text_at, places-texts, text_at-place_of, texts-places}
-
--- what is kept of a text in a longer one is kept in each text that keeps the longer one
-pub kept_then : (old mid new : List ℕ) → take (length old) mid ≡ old → take (length mid) new ≡ mid → take (length old) new ≡ old
-kept_then old mid new kept more =
-    let fits : length old ≤ length mid = omega (arith, ap length kept, length-take (length old) mid) in
-    ap (take (length old)) (sym (ap (λ (l : List ℕ). l ++ drop (length mid) new) (sym more) ∙ take-append-drop (length mid) new))
-    ∙ take-append-le (length old) mid (drop (length mid) new) fits ∙ kept
 
 -- a word and numbers joined by spaces are the word and each number after a space
 pub joined-numbers : (word : List ℕ) (ns : List ℕ) → join_with_byte 32 (word ∷ map decimal ns) ≡ word ++ flat_map (λ n. 32 ∷ decimal n) ns

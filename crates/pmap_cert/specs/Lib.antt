@@ -12,3 +12,4 @@ pub mod Inner
 pub mod NodeSource
 pub mod ListText
 pub mod Sinks
+pub mod Opened

@@ -41,6 +41,7 @@ mod node_sink;
 mod node_source;
 mod nodes;
 mod nodes_from;
+mod opened;
 mod packed;
 mod path;
 mod root;
@@ -65,10 +66,11 @@ pub use laws::{
 pub use list_laws::{
     minimal_list_can_be_read_again, printed_list_is_read_back, printed_order_is_one,
 };
-pub use node::{Claim, Node};
+pub use node::{Claim, Node, has_label};
 pub use node_line::{LineLimits, NodeBuffer};
 pub use node_source::NodeSource;
 pub use nodes::Nodes;
+pub use opened::write_opened;
 pub use path::Path;
 pub use root::Root;
-pub use writing::{head_text, push_line, write_cert};
+pub use writing::write_cert;

@@ -1,3 +1,6 @@
+ghost use Rattle.std.specs.Prelude.{◌≡◌};
+ghost use Rattle.pmap_cert.specs.Opened.{has_number, numbers_of};
+
 use crate::path::Path;
 use pmap_text::LabelId;
 
@@ -19,4 +22,11 @@ pub enum Node<'a> {
         path: &'a Path,
         side: LabelId,
     },
+}
+
+/// Returns whether the label is one of `labels`.
+pub fn has_label(labels: &[LabelId], id: LabelId) -> bool
+    ensures { result ≡ has_number (numbers_of labels.now) id.0 }
+{
+    labels.iter().any(|label| id.0 == label.0)
 }

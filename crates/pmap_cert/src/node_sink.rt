@@ -6,7 +6,7 @@ ghost use Rattle.pmap_cert.specs.Sinks.{lines-joined, texts-joined};
 
 use crate::node::Node;
 use crate::nodes::Nodes;
-use crate::writing::push_whole;
+use crate::writing::push_line;
 use std::alloc::AllocError;
 
 /// A list of nodes, or the text of their lines.
@@ -40,6 +40,6 @@ impl NodeSink for Vec<u8> {
 
     #[inline(always)]
     fn add(&mut self, node: Node) -> Result<(), AllocError> {
-        push_whole(self, node)
+        push_line(self, node)
     }
 }

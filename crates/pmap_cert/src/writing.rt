@@ -1,5 +1,5 @@
 //! Writing the text of a certificate.
-ghost use Rattle.std.specs.Prelude.{◌≡◌, ◌++◌, ◌∷◌, [], IfOk, OnErr, OnOk, length, map, take};
+ghost use Rattle.std.specs.Prelude.{◌≡◌, ◌++◌, ◌∷◌, [], IfOk, OnOk, length, map};
 ghost use Rattle.std.specs.List.{flat_map};
 ghost use Rattle.std.specs.Fmt.{decimal};
 ghost use Rattle.pmap_cert.specs.Certificate.{certificate_of};
@@ -20,8 +20,7 @@ use std::alloc::{AllocError, Global};
 // Appends a space and a number of four digits or more.
 #[inline(never)]
 fn push_long(out: &mut Vec<u8>, number: u32) -> Result<(), AllocError>
-    ensures ok { OnOk result (out.new.items ≡ out.old.items ++ 32 ∷ decimal number) }
-    ensures kept { take (length out.old.items) out.new.items ≡ out.old.items }
+    ensures { OnOk result (out.new.items ≡ out.old.items ++ 32 ∷ decimal number) }
 {
     out.push(b' ')?;
     let mut buffer = Buffer::new();
@@ -32,8 +31,7 @@ fn push_long(out: &mut Vec<u8>, number: u32) -> Result<(), AllocError>
 // Appends a space and a number.
 #[inline(always)]
 fn push_number(out: &mut Vec<u8>, number: u32) -> Result<(), AllocError>
-    ensures ok { OnOk result (out.new.items ≡ out.old.items ++ 32 ∷ decimal number) }
-    ensures kept { take (length out.old.items) out.new.items ≡ out.old.items }
+    ensures { OnOk result (out.new.items ≡ out.old.items ++ 32 ∷ decimal number) }
 {
     // An optimisation: most labels and costs have at most three digits.
     if number < 10 {
@@ -54,10 +52,8 @@ fn push_number(out: &mut Vec<u8>, number: u32) -> Result<(), AllocError>
 }
 
 // Appends the numbers of a set, with a space before each.
-#[tactic(auto, using(crate::proofs::Written::kept_then))]
 fn push_set(out: &mut Vec<u8>, set: &[LabelId]) -> Result<(), AllocError>
-    ensures ok { OnOk result (out.new.items ≡ out.old.items ++ flat_map (λ n. 32 ∷ decimal n) (map (λ id. id.0) set.now)) }
-    ensures kept { take (length out.old.items) out.new.items ≡ out.old.items }
+    ensures { OnOk result (out.new.items ≡ out.old.items ++ flat_map (λ n. 32 ∷ decimal n) (map (λ id. id.0) set.now)) }
 {
     for id in set {
         push_number(out, id.0)?;
@@ -65,10 +61,8 @@ fn push_set(out: &mut Vec<u8>, set: &[LabelId]) -> Result<(), AllocError>
     Ok(())
 }
 
-#[tactic(auto, using(crate::proofs::Written::kept_then))]
 fn push_leaf(out: &mut Vec<u8>, id: LabelId) -> Result<(), AllocError>
-    ensures ok { OnOk result (out.new.items ≡ out.old.items ++ (node_line_text (LeafLine id.0) ++ 10 ∷ [])) }
-    ensures kept { take (length out.old.items) out.new.items ≡ out.old.items }
+    ensures { OnOk result (out.new.items ≡ out.old.items ++ (node_line_text (LeafLine id.0) ++ 10 ∷ [])) }
 {
     out.push(b'l')?;
     push_number(out, id.0)?;
@@ -76,11 +70,9 @@ fn push_leaf(out: &mut Vec<u8>, id: LabelId) -> Result<(), AllocError>
     Ok(())
 }
 
-#[tactic(auto, using(crate::proofs::Written::kept_then))]
 fn push_inner(out: &mut Vec<u8>, claim: Claim) -> Result<(), AllocError>
-    ensures ok { OnOk result (out.new.items ≡ out.old.items
+    ensures { OnOk result (out.new.items ≡ out.old.items
         ++ (node_line_text (InnerLine claim.entry.cost (map (λ id. id.0) claim.entry.set.now)) ++ 10 ∷ [])) }
-    ensures kept { take (length out.old.items) out.new.items ≡ out.old.items }
 {
     out.push(b'n')?;
     push_number(out, claim.cost)?;
@@ -90,10 +82,8 @@ fn push_inner(out: &mut Vec<u8>, claim: Claim) -> Result<(), AllocError>
 }
 
 // Appends a space and the bits as digits 0 and 1.
-#[tactic(auto, using(crate::proofs::Written::kept_then))]
 fn push_bits(out: &mut Vec<u8>, path: &Path) -> Result<(), AllocError>
-    ensures ok { OnOk result (out.new.items ≡ out.old.items ++ 32 ∷ bit_digits (bits_in path.now)) }
-    ensures kept { take (length out.old.items) out.new.items ≡ out.old.items }
+    ensures { OnOk result (out.new.items ≡ out.old.items ++ 32 ∷ bit_digits (bits_in path.now)) }
 {
     let mut digits = [b'0'; 128];
     let mut rest = path.value;
@@ -107,11 +97,9 @@ fn push_bits(out: &mut Vec<u8>, path: &Path) -> Result<(), AllocError>
     Ok(())
 }
 
-#[tactic(auto, using(crate::proofs::Written::kept_then))]
 fn push_chain(out: &mut Vec<u8>, claim: Claim, path: &Path, side: LabelId) -> Result<(), AllocError>
-    ensures ok { OnOk result (out.new.items ≡ out.old.items ++ (node_line_text
+    ensures { OnOk result (out.new.items ≡ out.old.items ++ (node_line_text
         (ChainLine claim.entry.cost (bits_in path.now) side.0 (map (λ id. id.0) claim.entry.set.now)) ++ 10 ∷ [])) }
-    ensures kept { take (length out.old.items) out.new.items ≡ out.old.items }
 {
     out.push(b'c')?;
     push_number(out, claim.cost)?;
@@ -122,11 +110,10 @@ fn push_chain(out: &mut Vec<u8>, claim: Claim, path: &Path, side: LabelId) -> Re
     Ok(())
 }
 
-/// Appends the line of a node. If an allocation fails, `out` may have a part of it.
+/// Appends the line of a node.
 #[inline(always)]
-pub fn push_whole(out: &mut Vec<u8>, node: Node) -> Result<(), AllocError>
-    ensures ok { OnOk result (out.new.items ≡ out.old.items ++ (node_line_text (line_of node.entry) ++ 10 ∷ [])) }
-    ensures kept { take (length out.old.items) out.new.items ≡ out.old.items }
+pub fn push_line(out: &mut Vec<u8>, node: Node) -> Result<(), AllocError>
+    ensures { OnOk result (out.new.items ≡ out.old.items ++ (node_line_text (line_of node.entry) ++ 10 ∷ [])) }
 {
     match node {
         Node::Leaf(id) => push_leaf(out, id),
@@ -135,27 +122,13 @@ pub fn push_whole(out: &mut Vec<u8>, node: Node) -> Result<(), AllocError>
     }
 }
 
-/// Appends the line of a node. If an allocation fails, `out` is unchanged.
-#[inline(always)]
-pub fn push_line(out: &mut Vec<u8>, node: Node) -> Result<(), AllocError>
-    ensures ok { OnOk result (out.new.items ≡ out.old.items ++ (node_line_text (line_of node.entry) ++ 10 ∷ [])) }
-    ensures err { OnErr result (out.new.items ≡ out.old.items) }
-{
-    let len = out.len();
-    let pushed = push_whole(out, node);
-    if pushed.is_err() {
-        out.truncate(len);
-    }
-    pushed
-}
-
 pub fn push_nodes(out: &mut Vec<u8>, nodes: &Nodes) -> Result<(), AllocError>
     ensures { OnOk result (out.new.items ≡ out.old.items ++ text_of_lines (map node_line_text nodes.now)) }
 {
     // Usual nodes take less. Memory that isn't written to isn't used.
     out.reserve(nodes.len().saturating_mul(32))?;
     for number in 0..nodes.len() {
-        push_whole(out, nodes.node(number))?;
+        push_line(out, nodes.node(number))?;
     }
     Ok(())
 }

@@ -25,7 +25,7 @@ use Rattle.pmap_minimise.specs.Runs.{AreCountable, AreCountedHalves, HasNoLongRu
 use Rattle.pmap_text.specs.Windows.{IsWindow, window_number}
 use Rattle.pmap_text.specs.declared.stretches.window.Window.{Window}
 use Rattle.pmap_minimise.specs.Built.{AddsInner, AreHalves, IsBuilt, IsBuiltIn, claim_at, last_claim}
-use Rattle.pmap_minimise.specs.Opened.{Opens, claim_above, cost_above, path_node}
+use Rattle.pmap_cert.specs.Opened.{Opens, claim_above, cost_above, path_node}
 use Rattle.pmap_cert.specs.Paths.{path_to}
 use Rattle.pmap_cert.proofs.Paths.{path-length}
 use Rattle.pmap_minimise.specs.Numbers.{IsExact, IsSound}
@@ -33,7 +33,8 @@ use Rattle.pmap_minimise.proofs.MadeNodes.{AreSameHalves, halves-made, leaf-made
 use Rattle.pmap_minimise.proofs.Joined.{moved}
 use Rattle.pmap_minimise.proofs.Texts.{exact-ascending}
 use Rattle.prefix_keys.proofs.Groups.{width-le}
-use Rattle.pmap_minimise.proofs.Paths.{down-high, down-low, path-claim}
+use Rattle.pmap_cert.proofs.OpenedTexts.{opens-claim}
+use Rattle.pmap_minimise.proofs.Paths.{down-high, down-low}
 
 -- the line with this index has the claim of the node
 pub record HasClaimOf (lines : List DueLine) (number : ℕ) (node : Node) : Type 0 where
@@ -95,17 +96,6 @@ are-halves lines upper low high below above low_ascending high_ascending few = r
   high = rw (above.claim) high_ascending;
   few = rw (below.claim, above.claim) few;
 }
-
--- a compact node has the claim of the node that it opens to
-pub opens-claim : (compact node : Node) → Opens compact node → claim_of compact ≡ claim_of node
-opens-claim (LeafNode label) node is = sym (ap claim_of is)
-opens-claim (InnerNode claim lower upper) node is = sym (ap claim_of is.node_is)
-opens-claim (ChainNode claim bits side end) node is = is.claim_is ∙ by is.count is.long ∙ sym (ap claim_of is.node_is)
-  where
-    by : (count : ℕ) → 2 ≤ count → claim_above side (claim_of is.end) 1 ≡ claim_of (path_node side is.value count is.end)
-    by zero long = absurd (omega arith)
-    by (suc zero) long = absurd (omega arith)
-    by (suc (suc count)) long = sym (path-claim side is.end is.value (suc (suc count)))
 
 -- the claims of the lines of what was built last, and of what was built before
 pub built-claim : (s : StretchesModel) (a : Window) (old new : List DueLine) (built : IsBuilt s a old new) → HasClaimOf new (length new - 1) built.node

@@ -22,7 +22,7 @@ use Rattle.pmap_cert.proofs.Paths.{path-length}
 use Rattle.pmap_cert.proofs.Sets.{bytes_eq-same, has-own}
 use Rattle.pmap_minimise.specs.Listing.{AddsEntries, IsEntryOf}
 use Rattle.pmap_minimise.specs.Numbers.{IsOwn, IsSound, has_number, numbers_of}
-use Rattle.pmap_minimise.specs.Opened.{claim_above, node_over, path_node, set_above}
+use Rattle.pmap_cert.specs.Opened.{claim_above, node_over, path_node, set_above}
 use Rattle.pmap_minimise.proofs.Entered.{half-entries, handed, one-known}
 use Rattle.pmap_minimise.proofs.Paths.{above-has}
 use Rattle.pmap_text.specs.Label.{has_label}

@@ -11,7 +11,7 @@ use Rattle.pmap_cert.specs.Acceptance.{in_table_order}
 use Rattle.pmap_cert.specs.Node.{HasNumberForm, Node, tree_of}
 use Rattle.label_trie.specs.Parts.{IsHalf}
 use Rattle.pmap_minimise.specs.Numbers.{IsExact, IsMapNode, IsSound}
-use Rattle.pmap_minimise.specs.Opened.{Opens}
+use Rattle.pmap_cert.specs.Opened.{Opens}
 use Rattle.pmap_minimise.proofs.Texts.{exact-ascending, exact-some, listed_claim}
 
 -- a node's claim by its numbers

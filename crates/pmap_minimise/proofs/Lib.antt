@@ -10,6 +10,5 @@ pub mod MadeNodes
 pub mod BuiltNodes
 pub mod ChainEntries
 pub mod Reading
-pub mod OpenedTexts
 pub mod RunEnds
 pub mod Claimed

@@ -22,7 +22,7 @@ use Rattle.pmap_text.specs.declared.stretches.window.Window.{Window}
 use Rattle.pmap_text.proofs.Windows.{one_index, ordered_window}
 use Rattle.pmap_minimise.specs.Runs.{AreCountedHalves, IsCounted, IsChoice, IsWindowNode, AreSteps, IsRunTo, IsStepInto, IsStop, own_label}
 use Rattle.pmap_cert.specs.Paths.{digit, path_to}
-use Rattle.pmap_minimise.specs.Opened.{claim_above, node_over, path_node}
+use Rattle.pmap_cert.specs.Opened.{claim_above, node_over, path_node}
 use Rattle.pmap_minimise.specs.Numbers.{IsExact, IsMapNode, IsSound}
 use Rattle.pmap_minimise.proofs.Joined.{joined-in, joined-sound, moved}
 use Rattle.pmap_minimise.proofs.Texts.{exact-cost}

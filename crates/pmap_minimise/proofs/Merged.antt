@@ -1,5 +1,5 @@
 -- Two sets of ascending numbers, read side by side.
-use Rattle.std.proofs.Common.{◌≡◌, ℕ, ◌+◌, ◌^◌, ◌<◌, ◌≤◌, ◌==◌, ◌||◌, ◌∙◌, Bool, true, false, List, [], ◌∷◌, ◌++◌, length, refl, sym, ap, subst, arith}
+use Rattle.std.proofs.Common.{◌≡◌, ℕ, ◌+◌, ◌^◌, ◌<◌, ◌≤◌, ◌==◌, ◌||◌, ◌∙◌, Bool, true, false, List, [], ◌∷◌, ◌++◌, refl, sym, ap, subst, arith}
 use Rattle.std.specs.List.{list_any}
 use Rattle.std.proofs.lemmas.Bool.{cond-false, eq-eqb, ne_eqb}
 use Rattle.std.proofs.lemmas.List.{append-nil, append_assoc}
@@ -8,10 +8,6 @@ use Rattle.pmap_text.specs.declared.label.LabelId.{LabelId}
 use Rattle.pmap_cert.specs.CertificateText.{IsAscending}
 use Rattle.pmap_cert.proofs.Tables.{ascending-lower}
 use Rattle.pmap_minimise.specs.Numbers.{AreApart, IsUnion, common_numbers, has_number, numbers_of}
-
-pub numbers-append : (xs ys : List LabelId) → numbers_of (xs ++ ys) ≡ numbers_of xs ++ numbers_of ys
-numbers-append [] ys = refl
-numbers-append (x ∷ xs) ys = ap (λ (ns : List ℕ). x.0 ∷ ns) (numbers-append xs ys)
 
 -- numbers that ascend from k on have none below k
 pub lacks : (b k : ℕ) (ns : List ℕ) (n : ℕ) → IsAscending b k ns → n < k → has_number ns n ≡ false
@@ -242,7 +238,3 @@ pub merged-higher : (low high set : List ℕ) (lower higher : List LabelId) → 
 merged-higher low high set lower higher none merging =
     sym (append-nil set)
     ∙ subst (λ (ls : List LabelId). set ++ common_numbers (numbers_of ls) (numbers_of higher) ≡ common_numbers low high) none merging.all
-
-pub no_items : (xs : List LabelId) → length xs ≡ 0 → xs ≡ []
-no_items [] e = refl
-no_items (x ∷ xs) e = absurd (omega arith)

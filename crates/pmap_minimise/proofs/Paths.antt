@@ -6,8 +6,8 @@ use Rattle.pmap_cert.specs.CertificateText.{IsAscending}
 use Rattle.pmap_cert.specs.CertificateModel.{ChainNode, ClaimOf, InnerNode, LeafNode, claim_of}
 use Rattle.pmap_cert.specs.Compacting.{is_side, leaf_label, run_bits, run_end}
 use Rattle.pmap_cert.specs.Node.{Node}
-use Rattle.pmap_cert.specs.Paths.{digit}
-use Rattle.pmap_minimise.specs.Opened.{claim_above, node_over, set_above, path_node, with_number}
+use Rattle.pmap_cert.proofs.OpenedTexts.{claim_over, path-claim}
+use Rattle.pmap_cert.specs.Opened.{claim_above, set_above, path_node, with_number}
 use Rattle.pmap_minimise.specs.Numbers.{IsExact, IsExactBy, common_numbers, has_number}
 use Rattle.pmap_minimise.proofs.Merged.{lacks}
 
@@ -76,20 +76,6 @@ with-ascending b k n (m ∷ ms) ascending least below none =
     rest : (x y : Bool) → (x || y) ≡ false → y ≡ false
     rest true y e = absurd (true-not e)
     rest false y e = e
-
--- the claim of the node of a run with `bits` bits below it
-module _ (side : ℕ) (end : Node) where
-  abbrev claim_over : ℕ → ClaimOf ℕ
-  claim_over zero = claim_of end
-  claim_over (suc bits) = claim_above side (claim_of end) bits
-
-  over-claim : (d : ℕ) (claim : ClaimOf ℕ) (x y : Node) → claim_of (node_over d claim x y) ≡ claim
-  over-claim zero claim x y = refl
-  over-claim (suc d) claim x y = refl
-
-  pub path-claim : (value bits : ℕ) → claim_of (path_node side value bits end) ≡ claim_over bits
-  path-claim value zero = refl
-  path-claim value (suc bits) = over-claim (digit value bits) (claim_above side (claim_of end) bits) (path_node side value bits end) (LeafNode side)
 
 -- What the nodes of a run claim.
 module _ (side : ℕ) (fits : side < 2 ^ 32) (end : Node) (ascending : IsAscending (2 ^ 32) 0 (claim_of end).labels) where

@@ -15,7 +15,7 @@ use Rattle.pmap_cert.specs.Paths.{LeadsTo, path_to}
 use Rattle.pmap_cert.proofs.Paths.{path-length}
 use Rattle.pmap_minimise.specs.Listing.{AddsEntries, IsListedBy}
 use Rattle.pmap_minimise.specs.Numbers.{IsOwn, IsSound, numbers_of}
-use Rattle.pmap_minimise.specs.Opened.{Opens}
+use Rattle.pmap_cert.specs.Opened.{Opens}
 use Rattle.pmap_minimise.proofs.ChainEntries.{chain-adds, path-deep, sound-passes}
 use Rattle.pmap_minimise.proofs.Entered.{inner-adds, leaf-adds}
 use Rattle.pmap_minimise.proofs.Joined.{half-room}
@@ -160,10 +160,6 @@ module _ (block : Block) (inherited : Option LabelId) (dues : List Due) where
             more.2,
           );
         }
-
-pub no_items : {X : Type 0} (xs : List X) → length xs ≡ 0 → xs ≡ []
-no_items [] none = refl
-no_items (x ∷ xs) none = absurd (omega (arith, none))
 
 -- blocks that are put at the end come first in reverse order
 pub one-pushed : (dues new : List Due) (block : Block) (inherited : Option LabelId) → new ≡ dues ++ (block, inherited) ∷ [] → reverse new ≡ (block, inherited) ∷ reverse dues

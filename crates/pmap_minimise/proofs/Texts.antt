@@ -70,10 +70,6 @@ any-texts : (table : List Label) (p : Label → Bool) (ns : List ℕ) → list_a
 any-texts table p [] = refl
 any-texts table p (n ∷ ns) = ap (λ (t : Bool). p (text_at table n) || t) (any-texts table p ns)
 
-pub any-numbers : (ids : List LabelId) (n : ℕ) → has_number (numbers_of ids) n ≡ list_any (λ label. n == label.0) ids
-any-numbers [] n = refl
-any-numbers (id ∷ ids) n = ap (λ (t : Bool). (n == id.0) || t) (any-numbers ids n)
-
 pub table-has : (table : List Label) (n : ℕ) → n < length table → IsTrue (has_label table (text_at table n))
 table-has table n known =
     list_any_at (bytes_eq (text_at table n)) table n [] known

@@ -1,5 +1,5 @@
 -- What was built for a map is the map's minimal pair.
-use Rattle.std.proofs.Common.{◌≡◌, ℕ, ◌-◌, ◌<◌, ◌∙◌, inl, List, [], ◌∷◌, ◌++◌, None, All, IsTrue, length, map, refl, sym, ap, subst, arith}
+use Rattle.std.proofs.Common.{◌≡◌, ℕ, ◌-◌, ◌<◌, ◌∙◌, inl, List, [], None, All, IsTrue, length, map, refl, sym, ap, subst, arith}
 use Rattle.std.proofs.lemmas.List.Elements.{All-from_recursion, All-map, All-weaker}
 use Rattle.std.proofs.lemmas.Option.{none-some}
 use Rattle.prefix_keys.specs.Block.{width_of}
@@ -13,14 +13,14 @@ use Rattle.pmap_text.specs.declared.entry.Entry.{Entry}
 use Rattle.pmap_text.specs.declared.map_text.MapText.{MapText}
 use Rattle.pmap_cert.specs.CertificateModel.{CertificateModel, Tree}
 use Rattle.pmap_cert.specs.Acceptance.{HasListForm, IsInOrder, HasItsLabels, IsMinimalPair, StandsFor, entries_of}
-use Rattle.pmap_cert.specs.CertificateText.{certificate_text, format_header, text_of_lines, HasTextForm}
+use Rattle.pmap_cert.specs.CertificateText.{certificate_text, HasTextForm}
 use Rattle.pmap_cert.specs.Compacting.{compact}
-use Rattle.pmap_cert.specs.Node.{HasNumberForm, Node, node_lines, tree_of}
+use Rattle.pmap_cert.specs.Node.{HasNumberForm, Node, tree_of}
 use Rattle.pmap_cert.specs.declared.format.Format.TheVariants.{One}
 use Rattle.label_trie.specs.TrieModel.{number_of, IsSettledLeaf, IsUndivided, LeafModel}
 use Rattle.pmap_cert.proofs.CompactNodes.{compact-one}
 use Rattle.pmap_cert.proofs.Relabelled.{plain-map}
-use Rattle.pmap_cert.proofs.Written.{node_form, whole_text}
+use Rattle.pmap_cert.proofs.Written.{node_form}
 use Rattle.pmap_text.specs.ListEntries.{HasDistinctBlocks}
 use Rattle.pmap_cert.proofs.InOrder.{list-form}
 use Rattle.pmap_minimise.specs.Listing.{IsEntryOf, IsListedBy}
@@ -28,7 +28,7 @@ use Rattle.pmap_minimise.proofs.Distinct.{order-distinct}
 use Rattle.pmap_minimise.proofs.Entered.{half-entries}
 use Rattle.pmap_minimise.specs.Built.{IsBuiltIn}
 use Rattle.pmap_minimise.specs.Numbers.{IsCertified, IsMapNode}
-use Rattle.pmap_minimise.specs.Opened.{Opens, node_text}
+use Rattle.pmap_cert.specs.Opened.{Opens}
 use Rattle.label_trie.proofs.Places.{whole_number}
 use Rattle.pmap_minimise.proofs.Joined.{sound-opens}
 use Rattle.pmap_minimise.proofs.Texts.{table-has}
@@ -94,14 +94,14 @@ root-form m root form ok = record {
 
 module _ (m : MapText) (compacted : Node) (built : IsBuiltIn (map_of m) compacted) where
   -- the text of a root's certificate, which is part of the map's minimal pair
-  pub certified-text : (head text : List ℕ) → head ≡ text_of_lines (format_header (1, (m.version, length m.labels)) ∷ m.labels) → text ≡ head ++ node_text built.node
+  pub certified-text : (text : List ℕ) → text ≡ certificate_text (root_certificate m built.node)
       → (l : ListModel) × (c : CertificateModel) × IsMinimalPair (map_of m) l c × HasTextForm c × (text ≡ certificate_text c)
-  certified-text head text head_is text_is = (
+  certified-text text text_is = (
     shortest_list (map_of m) (tree_of m.labels built.node),
     root_certificate m built.node,
     minimal (map_of m) _ _ (tree_of m.labels built.node) built.is.stands refl refl,
     root-form m built.node built.is.form built.table,
-    whole_text 1 m.version m.labels built.node (width_of m.version) (node_lines built.node) head text built.table built.is.form.0 refl head_is text_is,
+    text_is,
   )
 
   -- and the text of its compacted certificate

@@ -10,7 +10,7 @@ use Rattle.pmap_cert.specs.CertificateModel.{ClaimOf, claim_of}
 use Rattle.pmap_cert.specs.Compacting.{compacted}
 use Rattle.pmap_cert.specs.Node.{Node, node_lines, node_of}
 use Rattle.pmap_minimise.specs.Numbers.{IsExact, IsMapNode, IsSound}
-use Rattle.pmap_minimise.specs.Opened.{Opens}
+use Rattle.pmap_cert.specs.Opened.{Opens}
 use Rattle.pmap_minimise.specs.Runs.{IsWindowNode}
 
 -- The lines of nodes as they are built, in reverse order: the line of a node follows those of the nodes below it, and

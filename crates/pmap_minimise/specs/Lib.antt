@@ -1,5 +1,4 @@
 pub mod Numbers
 pub mod Listing
 pub mod Runs
-pub mod Opened
 pub mod Built

@@ -1,4 +1,4 @@
-use Rattle.std.specs.Prelude.{◌≡◌, ℕ, zero, suc, ◌+◌, ◌^◌, ◌<◌, ◌==◌, ◌||◌, Bool, true, false, List, [], ◌∷◌, ◌++◌, Option, None, Some, filter, length, map, slice_get, All}
+use Rattle.std.specs.Prelude.{◌≡◌, ℕ, zero, suc, ◌+◌, ◌^◌, ◌<◌, ◌||◌, Bool, true, false, List, [], ◌∷◌, ◌++◌, Option, None, Some, filter, length, slice_get, All}
 use Rattle.std.specs.List.{list_any}
 use Rattle.prefix_keys.specs.declared.block.Block.{Block}
 use Rattle.pmap_text.specs.declared.entry.Entry.{Entry}
@@ -10,12 +10,7 @@ use Rattle.pmap_cert.specs.CertificateText.{IsAscending}
 use Rattle.pmap_cert.specs.CertificateModel.{ChainNode, ClaimOf, InnerNode, LeafNode, claim_of}
 use Rattle.pmap_cert.specs.Node.{HasNumberForm, Node, tree_of}
 use Rattle.pmap_cert.specs.Acceptance.{StandsFor}
-
-abbrev pub numbers_of : List LabelId → List ℕ
-numbers_of ids = map (λ id. id.0) ids
-
-abbrev pub has_number : List ℕ → ℕ → Bool
-has_number ns n = list_any (λ m. n == m) ns
+pub use Rattle.pmap_cert.specs.Opened.{has_number, numbers_of}
 
 abbrev pub common_numbers : List ℕ → List ℕ → List ℕ
 common_numbers low high = filter (has_number high) low

@@ -8,13 +8,12 @@ ghost use Rattle.pmap_text.specs.MapModel.{MapModel};
 ghost use Rattle.pmap_text.specs.Windows.{IsWindow, window_number};
 ghost use Rattle.pmap_minimise.specs.Built.{AddsExact, AddsInner, AreHalves, IsBuilt, IsBuiltIn, last_claim};
 ghost use Rattle.pmap_minimise.specs.Numbers.{has_number, numbers_of};
-ghost use Rattle.pmap_minimise.specs.Opened.{cost_above};
+ghost use Rattle.pmap_cert.specs.Opened.{cost_above};
 ghost use Rattle.pmap_minimise.specs.Runs.{AreCountable, HasNoLongRun, IsCounted, IsMapOn, own_label};
 
-use crate::entering::has_label;
 use crate::runs::{own_label, run_end};
 use crate::sets::exact_claim;
-use pmap_cert::{Claim, Node, Nodes, Path, Root};
+use pmap_cert::{Claim, Node, Nodes, Path, Root, has_label};
 use pmap_text::{LabelId, Stretches, Window};
 use std::alloc::{AllocError, Global};
 use std::slice;

@@ -1,17 +1,11 @@
 //! The own entry of a certificate's node, and the label that the node passes on.
-ghost use Rattle.std.specs.Prelude.{◌≡◌, ◌<◌, IfOk, length};
-ghost use Rattle.pmap_minimise.specs.Numbers.{IsOwn, has_number, numbers_of};
+ghost use Rattle.std.specs.Prelude.{◌<◌, IfOk, length};
+ghost use Rattle.pmap_minimise.specs.Numbers.{IsOwn};
 
+use pmap_cert::has_label;
 use pmap_text::{Entries, Entry, LabelId};
 use prefix_keys::Block;
 use std::alloc::AllocError;
-
-/// Returns whether the label is one of `labels`.
-pub fn has_label(labels: &[LabelId], id: LabelId) -> bool
-    ensures { result ≡ has_number (numbers_of labels.now) id.0 }
-{
-    labels.iter().any(|label| id.0 == label.0)
-}
 
 /// Adds the own entry of a node with these labels, if it has one, and returns the label that the node passes on.
 #[inline(always)]

@@ -4,7 +4,7 @@ ghost use Rattle.prefix_keys.specs.Block.{width_of};
 ghost use Rattle.pmap_cert.specs.Node.{Node as AnyNode};
 ghost use Rattle.pmap_minimise.specs.Listing.{IsListedBy};
 ghost use Rattle.pmap_minimise.specs.Numbers.{IsSound};
-ghost use Rattle.pmap_minimise.specs.Opened.{Opens};
+ghost use Rattle.pmap_cert.specs.Opened.{Opens};
 
 use crate::entering::push_own;
 use pmap_cert::{Cursor, Node, Root};

@@ -24,7 +24,6 @@ mod claiming;
 mod entering;
 mod entries;
 mod minimal;
-mod opened;
 mod runs;
 mod sets;
 

@@ -8,15 +8,15 @@ ghost use Rattle.pmap_cert.specs.Certificate.{certificate_of};
 ghost use Rattle.pmap_cert.specs.CertificateText.{HasTextForm, certificate_text};
 ghost use Rattle.pmap_cert.specs.CertificateModel.{CertificateModel, claim_of};
 ghost use Rattle.pmap_cert.specs.Compacting.{compact};
+ghost use Rattle.pmap_cert.specs.declared.format.Format.TheVariants.{Two};
 ghost use Rattle.label_trie.specs.TrieModel.{IsSettledLeaf, IsUndivided};
 ghost use Rattle.pmap_minimise.specs.Built.{IsBuiltIn};
 
 use crate::building::built_of;
 use crate::claiming::claimed;
 use crate::entries::entries_of;
-use crate::opened::push_opened;
 use label_trie::Trie;
-use pmap_cert::{Certificate, Format, Root, head_text, minimal_pair_is_accepted, write_cert};
+use pmap_cert::{Certificate, Format, minimal_pair_is_accepted, write_cert, write_opened};
 use pmap_text::{Entries, Labels, MapText, Name, PrefixList, Runs, Stretches};
 use prefix_keys::Version;
 use std::alloc::{AllocError, Global};
@@ -94,11 +94,8 @@ pub fn certificate_text(alloc: Global, map: MapText) -> Result<Vec<u8>, AllocErr
     ensures { IfOk result (λ text. (l : ListModel) × (c : CertificateModel) × IsMinimalPair (map_of map) l c
         × HasTextForm c × (text.items ≡ certificate_text c)) }
 {
-    let version = map.version;
-    let (root, labels) = compact_root(alloc, map)?;
-    let mut out = head_text(alloc, Format::One, version, &labels)?;
-    push_opened(&mut out, alloc, &root)?;
-    Ok(out)
+    let compact = compact_certificate(alloc, map)?;
+    write_opened(alloc, &compact)
 }
 
 /// Returns the text of the compacted certificate of `minimise`, made without a trie, without the list and without the
@@ -108,25 +105,22 @@ pub fn compact_text(alloc: Global, map: MapText) -> Result<Vec<u8>, AllocError>
     ensures { IfOk result (λ text. (l : ListModel) × (c : CertificateModel) × IsMinimalPair (map_of map) l c
         × HasTextForm c × (text.items ≡ certificate_text (compact c))) }
 {
-    let version = map.version;
-    let (root, labels) = compact_root(alloc, map)?;
-    write_cert(
-        alloc,
-        &Certificate::of_format(Format::Two, version, labels, root),
-    )
+    let compact = compact_certificate(alloc, map)?;
+    write_cert(alloc, &compact)
 }
 
-// Returns the root of the compact certificate of the map's minimal pair, and the map's label table. The memory of the
-// map's statements is freed first.
-fn compact_root(alloc: Global, map: MapText) -> Result<(Root, Labels), AllocError>
-    ensures built { IfOk result (λ built. IsBuiltIn (map_of map) built.0) }
-    ensures labels { IfOk result (λ built. built.1 ≡ map.labels) }
+// Returns the compact certificate of the map's minimal pair. The memory of the map's statements is freed first.
+fn compact_certificate(alloc: Global, map: MapText) -> Result<Certificate, AllocError>
+    ensures format { IfOk result (λ c. c.format ≡ Two) }
+    ensures version { IfOk result (λ c. c.version ≡ map.version) }
+    ensures labels { IfOk result (λ c. c.labels ≡ map.labels) }
+    ensures built { IfOk result (λ c. IsBuiltIn (map_of map) c.root) }
 {
     map.labels.laws();
     let stretches = Stretches::of_map(alloc, &map)?;
     drop(map.statements);
     let root = built_of(alloc, stretches)?;
-    Ok((root, map.labels))
+    Ok(Certificate::of_format(Format::Two, map.version, map.labels, root))
 }
 
 fn list_with(version: Version, name: Option<Name>, labels: Labels, entries: Entries) -> PrefixList

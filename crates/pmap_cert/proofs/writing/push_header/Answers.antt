@@ -5,7 +5,7 @@ pub returns : goal.returns
 returns c =
     rw (
       c.in_ok-push-2.ensures.items,
-      c.in_ok-push_number.ensures.ok,
+      c.in_ok-push_number.ensures,
       c.in_ok-extend_from_slice-3.ensures.items,
       c.in_ok-push.ensures.items,
       c.in_ok-extend_from_slice-2.ensures.items,

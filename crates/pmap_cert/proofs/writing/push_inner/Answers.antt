@@ -4,12 +4,12 @@ use Rattle.std.proofs.lemmas.List.{append_assoc}
 use Rattle.pmap_cert.proofs.Written.{joined-numbers}
 use Rattle.pmap_cert.proofs.writing.push_inner.Goals as goal
 
-pub returns-clause-ok : goal.returns-clause-ok
-returns-clause-ok c =
+pub returns : goal.returns
+returns c =
     rw (
       c.in_ok-push-2.ensures.items,
-      c.in_ok-push_set.ensures.ok,
-      c.in_ok-push_number.ensures.ok,
+      c.in_ok-push_set.ensures,
+      c.in_ok-push_number.ensures,
       c.in_ok-push.ensures.items,
       joined-numbers (decimal c.args.claim.cost) (map (λ id. id.0) c.args.claim.set.now),
     ) (simp append_assoc)

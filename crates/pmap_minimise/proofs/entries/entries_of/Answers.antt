@@ -1,8 +1,9 @@
 use Rattle.std.proofs.Common.{◌≡◌, ◌+◌, ◌*◌, ◌∙◌, ◌++◌, ◌∷◌, [], None, ap, arith, sym}
+use Rattle.std.proofs.lemmas.List.{nil_from_length}
 use Rattle.prefix_keys.specs.Block.{block_number, width_of}
 use Rattle.label_trie.specs.TrieModel.{number_of}
 use Rattle.label_trie.proofs.Places.{is_half}
-use Rattle.pmap_minimise.proofs.Reading.{chain-read, due-some, end-at, inner-read, leaf-read, next-due, next-left, no_items, one-pushed, reading-begins, reading-ends, reading-goes, two-pushed}
+use Rattle.pmap_minimise.proofs.Reading.{chain-read, due-some, end-at, inner-read, leaf-read, next-due, next-left, one-pushed, reading-begins, reading-ends, reading-goes, two-pushed}
 use Rattle.pmap_minimise.proofs.entries.entries_of.Goals as goal
 
 pub loop-block-init : goal.loop-block-init
@@ -52,4 +53,4 @@ loop-block-preserved c =
     reading-goes _ _ _ _ _ c.loop-block.invariant _ _ _ c.in-Some.ensures.items c.next-at.result c.push-in-Chain.new.self.items c.push_own.new.entries c.next-at.ensures (rw pushed read)
 
 pub returns : goal.returns
-returns c = reading-ends _ _ _ _ _ c.loop-block.invariant (no_items c.loop-block.due.items (sym c.loop-block.due.ok.0 ∙ c.in_default.ensures.cases.0))
+returns c = reading-ends _ _ _ _ _ c.loop-block.invariant (nil_from_length c.loop-block.due.items (sym c.loop-block.due.ok.0 ∙ c.in_default.ensures.cases.0))

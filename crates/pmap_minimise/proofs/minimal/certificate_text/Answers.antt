@@ -1,16 +1,18 @@
-use Rattle.std.proofs.Common.{◌∷◌, ◌∙◌, length}
-use Rattle.pmap_cert.specs.CertificateText.{format_header, text_of_lines}
+use Rattle.std.proofs.Common.{◌∙◌}
+use Rattle.std.proofs.lemmas.Result.{IfOk-weaker}
+use Rattle.pmap_cert.specs.CertificateText.{certificate_text}
+use Rattle.pmap_cert.specs.Node.{tree_of}
 use Rattle.pmap_minimise.proofs.Whole.{certified-text}
 use Rattle.pmap_minimise.proofs.minimal.certificate_text.Goals as goal
 
-pub push_opened-requires : goal.push_opened-requires
-push_opened-requires c = let built = c.in_ok-root.ensures.built in (built.node, built.opens)
+pub write_opened-requires : goal.write_opened-requires
+write_opened-requires c = let built = c.in_ok-compact.ensures.built in (built.node, built.opens)
 
 pub returns : goal.returns
 returns c =
-    let m = c.args.map in
-    let built = c.in_ok-root.ensures.built in
-    let labels = c.in_ok-root.ensures.labels in
-    certified-text m c.in_ok-root.root built c.in_ok-out.out.items c.push_opened.new.out.items
-    (c.in_ok-out.ensures ∙ (λ i. text_of_lines (format_header (1, (m.version, length (labels i))) ∷ labels i)))
-    (c.in_ok-push_opened.ensures built.node built.opens)
+    let is = c.in_ok-compact.ensures in
+    let node = is.built.node in
+    IfOk-weaker c.write_opened.result _ _ (λ text opened.
+    certified-text c.args.map c.in_ok-compact.compact.root is.built text.items (opened node is.built.opens (rw (is.labels, is.version) is.built.is.form.0)
+    ∙ (λ i. certificate_text (record { format = 1; version = is.version i; table = is.labels i; root = tree_of (is.labels i) node }))))
+    c.write_opened.ensures

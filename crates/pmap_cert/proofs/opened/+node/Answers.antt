@@ -3,10 +3,9 @@ use Rattle.std.proofs.lemmas.List.{append_assoc}
 use Rattle.std.proofs.lemmas.Result.{on_ok_weaker}
 use Rattle.pmap_cert.specs.CertificateModel.{ClaimOf}
 use Rattle.pmap_cert.specs.Node.{Node, first_node}
-use Rattle.pmap_minimise.specs.Opened.{Opens, node_text, text_up}
-use Rattle.pmap_minimise.proofs.BuiltNodes.{opens-claim}
-use Rattle.pmap_minimise.proofs.OpenedTexts.{chain-added}
-use Rattle.pmap_minimise.proofs.opened.+node.Goals as goal
+use Rattle.pmap_cert.specs.Opened.{Opens, node_text, text_up}
+use Rattle.pmap_cert.proofs.OpenedTexts.{chain-added, opens-claim}
+use Rattle.pmap_cert.proofs.opened.+node.Goals as goal
 
 pub push_chain-returns-clause-text : goal.push_chain-returns-clause-text
 push_chain-returns-clause-text t c =

@@ -3,9 +3,9 @@ use Rattle.std.proofs.lemmas.Result.{on_ok_weaker}
 use Rattle.pmap_cert.specs.CertificateText.{InnerLine, LeafLine, node_line_text}
 use Rattle.pmap_cert.specs.CertificateModel.{claim_of}
 use Rattle.pmap_cert.specs.Paths.{digit}
-use Rattle.pmap_minimise.specs.Opened.{claim_above, node_text, path_node, set_above, text_up}
-use Rattle.pmap_minimise.proofs.OpenedTexts.{over-down}
-use Rattle.pmap_minimise.proofs.opened.+push_down.Goals as goal
+use Rattle.pmap_cert.specs.Opened.{claim_above, node_text, path_node, set_above, text_up}
+use Rattle.pmap_cert.proofs.OpenedTexts.{over-down}
+use Rattle.pmap_cert.proofs.opened.+push_down.Goals as goal
 
 pub returns : goal.returns
 returns t c =

@@ -1,6 +1,6 @@
 use Rattle.std.proofs.Common.{◌+◌, ◌*◌, length}
 use Rattle.pmap_cert.specs.Node.{first_node, node_lines}
-use Rattle.pmap_minimise.proofs.opened.+node.Given as goal
+use Rattle.pmap_cert.proofs.opened.+node.Given as goal
 
 -- the nodes below a node have fewer lines
 abbrev pub decreases-push_chain : goal.decreases-push_chain

@@ -11,8 +11,32 @@ use Rattle.pmap_cert.proofs.NodeWalk.{bits_of, side_of}
 use Rattle.pmap_cert.specs.CertificateModel.{ChainNode, ClaimOf, InnerNode, LeafNode, claim_of}
 use Rattle.pmap_cert.specs.Node.{Node, first_line, first_node, from_next_line, node_lines, node_of}
 use Rattle.pmap_cert.specs.Paths.{digit, path_to}
-use Rattle.pmap_minimise.specs.Numbers.{has_number}
-use Rattle.pmap_minimise.specs.Opened.{Opens, claim_above, cost_above, node_over, node_text, path_node, set_above, with_number}
+use Rattle.pmap_cert.specs.Opened.{Opens, claim_above, cost_above, has_number, node_over, node_text, path_node, set_above, with_number}
+
+-- the claim of the node of a run with `bits` bits below it
+module _ (side : ℕ) (end : Node) where
+  abbrev pub claim_over : ℕ → ClaimOf ℕ
+  claim_over zero = claim_of end
+  claim_over (suc bits) = claim_above side (claim_of end) bits
+
+  over-claim : (d : ℕ) (claim : ClaimOf ℕ) (x y : Node) → claim_of (node_over d claim x y) ≡ claim
+  over-claim zero claim x y = refl
+  over-claim (suc d) claim x y = refl
+
+  pub path-claim : (value bits : ℕ) → claim_of (path_node side value bits end) ≡ claim_over bits
+  path-claim value zero = refl
+  path-claim value (suc bits) = over-claim (digit value bits) (claim_above side (claim_of end) bits) (path_node side value bits end) (LeafNode side)
+
+-- a compact node has the claim of the node that it opens to
+pub opens-claim : (compact node : Node) → Opens compact node → claim_of compact ≡ claim_of node
+opens-claim (LeafNode label) node is = sym (ap claim_of is)
+opens-claim (InnerNode claim lower upper) node is = sym (ap claim_of is.node_is)
+opens-claim (ChainNode claim bits side end) node is = is.claim_is ∙ by is.count is.long ∙ sym (ap claim_of is.node_is)
+  where
+    by : (count : ℕ) → 2 ≤ count → claim_above side (claim_of is.end) 1 ≡ claim_of (path_node side is.value count is.end)
+    by zero long = absurd (omega arith)
+    by (suc zero) long = absurd (omega arith)
+    by (suc (suc count)) long = sym (path-claim side is.end is.value (suc (suc count)))
 
 -- a line with its end
 abbrev ended : List ℕ → List ℕ

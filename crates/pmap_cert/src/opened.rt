@@ -1,13 +1,18 @@
-//! Writes the lines of a certificate's nodes, with each chain opened.
-ghost use Rattle.std.specs.Prelude.{◌≡◌, ◌≤◌, ◌++◌, ◌∷◌, [], OnOk, drop, if◌then◌else◌};
-ghost use Rattle.pmap_cert.specs.CertificateText.{InnerLine, LeafLine, node_line_text};
+//! Writes a compact certificate with each chain opened.
+ghost use Rattle.std.specs.Prelude.{◌≡◌, ◌≤◌, ◌++◌, ◌∷◌, [], IfOk, OnOk, drop, if◌then◌else◌, length};
+ghost use Rattle.prefix_keys.specs.Block.{width_of};
+ghost use Rattle.pmap_cert.specs.CertificateText.{InnerLine, LeafLine, certificate_text, node_line_text};
 ghost use Rattle.pmap_cert.specs.CertificateModel.{claim_of};
-ghost use Rattle.pmap_cert.specs.Node.{Node as AnyNode, first_node};
-ghost use Rattle.pmap_minimise.specs.Numbers.{numbers_of};
-ghost use Rattle.pmap_minimise.specs.Opened.{IsOpenedAt, Opens, cost_above, node_text, path_node, set_above, text_up, with_number};
+ghost use Rattle.pmap_cert.specs.Node.{HasChainForm, Node as AnyNode, first_node, tree_of};
+ghost use Rattle.pmap_cert.specs.Opened.{IsOpenedAt, Opens, cost_above, node_text, numbers_of, path_node, set_above, text_up, with_number};
 
-use crate::entering::has_label;
-use pmap_cert::{Claim, Cursor, Node, Path, Root, push_line};
+use crate::certificate::Certificate;
+use crate::cursor::Cursor;
+use crate::format::Format;
+use crate::node::{Claim, Node, has_label};
+use crate::path::Path;
+use crate::root::Root;
+use crate::writing::{head_text, push_line};
 use pmap_text::LabelId;
 use std::alloc::{AllocError, Global};
 use std::slice;
@@ -185,8 +190,8 @@ fn push_node(
     }
 }
 
-/// Appends the lines of a root and of the nodes below it, with each chain opened.
-pub fn push_opened(out: &mut Vec<u8>, alloc: Global, root: &Root) -> Result<(), AllocError>
+// Appends the lines of a root and of the nodes below it, with each chain opened.
+fn push_opened(out: &mut Vec<u8>, alloc: Global, root: &Root) -> Result<(), AllocError>
     requires { (node : AnyNode) × Opens root.now node }
     ensures { OnOk result ((node : AnyNode) → Opens root.now node → out.new.items ≡ out.old.items ++ node_text node) }
 {
@@ -198,4 +203,18 @@ pub fn push_opened(out: &mut Vec<u8>, alloc: Global, root: &Root) -> Result<(), 
         &mut Vec::new(alloc),
         &mut Cursor::at_root(root),
     )
+}
+
+/// Returns the text of the certificate of format 1 that a compact one is with each chain opened, made without its nodes.
+pub fn write_opened(alloc: Global, compact: &Certificate) -> Result<Vec<u8>, AllocError>
+    requires { (node : AnyNode) × Opens compact.now.root node }
+    ensures { let labels = compact.now.labels in let version = compact.now.version in
+        IfOk result (λ text. (node : AnyNode) → Opens compact.now.root node
+        → HasChainForm (length labels) node (width_of version) → text.items ≡ certificate_text
+        (record { format = 1; version = version; table = labels; root = tree_of labels node })) }
+{
+    compact.labels.laws();
+    let mut out = head_text(alloc, Format::One, compact.version, &compact.labels)?;
+    push_opened(&mut out, alloc, &compact.root)?;
+    Ok(out)
 }

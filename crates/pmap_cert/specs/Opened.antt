@@ -1,12 +1,19 @@
 use Rattle.std.specs.Prelude.{◌≡◌, ℕ, zero, suc, ◌+◌, ◌<◌, ◌≤◌, ◌==◌, Bool, List, [], ◌∷◌, ◌++◌, if◌then◌else◌, length, map, nat_lt}
+use Rattle.std.specs.List.{list_any}
+use Rattle.pmap_text.specs.declared.label.LabelId.{LabelId}
 use Rattle.pmap_cert.specs.CertificateText.{LeafLine, node_line_text, text_of_lines}
 use Rattle.pmap_cert.specs.CertificateModel.{ChainNode, ClaimOf, InnerNode, LeafNode, claim_of}
 use Rattle.pmap_cert.specs.Node.{Node, first_node, node_lines}
 use Rattle.pmap_cert.specs.Paths.{digit, path_to}
-use Rattle.pmap_minimise.specs.Numbers.{has_number}
 
 -- A compact node and the node with each of its chains opened: a chain turns into the inner nodes of its run, each with
 -- its exact claim, and the leaves beside them.
+
+abbrev pub numbers_of : List LabelId → List ℕ
+numbers_of ids = map (λ id. id.0) ids
+
+abbrev pub has_number : List ℕ → ℕ → Bool
+has_number ns n = list_any (λ m. n == m) ns
 
 -- the set with one more number, in ascending order
 abbrev pub with_number : ℕ → List ℕ → List ℕ

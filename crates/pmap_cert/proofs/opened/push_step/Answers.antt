@@ -1,11 +1,10 @@
 use Rattle.std.proofs.Common.{◌≡◌, ◌∙◌, ◌∷◌, ◌++◌, [], ℕ, List, ap, arith, cond, false, sym, true}
 use Rattle.std.proofs.lemmas.List.{append-nil, append_assoc}
 use Rattle.pmap_cert.specs.CertificateText.{InnerLine, LeafLine, node_line_text}
-use Rattle.pmap_minimise.specs.Opened.{set_above, with_number}
-use Rattle.pmap_minimise.specs.Numbers.{numbers_of}
-use Rattle.pmap_minimise.proofs.OpenedTexts.{above-last, above-more}
-use Rattle.pmap_minimise.proofs.opened.push_step.Goals as goal
-use Rattle.pmap_minimise.proofs.opened.push_step.Goals.{else-before, then-before, then-more-gt0-via-then-more-gt0, then-more-gt0-via-else-more-gt0+then-has_label}
+use Rattle.pmap_cert.specs.Opened.{numbers_of, set_above, with_number}
+use Rattle.pmap_cert.proofs.OpenedTexts.{above-last, above-more}
+use Rattle.pmap_cert.proofs.opened.push_step.Goals as goal
+use Rattle.pmap_cert.proofs.opened.push_step.Goals.{else-before, then-before, then-more-gt0-via-then-more-gt0, then-more-gt0-via-else-more-gt0+then-has_label}
 
 pub returns-then-more-gt0 : goal.returns-then-more-gt0
 returns-then-more-gt0 c =
@@ -35,7 +34,7 @@ returns-in_ok-extend_from_slice-2 c =
     let claimed : numbers_of c.as_slice.result.now ≡ set_above chain.side.0 set c.args.more =
     ap numbers_of c.as_slice.ensures.value ∙ c.in_ok-push_with.ensures ∙ ap (λ (ns : List ℕ). ns ++ with_number chain.side.0 set) (ap numbers_of c.clear.ensures.items)
     ∙ sym (above-last chain.side.0 set c.args.more false (omega (arith, c.if-more-gt0.false)) (sym c.has_label.ensures ∙ c.if-has_label.false)) in
-    c.in_ok-extend_from_slice-2.ensures.items ∙ (λ i. c.in_ok-push_line.ensures.ok i ++ chain.leaf_is i) ∙ (λ i. (old ++ (node_line_text (InnerLine chain.cost (claimed i)) ++ 10 ∷ [])) ++ leaf)
+    c.in_ok-extend_from_slice-2.ensures.items ∙ (λ i. c.in_ok-push_line.ensures i ++ chain.leaf_is i) ∙ (λ i. (old ++ (node_line_text (InnerLine chain.cost (claimed i)) ++ 10 ∷ [])) ++ leaf)
     ∙ append_assoc old line leaf ∙ (λ i. old ++ (line ++ cond (sym c.if-before-2.true i) leaf []))
 
 pub returns-else-before-2 : goal.returns-else-before-2
@@ -48,5 +47,5 @@ returns-else-before-2 c =
     let claimed : numbers_of c.as_slice.result.now ≡ set_above chain.side.0 set c.args.more =
     ap numbers_of c.as_slice.ensures.value ∙ c.in_ok-push_with.ensures ∙ ap (λ (ns : List ℕ). ns ++ with_number chain.side.0 set) (ap numbers_of c.clear.ensures.items)
     ∙ sym (above-last chain.side.0 set c.args.more false (omega (arith, c.if-more-gt0.false)) (sym c.has_label.ensures ∙ c.if-has_label.false)) in
-    c.in_ok-push_line.ensures.ok ∙ (λ i. old ++ (node_line_text (InnerLine chain.cost (claimed i)) ++ 10 ∷ [])) ∙ ap (λ (t : List ℕ). old ++ t) (sym (append-nil line))
+    c.in_ok-push_line.ensures ∙ (λ i. old ++ (node_line_text (InnerLine chain.cost (claimed i)) ++ 10 ∷ [])) ∙ ap (λ (t : List ℕ). old ++ t) (sym (append-nil line))
     ∙ (λ i. old ++ (line ++ cond (sym c.if-before-2.false i) leaf []))

@@ -1,7 +1,6 @@
 use Rattle.std.proofs.Common.{◌≡◌, ◌++◌, length}
-use Rattle.pmap_minimise.specs.Opened.{with_number}
-use Rattle.pmap_minimise.specs.Numbers.{numbers_of}
-use Rattle.pmap_minimise.proofs.opened.push_with.Given as goal
+use Rattle.pmap_cert.specs.Opened.{numbers_of, with_number}
+use Rattle.pmap_cert.proofs.opened.push_with.Given as goal
 
 abbrev pub invariant-loop-id : goal.invariant-loop-id
 invariant-loop-id l =

@@ -3,9 +3,9 @@ use Rattle.std.proofs.lemmas.Bool.{ne_eqb}
 use Rattle.std.proofs.lemmas.List.{append-nil, append_assoc}
 use Rattle.pmap_cert.specs.CertificateText.{LeafLine, node_line_text}
 use Rattle.pmap_cert.proofs.Paths.{digits-left}
-use Rattle.pmap_minimise.specs.Opened.{text_up}
-use Rattle.pmap_minimise.proofs.opened.push_up.Goals as goal
-use Rattle.pmap_minimise.proofs.opened.push_up.Goals.{then-rest-eq0+in_ok-extend_from_slice, else-rest-eq0}
+use Rattle.pmap_cert.specs.Opened.{text_up}
+use Rattle.pmap_cert.proofs.opened.push_up.Goals as goal
+use Rattle.pmap_cert.proofs.opened.push_up.Goals.{then-rest-eq0+in_ok-extend_from_slice, else-rest-eq0}
 
 pub loop-place-preserved : goal.loop-place-preserved
 loop-place-preserved c =

@@ -1,6 +1,6 @@
 use Rattle.std.proofs.Common.{◌≡◌, ◌++◌, ◌/◌, ◌^◌}
-use Rattle.pmap_minimise.specs.Opened.{text_up}
-use Rattle.pmap_minimise.proofs.opened.push_up.Given as goal
+use Rattle.pmap_cert.specs.Opened.{text_up}
+use Rattle.pmap_cert.proofs.opened.push_up.Given as goal
 
 abbrev pub invariant-loop-place : goal.invariant-loop-place
 invariant-loop-place l = record {
