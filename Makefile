@@ -27,13 +27,14 @@ checks = 'docs/trusted >out/trusted' docs/words tests/out_of_memory tests/by_han
 	tests/calls/run tests/borrow tests/build tests/program tests/system tests/hashing tests/instructions tests/memory \
 	tests/install tests/verify tests/evaluate tests/shared 'tests/report --without-packages' \
 	'tests/many --without-packages' 'tests/lint flows lost' 'examples/run --without-packages'
-# Scripts that check the scripts of examples/.
-checks_of_scripts = tests/capture tests/country tests/customers tests/nfcapd tests/pictures
+# Scripts that check the scripts of examples/. Of tests/lint these are the groups that `checks` doesn't have.
+checks_of_scripts = tests/capture tests/country tests/customers tests/endings tests/fib \
+	'tests/lint warned explained lines binaries real looked_up' tests/nfcapd tests/pictures 'tests/table texts nft'
 # CI leaves these out. tests/package fetches a Debian tree from a mirror, which may not answer. tests/many starts Dask,
-# whose time limits a busy machine may pass. tests/lint and tests/report compare CPU seconds, which depend on what else
-# runs. `checks` has the parts of these three that need no package and measure nothing. tests/endings, tests/fib and
-# tests/table send signals and use namespaces: they haven't been seen as a whole on a machine that has no right to them.
-not_in_ci = tests/endings tests/fib tests/lint tests/many tests/package tests/report tests/table
+# and the other tables of tests/table are loaded hundreds of times, or with hundreds of thousands of entries: both take
+# minutes. 'tests/lint large' and tests/report compare CPU seconds, which depend on what else runs. `checks` has the
+# parts of tests/many and tests/report that need no package and measure nothing.
+not_in_ci = 'tests/lint large' tests/many tests/package tests/report 'tests/table linux bird bpf ipset countries'
 
 # The gate also builds the program, so bin/flowlabel has nothing to build.
 test:
