@@ -10,12 +10,10 @@ RANGE = re.compile(rb"([0-9a-f.:]+)\|([0-9a-f.:]+)\|(.*)")
 
 def block(text):
     """Returns the version, the address and the length of a block. Raises ValueError if host bits are set."""
-    address, slash, length = text.partition("/")
-    version, number = shared.address(address)
-    host_bits = shared.WIDTHS[version] - (int(length) if slash else shared.WIDTHS[version])
-    if number >> host_bits << host_bits != number or slash and not length.isdecimal():
+    version, number, length = shared.block(text)
+    if shared.ends(version, number, length)[0] != number:
         raise ValueError(f"no block: {text}")
-    return version, number, shared.WIDTHS[version] - host_bits
+    return version, number, length
 
 
 def block_text(version, number, length):

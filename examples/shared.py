@@ -24,6 +24,7 @@ SIGNALS = (signal.SIGINT, signal.SIGTERM, signal.SIGHUP)
 signal.signal(signal.SIGINT, signal.SIG_DFL)
 
 import argparse
+import collections
 import contextlib
 import os
 import re
@@ -218,6 +219,25 @@ def ends(version, number, length):
     """Returns the first and the last address of a block, as numbers."""
     host_bits = (1 << WIDTHS[version] - length) - 1
     return number & ~host_bits, number | host_bits
+
+
+def mask_length(version, number):
+    """Returns the length of a netmask, or None if the number is that of another address."""
+    length = number.bit_count()
+    return length if number == ends(version, 0, length)[1] ^ ends(version, 0, 0)[1] else None
+
+
+def ranges(table):
+    """Returns the ranges that `flowlabel cat` has printed: first address, last address and label."""
+    return (line.split(b"|", 2) for line in table.split(b"\n")[1:-1])
+
+
+def counts(table):
+    """Returns the number of addresses of each label, by what `flowlabel cat` has printed."""
+    found = collections.Counter()
+    for low, high, label in ranges(table):
+        found[label] += 1 + address(high.decode())[1] - address(low.decode())[1]
+    return found
 
 
 def refuse_other(name):

@@ -104,6 +104,15 @@ class Steps:
             raise Failed(words, (said.strip() or output.strip() or f"the status is {status}").splitlines())
         return output
 
+    def ip(self, *words, **options):
+        """Runs ip, and returns its output. The kernel has no table without routes, so there is no output then."""
+        try:
+            return self.run("ip", *words, package="iproute2", **options)
+        except Failed as fault:
+            if "FIB table does not exist" not in str(fault):
+                raise
+            return ""
+
     def batch(self, words, lines, **options):
         """Runs a program over lines, some at a time, since ip 6.1 uses 4 KB of memory for each."""
         for start in range(0, len(lines), LINES):

@@ -3,7 +3,6 @@
 import re
 
 import shared
-import steps
 from table_kind import Table as Kind
 from table_kind import text, with_length
 
@@ -36,7 +35,7 @@ class Table(Kind):
 
     def ip(self, *words):
         """Runs ip in the namespace."""
-        return self.run("ip", "-N", "-n", self.name, *words)
+        return self.steps.ip("-N", "-n", self.name, *words)
 
     def batch(self, lines):
         """Runs lines of ip in the namespace."""
@@ -66,12 +65,7 @@ class Table(Kind):
 
     def routes(self, version, verb, table):
         """Shows or flushes the routes of a table, which exists if it has a route."""
-        try:
-            return self.ip(f"-{version}", "route", verb, "table", str(table))
-        except steps.Failed as fault:
-            if "FIB table does not exist" not in str(fault):
-                raise
-            return ""
+        return self.ip(f"-{version}", "route", verb, "table", str(table))
 
     def fill(self, halves):
         if not self.is_there():
