@@ -24,7 +24,6 @@ mod fault;
 mod filter;
 mod items;
 mod laws;
-pub mod names;
 mod option;
 mod ranges;
 

@@ -1,7 +1,5 @@
 ghost use Rattle.std.specs.Prelude.{◌≡◌};
 
-use crate::names;
-
 /// An option that states a condition on rows.
 #[derive(Clone, Copy, Debug, PartialEq, Eq)]
 pub enum FilterOption {
@@ -49,16 +47,16 @@ impl FilterOption {
         ensures { result.now ≡ name_of self }
     {
         match self {
-            FilterOption::Protocol => names::PROTOCOL,
-            FilterOption::SourcePort => names::SOURCE_PORT,
-            FilterOption::DestinationPort => names::DESTINATION_PORT,
-            FilterOption::SourceAddress => names::SOURCE_ADDRESS,
-            FilterOption::DestinationAddress => names::DESTINATION_ADDRESS,
-            FilterOption::Packets => names::PACKETS,
-            FilterOption::Bytes => names::BYTES,
-            FilterOption::SourceLabel => names::SOURCE_LABEL,
-            FilterOption::DestinationLabel => names::DESTINATION_LABEL,
-            FilterOption::AnyLabel => names::ANY_LABEL,
+            FilterOption::Protocol => "protocol",
+            FilterOption::SourcePort => "sport",
+            FilterOption::DestinationPort => "dport",
+            FilterOption::SourceAddress => "saddress",
+            FilterOption::DestinationAddress => "daddress",
+            FilterOption::Packets => "packets",
+            FilterOption::Bytes => "bytes",
+            FilterOption::SourceLabel => "src-label",
+            FilterOption::DestinationLabel => "dst-label",
+            FilterOption::AnyLabel => "any-label",
         }
     }
 

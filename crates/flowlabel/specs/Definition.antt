@@ -1,4 +1,5 @@
 use Rattle.std.specs.Prelude.{◌≡◌, false, true, List, [], ◌∷◌, ◌++◌, Some, codes, map}
+use Rattle.std.specs.Borrow.{Bor}
 use Rattle.std.specs.List.{fold}
 use Rattle.clap.specs.declared.builder.action.ArgAction.TheVariants.{SetTrue}
 use Rattle.clap.specs.declared.builder.arg.Arg.{Arg}
@@ -80,11 +81,12 @@ rule_for (Word name value help) = word_rule name.now
 abbrev pub with_argument : App → Argument → App
 with_argument app argument = with_rule app (rule_for argument)
 
+abbrev pub with_arguments : App → Bor (List Argument) → App
+with_arguments app arguments = fold with_argument app arguments.now
+
 -- a subcommand in the program, and a program with it
 abbrev pub app_for : Subcommand → App
-app_for sub =
-    let begun = fold with_argument (new_app sub.name.now) sub.first.now in
-    fold with_argument (fold with_argument begun sub.second.now) sub.third.now
+app_for sub = fold with_arguments (new_app sub.name.now) sub.arguments.now
 
 abbrev pub with_sub : App → Subcommand → App
 with_sub app sub = with_app app (app_for sub)

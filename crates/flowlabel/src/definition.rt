@@ -6,10 +6,6 @@ ghost use Rattle.flowlabel.specs.Definition.{IsArgument, IsCommand, app_for, flo
 
 use Argument::{Flag, Needed, Optional, Word};
 use clap::{Arg, ArgAction, Command};
-use flow_filter::names::{
-    ANY_LABEL, BYTES, DESTINATION_ADDRESS, DESTINATION_LABEL, DESTINATION_PORT, PACKETS, PROTOCOL,
-    SOURCE_ADDRESS, SOURCE_LABEL, SOURCE_PORT,
-};
 use std::alloc::{AllocError, Global};
 
 // Appends the version, which is written only here, to a text.
@@ -31,18 +27,17 @@ macro_rules! arguments {
     ($($kind:ident $name:tt $($text:literal)+;)*) => { [$($kind($name, $($text),+)),*] };
 }
 
-// A table of subcommands: the name, what the subcommand does, its words, an example with its words, and its arguments.
+// A table of subcommands: the name, what the subcommand does, its words, an example with its words, and the lists of its
+// arguments.
 macro_rules! subcommands {
     ($($name:literal $about:literal $words:literal; $what:literal $example:literal;
-        $first:expr, $second:expr, $third:expr;)*) => {
+        $($arguments:expr),+;)*) => {
         [$(Subcommand {
             name: $name,
             about: $about,
             usage: concat!("flowlabel ", $name, " ", $words),
             example: example!($what, $name, " ", $example),
-            first: $first,
-            second: $second,
-            third: $third,
+            arguments: &[$($arguments),+],
         }),*]
     };
 }
@@ -60,16 +55,14 @@ pub enum Argument<'a> {
     Word(&'a str, &'a str, &'a str),
 }
 
-/// A subcommand: its name, its texts for help, and its arguments, in three lists.
+/// A subcommand: its name, its texts for help, and the lists of its arguments.
 #[derive(Clone, Copy)]
 pub struct Subcommand<'a> {
     name: &'a str,
     about: &'a str,
     usage: &'a str,
     example: &'a str,
-    first: &'a [Argument<'a>],
-    second: &'a [Argument<'a>],
-    third: &'a [Argument<'a>],
+    arguments: &'a [&'a [Argument<'a>]],
 }
 
 const SOURCES: [Argument<'static>; 2] = arguments! {
@@ -77,26 +70,17 @@ const SOURCES: [Argument<'static>; 2] = arguments! {
     Optional "list" "FILE" "Labels" "The prefix list";
 };
 
-// The arguments of reports on Files that come first, and those that come last.
-const REPORT: [Argument<'static>; 12] = arguments! {
-    Optional "pmap" "FILE" "Labels" "The prefix map";
-    Optional "list" "FILE" "Labels" "The prefix list";
-    Optional PROTOCOL "NUMBERS" "Filters" "Flows of these protocols, such as 6,17 or 1-16";
-    Optional SOURCE_PORT "NUMBERS" "Filters" "Flows from these ports";
-    Optional DESTINATION_PORT "NUMBERS" "Filters" "Flows to these ports";
-    Optional SOURCE_ADDRESS "BLOCKS" "Filters" "Flows from these addresses: 10.0.0.1,2001:db8::/32";
-    Optional DESTINATION_ADDRESS "BLOCKS" "Filters" "Flows to these addresses";
-    Optional PACKETS "RANGE" "Filters" "Flows with this many packets, such as 5, 5- or 5-9";
-    Optional BYTES "RANGE" "Filters" "Flows with this many bytes";
-    Optional SOURCE_LABEL "LABEL" "Filters" "Flows whose source has this label";
-    Optional DESTINATION_LABEL "LABEL" "Filters" "Flows whose destination has this label";
-    Optional ANY_LABEL "LABEL" "Filters" "Flows whose source or destination has this label";
-};
-
-const SORTED: [Argument<'static>; 3] = arguments! {
-    Flag "sort-output" "Print the sums in the order of their keys";
-    Flag "columns" "Pad the fields to columns";
-    Word "flows" "FILE" "The IPFIX File";
+const FILTERS: [Argument<'static>; 10] = arguments! {
+    Optional "protocol" "NUMBERS" "Filters" "Flows of these protocols, such as 6,17 or 1-16";
+    Optional "sport" "NUMBERS" "Filters" "Flows from these ports";
+    Optional "dport" "NUMBERS" "Filters" "Flows to these ports";
+    Optional "saddress" "BLOCKS" "Filters" "Flows from these addresses: 10.0.0.1,2001:db8::/32";
+    Optional "daddress" "BLOCKS" "Filters" "Flows to these addresses";
+    Optional "packets" "RANGE" "Filters" "Flows with this many packets, such as 5, 5- or 5-9";
+    Optional "bytes" "RANGE" "Filters" "Flows with this many bytes";
+    Optional "src-label" "LABEL" "Filters" "Flows whose source has this label";
+    Optional "dst-label" "LABEL" "Filters" "Flows whose destination has this label";
+    Optional "any-label" "LABEL" "Filters" "Flows whose source or destination has this label";
 };
 
 const TABLE: [Argument<'static>; 2] = arguments! {
@@ -124,30 +108,30 @@ const CHECK: [Argument<'static>; 3] = arguments! {
 const SUBCOMMANDS: [Subcommand<'static>; 8] = subcommands! {
     "label" "Print the label of an address" "(--pmap FILE | --list FILE) ADDR";
         "the label of one address" "--pmap customers.txt 10.2.3.4";
-        &SOURCES, &[Word("address", "ADDR", "The address to label")], &[];
+        &SOURCES, &[Word("address", "ADDR", "The address to label")];
     "info" "Print the counts of an IPFIX File" "FILE";
         "the numbers of messages, sets and records" "flows.ipfix";
-        &[Word("flows", "FILE", "The IPFIX File")], &[], &[];
+        &[Word("flows", "FILE", "The IPFIX File")];
     "rows" "Print the flows of an IPFIX File" "[--pmap FILE | --list FILE] [OPTIONS] FILE";
         "the flows from the customer Cedar to port 443"
         "--pmap customers.txt --src-label Cedar --dport 443 flows.ipfix";
-        &REPORT, &TABLE, &[];
+        &SOURCES, &FILTERS, &TABLE;
     "uniq" "Print the sums of the flows of an IPFIX File"
         "--fields NAMES [--pmap FILE | --list FILE] [OPTIONS] FILE";
         "the sums by the customer that receives" "--fields dst-label --pmap customers.txt flows.ipfix";
-        &KEYS, &REPORT, &SORTED;
+        &KEYS, &SOURCES, &FILTERS, &[Flag("sort-output", "Print the sums in the order of their keys")], &TABLE;
     "cat" "Print the ranges of a map or a list" "(--pmap FILE | --list FILE)";
         "the addresses of each label" "--pmap customers.txt";
-        &SOURCES, &[], &[];
+        &SOURCES;
     "shrink" "Print a shortest prefix list of a map" "--pmap FILE [--certificate [--compact]]";
         "the list of a map" "--pmap customers.txt >list.txt";
-        &SHRINK, &[], &[];
+        &SHRINK;
     "check" "Verify that a list is minimal" "--pmap FILE --list FILE --cert FILE";
         "whether list.txt is a shortest list" "--pmap customers.txt --list list.txt --cert cert.txt";
-        &CHECK, &[], &[];
+        &CHECK;
     "recert" "Print a certificate in compact form" "--cert FILE";
         "a shorter form of cert.txt" "--cert cert.txt >compact.txt";
-        &[Needed("cert", "FILE", "Files", "The certificate")], &[], &[];
+        &[Needed("cert", "FILE", "Files", "The certificate")];
 };
 
 fn argument_of<'a>(alloc: Global, argument: &Argument<'a>) -> Arg<'a>
@@ -211,10 +195,11 @@ fn with_arguments<'a>(
 fn command_of<'a>(alloc: Global, sub: &Subcommand<'a>) -> Result<Command<'a>, AllocError>
     ensures { IfOk result (IsCommand (app_for sub.now)) }
 {
-    let bare = described(alloc, sub.name, sub.about, sub.usage, sub.example);
-    let begun = with_arguments(alloc, bare, sub.first)?;
-    let most = with_arguments(alloc, begun, sub.second)?;
-    with_arguments(alloc, most, sub.third)
+    let mut command = described(alloc, sub.name, sub.about, sub.usage, sub.example);
+    for arguments in sub.arguments {
+        command = with_arguments(alloc, command, arguments)?;
+    }
+    Ok(command)
 }
 
 fn program<'a>(alloc: Global) -> Command<'a>
