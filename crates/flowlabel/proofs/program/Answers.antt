@@ -1,4 +1,4 @@
-use Rattle.std.proofs.Common.{◌∙◌, Err, ap, refl}
+use Rattle.std.proofs.Common.{◌∙◌, Err, ap, refl, rules}
 use Rattle.flowlabel.specs.Run.{Usage}
 use Rattle.flowlabel.specs.declared.usage.UsageFault.{UsageFault}
 use Rattle.flowlabel.proofs.program.Goals.{in-Ok+in-Ok-listed, in-Ok+in-Err-listed, in-Err}
@@ -14,5 +14,5 @@ returns g c = record {
     | in-Err w ↦ rw (w.in-Err.is, w.outcome-is, w.output-is) (ap (λ (fault : UsageFault). Err (Usage fault)) w.words_fault.ensures, refl)
   ];
   reported = c.end.ensures.reported;
-  status = c.end.ensures.status;
+  status = search rules;
 }

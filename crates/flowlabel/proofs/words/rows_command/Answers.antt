@@ -1,6 +1,5 @@
-use Rattle.std.proofs.Common.{arith}
-use Rattle.std.proofs.lemmas.Grind.{common_steps}
+use Rattle.std.proofs.Common.{rules}
 use Rattle.flowlabel.proofs.words.rows_command.Goals as goal
 
 pub returns : goal.returns
-returns c = grind (arith, common_steps)
+returns c = rw (c.in_ok-labels.ensures, c.in_ok-filter.ensures, c.is_given-columns.ensures, c.needed_text-flows.ensures) (search rules)
