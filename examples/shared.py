@@ -233,10 +233,12 @@ def ranges(table):
 
 
 def counts(table):
-    """Returns the number of addresses of each label, by what `flowlabel cat` has printed."""
-    found = collections.Counter()
-    for low, high, label in ranges(table):
-        found[label] += 1 + address(high.decode())[1] - address(low.decode())[1]
+    """Returns the number of addresses of each label, by what `flowlabel cat` has printed: ranges over all addresses."""
+    found, start = collections.Counter(), 0
+    for _, high, label in ranges(table):
+        end = 1 + address(high.decode())[1]
+        found[label] += end - start
+        start = end
     return found
 
 
