@@ -4,7 +4,6 @@ use Rattle.std.specs.Option.{option_or}
 use Rattle.std.proofs.lemmas.Option.{none-some, same_Some}
 use Rattle.pmap_text.specs.ListModel.{Prefix}
 use Rattle.pmap_text.specs.MapModel.{Label, MapModel}
-use Rattle.prefix_keys.specs.Block.{block_number, width_of}
 use Rattle.prefix_keys.specs.declared.block.Block.{Block}
 use Rattle.pmap_text.specs.PrefixList.{number_of_block}
 use Rattle.pmap_cert.specs.Paths.{path_number}
@@ -23,10 +22,6 @@ or-none (Some x) = refl
 pub or-or : {X : Type 0} (a b c : Option X) → option_or (option_or a b) c ≡ option_or a (option_or b c)
 or-or None b c = refl
 or-or (Some x) b c = refl
-
-pub half-by : (whole half : Block) (q : ℕ) → half.version ≡ whole.version → half.len ≡ whole.len + 1 → block_number (width_of whole.version) (whole.len + 1) half.value ≡ q
-    → IsHalfNumbered whole half q
-half-by whole half q version len is = record { version = version; len = len; number = (λ i. block_number (width_of (version i)) (len i) half.value) ∙ is }
 
 -- a function of the length and the number of a half
 pub half-is : {X : Type 0} (whole half : Block) (q : ℕ) → IsHalfNumbered whole half q → (f : ℕ → ℕ → X) → f half.len (number_of_block half) ≡ f (suc whole.len) q

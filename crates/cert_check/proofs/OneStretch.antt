@@ -1,5 +1,6 @@
 -- Blocks that a map settles and a list decides with a label: those with all addresses in one stretch with the label.
-use Rattle.std.proofs.Common.{◌≡◌, ◌∙◌, ℕ, suc, ◌+◌, ◌-◌, ◌^◌, ◌<◌, ◌≤◌, ◌&&◌, inl, inr, Bool, true, false, cond, not, nat_le, List, Option, Some, None, IsSome, length, option_and_then, option_map, slice_get, mul-div_cancel, pow_pos, refl, sym, ap, subst, arith}
+use Rattle.std.proofs.Common.{◌≡◌, ◌∙◌, ℕ, suc, ◌+◌, ◌-◌, ◌*◌, ◌/◌, ◌^◌, ◌<◌, ◌≤◌, ◌&&◌, inl, inr, Bool, true, false, cond, not, nat_le, List, Option, Some, None, IsSome, length, option_and_then, option_map, slice_get, mul-div_cancel, pow_pos, refl, sym, ap, subst, arith}
+use Rattle.std.proofs.Math.Nat.{zero-div}
 use Rattle.std.specs.List.{list_any}
 use Rattle.std.specs.Option.{ForSome}
 use Rattle.std.proofs.lemmas.Bool.{and_from, and_parts, cases_lt, le-leb, leb-true, lt-leb}
@@ -27,9 +28,10 @@ use Rattle.pmap_text.proofs.Orders.{known_text}
 use Rattle.pmap_text.proofs.Painted.{IsSeen}
 use Rattle.pmap_text.proofs.Ranges.{held_fits, held_index, holder}
 use Rattle.pmap_text.proofs.Settling.{Settles, map_is, stretch_labelled}
-use Rattle.pmap_text.proofs.Windows.{block_some}
+use Rattle.pmap_text.proofs.BlockHalves.{halves_ends}
+use Rattle.pmap_text.proofs.Windows.{block_some, first_number}
 use Rattle.cert_check.specs.Checking.{list_settles, is_label_of, leaf_fault, CheckFaultKind, LeafNotUniform, ListDiffers}
-use Rattle.cert_check.specs.Inner.{AreSources, IsClear, IsSource, Source, Sources, has_one_label}
+use Rattle.cert_check.specs.Inner.{AreSources, IsClear, IsRangeOf, IsSource, Source, Sources, has_one_label, number_at}
 use Rattle.cert_check.proofs.Lists.{any-filtered}
 
 -- whether the stretch i has the addresses up to the last and has the label x
@@ -152,6 +154,54 @@ module _ (from : List Label) (s : StretchesModel) (every : HasEveryAddress s) (f
       subst (λ (k : ℕ). is_in from s k high x ≡ true) (sym same)
       (and_from (nat_le high (last_at s i)) (is_label_of (text_if_some from (label_at s i)) x) (le-leb high (last_at s i) (omega (arith, most, le))) parts.1)
 
+-- the range of a block
+pub block-range : (s : Sources) (b : Block) → b.version ≡ s.map.now.version → (last : ℕ) → last ≡ last_of (width_of b.version) b.len (number_of_block b) → last < 2 ^ width_of b.version
+    → IsRangeOf s b.value last b.len (number_of_block b)
+block-range s b version last last_is fits =
+    let W = width_of b.version in
+    let first_is : first_of W b.len (number_of_block b) ≡ b.value = whole b.value (2 ^ (W - b.len)) (pow_pos (W - b.len)) b.no_host_bit in
+    let some : b.value ≤ last = omega (arith, block_some W b.len (number_of_block b), first_is, last_is) in
+    record {
+      short = subst (λ (v : Version). b.len ≤ width_of v) version b.len_in_range;
+      first_is = subst (λ (v : Version). b.value ≡ first_of (width_of v) b.len (number_of_block b)) version (sym first_is);
+      last_is = subst (λ (v : Version). last ≡ last_of (width_of v) b.len (number_of_block b)) version last_is;
+      some = some;
+      fits = subst (λ (v : Version). last < 2 ^ width_of v) version fits;
+    }
+
+-- the range of all addresses
+pub whole-range : (s : Sources) (last : ℕ) → last + 1 ≡ 2 ^ width_of s.map.now.version → IsRangeOf s 0 last 0 (number_at s 0 0)
+whole-range s last is =
+    let W = width_of s.map.now.version in
+    let none : W - 0 ≡ W = omega arith in
+    let number : number_at s 0 0 ≡ 0 = zero-div (2 ^ (W - 0)) in
+    rw number (record { short = omega arith; first_is = omega arith; last_is = rw none (omega (arith, is)); some = omega arith; fits = omega (arith, is) })
+
+-- the ranges of the halves of a block, and their numbers
+pub record HaveRanges (s : Sources) (first middle last n q : ℕ) : Type 0 where
+  pub low : IsRangeOf s first middle n (number_at s n first)
+  pub high : IsRangeOf s (middle + 1) last n (number_at s n (middle + 1))
+  pub low_is : number_at s n first ≡ 2 * q
+  pub high_is : number_at s n (middle + 1) ≡ 2 * q + 1
+
+pub half-ranges : (s : Sources) (first last n q : ℕ) → n < width_of s.map.now.version → IsRangeOf s first last n q → HaveRanges s first (first + (last - first) / 2) last (n + 1) q
+half-ranges s first last n q room range =
+    let W = width_of s.map.now.version in
+    let middle = first + (last - first) / 2 in
+    let ends = halves_ends W n q first last room range.first_is range.last_is in
+    let one : suc n ≡ n + 1 = omega arith in
+    let low_first = ends.low_first ∙ ap (λ (m : ℕ). first_of W m (2 * q)) one in
+    let high_first = ends.high_first ∙ ap (λ (m : ℕ). first_of W m (2 * q + 1)) one in
+    let some : first + (last - first) / 2 + 1 ≤ last = omega (arith, block_some W (suc n) (2 * q + 1), ends.high_first, ends.high_last) in
+    let low_is = first_number W (n + 1) (2 * q) first low_first in
+    let high_is = first_number W (n + 1) (2 * q + 1) (middle + 1) high_first in
+    record {
+      low = rw low_is (record { short = omega arith; first_is = low_first; last_is = ends.low_last ∙ ap (λ (m : ℕ). last_of W m (2 * q)) one; some = omega arith; fits = omega (arith, range.fits, some) });
+      high = rw high_is (record { short = omega arith; first_is = high_first; last_is = ends.high_last ∙ ap (λ (m : ℕ). last_of W m (2 * q + 1)) one; some = some; fits = range.fits });
+      low_is = low_is;
+      high_is = high_is;
+    }
+
 -- the numbers of a source's labels
 pub known-numbers : (from to : List Label) (s : Source) → IsSource from to s → AreLabelsBelow (length s.numbers.items) s.stretches
 known-numbers from to s is =
@@ -181,17 +231,11 @@ module _ (s : Sources) (are : AreSources s) (x : Label) where
       (list-decides s.list.now s.of_list.stretches are.list_width are.list_stretches.0 are.list_stretches.1 are.list_stretches.2 n q x
       s.map.now.version (are.list_width ∙ are.list_version) short fits i)
 
-  -- at a block of the version
-  pub leaf-at : (b : Block) → b.version ≡ s.map.now.version → (last : ℕ) → last ≡ last_of (width_of b.version) b.len (number_of_block b) → last < 2 ^ width_of b.version
-      → leaf_fault (map_of s.map.now) (list_of s.list.now).prefixes b.len (number_of_block b) x ≡ fault_by (of_map b.value last) (of_list b.value last)
-  leaf-at b version last last_is fits =
-      let first_is : first_of (width_of b.version) b.len (number_of_block b) ≡ b.value =
-      whole b.value (2 ^ (width_of b.version - b.len)) (pow_pos (width_of b.version - b.len)) b.no_host_bit in
-      let first_is' = subst (λ (v : Version). first_of (width_of v) b.len (number_of_block b) ≡ b.value) version first_is in
-      let last_is' = subst (λ (v : Version). last ≡ last_of (width_of v) b.len (number_of_block b)) version last_is in
-      let fits' = subst (λ (v : Version). last < 2 ^ width_of v) version fits in
-      leaf-is b.len (number_of_block b) (subst (λ (v : Version). b.len ≤ width_of v) version b.len_in_range) (omega (arith, last_is', fits'))
-      ∙ (λ i. fault_by (of_map (first_is' i) (sym last_is' i)) (of_list (first_is' i) (sym last_is' i)))
+  -- by its addresses
+  pub leaf-at : (first last n q : ℕ) → IsRangeOf s first last n q → leaf_fault (map_of s.map.now) (list_of s.list.now).prefixes n q x ≡ fault_by (of_map first last) (of_list first last)
+  leaf-at first last n q range =
+      leaf-is n q range.short (omega (arith, range.last_is, range.fits))
+      ∙ (λ i. fault_by (of_map (sym range.first_is i) (sym range.last_is i)) (of_list (sym range.first_is i) (sym range.last_is i)))
 
   -- no block in a range that has the label in both has a fault
   pub range-clear : (first last : ℕ) → first < 2 ^ W → of_map first last ≡ true → of_list first last ≡ true → IsClear s first (last + 1) x

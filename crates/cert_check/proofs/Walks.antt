@@ -18,8 +18,8 @@ use Rattle.pmap_cert.specs.NodeSource.{place_in}
 use Rattle.pmap_cert.specs.Paths.{LeadsTo}
 use Rattle.pmap_cert.specs.declared.fault.CertFault.{CertFault}
 use Rattle.cert_check.specs.Checking.{bits_fault, claim_fault, fault_of_number, node_fault, BoundNotMet, CheckFault, CheckFaultKind}
-use Rattle.cert_check.specs.Inner.{CanBeRead, IsAfter, IsHalfNumbered, IsPassed, IsUnread, Read, Sources, Walk, chain_reading, claim_with, fault_of_node, fault_with, halves_reading, reading_at, sides_fault}
-use Rattle.cert_check.proofs.Nodes.{bits-sides, half-is, or-or}
+use Rattle.cert_check.specs.Inner.{CanBeRead, IsAfter, IsPassed, IsUnread, Read, Sources, Walk, chain_reading, claim_with, fault_of_node, fault_with, halves_reading, reading_at, sides_fault}
+use Rattle.cert_check.proofs.Nodes.{bits-sides, or-or}
 use Rattle.cert_check.proofs.Sets.{numbers}
 
 -- the sets with one more, cut at its beginning
@@ -31,19 +31,9 @@ held-at old set new from is at = (
 )
 
 -- An inner node whose claim has this cost and the numbers of these labels, at this place after its line.
-module _ (s : Sources) (b low high : Block) (low_half : IsHalfNumbered b low (2 * number_of_block b)) (high_half : IsHalfNumbered b high (2 * number_of_block b + 1)) (cost : ℕ) (own : List LabelId) (place : Place)
-    (number next : ℕ) (after : IsAfter number next) where
-  abbrev n : ℕ
-  n = b.len
-
-  abbrev q : ℕ
-  q = number_of_block b
-
+module _ (s : Sources) (n q low high cost : ℕ) (low_is : low ≡ 2 * q) (high_is : high ≡ 2 * q + 1) (own : List LabelId) (place : Place) (number next : ℕ) (after : IsAfter number next) where
   abbrev claim : Claim
   claim = claim_with s.limits.labels.now cost (numbers own)
-
-  abbrev faults : Tree → ℕ → ℕ → ℕ → Option CheckFault
-  faults tree k = node_fault (map_of s.map.now) (list_of s.list.now).prefixes tree k
 
   abbrev upper_then : Tree → Read → Read
   upper_then lower r = r >>= (λ upper. Ok (InnerNode claim lower upper.0, upper.1))
@@ -51,31 +41,25 @@ module _ (s : Sources) (b low high : Block) (low_half : IsHalfNumbered b low (2 
   abbrev lower_then : Read → Read
   lower_then r = r >>= (λ lower. upper_then lower.0 (reading_at s (n + 1) lower.1))
 
-  lower-at : reading_at s (n + 1) place ≡ reading_at s low.len place
-  lower-at = ap (λ (m : ℕ). reading_at s m place) (sym low_half.len)
-
-  pub lower-unread : (f : CertFault) → IsUnread (reading_at s low.len place) f → IsUnread (halves_reading s n claim place) f
-  lower-unread f unread = (λ some. ap lower_then (lower-at ∙ unread.0 some), unread.1)
+  pub lower-unread : (f : CertFault) → IsUnread (reading_at s (n + 1) place) f → IsUnread (halves_reading s n claim place) f
+  lower-unread f unread = (λ some. ap lower_then (unread.0 some), unread.1)
 
   module _ (sets : List LabelId) (before : Option CheckFault) (middle : Walk) (low_cost : ℕ)
-      (lower : IsPassed s (reading_at s low.len place) (fault_of_node s low) next sets before middle low_cost) where
-    following : halves_reading s n claim place ≡ upper_then lower.tree (reading_at s high.len (place_in middle.nodes))
-    following = ap lower_then (lower-at ∙ lower.read) ∙ ap (λ (m : ℕ). upper_then lower.tree (reading_at s m (place_in middle.nodes))) (sym high_half.len)
-
-    pub upper-unread : (f : CertFault) → IsUnread (reading_at s high.len (place_in middle.nodes)) f → IsUnread (halves_reading s n claim place) f
-    upper-unread f unread = (λ some. following ∙ ap (upper_then lower.tree) (unread.0 some), unread.1)
+      (lower : IsPassed s (reading_at s (n + 1) place) (fault_of_node s (n + 1) low) next sets before middle low_cost) where
+    pub upper-unread : (f : CertFault) → IsUnread (reading_at s (n + 1) (place_in middle.nodes)) f → IsUnread (halves_reading s n claim place) f
+    upper-unread f unread = (λ some. ap lower_then lower.read ∙ ap (upper_then lower.tree) (unread.0 some), unread.1)
 
     pub halves-passed : (old : List LabelId) (last new : Walk) (high_cost : ℕ) (o : Option CheckFaultKind)
-        (upper : IsPassed s (reading_at s high.len (place_in middle.nodes)) (fault_of_node s high) middle.number middle.sets.items middle.fault last high_cost)
+        (upper : IsPassed s (reading_at s (n + 1) (place_in middle.nodes)) (fault_of_node s (n + 1) high) middle.number middle.sets.items middle.fault last high_cost)
         → IsAscending (length s.limits.labels.now) 0 (numbers own)
         → o ≡ claim_fault claim (exact_claim (claim_with s.limits.labels.now low_cost (numbers lower.set)) (claim_with s.limits.labels.now high_cost (numbers upper.set)))
         → new.nodes ≡ last.nodes → new.number ≡ last.number → new.sets.items ≡ old ++ own → new.fault ≡ option_or last.fault (fault_with number o)
-        → IsPassed s (halves_reading s n claim place) (fault_of_node s b) number old before new cost
+        → IsPassed s (halves_reading s n claim place) (fault_of_node s n q) number old before new cost
     halves-passed old last new high_cost o upper ascending fault nodes numbered sets noted = record {
       tree = InnerNode claim lower.tree upper.tree;
       set = own;
       nodes = subst (CanBeRead s) (sym nodes) upper.nodes;
-      read = following ∙ ap (upper_then lower.tree) upper.read ∙ ap (λ (l : Place). Ok (InnerNode claim lower.tree upper.tree, l)) (sym (ap place_in nodes));
+      read = ap lower_then lower.read ∙ ap (upper_then lower.tree) upper.read ∙ ap (λ (l : Place). Ok (InnerNode claim lower.tree upper.tree, l)) (sym (ap place_in nodes));
       claim = refl;
       ascending = ascending;
       sets = sets;
@@ -86,13 +70,15 @@ module _ (s : Sources) (b low high : Block) (low_half : IsHalfNumbered b low (2 
           let count : j + line_count upper.tree ≡ k + (1 + line_count lower.tree + line_count upper.tree) = omega arith in
           let exact = exact_claim (claim_of lower.tree) (claim_of upper.tree) in
           let is : o ≡ claim_fault claim exact = fault ∙ sym (λ i. claim_fault claim (exact_claim (lower.claim i) (upper.claim i))) in
-          let own_fault = option_map (fault_of_number k) (claim_fault claim exact) in (
+          let own_fault = option_map (fault_of_number k) (claim_fault claim exact) in
+          let low_fault = fault_of_node s (n + 1) low lower.tree (k + 1) in
+          let high_fault = fault_of_node s (n + 1) high upper.tree j in
+          let one : n + 1 ≡ suc n = omega arith in (
             noted ∙ (λ i. option_or (second.0 i) (fault_with (sym told_is i) (is i)))
-                ∙ (λ i. option_or (option_or (first.0 i) (half-is b high (2 * q + 1) high_half (faults upper.tree j) i)) own_fault)
-                ∙ or-or (option_or before (fault_of_node s low lower.tree (k + 1))) (faults upper.tree j (suc n) (2 * q + 1)) own_fault
-                ∙ or-or before (fault_of_node s low lower.tree (k + 1)) (option_or (faults upper.tree j (suc n) (2 * q + 1)) own_fault)
-                ∙ (λ i. option_or before (option_or (half-is b low (2 * q) low_half (faults lower.tree (k + 1)) i)
-                (option_or (faults upper.tree j (suc n) (2 * q + 1)) own_fault))),
+                ∙ (λ i. option_or (option_or (first.0 i) high_fault) own_fault)
+                ∙ or-or (option_or before low_fault) high_fault own_fault
+                ∙ or-or before low_fault (option_or high_fault own_fault)
+                ∙ (λ i. option_or before (option_or (fault_of_node s (one i) (low_is i) lower.tree (k + 1)) (option_or (fault_of_node s (one i) (high_is i) upper.tree j) own_fault))),
             numbered ∙ second.1 ∙ ap (λ (j : ℕ). (fault_of_number j BoundNotMet).node) count,
           );
     }
@@ -125,19 +111,19 @@ module _ (s : Sources) (b end : Block) (cost : ℕ) (own : List LabelId) (bits :
   -- the faults along the bits of the chain, with those of its end
   along : (tree : Tree) (k : ℕ)
       → bits_fault m ps text k (node_fault m ps tree (k + 1)) bits b.len (number_of_block b)
-      ≡ option_or (fault_of_node s end tree (k + 1)) (option_map (fault_of_number k) (sides_fault m ps text bits b.len (number_of_block b)))
+      ≡ option_or (fault_of_node s end.len (number_of_block end) tree (k + 1)) (option_map (fault_of_number k) (sides_fault m ps text bits b.len (number_of_block b)))
   along tree k =
       bits-sides m ps text k (node_fault m ps tree (k + 1)) bits b.len (number_of_block b)
       ∙ (λ i. option_or (node_fault m ps tree (k + 1) (sym path.len i) (sym path.number i)) (option_map (fault_of_number k) (sides_fault m ps text bits b.len (number_of_block b))))
 
   pub chain-passed : (sets old : List LabelId) (before : Option CheckFault) (last new : Walk) (end_cost : ℕ) (beside o : Option CheckFaultKind)
-      (below : IsPassed s (reading_at s end.len place) (fault_of_node s end) next sets before last end_cost)
+      (below : IsPassed s (reading_at s end.len place) (fault_of_node s end.len (number_of_block end)) next sets before last end_cost)
       → IsAscending (length s.limits.labels.now) 0 (numbers own)
       → beside ≡ sides_fault m ps text bits b.len (number_of_block b)
       → o ≡ claim_fault claim' (chain_claim (length bits) text (claim_with s.limits.labels.now end_cost (numbers below.set)))
       → new.nodes ≡ last.nodes → new.number ≡ last.number → new.sets.items ≡ old ++ own
       → new.fault ≡ option_or (option_or last.fault (fault_with number beside)) (fault_with number o)
-      → IsPassed s (chain_reading s b.len claim' bits side place) (fault_of_node s b) number old before new cost
+      → IsPassed s (chain_reading s b.len claim' bits side place) (fault_of_node s b.len (number_of_block b)) number old before new cost
   chain-passed sets old before last new end_cost beside o below ascending sides fault nodes numbered items noted = record {
     tree = ChainNode claim' bits text below.tree;
     set = own;
@@ -150,7 +136,7 @@ module _ (s : Sources) (b end : Block) (cost : ℕ) (own : List LabelId) (bits :
         let there = below.fault (k + 1) (after k told_is) in
         let count : (k + 1) + line_count below.tree ≡ k + (1 + line_count below.tree) = omega arith in
         let is : o ≡ claim_fault claim' (chain_claim (length bits) text (claim_of below.tree)) = fault ∙ sym (λ i. claim_fault claim' (chain_claim (length bits) text (below.claim i))) in
-        let at_end = fault_of_node s end below.tree (k + 1) in
+        let at_end = fault_of_node s end.len (number_of_block end) below.tree (k + 1) in
         let at_sides = option_map (fault_of_number k) (sides_fault m ps text bits b.len (number_of_block b)) in
         let at_claim = option_map (fault_of_number k) (claim_fault claim' (chain_claim (length bits) text (claim_of below.tree))) in (
           noted ∙ (λ i. option_or (option_or (there.0 i) (fault_with (sym told_is i) (sides i))) (fault_with (sym told_is i) (is i)))

@@ -4,13 +4,12 @@ use Rattle.std.proofs.Common.{◌&&◌, Bool, false, ◌≡◌, ◌∙◌, ℕ, 
 use Rattle.std.proofs.Math.Nat.{zero-div}
 use Rattle.std.proofs.lemmas.Bool.{and_from}
 use Rattle.std.proofs.lemmas.List.{length-map}
-use Rattle.prefix_keys.specs.Block.{block_number, width_of}
-use Rattle.prefix_keys.specs.declared.block.Block.{Block}
+use Rattle.prefix_keys.specs.Block.{width_of}
 use Rattle.prefix_keys.specs.declared.version.Version.{Version}
 use Rattle.pmap_text.specs.ListModel.{ListModel}
 use Rattle.pmap_text.specs.MapModel.{Label, MapModel}
 use Rattle.pmap_text.specs.MapText.{map_of}
-use Rattle.pmap_text.specs.PrefixList.{list_of, number_of_block, prefix_of}
+use Rattle.pmap_text.specs.PrefixList.{list_of, prefix_of}
 use Rattle.pmap_text.specs.Reading.{◌>>=◌}
 use Rattle.pmap_text.specs.declared.label.LabelId.{LabelId}
 use Rattle.pmap_text.specs.declared.map_text.MapText.{MapText}
@@ -24,34 +23,30 @@ use Rattle.pmap_cert.specs.declared.fault.CertFault.{CertFault}
 use Rattle.pmap_cert.specs.declared.fault.CertFaultKind.TheVariants.{NodesLeft}
 use Rattle.pmap_cert.specs.declared.format.Format.{Format}
 use Rattle.cert_check.specs.Checking.{fault_of_number, first_fault, is_same_version, node_fault, BoundNotMet, CheckFault, VersionDiffers}
-use Rattle.cert_check.specs.Inner.{AreSources, IsPassed, IsRootChecked, IsUnread, Read, Sources, Walk, certificate_with, fault_of_node, reading_at}
+use Rattle.cert_check.specs.Inner.{AreSources, IsPassed, IsRootChecked, Read, Sources, Walk, certificate_with, fault_of_node, number_at, reading_at}
 use Rattle.cert_check.proofs.Accepted.{same_version-from, same_version-own}
-
-whole-number : (b : Block) → b.value ≡ 0 → number_of_block b ≡ 0
-whole-number b first = ap (block_number (width_of b.version) b.len) first ∙ zero-div (2 ^ (width_of b.version - b.len))
 
 -- the first fault of the nodes, or otherwise that of too many entries
 abbrev pub bound : Option CheckFault → Bool → Option CheckFault
 bound nodes many = option_or nodes (cond many (Some (fault_of_number 0 BoundNotMet)) None)
 
 -- the first fault of the certificate with a root that was checked for the whole address space
-pub root-checked : (s : Sources) (are : AreSources s) (b : Block) (place : Place) (number cost : ℕ) (old : List LabelId) (before : Option CheckFault) (last new : Walk)
-    → b.value ≡ 0 → b.len ≡ 0 → number ≡ 1 → before ≡ None
-    → IsPassed s (reading_at s b.len place) (fault_of_node s b) number old before last cost
+pub root-checked : (s : Sources) (are : AreSources s) (place : Place) (number cost : ℕ) (old : List LabelId) (before : Option CheckFault) (last new : Walk) → number ≡ 1 → before ≡ None
+    → IsPassed s (reading_at s 0 place) (fault_of_node s 0 (number_at s 0 0)) number old before last cost
     → new.nodes ≡ last.nodes → new.fault ≡ bound last.fault (nat_lt (cost + 1) (length s.list.now.entries))
     → IsRootChecked s place new
-root-checked s are b place number cost old before last new first len one none passed nodes_same noted =
+root-checked s are place number cost old before last new one none passed nodes_same noted =
     let m = map_of s.map.now in
     let l = list_of s.list.now in
     let nodes = node_fault m l.prefixes passed.tree 1 0 0 in
     let versions = and_from _ _ (same_version-from l.version m.version are.list_version) (same_version-own m.version) in
     record {
       tree = passed.tree;
-      read = ap (λ (n : ℕ). reading_at s n place) (sym len) ∙ passed.read ∙ ap (λ (l : Place). Ok (passed.tree, l)) (sym (ap place_in nodes_same));
+      read = passed.read ∙ ap (λ (l : Place). Ok (passed.tree, l)) (sym (ap place_in nodes_same));
       fault = noted
-          ∙ (λ i. bound (((passed.fault 1 (sym one)).0 ∙ ap (λ o. option_or o (fault_of_node s b passed.tree 1)) none) i)
+          ∙ (λ i. bound (((passed.fault 1 (sym one)).0 ∙ ap (λ o. option_or o (fault_of_node s 0 (number_at s 0 0) passed.tree 1)) none) i)
           (nat_lt ((sym passed.claim i).cost + 1) (sym (length-map s.list.now.entries (prefix_of s.list.now.labels)) i)))
-          ∙ (λ i. bound (node_fault m l.prefixes passed.tree 1 (len i) (whole-number b first i)) (nat_lt ((claim_of passed.tree).cost + 1) (length l.prefixes)))
+          ∙ (λ i. bound (node_fault m l.prefixes passed.tree 1 0 (zero-div (2 ^ (width_of s.map.now.version - 0)) i)) (nat_lt ((claim_of passed.tree).cost + 1) (length l.prefixes)))
           ∙ sym (ap (λ c. cond c (bound nodes (nat_lt ((claim_of passed.tree).cost + 1) (length l.prefixes))) (Some (fault_of_number 0 VersionDiffers))) versions);
     }
 

@@ -1,7 +1,7 @@
-use Rattle.std.specs.Prelude.{ℕ, suc, List, [], ◌∷◌, ◌≡◌, ◌+◌, ◌-◌, ◌==◌, ◌&&◌, Bool, Option, None, Some, map, nat_le, option_map, length, ◌<◌, ◌≤◌, ◌≢◌, ◌++◌, Result, Ok, Err, drop}
+use Rattle.std.specs.Prelude.{ℕ, suc, List, [], ◌∷◌, ◌≡◌, ◌+◌, ◌-◌, ◌^◌, ◌==◌, ◌&&◌, Bool, Option, None, Some, map, nat_le, option_map, length, ◌<◌, ◌≤◌, ◌≢◌, ◌++◌, Result, Ok, Err, drop}
 use Rattle.std.specs.List.{list_any}
 use Rattle.std.specs.Option.{option_or}
-use Rattle.prefix_keys.specs.Block.{width_of, first_of, last_of}
+use Rattle.prefix_keys.specs.Block.{block_number, width_of, first_of, last_of}
 use Rattle.prefix_keys.specs.declared.block.Block.{Block}
 use Rattle.prefix_keys.specs.declared.version.Version.{Version}
 use Rattle.pmap_text.specs.Label.{IsLabelTable, number_of as number_of_label}
@@ -108,9 +108,21 @@ chain_reading s n claim bits side place =
     reading_at s (n + length bits) place >>= (λ end.
     Ok (ChainNode claim bits (text_at s.limits.labels.now side) end.0, end.1))
 
--- the first fault of a tree whose node has the number k, for the block
-abbrev pub fault_of_node : Sources → Block → Tree → ℕ → Option CheckFault
-fault_of_node s b tree k = node_fault (map_of s.map.now) (list_of s.list.now).prefixes tree k b.len (number_of_block b)
+-- the number of the block of n bits that the address is in
+abbrev pub number_at : Sources → ℕ → ℕ → ℕ
+number_at s n a = block_number (width_of s.map.now.version) n a
+
+-- these are the first and the last address of the block of n bits with the number q
+pub record IsRangeOf (s : Sources) (first last n q : ℕ) : Type 0 where
+  pub short : n ≤ width_of s.map.now.version
+  pub first_is : first ≡ first_of (width_of s.map.now.version) n q
+  pub last_is : last ≡ last_of (width_of s.map.now.version) n q
+  pub some : first ≤ last
+  pub fits : last < 2 ^ width_of s.map.now.version
+
+-- the first fault of a tree whose node has the number k, for the block of n bits with the number q
+abbrev pub fault_of_node : Sources → ℕ → ℕ → Tree → ℕ → Option CheckFault
+fault_of_node s n q tree k = node_fault (map_of s.map.now) (list_of s.list.now).prefixes tree k n q
 
 -- the block is the half of another one with this number
 pub record IsHalfNumbered (whole half : Block) (q : ℕ) : Type 0 where

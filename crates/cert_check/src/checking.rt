@@ -20,7 +20,7 @@ use pmap_cert::{
     read_cert_with_hashing, read_head, text_of_format_is_read_or_has_a_fault, write_cert,
 };
 use pmap_text::{KeyHashing, MapText, PrefixList};
-use prefix_keys::{Block, Version};
+use prefix_keys::Version;
 use std::alloc::{AllocError, Global};
 
 // Returns whether the map, the list and a certificate of this version are of one version.
@@ -42,7 +42,7 @@ fn check_root(sources: &Sources, walk: &mut Walk) -> Result<(), CertFault>
     ensures ok { OnOk result (IsRootChecked sources.now (place_in walk.old.nodes) walk.new) }
     ensures err { IfErr result (IsUnread (reading_at sources.now 0 (place_in walk.old.nodes))) }
 {
-    let Some(cost) = check_node(sources, walk, &Block::whole(sources.map.version)) else {
+    let Some(cost) = check_node(sources, walk, 0, sources.map.version.last_address(), 0) else {
         return walk.end;
     };
     if sources.list.entries.len() as u64 > u64::from(cost) + 1 {

@@ -1,5 +1,5 @@
 //! What a certificate is checked against.
-ghost use Rattle.std.specs.Prelude.{◌≡◌, ◌^◌, ◌+◌, ◌<◌, ◌≤◌, IfOk, IfSome, IsNone, IsTrue, length};
+ghost use Rattle.std.specs.Prelude.{◌≡◌, ℕ, ◌^◌, ◌+◌, ◌<◌, ◌≤◌, IfOk, IfSome, IsNone, IsTrue, length};
 ghost use Rattle.prefix_keys.specs.Block.{last_of, width_of};
 ghost use Rattle.prefix_keys.specs.declared.block.Block.{Block};
 ghost use Rattle.pmap_text.specs.MapText.{map_of, text_at};
@@ -8,7 +8,7 @@ ghost use Rattle.pmap_cert.specs.CertificateModel.{chosen_half, side_half};
 ghost use Rattle.pmap_cert.specs.Packed.{bits_in};
 ghost use Rattle.pmap_cert.specs.Paths.{LeadsTo};
 ghost use Rattle.cert_check.specs.Checking.{leaf_fault as leaf_fault_of};
-ghost use Rattle.cert_check.specs.Inner.{AreSources, IsClear, IsHalfNumbered, sides_fault as sides_fault_of};
+ghost use Rattle.cert_check.specs.Inner.{AreSources, IsClear, IsHalfNumbered, IsRangeOf, sides_fault as sides_fault_of};
 
 use crate::fault::CheckFaultKind;
 use crate::source::Source;
@@ -76,16 +76,22 @@ impl<'a> Sources<'a> {
         })
     }
 
-    /// Returns the fault of a leaf in the block with the certificate's label `id`, if any.
+    /// Returns the fault of a leaf with these addresses and the certificate's label `id`, if any.
     #[inline(always)]
-    pub fn leaf_fault(&self, near: &mut Near, block: &Block, id: LabelId) -> Option<CheckFaultKind>
+    pub fn leaf_fault(
+        &self,
+        near: &mut Near,
+        first: u128,
+        last: u128,
+        id: LabelId,
+    ) -> Option<CheckFaultKind>
         requires sources { AreSources self.now }
-        requires version { block.now.version ≡ self.now.map.now.version }
+        requires within { first < 2 ^ width_of self.now.map.now.version }
+        requires order { first ≤ last }
         requires known { id.0 < length self.now.limits.labels.now }
-        ensures { result ≡ leaf_fault_of (map_of self.now.map.now) (list_of self.now.list.now).prefixes block.now.len
-            (number_of block.now) (text_at self.now.limits.labels.now id.0) }
+        ensures { (n q : ℕ) → IsRangeOf self.now first last n q → result ≡ leaf_fault_of (map_of self.now.map.now)
+            (list_of self.now.list.now).prefixes n q (text_at self.now.limits.labels.now id.0) }
     {
-        let (first, last) = (block.value, block.high().value);
         if !self.of_map.has_label(&mut near.map, first, last, id) {
             return Some(CheckFaultKind::LeafNotUniform);
         }
@@ -162,7 +168,7 @@ impl<'a> Sources<'a> {
         let (bit, rest) = path.split_first()?;
         let (chosen, beside) = halves_by(block, bit)?;
         match self.path_fault(near, &chosen, &rest, side, false) {
-            None => self.leaf_fault(near, &beside, side),
+            None => self.leaf_fault(near, beside.value, beside.high().value, side),
             fault => fault,
         }
     }

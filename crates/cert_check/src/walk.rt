@@ -1,11 +1,10 @@
 //! The walk over the nodes of a certificate or of its text, which reads and checks each of them.
-ghost use Rattle.std.specs.Prelude.{◌≡◌, ◌+◌, ◌*◌, ◌++◌, ◌∷◌, [], ◌<◌, Err, None, IfOk, OnOk, length, take};
+ghost use Rattle.std.specs.Prelude.{◌≡◌, ◌+◌, ◌++◌, ◌∷◌, [], ◌<◌, Err, None, IfOk, OnOk, length, take};
 ghost use Rattle.std.specs.Option.{option_or};
-ghost use Rattle.prefix_keys.specs.declared.block.Block.{Block};
 ghost use Rattle.pmap_text.specs.PrefixList.{number_of_block as number_of};
 ghost use Rattle.pmap_cert.specs.NodeSource.{place_in};
 ghost use Rattle.pmap_cert.specs.Packed.{bits_in};
-ghost use Rattle.cert_check.specs.Inner.{AreSources, CanBeRead, FitsPath, IsAfter, IsWalkResult, IsHalfNumbered, IsHeld, chain_reading, fault_of_node, fault_with, halves_reading, held_claim, reading_at};
+ghost use Rattle.cert_check.specs.Inner.{AreSources, CanBeRead, FitsPath, IsAfter, IsWalkResult, IsHeld, IsRangeOf, chain_reading, fault_of_node, fault_with, halves_reading, held_claim, number_at, reading_at};
 
 use crate::claims::{chain_fault, claim_fault};
 use crate::fault::{CheckFault, CheckFaultKind};
@@ -108,16 +107,23 @@ fn next_number(number: u64) -> u64
     number.saturating_add(1)
 }
 
-/// Reads the next node and those below it, and checks them for the block. Adds the set that the node claims to the
-/// walk's, and returns the cost. Returns `None` if a fault has ended the walk.
+/// Reads the next node and those below it, and checks them for the block of length `len` with these addresses. Adds the
+/// set that the node claims to the walk's, and returns the cost. Returns `None` if a fault has ended the walk.
 #[cycle(nodes)]
 #[inline(always)]
-pub fn check_node(sources: &Sources, walk: &mut Walk, block: &Block) -> Option<u32>
+pub fn check_node(
+    sources: &Sources,
+    walk: &mut Walk,
+    first: u128,
+    last: u128,
+    len: u32,
+) -> Option<u32>
     requires sources { AreSources sources.now }
     requires nodes { CanBeRead sources.now walk.old.nodes }
-    requires version { block.now.version ≡ sources.now.map.now.version }
-    ensures { IsWalkResult sources.now (reading_at sources.now block.now.len (place_in walk.old.nodes))
-        (fault_of_node sources.now block.now) walk.old.number walk.old.sets.items walk.old.fault walk.new result }
+    requires range { IsRangeOf sources.now first last len (number_at sources.now len first) }
+    ensures { let q = number_at sources.now len first in
+        IsWalkResult sources.now (reading_at sources.now len (place_in walk.old.nodes)) (fault_of_node sources.now len q)
+        walk.old.number walk.old.sets.items walk.old.fault walk.new result }
 {
     let deepest = walk.nodes.fault(CertFaultKind::TooDeep);
     let number = walk.number;
@@ -131,28 +137,34 @@ pub fn check_node(sources: &Sources, walk: &mut Walk, block: &Block) -> Option<u
             let Ok(()) = hold_leaf(&mut walk.sets, id) else {
                 return walk.stop(CertFault::from(AllocError));
             };
-            let fault = sources.leaf_fault(&mut walk.near, block, id);
+            let fault = sources.leaf_fault(&mut walk.near, first, last, id);
             walk.note(fault, number);
             Some(0)
         }
         Node::Inner(claim) => {
-            let Some((low, high)) = block.halves() else {
+            if len == sources.limits.width {
                 return walk.stop(deepest);
-            };
+            }
             let Ok(held) = hold(&mut walk.sets, claim) else {
                 return walk.stop(CertFault::from(AllocError));
             };
-            check_inner(sources, walk, &low, &high, number, held)
+            check_inner(sources, walk, first, last, len, number, held)
         }
         Node::Chain { claim, path, side } => {
-            if path.len() > sources.limits.width - block.len {
+            if path.len() > sources.limits.width - len {
                 return walk.stop(deepest);
             }
             let path = *path;
             let Ok(held) = hold(&mut walk.sets, claim) else {
                 return walk.stop(CertFault::from(AllocError));
             };
-            check_chain(sources, walk, block, number, held, &path, side)
+            let version = sources.map.version;
+            let block = Block {
+                version,
+                value: first,
+                len,
+            };
+            check_chain(sources, walk, &block, number, held, &path, side)
         }
     }
 }
@@ -162,28 +174,27 @@ pub fn check_node(sources: &Sources, walk: &mut Walk, block: &Block) -> Option<u
 fn check_inner(
     sources: &Sources,
     walk: &mut Walk,
-    low: &Block,
-    high: &Block,
+    first: u128,
+    last: u128,
+    len: u32,
     number: u64,
     held: StoredClaim,
 ) -> Option<u32>
     requires sources { AreSources sources.now }
     requires nodes { CanBeRead sources.now walk.old.nodes }
-    requires low { low.now.version ≡ sources.now.map.now.version }
-    requires high { high.now.version ≡ sources.now.map.now.version }
-    requires len { high.now.len ≡ low.now.len }
+    requires range { IsRangeOf sources.now first last len (number_at sources.now len first) }
+    requires room { len < sources.now.limits.width }
     requires number { IsAfter number walk.old.number }
     requires held { IsHeld sources.now held walk.old.sets.items }
-    ensures { (whole : Block) → IsHalfNumbered whole low.now (2 * number_of whole) →
-        IsHalfNumbered whole high.now (2 * number_of whole + 1) → IsWalkResult sources.now
-        (halves_reading sources.now whole.len (held_claim sources.now held walk.old.sets.items)
-        (place_in walk.old.nodes)) (fault_of_node sources.now whole) number (take held.from walk.old.sets.items)
-        walk.old.fault walk.new result }
+    ensures { let q = number_at sources.now len first in IsWalkResult sources.now
+        (halves_reading sources.now len (held_claim sources.now held walk.old.sets.items) (place_in walk.old.nodes))
+        (fault_of_node sources.now len q) number (take held.from walk.old.sets.items) walk.old.fault walk.new result }
 {
+    let middle = first + (last - first) / 2;
     let lower = walk.sets.len();
-    let lower_cost = check_node(sources, walk, low)?;
+    let lower_cost = check_node(sources, walk, first, middle, len + 1)?;
     let upper = walk.sets.len();
-    let upper_cost = check_node(sources, walk, high)?;
+    let upper_cost = check_node(sources, walk, middle + 1, last, len + 1)?;
     let sets = walk.sets.as_slice();
     let fault = claim_fault(
         sources.limits.labels,
@@ -227,13 +238,13 @@ fn check_chain(
     ensures { IsWalkResult sources.now
         (chain_reading sources.now block.now.len (held_claim sources.now held walk.old.sets.items)
         (bits_in path.now) side.0 (place_in walk.old.nodes))
-        (fault_of_node sources.now block.now) number (take held.from walk.old.sets.items) walk.old.fault
+        (fault_of_node sources.now block.now.len (number_of block.now)) number (take held.from walk.old.sets.items) walk.old.fault
         walk.new result }
 {
     let end = path.end(block);
     let is_clear_before = sources.is_clear_before(&mut walk.near, block, &end, side);
     let start = walk.sets.len();
-    let end_cost = check_node(sources, walk, &end)?;
+    let end_cost = check_node(sources, walk, end.value, end.high().value, end.len)?;
     let beside = sources.path_fault(&mut walk.near, block, path, side, is_clear_before);
     walk.note(beside, number);
     let sets = walk.sets.as_slice();

@@ -1,6 +1,8 @@
-use Rattle.std.proofs.Common.{◌≡◌, ◌∙◌, ◌+◌, ◌-◌, ◌<◌, ◌∷◌, [], ℕ, Bool, List, Ok, ap, arith, drop, length, refl, rules, subst, sym, take}
+use Rattle.std.proofs.Common.{◌≡◌, ◌∙◌, ◌+◌, ◌-◌, ◌%◌, ◌^◌, ◌<◌, ◌≤◌, ◌∷◌, [], ℕ, Bool, List, Ok, ap, arith, drop, length, refl, rules, subst, sym, take}
 use Rattle.std.proofs.lemmas.List.{append-nil}
-use Rattle.prefix_keys.specs.Block.{width_of}
+use Rattle.prefix_keys.specs.Block.{block_number, width_of}
+use Rattle.prefix_keys.specs.declared.version.Version.{Version}
+use Rattle.std.proofs.Math.Nat.{mul-mod_left}
 use Rattle.std.specs.Option.{option_or}
 use Rattle.pmap_text.specs.MapText.{text_at}
 use Rattle.pmap_text.specs.Reading.{◌>>=◌}
@@ -15,8 +17,8 @@ use Rattle.pmap_cert.proofs.FormatTrees.{line_due-found}
 use Rattle.pmap_cert.proofs.Paths.{path-length}
 use Rattle.pmap_cert.proofs.ReadingSteps.{chain-below, chain-over, deeper, due_in, node-deep, node-fault, node-leaf}
 use Rattle.cert_check.specs.Checking.{claim_fault}
-use Rattle.cert_check.specs.Inner.{FitsPath, IsWalkResult, IsHeld, Read, chain_reading, claim_with, fault_of_node, fault_with, halves_reading, reading_at}
-use Rattle.cert_check.proofs.Nodes.{half-by}
+use Rattle.cert_check.specs.Inner.{IsHeld, IsPassed, IsWalkResult, Read, chain_reading, claim_with, fault_of_node, fault_with, halves_reading, number_at, reading_at}
+use Rattle.cert_check.proofs.OneStretch.{half-ranges}
 use Rattle.cert_check.proofs.Sets.{numbers}
 use Rattle.cert_check.proofs.Walks.{chain-passed, end-unread, halves-passed, held-at, low-piece, lower-unread, own-piece, sets-kept, up-piece, upper-unread}
 use Rattle.cert_check.proofs.walk.+nodes.Goals as goal
@@ -28,18 +30,17 @@ check_node-returns-in-Err t c =
       c.in-Err.fault,
       refl,
       (
-        λ some. node-fault (due_in limits.format limits.width limits.labels.now) limits.labels.now (place_in c.args.walk.now.nodes) (place_in c.args.walk.now.nodes) (limits.width - c.args.block.now.len)
+        λ some. node-fault (due_in limits.format limits.width limits.labels.now) limits.labels.now (place_in c.args.walk.now.nodes) (place_in c.args.walk.now.nodes) (limits.width - c.args.len)
             c.in-Err.fault (c.in-Err.ensures.next.err some),
         c.in-Err.ensures.next.memory,
       ),
     )
 
-pub check_node-returns-in_default-halves : goal.check_node-returns-in_default-halves
-check_node-returns-in_default-halves t c =
+pub check_node-returns-then-len-sources : goal.check_node-returns-then-len-sources
+check_node-returns-then-len-sources t c =
     let limits = c.args.sources.now.limits in
-    let width = c.requires.sources.width ∙ sym (ap width_of c.requires.version) in
-    let room : limits.width - c.args.block.now.len ≡ 0 = omega (arith, width, (c.in_default-halves.ensures.full).0 refl) in
-    rw (c.stop-in_default-halves.ensures.none, c.stop-in_default-halves.ensures.stop) (
+    let room : limits.width - c.args.len ≡ 0 = omega (arith, c.if-len-sources.true) in
+    rw (c.stop-then-len-sources.ensures.none, c.stop-then-len-sources.ensures.stop) (
       c.fault-deepest.result,
       refl,
       rw c.fault-deepest.ensures (
@@ -58,6 +59,7 @@ check_node-check_inner-requires t c =
     let at = held-at c.args.walk.now.sets.items c.in-Inner.claim.set.now c.hold.new.sets.items c.in-Ok-hold.held.from c.in-Ok-hold.ensures.sets c.in-Ok-hold.ensures.from in
     let held : IsHeld c.args.sources.now c.in-Ok-hold.held c.hold.new.sets.items =
     record { within = at.2; ascending = subst (λ (ids : List LabelId). IsAscending (length limits.labels.now) 0 (numbers ids)) (sym at.1) said.1.1 } in
+    let room : c.args.len < limits.width = omega (arith, c.requires.sources.width, c.requires.range.short, c.if-len-sources.false) in
     search rules
 
 pub check_node-returns-in-Ok-hold : goal.check_node-returns-in-Ok-hold
@@ -65,34 +67,30 @@ check_node-returns-in-Ok-hold t c =
     let s = c.args.sources.now in
     let limits = s.limits in
     let table = limits.labels.now in
-    let n = c.args.block.now.len in
+    let n = c.args.len in
+    let walk = c.args.walk.now in
     let due = due_in limits.format limits.width table in
     let numbers' = numbers c.in-Inner.claim.set.now in
     let claim = claim_with table c.in-Inner.claim.cost numbers' in
-    let low = c.in-Some.low in
-    let high = c.in-Some.high in
-    let width = c.requires.sources.width ∙ sym (ap width_of c.requires.version) in
-    let some : n < limits.width = omega (arith, width, c.in-Some.ensures.lens, low.len_in_range, ap width_of c.in-Some.ensures.versions.0) in
+    let some : n < limits.width = omega (arith, c.requires.sources.width, c.requires.range.short, c.if-len-sources.false) in
     let less : limits.width - n - 1 ≡ limits.width - (n + 1) = omega arith in
-    let held = held-at c.args.walk.now.sets.items c.in-Inner.claim.set.now c.hold.new.sets.items c.in-Ok-hold.held.from c.in-Ok-hold.ensures.sets c.in-Ok-hold.ensures.from in
-    let is : reading_at s n (place_in c.args.walk.now.nodes) ≡ halves_reading s n claim (place_in c.next_node.new.self) =
-    deeper due table (place_in c.args.walk.now.nodes) (place_in c.next_node.new.self) c.in-Inner.claim.cost numbers' (rw c.in-Inner.is at c.in-Ok.ensures.next.ok) (limits.width - n) (omega (arith, some))
+    let held = held-at walk.sets.items c.in-Inner.claim.set.now c.hold.new.sets.items c.in-Ok-hold.held.from c.in-Ok-hold.ensures.sets c.in-Ok-hold.ensures.from in
+    let is : reading_at s n (place_in walk.nodes) ≡ halves_reading s n claim (place_in c.next_node.new.self) =
+    deeper due table (place_in walk.nodes) (place_in c.next_node.new.self) c.in-Inner.claim.cost numbers' (rw c.in-Inner.is at c.in-Ok.ensures.next.ok) (limits.width - n) (omega (arith, some))
     ∙ ap (λ (m : ℕ). nodes_at due table m 0 (place_in c.next_node.new.self) >>= (λ lower. nodes_at due table m 0 lower.1 >>= (λ upper.
     Ok (InnerNode claim lower.0 upper.0, upper.1)))) less in
-    subst (λ (r : Read). IsWalkResult s r (fault_of_node s c.args.block.now) c.args.walk.now.number c.args.walk.now.sets.items c.args.walk.now.fault c.check_inner.new.walk c.check_inner.result)
-    (sym is)
-    (subst (λ (x : Claim × List LabelId). IsWalkResult s (halves_reading s n x.0 (place_in c.next_node.new.self)) (fault_of_node s c.args.block.now) c.args.walk.now.number x.1 c.args.walk.now.fault c.check_inner.new.walk c.check_inner.result)
-    (λ i. (claim_with table (c.in-Ok-hold.ensures.cost i) (numbers (held.1 i)), held.0 i)) (c.check_inner.ensures c.args.block.now
-    (half-by c.args.block.now low _ c.in-Some.ensures.versions.0 c.in-Some.ensures.lens.0 c.in-Some.ensures.lower_number)
-    (half-by c.args.block.now high _ c.in-Some.ensures.versions.1 c.in-Some.ensures.lens.1 c.in-Some.ensures.upper_number)))
+    let q = number_at s n c.args.first in
+    subst (λ (r : Read). IsWalkResult s r (fault_of_node s n q) walk.number walk.sets.items walk.fault c.check_inner.new.walk c.check_inner.result) (sym is)
+    (subst (λ (x : Claim × List LabelId). IsWalkResult s (halves_reading s n x.0 (place_in c.next_node.new.self)) (fault_of_node s n q) walk.number x.1 walk.fault c.check_inner.new.walk c.check_inner.result)
+    (λ i. (claim_with table (c.in-Ok-hold.ensures.cost i) (numbers (held.1 i)), held.0 i)) c.check_inner.ensures)
 
-pub check_node-returns-then-len-sources : goal.check_node-returns-then-len-sources
-check_node-returns-then-len-sources t c =
-    rw (c.stop-then-len-sources.ensures.none, c.stop-then-len-sources.ensures.stop) (
+pub check_node-returns-then-len-sources-2 : goal.check_node-returns-then-len-sources-2
+check_node-returns-then-len-sources-2 t c =
+    rw (c.stop-then-len-sources-2.ensures.none, c.stop-then-len-sources-2.ensures.stop) (
       c.fault-deepest.result,
       refl,
       rw c.fault-deepest.ensures (
-        λ _. chain-over _ _ _ _ _ _ _ _ _ (rw c.in-Chain.is at c.in-Ok.ensures.next.ok) _ c.len.result c.len.ensures (omega (arith, c.if-len-sources.true)),
+        λ _. chain-over _ _ _ _ _ _ _ _ _ (rw c.in-Chain.is at c.in-Ok.ensures.next.ok) _ c.len.result c.len.ensures (omega (arith, c.if-len-sources-2.true)),
         λ e. cc,
       ),
     )
@@ -106,7 +104,8 @@ check_node-check_chain-requires t c =
     let at = held-at c.args.walk.now.sets.items c.in-Chain.claim.set.now c.hold-in-Chain.new.sets.items c.in-Ok-hold-2.held.from c.in-Ok-hold-2.ensures.sets c.in-Ok-hold-2.ensures.from in
     let held : IsHeld c.args.sources.now c.in-Ok-hold-2.held c.hold-in-Chain.new.sets.items =
     record { within = at.2; ascending = subst (λ (ids : List LabelId). IsAscending (length limits.labels.now) 0 (numbers ids)) (sym at.1) said.1.5 } in
-    let room : FitsPath c.args.sources.now c.args.block.now c.in-Chain.side.0 bits = record { room = omega (arith, c.len.ensures, c.if-len-sources.false, said.1.2); known = said.1.4 } in
+    let room : c.args.len + length bits ≤ limits.width = omega (arith, c.len.ensures, c.if-len-sources-2.false, said.1.2) in
+    let known = said.1.4 in
     let some = said.1.2 in
     search rules
 
@@ -115,26 +114,27 @@ check_node-returns-in-Ok-hold-2 t c =
     let s = c.args.sources.now in
     let limits = s.limits in
     let table = limits.labels.now in
-    let n = c.args.block.now.len in
+    let n = c.args.len in
+    let walk = c.args.walk.now in
     let bits : List Bool = bits_in c.in-Chain.path.now in
+    let side = c.in-Chain.side.0 in
     let numbers' = numbers c.in-Chain.claim.set.now in
     let claim = claim_with table c.in-Chain.claim.cost numbers' in
     let less : limits.width - n - c.len.result ≡ limits.width - (n + length bits) = omega (arith, c.len.ensures) in
-    let held = held-at c.args.walk.now.sets.items c.in-Chain.claim.set.now c.hold-in-Chain.new.sets.items c.in-Ok-hold-2.held.from c.in-Ok-hold-2.ensures.sets c.in-Ok-hold-2.ensures.from in
-    let is : reading_at s n (place_in c.args.walk.now.nodes) ≡ chain_reading s n claim bits c.in-Chain.side.0 (place_in c.next_node.new.self) =
-    chain-below limits.format limits.width table (place_in c.args.walk.now.nodes) (place_in c.next_node.new.self) c.in-Chain.claim.cost bits c.in-Chain.side.0 numbers' (rw c.in-Chain.is at c.in-Ok.ensures.next.ok)
-    (limits.width - n) c.len.result c.len.ensures (omega (arith, c.if-len-sources.false)) (reading_at s (n + length bits) (place_in c.next_node.new.self))
+    let held = held-at walk.sets.items c.in-Chain.claim.set.now c.hold-in-Chain.new.sets.items c.in-Ok-hold-2.held.from c.in-Ok-hold-2.ensures.sets c.in-Ok-hold-2.ensures.from in
+    let is : reading_at s n (place_in walk.nodes) ≡ chain_reading s n claim bits side (place_in c.next_node.new.self) =
+    chain-below limits.format limits.width table (place_in walk.nodes) (place_in c.next_node.new.self) c.in-Chain.claim.cost bits side numbers' (rw c.in-Chain.is at c.in-Ok.ensures.next.ok)
+    (limits.width - n) c.len.result c.len.ensures (omega (arith, c.if-len-sources-2.false)) (reading_at s (n + length bits) (place_in c.next_node.new.self))
     (ap (λ (m : ℕ). nodes_at (due_in limits.format limits.width table) table m 0 (place_in c.next_node.new.self)) less) in
-    subst (λ (r : Read). IsWalkResult s r (fault_of_node s c.args.block.now) c.args.walk.now.number c.args.walk.now.sets.items c.args.walk.now.fault c.check_chain.new.walk c.check_chain.result)
-    (sym is)
-    (subst (λ (x : Claim × List LabelId). IsWalkResult s (chain_reading s n x.0 bits c.in-Chain.side.0 (place_in c.next_node.new.self)) (fault_of_node s c.args.block.now) c.args.walk.now.number x.1 c.args.walk.now.fault c.check_chain.new.walk c.check_chain.result)
+    let q = number_at s n c.args.first in
+    subst (λ (r : Read). IsWalkResult s r (fault_of_node s n q) walk.number walk.sets.items walk.fault c.check_chain.new.walk c.check_chain.result) (sym is)
+    (subst (λ (x : Claim × List LabelId). IsWalkResult s (chain_reading s n x.0 bits side (place_in c.next_node.new.self)) (fault_of_node s n q) walk.number x.1 walk.fault c.check_chain.new.walk c.check_chain.result)
     (λ i. (claim_with table (c.in-Ok-hold-2.ensures.cost i) (numbers (held.1 i)), held.0 i)) c.check_chain.ensures)
 
 pub check_node-returns-in-Ok-hold_leaf : goal.check_node-returns-in-Ok-hold_leaf
 check_node-returns-in-Ok-hold_leaf t c =
     let s = c.args.sources.now in
     let limits = s.limits in
-    let p = c.args.block.now in
     let id = c.in-Leaf.id in
     let walk = c.args.walk.now in
     let due = rw c.in-Leaf.is at c.in-Ok.ensures.next.ok in
@@ -144,11 +144,11 @@ check_node-returns-in-Ok-hold_leaf t c =
       tree = LeafNode (text_at limits.labels.now id.0);
       set = id ∷ [];
       nodes = c.in-Ok.ensures.fits;
-      read = node-leaf (due_in limits.format limits.width limits.labels.now) limits.labels.now (place_in walk.nodes) (place_in c.next_node.new.self) (limits.width - p.len) id.0 due;
+      read = node-leaf (due_in limits.format limits.width limits.labels.now) limits.labels.now (place_in walk.nodes) (place_in c.next_node.new.self) (limits.width - c.args.len) id.0 due;
       claim = refl;
       ascending = (omega arith, said.1, tt);
       sets = c.in-Ok-hold_leaf.ensures;
-      fault = λ k told_is. ((λ i. option_or walk.fault (fault_with (sym told_is i) (c.leaf_fault-fault.ensures i))), sym (c.next_number-walk.ensures k told_is));
+      fault = λ k told_is. ((λ i. option_or walk.fault (fault_with (sym told_is i) (c.leaf_fault-fault.ensures c.args.len (number_at s c.args.len c.args.first) c.requires.range i))), sym (c.next_number-walk.ensures k told_is));
     })
 
 pub check_node-leaf_fault-fault-requires-clause-known : goal.check_node-leaf_fault-fault-requires-clause-known
@@ -157,26 +157,60 @@ check_node-leaf_fault-fault-requires-clause-known t c =
     let due = rw c.in-Leaf.is at c.in-Ok.ensures.next.ok in
     (line_due-found (format_number limits.format) limits.width (length limits.labels.now) (place_in c.args.walk.now.nodes) (LeafLine c.in-Leaf.id.0, (place_in c.next_node.new.self)) due).1
 
+pub check_node-invariant_of-block : goal.check_node-invariant_of-block
+check_node-invariant_of-block t c =
+    let s = c.args.sources.now in
+    let range = c.requires.range in
+    let size = 2 ^ (width_of s.map.now.version - c.args.len) in
+    record {
+      len_in_range = range.short;
+      in_range = omega (arith, range.some, range.fits);
+      no_host_bit = ap (λ (a : ℕ). a % size) range.first_is ∙ mul-mod_left (number_at s c.args.len c.args.first) size;
+    }
+
+pub check_inner-check_node-requires : goal.check_inner-check_node-requires
+check_inner-check_node-requires t c =
+    let s = c.args.sources.now in
+    let range = (half-ranges s c.args.first c.args.last c.args.len (number_at s c.args.len c.args.first) (omega (arith, c.requires.sources.width, c.requires.room)) c.requires.range).low in
+    search rules
+
+pub check_inner-check_node-requires-2 : goal.check_inner-check_node-requires-2
+check_inner-check_node-requires-2 t c =
+    let s = c.args.sources.now in
+    let range = (half-ranges s c.args.first c.args.last c.args.len (number_at s c.args.len c.args.first) (omega (arith, c.requires.sources.width, c.requires.room)) c.requires.range).high in
+    search rules
+
+pub check_inner-overflow_add-middle-2 : goal.check_inner-overflow_add-middle-2
+check_inner-overflow_add-middle-2 t c =
+    let s = c.args.sources.now in
+    omega (arith, c.ranges.last, (half-ranges s c.args.first c.args.last c.args.len (number_at s c.args.len c.args.first) (omega (arith, c.requires.sources.width, c.requires.room)) c.requires.range).high.some)
+
 pub check_inner-returns-in_err-lower_cost : goal.check_inner-returns-in_err-lower_cost
 check_inner-returns-in_err-lower_cost t c =
+    let s = c.args.sources.now in
     let walk = c.args.walk.now in
+    let q = number_at s c.args.len c.args.first in
+    let halves = half-ranges s c.args.first c.args.last c.args.len q (omega (arith, c.requires.sources.width, c.requires.room)) c.requires.range in
     let stopped = c.in_err-lower_cost.ensures in
-    λ whole low high. rw c.from_residual.ensures (
+    rw c.from_residual.ensures (
       stopped.0,
       stopped.1,
-      lower-unread c.args.sources.now whole c.args.low.now c.args.high.now low high c.args.held.cost (drop c.args.held.from walk.sets.items) (place_in walk.nodes) c.args.number walk.number c.requires.number
-          stopped.0 stopped.2,
+      lower-unread s c.args.len q _ _ c.args.held.cost halves.low_is halves.high_is (drop c.args.held.from walk.sets.items) (place_in walk.nodes) c.args.number walk.number c.requires.number stopped.0 stopped.2,
     )
 
 pub check_inner-returns-in_err-upper_cost : goal.check_inner-returns-in_err-upper_cost
 check_inner-returns-in_err-upper_cost t c =
+    let s = c.args.sources.now in
     let walk = c.args.walk.now in
+    let q = number_at s c.args.len c.args.first in
+    let halves = half-ranges s c.args.first c.args.last c.args.len q (omega (arith, c.requires.sources.width, c.requires.room)) c.requires.range in
+    let lower = c.in_ok-lower_cost.ensures in
     let stopped = c.in_err-upper_cost.ensures in
-    λ whole low high. rw c.from_residual-in_err-upper_cost.ensures (
+    rw c.from_residual-in_err-upper_cost.ensures (
       stopped.0,
       stopped.1,
-      upper-unread c.args.sources.now whole c.args.low.now c.args.high.now low high c.args.held.cost (drop c.args.held.from walk.sets.items) (place_in walk.nodes) c.args.number walk.number c.requires.number
-          walk.sets.items walk.fault c.check_node.new.walk c.in_ok-lower_cost.lower_cost c.in_ok-lower_cost.ensures stopped.0 stopped.2,
+      upper-unread s c.args.len q _ _ c.args.held.cost halves.low_is halves.high_is (drop c.args.held.from walk.sets.items) (place_in walk.nodes) c.args.number walk.number c.requires.number walk.sets.items walk.fault c.check_node.new.walk
+          c.in_ok-lower_cost.lower_cost lower stopped.0 stopped.2,
     )
 
 pub check_inner-returns : goal.check_inner-returns
@@ -185,6 +219,8 @@ check_inner-returns t c =
     let table = s.limits.labels.now in
     let walk = c.args.walk.now in
     let own = drop c.args.held.from walk.sets.items in
+    let q = number_at s c.args.len c.args.first in
+    let halves = half-ranges s c.args.first c.args.last c.args.len q (omega (arith, c.requires.sources.width, c.requires.room)) c.requires.range in
     let lower = c.in_ok-lower_cost.ensures in
     let upper = c.in_ok-upper_cost.ensures in
     let low_at = c.len-lower.ensures ∙ walk.sets.ok.0 in
@@ -192,8 +228,8 @@ check_inner-returns t c =
     let first = own-piece _ _ _ _ _ _ _ _ c.requires.held.within lower.sets upper.sets low_at up_at in
     let second = low-piece _ _ _ _ _ _ _ _ c.requires.held.within lower.sets upper.sets low_at up_at in
     let third = up-piece _ _ _ _ _ _ _ _ c.requires.held.within lower.sets upper.sets low_at up_at in
-    λ whole low high. rw c.note.ensures
-    (halves-passed s whole c.args.low.now c.args.high.now low high c.args.held.cost own (place_in walk.nodes) c.args.number walk.number c.requires.number
+    rw c.note.ensures
+    (halves-passed s c.args.len q _ _ c.args.held.cost halves.low_is halves.high_is own (place_in walk.nodes) c.args.number walk.number c.requires.number
     walk.sets.items walk.fault c.check_node.new.walk c.in_ok-lower_cost.lower_cost lower (take c.args.held.from walk.sets.items) c.check_node-2.new.walk _ c.in_ok-upper_cost.upper_cost c.claim_fault-fault.result
     upper c.requires.held.ascending
     (rw c.as_slice-sets.ensures.value at c.claim_fault-fault.ensures
@@ -231,7 +267,9 @@ check_chain-returns t c =
     let walk = c.args.walk.now in
     let own = drop c.args.held.from walk.sets.items in
     let bits = bits_in c.args.path.now in
-    let below = c.in_ok-end_cost.ensures in
+    let end = c.end-end.result in
+    let below = subst (λ (v : Version). IsPassed s (reading_at s end.len (place_in walk.nodes)) (fault_of_node s end.len (block_number (width_of v) end.len end.value)) walk.number walk.sets.items walk.fault
+    c.check_node.new.walk c.in_ok-end_cost.end_cost) (sym (c.end-end.ensures.version ∙ c.requires.version)) c.in_ok-end_cost.ensures in
     let last = c.check_node.new.walk in
     let at = c.len-start.ensures ∙ walk.sets.ok.0 in
     let none = sym (append-nil last.sets.items) in

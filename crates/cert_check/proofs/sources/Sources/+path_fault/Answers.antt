@@ -6,6 +6,7 @@ use Rattle.pmap_cert.specs.Packed.{bits_in}
 use Rattle.cert_check.specs.Checking.{CheckFaultKind, leaf_fault}
 use Rattle.cert_check.proofs.Beside.{path-clear}
 use Rattle.cert_check.proofs.Nodes.{or-some, sides-step}
+use Rattle.cert_check.proofs.OneStretch.{block-range}
 use Rattle.cert_check.proofs.sources.Sources.+path_fault.Goals as goal
 
 pub returns-in-None : goal.returns-in-None
@@ -15,7 +16,8 @@ returns-in-None t c =
     let ps = (list_of s.list.now).prefixes in
     let x = text_at s.limits.labels.now c.args.side.0 in
     let next = c.in_ok-chosen in
-    c.leaf_fault.ensures
+    c.leaf_fault.ensures next.beside.len (number_of_block next.beside)
+    (block-range s next.beside (next.ensures.beside.version ∙ c.requires.version) c.high.result.value c.high.ensures.last (rw (sym c.high.ensures.version) c.high.result.in_range))
     ∙ sym (sides-step m ps x c.args.block.now next.chosen next.beside c.in_ok-bit.bit (bits_in c.args.path.now) (bits_in c.in_ok-bit.rest) c.in_ok-bit.ensures.bits next.ensures.chosen next.ensures.beside
     ∙ ap (λ (o : Option CheckFaultKind). option_or o (leaf_fault m ps next.beside.len (number_of_block next.beside) x)) (sym c.path_fault.ensures ∙ c.in-None.is))
 
