@@ -549,7 +549,7 @@ def variants_of(text):
     groups = []
     for match in re.finditer(r"^\s*(?:pub )?use Rattle\.[\w.]+\.TheVariants\.\{(.*)\};?$", text, re.M):
         groups.append([item.strip().split(" as ")[-1] for item in match[1].split(",")])
-    for match in re.finditer(r"^\s*(?:pub )?use Rattle\.[\w.]+\.TheVariants as (\w+);?$", text, re.M):
+    for match in re.finditer(r"^\s*(?:pub )?use Rattle\.[\w.]+ as (\w+);?$", text, re.M):
         names = dict.fromkeys(re.findall(rf"(?<![\w.]){match[1]}\.[A-Z]\w*", text))
         groups.append([name for name in names if not re.search(rf"\({re.escape(name)} \w", text)])
     return [[n for n in g if not re.search(rf"\({re.escape(n)} [\w(]", text)] for g in groups]

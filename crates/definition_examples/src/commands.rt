@@ -6,7 +6,8 @@
 
 ghost use Rattle.flow_io.specs.declared.devices.LastCall.TheVariants.{Flush, Nothing};
 ghost use Rattle.flowlabel.specs.Answer.{is_help, is_mistake, words_fault_of};
-ghost use Rattle.flowlabel.specs.ByFile.{each, turn};
+ghost use Rattle.flowlabel.specs.ByFile.{turn};
+ghost use Rattle.flowlabel.specs.ByFile as role;
 ghost use Rattle.flowlabel.specs.BytesFault.{certificate_fault_name, check_fault_name, flows_fault_name, map_fault_name};
 ghost use Rattle.flowlabel.specs.Ending.{IsReported, IsWritten};
 ghost use Rattle.flowlabel.specs.Faults.{filter_fault_text, key_fault_text};
@@ -24,7 +25,7 @@ ghost use Rattle.flow_filter.specs.declared.option.FilterOption.TheVariants.{Any
 ghost use Rattle.flow_uniq.specs.declared.fault.KeyFault.TheVariants.{BadField, FieldRepeated, NoMemory as NoMemoryForKeys};
 ghost use Rattle.flow_uniq.specs.declared.field.KeyField.TheVariants as field;
 ghost use Rattle.definition_examples.specs.Commands.{Checks, Counts, Drops, Groups, HasCertificateFault, HasCheckFault, HasFlowsFault, HasListFault, HasMapFault, Keeps, Labels, LabelsByList, Recerts, Reports, StandardError, StandardOutput, Writes, both_ways, by_list, by_map, day, empty, halves_certificate, halves_map, head, labelled_flow, labelled_header, long_address, named, of_flows, of_list, of_map, one_flow, quarters_list, quarters_map, quarters_nodes, seen, Asks, HasUsageFault, asks_for_help, is_refused, file_with, map_read, of_files, opens, reader_of, seen_of, shown_of, writer_of};
-ghost use Rattle.flowlabel.specs.Run.{AreLaterUntouched, AreTexts, AreUnread, IsNamed, MayHave, any_failed, view_of};
+ghost use Rattle.flowlabel.specs.Run.{AreLaterUntouched, AreTexts, AreUnread, MayHave, any_failed, view_of};
 ghost use Rattle.flowlabel.specs.Request.{Text, FromList, FromMap, IsProper};
 ghost use Rattle.flowlabel.specs.declared.command.Command.TheVariants as command;
 ghost use Rattle.flowlabel.specs.declared.command.Shrunk.TheVariants as shrunk;
@@ -37,8 +38,6 @@ ghost use Rattle.ipfix_read.specs.declared.fault.ReadFaultKind.TheVariants as fl
 ghost use Rattle.pmap_cert.specs.declared.fault.CertFaultKind.TheVariants as certificate;
 ghost use Rattle.cert_check.specs.declared.fault.CheckFaultKind.TheVariants as check;
 ghost use Rattle.flow_filter.specs.declared.fault.FilterFaultKind.TheVariants as filters;
-ghost use Rattle.flowlabel.specs.declared.by_file.Role.TheVariants as role;
-ghost use Rattle.flowlabel.specs.declared.output_fault.OutputFault.TheVariants as output;
 
 /// FORMATS.md, "Statements" and "Addresses and versions": the label of 10.1.2.3 under a map.
 pub fn label_prints_a_line()
@@ -360,7 +359,6 @@ pub fn each_file_has_its_turn()
     ensures the_list { turn role.List ≡ 1 }
     ensures the_certificate { turn role.Certificate ≡ 2 }
     ensures the_flows { turn role.Flows ≡ 3 }
-    ensures something_for_each { each (λ n. n + 10) (of_files 0 1 2 3) ≡ of_files 10 11 12 13 }
 {}
 
 /// A command line names files, and each that can be opened has a reader.
@@ -385,21 +383,6 @@ pub fn another_file_is_not_opened()
     ensures the_name_of_another { CannotOpenNamed opens (Some (codes "gone")) (CannotOpen (named (codes "lost"))) → ⊥ }
     ensures a_fault_of_the_writer { CannotOpenNamed opens (Some (codes "gone")) CannotWrite → ⊥ }
     ensures the_later_of_two { CannotOpenFirst opens (of_files (Some (codes "gone")) None None (Some (codes "lost"))) (CannotOpen (named (codes "lost"))) → ⊥ }
-{}
-
-/// FORMATS.md, "Statuses and fault lines".
-pub fn a_fault_names_its_file()
-    ensures no_memory { IsNamed (of_files (codes "m") (codes "l") (codes "c") (codes "f")) output.NoMemory NoMemory }
-    ensures a_reader { IsNamed (of_files (codes "m") (codes "l") (codes "c") (codes "f")) (output.Unread role.List) (CannotRead (named (codes "l"))) }
-    ensures a_fault_of_a_map { IsNamed (of_files (codes "m") (codes "l") (codes "c") (codes "f")) (output.Faulty (InMap (record { kind = TooMany; line = 7 }))) (File (named (codes "m")) (InMap (record { kind = TooMany; line = 7 }))) }
-{}
-
-/// Another file, or another fault.
-pub fn a_fault_names_no_other_file()
-    ensures another_reader { IsNamed (of_files (codes "m") (codes "l") (codes "c") (codes "f")) (output.Unread role.List) (CannotRead (named (codes "m"))) → ⊥ }
-    ensures another_file { IsNamed (of_files (codes "m") (codes "l") (codes "c") (codes "f")) (output.Faulty (InMap (record { kind = TooMany; line = 7 }))) (File (named (codes "l")) (InMap (record { kind = TooMany; line = 7 }))) → ⊥ }
-    ensures another_fault { IsNamed (of_files (codes "m") (codes "l") (codes "c") (codes "f")) (output.Faulty (InMap (record { kind = TooMany; line = 7 }))) (File (named (codes "m")) (InMap (record { kind = NoMemoryForMap; line = 7 }))) → ⊥ }
-    ensures another_end { IsNamed (of_files (codes "m") (codes "l") (codes "c") (codes "f")) output.NoMemory CannotWrite → ⊥ }
 {}
 
 /// The texts that a file may have, by the bytes that its reads returned.

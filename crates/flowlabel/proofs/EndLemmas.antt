@@ -1,7 +1,7 @@
 -- How the files of a request are opened, and how the program ends.
 use Rattle.std.proofs.Common.{◌<◌, Option, Some, None, arith}
 use Rattle.flowlabel.specs.ByFile.{Role, turn}
-use Rattle.flowlabel.specs.declared.by_file.Role.TheVariants as role
+use Rattle.flowlabel.specs.ByFile as role
 use Rattle.flowlabel.specs.Opening.{CanOpen, IsOpened}
 use Rattle.flowlabel.specs.Request.{Text}
 use Rattle.flowlabel.specs.Run.{Source}

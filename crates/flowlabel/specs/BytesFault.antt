@@ -9,8 +9,8 @@ use Rattle.pmap_cert.specs.declared.fault.CertFaultKind.{CertFaultKind}
 use Rattle.pmap_cert.specs.declared.fault.CertFaultKind.TheVariants as certificate
 use Rattle.cert_check.specs.declared.fault.CheckFaultKind.{CheckFaultKind}
 use Rattle.cert_check.specs.declared.fault.CheckFaultKind.TheVariants as check
-use Rattle.flowlabel.specs.declared.by_file.Role.{Role}
-use Rattle.flowlabel.specs.declared.by_file.Role.TheVariants as role
+use Rattle.flowlabel.specs.ByFile.{Role}
+use Rattle.flowlabel.specs.ByFile as role
 use Rattle.flowlabel.specs.declared.bytes_fault.BytesFault.{BytesFault}
 use Rattle.flowlabel.specs.declared.bytes_fault.BytesFault.TheVariants.{Map as InMap, List as InList, Flows as InFlows, Certificate as InCertificate, Check as InCheck}
 

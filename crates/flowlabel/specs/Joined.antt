@@ -11,7 +11,7 @@ use Rattle.label_lookup.specs.Labelling.{Labelling, label_where}
 use Rattle.pmap_print.specs.Reports.{groups_text, info_text, title_line}
 use Rattle.pmap_print.specs.Table.{Line, table_text}
 use Rattle.flowlabel.specs.ByFile.{ByFile, with_at}
-use Rattle.flowlabel.specs.declared.by_file.Role.TheVariants as role
+use Rattle.flowlabel.specs.ByFile as role
 use Rattle.flowlabel.specs.Request.{Command, Info, Rows, Text, Uniq}
 use Rattle.flowlabel.specs.Output.{IsOutput, labelled_row_lines}
 

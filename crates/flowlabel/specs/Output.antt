@@ -1,5 +1,4 @@
-use Rattle.std.specs.Prelude.{◌≡◌, ℕ, List, [], ◌∷◌, ◌++◌, true, false, Option, Some, None, Result, Ok, Err, map, option_map, unwrap_or, codes, decimal, length}
-use Rattle.std.specs.Global.{Vec}
+use Rattle.std.specs.Prelude.{◌≡◌, ℕ, List, [], ◌∷◌, ◌++◌, Option, Some, None, Result, Ok, Err, map, option_map, unwrap_or, codes, decimal, length}
 use Rattle.std.specs.Option.{option_map_or}
 use Rattle.prefix_keys.specs.Text.{AddressOf}
 use Rattle.pmap_text.specs.ListModel.{ListModel}
@@ -24,9 +23,6 @@ use Rattle.pmap_print.specs.Table.{Line, table_text}
 use Rattle.label_lookup.specs.Labelling.{Labelling, label_by, label_where, labelling_of_list, labelling_of_map}
 pub use Rattle.flowlabel.specs.declared.bytes_fault.BytesFault.{BytesFault}
 use Rattle.flowlabel.specs.declared.bytes_fault.BytesFault.TheVariants.{Map as InMap, List as InList, Flows as InFlows, Certificate as InCertificate, Check as InCheck}
-use Rattle.flowlabel.specs.BytesFault.{is_out_of_memory}
-pub use Rattle.flowlabel.specs.declared.output_fault.OutputFault.{OutputFault}
-pub use Rattle.flowlabel.specs.declared.output_fault.OutputFault.TheVariants.{Faulty, NoMemory, Unread}
 use Rattle.flowlabel.specs.ByFile.{ByFile}
 use Rattle.flowlabel.specs.Request.{Cat, Check, Command, Info, Label, Recert, Rows, Shrink, Shrunk, Text, Uniq}
 use Rattle.flowlabel.specs.declared.command.LabelFile.{LabelFile}
@@ -119,25 +115,3 @@ IsOutput (Check map list certificate) texts =
 IsOutput (Recert certificate) texts =
     Then InCertificate (λ c. Prints (certificate_text (compact c)))
     (format_reading texts.certificate)
-
--- Below: only contracts of parts and proofs use these; no promise of the program rests on them.
-
--- the fault of a command for one of bytes, which is out of memory or says something about the bytes
-abbrev pub IsFaultFor : BytesFault → OutputFault → Type 0
-IsFaultFor fault NoMemory = is_out_of_memory fault ≡ true
-IsFaultFor fault (Unread role) = ⊥
-IsFaultFor fault (Faulty other) = (other ≡ fault) × (is_out_of_memory fault ≡ false)
-
--- What a call returns, by the outcomes that it may have: the text, or the fault. It reads no device.
-abbrev pub Returns : (Outcome → Type 0) → Result (Vec ℕ) OutputFault → Type 0
-Returns Is (Ok out) = Is (Ok out.items)
-Returns Is (Err NoMemory) = Unit {0}
-Returns Is (Err (Unread role)) = ⊥
-Returns Is (Err (Faulty fault)) = Is (Err fault)
-
--- what a call returns that reads a text: a value, or the text's first fault
-abbrev pub Decodes : {F A V : Type 0} → (F → BytesFault) → (V → A) → Result A F → Result V OutputFault → Type 0
-Decodes in_file model reading (Ok value) = reading ≡ Ok (model value)
-Decodes in_file model reading (Err NoMemory) = Unit {0}
-Decodes in_file model reading (Err (Unread role)) = ⊥
-Decodes {F} in_file model reading (Err (Faulty fault)) = (own : F) × (reading ≡ Err own) × (fault ≡ in_file own)

@@ -6,8 +6,7 @@ use Rattle.flow_filter.specs.Condition.{Condition}
 pub use Rattle.flowlabel.specs.declared.command.Command.{Command}
 pub use Rattle.flowlabel.specs.declared.command.Command.TheVariants.{Cat, Check, Info, Label, Recert, Rows, Shrink, Uniq}
 use Rattle.flow_uniq.specs.declared.field.KeyField.{KeyField}
-use Rattle.flowlabel.specs.ByFile.{ByFile, Role, each}
-use Rattle.flowlabel.specs.declared.by_file.Role.TheVariants as role
+use Rattle.flowlabel.specs.ByFile.{ByFile, each}
 use Rattle.flowlabel.specs.declared.command.LabelFile.{LabelFile}
 use Rattle.flowlabel.specs.declared.command.LabelFile.TheVariants.{Map, List as Prefixes}
 pub use Rattle.flowlabel.specs.declared.command.Shrunk.{Shrunk}
@@ -90,11 +89,6 @@ files_of (recert certificate) =
     record { map = None; list = None; certificate = Some certificate; flows = None }
 
 -- Below: only contracts of parts and proofs use these; no promise of the program rests on them.
-
--- which file a file of labels is
-abbrev pub role_in : LabelFile → Role
-role_in (Map file) = role.Map
-role_in (Prefixes file) = role.List
 
 abbrev pub names_of : ByFile (Option (Bor (List ℕ))) → ByFile (Option Text)
 names_of = each (option_map (λ s. s.now))

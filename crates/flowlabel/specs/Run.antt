@@ -3,11 +3,11 @@ use Rattle.std.specs.Option.{option_map_or}
 use Rattle.flow_io.specs.Devices.{InputView, OutputView, MayFollow, ReadsInput, StopsWriting, WritesWhole, has_ended}
 use Rattle.ipfix_read.specs.Messages.{StopsReading}
 use Rattle.ipfix_read.specs.declared.fault.ReadFault.{ReadFault}
-use Rattle.flowlabel.specs.BytesFault.{role_of}
-use Rattle.flowlabel.specs.ByFile.{ByFile, Role, at, each, turn}
-use Rattle.flowlabel.specs.declared.by_file.Role.TheVariants as roles
+use Rattle.flowlabel.specs.BytesFault.{is_out_of_memory, role_of}
+use Rattle.flowlabel.specs.ByFile.{ByFile, Role, at, turn}
+use Rattle.flowlabel.specs.ByFile as roles
 use Rattle.flowlabel.specs.Headline.{IsHeadline}
-use Rattle.flowlabel.specs.Output.{BytesFault, Faulty, IsOutput, NoMemory as OutOfMemory, Outcome, OutputFault, Unread}
+use Rattle.flowlabel.specs.Output.{BytesFault, IsOutput, Outcome}
 use Rattle.flowlabel.specs.Request.{Command, Text}
 pub use Rattle.flowlabel.specs.declared.inputs.Inputs.{Inputs}
 pub use Rattle.flowlabel.specs.declared.inputs.Source.{Source}
@@ -23,14 +23,6 @@ Readers R = ByFile (Option (Source R))
 -- the name of a file; one that isn't there has an empty name
 abbrev pub name_in : {R : Type 0} → Option (Source R) → Text
 name_in file = option_map_or (λ source. source.name.now) file []
-
--- the fault of a run is this one of its command, with the name of the file
-abbrev pub IsNamed : ByFile Text → OutputFault → RunFault → Type 0
-IsNamed names OutOfMemory NoMemory = Unit {0}
-IsNamed names (Unread role) (CannotRead file) = file.now ≡ at role names
-IsNamed names (Faulty fault) (File file other) =
-    (file.now ≡ at (role_of fault) names) × (other ≡ fault)
-IsNamed names fault run = ⊥
 
 -- the text of an input may be this one: the bytes that reads have returned, and then none after the end, otherwise any
 abbrev pub MayHave : InputView → Text → Type 0
@@ -70,18 +62,19 @@ module _ {R : Type 0} (input : R → InputView) where
   -- A fault of a command, by the outcomes that it may have over the texts of the files. A fault of a file's bytes is the
   -- outcome over all texts that the files may have. It is a fault of a reader exactly if one failed. Then no earlier file
   -- has a fault, and of a File the reader returned whole messages without a fault and the beginning of one that isn't
-  -- complete.
-  abbrev pub IsFaultOf : (ByFile Text → Outcome → Type 0) → Readers R → Readers R → OutputFault
+  -- complete. Both have the name of the file.
+  abbrev pub IsFaultOf : (ByFile Text → Outcome → Type 0) → Readers R → Readers R → RunFault
       → Type 0
-  IsFaultOf Is old new OutOfMemory = any_failed new ≡ false
-  IsFaultOf Is old new (Unread role) =
-      ((view_of (at role new)).failed ≡ true) × AreLaterUntouched role old new
+  IsFaultOf Is old new NoMemory = any_failed new ≡ false
+  IsFaultOf Is old new (CannotRead file) = (role : Role) × (file.now ≡ name_in (at role old))
+      × ((view_of (at role new)).failed ≡ true) × AreLaterUntouched role old new
       × ((texts : ByFile Text) → AreTexts new texts → (fault : BytesFault) → Is texts (Err fault)
       → turn role ≤ turn (role_of fault))
       × (role ≡ roles.Flows → (stop : ReadFault) × StopsReading (view_of new.flows).returned stop)
-  IsFaultOf Is old new (Faulty fault) =
-      ((texts : ByFile Text) → AreTexts new texts → Is texts (Err fault))
+  IsFaultOf Is old new (File file fault) = (file.now ≡ name_in (at (role_of fault) old))
+      × ((texts : ByFile Text) → AreTexts new texts → Is texts (Err fault))
       × AreLaterUntouched (role_of fault) old new × (any_failed new ≡ false)
+  IsFaultOf Is old new fault = ⊥
 
 -- What a run of a command does, if nothing of its files is read before, and neither a reader nor the writer has failed.
 -- The functions are what contracts see of a reader and of a writer.
@@ -100,8 +93,7 @@ module _ {R W : Type 0} (input : R → InputView) (output : W → OutputView) wh
       → IsOutput command texts (Ok out))
       × StopsWriting (output writer) (output writer') out × (any_failed input new ≡ false)
   EndsAs command old new writer writer' (Err fault) =
-      (made : OutputFault) × IsNamed (each name_in old) made fault
-      × IsFaultOf input (IsOutput command) old new made × (writer' ≡ writer)
+      IsFaultOf input (IsOutput command) old new fault × (writer' ≡ writer)
 
   -- What a run does; and that a text which a reader reports is among those that its file may have: then the output is the
   -- one over this text.
@@ -113,10 +105,12 @@ module _ {R W : Type 0} (input : R → InputView) (output : W → OutputView) wh
 
 -- Below: only contracts of parts and proofs use these; no promise of the program rests on them.
 
--- a command ended because a reader failed
-abbrev pub is_unread : {A : Type 0} → Result A OutputFault → Bool
-is_unread (Err (Unread role)) = true
-is_unread result = false
+-- the fault for one of the bytes of the file with this name
+abbrev pub IsFaultFor : Text → BytesFault → RunFault → Type 0
+IsFaultFor name fault NoMemory = is_out_of_memory fault ≡ true
+IsFaultFor name fault (File file other) =
+    (file.now ≡ name) × (other ≡ fault) × (is_out_of_memory fault ≡ false)
+IsFaultFor name fault run = ⊥
 
 -- reads have returned more of the files
 abbrev pub AreReadOn : {R : Type 0} → (R → InputView) → Readers R → Readers R → Type 0

@@ -1,7 +1,6 @@
 ghost use Rattle.std.specs.Prelude.{◌≡◌};
-ghost use Rattle.flowlabel.specs.BytesFault.{role_of, bytes_fault_name, bytes_fault_position, certificate_fault_name, check_fault_name, flows_fault_name, is_out_of_memory, map_fault_name, template_fault_name};
+ghost use Rattle.flowlabel.specs.BytesFault.{bytes_fault_name, bytes_fault_position, certificate_fault_name, check_fault_name, flows_fault_name, is_out_of_memory, map_fault_name, template_fault_name};
 
-use crate::by_file::Role;
 use cert_check::{CheckFault, CheckFaultKind};
 use ipfix_read::{ReadFault, ReadFaultKind};
 use ipfix_templates::TemplateFaultKind;
@@ -24,18 +23,6 @@ pub enum BytesFault {
 }
 
 impl BytesFault {
-    /// Returns the file that the fault names: the certificate if it doesn't fit the map and the list.
-    pub fn role(&self) -> Role
-        ensures { result ≡ role_of self.now }
-    {
-        match self {
-            BytesFault::Map(_) => Role::Map,
-            BytesFault::List(_) => Role::List,
-            BytesFault::Flows(_) => Role::Flows,
-            BytesFault::Certificate(_) | BytesFault::Check(_) => Role::Certificate,
-        }
-    }
-
     /// Returns whether the fault is out of memory, which says nothing about the bytes.
     pub fn is_out_of_memory(&self) -> bool
         ensures { result ≡ is_out_of_memory self.now }

@@ -1,7 +1,7 @@
 ghost use Rattle.std.specs.Prelude.{◌≡◌, option_map};
-ghost use Rattle.flowlabel.specs.Request.{files_named, files_of, names_of, needs_of, request_of, role_in, source_of};
+ghost use Rattle.flowlabel.specs.Request.{files_named, files_of, names_of, needs_of, request_of, source_of};
 
-use crate::by_file::{ByFile, Role};
+use crate::by_file::ByFile;
 use flow_filter::Filter;
 use flow_uniq::Keys;
 use prefix_keys::Addr;
@@ -13,18 +13,6 @@ pub enum LabelFile<'a> {
     Map(&'a str),
     /// `--list FILE`: a prefix list.
     List(&'a str),
-}
-
-impl LabelFile<'_> {
-    /// Returns which file it is.
-    pub fn role(&self) -> Role
-        ensures { result ≡ role_in self.now }
-    {
-        match self {
-            LabelFile::Map(_) => Role::Map,
-            LabelFile::List(_) => Role::List,
-        }
-    }
 }
 
 /// The output of `shrink` for a map.

@@ -1,6 +1,7 @@
 ghost use Rattle.std.specs.Prelude.{◌≡◌, IfOk};
 ghost use Rattle.std.specs.String.{string_bytes};
 ghost use Rattle.flowlabel.specs.Faults.{fault_text, filter_fault_text, key_fault_text, option_text, position_text, status_of, usage_fault_text};
+ghost use Rattle.flowlabel.specs.Run.{IsFaultFor};
 
 use crate::bytes_fault::BytesFault;
 use crate::usage::UsageFault;
@@ -23,6 +24,19 @@ pub enum RunFault<'a> {
     NoMemory,
     /// The bytes of a file have a fault.
     File { file: &'a str, fault: BytesFault },
+}
+
+impl<'a> RunFault<'a> {
+    /// Returns the fault for one of the bytes of the file with this name. Out of memory becomes `NoMemory`.
+    pub fn of(file: &'a str, fault: BytesFault) -> RunFault<'a>
+        ensures { IsFaultFor file.entry.now fault result }
+    {
+        if fault.is_out_of_memory() {
+            RunFault::NoMemory
+        } else {
+            RunFault::File { file, fault }
+        }
+    }
 }
 
 impl<'a> From<AllocError> for RunFault<'a> {

@@ -55,19 +55,17 @@ mod ending;
 mod fault;
 mod inputs;
 mod opening;
-mod output_fault;
 pub mod run;
 mod usage;
 mod words;
 
-pub use by_file::{ByFile, Role};
+pub use by_file::ByFile;
 pub use bytes_fault::BytesFault;
 pub use command::{Command, LabelFile, Shrunk};
 pub use ending::end;
 pub use fault::{RunFault, fault_line, status};
-pub use inputs::{Inputs, Source};
+pub use inputs::{Files, Inputs, Source};
 pub use opening::{Opener, open_all};
-pub use output_fault::OutputFault;
 pub use usage::UsageFault;
 pub use words::{lines_have_one_answer, parse};
 

@@ -6,7 +6,7 @@ ghost use Rattle.flowlabel.specs.Run.{AreUnread, any_failed, view_of};
 
 use crate::by_file::ByFile;
 use crate::fault::RunFault;
-use crate::inputs::Source;
+use crate::inputs::{Files, Source};
 use flow_io::{Input, ReadAhead, Watched};
 use std::alloc::{AllocError, Global};
 use std::fs::File;
@@ -72,7 +72,7 @@ pub fn open_all<'a, O: Opener>(
     alloc: Global,
     opener: &O,
     names: ByFile<Option<&'a str>>,
-) -> Result<ByFile<Option<Source<'a, O::Reader>>>, RunFault<'a>>
+) -> Result<Files<'a, O::Reader>, RunFault<'a>>
     ensures opened { IfOk result (AreOpened (O.answers opener.now) (names_of names.entry)) }
     ensures fresh { IfOk result (λ files. any_failed O.Reader.input files ≡ false) }
     ensures unread { IfOk result (AreUnread O.Reader.input) }

@@ -1,13 +1,11 @@
 ghost use Rattle.std.specs.Prelude.{◌≡◌, false};
 ghost use Rattle.flowlabel.specs.Output.{IsOutput};
-ghost use Rattle.flowlabel.specs.Reports.{IsMade};
+ghost use Rattle.flowlabel.specs.Reports.{AreFresh, IsMade};
 ghost use Rattle.flowlabel.specs.Run.{AreUnread, any_failed, IsRunOf};
 
-use crate::by_file::{ByFile, Role};
 use crate::command::Command;
 use crate::fault::RunFault;
-use crate::inputs::{Inputs, Source};
-use crate::output_fault::OutputFault;
+use crate::inputs::{Files, Inputs};
 use flow_io::{DeviceFault, Input, Output, write_whole};
 use pmap_text::KeyHashing;
 use std::alloc::Global;
@@ -30,25 +28,20 @@ pub use joined::output_of_joined_file;
 pub use laws::{
     one_output, output_keeps_headline, shrunk_list_is_least, shrunk_list_keeps_reports,
 };
-use reading::read;
 use uniq::Grouping;
 
 // Returns the output of a command over its files, which are read here: the map, the list, the certificate, the flows.
-fn output<R: Input>(
+fn output<'a, R: Input>(
     alloc: Global,
     command: &Command<'_>,
-    files: &mut ByFile<Option<Source<'_, R>>>,
+    files: &mut Files<'a, R>,
     hashing: KeyHashing,
-) -> Result<Vec<u8>, OutputFault>
-    requires unread { AreUnread R.input files.old }
-    requires works { any_failed R.input files.old ≡ false }
+) -> Result<Vec<u8>, RunFault<'a>>
+    requires { AreFresh R.input files.old }
     ensures { IsMade R.input (IsOutput command.now) files.old files.new result }
 {
     match command {
-        Command::Label { labels, addr } => {
-            let text = read(alloc, labels.role(), files)?;
-            label::output(alloc, *labels, text, *addr, hashing)
-        }
+        Command::Label { labels, addr } => label::output(alloc, *labels, files, *addr, hashing),
         Command::Info { .. } => info::output(alloc, files),
         Command::Rows {
             labels,
@@ -72,16 +65,10 @@ fn output<R: Input>(
             };
             uniq::output(alloc, *labels, files, grouping, hashing)
         }
-        Command::Cat { labels } => {
-            cat::output(alloc, *labels, read(alloc, labels.role(), files)?, hashing)
-        }
-        Command::Shrink { printed, .. } => {
-            shrink::output(alloc, read(alloc, Role::Map, files)?, *printed, hashing)
-        }
+        Command::Cat { labels } => cat::output(alloc, *labels, files, hashing),
+        Command::Shrink { printed, .. } => shrink::output(alloc, files, *printed, hashing),
         Command::Check { .. } => check::output(alloc, files, hashing),
-        Command::Recert { .. } => {
-            recert::output(alloc, read(alloc, Role::Certificate, files)?, hashing)
-        }
+        Command::Recert { .. } => recert::output(alloc, files, hashing),
     }
 }
 
@@ -107,11 +94,7 @@ pub fn run<'a, R: Input, W: Output>(
 {
     // Provides the law that each output keeps the headline.
     output_keeps_headline();
-    let names = inputs.names();
-    let out = match output(alloc, command, &mut inputs.files, inputs.hashing) {
-        Ok(out) => out,
-        Err(fault) => return Err(fault.named(&names)),
-    };
+    let out = output(alloc, command, &mut inputs.files, inputs.hashing)?;
     match write_whole(writer, out.as_slice()) {
         Ok(()) => Ok(()),
         Err(DeviceFault) => Err(RunFault::CannotWrite),

@@ -1,15 +1,13 @@
 //! The output of `info`.
-ghost use Rattle.std.specs.Prelude.{◌≡◌, false};
+ghost use Rattle.std.specs.Prelude.{◌≡◌};
 ghost use Rattle.std.specs.Borrow.{Bor};
 ghost use Rattle.flow_rows.specs.Counts.{counts_of, count_list};
 ghost use Rattle.flowlabel.specs.Output.{IsOutput};
-ghost use Rattle.flowlabel.specs.Reports.{IsMade, ReadsInto};
+ghost use Rattle.flowlabel.specs.Reports.{AreFresh, IsFresh, IsMade, ReadsInto};
 ghost use Rattle.flowlabel.specs.Request.{Info, Text};
-ghost use Rattle.flowlabel.specs.Run.{AreUnread, any_failed, view_of};
 
-use crate::by_file::ByFile;
-use crate::inputs::Source;
-use crate::output_fault::OutputFault;
+use crate::fault::RunFault;
+use crate::inputs::{Files, Source};
 use crate::run::messages::next_message;
 use flow_io::Input;
 use flow_rows::Counts;
@@ -18,13 +16,13 @@ use pmap_print::print_info;
 use std::alloc::Global;
 
 // Returns the counts of the messages of a File.
-fn counts_of<R: Input>(
+fn counts_of<'a, R: Input>(
     alloc: Global,
-    flows: &mut Option<Source<'_, R>>,
-) -> Result<Counts, OutputFault>
-    requires { (view_of R.input flows.old).failed ≡ false }
-    ensures { ReadsInto (λ messages counts. count_list counts ≡ counts_of messages)
-        (view_of R.input flows.old) (view_of R.input flows.new) result }
+    flows: &mut Option<Source<'a, R>>,
+) -> Result<Counts, RunFault<'a>>
+    requires { IsFresh R.input flows.old }
+    ensures { ReadsInto R.input (λ messages counts. count_list counts ≡ counts_of messages)
+        flows.old flows.new result }
 {
     let mut counts = Counts::new();
     let mut buffer = Buffer::new(alloc)?;
@@ -36,12 +34,11 @@ fn counts_of<R: Input>(
 }
 
 /// Returns the counts of the messages of a File and of what they have.
-pub fn output<R: Input>(
+pub fn output<'a, R: Input>(
     alloc: Global,
-    files: &mut ByFile<Option<Source<'_, R>>>,
-) -> Result<Vec<u8>, OutputFault>
-    requires unread { AreUnread R.input files.old }
-    requires works { any_failed R.input files.old ≡ false }
+    files: &mut Files<'a, R>,
+) -> Result<Vec<u8>, RunFault<'a>>
+    requires { AreFresh R.input files.old }
     ensures { (flows : Bor Text) → IsMade R.input (IsOutput (Info flows)) files.old files.new result }
 {
     let counts = counts_of(alloc, &mut files.flows)?;

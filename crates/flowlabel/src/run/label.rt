@@ -1,13 +1,15 @@
 //! The output of `label`.
 ghost use Rattle.std.specs.Prelude.{◌≡◌, ◌++◌, ◌∷◌, [], IfOk, option_map, unwrap_or};
 ghost use Rattle.label_lookup.specs.Labelling.{labelling};
-ghost use Rattle.flowlabel.specs.Output.{IsOutput, Returns, label_text};
-ghost use Rattle.flowlabel.specs.Reports.{everywhere};
+ghost use Rattle.flowlabel.specs.Output.{IsOutput, label_text};
+ghost use Rattle.flowlabel.specs.Reports.{AreFresh, IsMade};
 ghost use Rattle.flowlabel.specs.Request.{Label};
 
 use crate::command::LabelFile;
-use crate::output_fault::OutputFault;
-use crate::run::reading::{list_in, map_in};
+use crate::fault::RunFault;
+use crate::inputs::Files;
+use crate::run::reading::{read_list, read_map};
+use flow_io::Input;
 use label_lookup::{Labeller, ListIndex, Scan};
 use pmap_text::KeyHashing;
 use prefix_keys::{Addr, convert};
@@ -34,24 +36,25 @@ fn line_by<L: Labeller>(alloc: Global, labels: &L, addr: Addr) -> Result<Vec<u8>
     }
 }
 
-/// Returns the line of the label that the text of a map or a list gives an address. It searches all statements of a map
+/// Returns the line of the label that a map or a list gives an address. It searches all statements of a map
 /// once, and builds an index of a list.
-pub fn output(
+pub fn output<'a, R: Input>(
     alloc: Global,
     labels: LabelFile<'_>,
-    text: Vec<u8>,
+    files: &mut Files<'a, R>,
     addr: Addr,
     hashing: KeyHashing,
-) -> Result<Vec<u8>, OutputFault>
-    ensures { Returns (IsOutput (Label labels.entry addr) (everywhere text.items)) result }
+) -> Result<Vec<u8>, RunFault<'a>>
+    requires { AreFresh R.input files.old }
+    ensures { IsMade R.input (IsOutput (Label labels.entry addr)) files.old files.new result }
 {
     match labels {
         LabelFile::Map(_) => {
-            let map = map_in(alloc, text, hashing)?;
+            let map = read_map(alloc, &mut files.map, hashing)?;
             Ok(line_by(alloc, &Scan::new(&map), addr)?)
         }
         LabelFile::List(_) => {
-            let list = list_in(alloc, text, hashing)?;
+            let list = read_list(alloc, &mut files.list, hashing)?;
             Ok(line_by(alloc, &ListIndex::build(alloc, &list)?, addr)?)
         }
     }

@@ -1,14 +1,12 @@
 //! The labels of a report.
-ghost use Rattle.std.specs.Prelude.{◌≡◌, IfOk, false, option_map};
+ghost use Rattle.std.specs.Prelude.{◌≡◌, IfOk, option_map};
 ghost use Rattle.label_lookup.specs.Labelling.{labelling_of_stretches};
-ghost use Rattle.flowlabel.specs.Reports.{AreLabels, AreLabelsOf, labelling_read};
-ghost use Rattle.flowlabel.specs.Run.{AreUnread, any_failed};
+ghost use Rattle.flowlabel.specs.Reports.{AreFresh, AreLabels, labelling_read};
 
-use crate::by_file::ByFile;
 use crate::command::LabelFile;
-use crate::inputs::Source;
-use crate::output_fault::OutputFault;
-use crate::run::reading::{list_in, map_in, read};
+use crate::fault::RunFault;
+use crate::inputs::Files;
+use crate::run::reading::{read_list, read_map};
 use flow_io::Input;
 use label_lookup::StretchIndex;
 use pmap_text::{KeyHashing, MapText, PrefixList};
@@ -32,34 +30,27 @@ impl Drop for LabelsRead {
 
 impl LabelsRead {
     /// Reads the map or the list that labels come from, if there is one.
-    pub fn of_files<R: Input>(
+    pub fn of_files<'a, R: Input>(
         alloc: Global,
         labels: Option<LabelFile<'_>>,
-        files: &mut ByFile<Option<Source<'_, R>>>,
+        files: &mut Files<'a, R>,
         hashing: KeyHashing,
-    ) -> Result<LabelsRead, OutputFault>
-        requires unread { AreUnread R.input files.old }
-        requires works { any_failed R.input files.old ≡ false }
+    ) -> Result<LabelsRead, RunFault<'a>>
+        requires { AreFresh R.input files.old }
         ensures { AreLabels R.input labels.entry files.old files.new result }
     {
         let Some(labels) = labels else {
             return Ok(LabelsRead::None);
         };
-        let text = read(alloc, labels.role(), files)?;
-        LabelsRead::of_text(alloc, labels, text, hashing)
-    }
-
-    fn of_text(
-        alloc: Global,
-        labels: LabelFile<'_>,
-        text: Vec<u8>,
-        hashing: KeyHashing,
-    ) -> Result<LabelsRead, OutputFault>
-        ensures { AreLabelsOf labels.entry text.items result }
-    {
         match labels {
-            LabelFile::Map(_) => Ok(LabelsRead::Map(map_in(alloc, text, hashing)?)),
-            LabelFile::List(_) => Ok(LabelsRead::List(list_in(alloc, text, hashing)?)),
+            LabelFile::Map(_) => {
+                let map = read_map(alloc, &mut files.map, hashing)?;
+                Ok(LabelsRead::Map(map))
+            }
+            LabelFile::List(_) => {
+                let list = read_list(alloc, &mut files.list, hashing)?;
+                Ok(LabelsRead::List(list))
+            }
         }
     }
 

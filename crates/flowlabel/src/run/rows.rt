@@ -1,18 +1,16 @@
 //! The output of `rows`.
-ghost use Rattle.std.specs.Prelude.{◌≡◌, ◌++◌, Bool, List, OnOk, false, option_map};
+ghost use Rattle.std.specs.Prelude.{◌≡◌, ◌++◌, Bool, List, OnOk, option_map};
 ghost use Rattle.std.specs.Borrow.{Bor};
 ghost use Rattle.flow_rows.specs.Counts.{rows_of_sets, rows_of_messages};
 ghost use Rattle.flow_rows.specs.Elements.{RowView};
 ghost use Rattle.pmap_print.specs.Reports.{label_texts};
 ghost use Rattle.flowlabel.specs.Output.{IsOutput, row_labels};
-ghost use Rattle.flowlabel.specs.Reports.{HasRows, IsMade, ReadsInto, labelling_found};
+ghost use Rattle.flowlabel.specs.Reports.{AreFresh, HasRows, IsFresh, IsMade, labelling_found, ReadsInto};
 ghost use Rattle.flowlabel.specs.Request.{Rows, Text};
-ghost use Rattle.flowlabel.specs.Run.{AreUnread, any_failed, view_of};
 
-use crate::by_file::ByFile;
 use crate::command::LabelFile;
-use crate::inputs::Source;
-use crate::output_fault::OutputFault;
+use crate::fault::RunFault;
+use crate::inputs::{Files, Source};
 use crate::run::labels::LabelsRead;
 use crate::run::messages::next_message;
 use flow_filter::Filter;
@@ -58,17 +56,16 @@ fn add_rows(
 }
 
 // Returns the table of the rows of a File that pass a filter.
-fn table_of<R: Input>(
+fn table_of<'a, R: Input>(
     alloc: Global,
-    flows: &mut Option<Source<'_, R>>,
+    flows: &mut Option<Source<'a, R>>,
     filter: &Filter<'_>,
     labels: Option<&StretchIndex<'_>>,
     columns: bool,
-) -> Result<Table, OutputFault>
-    requires { (view_of R.input flows.old).failed ≡ false }
-    ensures { ReadsInto
-        (λ messages. HasRows filter.now columns (labelling_found labels.entry) (rows_of_messages messages))
-        (view_of R.input flows.old) (view_of R.input flows.new) result }
+) -> Result<Table, RunFault<'a>>
+    requires { IsFresh R.input flows.old }
+    ensures { ReadsInto R.input (λ messages. HasRows filter.now columns (labelling_found labels.entry) (rows_of_messages messages))
+        flows.old flows.new result }
 {
     let mut table = Table::of_rows(alloc, labels.is_some(), columns)?;
     let mut buffer = Buffer::new(alloc)?;
@@ -81,16 +78,15 @@ fn table_of<R: Input>(
 
 /// Returns the rows of a File that pass a filter, with labels if there is a map or a list, and padded to columns if
 /// `columns`.
-pub fn output<R: Input>(
+pub fn output<'a, R: Input>(
     alloc: Global,
     labels: Option<LabelFile<'_>>,
-    files: &mut ByFile<Option<Source<'_, R>>>,
+    files: &mut Files<'a, R>,
     filter: &Filter<'_>,
     columns: bool,
     hashing: KeyHashing,
-) -> Result<Vec<u8>, OutputFault>
-    requires unread { AreUnread R.input files.old }
-    requires works { any_failed R.input files.old ≡ false }
+) -> Result<Vec<u8>, RunFault<'a>>
+    requires { AreFresh R.input files.old }
     ensures { (flows : Bor Text) →
         IsMade R.input (IsOutput (Rows labels.entry filter.now columns flows)) files.old files.new result }
 {

@@ -1,19 +1,17 @@
 //! The output of `uniq`.
-ghost use Rattle.std.specs.Prelude.{◌≡◌, ◌≤◌, ◌<◌, ◌^◌, ◌+◌, ◌++◌, List, OnOk, false};
+ghost use Rattle.std.specs.Prelude.{◌≤◌, ◌<◌, ◌^◌, ◌+◌, ◌++◌, List, OnOk};
 ghost use Rattle.std.specs.Borrow.{Bor};
 ghost use Rattle.flow_rows.specs.Counts.{rows_of_sets, rows_of_messages};
 ghost use Rattle.flow_rows.specs.Elements.{RowView};
 ghost use Rattle.flow_uniq.specs.Groups.{record_count};
 ghost use Rattle.flow_uniq.specs.declared.field.KeyField.{KeyField};
 ghost use Rattle.flowlabel.specs.Output.{IsOutput};
-ghost use Rattle.flowlabel.specs.Reports.{HasGroups, IsMade, ReadsInto, labelling_found};
+ghost use Rattle.flowlabel.specs.Reports.{AreFresh, HasGroups, IsFresh, IsMade, labelling_found, ReadsInto};
 ghost use Rattle.flowlabel.specs.Request.{Text, Uniq};
-ghost use Rattle.flowlabel.specs.Run.{AreUnread, any_failed, view_of};
 
-use crate::by_file::ByFile;
 use crate::command::LabelFile;
-use crate::inputs::Source;
-use crate::output_fault::OutputFault;
+use crate::fault::RunFault;
+use crate::inputs::{Files, Source};
 use crate::run::labels::LabelsRead;
 use crate::run::messages::next_message;
 use flow_filter::Filter;
@@ -62,18 +60,17 @@ fn add_rows(
 }
 
 // Returns the groups of the rows of a File that pass a filter.
-fn groups_of<R: Input>(
+fn groups_of<'a, R: Input>(
     alloc: Global,
-    flows: &mut Option<Source<'_, R>>,
+    flows: &mut Option<Source<'a, R>>,
     grouping: Grouping<'_>,
     labels: Option<&StretchIndex<'_>>,
     hashing: KeyHashing,
-) -> Result<Groups, OutputFault>
-    requires { (view_of R.input flows.old).failed ≡ false }
-    ensures { ReadsInto
-        (λ messages. HasGroups grouping.entry.keys.now grouping.entry.filter.now (labelling_found labels.entry)
+) -> Result<Groups, RunFault<'a>>
+    requires { IsFresh R.input flows.old }
+    ensures { ReadsInto R.input (λ messages. HasGroups grouping.entry.keys.now grouping.entry.filter.now (labelling_found labels.entry)
         (rows_of_messages messages))
-        (view_of R.input flows.old) (view_of R.input flows.new) result }
+        flows.old flows.new result }
 {
     let mut groups = Groups::with_hashing(alloc, grouping.keys, hashing)?;
     let mut buffer = Buffer::new(alloc)?;
@@ -85,15 +82,14 @@ fn groups_of<R: Input>(
 }
 
 /// Returns the groups of the rows of a File that pass a filter, as a text.
-pub fn output<R: Input>(
+pub fn output<'a, R: Input>(
     alloc: Global,
     labels: Option<LabelFile<'_>>,
-    files: &mut ByFile<Option<Source<'_, R>>>,
+    files: &mut Files<'a, R>,
     grouping: Grouping<'_>,
     hashing: KeyHashing,
-) -> Result<Vec<u8>, OutputFault>
-    requires unread { AreUnread R.input files.old }
-    requires works { any_failed R.input files.old ≡ false }
+) -> Result<Vec<u8>, RunFault<'a>>
+    requires { AreFresh R.input files.old }
     ensures { (flows : Bor Text) →
         IsMade R.input
         (IsOutput (Uniq grouping.entry.keys.now labels.entry grouping.entry.filter.now grouping.entry.sorted grouping.entry.columns flows))

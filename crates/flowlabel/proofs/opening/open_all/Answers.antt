@@ -1,6 +1,6 @@
 use Rattle.std.specs.Prelude.{IfErr}
 use Rattle.flowlabel.specs.ByFile.{at}
-use Rattle.flowlabel.specs.declared.by_file.Role.TheVariants as role
+use Rattle.flowlabel.specs.ByFile as role
 use Rattle.flowlabel.specs.Opening.{CanOpen, CannotOpenFirst}
 use Rattle.flowlabel.specs.Request.{names_of}
 use Rattle.flowlabel.proofs.EndLemmas.{before_certificate, before_flows, opens}

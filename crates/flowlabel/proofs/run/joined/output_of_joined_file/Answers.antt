@@ -20,7 +20,7 @@ use Rattle.pmap_text.specs.Reading.{list_reading, map_reading}
 use Rattle.pmap_print.specs.Reports.{groups_text, info_text, label_fields, row_fields, title_line}
 use Rattle.pmap_print.specs.Table.{Line, table_text}
 use Rattle.flowlabel.specs.ByFile.{ByFile, with_at}
-use Rattle.flowlabel.specs.declared.by_file.Role.TheVariants as role
+use Rattle.flowlabel.specs.ByFile as role
 use Rattle.flowlabel.specs.declared.bytes_fault.BytesFault.TheVariants.{Map as InMap, List as InList, Flows as InFlows}
 use Rattle.flowlabel.specs.declared.command.Command.TheVariants.{Cat, Check, Info, Label, Recert, Rows, Shrink, Uniq}
 use Rattle.flowlabel.specs.declared.command.LabelFile.{LabelFile}

@@ -1,16 +1,25 @@
-use Rattle.std.proofs.Common.{◌≡◌, [], refl, true}
-use Rattle.flow_io.specs.Devices.{InputView, has_ended}
+use Rattle.std.proofs.Common.{◌≡◌, [], Some, refl, true}
+use Rattle.flow_io.specs.Devices.{has_ended}
 use Rattle.flow_io.proofs.Moving.{gives_none}
-use Rattle.ipfix_read.proofs.Joining.{calls_join_file}
 use Rattle.ipfix_read.specs.declared.progress.State.TheVariants.{Ended}
-use Rattle.ipfix_read.specs.Messages.{ProgressView}
 use Rattle.flowlabel.specs.Run.{view_of}
-use Rattle.flowlabel.proofs.TakenLemmas.{at_end}
+use Rattle.flowlabel.proofs.TakenLemmas.{ends, next_read, with_fault}
 use Rattle.flowlabel.proofs.run.messages.next_message.Goals as goal
 
-pub returns-in-None : goal.returns-in-None
-returns-in-None g c = λ start messages so_far.
-    let old : ProgressView = c.args.progress.now in
-    let now : InputView = view_of g.R.Input.input c.args.flows.now in
-    let ended : has_ended now ≡ true = rw c.in-None.is refl in
-    at_end calls_join_file start messages old (record old { state = Ended }) now now so_far ([], gives_none now, (refl, ended, refl)) so_far.works
+pub returns-in_default : goal.returns-in_default
+returns-in_default g c = λ start messages so_far.
+    let ended : has_ended (view_of g.R.Input.input c.args.flows.now) ≡ true = rw c.in_default.is refl in
+    ends c.calls_join_file.ensures.join g.R.Input.input start messages c.args.progress.now (record c.args.progress.now { state = Ended }) c.args.flows.now c.args.flows.now
+    so_far ([], gives_none _, (refl, ended, refl)) so_far.works
+
+pub returns-in-Ok : goal.returns-in-Ok
+returns-in-Ok g c = λ start messages so_far.
+    let had = rw c.in-Some.is at so_far in
+    next_read c.calls_join_file.ensures.join g.R.Input.input start messages c.args.progress.now c.next.new.self (Some c.in-Some.source) (Some (record c.in-Some.source { reader = c.next.new.reader }))
+    had c.in-Ok.message (c.in-Ok.ensures.going had.going) c.in-Ok.ensures.counted (c.in-Ok.ensures.device had.works) refl
+
+pub returns-in-Err : goal.returns-in-Err
+returns-in-Err g c = λ start messages so_far.
+    let had = rw c.in-Some.is at so_far in
+    with_fault c.calls_join_file.ensures.join g.R.Input.input start messages c.args.progress.now c.next.new.self (Some c.in-Some.source) (Some (record c.in-Some.source { reader = c.next.new.reader }))
+    had c.in-Err.fault c.fault_of.result c.fault_of.ensures (c.in-Err.ensures.going had.going) (c.in-Err.ensures.device had.works)

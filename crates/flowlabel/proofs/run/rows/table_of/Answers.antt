@@ -5,22 +5,22 @@ use Rattle.label_lookup.specs.Labelling.{Labelling}
 use Rattle.pmap_print.specs.Reports.{column_count, title_line}
 use Rattle.pmap_print.specs.Table.{IsTable, Line}
 use Rattle.flowlabel.specs.Reports.{HasRows, labelling_found}
-use Rattle.flowlabel.specs.Run.{view_of}
+use Rattle.flow_io.proofs.Moving.{gives_none}
 use Rattle.flowlabel.proofs.RowLemmas.{is_some-found, no_rows, rows_more}
-use Rattle.flowlabel.proofs.TakenLemmas.{fault_next, fewer_left, no_memory, no_memory_then, none_so_far, one_more}
+use Rattle.flowlabel.proofs.TakenLemmas.{at_end, fault_next, fewer_left, no_memory, no_memory_then, none_so_far, one_more}
 use Rattle.flowlabel.proofs.run.rows.table_of.Goals as goal
 
 pub returns-in_err-buffer : goal.returns-in_err-buffer
 returns-in_err-buffer g c =
-    no_memory (λ messages. HasRows c.args.filter.now c.args.columns (labelling_found c.args.labels) (rows_of_messages messages))
-    (view_of g.R.Input.input c.args.flows.now) c.from_residual-in_err-buffer.result c.requires c.from_residual-in_err-buffer.ensures.1
+    no_memory g.R.Input.input (λ messages. HasRows c.args.filter.now c.args.columns (labelling_found c.args.labels) (rows_of_messages messages))
+    c.args.flows.now c.args.flows.now c.from_residual-in_err-buffer.result ([], gives_none _, tt) c.requires.1 c.from_residual-in_err-buffer.ensures.1
 
 pub loop-progress-init : goal.loop-progress-init
 loop-progress-init g c =
     let labels : Option Labelling = labelling_found c.args.labels in
     record {
       messages = [];
-      so_far = none_so_far (view_of g.R.Input.input c.args.flows.now) c.new-progress.result c.new-progress.ensures c.requires;
+      so_far = none_so_far g.R.Input.input c.args.flows.now c.new-progress.result c.new-progress.ensures c.requires;
       is = record {
         padded = c.in_ok-table.ensures.columns;
         lines =
@@ -32,24 +32,24 @@ loop-progress-init g c =
 
 pub returns-in_err-message : goal.returns-in_err-message
 returns-in_err-message g c =
-    fault_next c.loop-progress.invariant (view_of g.R.Input.input c.next_message.new.flows) c.in_err-message.field-0.0 c.from_residual-in_err-message.result
+    fault_next c.loop-progress.invariant c.next_message.new.flows c.in_err-message.field-0.0 c.from_residual-in_err-message.result
     c.from_residual-in_err-message.ensures.1 (c.in_err-message.ensures _ _ c.loop-progress.invariant.so_far)
 
 pub returns-in_err-add_rows : goal.returns-in_err-add_rows
 returns-in_err-add_rows g c =
-    no_memory_then c.loop-progress.invariant c.in-Some.message c.next_message.new.progress (view_of g.R.Input.input c.next_message.new.flows)
+    no_memory_then c.loop-progress.invariant c.in-Some.message c.next_message.new.progress c.next_message.new.flows
     (rw c.in-Some.is at (c.in_ok-message.ensures _ _ c.loop-progress.invariant.so_far))
     c.from_residual-in_err-add_rows.result c.from_residual-in_err-add_rows.ensures.1
 
 pub loop-progress-smaller : goal.loop-progress-smaller
 loop-progress-smaller g c =
-    fewer_left c.loop-progress.invariant c.in-Some.message c.next_message.new.progress (view_of g.R.Input.input c.next_message.new.flows)
+    fewer_left c.loop-progress.invariant c.in-Some.message c.next_message.new.progress c.next_message.new.flows
     (rw c.in-Some.is at (c.in_ok-message.ensures _ _ c.loop-progress.invariant.so_far))
 
 pub loop-progress-preserved : goal.loop-progress-preserved
 loop-progress-preserved g c =
     let had = c.loop-progress.invariant in
-    one_more c.loop-progress.invariant c.in-Some.message c.next_message.new.progress (view_of g.R.Input.input c.next_message.new.flows)
+    one_more c.loop-progress.invariant c.in-Some.message c.next_message.new.progress c.next_message.new.flows
     (rw c.in-Some.is at (c.in_ok-message.ensures _ _ c.loop-progress.invariant.so_far))
     c.add_rows.new.table
     (subst (λ (rows : List RowView). HasRows c.args.filter.now c.args.columns (labelling_found c.args.labels) rows c.add_rows.new.table)
@@ -57,4 +57,4 @@ loop-progress-preserved g c =
 
 pub returns : goal.returns
 returns g c =
-    let had = c.loop-progress.invariant in (had.messages, rw c.in_default.is at (c.in_ok-message.ensures _ _ had.so_far), had.is)
+    at_end c.loop-progress.invariant c.next_message.new.flows (rw c.in_default.is at (c.in_ok-message.ensures _ _ c.loop-progress.invariant.so_far))

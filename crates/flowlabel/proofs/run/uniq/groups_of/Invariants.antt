@@ -3,14 +3,13 @@ use Rattle.std.proofs.Common.{◌≤◌, ◌*◌, ◌-◌}
 use Rattle.flow_rows.specs.Counts.{rows_of_messages}
 use Rattle.flow_uniq.specs.Groups.{record_count}
 use Rattle.flowlabel.specs.Reports.{HasGroups, labelling_found}
-use Rattle.flowlabel.specs.Run.{view_of}
 use Rattle.flowlabel.proofs.TakenLemmas.{AreReadInto}
 use Rattle.flowlabel.proofs.run.uniq.groups_of.Given as goal
 
 abbrev pub invariant-loop-progress : goal.invariant-loop-progress
 invariant-loop-progress g l = record {
-  read : AreReadInto (λ messages. HasGroups l.grouping.keys.now l.grouping.filter.now (labelling_found l.labels) (rows_of_messages messages))
-      (view_of g.R.Input.input l.initial.flows) l.progress (view_of g.R.Input.input l.flows) l.groups;
+  read : AreReadInto g.R.Input.input (λ messages. HasGroups l.grouping.keys.now l.grouping.filter.now (labelling_found l.labels) (rows_of_messages messages))
+      l.initial.flows l.progress l.flows l.groups;
   few : record_count l.groups.groups ≤ 131070 * l.progress.count;
 }
 

@@ -1,4 +1,4 @@
-use Rattle.std.proofs.Common.{◌≡◌, ◌∙◌, Option, ap}
+use Rattle.std.proofs.Common.{◌≡◌, ◌∙◌, Option, ap, arith}
 use Rattle.flow_uniq.specs.Groups.{shown_groups}
 use Rattle.label_lookup.specs.Labelling.{Labelling}
 use Rattle.pmap_print.specs.Reports.{groups_text}
@@ -17,20 +17,21 @@ returns-in_err-read g c flows =
 
 pub returns-in_err-groups : goal.returns-in_err-groups
 returns-in_err-groups g c flows =
-    report_fault g.R.Input.input (report_of_groups c.args.grouping.keys.now c.args.grouping.filter.now c.args.grouping.sorted c.args.grouping.columns) c.in_ok-read.ensures c.requires.unread c.groups_of.new.flows
-    c.in_err-groups.field-0.0 c.from_residual-in_err-groups.result c.from_residual-in_err-groups.ensures.1 c.in_err-groups.ensures
+    report_fault (report_of_groups c.args.grouping.keys.now c.args.grouping.filter.now c.args.grouping.sorted c.args.grouping.columns) c.in_ok-read.ensures.0 (omega arith) c.groups_of.new.flows c.args.labels (labelling_read c.in_ok-read.read) c.in_ok-read.ensures.1
+    c.from_residual-in_err-groups.result c.in_err-groups.field-0.0 c.from_residual-in_err-groups.ensures.1 c.in_err-groups.ensures
 
 pub returns-in_err-print_groups : goal.returns-in_err-print_groups
 returns-in_err-print_groups g c flows =
-    report_memory g.R.Input.input (report_of_groups c.args.grouping.keys.now c.args.grouping.filter.now c.args.grouping.sorted c.args.grouping.columns) c.in_ok-read.ensures c.requires.unread c.groups_of.new.flows
-    c.in_ok-groups.ensures.0 c.from_residual-in_err-print_groups.result c.from_residual-in_err-print_groups.ensures.1 c.in_ok-groups.ensures.1
+    report_memory (report_of_groups c.args.grouping.keys.now c.args.grouping.filter.now c.args.grouping.sorted c.args.grouping.columns) c.in_ok-read.ensures.0 (omega arith) c.groups_of.new.flows c.args.labels (labelling_read c.in_ok-read.read) c.in_ok-read.ensures.1
+    _ c.in_ok-groups.ensures c.from_residual-in_err-print_groups.result c.from_residual-in_err-print_groups.ensures.1
 
 pub returns : goal.returns
 returns g c flows =
     let labels : Option Labelling = labelling_read c.in_ok-read.read in
     let found : Option Labelling = labelling_found c.as_ref.result in
     let is : found ≡ labels = found_is c.as_ref.result c.in_ok-index.index labels c.as_ref.ensures.value c.in_ok-index.ensures in
-    let (messages, read, has) = c.in_ok-groups.ensures in
-    report_done g.R.Input.input (report_of_groups c.args.grouping.keys.now c.args.grouping.filter.now c.args.grouping.sorted c.args.grouping.columns) c.in_ok-read.ensures c.requires.unread c.groups_of.new.flows messages c.in_ok-print_groups.field-0 read
-    (c.in_ok-print_groups.ensures ∙ (λ j. groups_text (has.fields j) (shown_groups c.args.grouping.sorted (has.groups j)) c.args.grouping.columns)
+    report_done (report_of_groups c.args.grouping.keys.now c.args.grouping.filter.now c.args.grouping.sorted c.args.grouping.columns) c.in_ok-read.ensures.0 (omega arith) c.groups_of.new.flows c.args.labels labels c.in_ok-read.ensures.1
+    _ c.in_ok-groups.ensures c.in_ok-print_groups.field-0
+    (λ messages has.
+    c.in_ok-print_groups.ensures ∙ (λ j. groups_text (has.fields j) (shown_groups c.args.grouping.sorted (has.groups j)) c.args.grouping.columns)
     ∙ ap (λ (l : Option Labelling). report_of_groups c.args.grouping.keys.now c.args.grouping.filter.now c.args.grouping.sorted c.args.grouping.columns l messages) is)
