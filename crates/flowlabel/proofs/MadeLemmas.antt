@@ -136,9 +136,6 @@ module _ {R : Type 0} (input : R → InputView) (old new : Option (Source R)) {V
         → IsRead input is Bad (λ _. ⊤) old new (Err made)
     whole_is_bad fault made is holds = (whole.0, whole_has fault made is holds)
 
-    pub whole_no_memory : (result : Result V RunFault) → IsErrAnd result (λ fault. fault ≡ NoMemory) → IsRead input is Bad (λ _. ⊤) old new result
-    whole_no_memory result same = handed_on (IsRead input is Bad (λ _. ⊤) old new) result NoMemory same (whole.0, whole.1)
-
 module _ {R : Type 0} (input : R → InputView) where
   read_more : {a b c : Readers R} → AreReadOn input a b → AreReadOn input b c → AreReadOn input a c
   read_more first second r = let (front, returns, _) = first r in let (more, returns', _) = second r in (front ++ more, gives_more returns returns', tt)

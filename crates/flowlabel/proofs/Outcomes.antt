@@ -4,7 +4,7 @@ use Rattle.std.specs.Option.{option_map_or}
 use Rattle.cert_check.specs.declared.fault.CheckFault.{CheckFault}
 use Rattle.pmap_text.specs.ListModel.{ListModel}
 use Rattle.pmap_text.specs.MapModel.{MapModel}
-use Rattle.pmap_text.specs.Reading.{list_reading, map_reading}
+use Rattle.pmap_text.specs.Reading.{list_reading}
 use Rattle.pmap_cert.specs.Acceptance.{IsMinimalPair}
 use Rattle.pmap_cert.specs.CertificateText.{certificate_text}
 use Rattle.pmap_cert.specs.CertificateModel.{CertificateModel}
@@ -21,12 +21,9 @@ use Rattle.pmap_print.specs.Reports.{groups_text}
 use Rattle.pmap_text.specs.RunsText.{IsRunsText}
 use Rattle.pmap_print.specs.Table.{table_text}
 use Rattle.label_lookup.specs.Labelling.{Labelling, label_where}
-use Rattle.flowlabel.specs.declared.bytes_fault.BytesFault.TheVariants.{Map as InMap, List as InList, Flows as InFlows, Certificate as InCertificate, Check as InCheck}
+use Rattle.flowlabel.specs.declared.bytes_fault.BytesFault.TheVariants.{List as InList, Flows as InFlows, Certificate as InCertificate, Check as InCheck}
 use Rattle.flowlabel.specs.Output.{Outcome, Prints, Then, labelled_row_lines, minimal_text, shrunk_text}
 use Rattle.flowlabel.specs.Request.{Shrunk, Text}
-
-abbrev pub MapThen : (MapModel → Outcome → Type 0) → List ℕ → Outcome → Type 0
-MapThen rest text = Then InMap rest (map_reading text)
 
 abbrev pub ListThen : (ListModel → Outcome → Type 0) → List ℕ → Outcome → Type 0
 ListThen rest text = Then InList rest (list_reading text)

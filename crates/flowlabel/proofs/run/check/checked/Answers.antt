@@ -1,4 +1,4 @@
-use Rattle.std.proofs.Common.{◌≡◌, ℕ, Err, Ok, ap, length, rules, subst, true}
+use Rattle.std.proofs.Common.{◌≡◌, ℕ, Err, Ok, ap, length, rules, true}
 use Rattle.std.specs.Global.{Vec}
 use Rattle.pmap_text.specs.MapText.{map_of}
 use Rattle.pmap_text.specs.PrefixList.{list_of}

@@ -1,4 +1,4 @@
-use Rattle.std.proofs.Common.{◌≡◌, ◌∙◌, ◌≤◌, ℕ, None, Ok, Option, Result, Some, Err, ap, arith, length, refl, subst, sym}
+use Rattle.std.proofs.Common.{◌≡◌, ◌∙◌, ◌≤◌, ℕ, None, Ok, Option, Result, Some, Err, ap, arith, length, subst, sym}
 use Rattle.std.specs.Global.{Vec}
 use Rattle.flow_io.specs.Devices.{InputView}
 use Rattle.pmap_text.specs.ListModel.{ListModel}

@@ -1,4 +1,4 @@
-use Rattle.std.proofs.Common.{◌≡◌, ◌∙◌, List, Option, ap, arith, is_some}
+use Rattle.std.proofs.Common.{◌≡◌, ◌∙◌, Option, ap, arith, is_some}
 use Rattle.label_lookup.specs.Labelling.{Labelling}
 use Rattle.pmap_print.specs.Reports.{column_count}
 use Rattle.pmap_print.specs.Table.{table_text}
