@@ -318,9 +318,9 @@ are_reported input old new unread read role text is =
     reports now text bytes now.left refl (subst (λ o. Consumes o now.left bytes) is gives.left) (all_read (unread role) gives)
 
 -- a run ends with the fault of its command
-pub run_fault : {R W : Type 0} (input : R → InputView) (output : W → OutputView) (command : Command) (old new : Readers R) (writer : W) (fault : RunFault)
-    → IsFaultOf input (IsOutput command) old new fault → EndsAs input output command old new writer writer (Err fault)
-run_fault input output command old new writer NoMemory is = (is, refl)
-run_fault input output command old new writer (CannotRead file) is = (is, refl)
-run_fault input output command old new writer (File file fault) is = (is, refl)
-run_fault input output command old new writer fault is = absurd is
+pub run_fault : {R W : Type 0} (input : R → InputView) (output : W → OutputView) (command : Command) (old new : Readers R) (writer writer' : W) (fault : RunFault)
+    → IsFaultOf input (IsOutput command) old new fault → writer' ≡ writer → EndsAs input output command old new writer writer' (Err fault)
+run_fault input output command old new writer writer' NoMemory is same = (is, same)
+run_fault input output command old new writer writer' (CannotRead file) is same = (is, same)
+run_fault input output command old new writer writer' (File file fault) is same = (is, same)
+run_fault input output command old new writer writer' fault is same = absurd is

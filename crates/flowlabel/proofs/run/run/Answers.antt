@@ -1,4 +1,4 @@
-use Rattle.std.proofs.Common.{List, ℕ, subst}
+use Rattle.std.proofs.Common.{List, ℕ, rules, subst}
 use Rattle.flow_io.specs.Devices.{StopsWriting, WritesWhole}
 use Rattle.flowlabel.specs.Run.{IsRunOf}
 use Rattle.flowlabel.proofs.MadeLemmas.{are_fresh, are_reported, handed_on, run_fault}
@@ -9,9 +9,9 @@ output-requires g c = are_fresh g.R.Input.input c.args.inputs.now.files c.requir
 
 pub returns-in_err-out : goal.returns-in_err-out
 returns-in_err-out g c =
-    handed_on (IsRunOf g.R.Input.input g.W.Output.output c.args.command.now c.args.inputs.now.files c.output.new.files c.args.writer.now c.args.writer.now)
+    handed_on (IsRunOf g.R.Input.input g.W.Output.output c.args.command.now c.args.inputs.now.files c.output.new.files c.args.writer.now _)
     c.from_residual.result c.in_err-out.field-0.0 c.from_residual.ensures.1 (record {
-      ends = run_fault g.R.Input.input g.W.Output.output c.args.command.now c.args.inputs.now.files c.output.new.files c.args.writer.now c.in_err-out.field-0.0 c.in_err-out.ensures.made;
+      ends = run_fault g.R.Input.input g.W.Output.output c.args.command.now c.args.inputs.now.files c.output.new.files c.args.writer.now _ c.in_err-out.field-0.0 c.in_err-out.ensures.made (search rules);
       reported = are_reported g.R.Input.input c.args.inputs.now.files c.output.new.files c.requires.unread c.in_err-out.ensures.read;
     })
 
