@@ -74,7 +74,7 @@ class Claim(NamedTuple):
 
 
 def filling(values):
-    """Returns what makes a function of values one of those that are None here, of which the others are given."""
+    """Returns what makes a function of values a function of those in whose place `values` has None."""
     def filled(part):
         def call(*found):
             left = iter(found)

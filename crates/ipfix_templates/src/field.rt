@@ -3,8 +3,8 @@ ghost use Rattle.ipfix_templates.specs.Field.{is_variable};
 
 use std::marker::Model;
 
-/// The length in a field specifier that means a variable length (RFC 7011 section 7).
-pub const VARIABLE_LENGTH: u16 = 65535;
+// The length in a field specifier that means a variable length (RFC 7011 section 7).
+const VARIABLE_LENGTH: u16 = 65535;
 
 /// A field specifier (RFC 7011 section 3.2). The number of its information element is below 32,768.
 #[derive(Clone, Copy)]
@@ -13,7 +13,7 @@ pub struct Field {
     pub enterprise: Option<u32>,
     /// The number of the information element, without the enterprise bit.
     pub number: u16,
-    /// The length of each value in bytes, or `VARIABLE_LENGTH`.
+    /// The length of each value in bytes, or 65,535 for a variable length.
     pub length: u16,
 }
 

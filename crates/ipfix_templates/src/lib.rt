@@ -37,7 +37,7 @@ mod template;
 
 pub use event::{TemplateEvent, TemplateEvents};
 pub use fault::{TemplateFault, TemplateFaultKind};
-pub use field::{Field, VARIABLE_LENGTH};
+pub use field::Field;
 pub use fields::Fields;
 pub use items::Items;
 pub use kind::Kind;

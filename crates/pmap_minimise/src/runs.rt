@@ -5,7 +5,7 @@ ghost use Rattle.pmap_text.specs.Windows.{IsWindow};
 ghost use Rattle.pmap_minimise.specs.Runs.{HasLabel, IsCounted, IsRunTo, IsStepInto, IsStop, own_label};
 
 use pmap_text::{LabelId, Stretches, Window};
-use prefix_keys::{Addr, Block};
+use prefix_keys::{Addr, block_of};
 
 /// Returns the label of a block in one stretch, or `None` if the block has addresses of two stretches or more.
 #[inline(always)]
@@ -88,7 +88,7 @@ pub fn run_end(stretches: &Stretches, window: &Window, side: LabelId) -> Window
     let high = window.last.min(stretches.last(to));
     let version = stretches.version();
     let len = version.width() - (128 - (low ^ high).leading_zeros());
-    let block = Block::covering(
+    let block = block_of(
         Addr {
             version,
             value: low,

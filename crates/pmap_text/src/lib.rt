@@ -42,7 +42,7 @@ mod stretches;
 pub use entries::Entries;
 pub use entry::Entry;
 pub use fault::{MapFault, MapFaultKind};
-pub use hashing::{KeyHasher, KeyHashing};
+pub use hashing::KeyHashing;
 pub use label::{LabelId, is_label};
 pub use labels::Labels;
 pub use laws::{
@@ -53,11 +53,9 @@ pub use laws::{
 pub use map_text::MapText;
 pub use name::Name;
 pub use order::{in_order, sorted_or};
-pub use packed_list::{Packable, PackedList};
 pub use prefix_list::PrefixList;
 pub use reading::form::Form;
 pub use reading::texts::{read_list, read_list_with_hashing, read_map, read_map_with_hashing};
-pub use reading::{LABEL_LIMIT, MAPPING_LIMIT};
 pub use runs::Runs;
 pub use statement::Statement;
 pub use statements::Statements;

@@ -31,27 +31,27 @@ fn host_mask(version: Version, len: u32) -> u128
     }
 }
 
+/// Returns the block of length `len` that covers `addr`: its first `len` bits, with the host bits cleared.
+#[inline(always)]
+pub fn block_of(addr: Addr, len: u32) -> Block
+    requires { len ≤ width_of addr.version }
+    ensures version { result.version ≡ addr.version }
+    ensures len { result.len ≡ len }
+    ensures covering { let W = width_of addr.version in
+        block_number W len result.value ≡ block_number W len addr.value }
+    ensures first { let W = width_of addr.version in
+        result.value ≡ first_of W len (block_number W len addr.value) }
+{
+    let host = addr.value & host_mask(addr.version, len);
+    Block {
+        version: addr.version,
+        value: addr.value - host,
+        len,
+    }
+}
+
 impl Block {
     ghost use Rattle.prefix_keys.specs.Covers.{BlockCovers};
-
-    /// Returns the block of length `len` that covers `addr`: its first `len` bits, with the host bits cleared.
-    #[inline(always)]
-    pub fn covering(addr: Addr, len: u32) -> Block
-        requires { len ≤ width_of addr.version }
-        ensures version { result.version ≡ addr.version }
-        ensures len { result.len ≡ len }
-        ensures covering { let W = width_of addr.version in
-            block_number W len result.value ≡ block_number W len addr.value }
-        ensures first { let W = width_of addr.version in
-            result.value ≡ first_of W len (block_number W len addr.value) }
-    {
-        let host = addr.value & host_mask(addr.version, len);
-        Block {
-            version: addr.version,
-            value: addr.value - host,
-            len,
-        }
-    }
 
     /// Returns the block of length 0, which covers every address of the version.
     pub fn whole(version: Version) -> Block
@@ -79,7 +79,7 @@ impl Block {
         if len > version.width() {
             return None;
         }
-        let block = Block::covering(addr, len);
+        let block = block_of(addr, len);
         if block.value == value {
             Some(block)
         } else {

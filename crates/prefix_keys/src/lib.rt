@@ -29,7 +29,7 @@ mod text;
 mod version;
 
 pub use addr::Addr;
-pub use block::Block;
+pub use block::{Block, block_of};
 pub use conversion::{MAPPED_PREFIX, convert};
 pub use cutting::{cut, find_byte};
 pub use decimal::{are_digits, read_decimal};

@@ -6,7 +6,7 @@ mod colon;
 mod dotted;
 
 use crate::addr::Addr;
-use crate::block::Block;
+use crate::block::{Block, block_of};
 use crate::cutting::cut;
 use crate::decimal::read_decimal;
 pub use crate::text::colon::leading_colon;
@@ -68,5 +68,5 @@ pub fn read_block(text: &[u8]) -> Result<Block, BlockFault>
     let Some(len) = read_decimal(back, 3, u64::from(addr.version.width())) else {
         return Err(BlockFault::BadLength);
     };
-    Ok(Block::covering(addr, len as u32))
+    Ok(block_of(addr, len as u32))
 }

@@ -4,7 +4,7 @@ ghost use Rattle.prefix_keys.specs.Block.{width_of};
 ghost use Rattle.pmap_text.specs.Reading.{number_in};
 
 use crate::fault::MapFaultKind;
-use prefix_keys::{Addr, Block, Version, convert};
+use prefix_keys::{Addr, Block, Version, block_of, convert};
 
 /// Returns an address as one of a text of this version. In an IPv6 text a dotted address represents its IPv4-mapped
 /// address in `::ffff:0:0/96`, and an IPv4 text has no colon addresses.
@@ -31,5 +31,5 @@ pub fn block_in(version: Version, block: Block) -> Result<Block, MapFaultKind>
     }
     let low = addr_in(version, block.low())?;
     let len = block.len + (version.width() - block.version.width());
-    Ok(Block::covering(low, len))
+    Ok(block_of(low, len))
 }

@@ -8,7 +8,7 @@ ghost use Rattle.pmap_text.specs.Reading.{after_word, first_word, trim_start};
 
 use crate::label::is_blank;
 use crate::reading::lines::without_leading_blanks;
-use prefix_keys::{Addr, Block, Version, leading_colon};
+use prefix_keys::{Addr, Block, Version, block_of, leading_colon};
 
 /// The possible first word of a line.
 #[derive(Clone, Copy)]
@@ -114,7 +114,7 @@ pub fn leading_word(text: &[u8]) -> Option<(Word, &[u8])>
     match after_byte(rest, b'/') {
         Some(length) => {
             let (len, rest) = leading_number(length, addr.version.width())?;
-            Some((Word::Block(Block::covering(addr, len)), after_blanks(rest)?))
+            Some((Word::Block(block_of(addr, len)), after_blanks(rest)?))
         }
         None => Some((Word::Address(addr), after_blanks(rest)?)),
     }

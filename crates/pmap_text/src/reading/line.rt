@@ -16,7 +16,7 @@ use crate::reading::in_version::{addr_in, block_in};
 use crate::reading::leading::{Word, leading_word};
 use crate::reading::lines::split_word;
 use crate::reading::{MAPPING_LIMIT, Reading, known_number, number_for};
-use prefix_keys::{Addr, Block, BlockFault, Span, Version, are_digits, read_addr, read_block};
+use prefix_keys::{Addr, Block, BlockFault, Span, Version, are_digits, block_of, read_addr, read_block};
 
 // Checks that the rest of a line is a label.
 fn check_label(rest: &[u8]) -> Result<(), MapFaultKind>
@@ -252,7 +252,7 @@ impl Reading {
         match word_address(word) {
             Ok(second) => self.read_range(form, first, second, after),
             Err(_) => {
-                let block = Block::covering(first, first.version.width());
+                let block = block_of(first, first.version.width());
                 self.read_after_block(form, block, rest)
             }
         }

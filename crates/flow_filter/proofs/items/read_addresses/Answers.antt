@@ -12,11 +12,11 @@ returns c = λ address.
       | then-contains+in_ok-block w ↦ grind arith
       | else-contains+in_ok-addr w ↦
           let address = w.in_ok-addr.addr in
-          let one = w.covering-block.result in
+          let one = w.block_of-block.result in
           grind (
             arith,
             whole_block address.version one.version address.value one.value one.len w.width.result
-                w.covering-block.ensures.version w.covering-block.ensures.len w.width.ensures w.covering-block.ensures.first,
+                w.block_of-block.ensures.version w.block_of-block.ensures.len w.width.ensures w.block_of-block.ensures.first,
           )
     ] in
     rw (← read)

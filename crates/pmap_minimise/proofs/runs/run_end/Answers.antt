@@ -7,8 +7,8 @@ use Rattle.pmap_minimise.proofs.RunEnds.{block-last, direct-end, trimmed}
 use Rattle.pmap_minimise.proofs.runs.run_end.Goals as goal
 use Rattle.pmap_minimise.proofs.runs.run_end.Goals.{then-first-low, else-first-low}
 
-pub invariant_of-covering : goal.invariant_of-covering
-invariant_of-covering c =
+pub invariant_of-block_of : goal.invariant_of-block_of
+invariant_of-block_of c =
     let s = c.args.stretches.now in
     let a = c.args.window.now in
     let is = c.requires.counted in
@@ -41,12 +41,12 @@ returns-then-last-high c =
     let width : c.width.result ≡ width_of s.version = c.width.ensures ∙ ap width_of c.version-version.ensures in
     let host : ℕ = 128 - count_leading_zeros 128 (bit_xor c.max-low.result c.min-high.result) in
     let v = c.version-version.ensures in
-    let block = c.covering-block.ensures in
+    let block = c.block_of-block.ensures in
     let len : ℕ = c.width.result - host in
     direct-end s c.args.side.0 a is c.max-low.result c.min-high.result (a.from + c.from.result) (a.to - c.from-2.result) host inner.inside inner.shared _
-    (ap (λ (w : ℕ). w - host) width) (subst (λ (v : Version). c.covering-block.result.value ≡ first_of (width_of v) len (block_number (width_of v) len c.max-low.result)) v block.first)
-    (block-last s.version c.covering-block.result len c.max-low.result c.high.result.value (block.version ∙ v) block.len
-    (subst (λ (v : Version). block_number (width_of v) len c.covering-block.result.value ≡ block_number (width_of v) len c.max-low.result) v block.covering) c.high.ensures.last)
+    (ap (λ (w : ℕ). w - host) width) (subst (λ (v : Version). c.block_of-block.result.value ≡ first_of (width_of v) len (block_number (width_of v) len c.max-low.result)) v block.first)
+    (block-last s.version c.block_of-block.result len c.max-low.result c.high.result.value (block.version ∙ v) block.len
+    (subst (λ (v : Version). block_number (width_of v) len c.block_of-block.result.value ≡ block_number (width_of v) len c.max-low.result) v block.covering) c.high.ensures.last)
     (elim c.if-first-low.branch [
       | then-first-low w ↦ inl (w.if-first-low.true, w.from-is)
       | else-first-low w ↦ inr (w.if-first-low.false, w.from-is)
@@ -64,12 +64,12 @@ returns-else-last-high c =
     let width : c.width.result ≡ width_of s.version = c.width.ensures ∙ ap width_of c.version-version.ensures in
     let host : ℕ = 128 - count_leading_zeros 128 (bit_xor c.max-low.result c.min-high.result) in
     let v = c.version-version.ensures in
-    let block = c.covering-block.ensures in
+    let block = c.block_of-block.ensures in
     let len : ℕ = c.width.result - host in
     direct-end s c.args.side.0 a is c.max-low.result c.min-high.result (a.from + c.from.result) (a.to - c.from-2.result) host inner.inside inner.shared _
-    (ap (λ (w : ℕ). w - host) width) (subst (λ (v : Version). c.covering-block.result.value ≡ first_of (width_of v) len (block_number (width_of v) len c.max-low.result)) v block.first)
-    (block-last s.version c.covering-block.result len c.max-low.result c.high.result.value (block.version ∙ v) block.len
-    (subst (λ (v : Version). block_number (width_of v) len c.covering-block.result.value ≡ block_number (width_of v) len c.max-low.result) v block.covering) c.high.ensures.last)
+    (ap (λ (w : ℕ). w - host) width) (subst (λ (v : Version). c.block_of-block.result.value ≡ first_of (width_of v) len (block_number (width_of v) len c.max-low.result)) v block.first)
+    (block-last s.version c.block_of-block.result len c.max-low.result c.high.result.value (block.version ∙ v) block.len
+    (subst (λ (v : Version). block_number (width_of v) len c.block_of-block.result.value ≡ block_number (width_of v) len c.max-low.result) v block.covering) c.high.ensures.last)
     (elim c.if-first-low.branch [
       | then-first-low w ↦ inl (w.if-first-low.true, w.from-is)
       | else-first-low w ↦ inr (w.if-first-low.false, w.from-is)

@@ -12,8 +12,8 @@ pub returns-in-Err : goal.returns-in-Err
 returns-in-Err c =
     let first = c.args.first in
     let W : ℕ = width_of first.version in
-    let to = c.covering-block.ensures in
-    let value : c.covering-block.result.value ≡ first.value =
+    let to = c.block_of-block.ensures in
+    let value : c.block_of-block.result.value ≡ first.value =
     to.first ∙ (λ i. first_of W (c.width.ensures i) (block_number W (c.width.ensures i) first.value)) ∙ first_of-full W first.value in
     rw (← c.split_word.ensures.word, c.in-Err.ensures.none)
     (rw (to.version, value, to.len, c.width.ensures) at c.read_after_block.ensures)

@@ -13,6 +13,6 @@ returns-clause-ok c =
     let begins = first_of-placed c.args.version block.version block.value block.len c.in_ok-low.low.value block.len_in_range block.no_host_bit number in
     let len : block.len + (c.width.result - c.width-2.result) ≡ block.len + (width_of c.args.version - width_of block.version) =
     λ i. block.len + (c.width.ensures i - c.width-2.ensures i) in
-    let placed : c.covering.result.value ≡ c.in_ok-low.low.value =
-    c.covering.ensures.first ∙ (λ i. first_of (width_of (to.version i)) (len i) (block_number (width_of (to.version i)) (len i) c.in_ok-low.low.value)) ∙ begins in
+    let placed : c.block_of.result.value ≡ c.in_ok-low.low.value =
+    c.block_of.ensures.first ∙ (λ i. first_of (width_of (to.version i)) (len i) (block_number (width_of (to.version i)) (len i) c.in_ok-low.low.value)) ∙ begins in
     number ∙ ap (λ (n : ℕ). Ok n) (sym placed)

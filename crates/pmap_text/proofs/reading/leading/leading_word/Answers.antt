@@ -10,8 +10,8 @@ returns-in_ok-after_blanks-in-Some-clause-word c =
     let number : BeginsWith is_digit (decimal_number 3 (width_of c.in_ok-addr.addr.version)) c.in-Some.length.now c.in_ok-len-in-Some.rest.now c.in_ok-len-in-Some.len =
     rw (← c.width.ensures) c.in_ok-len-in-Some.ensures.number in
     (block-word c.args.text.now c.in_ok-addr.rest.now c.in-Some.length.now c.in_ok-len-in-Some.rest.now c.in_ok-addr.addr
-    c.in_ok-len-in-Some.len c.covering.result c.in_ok-addr.ensures c.in-Some.ensures number
-    c.in_ok-after_blanks-in-Some.ensures.0 c.covering.ensures.version c.covering.ensures.len c.covering.ensures.first).0
+    c.in_ok-len-in-Some.len c.block_of.result c.in_ok-addr.ensures c.in-Some.ensures number
+    c.in_ok-after_blanks-in-Some.ensures.0 c.block_of.ensures.version c.block_of.ensures.len c.block_of.ensures.first).0
 
 pub returns-in_ok-after_blanks-in-Some-clause-rest : goal.returns-in_ok-after_blanks-in-Some-clause-rest
 returns-in_ok-after_blanks-in-Some-clause-rest c =
@@ -19,8 +19,8 @@ returns-in_ok-after_blanks-in-Some-clause-rest c =
     rw (← c.width.ensures) c.in_ok-len-in-Some.ensures.number in
     c.in_ok-after_blanks-in-Some.ensures.1
     ∙ sym (block-word c.args.text.now c.in_ok-addr.rest.now c.in-Some.length.now c.in_ok-len-in-Some.rest.now c.in_ok-addr.addr
-    c.in_ok-len-in-Some.len c.covering.result c.in_ok-addr.ensures c.in-Some.ensures number
-    c.in_ok-after_blanks-in-Some.ensures.0 c.covering.ensures.version c.covering.ensures.len c.covering.ensures.first).1
+    c.in_ok-len-in-Some.len c.block_of.result c.in_ok-addr.ensures c.in-Some.ensures number
+    c.in_ok-after_blanks-in-Some.ensures.0 c.block_of.ensures.version c.block_of.ensures.len c.block_of.ensures.first).1
 
 pub returns-in_ok-after_blanks-in-None-clause-word : goal.returns-in_ok-after_blanks-in-None-clause-word
 returns-in_ok-after_blanks-in-None-clause-word c =

@@ -2,7 +2,7 @@ use Rattle.std.proofs.Common.{◌-◌, ◌^◌, arith, ℕ}
 use Rattle.std.proofs.lemmas.Nat.{pow_pos}
 use Rattle.prefix_keys.specs.Block.{width_of}
 use Rattle.prefix_keys.proofs.Quotients.{and_low, cleared, cleared-mod}
-use Rattle.prefix_keys.proofs.block.Block.covering.Goals as goal
+use Rattle.prefix_keys.proofs.block.block_of.Goals as goal
 
 pub invariant_of-result-clause-in_range : goal.invariant_of-result-clause-in_range
 invariant_of-result-clause-in_range c = let h = c.args.addr.in_range in omega arith
