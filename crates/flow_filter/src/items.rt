@@ -10,7 +10,9 @@ ghost use Rattle.flow_filter.specs.Texts.{address_item, number_range};
 use crate::fault::FilterFaultKind;
 use crate::option::FilterOption;
 use crate::ranges::{Range, sort_ranges};
-use prefix_keys::{Addr, MAPPED_PREFIX, Version, block_of, cut, read_addr, read_block, read_decimal};
+use prefix_keys::{
+    Addr, MAPPED_PREFIX, Version, block_of, cut, read_addr, read_block, read_decimal,
+};
 use std::alloc::Global;
 
 // Reads a text `N` or `N-M`, or `N-` if the range may be open: all numbers from N to the limit. The numbers are at most

@@ -38,6 +38,6 @@ pub moved_ahead : (a b n : ℕ) (xs all ys rest : List ℕ) → n ≤ b - a → 
 moved_ahead a b n xs all ys rest most len copied same =
     let parts : b - a ≡ n + (b - (a + n)) = omega (arith, most) in
     let front : take n (drop a xs) ≡ take n (ys ++ rest) =
-        ap (λ l. take n (drop a l)) (sym same) ∙ ap (λ m. take m (drop a all)) (omega arith) ∙ sym copied ∙ sym (take_at ys rest n len) in
+    ap (λ l. take n (drop a l)) (sym same) ∙ ap (λ m. take m (drop a all)) (omega arith) ∙ sym copied ∙ sym (take_at ys rest n len) in
     ap (λ m. take m (drop a xs)) parts ∙ take-add n (b - (a + n)) (drop a xs) ∙ ap (λ l. l ++ take (b - (a + n)) (drop n (drop a xs))) front
     ∙ ap (λ l. take n (ys ++ rest) ++ take (b - (a + n)) l) (drop-drop n a xs)

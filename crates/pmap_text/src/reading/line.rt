@@ -16,7 +16,9 @@ use crate::reading::in_version::{addr_in, block_in};
 use crate::reading::leading::{Word, leading_word};
 use crate::reading::lines::split_word;
 use crate::reading::{MAPPING_LIMIT, Reading, known_number, number_for};
-use prefix_keys::{Addr, Block, BlockFault, Span, Version, are_digits, block_of, read_addr, read_block};
+use prefix_keys::{
+    Addr, Block, BlockFault, Span, Version, are_digits, block_of, read_addr, read_block,
+};
 
 // Checks that the rest of a line is a label.
 fn check_label(rest: &[u8]) -> Result<(), MapFaultKind>

@@ -9,5 +9,5 @@ invariant_of-self-clause-fetched g c =
     let n = c.min-count.result in
     let left : List ℕ = slice_range self.buffer.items (self.start + n) self.end in
     let moved = moved_ahead self.start self.end n self.buffer.items c.deref.result.now c.copy_from_slice.new.self (drop n c.args.buffer.now)
-        (search rules) (search rules) c.copy_from_slice.ensures.after c.deref.ensures.value in
+    (search rules) (search rules) c.copy_from_slice.ensures.after c.deref.ensures.value in
     self.fetched ∙ ap (λ l. self.returned.bytes ++ l) moved ∙ sym (append_assoc self.returned.bytes _ left) ∙ ap (λ l. l ++ left) (sym c.note.ensures)
