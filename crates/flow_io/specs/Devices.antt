@@ -102,3 +102,8 @@ finds_end (Err _) buffer = false
 abbrev pub TakesCount : {E : Type 0} → OutputView → OutputView → Result ℕ E → List ℕ → Type 0
 TakesCount old new (Ok count) slice = Takes old new (take count slice)
 TakesCount old new (Err _) slice = Takes old new []
+
+-- a writer takes one of the texts that a value may have, and is then flushed, or it fails before
+abbrev pub WritesText : {A E : Type 0} → OutputView → OutputView → (List ℕ → Type 0) → Result A E → Type 0
+WritesText old new Is (Ok _) = (text : List ℕ) × Is text × WritesWhole old new text
+WritesText old new Is (Err _) = (text : List ℕ) × Is text × StopsWriting old new text

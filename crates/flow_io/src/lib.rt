@@ -26,18 +26,22 @@
 //! `ReadAhead::new` allocate.
 #![tactic(auto)]
 
+mod buffered;
 mod devices;
 mod laws;
 mod memory;
 mod read_ahead;
 mod record;
+mod sink;
 mod watch;
 mod whole;
 
+pub use buffered::write_printed;
 pub use devices::{DeviceFault, Input, LastCall, Output};
 pub use laws::{readers_show_what_they_note, writers_show_what_they_note};
 pub use memory::{MemoryInput, MemoryOutput};
 pub use read_ahead::ReadAhead;
 pub use record::Record;
+pub use sink::{Printable, Sink, text_of};
 pub use watch::Watched;
 pub use whole::{ReadStop, fill, read_whole, write_whole};

@@ -1,0 +1,195 @@
+//! Writing a text while it is printed.
+ghost use Rattle.std.specs.Prelude.{◌≡◌, ◌++◌, ◌+◌, ◌≤◌, [], List, OnErr, OnOk, false, length, take, ℕ};
+ghost use Rattle.flow_io.specs.Devices.{OutputView, StopsWriting, WritesText, WritesWhole};
+ghost use Rattle.flow_io.specs.Sinks.{HasTaken};
+
+use crate::devices::{DeviceFault, Output};
+use crate::record::Record;
+use crate::sink::{Printable, Sink};
+use std::convert::Infallible;
+
+// The number of bytes that are held back at most.
+const ROOM: usize = 32_768;
+
+/// The bytes that a writer was given, for contracts alone: those that it took, and those that were lost.
+#[derive(Drop)]
+pub struct Given {
+    taken: Record,
+    lost: Record,
+}
+
+// Gives a writer bytes. After a call that failed it isn't called again, and the bytes are lost.
+fn give<W: Output>(writer: &mut W, given: &mut Given, bytes: &[u8])
+    requires { (W.output writer.old).failed ≡ false → given.old.lost.bytes ≡ [] }
+    ensures works { (W.output writer.new).failed ≡ false → given.new.lost.bytes ≡ [] }
+    ensures given { given.new.taken.bytes ++ given.new.lost.bytes ≡ (given.old.taken.bytes ++ given.old.lost.bytes) ++ bytes.now }
+    ensures began { (first : OutputView) → HasTaken first (W.output writer.old) given.old.taken.bytes
+        → HasTaken first (W.output writer.new) given.new.taken.bytes }
+{
+    let mut rest = bytes;
+    while !rest.is_empty() && !writer.failed() {
+        if let Ok(count) = writer.write(rest) {
+            given.taken.note(&rest[..count]);
+            rest = &rest[count..];
+        }
+    }
+    given.lost.note(rest);
+}
+
+// Flushes a writer, if it hasn't failed.
+fn end<W: Output>(writer: &mut W, given: &Given) -> Result<(), DeviceFault>
+    requires { (W.output writer.old).failed ≡ false → given.now.lost.bytes ≡ [] }
+    ensures works { (W.output writer.new).failed ≡ false → given.now.lost.bytes ≡ [] }
+    ensures whole { OnOk result ((first : OutputView) → HasTaken first (W.output writer.old) given.now.taken.bytes
+        → WritesWhole first (W.output writer.new) (given.now.taken.bytes ++ given.now.lost.bytes)) }
+    ensures stopped { OnErr result ((first : OutputView) → HasTaken first (W.output writer.old) given.now.taken.bytes
+        → StopsWriting first (W.output writer.new) (given.now.taken.bytes ++ given.now.lost.bytes)) }
+{
+    if writer.failed() {
+        return Err(DeviceFault);
+    }
+    writer.flush()
+}
+
+/// A writer that is given a text through a buffer. Whether the writer failed is known at the end.
+#[derive(Drop)]
+pub struct Buffered<'w, W: Output> {
+    writer: &'w mut W,
+    given: &'w mut Given,
+    buffer: &'w mut [u8],
+    len: usize,
+    ghost works: { (W.output writer.now).failed ≡ false → given.now.lost.bytes ≡ [] },
+    ghost within: { len ≤ length buffer.now },
+}
+
+impl<'w, W: Output> Buffered<'w, W> {
+    ghost use Rattle.flow_io.specs.Buffers.{HasBegun, sink_of};
+
+    // Puts a buffer before a writer, which isn't called.
+    fn new(writer: &'w mut W, given: &'w mut Given, buffer: &'w mut [u8]) -> Self
+        requires works { (W.output writer.old).failed ≡ false }
+        requires none { (given.old.taken.bytes ≡ []) × (given.old.lost.bytes ≡ []) }
+        ensures same_reference { result.writer.ghost_name ≡ writer.entry.ghost_name }
+        ensures began { HasBegun (W.output writer.old) result }
+        ensures empty { (sink_of result).printed ≡ [] }
+    {
+        Buffered {
+            writer,
+            given,
+            buffer,
+            len: 0,
+        }
+    }
+
+    // Holds bytes, for which there is room.
+    #[inline(always)]
+    fn hold(&mut self, bytes: &[u8], count: usize)
+        requires count { count ≤ length bytes.now }
+        requires room { self.old.len + length bytes.now ≤ length self.old.buffer.now }
+        ensures writer { self.new.writer ≡ self.old.writer }
+        ensures given { self.new.given ≡ self.old.given }
+        ensures held { take self.new.len self.new.buffer.now ≡ take self.old.len self.old.buffer.now ++ take count bytes.now }
+    {
+        let len = self.len;
+        self.buffer[len..len + bytes.len()].copy_from_slice(bytes);
+        self.len = len + count;
+    }
+
+    // Adds bytes after those that are held are given to the writer.
+    #[inline(never)]
+    fn push_after(&mut self, bytes: &[u8])
+        ensures printed { (sink_of self.new).printed ≡ (sink_of self.old).printed ++ bytes.now }
+        ensures same_reference { self.new.writer.ghost_name ≡ self.old.writer.ghost_name }
+        ensures began { (first : OutputView) → HasBegun first self.old → HasBegun first self.new }
+    {
+        give(self.writer, self.given, &self.buffer[..self.len]);
+        self.len = 0;
+        if bytes.len() > self.buffer.len() {
+            give(self.writer, self.given, bytes);
+        } else {
+            self.hold(bytes, bytes.len());
+        }
+    }
+
+    // Gives the writer what is held, and flushes it.
+    fn finish(&mut self) -> Result<(), DeviceFault>
+        ensures same_reference { self.new.writer.ghost_name ≡ self.old.writer.ghost_name }
+        ensures whole { OnOk result ((first : OutputView) → HasBegun first self.old
+            → WritesWhole first (W.output self.new.writer.now) (sink_of self.old).printed) }
+        ensures stopped { OnErr result ((first : OutputView) → HasBegun first self.old
+            → StopsWriting first (W.output self.new.writer.now) (sink_of self.old).printed) }
+    {
+        give(self.writer, self.given, &self.buffer[..self.len]);
+        end(self.writer, self.given)
+    }
+
+    // Prints a value, which can't fail here.
+    fn print<P: Printable>(&mut self, value: &P)
+        requires { P.is_whole value.now }
+        ensures printed { (text : List ℕ) × P.is_text value.now text × ((sink_of self.new).printed ≡ (sink_of self.old).printed ++ text) }
+        ensures same_reference { self.new.writer.ghost_name ≡ self.old.writer.ghost_name }
+        ensures began { (first : OutputView) → HasBegun first self.old → HasBegun first self.new }
+    {
+        match value.print(self) {
+            Ok(()) => {}
+            Err(never) => match never {},
+        }
+    }
+}
+
+impl<W: Output> Sink for Buffered<'_, W> {
+    ghost use Rattle.flow_io.specs.Buffers.{HasBegun, sink_of};
+
+    type Fault = Infallible;
+
+    ghost sink = { sink_of };
+
+    ghost began = { HasBegun };
+
+    #[inline(always)]
+    fn push_start(&mut self, given: &[u8], count: usize) -> Result<(), Infallible> {
+        if given.len() > self.buffer.len() - self.len {
+            self.push_after(&given[..count]);
+        } else {
+            self.hold(given, count);
+        }
+        Ok(())
+    }
+
+    #[inline(always)]
+    fn push(&mut self, bytes: &[u8]) -> Result<(), Infallible> {
+        self.push_start(bytes, bytes.len())
+    }
+}
+
+// Writes through a buffer, of which nothing is used yet.
+fn write_through<P: Printable, W: Output>(
+    writer: &mut W,
+    given: &mut Given,
+    buffer: &mut [u8],
+    value: &P,
+) -> Result<(), DeviceFault>
+    requires works { (W.output writer.old).failed ≡ false }
+    requires none { (given.old.taken.bytes ≡ []) × (given.old.lost.bytes ≡ []) }
+    requires value { P.is_whole value.now }
+    ensures { WritesText (W.output writer.old) (W.output writer.new) (P.is_text value.now) result }
+{
+    let mut out = Buffered::new(writer, given, buffer);
+    out.print(value);
+    out.finish()
+}
+
+/// Writes the text of a value while it is printed, and then flushes the writer once. Nothing is allocated. If a write
+/// fails, the writer has taken a prefix of the text. If the flush fails, the writer has taken all of it.
+pub fn write_printed<P: Printable, W: Output>(writer: &mut W, value: &P) -> Result<(), DeviceFault>
+    requires writer { (W.output writer.old).failed ≡ false }
+    requires value { P.is_whole value.now }
+    ensures { WritesText (W.output writer.old) (W.output writer.new) (P.is_text value.now) result }
+{
+    let mut given = Given {
+        taken: Record::new(),
+        lost: Record::new(),
+    };
+    let mut buffer = [0; ROOM];
+    write_through(writer, &mut given, &mut buffer, value)
+}
