@@ -103,7 +103,11 @@ abbrev pub TakesCount : {E : Type 0} → OutputView → OutputView → Result �
 TakesCount old new (Ok count) slice = Takes old new (take count slice)
 TakesCount old new (Err _) slice = Takes old new []
 
--- a writer takes one of the texts that a value may have, and is then flushed, or it fails before
+-- a writer was to take these bytes and then be flushed, and did or failed, as the result says
+abbrev pub Ends : {A E : Type 0} → OutputView → OutputView → List ℕ → Result A E → Type 0
+Ends old new bytes (Ok _) = WritesWhole old new bytes
+Ends old new bytes (Err _) = StopsWriting old new bytes
+
+-- the same for one of the texts that a value may have
 abbrev pub WritesText : {A E : Type 0} → OutputView → OutputView → (List ℕ → Type 0) → Result A E → Type 0
-WritesText old new Is (Ok _) = (text : List ℕ) × Is text × WritesWhole old new text
-WritesText old new Is (Err _) = (text : List ℕ) × Is text × StopsWriting old new text
+WritesText old new Is result = (text : List ℕ) × Is text × Ends old new text result

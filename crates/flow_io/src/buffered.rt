@@ -1,6 +1,6 @@
 //! Writing a text while it is printed.
-ghost use Rattle.std.specs.Prelude.{◌≡◌, ◌++◌, ◌+◌, ◌≤◌, [], List, OnErr, OnOk, false, length, take, ℕ};
-ghost use Rattle.flow_io.specs.Devices.{OutputView, StopsWriting, WritesText, WritesWhole};
+ghost use Rattle.std.specs.Prelude.{◌≡◌, ◌++◌, ◌+◌, ◌≤◌, [], List, false, length, take, ℕ};
+ghost use Rattle.flow_io.specs.Devices.{Ends, OutputView, WritesText};
 ghost use Rattle.flow_io.specs.Sinks.{HasTaken};
 
 use crate::devices::{DeviceFault, Output};
@@ -40,10 +40,8 @@ fn give<W: Output>(writer: &mut W, given: &mut Given, bytes: &[u8])
 fn end<W: Output>(writer: &mut W, given: &Given) -> Result<(), DeviceFault>
     requires { (W.output writer.old).failed ≡ false → given.now.lost.bytes ≡ [] }
     ensures works { (W.output writer.new).failed ≡ false → given.now.lost.bytes ≡ [] }
-    ensures whole { OnOk result ((first : OutputView) → HasTaken first (W.output writer.old) given.now.taken.bytes
-        → WritesWhole first (W.output writer.new) (given.now.taken.bytes ++ given.now.lost.bytes)) }
-    ensures stopped { OnErr result ((first : OutputView) → HasTaken first (W.output writer.old) given.now.taken.bytes
-        → StopsWriting first (W.output writer.new) (given.now.taken.bytes ++ given.now.lost.bytes)) }
+    ensures ends { (first : OutputView) → HasTaken first (W.output writer.old) given.now.taken.bytes
+        → Ends first (W.output writer.new) (given.now.taken.bytes ++ given.now.lost.bytes) result }
 {
     if writer.failed() {
         return Err(DeviceFault);
@@ -114,12 +112,11 @@ impl<'w, W: Output> Buffered<'w, W> {
     // Gives the writer what is held, and flushes it.
     fn finish(&mut self) -> Result<(), DeviceFault>
         ensures same_reference { self.new.writer.ghost_name ≡ self.old.writer.ghost_name }
-        ensures whole { OnOk result ((first : OutputView) → HasBegun first self.old
-            → WritesWhole first (W.output self.new.writer.now) (sink_of self.old).printed) }
-        ensures stopped { OnErr result ((first : OutputView) → HasBegun first self.old
-            → StopsWriting first (W.output self.new.writer.now) (sink_of self.old).printed) }
+        ensures ends { (first : OutputView) → HasBegun first self.old
+            → Ends first (W.output self.new.writer.now) (sink_of self.old).printed result }
     {
-        give(self.writer, self.given, &self.buffer[..self.len]);
+        let held = &self.buffer[..self.len];
+        give(self.writer, self.given, held);
         end(self.writer, self.given)
     }
 

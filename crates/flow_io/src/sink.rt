@@ -1,5 +1,5 @@
 //! What texts are printed into.
-ghost use Rattle.std.specs.Prelude.{◌≤◌, ⊤, IfOk, List, ℕ, length, take};
+ghost use Rattle.std.specs.Prelude.{◌≡◌, ◌≤◌, ⊤, IfOk, List, ℕ, length, take};
 ghost use Rattle.flow_io.specs.Devices.{OutputView};
 ghost use Rattle.flow_io.specs.Sinks.{Prints, PrintsText, SinkView};
 
@@ -65,5 +65,16 @@ impl Sink for Vec<u8> {
     #[inline(always)]
     fn push(&mut self, bytes: &[u8]) -> Result<(), AllocError> {
         self.extend_from_slice(bytes)
+    }
+}
+
+impl Printable for &[u8] {
+    ghost is_whole = { λ _. ⊤ };
+
+    ghost is_text = { λ bytes text. text ≡ bytes.now };
+
+    #[inline(always)]
+    fn print<S: Sink>(&self, out: &mut S) -> Result<(), S::Fault> {
+        out.push(self)
     }
 }
