@@ -22,7 +22,10 @@
 //!
 //! `Watched` wraps any reader or writer of std, and notes the bytes in a `Record`, which takes no memory. `ReadAhead`
 //! wraps an `Input`, and asks it for 64 KB at a time. `MemoryInput` and `MemoryOutput` are for tests. `read_whole` and
-//! `write_whole` move all bytes, `fill` fills a slice, and they return a fault if and only if their reader or writer failed. Only `read_whole` and
+//! `write_whole` move all bytes, `fill` fills a slice, and they return a fault if and only if their reader or writer failed.
+//!
+//! A `Printable` value prints its text into any `Sink`: into a `Vec` by `text_of`, or by `write_printed` into a buffer
+//! of 32 KB before a writer, so that the text is never in memory as a whole. Only `read_whole`, `text_of` and
 //! `ReadAhead::new` allocate.
 #![tactic(auto)]
 
