@@ -178,6 +178,7 @@ fn write_through<P: Printable, W: Output>(
 
 /// Writes the text of a value while it is printed, and then flushes the writer once. Nothing is allocated. If a write
 /// fails, the writer has taken a prefix of the text. If the flush fails, the writer has taken all of it.
+#[inline(never)]
 pub fn write_printed<P: Printable, W: Output>(writer: &mut W, value: &P) -> Result<(), DeviceFault>
     requires writer { (W.output writer.old).failed ≡ false }
     requires value { P.is_whole value.now }

@@ -168,7 +168,7 @@ impl Groups {
             fields: Vec::from_slice(alloc, keys.fields())?,
             totals: IndexMap::with_hasher(alloc, hashing),
             key: Vec::new(alloc),
-            recent: Recent::new(),
+            recent: Recent::new(alloc)?,
         })
     }
 

@@ -2,6 +2,8 @@
 
 ghost use Rattle.std.specs.Prelude.{◌<◌};
 
+use std::alloc::{AllocError, Global};
+
 // How many guesses there are.
 const PLACES: usize = 4096;
 
@@ -16,7 +18,7 @@ struct Guess {
 /// mark of its key, so that most wrong ones are found without a look at the group.
 #[derive(Drop)]
 pub struct Recent {
-    guesses: [Guess; PLACES],
+    guesses: Box<[Guess; PLACES]>,
 }
 
 /// Returns a number that depends on the last eight bytes of a key, by which its group is guessed.
@@ -55,10 +57,9 @@ fn mark_of(mixed: u64) -> u32 {
 
 impl Recent {
     /// Returns guesses of the first group.
-    pub fn new() -> Recent {
-        Recent {
-            guesses: [Guess { mark: 0, index: 0 }; PLACES],
-        }
+    pub fn new(alloc: Global) -> Result<Recent, AllocError> {
+        let guesses = Box::new(alloc, [Guess { mark: 0, index: 0 }; PLACES])?;
+        Ok(Recent { guesses })
     }
 
     /// Returns the index of the group that a key may have, given the key's number, or `None` if no recent key has the
