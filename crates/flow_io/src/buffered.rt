@@ -159,8 +159,8 @@ impl<W: Output> Sink for Buffered<'_, W> {
     }
 }
 
-// Writes through a buffer, of which nothing is used yet.
-fn write_through<P: Printable, W: Output>(
+// Writes through a buffer.
+fn write_given<P: Printable, W: Output>(
     writer: &mut W,
     given: &mut Given,
     buffer: &mut [u8],
@@ -176,10 +176,12 @@ fn write_through<P: Printable, W: Output>(
     out.finish()
 }
 
-/// Writes the text of a value while it is printed, and then flushes the writer once. Nothing is allocated. If a write
-/// fails, the writer has taken a prefix of the text. If the flush fails, the writer has taken all of it.
-#[inline(never)]
-pub fn write_printed<P: Printable, W: Output>(writer: &mut W, value: &P) -> Result<(), DeviceFault>
+/// Writes the text of a value through a buffer, as [`write_printed`] does.
+pub fn write_through<P: Printable, W: Output>(
+    writer: &mut W,
+    buffer: &mut [u8],
+    value: &P,
+) -> Result<(), DeviceFault>
     requires writer { (W.output writer.old).failed ≡ false }
     requires value { P.is_whole value.now }
     ensures { WritesText (W.output writer.old) (W.output writer.new) (P.is_text value.now) result }
@@ -188,6 +190,16 @@ pub fn write_printed<P: Printable, W: Output>(writer: &mut W, value: &P) -> Resu
         taken: Record::new(),
         lost: Record::new(),
     };
-    let mut buffer = [0; ROOM];
-    write_through(writer, &mut given, &mut buffer, value)
+    write_given(writer, &mut given, buffer, value)
+}
+
+/// Writes the text of a value while it is printed, and then flushes the writer once. Nothing is allocated. If a write
+/// fails, the writer has taken a prefix of the text. If the flush fails, the writer has taken all of it.
+#[inline(never)]
+pub fn write_printed<P: Printable, W: Output>(writer: &mut W, value: &P) -> Result<(), DeviceFault>
+    requires writer { (W.output writer.old).failed ≡ false }
+    requires value { P.is_whole value.now }
+    ensures { WritesText (W.output writer.old) (W.output writer.new) (P.is_text value.now) result }
+{
+    write_through(writer, &mut [0; ROOM], value)
 }

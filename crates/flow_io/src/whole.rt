@@ -2,7 +2,7 @@
 ghost use Rattle.std.specs.Prelude.{◌≡◌, ◌<◌, ◌≤◌, ⊤, false, true, length, take, IfOk, OnErr, OnOk};
 ghost use Rattle.flow_io.specs.Devices.{ReadsInput, Gives, StopsWriting, WritesWhole, has_ended, is_failed_read};
 
-use crate::buffered::write_printed;
+use crate::buffered::write_through;
 use crate::devices::{DeviceFault, Input, Output};
 use std::alloc::Global;
 use thiserror::Error;
@@ -77,5 +77,6 @@ pub fn write_whole<W: Output>(writer: &mut W, bytes: &[u8]) -> Result<(), Device
     ensures whole { OnOk result (WritesWhole (W.output writer.old) (W.output writer.new) bytes.now) }
     ensures stopped { OnErr result (StopsWriting (W.output writer.old) (W.output writer.new) bytes.now) }
 {
-    write_printed(writer, &bytes)
+    // The bytes are in memory, so they need no buffer.
+    write_through(writer, &mut [], &bytes)
 }
