@@ -3,6 +3,5 @@ pub mod GroupLines
 pub mod Spreading
 pub mod WideLines
 pub mod PaddedLines
-pub mod Moves
 pub mod TableLines
 pub mod RowLines

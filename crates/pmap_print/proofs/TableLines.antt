@@ -16,16 +16,22 @@ pub all_sized : (line : Line) → marked_line Length Length line ≡ sized line
 all_sized [] = refl
 all_sized (f ∷ fs) = refl
 
-plain_added : (old new : Text) (lines : List Line) (line : Line) → 0 < length line → old ++ 10 ∷ [] ≡ flat_map line_text lines
-    → new ≡ old ++ marked_line (End 10) (End 124) line → new ++ 10 ∷ [] ≡ flat_map line_text (lines ++ line ∷ [])
-plain_added old new lines [] some so_far text = absurd (omega (arith, some))
-plain_added old new lines (f ∷ fs) some so_far text =
+-- a line after a text that has no line feed at its end yet
+pub line_after : (old new : Text) (line : Line) → 0 < length line → new ≡ old ++ marked_line (End 10) (End 124) line
+    → new ++ 10 ∷ [] ≡ (old ++ 10 ∷ []) ++ line_text line
+line_after old new [] some text = absurd (omega (arith, some))
+line_after old new (f ∷ fs) some text =
     let fields : Text = join_with_byte 124 (f ∷ fs) in
     ap (λ (l : Text). l ++ 10 ∷ []) (text ∙ ap (λ (l : Text). old ++ 10 ∷ l) (joined f fs))
     ∙ append_assoc old (10 ∷ fields) (10 ∷ [])
     ∙ sym (append_assoc old (10 ∷ []) (fields ++ 10 ∷ []))
-    ∙ ap (λ (l : Text). l ++ line_text (f ∷ fs)) so_far
-    ∙ sym (flat_map-append line_text lines ((f ∷ fs) ∷ []) ∙ ap (λ (l : Text). flat_map line_text lines ++ l) (append-nil (line_text (f ∷ fs))))
+
+pub plain_added : (front old new : Text) (lines : List Line) (line : Line) → 0 < length line → old ++ 10 ∷ [] ≡ front ++ flat_map line_text lines
+    → new ≡ old ++ marked_line (End 10) (End 124) line → new ++ 10 ∷ [] ≡ front ++ flat_map line_text (lines ++ line ∷ [])
+plain_added front old new lines line some so_far text =
+    line_after old new line some text ∙ ap (λ (l : Text). l ++ line_text line) so_far ∙ append_assoc front (flat_map line_text lines) (line_text line)
+    ∙ ap (λ (l : Text). front ++ l)
+    (sym (flat_map-append line_text lines (line ∷ []) ∙ ap (λ (l : Text). flat_map line_text lines ++ l) (append-nil (line_text line))))
 
 sized_added : (old new : Text) (lines : List Line) (line : Line) → old ≡ flat_map sized lines → new ≡ old ++ sized line
     → new ≡ flat_map sized (lines ++ line ∷ [])
@@ -82,7 +88,7 @@ module _ (count : ℕ) (lines : List Line) (line : Line) (old : Table) (text : T
     where
       by : (o : Option Columns) → old.columns ≡ o → IsTable count (lines ++ line ∷ []) new
       by None e = record {
-        plain = λ _. plain_added old.text new.text lines line some (is.plain e)
+        plain = λ _. plain_added [] old.text new.text lines line some (is.plain e)
             (same ∙ text_is ∙ ap (λ (o : Option Columns). old.text ++ added_line (is_some o) line) e);
         padded = λ c f. absurd (none_here new.columns c f (kept ∙ ap is_some e));
       }
@@ -101,7 +107,7 @@ plain_printed count lines line old new is some none kept text = by old.columns r
   where
     by : (o : Option Columns) → old.columns ≡ o → IsTable count (lines ++ line ∷ []) new
     by None e = record {
-      plain = λ _. plain_added old.text new.text lines line some (is.plain e) text;
+      plain = λ _. plain_added [] old.text new.text lines line some (is.plain e) text;
       padded = λ c f. absurd (none_here new.columns c f (ap is_some (kept ∙ e)));
     }
     by (Some c) e = absurd (none_here old.columns c e none)

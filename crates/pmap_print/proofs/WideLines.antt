@@ -1,6 +1,6 @@
 -- One more line of a table with columns.
-use Rattle.std.proofs.Common.{ℕ, ◌≡◌, ◌+◌, ◌<◌, ◌≤◌, ◌∙◌, max, min, List, [], ◌∷◌, ◌++◌, length, map, drop, get_or, set, ap, sym, subst, arith, ◌⊎◌, inl, inr}
-use Rattle.std.specs.Prelude.{◌-◌, ◌^◌, fold, slice_index}
+use Rattle.std.proofs.Common.{ℕ, ◌≡◌, ◌+◌, ◌<◌, ◌≤◌, ◌∙◌, max, List, [], ◌∷◌, ◌++◌, length, map, drop, get_or, set, ap, sym, subst, arith, ◌⊎◌, inl, inr}
+use Rattle.std.specs.Prelude.{fold, slice_index}
 use Rattle.std.proofs.lemmas.Grind.{fold-append}
 use Rattle.std.proofs.lemmas.Bool.{cases_lt}
 use Rattle.std.proofs.lemmas.List.{get_or-set_other, get_or-set_same, drop-drop, drop_at, drop_more, length-append, map_push}
@@ -14,16 +14,15 @@ column_width-push lines line k =
 
 pub wide-more : (count : ℕ) (lines : List Line) (line : Line) (old new : Columns) → AreWide count lines old → length line ≡ count
     → length new.widths.items ≡ length old.widths.items
-    → ((k : ℕ) → k < count → slice_index new.widths.items k ≡ max (slice_index old.widths.items k) (length (get_or line k []) + 1))
-    → new.lines ≡ min (old.lines + 1) (2 ^ 64 - 1) → AreWide count (lines ++ line ∷ []) new
-wide-more count lines line old new are all same wide more =
+    → ((k : ℕ) → k < count → slice_index new.widths.items k ≡ max (slice_index old.widths.items k) (length (get_or line k [])))
+    → AreWide count (lines ++ line ∷ []) new
+wide-more count lines line old new are all same wide =
     let P : Line → Type 0 = λ l. length l ≡ count in
     record {
       some = are.some;
       even = All-append P lines (line ∷ []) are.even (All-cons P line [] all (All-nil P));
       columns = same ∙ are.columns;
       widths = λ k inside. omega (arith, wide k inside, are.widths k inside, column_width-push lines line k);
-      counted = omega (arith, more, are.counted, length-append lines (line ∷ []));
     }
 
 -- the next field of a line, whose sized fields are read one after another
@@ -45,17 +44,17 @@ module _ (fields : Line) (i : ℕ) (inside : i < length fields) (rest : Text) (i
 
 -- the widths of the columns before an index are those for one more line, and the others are as they were
 module _ (old now : List ℕ) (i x : ℕ) (inside : i < length now) where
-  pub widened : (line : Line) → x ≡ max (slice_index now i) (length (get_or line i []) + 1) → slice_index now i ≡ slice_index old i
-      → ((k : ℕ) → k < i → slice_index now k ≡ max (slice_index old k) (length (get_or line k []) + 1))
-      → (k : ℕ) → k < i + 1 → slice_index (set now i x) k ≡ max (slice_index old k) (length (get_or line k []) + 1)
+  pub widened : (line : Line) → x ≡ max (slice_index now i) (length (get_or line i [])) → slice_index now i ≡ slice_index old i
+      → ((k : ℕ) → k < i → slice_index now k ≡ max (slice_index old k) (length (get_or line k [])))
+      → (k : ℕ) → k < i + 1 → slice_index (set now i x) k ≡ max (slice_index old k) (length (get_or line k []))
   widened line is kept wide k below = by (cases_lt k i)
     where
-      by : (k < i) ⊎ (i ≤ k) → slice_index (set now i x) k ≡ max (slice_index old k) (length (get_or line k []) + 1)
+      by : (k < i) ⊎ (i ≤ k) → slice_index (set now i x) k ≡ max (slice_index old k) (length (get_or line k []))
       by (inl before) = get_or-set_other now i k x 0 (λ e. omega (arith, before, e)) ∙ wide k before
       by (inr after) =
           let here : i ≡ k = omega (arith, below, after) in
-          subst (λ j. slice_index (set now i x) j ≡ max (slice_index old j) (length (get_or line j []) + 1)) here
-          (get_or-set_same now i x 0 inside ∙ is ∙ ap (λ w. max w (length (get_or line i []) + 1)) kept)
+          subst (λ j. slice_index (set now i x) j ≡ max (slice_index old j) (length (get_or line j []))) here
+          (get_or-set_same now i x 0 inside ∙ is ∙ ap (λ w. max w (length (get_or line i []))) kept)
 
   pub unchanged : ((k : ℕ) → i ≤ k → slice_index now k ≡ slice_index old k) → (k : ℕ) → i + 1 ≤ k → slice_index (set now i x) k ≡ slice_index old k
   unchanged same k above = get_or-set_other now i k x 0 (λ e. omega (arith, above, e)) ∙ same k (omega (arith, above))

@@ -1,11 +1,15 @@
 use Rattle.std.specs.Prelude.{List, [], ◌∷◌, ◌++◌, map, Option, Some, None, Bool, false, true, codes, decimal, unwrap_or, option_map, option_copied, fold, ℕ, slice_index_or, if◌then◌else◌}
 use Rattle.std.specs.Borrow.{Bor}
+use Rattle.std.specs.Global.{Vec}
 use Rattle.std.specs.List.{zip}
+use Rattle.std.specs.Option.{option_map_or}
 use Rattle.prefix_keys.specs.Print.{address_text}
 use Rattle.flow_rows.specs.Elements.{RowView}
 use Rattle.flow_uniq.specs.declared.field.KeyField.{KeyField}
 use Rattle.flow_uniq.specs.Key.{field_name, KeyPartModel, AddressPart, NumberPart, LabelPart}
-use Rattle.flow_uniq.specs.Groups.{GroupModel}
+use Rattle.flow_uniq.specs.declared.groups.Group.{Group}
+use Rattle.flow_uniq.specs.Groups.{GroupModel, GroupsModel}
+use Rattle.flow_uniq.specs.Inner.{group_model}
 pub use Rattle.pmap_print.specs.declared.row_labels.RowLabels.{RowLabels}
 use Rattle.pmap_print.specs.Table.{Text, Line, table_text}
 
@@ -114,3 +118,13 @@ column_count labelled = if labelled then 12 else 10
 -- the labels of the row at an index, if labels are given
 abbrev pub labels_of_row : Option (List LabelTexts) → ℕ → Option LabelTexts
 labels_of_row labels index = option_map (λ texts. slice_index_or texts index (None, None)) labels
+
+-- How groups are printed.
+
+-- the sorted groups, if they are given, otherwise the groups in the order of their first rows
+abbrev pub ordered : Option (Vec Group) → GroupsModel → List GroupModel
+ordered sorted groups = option_map_or (λ s. map group_model s.items) sorted groups.groups
+
+-- the header and the lines of groups by these fields
+abbrev pub group_lines : List KeyField → List GroupModel → List Line
+group_lines fields groups = group_titles fields ∷ map group_fields groups

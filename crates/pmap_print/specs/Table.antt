@@ -1,4 +1,4 @@
-use Rattle.std.specs.Prelude.{ℕ, ◌-◌, ◌*◌, max, min, sum, List, [], ◌∷◌, ◌++◌, length, map, fold, replicate, slice_index_or, Bool, if◌then◌else◌, ◌≡◌, ◌+◌, ◌<◌, ◌≤◌, ◌^◌, All, drop, is_some, slice_index, take}
+use Rattle.std.specs.Prelude.{ℕ, ◌-◌, max, List, [], ◌∷◌, ◌++◌, length, map, fold, replicate, slice_index_or, Bool, if◌then◌else◌, ◌≡◌, ◌<◌, ◌≤◌, All, is_some, slice_index, take}
 use Rattle.std.specs.List.{enumerate_from, flat_map, join_with_byte}
 use Rattle.std.specs.Option.{ForNone, ForSome}
 pub use Rattle.pmap_text.specs.RunsText.{Line, Text, line_text}
@@ -62,13 +62,12 @@ sized fields = flat_map (marked Length) fields
 abbrev pub header_text : Bool → Line → Text
 header_text columns names = if columns then sized names else join_with_byte 124 names
 
--- the columns are as wide as the fields of these lines, each of `count` fields, and the byte that ends a field
+-- the columns are as wide as the fields of these lines, each of `count` fields
 pub record AreWide (count : ℕ) (lines : List Line) (c : Columns) : Type 0 where
   pub some : 0 < count
   pub even : All (λ line. length line ≡ count) lines
   pub columns : length c.widths.items ≡ count
-  pub widths : (k : ℕ) → k < count → slice_index c.widths.items k ≡ column_width lines k + 1
-  pub counted : c.lines ≡ min (length lines) (2 ^ 64 - 1)
+  pub widths : (k : ℕ) → k < count → slice_index c.widths.items k ≡ column_width lines k
 
 -- whether the lines of a table are padded to columns
 abbrev pub has_columns : Table → Bool
@@ -79,41 +78,9 @@ pub record IsTable (count : ℕ) (lines : List Line) (t : Table) : Type 0 where
   pub plain : ForNone t.columns (t.text ++ 10 ∷ [] ≡ flat_map line_text lines)
   pub padded : ForSome t.columns (λ c. (t.text ≡ flat_map sized lines) × AreWide count lines c)
 
--- a line fits in columns that are this wide
-abbrev pub Fits : List ℕ → Line → Type 0
-Fits [] [] = Unit {0}
-Fits (width ∷ widths) (field ∷ fields) = (length field < width) × Fits widths fields
-Fits _ _ = ⊥
-
--- a line whose fields are filled to columns that are this wide
-abbrev pub spread_line : List ℕ → Line → Line
-spread_line (width ∷ widths) (field ∷ fields) = filled (width - 1) field ∷ spread_line widths fields
-spread_line _ _ = []
-
--- From an offset on, a text has the sized fields of a line that fits, and then more. The line, spread from another offset
--- on, ends before the other text.
-pub record CanSpread (widths : List ℕ) (fields : Line) (more : Text) (from to : ℕ) (text : Text) : Type 0 where
-  pub some : 0 < length widths
-  pub fits : Fits widths fields
-  pub back : drop from text ≡ sized fields ++ more
-  pub within : from ≤ length text
-  pub small : length text < 2 ^ 64
-  pub room : to + sum widths ≤ from + length (sized fields)
-
--- the line is spread
-pub record IsSpread (widths : List ℕ) (fields : Line) (more : Text) (to : ℕ) (text new : Text) (from_now to_now : ℕ) : Type 0 where
-  pub back : drop from_now new ≡ more
-  pub within : from_now ≤ length new
-  pub front : take to_now new ≡ take to text ++ line_text (spread_line widths fields)
-  pub size : to_now ≡ to + sum widths
-  pub same : length new ≡ length text
-
--- From an offset on, a text has the sized fields of lines that fit, and as a whole it has the length of the spread lines.
-pub record CanSpreadLines (lines : List Line) (c : Columns) (from : ℕ) (text : Text) : Type 0 where
-  pub some : 0 < length c.widths.items
-  pub count : c.lines ≡ length lines
-  pub fit : All (Fits c.widths.items) lines
-  pub back : drop from text ≡ flat_map sized lines
-  pub within : from ≤ length text
-  pub small : length text < 2 ^ 64
-  pub fills : length text ≡ sum c.widths.items * length lines
+-- a line that is not empty has a field for each of these columns, which have the widths of a function and are no narrower
+pub record Fits (width : ℕ → ℕ) (columns : List ℕ) (fields : Line) : Type 0 where
+  pub some : 0 < length fields
+  pub all : length fields ≡ length columns
+  pub widths : (k : ℕ) → k < length columns → slice_index columns k ≡ width k
+  pub narrow : (k : ℕ) → length (slice_index_or fields k []) ≤ width k

@@ -1,27 +1,29 @@
 //! The printed text of counts.
 ghost use Rattle.std.specs.Prelude.{◌≡◌, ◌++◌, ◌∷◌, [], IfOk, OnOk, decimal};
+ghost use Rattle.flow_io.specs.Sinks.{Prints};
 ghost use Rattle.flow_rows.specs.Counts.{count_list};
 ghost use Rattle.pmap_print.specs.Reports.{info_text};
 
+use crate::fields::push_number;
 use crate::mark::Mark;
-use crate::text::Text;
+use flow_io::Sink;
 use flow_rows::Counts;
 use std::alloc::{AllocError, Global};
 
-// Appends the line of a count: its name and its number.
-fn print_count(out: &mut Text, name: &[u8], number: u64) -> Result<(), AllocError>
-    ensures { OnOk result (out.new ≡ out.old ++ (name.now ++ 32 ∷ decimal number ++ 10 ∷ [])) }
+// Prints the line of a count: its name and its number.
+fn print_count<S: Sink>(out: &mut S, name: &[u8], number: u64) -> Result<(), S::Fault>
+    ensures { Prints S.sink S.began out.old out.new (name.now ++ 32 ∷ decimal number ++ 10 ∷ []) result }
 {
-    out.push_bytes(name)?;
-    out.push_number(Mark::End(b' '), number)?;
-    out.push_bytes(b"\n")
+    out.push(name)?;
+    push_number(out, Mark::End(b' '), number)?;
+    out.push(b"\n")
 }
 
 /// Returns the text of counts: a line for each, with its name and its number.
 pub fn print_info(alloc: Global, counts: &Counts) -> Result<Vec<u8>, AllocError>
     ensures { IfOk result (λ out. out.items ≡ info_text (count_list counts.now)) }
 {
-    let mut out = Text::new(alloc);
+    let mut out = Vec::new(alloc);
     print_count(&mut out, b"messages", counts.messages)?;
     print_count(&mut out, b"templates", counts.templates)?;
     print_count(&mut out, b"options-templates", counts.options_templates)?;
@@ -31,5 +33,5 @@ pub fn print_info(alloc: Global, counts: &Counts) -> Result<Vec<u8>, AllocError>
     print_count(&mut out, b"records", counts.records)?;
     print_count(&mut out, b"options-records", counts.options_records)?;
     print_count(&mut out, b"rows", counts.rows)?;
-    Ok(out.into_bytes())
+    Ok(out)
 }

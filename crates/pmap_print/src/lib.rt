@@ -10,14 +10,15 @@
 //! assert!(rt; text.as_slice() == b"mode ipv4\n10.0.0.0/8 A\n10.0.0.0/16 B\n".as_slice());
 //! ```
 //!
-//! It depends on the crates of what it prints. `print_rows` returns the text of flow rows, with or without labels and
-//! columns, and a `Table` builds it row by row. `print_groups` returns the text of groups, `print_info` that of counts,
-//! `print_list` that of a prefix list, and `print_runs` that of runs. The layer above may rely on
-//! this: the text is, byte for byte, what the definitions state for the printed value, and the only error is out of
-//! memory.
+//! It depends on the crates of what it prints. A `Table` of flow rows, with or without labels and columns, is built row
+//! by row. A `Table`, a `GroupsText`, a `ListText` or a `RunsText` prints its text into a sink of flow_io, such as the
+//! buffer before a writer. Only building them allocates. `print_rows`, `print_groups`, `print_list` and `print_runs`
+//! return these texts, and `print_info` returns the text of counts. The layer above may rely on this: the text is, byte
+//! for byte, what the definitions state for the printed value, and the only error is out of memory.
 #![tactic(auto)]
 
 mod columns;
+mod fields;
 mod groups;
 mod info;
 mod list;
@@ -28,10 +29,10 @@ mod runs;
 mod table;
 mod text;
 
-pub use groups::print_groups;
+pub use groups::{GroupsText, print_groups};
 pub use info::print_info;
-pub use list::print_list;
+pub use list::{ListText, print_list};
 pub use row_labels::RowLabels;
 pub use rows::print_rows;
-pub use runs::print_runs;
+pub use runs::{RunsText, print_runs};
 pub use table::Table;

@@ -7,10 +7,12 @@ ghost use Rattle.prefix_keys.specs.Print.{address_text};
 ghost use Rattle.pmap_print.specs.Table.{IsFrontOf, has_columns, header_text, IsTable, Line, marked, marked_line};
 ghost use Rattle.pmap_print.specs.Reports.{column_count, labels_of_row, given_labels, label_fields, label_texts, row_fields, row_line, rows_text, title_line};
 
+use crate::fields::{write_address, write_number};
 use crate::mark::Mark;
 use crate::row_labels::RowLabels;
 use crate::table::Table;
-use crate::text::{Text, write_address, write_number};
+use crate::text::Text;
+use flow_io::{Sink, text_of};
 use flow_rows::Row;
 use std::alloc::{AllocError, Global};
 
@@ -39,7 +41,7 @@ fn print_fields(out: &mut Text, row: &Row<'_>, first: Mark, mark: Mark) -> Resul
     let sport = write_number(mark, u64::from(row.sport()), &mut line, dport);
     let dst = write_address(mark, row.dst(), &mut line, sport);
     let src = write_address(first, row.src(), &mut line, dst);
-    out.push_start(&line[src..], LINE - src)
+    out.add(&line[src..], LINE - src)
 }
 
 // Appends the fields of the labels of a row, each after a mark. The field of a missing label is empty. If an allocation
@@ -49,8 +51,8 @@ fn print_labels(out: &mut Text, labels: RowLabels<'_>, mark: Mark) -> Result<(),
     ensures ok { OnOk result (out.new ≡ out.old ++ flat_map (marked mark) (label_fields (label_texts labels.entry))) }
     ensures err { OnErr result (IsFrontOf out.old out.new) }
 {
-    out.push_field(mark, labels.src.unwrap_or(b""))?;
-    out.push_field(mark, labels.dst.unwrap_or(b""))
+    out.add_field(mark, labels.src.unwrap_or(b""))?;
+    out.add_field(mark, labels.dst.unwrap_or(b""))
 }
 
 // Appends the line of a row, with its labels if they are given: the first field after the mark `first`, and each other
@@ -88,13 +90,14 @@ fn print_header(out: &mut Text, labelled: bool, columns: bool) -> Result<(), All
     } else {
         b"sip|dip|sport|dport|proto|flags|packets|bytes|stime|etime"
     };
-    out.push_bytes(names)?;
+    out.push(names)?;
     let names: &[u8] = match (labelled, columns) {
         (true, true) => b"\x09src-label\x09dst-label",
         (true, false) => b"|src-label|dst-label",
         (false, _) => b"",
     };
-    out.push_bytes(names)
+    out.push(names)?;
+    Ok(())
 }
 
 impl Table {
@@ -180,5 +183,6 @@ pub fn print_rows(
     for (i, row) in rows.iter().enumerate() {
         table.add_row(row, labels_at(labels, i))?;
     }
-    table.into_text()
+    let text = text_of(alloc, &table)?;
+    Ok(text)
 }

@@ -1,23 +1,26 @@
-ghost use Rattle.std.specs.Prelude.{◌≡◌, ◌<◌, ◌++◌, ◌∷◌, [], IfOk, OnOk, length};
+ghost use Rattle.std.specs.Prelude.{◌<◌, IfOk, false, length};
+ghost use Rattle.flow_io.specs.Sinks.{Prints};
 ghost use Rattle.pmap_text.specs.Stretches.{AreLabelsBelow, text_held};
-ghost use Rattle.pmap_text.specs.RunsText.{IsRunsText, line_text, run_at, run_fields};
+ghost use Rattle.pmap_text.specs.RunsText.{IsRunsText, run_at, run_fields};
+ghost use Rattle.pmap_print.specs.Table.{added_line};
 
+use crate::fields::{push_address, push_field};
 use crate::mark::Mark;
-use crate::text::Text;
+use flow_io::{Printable, Sink, text_of};
 use pmap_text::{Labels, Runs, Stretches};
 use prefix_keys::Addr;
 use std::alloc::{AllocError, Global};
 
-// Appends the line of the run with this index: its first and last address, and the label. The line follows a line feed.
-fn print_run(
-    out: &mut Text,
+// Prints the line of the run with this index: its first and last address, and the label. The line follows a line feed.
+fn print_run<S: Sink>(
+    out: &mut S,
     runs: &Stretches,
     index: usize,
     labels: &Labels,
-) -> Result<(), AllocError>
+) -> Result<(), S::Fault>
     requires { index < length runs.now.firsts }
-    ensures { OnOk result (out.new ++ 10 ∷ [] ≡ (out.old ++ 10 ∷ [])
-        ++ line_text (run_fields runs.now.version (run_at labels.now runs.now index))) }
+    ensures { Prints S.sink S.began out.old out.new (added_line false
+        (run_fields runs.now.version (run_at labels.now runs.now index))) result }
 {
     runs.laws();
     let version = runs.version();
@@ -29,29 +32,53 @@ fn print_run(
         version,
         value: runs.last(index),
     };
-    out.push_address(Mark::End(b'\n'), low)?;
-    out.push_address(Mark::End(b'|'), high)?;
+    push_address(out, Mark::End(b'\n'), low)?;
+    push_address(out, Mark::End(b'|'), high)?;
     let text = match runs.label(index) {
         Some(label) => labels.text(label).unwrap_or(b""),
         None => b"",
     };
-    out.push_field(Mark::End(b'|'), text)
+    push_field(out, Mark::End(b'|'), text)
 }
 
-/// Returns the text of runs: a header, and a line for each maximal range of consecutive addresses with the same label or
-/// with none. The line has the first and the last address and the label.
+/// The text of runs, to be printed: a header, and a line for each maximal range of consecutive addresses with the same
+/// label or with none. The line has the first and the last address and the label.
+#[derive(Drop)]
+pub struct RunsText<'a> {
+    /// The runs.
+    pub runs: &'a Runs,
+    /// The labels of the map or the list.
+    pub labels: &'a Labels,
+}
+
+impl Printable for RunsText<'_> {
+    ghost use Rattle.std.specs.Prelude.{length};
+    ghost use Rattle.pmap_text.specs.RunsText.{IsRunsText};
+    ghost use Rattle.pmap_text.specs.Stretches.{AreLabelsBelow, text_held};
+
+    ghost is_whole = { λ t. AreLabelsBelow (length t.labels.now) t.runs.now.stretches };
+
+    ghost is_text = { λ t text. IsRunsText t.runs.now.stretches.version
+        (text_held t.labels.now t.runs.now.stretches) text };
+
+    fn print<S: Sink>(&self, out: &mut S) -> Result<(), S::Fault> {
+        let runs = &self.runs.stretches;
+        self.labels.laws();
+        runs.laws();
+        out.push(b"low|high|label")?;
+        for index in 0..runs.len() {
+            print_run(out, runs, index, self.labels)?;
+        }
+        out.push(b"\n")?;
+        Ok(())
+    }
+}
+
+/// Returns the text of runs, as [`RunsText`] prints it.
 pub fn print_runs(alloc: Global, runs: &Runs, labels: &Labels) -> Result<Vec<u8>, AllocError>
     requires { AreLabelsBelow (length labels.now) runs.now.stretches }
     ensures { IfOk result (λ out. IsRunsText runs.now.stretches.version
         (text_held labels.now runs.now.stretches) out.items) }
 {
-    labels.laws();
-    runs.stretches.laws();
-    let mut out = Text::new(alloc);
-    out.push_bytes(b"low|high|label")?;
-    for index in 0..runs.stretches.len() {
-        print_run(&mut out, &runs.stretches, index, labels)?;
-    }
-    out.push_bytes(b"\n")?;
-    Ok(out.into_bytes())
+    text_of(alloc, &RunsText { runs, labels })
 }

@@ -5,6 +5,7 @@ ghost use Rattle.pmap_print.specs.Table.{has_columns, AreWide, IsTable, Line, si
 
 use crate::columns::Columns;
 use crate::text::Text;
+use flow_io::{Printable, Sink};
 use std::alloc::{AllocError, Global};
 
 /// A table that is built line by line. Its fields are padded to columns, or are not.
@@ -52,21 +53,25 @@ impl Table {
             columns.add_line(self.text.since(begin));
         }
     }
+}
 
-    /// Returns the text of the table, padded if the table has columns.
-    ///
-    /// # Errors
-    /// If an allocation fails.
-    pub fn into_text(self) -> Result<Vec<u8>, AllocError>
-        requires { (count : ℕ) × (lines : List Line) × IsTable count lines self }
-        ensures { (count : ℕ) → (lines : List Line) → IsTable count lines self
-            → IfOk result (λ out. out.items ≡ table_text (has_columns self) lines) }
-    {
-        let mut text = self.text.into_bytes();
-        match &self.columns {
-            Some(columns) => columns.pad(&mut text)?,
-            None => text.push(b'\n')?,
+impl Printable for Table {
+    ghost use Rattle.std.specs.Prelude.{◌≡◌, ℕ, List};
+    ghost use Rattle.pmap_print.specs.Table.{has_columns, IsTable, Line, table_text};
+
+    ghost is_whole = { λ t. (count : ℕ) × (lines : List Line) × IsTable count lines t };
+
+    ghost is_text = { λ t text. (count : ℕ) → (lines : List Line) → IsTable count lines t
+        → text ≡ table_text (has_columns t) lines };
+
+    // Prints the lines, padded if the table has columns.
+    fn print<S: Sink>(&self, out: &mut S) -> Result<(), S::Fault> {
+        let text = self.text.since(0);
+        if let Some(columns) = &self.columns {
+            columns.print_lines(out, text)?;
+            return Ok(());
         }
-        Ok(text)
+        out.push(text)?;
+        out.push(b"\n")
     }
 }

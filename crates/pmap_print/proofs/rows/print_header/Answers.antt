@@ -1,6 +1,5 @@
 use Rattle.std.proofs.Common.{◌≡◌, ◌∙◌, Bool, false, true, [], ◌∷◌, ◌++◌, ap, append_assoc, refl, sym}
 use Rattle.std.specs.List.{join_with_byte}
-use Rattle.std.proofs.lemmas.Result.{on_ok_weaker}
 use Rattle.pmap_print.specs.Table.{Text, header_text, sized}
 use Rattle.pmap_print.specs.Reports.{label_titles, row_titles, title_line}
 use Rattle.pmap_print.proofs.rows.print_header.Goals as goal
@@ -30,9 +29,7 @@ returns c =
       | in-true-false w ↦ ap (λ b. b.now) w.names-is ∙ (λ i. label_names (sym w.in-true-false.is-0 i) (sym w.in-true-false.is-1 i))
       | in-false-default w ↦ ap (λ b. b.now) w.names-is ∙ ap (λ b. label_names b columns) (sym w.in-false-default.is-0)
     ] in
-    on_ok_weaker c.push_bytes-2.result
-    (λ pushed. pushed ∙ (λ i. (c.in_ok-push_bytes.ensures i) ++ more i)
+    c.in_ok-push-2.ensures.0 ∙ (λ i. (c.in_ok-push.ensures.0 i) ++ more i)
     ∙ append_assoc c.args.out.now c.if-columns.names.now (label_names labelled columns)
     ∙ ap (λ (l : Text). c.args.out.now ++ (l ++ label_names labelled columns)) names
-    ∙ ap (λ (l : Text). c.args.out.now ++ l) (all_names labelled columns))
-    c.push_bytes-2.ensures
+    ∙ ap (λ (l : Text). c.args.out.now ++ l) (all_names labelled columns)

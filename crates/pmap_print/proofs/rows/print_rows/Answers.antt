@@ -1,5 +1,4 @@
-use Rattle.std.proofs.Common.{◌≡◌, ◌+◌, ◌∙◌, ◌∷◌, [], Bool, List, is_some, subst, sym, take}
-use Rattle.std.specs.Prelude.{IfOk}
+use Rattle.std.proofs.Common.{◌+◌, ◌∙◌, ◌∷◌, [], Bool, List, is_some, subst, sym, take}
 use Rattle.pmap_print.specs.Table.{IsTable, Line, table_text}
 use Rattle.pmap_print.specs.Reports.{column_count, title_line}
 use Rattle.pmap_print.proofs.RowLines.{all_lines, header_alone, line_added, lines_of}
@@ -29,6 +28,5 @@ loop-i-preserved c =
 
 pub returns : goal.returns
 returns c =
-    subst (λ (lines : List Line). IfOk c.into_text.result (λ out. out.items ≡ table_text c.args.columns lines))
-    (all_lines c.args.rows.now c.args.labels c.loop-i.i c.requires c.loop-i-test.false)
-    (rw (sym c.loop-i.invariant.columns) (c.into_text.ensures (column_count (is_some c.args.labels)) _ c.loop-i.invariant.lines))
+    c.in_ok-text.ensures (column_count (is_some c.args.labels)) _ c.loop-i.invariant.lines
+    ∙ (λ i. table_text (c.loop-i.invariant.columns i) (all_lines c.args.rows.now c.args.labels c.loop-i.i c.requires c.loop-i-test.false i))
