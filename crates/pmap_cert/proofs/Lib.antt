@@ -19,6 +19,7 @@ pub mod PackedLines
 pub mod NodeWalk
 pub mod ReadingSteps
 pub mod Written
+pub mod Printed
 pub mod OpenedTexts
 pub mod LineTexts
 pub mod MapLimits

@@ -1,17 +1,18 @@
 -- The text of a certificate's nodes, with each chain opened.
-use Rattle.std.proofs.Common.{◌≡◌, ℕ, zero, suc, ◌<◌, ◌≤◌, ◌==◌, ◌∙◌, Bool, false, cond, List, [], ◌∷◌, ◌++◌, drop, get_or, length, map, refl, sym, ap, arith}
-use Rattle.std.proofs.lemmas.Bool.{cond_above, cond_below}
+use Rattle.std.proofs.Common.{◌≡◌, ℕ, zero, suc, ◌<◌, ◌≤◌, ◌==◌, ◌∙◌, ◌+◌, Bool, false, true, cond, nat_lt, not, take, List, [], ◌∷◌, ◌++◌, drop, get_or, length, map, refl, subst, sym, ap, arith}
 use Rattle.std.proofs.lemmas.List.{append-nil, append_assoc, map-append}
 use Rattle.std.proofs.lemmas.Option.{same_Some}
+use Rattle.std.specs.List.{position_or_len}
+use Rattle.pmap_text.specs.declared.label.LabelId.{LabelId}
 use Rattle.pmap_cert.proofs.Paths.{path-length}
 use Rattle.pmap_cert.proofs.Written.{text_of_lines-append}
 use Rattle.pmap_cert.specs.CertificateText.{InnerLine, LeafLine, node_line_text, text_of_lines}
 use Rattle.pmap_cert.specs.FormatReading.{ChainLine, DueLine}
 use Rattle.pmap_cert.proofs.NodeWalk.{bits_of, side_of}
 use Rattle.pmap_cert.specs.CertificateModel.{ChainNode, ClaimOf, InnerNode, LeafNode, claim_of}
-use Rattle.pmap_cert.specs.Node.{Node, first_line, first_node, from_next_line, node_lines, node_of}
+use Rattle.pmap_cert.specs.Node.{Node, claiming, first_line, first_node, from_next_line, node_lines, node_of}
 use Rattle.pmap_cert.specs.Paths.{digit, path_to}
-use Rattle.pmap_cert.specs.Opened.{Opens, claim_above, cost_above, has_number, node_over, node_text, path_node, set_above, with_number}
+use Rattle.pmap_cert.specs.Opened.{Opens, claim_above, cost_above, node_over, node_text, numbers_of, path_node, set_above, text_down, text_up, with_number}
 
 -- the claim of the node of a run with `bits` bits below it
 module _ (side : ℕ) (end : Node) where
@@ -51,28 +52,32 @@ leaf-text n = append-nil (ended (node_line_text (LeafLine n)))
 inner-text : (claim : ClaimOf ℕ) (lower upper : Node) → node_text (InnerNode claim lower upper) ≡ ended (node_line_text (InnerLine claim.cost claim.labels)) ++ (node_text lower ++ node_text upper)
 inner-text claim lower upper = ap (λ (t : List ℕ). ended (node_line_text (InnerLine claim.cost claim.labels)) ++ t) (lines-text (node_lines lower) (node_lines upper))
 
--- the text of an inner node is appended: its own line, and those of its halves
-pub inner-added : (claim : ClaimOf ℕ) (lower upper : Node) (old own middle new : List ℕ) → own ≡ old ++ ended (node_line_text (InnerLine claim.cost claim.labels)) → middle ≡ own ++ node_text lower → new ≡ middle ++ node_text upper
-    → new ≡ old ++ node_text (InnerNode claim lower upper)
-inner-added claim lower upper old own middle new first second third =
-    third ∙ ap (λ (t : List ℕ). t ++ node_text upper) (second ∙ ap (λ (t : List ℕ). t ++ node_text lower) first)
-    ∙ append_assoc (old ++ ended (node_line_text (InnerLine claim.cost claim.labels))) (node_text lower) (node_text upper)
-    ∙ append_assoc old (ended (node_line_text (InnerLine claim.cost claim.labels))) (node_text lower ++ node_text upper)
-    ∙ ap (λ (t : List ℕ). old ++ t) (sym (inner-text claim lower upper))
+-- The lines of a run's node, `D` of the nodes below it down to the end, those of the end, `E`, and `U` of the side blocks
+-- after it are the node's text if the last three are that of the half that the run chooses. `F` is the side block's line.
+lower-first : (L D E U F : List ℕ) → (((L ++ []) ++ D) ++ E) ++ (U ++ F) ≡ L ++ (((D ++ E) ++ U) ++ F)
+lower-first L D E U F = simp (append_assoc, append-nil)
 
--- The lines of a run's node are appended, and of its side block if that comes before the end. With those of the end, `E`,
--- and of the side blocks after it, `U`, the lines below them are those of the half that the run chooses.
-pub over-down : (d side : ℕ) (claim : ClaimOf ℕ) (path : Node) (old own new E U : List ℕ) → d < 2 → own ≡ old ++ (ended (node_line_text (InnerLine claim.cost claim.labels)) ++ cond (d == 1) (ended (node_line_text (LeafLine side))) [])
-    → new ++ (E ++ U) ≡ own ++ node_text path → new ++ (E ++ (U ++ cond (d == 0) (ended (node_line_text (LeafLine side))) [])) ≡ old ++ node_text (node_over d claim path (LeafNode side))
-over-down zero side claim path old own new E U small first second =
-    ap (λ (t : List ℕ). new ++ t) (sym (append_assoc E U (ended (node_line_text (LeafLine side))))) ∙ sym (append_assoc new (E ++ U) (ended (node_line_text (LeafLine side))))
-    ∙ inner-added claim path (LeafNode side) old own (new ++ (E ++ U)) _ (first ∙ ap (λ (t : List ℕ). old ++ t) (append-nil (ended (node_line_text (InnerLine claim.cost claim.labels))))) second
-    (ap (λ (t : List ℕ). (new ++ (E ++ U)) ++ t) (sym (leaf-text side)))
-over-down (suc zero) side claim path old own new E U small first second =
-    ap (λ (t : List ℕ). new ++ (E ++ t)) (append-nil U)
-    ∙ inner-added claim (LeafNode side) path old (old ++ ended (node_line_text (InnerLine claim.cost claim.labels))) own _ refl
-    (first ∙ sym (append_assoc old (ended (node_line_text (InnerLine claim.cost claim.labels))) (ended (node_line_text (LeafLine side)))) ∙ ap (λ (t : List ℕ). (old ++ ended (node_line_text (InnerLine claim.cost claim.labels))) ++ t) (sym (leaf-text side))) second
-over-down (suc (suc d)) side claim path old own new E U small first second = absurd (omega arith)
+upper-first : (L D E U F : List ℕ) → (((L ++ F) ++ D) ++ E) ++ (U ++ []) ≡ L ++ (F ++ ((D ++ E) ++ U))
+upper-first L D E U F = simp (append_assoc, append-nil)
+
+over : (d side : ℕ) (claim : ClaimOf ℕ) (path : Node) (D E U : List ℕ) → d < 2 → (D ++ E) ++ U ≡ node_text path
+    → (((ended (node_line_text (InnerLine claim.cost claim.labels)) ++ cond (d == 1) (ended (node_line_text (LeafLine side))) []) ++ D) ++ E) ++ (U ++ cond (d == 0) (ended (node_line_text (LeafLine side))) [])
+    ≡ node_text (node_over d claim path (LeafNode side))
+over zero side claim path D E U small below =
+    let line : List ℕ = ended (node_line_text (InnerLine claim.cost claim.labels)) in
+    lower-first line D E U (ended (node_line_text (LeafLine side))) ∙ (λ i. line ++ (below i ++ sym (leaf-text side) i)) ∙ sym (inner-text claim path (LeafNode side))
+over (suc zero) side claim path D E U small below =
+    let line : List ℕ = ended (node_line_text (InnerLine claim.cost claim.labels)) in
+    upper-first line D E U (ended (node_line_text (LeafLine side))) ∙ (λ i. line ++ (sym (leaf-text side) i ++ below i)) ∙ sym (inner-text claim (LeafNode side) path)
+over (suc (suc d)) side claim path D E U small below = absurd (omega arith)
+
+-- the lines of a chain's nodes down to its end, of the end, and of the side blocks after it are the text of the run
+module _ (cost side : ℕ) (set : List ℕ) (value : ℕ) (end : Node) (set_is : set ≡ (claim_of end).labels) (cost_is : cost ≡ cost_above side (claim_of end)) where
+  pub down-text : (bits : ℕ) → (text_down cost side set value bits ++ node_text end) ++ text_up side value bits ≡ node_text (path_node side value bits end)
+  down-text zero = append-nil (node_text end)
+  down-text (suc bits) =
+      over (digit value bits) side (claiming cost (set_above side set bits)) (path_node side value bits end) (text_down cost side set value bits) (node_text end) (text_up side value bits) (omega arith) (down-text bits)
+      ∙ (λ i. node_text (node_over (digit value bits) (claiming (cost_is i) (set_above side (set_is i) bits)) (path_node side value bits end) (LeafNode side)))
 
 -- equal bits lead to the end from the same node
 same-digit : (d e : ℕ) → d < 2 → e < 2 → (d == 1) ≡ (e == 1) → d ≡ e
@@ -93,32 +98,30 @@ same-path side value other end (suc count) (suc many) same =
     let digits = same-digit (digit value count) (digit other many) (omega arith) (omega arith) (ap (λ (l : List Bool). get_or l 0 false) same) in
     λ i. node_over (digits i) (claim_above side (claim_of end) (counts i)) (same-path side value other end count many rest i) (LeafNode side)
 
--- the text of a chain is that of the node from which its bits lead to its end
-pub chain-added : (cost value count side : ℕ) (set : List ℕ) (nodes : List Node) (old new : List ℕ) → 0 < length nodes → ChainLine cost (path_to value count) side set ≡ first_line (first_node nodes)
-    → ((end : Node) → Opens (first_node (from_next_line nodes)) end → cost ≡ cost_above side (claim_of end) → new ≡ old ++ node_text (path_node side value count end))
-    → (node : Node) → Opens (first_node nodes) node → new ≡ old ++ node_text node
-chain-added cost value count side set [] old new some line added node opens = absurd (omega arith)
-chain-added cost value count side set (LeafNode n ∷ rest) old new some line added node opens = absurd cc
-chain-added cost value count side set (InnerNode claimed lower upper ∷ rest) old new some line added node opens = absurd cc
-chain-added cost value count side set (ChainNode claimed path beside end ∷ rest) old new some line added node opens =
+-- what holds of the text of the node from which a chain's bits lead to its end holds of the text of the chain
+pub chain-added : (cost value count side : ℕ) (set : List ℕ) (nodes : List Node) (Holds : List ℕ → Type 0) → 0 < length nodes → ChainLine cost (path_to value count) side set ≡ first_line (first_node nodes)
+    → ((end : Node) → Opens (first_node (from_next_line nodes)) end → cost ≡ cost_above side (claim_of end) → Holds (node_text (path_node side value count end)))
+    → (node : Node) → Opens (first_node nodes) node → Holds (node_text node)
+chain-added cost value count side set [] Holds some line added node opens = absurd (omega arith)
+chain-added cost value count side set (LeafNode n ∷ rest) Holds some line added node opens = absurd cc
+chain-added cost value count side set (InnerNode claimed lower upper ∷ rest) Holds some line added node opens = absurd cc
+chain-added cost value count side set (ChainNode claimed path beside end ∷ rest) Holds some line added node opens =
     let same : beside ≡ side = sym (same_Some side beside (ap side_of line)) in
-    added opens.end opens.below (ap (λ l. (claim_of (node_of l)).cost) line ∙ ap (λ (c : ClaimOf ℕ). c.cost) opens.claim_is ∙ ap (λ (n : ℕ). cost_above n (claim_of opens.end)) same)
-    ∙ ap (λ (k : Node). old ++ node_text k)
+    subst (λ (k : Node). Holds (node_text k))
     (same-path side value opens.value opens.end count opens.count (ap bits_of line ∙ opens.bits_are)
     ∙ ap (λ (n : ℕ). path_node n opens.value opens.count opens.end) (sym same) ∙ sym opens.node_is)
+    (added opens.end opens.below (ap (λ l. (claim_of (node_of l)).cost) line ∙ ap (λ (c : ClaimOf ℕ). c.cost) opens.claim_is ∙ ap (λ (n : ℕ). cost_above n (claim_of opens.end)) same))
 
--- the set of a node of a run that isn't right above the end
-pub above-more : (side : ℕ) (set : List ℕ) (more : ℕ) → 0 < more → set_above side set more ≡ side ∷ []
-above-more side set zero some = absurd (omega arith)
-above-more side set (suc more) some = refl
+-- a set with one more number, by the first label that comes after it
+pub with-at : (side : ℕ) (ids : List LabelId) → with_number side (numbers_of ids)
+    ≡ numbers_of (take (position_or_len (λ id. nat_lt side id.0) ids) ids) ++ side ∷ numbers_of (drop (position_or_len (λ id. nat_lt side id.0) ids) ids)
+with-at side [] = refl
+with-at side (id ∷ ids) = by (nat_lt side id.0) (with-at side ids)
+  where
+    place : ℕ
+    place = position_or_len (λ id. nat_lt side id.0) ids
 
-pub above-last : (side : ℕ) (set : List ℕ) (more : ℕ) (b : Bool) → more ≡ 0 → has_number set side ≡ b → set_above side set more ≡ cond b (side ∷ []) (with_number side set)
-above-last side set zero b none is = ap (λ (t : Bool). cond t (side ∷ []) (with_number side set)) is
-above-last side set (suc more) b none is = absurd (omega arith)
-
--- a set with one more number, by whether that is below the set's first number
-pub with-first : (side x : ℕ) (xs : List ℕ) → side < x → with_number side (x ∷ xs) ≡ side ∷ x ∷ xs
-with-first side x xs less = sym (cond_below side x (side ∷ x ∷ xs) (x ∷ with_number side xs) less)
-
-pub with-later : (side x : ℕ) (xs : List ℕ) → x ≤ side → with_number side (x ∷ xs) ≡ x ∷ with_number side xs
-with-later side x xs most = sym (cond_above side x (side ∷ x ∷ xs) (x ∷ with_number side xs) (x ∷ with_number side xs) most refl)
+    by : (b : Bool) → with_number side (numbers_of ids) ≡ numbers_of (take place ids) ++ side ∷ numbers_of (drop place ids) → cond b (side ∷ id.0 ∷ numbers_of ids) (id.0 ∷ with_number side (numbers_of ids))
+        ≡ numbers_of (take (cond (not b) (1 + place) 0) (id ∷ ids)) ++ side ∷ numbers_of (drop (cond (not b) (1 + place) 0) (id ∷ ids))
+    by true rest = refl
+    by false rest = let next : 1 + place ≡ suc place = omega arith in rw next (ap (λ (ns : List ℕ). id.0 ∷ ns) rest)

@@ -1,5 +1,5 @@
 -- The text that is written by label numbers is that of the certificate with label texts.
-use Rattle.std.proofs.Common.{◌≡◌, ℕ, zero, suc, ◌+◌, ◌/◌, ◌%◌, ◌<◌, ◌∙◌, ◌≤◌, List, [], ◌∷◌, ◌++◌, length, map, sym, ap, arith, subst}
+use Rattle.std.proofs.Common.{◌≡◌, ℕ, zero, suc, ◌+◌, ◌/◌, ◌%◌, ◌<◌, ◌∙◌, ◌≤◌, List, [], ◌∷◌, ◌++◌, length, map, sym, ap, arith, subst, take}
 use Rattle.std.specs.Fmt.{decimal}
 use Rattle.std.specs.List.{flat_map, join_with_byte}
 use Rattle.std.proofs.lemmas.Fmt.{decimal_digit, decimal_step}
@@ -9,7 +9,7 @@ use Rattle.prefix_keys.specs.declared.version.Version.{Version}
 use Rattle.pmap_text.specs.Label.{IsLabelTable}
 use Rattle.pmap_text.specs.MapModel.{Label}
 use Rattle.pmap_cert.specs.CertificateModel.{ChainNode, InnerNode, LeafNode, Tree, map_tree}
-use Rattle.pmap_cert.specs.CertificateText.{DueLine, HasChainForm, HasNodeForm, certificate_text, format_header, node_line_text, node_lines, place_of, text_of_lines}
+use Rattle.pmap_cert.specs.CertificateText.{HasChainForm, HasNodeForm, certificate_text, format_header, node_line_text, node_lines, place_of, text_of_lines}
 use Rattle.pmap_cert.specs.Node.{Node, claiming, tree_of}
 use Rattle.pmap_cert.proofs.ChainWords.{left-room}
 use Rattle.pmap_cert.proofs.Tables.{place_of-text_at, places-texts, text_at-place_of, texts-places}
@@ -27,6 +27,19 @@ two-digits n low high =
 pub three-digits : (n : ℕ) → 100 ≤ n → n < 1000 → decimal n ≡ (48 + n / 10 / 10) ∷ (48 + n / 10 % 10) ∷ (48 + n % 10) ∷ []
 three-digits n low high =
     decimal_step n (omega (arith, low)) (omega (arith, high)) ∙ ap (λ t. t ++ (48 + n % 10) ∷ []) (two-digits (n / 10) (omega (arith, low)) (omega (arith, high)))
+
+-- a text that begins some bytes, with one byte or two before it
+pub take-first : (count byte : ℕ) (bytes text : List ℕ) → take count bytes ≡ text → take (count + 1) (byte ∷ bytes) ≡ byte ∷ text
+take-first count byte bytes text is =
+    let next : count + 1 ≡ suc count = omega arith in
+    ap (λ (n : ℕ). take n (byte ∷ bytes)) next ∙ ap (λ (t : List ℕ). byte ∷ t) is
+
+pub take-second : (count byte second : ℕ) (bytes text : List ℕ) → take count bytes ≡ text → take (count + 2) (byte ∷ second ∷ bytes) ≡ byte ∷ second ∷ text
+take-second count byte second bytes text is =
+    let next : count + 2 ≡ count + 1 + 1 = omega arith in
+    ap (λ (n : ℕ). take n (byte ∷ second ∷ bytes)) next ∙ take-first (count + 1) byte (second ∷ bytes) (second ∷ text) (take-first count second bytes text is)
+
+pub ruleset digits = (decimal_digit, two-digits, three-digits)
 
 -- the text of joined lines is that of the first and then that of the others
 pub text_of_lines-append : (lines more : List (List ℕ)) → text_of_lines (lines ++ more) ≡ text_of_lines lines ++ text_of_lines more
@@ -63,12 +76,10 @@ module _ (table : List Label) where
   line_texts-tree ok node room form = ap (λ (n : Node). map node_line_text (node_lines n)) (sym (places-tree ok node room form))
 
 -- the header, the labels and the lines of the nodes are the certificate's text
-pub whole_text : (format : ℕ) (version : Version) (table : List Label) (root : Node) (room : ℕ) (nodes : List DueLine) (o1 o2 : List ℕ) → IsLabelTable table → HasChainForm (length table) root room
-    → nodes ≡ node_lines root → o1 ≡ text_of_lines (format_header (format, (version, length table)) ∷ table) → o2 ≡ o1 ++ text_of_lines (map node_line_text nodes)
-    → o2 ≡ certificate_text (record { format = format; version = version; table = table; root = tree_of table root })
-whole_text format version table root room nodes o1 o2 ok form same e1 e2 =
+pub whole_text : (format : ℕ) (version : Version) (table : List Label) (root : Node) (room : ℕ) → IsLabelTable table → HasChainForm (length table) root room
+    → text_of_lines (format_header (format, (version, length table)) ∷ table) ++ text_of_lines (map node_line_text (node_lines root))
+    ≡ certificate_text (record { format = format; version = version; table = table; root = tree_of table root })
+whole_text format version table root room ok form =
     let head : List (List ℕ) = format_header (format, (version, length table)) ∷ table in
-    let lines : List (List ℕ) = node_line_texts table (tree_of table root) in
-    let texts : text_of_lines (map node_line_text nodes) ≡ text_of_lines lines =
-    ap (λ (ls : List DueLine). text_of_lines (map node_line_text ls)) same ∙ ap text_of_lines (line_texts-tree table ok root room form) in
-    e2 ∙ ap (λ t. t ++ text_of_lines (map node_line_text nodes)) e1 ∙ ap (λ t. text_of_lines head ++ t) texts ∙ sym (text_of_lines-append head lines)
+    ap (λ (ls : List (List ℕ)). text_of_lines head ++ text_of_lines ls) (line_texts-tree table ok root room form)
+    ∙ sym (text_of_lines-append head (node_line_texts table (tree_of table root)))

@@ -1,4 +1,5 @@
 use Rattle.std.specs.Prelude.{◌≡◌, ℕ, List, ◌++◌, Ok, Result, length, ◌^◌, ◌<◌, ◌≤◌, ◌==◌, ◌||◌, Bool, false, [], ◌∷◌, Option, None, Some, IfSome, if◌then◌else◌, ◌+◌, true, All, codes, drop, nat_eq, nat_lt, slice_index}
+use Rattle.std.specs.Coded.{Coded-set, coded_list, coded_ℕ, le_prop}
 use Rattle.std.specs.Fmt.{decimal}
 use Rattle.std.specs.List.{flat_map, join_with_byte}
 use Rattle.prefix_keys.specs.Block.{width_of}
@@ -8,7 +9,7 @@ use Rattle.pmap_text.specs.MapModel.{Label}
 use Rattle.pmap_text.specs.Reading.{◌>>=◌}
 use Rattle.pmap_cert.specs.Format.{IsNodeOf, format_number, Format}
 use Rattle.pmap_cert.specs.FormatReading.{DueLine, Place, ended_by, fits_header, fits_line, line_due_at, node_line_text, nodes_at, CertFault}
-use Rattle.pmap_cert.specs.Node.{HasChainForm, Node, node_lines, tree_of, AreWhole, first_node, node_of, nodes_of}
+use Rattle.pmap_cert.specs.Node.{HasChainForm, Node, node_code, node_lines, tree_of, AreWhole, first_node, node_of, nodes_of}
 use Rattle.pmap_cert.specs.CertificateModel.{CertificateModel, ClaimOf, InnerNode, IsPlain, Tree}
 use Rattle.pmap_cert.specs.CertificateText.{IsAscending, bit_digits, format_header, format_word, version_word}
 use Rattle.pmap_cert.specs.Compacting.{run_bits, run_end, side_of}
@@ -118,6 +119,16 @@ pub record EndsAt (lines : List DueLine) (number end : ℕ) : Type 0 where
 pub record AreEndsFrom (lines : List DueLine) (ends : List ℕ) (number : ℕ) : Type 0 where
   pub count : length ends ≡ length lines
   pub each : (k : ℕ) → number ≤ k → k < length lines → EndsAt lines k (slice_index ends k)
+
+pub AreEndsFrom-prop : (lines : List DueLine) (ends : List ℕ) (number : ℕ) → IsProp (AreEndsFrom lines ends number)
+AreEndsFrom-prop lines ends number = λ x y i. record {
+  count = Coded-set coded_ℕ _ _ x.count y.count i;
+  each = λ k from below. record {
+    after = le_prop (x.each k from below).after (y.each k from below).after i;
+    within = le_prop (x.each k from below).within (y.each k from below).within i;
+    following = Coded-set (coded_list node_code) _ _ (x.each k from below).following (y.each k from below).following i;
+  };
+}
 
 -- Line `number` is one of nodes without chains, and `all` has the ends of the nodes after it.
 pub record HasPlace (lines : List DueLine) (all : List ℕ) (number : ℕ) : Type 0 where

@@ -1,7 +1,7 @@
 use Rattle.std.specs.Prelude.{◌≡◌, ℕ, zero, suc, ◌+◌, ◌<◌, ◌≤◌, ◌==◌, Bool, List, [], ◌∷◌, ◌++◌, if◌then◌else◌, length, map, nat_lt}
 use Rattle.std.specs.List.{list_any}
 use Rattle.pmap_text.specs.declared.label.LabelId.{LabelId}
-use Rattle.pmap_cert.specs.CertificateText.{LeafLine, node_line_text, text_of_lines}
+use Rattle.pmap_cert.specs.CertificateText.{InnerLine, LeafLine, node_line_text, text_of_lines}
 use Rattle.pmap_cert.specs.CertificateModel.{ChainNode, ClaimOf, InnerNode, LeafNode, claim_of}
 use Rattle.pmap_cert.specs.Node.{Node, first_node, node_lines}
 use Rattle.pmap_cert.specs.Paths.{digit, path_to}
@@ -81,3 +81,11 @@ abbrev pub text_up : ℕ → ℕ → ℕ → List ℕ
 text_up side value zero = []
 text_up side value (suc bits) =
     text_up side value bits ++ (if digit value bits == 0 then node_line_text (LeafLine side) ++ 10 ∷ [] else [])
+
+-- the text of the last `bits` nodes of a chain, and of the side blocks before the chain's end, by the set of the end
+abbrev pub text_down : ℕ → ℕ → List ℕ → ℕ → ℕ → List ℕ
+text_down cost side set value zero = []
+text_down cost side set value (suc bits) =
+    ((node_line_text (InnerLine cost (set_above side set bits)) ++ 10 ∷ [])
+    ++ (if digit value bits == 1 then node_line_text (LeafLine side) ++ 10 ∷ [] else []))
+    ++ text_down cost side set value bits

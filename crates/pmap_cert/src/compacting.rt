@@ -1,11 +1,13 @@
 //! Compacting: a chain replaces each run of inner nodes that each have a leaf of the same label in one half.
+ghost use Rattle.std.specs.Coded.{→_prop};
 ghost use Rattle.std.specs.Prelude.{◌≡◌, ◌<◌, [], IfOk, IsSome, MatchOption, OnOk, length, nat_eq, option_map};
 ghost use Rattle.pmap_cert.specs.Certificate.{certificate_of};
 ghost use Rattle.pmap_cert.specs.CertificateModel.{IsPlain};
 ghost use Rattle.pmap_cert.specs.CertificateText.{certificate_text, node_lines};
 ghost use Rattle.pmap_cert.specs.Compacting.{compact, compacted, is_side, leaf_label, side_of};
 ghost use Rattle.pmap_cert.specs.Packed.{bits_in};
-ghost use Rattle.pmap_cert.specs.Inner.{AreEndsFrom, ArePlain, EndsAt, HasHalves, HasPlace, IsLong, IsRun, IsShallow, IsShort, IsStep, node_from};
+ghost use Rattle.pmap_cert.specs.declared.format.Format.TheVariants.{One};
+ghost use Rattle.pmap_cert.specs.Inner.{AreEndsFrom, AreEndsFrom-prop, ArePlain, EndsAt, HasHalves, HasPlace, IsLong, IsRun, IsShallow, IsShort, IsStep, node_from};
 
 use crate::certificate::Certificate;
 use crate::format::Format;
@@ -14,7 +16,8 @@ use crate::node_sink::NodeSink;
 use crate::nodes::Nodes;
 use crate::path::Path;
 use crate::root::Root;
-use crate::writing::{head_text, push_nodes};
+use crate::writing::{push_head, push_nodes};
+use flow_io::{Printable, Sink};
 use pmap_text::LabelId;
 use std::alloc::{AllocError, Global};
 
@@ -145,7 +148,7 @@ fn compact_node<S: NodeSink>(
     nodes: &Nodes,
     ends: &[usize],
     number: usize,
-) -> Result<(), AllocError>
+) -> Result<(), S::Fault>
     requires { HasPlace nodes.now ends.now number }
     ensures { OnOk result (S.has_added out.old (node_lines (compacted nat_eq (node_from nodes.now number))) out.new) }
 {
@@ -172,15 +175,23 @@ fn compact_node<S: NodeSink>(
     }
 }
 
-// Adds the lines of a compacted root to `out`.
-fn push_compacted<S: NodeSink>(out: &mut S, alloc: Global, root: &Root) -> Result<(), AllocError>
+// Adds the lines of a compacted root to `out`, by the ends of its nodes.
+fn push_compacted<S: NodeSink>(out: &mut S, root: &Root, ends: &[usize]) -> Result<(), S::Fault>
     requires plain { IsPlain root.now }
     requires shallow { IsShallow root.now }
+    requires ends { AreEndsFrom (node_lines root.now) ends.now 0 }
     ensures { OnOk result (S.has_added out.old (node_lines (compacted nat_eq root.now)) out.new) }
 {
-    let nodes = root.nodes();
-    let ends = ends_of(alloc, nodes)?;
-    compact_node(out, nodes, ends.as_slice(), 0)
+    compact_node(out, root.nodes(), ends, 0)
+}
+
+// Returns for each line of a root the first line after its node and those below it.
+fn root_ends(alloc: Global, root: &Root) -> Result<Vec<usize>, AllocError>
+    requires plain { IsPlain root.now }
+    requires shallow { IsShallow root.now }
+    ensures { IfOk result (λ ends. AreEndsFrom (node_lines root.now) ends.items 0) }
+{
+    ends_of(alloc, root.nodes())
 }
 
 fn compact_root(alloc: Global, root: &Root) -> Result<Root, AllocError>
@@ -188,8 +199,9 @@ fn compact_root(alloc: Global, root: &Root) -> Result<Root, AllocError>
     requires shallow { IsShallow root.now }
     ensures { IfOk result (λ found. found ≡ compacted nat_eq root.now) }
 {
+    let ends = root_ends(alloc, root)?;
     let mut out = Nodes::new(alloc);
-    push_compacted(&mut out, alloc, root)?;
+    push_compacted(&mut out, root, ends.as_slice())?;
     Ok(Root::new(out))
 }
 
@@ -207,15 +219,44 @@ pub fn compact(alloc: Global, certificate: &Certificate) -> Result<Certificate, 
     Ok(Certificate::of_format(Format::Two, certificate.version, labels, root))
 }
 
-/// Returns the text of the certificate of `compact`, made without its nodes.
-pub fn write_compact(alloc: Global, certificate: &Certificate) -> Result<Vec<u8>, AllocError>
-    ensures { IfOk result (λ text. text.items ≡ certificate_text (compact (certificate_of certificate.now))) }
-{
-    certificate.labels.laws();
-    let mut out = head_text(alloc, Format::Two, certificate.version, &certificate.labels)?;
-    match certificate.format {
-        Format::One => push_compacted(&mut out, alloc, &certificate.root)?,
-        Format::Two => push_nodes(&mut out, certificate.root.nodes())?,
+/// The text of the certificate of `compact`, which is printed without its nodes.
+#[derive(Drop)]
+pub struct CompactText {
+    pub certificate: Certificate,
+    // For each line of a certificate of format 1 the first line after its node and those below it.
+    ends: Vec<usize>,
+    ghost ends_are: { certificate.format ≡ One → AreEndsFrom (node_lines certificate.root) ends.items 0 } by { →_prop
+        (AreEndsFrom-prop (node_lines certificate.root) ends.items 0) },
+}
+
+impl CompactText {
+    /// Prepares to print a certificate, compacted. Printing doesn't allocate.
+    pub fn new(alloc: Global, certificate: Certificate) -> Result<CompactText, AllocError>
+        ensures { IfOk result (λ text. text.certificate ≡ certificate) }
+    {
+        let ends = match certificate.format {
+            Format::One => root_ends(alloc, &certificate.root)?,
+            Format::Two => Vec::new(alloc),
+        };
+        Ok(CompactText { certificate, ends })
     }
-    Ok(out)
+}
+
+impl Printable for CompactText {
+    ghost use Rattle.std.specs.Prelude.{⊤};
+    ghost use Rattle.pmap_cert.specs.Certificate.{certificate_of};
+
+    ghost is_whole = { λ _. ⊤ };
+
+    ghost is_text = { λ t text. text ≡ certificate_text (compact (certificate_of t.certificate)) };
+
+    fn print<S: Sink>(&self, out: &mut S) -> Result<(), S::Fault> {
+        let certificate = &self.certificate;
+        certificate.labels.laws();
+        push_head(out, Format::Two, certificate.version, &certificate.labels)?;
+        match certificate.format {
+            Format::One => push_compacted(out, &certificate.root, self.ends.as_slice()),
+            Format::Two => push_nodes(out, certificate.root.nodes()),
+        }
+    }
 }

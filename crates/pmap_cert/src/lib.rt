@@ -12,7 +12,8 @@
 //!
 //! A certificate is a binary tree over the address space. Each inner node claims a cost and a set of labels, from which
 //! a checker sees that no list that labels every address as the map does is shorter than the given one. The crate
-//! depends on prefix_keys (blocks) and pmap_text (maps, prefix lists and their labels).
+//! depends on prefix_keys (blocks), pmap_text (maps, prefix lists and their labels) and flow_io (what texts are printed
+//! into). A `Certificate`, a `CompactText` and an `OpenedText` can be printed while they are written.
 //!
 //! The minimiser and the checker may rely on these laws: an accepted certificate shows that its list is equivalent and
 //! that no equivalent list is shorter; each map has a minimal pair of a list and a certificate that is accepted; a
@@ -54,7 +55,7 @@ pub use chain_laws::{
     compact_has_no_more_lines, compact_keeps_acceptance, compact_opens_to_the_same,
     compacting_is_by_longest_runs, opened_is_accepted, text_of_format_is_read_or_has_a_fault,
 };
-pub use compacting::{compact, write_compact};
+pub use compacting::{CompactText, compact};
 pub use cursor::Cursor;
 pub use fault::{CertFault, CertFaultKind};
 pub use format::Format;
@@ -70,7 +71,7 @@ pub use node::{Claim, Node, has_label};
 pub use node_line::{LineLimits, NodeBuffer};
 pub use node_source::NodeSource;
 pub use nodes::Nodes;
-pub use opened::write_opened;
+pub use opened::OpenedText;
 pub use path::Path;
 pub use root::Root;
 pub use writing::write_cert;

@@ -13,10 +13,13 @@ use Rattle.pmap_text.specs.declared.entry.Entry.{Entry}
 use Rattle.pmap_text.specs.declared.map_text.MapText.{MapText}
 use Rattle.pmap_cert.specs.CertificateModel.{CertificateModel, Tree}
 use Rattle.pmap_cert.specs.Acceptance.{HasListForm, IsInOrder, HasItsLabels, IsMinimalPair, StandsFor, entries_of}
-use Rattle.pmap_cert.specs.CertificateText.{certificate_text, HasTextForm}
+use Rattle.pmap_cert.specs.Certificate.{IsOpening, certificate_of}
+use Rattle.pmap_cert.specs.CertificateText.{HasTextForm}
 use Rattle.pmap_cert.specs.Compacting.{compact}
 use Rattle.pmap_cert.specs.Node.{HasNumberForm, Node, tree_of}
-use Rattle.pmap_cert.specs.declared.format.Format.TheVariants.{One}
+use Rattle.pmap_cert.specs.Format.{format_number}
+use Rattle.pmap_cert.specs.declared.certificate.Certificate.{Certificate}
+use Rattle.pmap_cert.specs.declared.format.Format.TheVariants.{One, Two}
 use Rattle.label_trie.specs.TrieModel.{number_of, IsSettledLeaf, IsUndivided, LeafModel}
 use Rattle.pmap_cert.proofs.CompactNodes.{compact-one}
 use Rattle.pmap_cert.proofs.Relabelled.{plain-map}
@@ -92,28 +95,23 @@ root-form m root form ok = record {
   };
 }
 
-module _ (m : MapText) (compacted : Node) (built : IsBuiltIn (map_of m) compacted) where
-  -- the text of a root's certificate, which is part of the map's minimal pair
-  pub certified-text : (text : List ℕ) → text ≡ certificate_text (root_certificate m built.node)
-      → (l : ListModel) × (c : CertificateModel) × IsMinimalPair (map_of m) l c × HasTextForm c × (text ≡ certificate_text c)
-  certified-text text text_is = (
-    shortest_list (map_of m) (tree_of m.labels built.node),
-    root_certificate m built.node,
-    minimal (map_of m) _ _ (tree_of m.labels built.node) built.is.stands refl refl,
-    root-form m built.node built.is.form built.table,
-    text_is,
-  )
-
-  -- and the text of its compacted certificate
-  pub compacted-text : (c : CertificateModel) (text : List ℕ) → c ≡ record { format = 2; version = m.version; table = m.labels; root = tree_of m.labels compacted } → text ≡ certificate_text c
-      → (l : ListModel) × (d : CertificateModel) × IsMinimalPair (map_of m) l d × HasTextForm d × (text ≡ certificate_text (compact d))
-  compacted-text c text c_is text_is = (
-    shortest_list (map_of m) (tree_of m.labels built.node),
-    root_certificate m built.node,
-    minimal (map_of m) _ _ (tree_of m.labels built.node) built.is.stands refl refl,
-    root-form m built.node built.is.form built.table,
-    text_is ∙ ap certificate_text (c_is ∙ compact-one One m.version m.labels built.node compacted built.table built.is.form.0 refl built.compact_is),
-  )
+-- a root that was built for a map is that of the certificate of the map's minimal pair, compacted
+pub built-certificate : (m : MapText) (found : Certificate) → IsBuiltIn (map_of m) found.root → found.format ≡ Two → found.version ≡ m.version → found.labels ≡ m.labels
+    → (l : ListModel) × (c : CertificateModel) × IsMinimalPair (map_of m) l c × HasTextForm c × IsOpening found c × (certificate_of found ≡ compact c)
+built-certificate m found built format version labels = (
+  shortest_list (map_of m) (tree_of m.labels built.node),
+  root_certificate m built.node,
+  minimal (map_of m) _ _ (tree_of m.labels built.node) built.is.stands refl refl,
+  root-form m built.node built.is.form built.table,
+  record {
+    node = built.node;
+    opens = built.opens;
+    form = rw (labels, version) built.is.form.0;
+    is = sym (λ i. record { format = 1; version = version i; table = labels i; root = tree_of (labels i) built.node });
+  },
+  (λ i. record { format = format_number (format i); version = version i; table = labels i; root = tree_of (labels i) found.root })
+      ∙ compact-one One m.version m.labels built.node found.root built.table built.is.form.0 refl built.compact_is,
+)
 
 -- the entries are those of a certificate's root, with numbers of the map's label table
 pub record AreEntriesOf (m : MapText) (root : Node) (items : List Entry) : Type 0 where

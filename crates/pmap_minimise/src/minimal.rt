@@ -4,19 +4,17 @@ ghost use Rattle.pmap_text.specs.ListModel.{IsEquivalent, ListModel};
 ghost use Rattle.pmap_text.specs.MapText.{map_of};
 ghost use Rattle.pmap_text.specs.PrefixList.{list_of, prefix_of};
 ghost use Rattle.pmap_cert.specs.Acceptance.{IsAccepted, IsLeast, HasListForm, IsMinimalPair};
-ghost use Rattle.pmap_cert.specs.Certificate.{certificate_of};
-ghost use Rattle.pmap_cert.specs.CertificateText.{HasTextForm, certificate_text};
+ghost use Rattle.pmap_cert.specs.Certificate.{IsOpening, certificate_of};
+ghost use Rattle.pmap_cert.specs.CertificateText.{HasTextForm};
 ghost use Rattle.pmap_cert.specs.CertificateModel.{CertificateModel, claim_of};
 ghost use Rattle.pmap_cert.specs.Compacting.{compact};
-ghost use Rattle.pmap_cert.specs.declared.format.Format.TheVariants.{Two};
 ghost use Rattle.label_trie.specs.TrieModel.{IsSettledLeaf, IsUndivided};
-ghost use Rattle.pmap_minimise.specs.Built.{IsBuiltIn};
 
 use crate::building::built_of;
 use crate::claiming::claimed;
 use crate::entries::entries_of;
 use label_trie::Trie;
-use pmap_cert::{Certificate, Format, minimal_pair_is_accepted, write_cert, write_opened};
+use pmap_cert::{Certificate, Format, minimal_pair_is_accepted};
 use pmap_text::{Entries, Labels, MapText, Name, PrefixList, Runs, Stretches};
 use prefix_keys::Version;
 use std::alloc::{AllocError, Global};
@@ -88,36 +86,16 @@ pub fn shortest(alloc: Global, map: MapText) -> Result<PrefixList, AllocError>
     Ok(list_with(map.version, map.name, map.labels, items))
 }
 
-/// Returns the text of the certificate of `minimise`, made without the list and without a node for each of its lines.
-pub fn certificate_text(alloc: Global, map: MapText) -> Result<Vec<u8>, AllocError>
-    // It is the text of the certificate of the map's minimal pair.
-    ensures { IfOk result (λ text. (l : ListModel) × (c : CertificateModel) × IsMinimalPair (map_of map) l c
-        × HasTextForm c × (text.items ≡ certificate_text c)) }
-{
-    let compact = compact_certificate(alloc, map)?;
-    write_opened(alloc, &compact)
-}
-
-/// Returns the text of the compacted certificate of `minimise`, made without a trie, without the list and without the
-/// nodes of the certificate that isn't compacted.
-pub fn compact_text(alloc: Global, map: MapText) -> Result<Vec<u8>, AllocError>
-    // It is the text of the certificate of the map's minimal pair, compacted.
-    ensures { IfOk result (λ text. (l : ListModel) × (c : CertificateModel) × IsMinimalPair (map_of map) l c
-        × HasTextForm c × (text.items ≡ certificate_text (compact c))) }
-{
-    let compact = compact_certificate(alloc, map)?;
-    write_cert(alloc, &compact)
-}
-
-// Returns the compact certificate of the map's minimal pair. The memory of the map's statements is freed first.
-fn compact_certificate(alloc: Global, map: MapText) -> Result<Certificate, AllocError>
-    ensures format { IfOk result (λ c. c.format ≡ Two) }
-    ensures version { IfOk result (λ c. c.version ≡ map.version) }
-    ensures labels { IfOk result (λ c. c.labels ≡ map.labels) }
-    ensures built { IfOk result (λ c. IsBuiltIn (map_of map) c.root) }
+/// Returns the compacted certificate of `minimise`, made without a trie, without the list and without the nodes of the
+/// certificate that isn't compacted. Its `OpenedText` is the text of the certificate of `minimise`.
+pub fn compact_certificate(alloc: Global, map: MapText) -> Result<Certificate, AllocError>
+    // Opened, it is the certificate of the map's minimal pair. It is that certificate compacted.
+    ensures { IfOk result (λ found. (l : ListModel) × (c : CertificateModel) × IsMinimalPair (map_of map) l c
+        × HasTextForm c × IsOpening found c × (certificate_of found ≡ compact c)) }
 {
     map.labels.laws();
     let stretches = Stretches::of_map(alloc, &map)?;
+    // Frees their memory before the certificate is built.
     drop(map.statements);
     let root = built_of(alloc, stretches)?;
     Ok(Certificate::of_format(Format::Two, map.version, map.labels, root))

@@ -1,23 +1,18 @@
-use Rattle.std.proofs.Common.{◌≡◌, ◌-◌, ◌==◌, ◌∙◌, ◌∷◌, ◌++◌, [], ℕ, List, suc, arith, cond, subst}
-use Rattle.std.proofs.lemmas.Result.{on_ok_weaker}
+use Rattle.std.proofs.Common.{◌≡◌, ◌-◌, ◌==◌, ◌∷◌, ◌++◌, [], if◌then◌else◌, ℕ, suc, arith, subst}
+use Rattle.flow_io.specs.Sinks.{Prints}
 use Rattle.pmap_cert.specs.CertificateText.{InnerLine, LeafLine, node_line_text}
-use Rattle.pmap_cert.specs.CertificateModel.{claim_of}
 use Rattle.pmap_cert.specs.Paths.{digit}
-use Rattle.pmap_cert.specs.Opened.{claim_above, node_text, path_node, set_above, text_up}
-use Rattle.pmap_cert.proofs.OpenedTexts.{over-down}
+use Rattle.pmap_cert.specs.Opened.{numbers_of, set_above, text_down}
+use Rattle.pmap_cert.proofs.Printed.{printed-then}
 use Rattle.pmap_cert.proofs.opened.+push_down.Goals as goal
 
 pub returns : goal.returns
-returns t c =
+returns g t c =
     let chain = c.args.chain.now in
-    let side = chain.side.0 in
-    let old = c.args.out.now.items in
-    let new = c.push_down.new.out.items in
+    let set = numbers_of c.args.set.now in
     let more = c.args.bits - 1 in
-    let leaf : List ℕ = node_line_text (LeafLine side) ++ 10 ∷ [] in
     let next : suc more ≡ c.args.bits = omega (arith, c.if-bits-eq0.false) in
-    on_ok_weaker c.push_down.result (λ below end set price.
-    subst (λ (k : ℕ). new ++ (node_text end ++ text_up side chain.value k) ≡ old ++ node_text (path_node side chain.value k end)) next
-    (over-down (digit chain.value more) side (claim_above side (claim_of end) more) (path_node side chain.value more end) old c.push_step.new.out.items new (node_text end) (text_up side chain.value more)
-    (omega arith) (c.in_ok-push_step.ensures ∙ (λ i. old ++ ((node_line_text (InnerLine (price i) (set_above side (set i) more)) ++ 10 ∷ []) ++ cond (digit chain.value more == 1) leaf []))) (below end set price)))
-    c.push_down.ensures
+    subst (λ (k : ℕ). Prints g.S.Sink.sink g.S.Sink.began c.args.out.now c.push_down.new.out (text_down chain.cost chain.side.0 set chain.value k) c.push_down.result) next
+    (printed-then g.S.Sink.sink g.S.Sink.began c.args.out.now c.push_step.new.out c.push_down.new.out
+    ((node_line_text (InnerLine chain.cost (set_above chain.side.0 set more)) ++ 10 ∷ []) ++ (if digit chain.value more == 1 then node_line_text (LeafLine chain.side.0) ++ 10 ∷ [] else []))
+    (text_down chain.cost chain.side.0 set chain.value more) c.push_down.result c.in_ok-push_step.ensures c.push_down.ensures)

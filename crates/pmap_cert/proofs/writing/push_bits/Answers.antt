@@ -25,7 +25,7 @@ digit-before value rest place digits len few is done =
     ∙ (λ i. code i ∷ (ap (λ (n : ℕ). drop n digits) start ∙ done) i) ∙ ap (λ (n : ℕ). bit_digits (path_to value n)) (sym next)
 
 pub loop-place-preserved : goal.loop-place-preserved
-loop-place-preserved c =
+loop-place-preserved g c =
     let place = c.loop-place.place in
     let value = c.args.path.now.value in
     let loop = c.loop-place.invariant in

@@ -1,15 +1,8 @@
-use Rattle.std.proofs.Common.{map}
+use Rattle.std.proofs.Common.{map, arith}
 use Rattle.std.specs.Fmt.{decimal}
-use Rattle.std.proofs.lemmas.List.{append_assoc}
+use Rattle.std.proofs.lemmas.Grind.{common_steps}
 use Rattle.pmap_cert.proofs.Written.{joined-numbers}
 use Rattle.pmap_cert.proofs.writing.push_inner.Goals as goal
 
 pub returns : goal.returns
-returns c =
-    rw (
-      c.in_ok-push-2.ensures.items,
-      c.in_ok-push_set.ensures,
-      c.in_ok-push_number.ensures,
-      c.in_ok-push.ensures.items,
-      joined-numbers (decimal c.args.claim.cost) (map (λ id. id.0) c.args.claim.set.now),
-    ) (simp append_assoc)
+returns g c = rw (joined-numbers (decimal c.args.claim.cost) (map (λ id. id.0) c.args.claim.set.now)) (grind (arith, common_steps))

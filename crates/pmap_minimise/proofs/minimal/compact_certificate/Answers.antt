@@ -3,6 +3,7 @@ use Rattle.prefix_keys.specs.Block.{width_of}
 use Rattle.pmap_text.specs.MapText.{map_of}
 use Rattle.pmap_cert.proofs.CompactForms.{form-compacted}
 use Rattle.pmap_minimise.proofs.BuiltNodes.{map-countable, map-on}
+use Rattle.pmap_minimise.proofs.Whole.{built-certificate}
 use Rattle.pmap_minimise.proofs.minimal.compact_certificate.Goals as goal
 
 pub built_of-requires : goal.built_of-requires
@@ -15,9 +16,10 @@ of_format-requires-clause-form c =
     let built = c.in_ok-root.ensures (map_of m) (map-on m c.in_ok-stretches.stretches is.version is.stretches c.laws.ensures.table) in
     rw built.compact_is (form-compacted (length m.labels) built.node (width_of m.version) built.is.form.1 built.is.form.0)
 
-pub returns-clause-built : goal.returns-clause-built
-returns-clause-built c =
+pub returns : goal.returns
+returns c =
     let m = c.args.map in
     let is = c.in_ok-stretches.ensures in
+    let made = c.of_format.ensures in
     let built = c.in_ok-root.ensures (map_of m) (map-on m c.in_ok-stretches.stretches is.version is.stretches c.laws.ensures.table) in
-    rw c.of_format.ensures.root built
+    built-certificate m c.of_format.result (rw made.root built) made.format made.version made.labels
