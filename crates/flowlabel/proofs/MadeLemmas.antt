@@ -4,10 +4,10 @@ use Rattle.std.proofs.Math.Bool.{or-false}
 use Rattle.std.proofs.lemmas.Grind.{common_steps}
 use Rattle.std.proofs.lemmas.Bool.Decides.{nat_tests}
 use Rattle.std.proofs.lemmas.Bool.{or_parts}
-use Rattle.std.specs.Prelude.{◌++◌, ◌==◌, length, unwrap_or, ⊤, option_copied, option_map}
+use Rattle.std.specs.Prelude.{◌++◌, ◌==◌, length, unwrap_or, ⊤, is_some, option_copied, option_map}
 use Rattle.std.specs.Io.KnownBytes.{Consumes}
 use Rattle.std.specs.Borrow.{Bor}
-use Rattle.std.specs.Result.{IsErrAnd}
+use Rattle.std.specs.Result.{IsErrAnd, result_map_both}
 use Rattle.std.specs.Global.{Vec}
 use Rattle.std.proofs.lemmas.List.{append-nil}
 use Rattle.flow_io.specs.Devices.{InputView, Gives, OutputView, ReadsInput, has_ended}
@@ -16,20 +16,22 @@ use Rattle.ipfix_read.specs.Message.{MessageView}
 use Rattle.ipfix_read.specs.Messages.{StopsReading, file_reading}
 use Rattle.ipfix_read.specs.declared.fault.ReadFault.{ReadFault}
 use Rattle.label_lookup.specs.Labelling.{Labelling, StretchModel, labelling_of_list, labelling_of_map, labelling_of_stretches}
-use Rattle.pmap_text.specs.ListModel.{ListModel}
-use Rattle.pmap_text.specs.MapModel.{MapModel}
 use Rattle.pmap_text.specs.Reading.{list_reading, map_reading}
+use Rattle.pmap_text.specs.declared.fault.MapFault.{MapFault}
 use Rattle.flowlabel.specs.BytesFault.{is_out_of_memory, role_of}
-use Rattle.flowlabel.specs.ByFile.{ByFile, Role, at, turn, with_at}
+use Rattle.flowlabel.specs.ByFile.{ByFile, Role, at, each, turn, with_at}
 use Rattle.flowlabel.specs.ByFile as role
 use Rattle.flowlabel.specs.declared.bytes_fault.BytesFault.TheVariants.{Map as InMap, List as InList, Flows as InFlows}
-use Rattle.flowlabel.specs.Output.{BytesFault, IsOutput, Outcome, Prints, Then}
+use Rattle.flowlabel.specs.Headline.{IsHeadline}
+use Rattle.flowlabel.specs.Output.{BytesFault, IsOutput, LabelsThen, Outcome, Prints, Then}
 use Rattle.flowlabel.proofs.Outcomes.{ReportsOf}
-use Rattle.flowlabel.specs.Reports.{AreFresh, AreReadTo, HasFault, IsFaultIn, IsMade, IsRead, IsWhole, ReadsInto, ReadsLabels, ReportsThen, labelling_found}
+use Rattle.flowlabel.specs.Reports.{AreFresh, AreLabels, AreLabelsOf, AreReadTo, Decodes, HasFault, IsFaultIn, IsMade, IsMadeWritten, IsRead, IsText, IsTextOf, IsWhole, Makes, ReadsInto, ReadsReport, ReportsThen, in_labels, labelling_found, labelling_read, labels_reading, labels_role}
+use Rattle.flowlabel.specs.declared.run.labels.LabelsRead.{LabelsRead}
+use Rattle.flowlabel.specs.declared.run.made.Made.{Made}
 use Rattle.flowlabel.specs.declared.command.LabelFile.{LabelFile}
 use Rattle.flowlabel.specs.declared.command.LabelFile.TheVariants.{Map, List as Prefixes}
 use Rattle.flowlabel.specs.Request.{Command, Text}
-use Rattle.flowlabel.specs.Run.{AreReadOn, AreTexts, AreUnread, EndsAs, IsFaultFor, IsFaultOf, MayHave, CannotRead, File, NoMemory, Readers, RunFault, Source, any_failed, name_in, view_of}
+use Rattle.flowlabel.specs.Run.{AreReadOn, AreTexts, AreUnread, EndsAs, IsFaultFor, IsFaultOf, MayHave, CannotRead, CannotWrite, File, NoMemory, Readers, RunFault, Source, any_failed, name_in, view_of}
 
 -- a result that passes on a fault has the properties of one with this fault
 pub handed_on : {A F : Type 0} (P : Result A F → Type 0) (r : Result A F) (fault : F) → IsErrAnd r (λ y. y ≡ fault) → P (Err fault) → P r
@@ -91,6 +93,13 @@ text_is view text bytes is end (rest, follows, all) = all ∙ ap (λ (l : List �
 pub may_have : (view : InputView) → MayHave view view.returned
 may_have view = ([], λ _. refl, sym (append-nil _))
 
+-- files may have what is returned of them as their texts
+are_texts : {R : Type 0} (input : R → InputView) (files : Readers R) → AreTexts input files (each (λ file. (view_of input file).returned) files)
+are_texts input files role.Map = may_have (view_of input files.map)
+are_texts input files role.List = may_have (view_of input files.list)
+are_texts input files role.Certificate = may_have (view_of input files.certificate)
+are_texts input files role.Flows = may_have (view_of input files.flows)
+
 -- a fault of a text, or of what comes after it, is of no earlier file
 then_first : {F A : Type 0} (in_file : F → BytesFault) (rest : A → Outcome → Type 0) (r : Role) (reading : Result A F) (fault : BytesFault)
     → ((own : F) → role_of (in_file own) ≡ r) → ((value : A) → rest value (Err fault) → turn r ≤ turn (role_of fault))
@@ -113,12 +122,12 @@ module _ {R : Type 0} (input : R → InputView) (old new : Option (Source R)) {V
   not_whole (File file fault) has = absurd (has.2 (view_of input new).returned (may_have (view_of input new)))
   not_whole fault has = absurd has
 
-  pub whole_stops : (result : Result V RunFault) (fault : RunFault) → IsErrAnd result (λ other. other ≡ fault) → IsWhole input old new (Err fault)
+  pub whole_stops : (result : Result V RunFault) (fault : RunFault) → IsErrAnd result (λ other. other ≡ fault) → IsText input old new (Err fault)
       → IsRead input is Bad (λ _. ⊤) old new result
   whole_stops result fault same (reads, has) = handed_on (IsRead input is Bad (λ _. ⊤) old new) result fault same (reads, not_whole fault has)
 
   -- what follows from the text of a file that was read whole
-  module _ (name : Bor Text) (text : Vec ℕ) (whole : IsWhole input old new (Ok (name, text))) where
+  module _ (name : Bor Text) (text : Vec ℕ) (whole : IsText input old new (Ok (name, text))) where
     pub whole_is : (value : V) → is text.items value → IsRead input is Bad (λ _. ⊤) old new (Ok value)
     whole_is value holds = (whole.0, whole.1, λ other may. subst (λ (t : Text). is t value) (sym (whole.2 other may).0) holds)
 
@@ -157,10 +166,11 @@ module _ {R : Type 0} {input : R → InputView} where
 
   module _ {n : ℕ} {old mid : Readers R} (had : AreReadTo input n old mid) where
     -- a command ends without a fault, or because an allocation failed
-    pub done : (Is : ByFile Text → Outcome → Type 0) (out : Vec ℕ) → ((texts : ByFile Text) → AreTexts input mid texts → Is texts (Ok out.items)) → IsMade input Is old mid (Ok out)
-    done Is out is = record { made = (is, had.works); read = had.read }
+    pub done : (Is : ByFile Text → Outcome → Type 0) (made : Made) → IsWhole made
+        → ((texts : ByFile Text) → AreTexts input mid texts → (text : Text) → IsTextOf made text → Is texts (Ok text)) → IsMade input Is old mid (Ok made)
+    done Is made whole is = record { made = (whole, is, had.works); read = had.read }
 
-    pub no_memory_left : (Is : ByFile Text → Outcome → Type 0) (result : Result (Vec ℕ) RunFault) → IsErrAnd result (λ fault. fault ≡ NoMemory) → IsMade input Is old mid result
+    pub no_memory_left : (Is : ByFile Text → Outcome → Type 0) (result : Result Made RunFault) → IsErrAnd result (λ fault. fault ≡ NoMemory) → IsMade input Is old mid result
     no_memory_left Is result same = handed_on (IsMade input Is old mid) result NoMemory same (record { made = had.works; read = had.read })
 
     -- the next file is read
@@ -221,77 +231,155 @@ module _ {R : Type 0} {input : R → InputView} where
           (λ texts fault (f, fails, is). rw fails (ap Err is))
           (λ text fault (f, fails, is). ap role_of is ∙ own f) flows
 
--- a file isn't read as a value
-abbrev pub IsUnreadText : {R F A : Type 0} → (R → InputView) → (F → BytesFault) → (Text → Result A F) → Option (Source R) → Option (Source R) → RunFault → Type 0
-IsUnreadText input in_file reading old new fault =
-    ReadsInput (view_of input old) (view_of input new) (λ _. ⊤) × HasFault input (λ text. IsFaultIn in_file (reading text)) (λ _. ⊤) old new fault
-
 -- a command ends with the fault of its last call
-pub ends_with : {R : Type 0} {input : R → InputView} {Is : ByFile Text → Outcome → Type 0} {old new : Readers R} (result : Result (Vec ℕ) RunFault) (fault : RunFault)
+pub ends_with : {R : Type 0} {input : R → InputView} {Is : ByFile Text → Outcome → Type 0} {old new : Readers R} (result : Result Made RunFault) (fault : RunFault)
     → IsErrAnd result (λ other. other ≡ fault) → IsMade input Is old new (Err fault) → IsMade input Is old new result
 ends_with {input = input} {Is = Is} {old = old} {new = new} = handed_on (IsMade input Is old new)
 
--- a command ends because a map, which is read first, has a fault, or a list after it
+-- a command ends because a file of text, the next one that is read, isn't read as a value
+pub file_fault : {R : Type 0} {input : R → InputView} {n : ℕ} {old mid : Readers R} (had : AreReadTo input n old mid) (r : Role) (early : n ≤ turn r) (before : turn r < 3)
+    (file : Option (Source R)) (Is : ByFile Text → Outcome → Type 0) {F A : Type 0} (in_file : F → BytesFault) (reading : Text → Result A F) (rest : ByFile Text → A → Outcome → Type 0)
+    → ((texts : ByFile Text) → AreTexts input (with_at r file mid) texts → Is texts ≡ Then in_file (rest texts) (reading (at r texts)))
+    → ((own : F) → role_of (in_file own) ≡ r)
+    → ((texts : ByFile Text) (value : A) (fault : BytesFault) → rest texts value (Err fault) → turn r ≤ turn (role_of fault))
+    → {V : Type 0} (model : V → A) (fault : RunFault) → Decodes input in_file reading model (at r mid) file (Err fault) → IsMade input Is old (with_at r file mid) (Err fault)
+file_fault had r early before file Is in_file reading rest same own follows model fault is =
+    decodes_at had r early file is.0 (λ _. ⊤) Is in_file reading rest same own follows
+    (λ last. let wrong : turn r ≡ 3 = ap turn last in absurd (omega (arith, wrong, before))) fault is.1
+
+-- The file that labels come from.
+
+labels_early : (file : LabelFile) → turn (labels_role file) ≤ 1
+labels_early (Map file) = omega arith
+labels_early (Prefixes file) = omega arith
+
+labels_own : (file : LabelFile) (own : MapFault) → role_of (in_labels file own) ≡ labels_role file
+labels_own (Map file) own = refl
+labels_own (Prefixes file) own = refl
+
+then_mapped : {F A B : Type 0} (in_file : F → BytesFault) (f : A → B) (rest : B → Outcome → Type 0) (reading : Result A F)
+    → Then in_file (λ x. rest (f x)) reading ≡ Then in_file rest (result_map_both f (λ fault. fault) reading)
+then_mapped in_file f rest (Ok value) = refl
+then_mapped in_file f rest (Err fault) = refl
+
+-- a fault of a text is the one of its reading as something else
+pub mapped_fault : {R : Type 0} (input : R → InputView) (old new : Option (Source R)) {F A B V W : Type 0} (in_file : F → BytesFault) (reading : Text → Result A F) (f : A → B) (model : V → A) (model' : W → B)
+    (fault : RunFault) → Decodes input in_file reading model old new (Err fault)
+    → Decodes input in_file (λ text. result_map_both f (λ own. own) (reading text)) model' old new (Err fault)
+mapped_fault input old new in_file reading f model model' (File file fault) is =
+    (is.0, (is.1.0, is.1.1, λ text may. let (own, is, same) = is.1.2 text may in (own, ap (result_map_both f (λ own. own)) is, same)))
+mapped_fault input old new in_file reading f model model' NoMemory is = is
+mapped_fault input old new in_file reading f model model' (CannotRead file) is = is
+mapped_fault input old new in_file reading f model model' fault is = absurd is.1
+
+-- the outcome follows from the reading of the file's text as a labelling
+labels_then : (rest : Labelling → Outcome → Type 0) (file : LabelFile) (texts : ByFile Text)
+    → LabelsThen rest file texts ≡ Then (in_labels file) rest (labels_reading file (at (labels_role file) texts))
+labels_then rest (Map file) texts = then_mapped InMap labelling_of_map rest (map_reading texts.map)
+labels_then rest (Prefixes file) texts = then_mapped InList labelling_of_list rest (list_reading texts.list)
+
+module _ {R : Type 0} (input : R → InputView) (old : Readers R) (fresh : AreFresh input old) (file : LabelFile) (new : Readers R) where
+  pub labels_fault : (rest : ByFile Text → Labelling → Outcome → Type 0)
+      → ((texts : ByFile Text) (l : Labelling) (fault : BytesFault) → rest texts l (Err fault) → 1 ≤ turn (role_of fault))
+      → (fault : RunFault) → AreLabels input file old new (Err fault) → IsMade input (λ texts. LabelsThen (rest texts) file texts) old new (Err fault)
+  labels_fault rest follows fault (is, only) =
+      let Is : ByFile Text → Outcome → Type 0 = λ texts. LabelsThen (rest texts) file texts in
+      let early : turn (labels_role file) ≤ 1 = labels_early file in
+      subst (λ (files : Readers R). IsMade input Is old files (Err fault)) (sym only)
+      (file_fault (none_read 0 old fresh) (labels_role file) (omega arith) (omega (arith, early)) (at (labels_role file) new) Is (in_labels file) (labels_reading file) rest
+      (λ texts given. labels_then (rest texts) file texts) (labels_own file) (λ texts l other after. omega (arith, follows texts l other after, early))
+      labelling_read fault is)
+
+  module _ (found : LabelsRead) (is : AreLabels input file old new (Ok found)) where
+    pub labels_read : AreReadTo input 2 old new
+    labels_read =
+        let early : turn (labels_role file) ≤ 1 = labels_early file in
+        subst (λ (files : Readers R). AreReadTo input 2 old files) (sym is.1)
+        (then_read (none_read 0 old fresh) (labels_role file) (omega arith) (at (labels_role file) new) is.0.0 (omega (arith, early)) is.0.1)
+
+    -- the outcome over the text is the one for the labelling
+    pub labels_are : (rest : Labelling → Outcome → Type 0) (texts : ByFile Text) → MayHave (view_of input (at (labels_role file) new)) (at (labels_role file) texts)
+        → LabelsThen rest file texts ≡ rest (labelling_read found)
+    labels_are rest texts may = labels_then rest file texts ∙ ap (Then (in_labels file) rest) (is.0.2 (at (labels_role file) texts) may)
+
+    -- a command ends without a fault
+    pub labels_done : (rest : Labelling → Outcome → Type 0) (made : Made) → IsWhole made → ((out : Text) → IsTextOf made out → rest (labelling_read found) (Ok out))
+        → IsMade input (λ texts. LabelsThen rest file texts) old new (Ok made)
+    labels_done rest made whole says =
+        done labels_read (λ texts. LabelsThen rest file texts) made whole
+        (λ texts given out is_text.
+        subst (λ (P : Outcome → Type 0). P (Ok out)) (sym (labels_are rest texts (given (labels_role file)))) (says out is_text))
+
+-- Reports.
+
 module _ {R : Type 0} (input : R → InputView) (old : Readers R) (fresh : AreFresh input old) where
-  pub map_read : (file : Option (Source R)) {m : ℕ} → 0 < m → ReadsInput (view_of input old.map) (view_of input file) (λ _. ⊤) → (view_of input file).failed ≡ false
-      → AreReadTo input m old (with_at role.Map file old)
-  map_read file after reads = then_read (none_read 0 old fresh) role.Map (omega arith) file reads after
+  -- a report ends with the fault of the file that its labels come from
+  pub source_fault : (text : Option Labelling → List MessageView → List ℕ) (source : Option LabelFile) (new : Readers R) (fault : RunFault)
+      → AreLabelsOf input source old new (Err fault) → IsMade input (ReportsThen text source) old new (Err fault)
+  source_fault text None new fault (none, same) = cc
+  source_fault text (Some file) new fault is =
+      labels_fault input old fresh file new (λ texts l. ReportsOf text (Some l) texts.flows)
+      (λ texts l other after. omega (arith, flows_only text (Some l) texts.flows other after)) fault is
 
-  pub map_fault : (file : Option (Source R)) (rest : ByFile Text → MapModel → Outcome → Type 0) (fault : RunFault)
-      → IsUnreadText input InMap map_reading old.map file fault → IsMade input (λ texts. Then InMap (rest texts) (map_reading texts.map)) old (with_at role.Map file old) (Err fault)
-  map_fault file rest fault is =
-      decodes_at (none_read 0 old fresh) role.Map (omega arith) file is.0 (λ _. ⊤) (λ texts. Then InMap (rest texts) (map_reading texts.map)) InMap map_reading rest (λ texts given. refl)
-      (λ own. refl) (λ texts value other after. omega arith) (λ last. let wrong : 0 ≡ 3 = ap turn last in absurd (omega (arith, wrong))) fault is.1
+  pub source_read : (source : Option LabelFile) (new : Readers R) (found : Option LabelsRead) → AreLabelsOf input source old new (Ok found) → AreReadTo input 2 old new
+  source_read None new found (none, same) = subst (λ (files : Readers R). AreReadTo input 2 old files) (sym same) (none_read 2 old fresh)
+  source_read (Some file) new (Some found) is = labels_read input old fresh file new found is
+  source_read (Some file) new None is = absurd is
 
-module _ {R : Type 0} {input : R → InputView} {n : ℕ} {old mid : Readers R} (had : AreReadTo input n old mid) (early : n ≤ 1) where
-  pub list_read : (file : Option (Source R)) → ReadsInput (view_of input mid.list) (view_of input file) (λ _. ⊤) → (view_of input file).failed ≡ false
-      → AreReadTo input 2 old (with_at role.List file mid)
-  list_read file reads = then_read had role.List early file reads (omega arith)
+  -- there are labels exactly if they come from a file
+  pub source_some : (source : Option LabelFile) (new : Readers R) (found : Option LabelsRead) → AreLabelsOf input source old new (Ok found) → is_some (option_map labelling_read found) ≡ is_some source
+  source_some None new None is = refl
+  source_some None new (Some found) (none, same) = cc
+  source_some (Some file) new (Some found) is = refl
+  source_some (Some file) new None is = absurd is
 
-  pub list_fault : (file : Option (Source R)) (Is : ByFile Text → Outcome → Type 0) (rest : ByFile Text → ListModel → Outcome → Type 0)
-      → ((texts : ByFile Text) → AreTexts input (with_at role.List file mid) texts → Is texts ≡ Then InList (rest texts) (list_reading texts.list))
-      → ((texts : ByFile Text) (l : ListModel) (fault : BytesFault) → rest texts l (Err fault) → 1 ≤ turn (role_of fault))
-      → (fault : RunFault) → IsUnreadText input InList list_reading mid.list file fault → IsMade input Is old (with_at role.List file mid) (Err fault)
-  list_fault file Is rest same follows fault is =
-      decodes_at had role.List early file is.0 (λ _. ⊤) Is InList list_reading rest same (λ own. refl) follows
-      (λ last. let wrong : 1 ≡ 3 = ap turn last in absurd (omega (arith, wrong))) fault is.1
+  -- the outcomes of a report are those for its labels
+  report_is : (text : Option Labelling → List MessageView → List ℕ) (source : Option LabelFile) (new : Readers R) (found : Option LabelsRead) (flows : Option (Source R))
+      → AreLabelsOf input source old new (Ok found) → (texts : ByFile Text) → AreTexts input (with_at role.Flows flows new) texts
+      → ReportsThen text source texts ≡ ReportsOf text (option_map labelling_read found) texts.flows
+  report_is text None new None flows is texts given = refl
+  report_is text None new (Some found) flows (none, same) texts given = cc
+  report_is text (Some (Map file)) new (Some found) flows is texts given =
+      labels_are input old fresh (Map file) new found is (λ l. ReportsOf text (Some l) texts.flows) texts (given role.Map)
+  report_is text (Some (Prefixes file)) new (Some found) flows is texts given =
+      labels_are input old fresh (Prefixes file) new found is (λ l. ReportsOf text (Some l) texts.flows) texts (given role.List)
+  report_is text (Some file) new None flows is texts given = absurd is
 
--- a report on a File whose labels are read
-module _ {R : Type 0} {input : R → InputView} {n : ℕ} {old mid : Readers R} (text : Option Labelling → List MessageView → List ℕ) (had : AreReadTo input n old mid) (early : n ≤ 3)
-    (flows : Option (Source R)) where
-  -- its outcomes are those for the labels
-  report_is : (named : Option LabelFile) (labels : Option Labelling) (texts : ByFile Text) → AreTexts input (with_at role.Flows flows mid) texts
-      → ReadsLabels input named mid labels → ReportsThen text named texts ≡ ReportsOf text labels texts.flows
-  report_is None labels texts given same = ap (λ (l : Option Labelling). ReportsOf text l texts.flows) (sym same)
-  report_is (Some (Map file)) labels texts given (m, reads, same) =
-      ap (Then InMap (λ m. ReportsOf text (Some (labelling_of_map m)) texts.flows)) (reads texts.map (given role.Map)) ∙ ap (λ (l : Option Labelling). ReportsOf text l texts.flows) (sym same)
-  report_is (Some (Prefixes file)) labels texts given (l, reads, same) =
-      ap (Then InList (λ l. ReportsOf text (Some (labelling_of_list l)) texts.flows)) (reads texts.list (given role.List)) ∙ ap (λ (l : Option Labelling). ReportsOf text l texts.flows) (sym same)
+  module _ (source : Option LabelFile) (mid : Readers R) (found : Option LabelsRead) (labels : AreLabelsOf input source old mid (Ok found)) (flows : Option (Source R)) where
+    pub flows_fault : (text : Option Labelling → List MessageView → List ℕ) (fault : RunFault)
+        → ReadsInto input {T = Unit {0}} (λ _ _. ⊤) mid.flows flows (Err fault) → IsMade input (ReportsThen text source) old (with_at role.Flows flows mid) (Err fault)
+    flows_fault text fault (reads, has) =
+        decodes_at (source_read source mid found labels) role.Flows (omega arith) flows reads (λ bytes. (stop : ReadFault) × StopsReading bytes stop) (ReportsThen text source) InFlows file_reading
+        (λ texts messages. Prints (text (option_map labelling_read found) messages)) (λ texts given. report_is text source mid found flows labels texts given)
+        (λ own. refl) (λ texts messages other is. cc) (λ _ bytes stops. stops) fault has
 
-  module _ (named : Option LabelFile) (labels : Option Labelling) (found : ReadsLabels input named mid labels) where
-    pub report_fault : (result : Result (Vec ℕ) RunFault) (fault : RunFault) → IsErrAnd result (λ other. other ≡ fault)
-        → ReadsInto input {T = Unit {0}} (λ _ _. ⊤) mid.flows flows (Err fault) → IsMade input (ReportsThen text named) old (with_at role.Flows flows mid) result
-    report_fault result fault same (reads, has) =
-        handed_on (IsMade input (ReportsThen text named) old (with_at role.Flows flows mid)) result fault same
-        (decodes_at had role.Flows early flows reads (λ bytes. (stop : ReadFault) × StopsReading bytes stop) (ReportsThen text named) InFlows file_reading
-        (λ texts messages. Prints (text labels messages)) (λ texts given. report_is named labels texts given found)
-        (λ own. refl) (λ texts messages other is. cc) (λ _ bytes stops. stops) fault has)
+    pub flows_read : {T : Type 0} (has : Option Labelling → List MessageView → T → Type 0) (P : List MessageView → Type 0) (built : T)
+        → ReadsInto input {T = Unit {0}} (λ messages _. P messages) mid.flows flows (Ok tt)
+        → ((messages : List MessageView) → P messages → has (option_map labelling_read found) messages built) → ReadsReport input has source old (with_at role.Flows flows mid) (Ok built)
+    flows_read has P built (reads, works, is) holds = (
+      then_read (source_read source mid found labels) role.Flows (omega arith) flows reads (omega arith) works,
+      λ texts given.
+          let (messages, reading, has) = is texts.flows (given role.Flows) in (
+            option_map labelling_read found,
+            messages,
+            λ text.
+                subst (λ (P : Outcome → Type 0). P (Ok (text (option_map labelling_read found) messages))) (sym (report_is text source mid found flows labels texts given))
+                (rw reading refl),
+            holds messages has,
+          ),
+    )
 
-    module _ (P : List MessageView → Type 0) (is : ReadsInto input {T = Unit {0}} (λ messages _. P messages) mid.flows flows (Ok tt)) where
-      reads_then : AreReadTo input 4 old (with_at role.Flows flows mid)
-      reads_then = then_read had role.Flows early flows is.0 (omega arith) is.1
-
-      pub report_memory : (result : Result (Vec ℕ) RunFault) → IsErrAnd result (λ fault. fault ≡ NoMemory)
-          → IsMade input (ReportsThen text named) old (with_at role.Flows flows mid) result
-      report_memory = no_memory_left reads_then (ReportsThen text named)
-
-      pub report_done : (out : Vec ℕ) → ((messages : List MessageView) → P messages → out.items ≡ text labels messages)
-          → IsMade input (ReportsThen text named) old (with_at role.Flows flows mid) (Ok out)
-      report_done out says =
-          done reads_then (ReportsThen text named) out (λ texts given.
-          let (messages, reading, has) = is.2 texts.flows (given role.Flows) in
-          subst (λ (P : Outcome → Type 0). P (Ok out.items)) (sym (report_is named labels texts given found))
-          (rw reading (ap Ok (says messages has))))
+-- what is built makes the output of a report
+pub report_done : {R : Type 0} (input : R → InputView) (old new : Readers R) (source : Option LabelFile) {T : Type 0} (has : Option Labelling → List MessageView → T → Type 0) (built : T)
+    → ReadsReport input has source old new (Ok built) → (text : Option Labelling → List MessageView → List ℕ) (made : Made)
+    → ((labels : Option Labelling) (messages : List MessageView) → has labels messages built → IsWhole made × ((out : Text) → IsTextOf made out → out ≡ text labels messages))
+    → IsMade input (ReportsThen text source) old new (Ok made)
+report_done input old new source has built (had, is) text made says =
+    let (labels, messages, read, holds) = is (each (λ file. (view_of input file).returned) new) (are_texts input new) in
+    done had (ReportsThen text source) made (says labels messages holds).0
+    (λ texts given out is_text.
+    let (labels, messages, read, holds) = is texts given in
+    subst (λ (out : Text). ReportsThen text source texts (Ok out)) (sym ((says labels messages holds).1 out is_text)) (read text))
 
 -- an index that is borrowed has the labelling of the index
 pub found_is : (lent : Option (Bor StretchModel)) (owned : Option StretchModel) (labels : Option Labelling)
@@ -324,3 +412,14 @@ run_fault input output command old new writer writer' NoMemory is same = (is, sa
 run_fault input output command old new writer writer' (CannotRead file) is same = (is, same)
 run_fault input output command old new writer writer' (File file fault) is same = (is, same)
 run_fault input output command old new writer writer' fault is same = absurd is
+
+-- a run ends with what its command made, or with a fault of printing it
+pub made_written : {R W : Type 0} (input : R → InputView) (output : W → OutputView) (command : Command) (old new : Readers R) (made : Made) → Makes input (IsOutput command) old new (Ok made)
+    → ((texts : ByFile Text) (out : Text) → IsOutput command texts (Ok out) → IsHeadline command texts out)
+    → (writer writer' : W) (result : Result (Unit {0}) RunFault) → IsMadeWritten output (IsTextOf made) writer writer' result → EndsAs input output command old new writer writer' result
+made_written input output command old new made (whole, is, works) headline writer writer' (Ok done) (out, is_text, writes) =
+    (out, λ texts given. (is texts given out is_text, headline texts out (is texts given out is_text)), writes, works)
+made_written input output command old new made (whole, is, works) headline writer writer' (Err CannotWrite) (out, is_text, stops) =
+    (out, λ texts given. is texts given out is_text, stops, works)
+made_written input output command old new made (whole, is, works) headline writer writer' (Err NoMemory) same = (works, same)
+made_written input output command old new made is headline writer writer' (Err fault) written = absurd written

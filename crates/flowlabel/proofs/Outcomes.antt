@@ -12,9 +12,7 @@ use Rattle.pmap_cert.specs.Compacting.{compact}
 use Rattle.pmap_cert.specs.FormatReading.{format_reading}
 use Rattle.ipfix_read.specs.Messages.{file_reading}
 use Rattle.ipfix_read.specs.Message.{MessageView}
-use Rattle.flow_rows.specs.Counts.{rows_of_messages}
-use Rattle.flow_rows.specs.Elements.{RowView}
-use Rattle.flow_filter.specs.Condition.{Condition, passing}
+use Rattle.flow_filter.specs.Condition.{Condition}
 use Rattle.flow_uniq.specs.declared.field.KeyField.{KeyField}
 use Rattle.flow_uniq.specs.Groups.{groups_of, shown_groups}
 use Rattle.pmap_print.specs.Reports.{groups_text}
@@ -23,6 +21,7 @@ use Rattle.pmap_print.specs.Table.{table_text}
 use Rattle.label_lookup.specs.Labelling.{Labelling, label_where}
 use Rattle.flowlabel.specs.declared.bytes_fault.BytesFault.TheVariants.{List as InList, Flows as InFlows, Certificate as InCertificate, Check as InCheck}
 use Rattle.flowlabel.specs.Output.{Outcome, Prints, Then, labelled_row_lines, minimal_text, shrunk_text}
+use Rattle.flowlabel.specs.Reports.{passing_rows}
 use Rattle.flowlabel.specs.Request.{Shrunk, Text}
 
 abbrev pub ListThen : (ListModel → Outcome → Type 0) → List ℕ → Outcome → Type 0
@@ -47,10 +46,6 @@ PrintsMinimal printed m outcome =
 -- the report on a File under a labelling or without one
 abbrev pub ReportsOf : (Option Labelling → List MessageView → List ℕ) → Option Labelling → List ℕ → Outcome → Type 0
 ReportsOf text labels bytes = Then InFlows (λ messages. Prints (text labels messages)) (file_reading bytes)
-
--- the rows of messages that meet a condition
-abbrev pub passing_rows : Condition → Option Labelling → List MessageView → List RowView
-passing_rows condition labels messages = passing condition labels (rows_of_messages messages)
 
 -- the text of the rows that meet a condition
 abbrev pub report_of_rows : Condition → Bool → Option Labelling → List MessageView → List ℕ

@@ -1,25 +1,24 @@
 -- The lines of rows, one by one.
-use Rattle.std.proofs.Common.{append_assoc, ◌≡◌, ◌∙◌, Bool, true, false, cond, List, [], ◌∷◌, ◌++◌, Option, Some, None, is_some, map, refl, subst, sym, ap}
-use Rattle.std.specs.Prelude.{option_map}
+use Rattle.std.proofs.Common.{append_assoc, ◌≡◌, ◌∙◌, ◌≤◌, Bool, true, false, arith, cond, length, length-append, List, [], ◌∷◌, ◌++◌, Option, Some, None, is_some, map, refl, subst, sym, ap}
+use Rattle.std.specs.Prelude.{Err, Ok, OnOk, Result, option_map}
 use Rattle.std.specs.Borrow.{Bor}
 use Rattle.std.specs.List.{flat_map, zip}
 use Rattle.std.proofs.lemmas.Grind.{flat_map-append}
 use Rattle.std.proofs.lemmas.List.{append-nil, map-append}
 use Rattle.std.proofs.lemmas.List.Elements.{filter-append}
+use Rattle.std.proofs.lemmas.List.Sums.{count_by-le-length, length-filter}
 use Rattle.ipfix_read.specs.Message.{MessageView}
 use Rattle.ipfix_read.specs.declared.set.Set.{Set}
 use Rattle.flow_rows.specs.Counts.{records_in, records_of, rows_of_sets, rows_of_messages, sets_of}
 use Rattle.flow_rows.specs.Elements.{RowView, rows_of_record}
 use Rattle.flow_filter.specs.Condition.{Condition, passing, row_passes}
 use Rattle.pmap_print.specs.declared.row_labels.RowLabels.{RowLabels}
-use Rattle.flow_uniq.specs.Groups.{GroupsModel, groups_of}
-use Rattle.flow_uniq.specs.declared.field.KeyField.{KeyField}
-use Rattle.pmap_print.specs.declared.table.Table.{Table}
-use Rattle.pmap_print.specs.Reports.{LabelTexts, column_count, label_fields, label_texts, label_titles, row_fields, row_line, row_titles, title_line}
-use Rattle.pmap_print.specs.Table.{IsTable, Line}
+use Rattle.pmap_print.specs.Reports.{LabelTexts, label_fields, label_texts, label_titles, row_fields, row_line, row_titles, title_line}
+use Rattle.pmap_print.specs.Table.{Line}
 use Rattle.label_lookup.specs.Labelling.{Labelling, StretchModel, label_where}
 use Rattle.flowlabel.specs.Output.{labelled_row_lines, row_labels}
-use Rattle.flowlabel.specs.Reports.{HasGroups, HasRows, labelling_found}
+use Rattle.flowlabel.specs.Reports.{HasPassing, labelling_found, passing_rows}
+use Rattle.flowlabel.specs.declared.run.filtered.Filtered.{Filtered}
 
 zip_more : {X Y : Type 0} (f : X → Y) (xs : List X) (x : X) → zip (xs ++ x ∷ []) (map f (xs ++ x ∷ [])) ≡ zip xs (map f xs) ++ (x, f x) ∷ []
 zip_more f [] x = refl
@@ -93,27 +92,36 @@ pub with_passing : (condition : Condition) (labels : Option Labelling) (rows : L
 with_passing condition labels rows row passed =
     passing_one condition labels rows row ∙ ap (λ (b : Bool). passing condition labels rows ++ cond b (row ∷ []) []) passed
 
-without_failing : (condition : Condition) (labels : Option Labelling) (rows : List RowView) (row : RowView) → row_passes condition (label_where labels) row ≡ false
+pub without_failing : (condition : Condition) (labels : Option Labelling) (rows : List RowView) (row : RowView) → row_passes condition (label_where labels) row ≡ false
     → passing condition labels (rows ++ row ∷ []) ≡ passing condition labels rows
 without_failing condition labels rows row failed =
     passing_one condition labels rows row ∙ ap (λ (b : Bool). passing condition labels rows ++ cond b (row ∷ []) []) failed
     ∙ append-nil (passing condition labels rows)
 
--- a row that doesn't meet the condition changes neither a table nor groups
-pub failing_row : (condition : Condition) (columns : Bool) (labels : Option Labelling) (rows : List RowView) (row : RowView) (table : Table)
-    → HasRows condition columns labels rows table → row_passes condition (label_where labels) row ≡ false
-    → HasRows condition columns labels (rows ++ row ∷ []) table
-failing_row condition columns labels rows row table has failed = record {
-  padded = has.padded;
-  lines =
-      subst (λ (shown : List RowView). IsTable (column_count (is_some labels)) (labelled_row_lines labels shown) table)
-      (sym (without_failing condition labels rows row failed)) has.lines;
-}
+pub few_passing : (condition : Condition) (labels : Option Labelling) (rows : List RowView) → length (passing condition labels rows) ≤ length rows
+few_passing condition labels rows =
+    let passes : RowView → Bool = row_passes condition (label_where labels) in omega (arith, length-filter passes rows, count_by-le-length passes rows)
 
-pub failing_in_group : (keys : List KeyField) (condition : Condition) (labels : Option Labelling) (rows : List RowView) (row : RowView) (had : GroupsModel)
-    → HasGroups keys condition labels rows had → row_passes condition (label_where labels) row ≡ false
-    → HasGroups keys condition labels (rows ++ row ∷ []) had
-failing_in_group keys condition labels rows row had has failed = record {
-  fields = has.fields;
-  groups = has.groups ∙ ap (groups_of keys (label_where labels)) (sym (without_failing condition labels rows row failed));
-}
+-- the rows of one more message that pass are added
+module _ {T : Type 0} (has : T → Option Labelling → List RowView → T → Type 0) (first : Filtered T) (messages : List MessageView) (now : Filtered T) (is : HasPassing has first messages now) where
+  pub passing_before : has first.taker (labelling_found now.labels) (passing now.filter.now (labelling_found now.labels) (rows_of_messages messages)) now.taker
+  passing_before =
+      subst (λ (f : Bor Condition). has first.taker (labelling_found now.labels) (passing_rows f.now (labelling_found now.labels) messages) now.taker) (sym is.filter)
+      (subst (λ (l : Option (Bor StretchModel)). has first.taker (labelling_found l) (passing_rows first.filter.now (labelling_found l) messages) now.taker) (sym is.labels) is.rows)
+
+  pub passing_more : (m : MessageView) (taker : T) → length (rows_of_sets m.sets) ≤ 131070
+      → has first.taker (labelling_found now.labels) (passing now.filter.now (labelling_found now.labels) (rows_of_messages messages ++ rows_of_sets m.sets)) taker
+      → HasPassing has first (messages ++ m ∷ []) (record now { taker = taker })
+  passing_more m taker few holds = record {
+    filter = is.filter;
+    labels = is.labels;
+    rows =
+        subst (λ (l : Option (Bor StretchModel)). has first.taker (labelling_found l) (passing_rows first.filter.now (labelling_found l) (messages ++ m ∷ [])) taker) is.labels
+        (subst (λ (f : Bor Condition). has first.taker (labelling_found now.labels) (passing_rows f.now (labelling_found now.labels) (messages ++ m ∷ [])) taker) is.filter
+        (subst (λ (rows : List RowView). has first.taker (labelling_found now.labels) (passing now.filter.now (labelling_found now.labels) rows) taker) (rows_more messages m) holds));
+    few = omega (arith, is.few, few, ap length (rows_more messages m), length-append (rows_of_messages messages) (rows_of_sets m.sets), length-append messages (m ∷ []));
+  }
+
+pub on_ok_both : {T E : Type 0} (P Q : Type 0) (r : Result T E) → OnOk r P → OnOk r Q → OnOk r (P × Q)
+on_ok_both P Q (Ok value) p q = (p, q)
+on_ok_both P Q (Err fault) p q = tt

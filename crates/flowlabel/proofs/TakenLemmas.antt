@@ -60,26 +60,26 @@ none_so_far input file p at (none, works) =
     record { read = calls_start no_templates 0 0 (view_of input file) p at; going = at.3; works = works; name = refl; first = none }
 
 -- an allocation failed, and nothing of the file is lost
-pub no_memory : {R T : Type 0} (input : R → InputView) (is_of : List MessageView → T → Type 0) (start now : Option (Source R)) (result : Result T RunFault)
+pub no_memory : {R : Type 0} (input : R → InputView) (Has : List MessageView → Type 0) (start now : Option (Source R)) (result : Result (Unit {0}) RunFault)
     → ReadsInput (view_of input start) (view_of input now) (λ _. ⊤) → (view_of input now).failed ≡ false
-    → IsErrAnd result (λ fault. fault ≡ NoMemory) → ReadsInto input is_of start now result
-no_memory input is_of start now result reads works same = handed_on (ReadsInto input is_of start now) result NoMemory same (reads, works)
+    → IsErrAnd result (λ fault. fault ≡ NoMemory) → ReadsInto input (λ messages _. Has messages) start now result
+no_memory input Has start now result reads works same = handed_on (ReadsInto input (λ messages _. Has messages) start now) result NoMemory same (reads, works)
 
--- The messages so far are read, and this is built from them.
-pub record AreReadInto {R T : Type 0} (input : R → InputView) (is_of : List MessageView → T → Type 0) (start : Option (Source R)) (p : ProgressView) (now : Option (Source R)) (built : T) : Type 0 where
+-- the messages so far are read, and this holds of them
+pub record AreReadInto {R : Type 0} (input : R → InputView) (Has : List MessageView → Type 0) (start : Option (Source R)) (p : ProgressView) (now : Option (Source R)) : Type 0 where
   pub messages : List MessageView
   pub so_far : AreReadSoFar input start messages p now
-  pub is : is_of messages built
+  pub is : Has messages
 
-module _ {R T : Type 0} {input : R → InputView} {is_of : List MessageView → T → Type 0} {start : Option (Source R)} {p : ProgressView} {now : Option (Source R)} {built : T}
-    (had : AreReadInto input is_of start p now built) where
+module _ {R : Type 0} {input : R → InputView} {Has : List MessageView → Type 0} {start : Option (Source R)} {p : ProgressView} {now : Option (Source R)}
+    (had : AreReadInto input Has start p now) where
   -- the next call has a fault
-  pub fault_next : (then : Option (Source R)) (fault : RunFault) (result : Result T RunFault) → IsErrAnd result (λ other. other ≡ fault)
-      → ReadsInto input {T = List MessageView} (λ read all. read ≡ all) start then (Err fault) → ReadsInto input is_of start then result
-  fault_next then fault result same is = handed_on (ReadsInto input is_of start then) result fault same is
+  pub fault_next : (then : Option (Source R)) (fault : RunFault) (result : Result (Unit {0}) RunFault) → IsErrAnd result (λ other. other ≡ fault)
+      → ReadsInto input {T = List MessageView} (λ read all. read ≡ all) start then (Err fault) → ReadsInto input (λ messages _. Has messages) start then result
+  fault_next then fault result same is = handed_on (ReadsInto input (λ messages _. Has messages) start then) result fault same is
 
   -- the next call returns no message
-  pub at_end : (then : Option (Source R)) → ReadsInto input (λ read all. read ≡ all) start then (Ok had.messages) → ReadsInto input is_of start then (Ok built)
+  pub at_end : (then : Option (Source R)) → ReadsInto input (λ read all. read ≡ all) start then (Ok had.messages) → ReadsInto input {T = Unit {0}} (λ messages _. Has messages) start then (Ok tt)
   at_end then (reads, works, has) = (
     reads,
     works,
@@ -88,21 +88,15 @@ module _ {R T : Type 0} {input : R → InputView} {is_of : List MessageView → 
 
   -- the next call returns a message
   module _ (m : MessageView) (p' : ProgressView) (then : Option (Source R)) (next : ReadsNext input start had.messages (Ok (Some m)) p' then) where
-    pub one_counted : (p'.count ≡ p.count + 1) × (p.count < 4294967295)
-    one_counted = (
-      omega (arith, had.so_far.read.counted, next.0.read.counted, length-append had.messages (m ∷ [])),
-      omega (arith, had.so_far.read.counted, next.1),
-    )
-
     pub fewer_left : 4294967295 - p'.count < 4294967295 - p.count
-    fewer_left = omega (arith, one_counted.0, one_counted.1)
+    fewer_left = omega (arith, had.so_far.read.counted, next.0.read.counted, length-append had.messages (m ∷ []), next.1)
 
-    pub one_more : (built' : T) → is_of (had.messages ++ m ∷ []) built' → AreReadInto input is_of start p' then built'
-    one_more built' is = record { messages = had.messages ++ m ∷ []; so_far = next.0; is = is }
+    pub one_more : (Has' : List MessageView → Type 0) → Has' (had.messages ++ m ∷ []) → AreReadInto input Has' start p' then
+    one_more Has' is = record { messages = had.messages ++ m ∷ []; so_far = next.0; is = is }
 
     -- an allocation failed after it
-    pub no_memory_then : (result : Result T RunFault) → IsErrAnd result (λ fault. fault ≡ NoMemory) → ReadsInto input is_of start then result
-    no_memory_then result = no_memory input is_of start then result (next.0.read.taken, next.0.read.consumed, tt) next.0.works
+    pub no_memory_then : (Has' : List MessageView → Type 0) (result : Result (Unit {0}) RunFault) → IsErrAnd result (λ fault. fault ≡ NoMemory) → ReadsInto input (λ messages _. Has' messages) start then result
+    no_memory_then Has' result = no_memory input Has' start then result (next.0.read.taken, next.0.read.consumed, tt) next.0.works
 
 -- the result of the next call, joined to the messages before it
 module _ (joins : CallsJoinFile) {R : Type 0} (input : R → InputView) (start : Option (Source R)) (messages : List MessageView) (p p' : ProgressView) (now then : Option (Source R))

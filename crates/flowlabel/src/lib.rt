@@ -21,10 +21,10 @@
 //! ```
 //!
 //! It depends on all the other libraries. `parse` reads the words of a command line, which clap splits, and `needs` of
-//! `Command` returns which files the command reads. `run` reads these, makes the whole output and then writes it.
-//! `fault_line` returns the line of a fault for standard error, and `status` its exit status. Rely on the contract of
-//! `run`: the bytes written are a stated function of the bytes read, a fault is the first one of those bytes, only a
-//! write fault leaves anything written, and device faults come exactly from failed devices.
+//! `Command` returns which files the command reads. `run` reads these, and writes the output while it is printed, once
+//! nothing but the writer can fail. `fault_line` returns the line of a fault for standard error, and `status` its exit
+//! status. Rely on the contract of `run`: the bytes written are a stated function of the bytes read, a fault is the first
+//! one of those bytes, only a write fault leaves anything written, and device faults come exactly from failed devices.
 //!
 //! `program` is the whole program. `open_all` opens the files that a command names. `execute` joins `parse`, `open_all`
 //! and `run`: by its contract it runs the request of the words over the files that they name. `end` writes help or the

@@ -1,25 +1,28 @@
 ghost use Rattle.std.specs.Prelude.{◌≡◌, false};
 ghost use Rattle.flowlabel.specs.Output.{IsOutput};
-ghost use Rattle.flowlabel.specs.Reports.{AreFresh, IsMade};
+ghost use Rattle.flowlabel.specs.Reports.{AreFresh, IsMade, IsMadeWritten, IsTextOf, IsWhole};
 ghost use Rattle.flowlabel.specs.Run.{AreUnread, any_failed, IsRunOf};
 
 use crate::command::Command;
 use crate::fault::RunFault;
 use crate::inputs::{Files, Inputs};
-use flow_io::{DeviceFault, Input, Output, write_whole};
+use flow_io::{DeviceFault, Input, Output, Printable, write_printed};
+use pmap_cert::{CompactText, OpenedText};
+use pmap_print::{GroupsText, ListText, RunsText};
 use pmap_text::KeyHashing;
 use std::alloc::Global;
 
 mod cat;
 mod check;
+mod filtered;
 mod info;
 mod joined;
 mod label;
 mod labels;
 mod laws;
+mod made;
 mod messages;
 mod reading;
-mod recert;
 mod rows;
 mod shrink;
 mod uniq;
@@ -28,15 +31,17 @@ pub use joined::output_of_joined_file;
 pub use laws::{
     one_output, output_keeps_headline, shrunk_list_is_least, shrunk_list_keeps_reports,
 };
+use made::Made;
+use reading::read_certificate;
 use uniq::Grouping;
 
-// Returns the output of a command over its files, which are read here: the map, the list, the certificate, the flows.
+// Returns what a command prints. Its files are read here: the map, the list, the certificate, the flows.
 fn output<'a, R: Input>(
     alloc: Global,
     command: &Command<'_>,
     files: &mut Files<'a, R>,
     hashing: KeyHashing,
-) -> Result<Vec<u8>, RunFault<'a>>
+) -> Result<Made, RunFault<'a>>
     requires { AreFresh R.input files.old }
     ensures { IsMade R.input (IsOutput command.now) files.old files.new result }
 {
@@ -68,12 +73,59 @@ fn output<'a, R: Input>(
         Command::Cat { labels } => cat::output(alloc, *labels, files, hashing),
         Command::Shrink { printed, .. } => shrink::output(alloc, files, *printed, hashing),
         Command::Check { .. } => check::output(alloc, files, hashing),
-        Command::Recert { .. } => recert::output(alloc, files, hashing),
+        Command::Recert { .. } => {
+            let certificate = read_certificate(alloc, &mut files.certificate, hashing)?;
+            Ok(Made::Compact(certificate))
+        }
     }
 }
 
-/// Runs a command: reads its inputs, makes the whole output, and then writes it and flushes once. The map, the list and
-/// the certificate are each read whole and decoded, in this order. The flows are last, and are read message by message.
+// Writes a value while it is printed, and flushes the writer once.
+fn print_to<'a, P: Printable, W: Output>(writer: &mut W, value: &P) -> Result<(), RunFault<'a>>
+    requires writer { (W.output writer.old).failed ≡ false }
+    requires value { P.is_whole value.now }
+    ensures { IsMadeWritten W.output (P.is_text value.now) writer.old writer.new result }
+{
+    match write_printed(writer, value) {
+        Ok(()) => Ok(()),
+        Err(DeviceFault) => Err(RunFault::CannotWrite),
+    }
+}
+
+// Writes what a command made. What its printing needs is allocated before the writer is called.
+fn write_made<'a, W: Output>(alloc: Global, made: Made, writer: &mut W) -> Result<(), RunFault<'a>>
+    requires writer { (W.output writer.old).failed ≡ false }
+    requires whole { IsWhole made }
+    ensures { IsMadeWritten W.output (IsTextOf made) writer.old writer.new result }
+{
+    match made {
+        Made::Text(text) => print_to(writer, &text.as_slice()),
+        Made::Table(table) => print_to(writer, &table),
+        Made::Groups {
+            groups,
+            sorted,
+            columns,
+        } => print_to(writer, &GroupsText::new(alloc, &groups, sorted, columns)?),
+        Made::Runs { runs, labels } => {
+            let labels = labels.table();
+            print_to(
+                writer,
+                &RunsText {
+                    runs: &runs,
+                    labels,
+                },
+            )
+        }
+        Made::List(list) => print_to(writer, &ListText::new(alloc, &list)?),
+        Made::Certificate(certificate) => print_to(writer, &certificate),
+        Made::Compact(certificate) => print_to(writer, &CompactText::new(alloc, certificate)?),
+        Made::Opened(compact) => print_to(writer, &OpenedText { compact }),
+    }
+}
+
+/// Runs a command: reads its inputs, makes what it prints, takes all memory, and then writes the text while it is printed,
+/// and flushes once. The map, the list and the certificate are each read whole and decoded, in this order. The flows are
+/// last, and are read message by message.
 ///
 /// # Errors
 ///
@@ -94,9 +146,6 @@ pub fn run<'a, R: Input, W: Output>(
 {
     // Provides the law that each output keeps the headline.
     output_keeps_headline();
-    let out = output(alloc, command, &mut inputs.files, inputs.hashing)?;
-    match write_whole(writer, out.as_slice()) {
-        Ok(()) => Ok(()),
-        Err(DeviceFault) => Err(RunFault::CannotWrite),
-    }
+    let made = output(alloc, command, &mut inputs.files, inputs.hashing)?;
+    write_made(alloc, made, writer)
 }

@@ -9,6 +9,7 @@ ghost use Rattle.flowlabel.specs.Request.{Check, Text};
 use crate::bytes_fault::BytesFault;
 use crate::fault::RunFault;
 use crate::inputs::{Files, Source};
+use crate::run::made::Made;
 use crate::run::reading::{read, read_list, read_map};
 use cert_check::{TextFault, check_text};
 use flow_io::Input;
@@ -43,12 +44,12 @@ pub fn output<'a, R: Input>(
     alloc: Global,
     files: &mut Files<'a, R>,
     hashing: KeyHashing,
-) -> Result<Vec<u8>, RunFault<'a>>
+) -> Result<Made, RunFault<'a>>
     requires { AreFresh R.input files.old }
     ensures { (map list certificate : Bor Text) →
         IsMade R.input (IsOutput (Check map list certificate)) files.old files.new result }
 {
     let map = read_map(alloc, &mut files.map, hashing)?;
     let list = read_list(alloc, &mut files.list, hashing)?;
-    checked(alloc, &map, &list, &mut files.certificate, hashing)
+    Ok(Made::Text(checked(alloc, &map, &list, &mut files.certificate, hashing)?))
 }

@@ -2,13 +2,14 @@
 ghost use Rattle.std.specs.Prelude.{◌≡◌, ◌++◌, ◌∷◌, [], IfOk, option_map, unwrap_or};
 ghost use Rattle.label_lookup.specs.Labelling.{labelling};
 ghost use Rattle.flowlabel.specs.Output.{IsOutput, label_text};
-ghost use Rattle.flowlabel.specs.Reports.{AreFresh, IsMade};
+ghost use Rattle.flowlabel.specs.Reports.{AreFresh, IsMade, labelling_read};
 ghost use Rattle.flowlabel.specs.Request.{Label};
 
 use crate::command::LabelFile;
 use crate::fault::RunFault;
 use crate::inputs::Files;
-use crate::run::reading::{read_list, read_map};
+use crate::run::labels::LabelsRead;
+use crate::run::made::Made;
 use flow_io::Input;
 use label_lookup::{Labeller, ListIndex, Scan};
 use pmap_text::KeyHashing;
@@ -36,26 +37,27 @@ fn line_by<L: Labeller>(alloc: Global, labels: &L, addr: Addr) -> Result<Vec<u8>
     }
 }
 
-/// Returns the line of the label that a map or a list gives an address. It searches all statements of a map
-/// once, and builds an index of a list.
+// Returns the line of an address's label. It searches all statements of a map once, and builds an index of a list.
+fn line_of(alloc: Global, read: &LabelsRead, addr: Addr) -> Result<Vec<u8>, AllocError>
+    ensures { IfOk result (λ out. out.items ≡ label_text (addr.version, addr.value) (labelling_read read.now)) }
+{
+    match read {
+        LabelsRead::Map(map) => line_by(alloc, &Scan::new(map), addr),
+        LabelsRead::List(list) => line_by(alloc, &ListIndex::build(alloc, list)?, addr),
+    }
+}
+
+/// Returns the line of the label that a map or a list gives an address.
 pub fn output<'a, R: Input>(
     alloc: Global,
     labels: LabelFile<'_>,
     files: &mut Files<'a, R>,
     addr: Addr,
     hashing: KeyHashing,
-) -> Result<Vec<u8>, RunFault<'a>>
+) -> Result<Made, RunFault<'a>>
     requires { AreFresh R.input files.old }
     ensures { IsMade R.input (IsOutput (Label labels.entry addr)) files.old files.new result }
 {
-    match labels {
-        LabelFile::Map(_) => {
-            let map = read_map(alloc, &mut files.map, hashing)?;
-            Ok(line_by(alloc, &Scan::new(&map), addr)?)
-        }
-        LabelFile::List(_) => {
-            let list = read_list(alloc, &mut files.list, hashing)?;
-            Ok(line_by(alloc, &ListIndex::build(alloc, &list)?, addr)?)
-        }
-    }
+    let read = LabelsRead::of_file(alloc, labels, files, hashing)?;
+    Ok(Made::Text(line_of(alloc, &read, addr)?))
 }

@@ -1,7 +1,7 @@
 //! The messages of an IPFIX File, which are read one after the other.
-ghost use Rattle.std.specs.Prelude.{List, Option};
+ghost use Rattle.std.specs.Prelude.{◌++◌, ◌∷◌, ◌<◌, [], List, OnOk, Option, length};
 ghost use Rattle.ipfix_read.specs.Message.{MessageView};
-ghost use Rattle.flowlabel.specs.Reports.{AreReadSoFar, IsFaultOfCall, ReadsNext};
+ghost use Rattle.flowlabel.specs.Reports.{AreReadSoFar, IsFaultOfCall, IsFresh, ReadsInto, ReadsNext};
 ghost use Rattle.flowlabel.specs.Run.{Source};
 
 use crate::bytes_fault::BytesFault;
@@ -9,6 +9,20 @@ use crate::fault::RunFault;
 use crate::inputs::Source;
 use flow_io::Input;
 use ipfix_read::{Buffer, Message, Progress, ReadFault, ReadFaultKind, calls_join_file};
+use std::alloc::{AllocError, Global};
+
+/// What the messages of a File are added to, one after the other.
+pub trait TakesMessages {
+    // The first value, these messages added to it, and the value with them.
+    ghost has_messages: { Self → List MessageView → Self → Type 0 };
+
+    /// Adds a message. A File has fewer than 2^32 messages.
+    fn take_message(&mut self, message: &Message<'_>) -> Result<(), AllocError>
+        requires { (first : Self) × (messages : List MessageView) × has_messages first messages self.old
+            × (length messages < 4294967295) }
+        ensures { OnOk result ((first : Self) (messages : List MessageView) → has_messages first messages self.old
+            → has_messages first (messages ++ message.now ∷ []) self.new) };
+}
 
 // Returns the fault for that of a call for a message of the file with this name.
 fn fault_of<'a>(name: &'a str, fault: ReadFault) -> RunFault<'a>
@@ -20,9 +34,9 @@ fn fault_of<'a>(name: &'a str, fault: ReadFault) -> RunFault<'a>
     }
 }
 
-/// Reads the next message of a File. Returns `None` at the end. A File that isn't there has no messages.
+// Reads the next message of a File. Returns `None` at the end. A File that isn't there has no messages.
 #[inline(always)]
-pub fn next_message<'a, 'b, R: Input>(
+fn next_message<'a, 'b, R: Input>(
     flows: &mut Option<Source<'a, R>>,
     progress: &mut Progress,
     buffer: &'b mut Buffer,
@@ -40,4 +54,22 @@ pub fn next_message<'a, 'b, R: Input>(
         Ok(message) => Ok(message),
         Err(fault) => Err(fault_of(source.name, fault)),
     }
+}
+
+/// Reads a File message by message, and adds each message.
+pub fn add_messages<'a, R: Input, T: TakesMessages>(
+    alloc: Global,
+    flows: &mut Option<Source<'a, R>>,
+    taker: &mut T,
+) -> Result<(), RunFault<'a>>
+    requires fresh { IsFresh R.input flows.old }
+    requires none { T.has_messages taker.old [] taker.old }
+    ensures { ReadsInto R.input (λ messages _. T.has_messages taker.old messages taker.new) flows.old flows.new result }
+{
+    let mut buffer = Buffer::new(alloc)?;
+    let mut progress = Progress::new(alloc);
+    while let Some(message) = next_message(flows, &mut progress, &mut buffer)? {
+        taker.take_message(&message)?;
+    }
+    Ok(())
 }

@@ -5,7 +5,7 @@ ghost use Rattle.pmap_text.specs.Reading.{list_reading, map_reading};
 ghost use Rattle.pmap_cert.specs.Certificate.{certificate_of};
 ghost use Rattle.pmap_cert.specs.FormatReading.{format_reading};
 ghost use Rattle.flowlabel.specs.declared.bytes_fault.BytesFault.TheVariants.{Certificate as InCertificate, List as InList, Map as InMap};
-ghost use Rattle.flowlabel.specs.Reports.{Decodes, IsFresh, IsWhole};
+ghost use Rattle.flowlabel.specs.Reports.{Decodes, IsFresh, IsText};
 
 use crate::bytes_fault::BytesFault;
 use crate::fault::RunFault;
@@ -21,7 +21,7 @@ pub fn read<'a, R: Input>(
     file: &mut Option<Source<'a, R>>,
 ) -> Result<(&'a str, Vec<u8>), RunFault<'a>>
     requires { IsFresh R.input file.old }
-    ensures { IsWhole R.input file.old file.new result }
+    ensures { IsText R.input file.old file.new result }
 {
     let Some(source) = file else {
         return Ok(("", Vec::new(alloc)));

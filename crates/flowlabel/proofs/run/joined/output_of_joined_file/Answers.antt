@@ -22,7 +22,7 @@ use Rattle.pmap_print.specs.Table.{Line, table_text}
 use Rattle.flowlabel.specs.ByFile.{ByFile, with_at}
 use Rattle.flowlabel.specs.ByFile as role
 use Rattle.flowlabel.specs.declared.bytes_fault.BytesFault.TheVariants.{Map as InMap, List as InList, Flows as InFlows}
-use Rattle.flowlabel.specs.declared.command.Command.TheVariants.{Cat, Check, Info, Label, Recert, Rows, Shrink, Uniq}
+use Rattle.flowlabel.specs.declared.command.Command.TheVariants.{Cat, Info, Label, Rows, Uniq}
 use Rattle.flowlabel.specs.declared.command.LabelFile.{LabelFile}
 use Rattle.flowlabel.specs.declared.command.LabelFile.TheVariants.{Map, List as Prefixes}
 use Rattle.flowlabel.specs.Joined.{IsPutTogether}
@@ -185,6 +185,4 @@ returns c first later follow (Label (Map file) addr) texts out is = λ k d low. 
 returns c first later follow (Label (Prefixes file) addr) texts out is = λ k d low. is
 returns c first later follow (Cat (Map file)) texts out is = λ k d low. is
 returns c first later follow (Cat (Prefixes file)) texts out is = λ k d low. is
-returns c first later follow (Shrink file printed) texts out is = λ k d low. is
-returns c first later follow (Check a b d) texts out is = λ k e low. is
-returns c first later follow (Recert certificate) texts out is = λ k d low. is
+returns c first later follow command texts out is = λ k d low. is

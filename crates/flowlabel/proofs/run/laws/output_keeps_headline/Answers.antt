@@ -32,8 +32,9 @@ use Rattle.pmap_print.specs.Reports.{group_fields, group_titles, info_text, labe
 use Rattle.pmap_print.specs.Table.{Line, table_text}
 use Rattle.flowlabel.specs.Headline.{GivesLabels, IsSameUnder, PrintsEachOnce, PrintsGroups, PrintsList, PrintsRows, row_columns}
 use Rattle.flowlabel.specs.Output.{BytesFault, IsVerdict, IsOutput, LabelsThen, Outcome, Prints, Then, FlowsThen, label_text, labelled_row_lines, minimal_text, row_labels}
-use Rattle.flowlabel.proofs.Outcomes.{CertificateThen, ListThen, PrintsCompact, PrintsMinimal, PrintsRuns, ReportsOf, passing_rows, report_of_groups, report_of_rows, checked}
+use Rattle.flowlabel.proofs.Outcomes.{CertificateThen, ListThen, PrintsCompact, PrintsMinimal, PrintsRuns, ReportsOf, report_of_groups, report_of_rows, checked}
 use Rattle.std.specs.Borrow.{Bor}
+use Rattle.flowlabel.specs.Reports.{passing_rows}
 use Rattle.flowlabel.specs.ByFile.{ByFile}
 use Rattle.flowlabel.specs.Request.{Cat, Check, Command, Info, Label, Recert, Rows, Shrink, Text, Uniq}
 use Rattle.flowlabel.specs.declared.command.LabelFile.{LabelFile}

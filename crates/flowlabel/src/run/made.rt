@@ -1,0 +1,34 @@
+//! What a command prints.
+use crate::run::labels::LabelsRead;
+use flow_uniq::Groups;
+use pmap_cert::Certificate;
+use pmap_print::Table;
+use pmap_text::{PrefixList, Runs};
+
+/// The output of a command, before it is printed.
+#[derive(Drop)]
+pub enum Made {
+    /// A text.
+    Text(Vec<u8>),
+    /// A table of rows.
+    Table(Table),
+    /// Groups, which are sorted or in the order of their first rows, and padded to columns if `columns`.
+    Groups {
+        groups: Groups,
+        sorted: bool,
+        columns: bool,
+    },
+    /// The runs of a map or a list.
+    Runs {
+        runs: Runs,
+        labels: LabelsRead,
+    },
+    /// A prefix list.
+    List(PrefixList),
+    /// A certificate.
+    Certificate(Certificate),
+    /// A certificate, to be printed compacted.
+    Compact(Certificate),
+    /// A compact certificate, to be printed with its chains opened.
+    Opened(Certificate),
+}
