@@ -153,8 +153,7 @@ fn compact_node<S: NodeSink>(
     ensures { OnOk result (S.has_added out.old (node_lines (compacted nat_eq (node_from nodes.now number))) out.new) }
 {
     let Some(halves) = halves_of(nodes, ends, number) else {
-        out.add(nodes.node(number))?;
-        return Ok(());
+        return out.add(nodes.node(number));
     };
     match run_of(nodes, ends, number, halves) {
         Some((path, side, end)) => {
@@ -163,14 +162,12 @@ fn compact_node<S: NodeSink>(
                 path: &path,
                 side,
             })?;
-            compact_node(out, nodes, ends, end)?;
-            Ok(())
+            compact_node(out, nodes, ends, end)
         }
         None => {
             out.add(nodes.node(number))?;
             compact_node(out, nodes, ends, halves.0)?;
-            compact_node(out, nodes, ends, halves.1)?;
-            Ok(())
+            compact_node(out, nodes, ends, halves.1)
         }
     }
 }

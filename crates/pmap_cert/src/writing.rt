@@ -26,8 +26,7 @@ fn push_long<S: Sink>(out: &mut S, number: u32) -> Result<(), S::Fault>
 {
     out.push(b" ")?;
     let mut buffer = Buffer::new();
-    out.push(buffer.format(number).as_bytes())?;
-    Ok(())
+    out.push(buffer.format(number).as_bytes())
 }
 
 // Returns the digits of a number, followed by others, and how many they are.
@@ -101,8 +100,7 @@ fn push_leaf<S: Sink>(out: &mut S, id: LabelId) -> Result<(), S::Fault>
     ensures { Prints S.sink S.began out.old out.new ((node_line_text (LeafLine id.0) ++ 10 ∷ [])) result }
 {
     push_first(out, b'l', id.0)?;
-    out.push(b"\n")?;
-    Ok(())
+    out.push(b"\n")
 }
 
 fn push_inner<S: Sink>(out: &mut S, claim: Claim) -> Result<(), S::Fault>
@@ -110,8 +108,7 @@ fn push_inner<S: Sink>(out: &mut S, claim: Claim) -> Result<(), S::Fault>
 {
     push_first(out, b'n', claim.cost)?;
     push_set(out, claim.set)?;
-    out.push(b"\n")?;
-    Ok(())
+    out.push(b"\n")
 }
 
 // Prints a space and the bits as digits 0 and 1.
@@ -142,8 +139,7 @@ fn push_chain<S: Sink>(
     push_number(out, claim.cost)?;
     push_bits(out, path)?;
     push_numbers(out, side.0, claim.set)?;
-    out.push(b"\n")?;
-    Ok(())
+    out.push(b"\n")
 }
 
 /// Prints the line of a node.
