@@ -1,53 +1,15 @@
 //! Writing a text while it is printed.
 ghost use Rattle.std.specs.Prelude.{◌≡◌, ◌++◌, ◌+◌, ◌≤◌, [], List, false, length, take, ℕ};
+ghost use Rattle.flow_io.specs.declared.buffered.TheConstants.{ROOM};
 ghost use Rattle.flow_io.specs.Devices.{Ends, OutputView, WritesText};
-ghost use Rattle.flow_io.specs.Sinks.{HasTaken};
 
 use crate::devices::{DeviceFault, Output};
-use crate::record::Record;
+use crate::given::{Given, end, give};
 use crate::sink::{Printable, Sink};
 use std::convert::Infallible;
 
 // The number of bytes that are held back at most.
 const ROOM: usize = 32_768;
-
-/// The bytes that a writer was given, for contracts alone: those that it took, and those that were lost.
-#[derive(Drop)]
-pub struct Given {
-    taken: Record,
-    lost: Record,
-}
-
-// Gives a writer bytes. After a call that failed it isn't called again, and the bytes are lost.
-fn give<W: Output>(writer: &mut W, given: &mut Given, bytes: &[u8])
-    requires { (W.output writer.old).failed ≡ false → given.old.lost.bytes ≡ [] }
-    ensures works { (W.output writer.new).failed ≡ false → given.new.lost.bytes ≡ [] }
-    ensures given { given.new.taken.bytes ++ given.new.lost.bytes ≡ (given.old.taken.bytes ++ given.old.lost.bytes) ++ bytes.now }
-    ensures began { (first : OutputView) → HasTaken first (W.output writer.old) given.old.taken.bytes
-        → HasTaken first (W.output writer.new) given.new.taken.bytes }
-{
-    let mut rest = bytes;
-    while !rest.is_empty() && !writer.failed() {
-        if let Ok(count) = writer.write(rest) {
-            given.taken.note(&rest[..count]);
-            rest = &rest[count..];
-        }
-    }
-    given.lost.note(rest);
-}
-
-// Flushes a writer, if it hasn't failed.
-fn end<W: Output>(writer: &mut W, given: &Given) -> Result<(), DeviceFault>
-    requires { (W.output writer.old).failed ≡ false → given.now.lost.bytes ≡ [] }
-    ensures works { (W.output writer.new).failed ≡ false → given.now.lost.bytes ≡ [] }
-    ensures ends { (first : OutputView) → HasTaken first (W.output writer.old) given.now.taken.bytes
-        → Ends first (W.output writer.new) (given.now.taken.bytes ++ given.now.lost.bytes) result }
-{
-    if writer.failed() {
-        return Err(DeviceFault);
-    }
-    writer.flush()
-}
 
 /// A writer that is given a text through a buffer. Whether the writer failed is known at the end.
 #[derive(Drop)]
@@ -57,7 +19,7 @@ pub struct Buffered<'w, W: Output> {
     buffer: &'w mut [u8],
     len: usize,
     ghost works: { (W.output writer.now).failed ≡ false → given.now.lost.bytes ≡ [] },
-    ghost within: { len ≤ length buffer.now },
+    ghost within: { (len ≤ ROOM) × (ROOM ≤ length buffer.now) },
 }
 
 impl<'w, W: Output> Buffered<'w, W> {
@@ -67,6 +29,7 @@ impl<'w, W: Output> Buffered<'w, W> {
     fn new(writer: &'w mut W, given: &'w mut Given, buffer: &'w mut [u8]) -> Self
         requires works { (W.output writer.old).failed ≡ false }
         requires none { (given.old.taken.bytes ≡ []) × (given.old.lost.bytes ≡ []) }
+        requires room { ROOM ≤ length buffer.old }
         ensures same_reference { result.writer.ghost_name ≡ writer.entry.ghost_name }
         ensures began { HasBegun (W.output writer.old) result }
         ensures empty { (sink_of result).printed ≡ [] }
@@ -83,7 +46,7 @@ impl<'w, W: Output> Buffered<'w, W> {
     #[inline(always)]
     fn hold(&mut self, bytes: &[u8], count: usize)
         requires count { count ≤ length bytes.now }
-        requires room { self.old.len + length bytes.now ≤ length self.old.buffer.now }
+        requires room { self.old.len + length bytes.now ≤ ROOM }
         ensures writer { self.new.writer ≡ self.old.writer }
         ensures given { self.new.given ≡ self.old.given }
         ensures held { take self.new.len self.new.buffer.now ≡ take self.old.len self.old.buffer.now ++ take count bytes.now }
@@ -93,20 +56,16 @@ impl<'w, W: Output> Buffered<'w, W> {
         self.len = len + count;
     }
 
-    // Adds bytes after those that are held are given to the writer.
+    // Gives the writer what is held.
     #[inline(never)]
-    fn push_after(&mut self, bytes: &[u8])
-        ensures printed { (sink_of self.new).printed ≡ (sink_of self.old).printed ++ bytes.now }
+    fn give_held(&mut self)
+        ensures printed { (sink_of self.new).printed ≡ (sink_of self.old).printed }
+        ensures empty { self.new.len ≡ 0 }
         ensures same_reference { self.new.writer.ghost_name ≡ self.old.writer.ghost_name }
         ensures began { (first : OutputView) → HasBegun first self.old → HasBegun first self.new }
     {
         give(self.writer, self.given, &self.buffer[..self.len]);
         self.len = 0;
-        if bytes.len() > self.buffer.len() {
-            give(self.writer, self.given, bytes);
-        } else {
-            self.hold(bytes, bytes.len());
-        }
     }
 
     // Gives the writer what is held, and flushes it.
@@ -115,8 +74,7 @@ impl<'w, W: Output> Buffered<'w, W> {
         ensures ends { (first : OutputView) → HasBegun first self.old
             → Ends first (W.output self.new.writer.now) (sink_of self.old).printed result }
     {
-        let held = &self.buffer[..self.len];
-        give(self.writer, self.given, held);
+        self.give_held();
         end(self.writer, self.given)
     }
 
@@ -145,11 +103,14 @@ impl<W: Output> Sink for Buffered<'_, W> {
 
     #[inline(always)]
     fn push_start(&mut self, given: &[u8], count: usize) -> Result<(), Infallible> {
-        if given.len() > self.buffer.len() - self.len {
-            self.push_after(&given[..count]);
-        } else {
-            self.hold(given, count);
+        if given.len() > ROOM - self.len {
+            self.give_held();
+            if given.len() > ROOM {
+                give(self.writer, self.given, &given[..count]);
+                return Ok(());
+            }
         }
+        self.hold(given, count);
         Ok(())
     }
 
@@ -160,7 +121,7 @@ impl<W: Output> Sink for Buffered<'_, W> {
 }
 
 // Writes through a buffer.
-fn write_given<P: Printable, W: Output>(
+fn write_through<P: Printable, W: Output>(
     writer: &mut W,
     given: &mut Given,
     buffer: &mut [u8],
@@ -168,29 +129,13 @@ fn write_given<P: Printable, W: Output>(
 ) -> Result<(), DeviceFault>
     requires works { (W.output writer.old).failed ≡ false }
     requires none { (given.old.taken.bytes ≡ []) × (given.old.lost.bytes ≡ []) }
+    requires room { ROOM ≤ length buffer.old }
     requires value { P.is_whole value.now }
     ensures { WritesText (W.output writer.old) (W.output writer.new) (P.is_text value.now) result }
 {
     let mut out = Buffered::new(writer, given, buffer);
     out.print(value);
     out.finish()
-}
-
-/// Writes the text of a value through a buffer, as [`write_printed`] does.
-pub fn write_through<P: Printable, W: Output>(
-    writer: &mut W,
-    buffer: &mut [u8],
-    value: &P,
-) -> Result<(), DeviceFault>
-    requires writer { (W.output writer.old).failed ≡ false }
-    requires value { P.is_whole value.now }
-    ensures { WritesText (W.output writer.old) (W.output writer.new) (P.is_text value.now) result }
-{
-    let mut given = Given {
-        taken: Record::new(),
-        lost: Record::new(),
-    };
-    write_given(writer, &mut given, buffer, value)
 }
 
 /// Writes the text of a value while it is printed, and then flushes the writer once. Nothing is allocated. If a write
@@ -201,5 +146,5 @@ pub fn write_printed<P: Printable, W: Output>(writer: &mut W, value: &P) -> Resu
     requires value { P.is_whole value.now }
     ensures { WritesText (W.output writer.old) (W.output writer.new) (P.is_text value.now) result }
 {
-    write_through(writer, &mut [0; ROOM], value)
+    write_through(writer, &mut Given::none(), &mut [0; ROOM], value)
 }

@@ -31,6 +31,7 @@
 
 mod buffered;
 mod devices;
+mod given;
 mod laws;
 mod memory;
 mod read_ahead;

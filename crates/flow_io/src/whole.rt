@@ -1,9 +1,9 @@
 //! Reading and writing all bytes.
 ghost use Rattle.std.specs.Prelude.{◌≡◌, ◌<◌, ◌≤◌, ⊤, false, true, length, take, IfOk, OnErr, OnOk};
-ghost use Rattle.flow_io.specs.Devices.{ReadsInput, Gives, StopsWriting, WritesWhole, has_ended, is_failed_read};
+ghost use Rattle.flow_io.specs.Devices.{Ends, ReadsInput, Gives, has_ended, is_failed_read};
 
-use crate::buffered::write_through;
 use crate::devices::{DeviceFault, Input, Output};
+use crate::given::{Given, end, give};
 use std::alloc::Global;
 use thiserror::Error;
 
@@ -74,9 +74,9 @@ pub fn fill<R: Input>(reader: &mut R, bytes: &mut [u8]) -> Result<usize, DeviceF
 /// flush fails, the writer has taken all of them.
 pub fn write_whole<W: Output>(writer: &mut W, bytes: &[u8]) -> Result<(), DeviceFault>
     requires { (W.output writer.old).failed ≡ false }
-    ensures whole { OnOk result (WritesWhole (W.output writer.old) (W.output writer.new) bytes.now) }
-    ensures stopped { OnErr result (StopsWriting (W.output writer.old) (W.output writer.new) bytes.now) }
+    ensures { Ends (W.output writer.old) (W.output writer.new) bytes.now result }
 {
-    // The bytes are in memory, so they need no buffer.
-    write_through(writer, &mut [], &bytes)
+    let mut given = Given::none();
+    give(writer, &mut given, bytes);
+    end(writer, &given)
 }

@@ -78,7 +78,8 @@ fn push_first<S: Sink>(out: &mut S, letter: u8, number: u32) -> Result<(), S::Fa
 
 /// Prints the numbers of a set, with a space before each.
 pub fn push_set<S: Sink>(out: &mut S, set: &[LabelId]) -> Result<(), S::Fault>
-    ensures { Prints S.sink S.began out.old out.new (flat_map (λ n. 32 ∷ decimal n) (map (λ id. id.0) set.now)) result }
+    ensures { Prints S.sink S.began out.old out.new
+        (flat_map (λ n. 32 ∷ decimal n) (map (λ id. id.0) set.now)) result }
 {
     for id in set {
         push_number(out, id.0)?;
@@ -97,14 +98,15 @@ fn push_numbers<S: Sink>(out: &mut S, first: u32, set: &[LabelId]) -> Result<(),
 }
 
 fn push_leaf<S: Sink>(out: &mut S, id: LabelId) -> Result<(), S::Fault>
-    ensures { Prints S.sink S.began out.old out.new ((node_line_text (LeafLine id.0) ++ 10 ∷ [])) result }
+    ensures { Prints S.sink S.began out.old out.new (node_line_text (LeafLine id.0) ++ 10 ∷ []) result }
 {
     push_first(out, b'l', id.0)?;
     out.push(b"\n")
 }
 
 fn push_inner<S: Sink>(out: &mut S, claim: Claim) -> Result<(), S::Fault>
-    ensures { Prints S.sink S.began out.old out.new ((node_line_text (InnerLine claim.entry.cost (map (λ id. id.0) claim.entry.set.now)) ++ 10 ∷ [])) result }
+    ensures { Prints S.sink S.began out.old out.new
+        (node_line_text (InnerLine claim.entry.cost (map (λ id. id.0) claim.entry.set.now)) ++ 10 ∷ []) result }
 {
     push_first(out, b'n', claim.cost)?;
     push_set(out, claim.set)?;
@@ -133,7 +135,9 @@ fn push_chain<S: Sink>(
     path: &Path,
     side: LabelId,
 ) -> Result<(), S::Fault>
-    ensures { Prints S.sink S.began out.old out.new ((node_line_text (ChainLine claim.entry.cost (bits_in path.now) side.0 (map (λ id. id.0) claim.entry.set.now)) ++ 10 ∷ [])) result }
+    ensures { Prints S.sink S.began out.old out.new
+        (node_line_text (ChainLine claim.entry.cost (bits_in path.now) side.0 (map (λ id. id.0) claim.entry.set.now))
+        ++ 10 ∷ []) result }
 {
     out.push(b"c")?;
     push_number(out, claim.cost)?;
@@ -145,7 +149,7 @@ fn push_chain<S: Sink>(
 /// Prints the line of a node.
 #[inline(always)]
 pub fn push_line<S: Sink>(out: &mut S, node: Node) -> Result<(), S::Fault>
-    ensures { Prints S.sink S.began out.old out.new ((node_line_text (line_of node.entry) ++ 10 ∷ [])) result }
+    ensures { Prints S.sink S.began out.old out.new (node_line_text (line_of node.entry) ++ 10 ∷ []) result }
 {
     match node {
         Node::Leaf(id) => push_leaf(out, id),
@@ -204,7 +208,8 @@ fn push_header<S: Sink>(
     version: Version,
     count: u32,
 ) -> Result<(), S::Fault>
-    ensures { Prints S.sink S.began out.old out.new (format_header (format_number format, (version, count)) ++ 10 ∷ []) result }
+    ensures { Prints S.sink S.began out.old out.new
+        (format_header (format_number format, (version, count)) ++ 10 ∷ []) result }
 {
     out.push(b"flowlabel-cert ")?;
     out.push(format_text(format))?;

@@ -26,7 +26,7 @@ fn made_of(alloc: Global, map: MapText, printed: Shrunk) -> Result<Made, AllocEr
     }
 }
 
-/// Returns a shortest list of a map, or of its certificate, compacted or not.
+/// Returns what prints a shortest list of a map, or its certificate, compacted or not.
 pub fn output<'a, R: Input>(
     alloc: Global,
     files: &mut Files<'a, R>,

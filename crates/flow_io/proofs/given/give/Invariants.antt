@@ -3,7 +3,7 @@ use Rattle.std.proofs.Common.{◌≡◌, ◌++◌, ◌+◌, [], false, length}
 use Rattle.std.specs.Prelude.{if◌then◌else◌}
 use Rattle.flow_io.specs.Devices.{OutputView}
 use Rattle.flow_io.specs.Sinks.{HasTaken}
-use Rattle.flow_io.proofs.buffered.give.Given as goal
+use Rattle.flow_io.proofs.given.give.Given as goal
 
 abbrev pub invariant-loop-writer : goal.invariant-loop-writer
 invariant-loop-writer g l =

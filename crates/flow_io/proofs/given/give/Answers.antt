@@ -1,7 +1,7 @@
 -- The writer took the bytes that are gone from the rest, and none were lost before.
 use Rattle.std.proofs.Common.{sym}
 use Rattle.flow_io.proofs.Outlets.{moves_over, has_taken_more}
-use Rattle.flow_io.proofs.buffered.give.Goals as goal
+use Rattle.flow_io.proofs.given.give.Goals as goal
 
 pub loop-writer-preserved-in-Ok : goal.loop-writer-preserved-in-Ok
 loop-writer-preserved-in-Ok g c =
