@@ -4,8 +4,6 @@ use Rattle.flow_io.specs.Sinks.{HasTaken, SinkView}
 use Rattle.flow_io.specs.declared.devices.Output.{Ghosts}
 use Rattle.flow_io.specs.declared.buffered.Buffered.{Buffered}
 
--- Below: only contracts of parts and proofs use these; no promise of the program rests on them.
-
 -- what contracts see of a buffer before a writer: the bytes that the writer took, lost ones, and those that are held
 abbrev pub sink_of : {W : Type 0} {G : Ghosts W} → Buffered W G → SinkView
 sink_of out = record {

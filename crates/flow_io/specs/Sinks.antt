@@ -2,8 +2,6 @@ use Rattle.std.specs.Prelude.{◌≡◌, ◌++◌, ⊤, ℕ, List, Result, Ok, E
 use base.Fml.{GName}
 use Rattle.flow_io.specs.Devices.{OutputView, Takes, Write}
 
--- Below: only contracts of parts and proofs use these; no promise of the program rests on them.
-
 -- what contracts see of a sink: the text that was printed so far, and the reference to the writer below, if there is one
 pub record SinkView : Type 0 where
   pub printed : List ℕ
@@ -17,9 +15,9 @@ Adds sink began old new text =
     × ((first : OutputView) → began first old → began first new)
 
 -- a printer that returns `Ok` has printed this text
-abbrev pub Prints : {S A E : Type 0} → (S → SinkView) → (OutputView → S → Type 0) → S → S → List ℕ → Result A E → Type 0
-Prints sink began old new text (Ok _) = Adds sink began old new text
-Prints sink began old new text (Err _) = ⊤
+abbrev pub Pushes : {S A E : Type 0} → (S → SinkView) → (OutputView → S → Type 0) → S → S → List ℕ → Result A E → Type 0
+Pushes sink began old new text (Ok _) = Adds sink began old new text
+Pushes sink began old new text (Err _) = ⊤
 
 -- the same for one of the texts that a value may have
 abbrev pub PrintsText : {S A E : Type 0} → (S → SinkView) → (OutputView → S → Type 0) → S → S → (List ℕ → Type 0) → Result A E → Type 0

@@ -1,7 +1,7 @@
 //! What texts are printed into.
 ghost use Rattle.std.specs.Prelude.{◌≡◌, ◌≤◌, ⊤, IfOk, List, ℕ, length, take};
 ghost use Rattle.flow_io.specs.Devices.{OutputView};
-ghost use Rattle.flow_io.specs.Sinks.{Prints, PrintsText, SinkView};
+ghost use Rattle.flow_io.specs.Sinks.{Pushes, PrintsText, SinkView};
 
 use std::alloc::{AllocError, Global};
 
@@ -19,11 +19,11 @@ pub trait Sink {
     /// Adds the first `count` of some bytes. All of them may be copied, which is faster if their number is constant.
     fn push_start(&mut self, given: &[u8], count: usize) -> Result<(), Self::Fault>
         requires { count ≤ length given.now }
-        ensures { Prints sink began self.old self.new (take count given.now) result };
+        ensures { Pushes sink began self.old self.new (take count given.now) result };
 
     /// Adds bytes.
     fn push(&mut self, bytes: &[u8]) -> Result<(), Self::Fault>
-        ensures { Prints sink began self.old self.new bytes.now result };
+        ensures { Pushes sink began self.old self.new bytes.now result };
 }
 
 /// A value that has a text.

@@ -22,8 +22,6 @@ pub record ReturnsCertificate (text : List ℕ) (result : Result Certificate Cer
   pub fault : IfErr result (λ fault. fault.kind ≢ NoMemory → format_reading text ≡ Err fault)
   pub memory : IfErr result (λ fault. fault.kind ≡ NoMemory → fault.line ≡ 0)
 
--- Below: only contracts of parts and proofs use these; no promise of the program rests on them.
-
 -- the certificate of format 1 that a compact one is with each chain opened
 pub record IsOpening (compact : Certificate) (c : CertificateModel) : Type 0 where
   pub node : Node

@@ -2,7 +2,7 @@
 ghost use Rattle.std.specs.Prelude.{◌≡◌, ◌+◌, ◌<◌, ◌≤◌, ◌++◌, ◌∷◌, [], OnOk, drop, if◌then◌else◌, length, nat_lt, position, take};
 ghost use Rattle.std.specs.Fmt.{decimal};
 ghost use Rattle.std.specs.List.{flat_map};
-ghost use Rattle.flow_io.specs.Sinks.{Adds, Prints};
+ghost use Rattle.flow_io.specs.Sinks.{Adds, Pushes};
 ghost use Rattle.pmap_cert.specs.CertificateText.{InnerLine, LeafLine, certificate_text, node_line_text};
 ghost use Rattle.pmap_cert.specs.CertificateModel.{CertificateModel, claim_of};
 ghost use Rattle.pmap_cert.specs.Node.{Node as AnyNode, first_node};
@@ -96,7 +96,7 @@ fn find_after(set: &[LabelId], side: LabelId) -> Option<usize>
 
 // Prints the numbers of a set with one more label, in ascending order, with a space before each.
 fn push_set_with<S: Sink>(out: &mut S, set: &[LabelId], side: LabelId) -> Result<(), S::Fault>
-    ensures { Prints S.sink S.began out.old out.new
+    ensures { Pushes S.sink S.began out.old out.new
         (flat_map (λ n. 32 ∷ decimal n) (with_number side.0 (numbers_of set.now))) result }
 {
     let index = find_after(set, side).unwrap_or(set.len());
@@ -114,7 +114,7 @@ fn push_inner_with<S: Sink>(
     set: &[LabelId],
     side: LabelId,
 ) -> Result<(), S::Fault>
-    ensures { Prints S.sink S.began out.old out.new
+    ensures { Pushes S.sink S.began out.old out.new
         (node_line_text (InnerLine cost (with_number side.0 (numbers_of set.now))) ++ 10 ∷ []) result }
 {
     out.push(b"n")?;
@@ -133,7 +133,7 @@ fn push_step<S: Sink>(
     more: u32,
     before: bool,
 ) -> Result<(), S::Fault>
-    ensures { Prints S.sink S.began out.old out.new
+    ensures { Pushes S.sink S.began out.old out.new
         ((node_line_text (InnerLine chain.now.cost (set_above chain.now.side.0 (numbers_of set.now) more)) ++ 10 ∷ [])
         ++ (if before then node_line_text (LeafLine chain.now.side.0) ++ 10 ∷ [] else [])) result }
 {
@@ -163,7 +163,7 @@ fn push_down<S: Sink>(
     bits: u32,
 ) -> Result<(), S::Fault>
     requires { bits ≤ 128 }
-    ensures { Prints S.sink S.began out.old out.new
+    ensures { Pushes S.sink S.began out.old out.new
         (text_down chain.now.cost chain.now.side.0 (numbers_of set.now) chain.now.value bits) result }
 {
     if bits == 0 {
@@ -177,7 +177,7 @@ fn push_down<S: Sink>(
 // Prints the lines of the side blocks after a chain's end.
 fn push_up<S: Sink>(out: &mut S, chain: &Chain, count: u32) -> Result<(), S::Fault>
     requires { count ≤ 128 }
-    ensures { Prints S.sink S.began out.old out.new (text_up chain.now.side.0 chain.now.value count) result }
+    ensures { Pushes S.sink S.began out.old out.new (text_up chain.now.side.0 chain.now.value count) result }
 {
     let mut rest = chain.value;
     for place in 0..count {

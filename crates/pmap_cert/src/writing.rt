@@ -2,7 +2,7 @@
 ghost use Rattle.std.specs.Prelude.{◌≡◌, ◌++◌, ◌<◌, ◌≤◌, ◌∷◌, [], IfOk, length, map, take};
 ghost use Rattle.std.specs.List.{flat_map, join_with_byte};
 ghost use Rattle.std.specs.Fmt.{decimal};
-ghost use Rattle.flow_io.specs.Sinks.{Prints};
+ghost use Rattle.flow_io.specs.Sinks.{Pushes};
 ghost use Rattle.pmap_cert.specs.Certificate.{certificate_of};
 ghost use Rattle.pmap_cert.specs.CertificateText.{ChainLine, InnerLine, LeafLine, bit_digits, certificate_text, format_header, format_word, node_line_text, text_of_lines, version_word};
 ghost use Rattle.pmap_cert.specs.Format.{format_number};
@@ -22,7 +22,7 @@ use std::alloc::{AllocError, Global};
 // Prints a space and a number of four digits or more.
 #[inline(never)]
 fn push_long<S: Sink>(out: &mut S, number: u32) -> Result<(), S::Fault>
-    ensures { Prints S.sink S.began out.old out.new (32 ∷ decimal number) result }
+    ensures { Pushes S.sink S.began out.old out.new (32 ∷ decimal number) result }
 {
     out.push(b" ")?;
     let mut buffer = Buffer::new();
@@ -53,7 +53,7 @@ fn digits_of(number: u32) -> ((u8, u8, u8), usize)
 /// Prints a space and a number.
 #[inline(always)]
 pub fn push_number<S: Sink>(out: &mut S, number: u32) -> Result<(), S::Fault>
-    ensures { Prints S.sink S.began out.old out.new (32 ∷ decimal number) result }
+    ensures { Pushes S.sink S.began out.old out.new (32 ∷ decimal number) result }
 {
     // An optimisation: most labels and costs have at most three digits.
     if number >= 1000 {
@@ -66,7 +66,7 @@ pub fn push_number<S: Sink>(out: &mut S, number: u32) -> Result<(), S::Fault>
 // Prints a letter, a space and a number.
 #[inline(always)]
 fn push_first<S: Sink>(out: &mut S, letter: u8, number: u32) -> Result<(), S::Fault>
-    ensures { Prints S.sink S.began out.old out.new (letter ∷ 32 ∷ decimal number) result }
+    ensures { Pushes S.sink S.began out.old out.new (letter ∷ 32 ∷ decimal number) result }
 {
     if number >= 1000 {
         out.push(&[letter])?;
@@ -78,7 +78,7 @@ fn push_first<S: Sink>(out: &mut S, letter: u8, number: u32) -> Result<(), S::Fa
 
 /// Prints the numbers of a set, with a space before each.
 pub fn push_set<S: Sink>(out: &mut S, set: &[LabelId]) -> Result<(), S::Fault>
-    ensures { Prints S.sink S.began out.old out.new
+    ensures { Pushes S.sink S.began out.old out.new
         (flat_map (λ n. 32 ∷ decimal n) (map (λ id. id.0) set.now)) result }
 {
     for id in set {
@@ -90,7 +90,7 @@ pub fn push_set<S: Sink>(out: &mut S, set: &[LabelId]) -> Result<(), S::Fault>
 // Prints a number and the numbers of a set, with a space before each.
 #[inline(always)]
 fn push_numbers<S: Sink>(out: &mut S, first: u32, set: &[LabelId]) -> Result<(), S::Fault>
-    ensures { Prints S.sink S.began out.old out.new
+    ensures { Pushes S.sink S.began out.old out.new
         (32 ∷ join_with_byte 32 (decimal first ∷ map decimal (map (λ id. id.0) set.now))) result }
 {
     push_number(out, first)?;
@@ -98,14 +98,14 @@ fn push_numbers<S: Sink>(out: &mut S, first: u32, set: &[LabelId]) -> Result<(),
 }
 
 fn push_leaf<S: Sink>(out: &mut S, id: LabelId) -> Result<(), S::Fault>
-    ensures { Prints S.sink S.began out.old out.new (node_line_text (LeafLine id.0) ++ 10 ∷ []) result }
+    ensures { Pushes S.sink S.began out.old out.new (node_line_text (LeafLine id.0) ++ 10 ∷ []) result }
 {
     push_first(out, b'l', id.0)?;
     out.push(b"\n")
 }
 
 fn push_inner<S: Sink>(out: &mut S, claim: Claim) -> Result<(), S::Fault>
-    ensures { Prints S.sink S.began out.old out.new
+    ensures { Pushes S.sink S.began out.old out.new
         (node_line_text (InnerLine claim.entry.cost (map (λ id. id.0) claim.entry.set.now)) ++ 10 ∷ []) result }
 {
     push_first(out, b'n', claim.cost)?;
@@ -115,7 +115,7 @@ fn push_inner<S: Sink>(out: &mut S, claim: Claim) -> Result<(), S::Fault>
 
 // Prints a space and the bits as digits 0 and 1.
 fn push_bits<S: Sink>(out: &mut S, path: &Path) -> Result<(), S::Fault>
-    ensures { Prints S.sink S.began out.old out.new (32 ∷ bit_digits (bits_in path.now)) result }
+    ensures { Pushes S.sink S.began out.old out.new (32 ∷ bit_digits (bits_in path.now)) result }
 {
     let mut digits = [b'0'; 128];
     let mut rest = path.value;
@@ -135,7 +135,7 @@ fn push_chain<S: Sink>(
     path: &Path,
     side: LabelId,
 ) -> Result<(), S::Fault>
-    ensures { Prints S.sink S.began out.old out.new
+    ensures { Pushes S.sink S.began out.old out.new
         (node_line_text (ChainLine claim.entry.cost (bits_in path.now) side.0 (map (λ id. id.0) claim.entry.set.now))
         ++ 10 ∷ []) result }
 {
@@ -149,7 +149,7 @@ fn push_chain<S: Sink>(
 /// Prints the line of a node.
 #[inline(always)]
 pub fn push_line<S: Sink>(out: &mut S, node: Node) -> Result<(), S::Fault>
-    ensures { Prints S.sink S.began out.old out.new (node_line_text (line_of node.entry) ++ 10 ∷ []) result }
+    ensures { Pushes S.sink S.began out.old out.new (node_line_text (line_of node.entry) ++ 10 ∷ []) result }
 {
     match node {
         Node::Leaf(id) => push_leaf(out, id),
@@ -159,7 +159,7 @@ pub fn push_line<S: Sink>(out: &mut S, node: Node) -> Result<(), S::Fault>
 }
 
 pub fn push_nodes<S: Sink>(out: &mut S, nodes: &Nodes) -> Result<(), S::Fault>
-    ensures { Prints S.sink S.began out.old out.new (text_of_lines (map node_line_text nodes.now)) result }
+    ensures { Pushes S.sink S.began out.old out.new (text_of_lines (map node_line_text nodes.now)) result }
 {
     for number in 0..nodes.len() {
         push_line(out, nodes.node(number))?;
@@ -169,7 +169,7 @@ pub fn push_nodes<S: Sink>(out: &mut S, nodes: &Nodes) -> Result<(), S::Fault>
 
 // Prints the labels of a table, each on a line.
 fn push_labels<S: Sink>(out: &mut S, labels: &Labels) -> Result<(), S::Fault>
-    ensures { Prints S.sink S.began out.old out.new (text_of_lines labels.now) result }
+    ensures { Pushes S.sink S.began out.old out.new (text_of_lines labels.now) result }
 {
     labels.laws();
     for number in 0..labels.len() {
@@ -208,7 +208,7 @@ fn push_header<S: Sink>(
     version: Version,
     count: u32,
 ) -> Result<(), S::Fault>
-    ensures { Prints S.sink S.began out.old out.new
+    ensures { Pushes S.sink S.began out.old out.new
         (format_header (format_number format, (version, count)) ++ 10 ∷ []) result }
 {
     out.push(b"flowlabel-cert ")?;
@@ -227,7 +227,7 @@ pub fn push_head<S: Sink>(
     version: Version,
     labels: &Labels,
 ) -> Result<(), S::Fault>
-    ensures { Prints S.sink S.began out.old out.new
+    ensures { Pushes S.sink S.began out.old out.new
         (text_of_lines (format_header (format_number format, (version, length labels.now)) ∷ labels.now)) result }
 {
     labels.laws();

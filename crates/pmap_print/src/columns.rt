@@ -1,7 +1,7 @@
 //! The widths of a table's columns, and the padding of its fields.
 ghost use Rattle.std.specs.Prelude.{◌≡◌, ℕ, ◌<◌, ◌≤◌, List, [], ◌∷◌, ◌++◌, IfOk, length, take, true};
 ghost use Rattle.std.specs.List.{flat_map};
-ghost use Rattle.flow_io.specs.Sinks.{Adds, Prints};
+ghost use Rattle.flow_io.specs.Sinks.{Adds, Pushes};
 ghost use Rattle.pmap_print.specs.Table.{AreWide, Fits, Line, Text, filled_line, line_text, sized, table_text};
 
 use flow_io::Sink;
@@ -16,7 +16,7 @@ const SPACES: [u8; 255] = [b' '; 255];
 #[inline(always)]
 fn push_few<S: Sink>(out: &mut S, bytes: &[u8], count: usize) -> Result<(), S::Fault>
     requires { count ≤ length bytes.now }
-    ensures { Prints S.sink S.began out.old out.new (take count bytes.now) result }
+    ensures { Pushes S.sink S.began out.old out.new (take count bytes.now) result }
 {
     if count <= FEW && bytes.len() >= FEW {
         return out.push_start(&bytes[..FEW], count);
@@ -87,7 +87,7 @@ impl Columns {
         requires { (count : ℕ) × (lines : List Line) × AreWide count lines self.now
             × (text.now ≡ flat_map sized lines) }
         ensures { (count : ℕ) → (lines : List Line) → AreWide count lines self.now
-            → text.now ≡ flat_map sized lines → Prints S.sink S.began out.old out.new (table_text true lines) result }
+            → text.now ≡ flat_map sized lines → Pushes S.sink S.began out.old out.new (table_text true lines) result }
     {
         let mut rest = text;
         while !rest.is_empty() {

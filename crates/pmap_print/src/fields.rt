@@ -1,6 +1,6 @@
 //! Printing fields, each after a mark.
 ghost use Rattle.std.specs.Prelude.{◌≡◌, ◌+◌, ◌^◌, ◌<◌, ◌≤◌, ◌++◌, ◌∷◌, decimal, drop, length, take};
-ghost use Rattle.flow_io.specs.Sinks.{Prints};
+ghost use Rattle.flow_io.specs.Sinks.{Pushes};
 ghost use Rattle.prefix_keys.specs.Print.{address_text, block_text};
 ghost use Rattle.pmap_print.specs.Table.{marked};
 
@@ -51,7 +51,7 @@ pub fn write_address(mark: Mark, addr: Addr, line: &mut [u8], end: usize) -> usi
 #[inline(always)]
 pub fn push_field<S: Sink>(out: &mut S, mark: Mark, field: &[u8]) -> Result<(), S::Fault>
     requires { length field.now ≤ 255 }
-    ensures { Prints S.sink S.began out.old out.new (marked mark field.now) result }
+    ensures { Pushes S.sink S.began out.old out.new (marked mark field.now) result }
 {
     out.push_start(&[mark.of(field.len())], 1)?;
     out.push(field)
@@ -60,7 +60,7 @@ pub fn push_field<S: Sink>(out: &mut S, mark: Mark, field: &[u8]) -> Result<(), 
 /// Prints a mark and a number in decimal.
 #[inline(always)]
 pub fn push_number<S: Sink>(out: &mut S, mark: Mark, number: u64) -> Result<(), S::Fault>
-    ensures { Prints S.sink S.began out.old out.new (marked mark (decimal number)) result }
+    ensures { Pushes S.sink S.began out.old out.new (marked mark (decimal number)) result }
 {
     let mut field = [0; 2 * NUMBER];
     let start = write_number(mark, number, &mut field, NUMBER);
@@ -71,7 +71,7 @@ pub fn push_number<S: Sink>(out: &mut S, mark: Mark, number: u64) -> Result<(), 
 /// Prints a mark and a number of up to 128 bits in decimal.
 #[inline(always)]
 pub fn push_total<S: Sink>(out: &mut S, mark: Mark, number: u128) -> Result<(), S::Fault>
-    ensures { Prints S.sink S.began out.old out.new (marked mark (decimal number)) result }
+    ensures { Pushes S.sink S.began out.old out.new (marked mark (decimal number)) result }
 {
     if number < 1 << 64 {
         return push_number(out, mark, number as u64);
@@ -82,7 +82,7 @@ pub fn push_total<S: Sink>(out: &mut S, mark: Mark, number: u128) -> Result<(), 
 /// Prints a mark and an address.
 #[inline(always)]
 pub fn push_address<S: Sink>(out: &mut S, mark: Mark, addr: Addr) -> Result<(), S::Fault>
-    ensures { Prints S.sink S.began out.old out.new (marked mark (address_text addr.version addr.value)) result }
+    ensures { Pushes S.sink S.began out.old out.new (marked mark (address_text addr.version addr.value)) result }
 {
     let mut field = [0; 2 * ADDRESS];
     let start = write_address(mark, addr, &mut field, ADDRESS);
@@ -92,7 +92,7 @@ pub fn push_address<S: Sink>(out: &mut S, mark: Mark, addr: Addr) -> Result<(), 
 
 /// Prints a block: its address, `/`, and its length.
 pub fn push_block<S: Sink>(out: &mut S, block: &Block) -> Result<(), S::Fault>
-    ensures { Prints S.sink S.began out.old out.new
+    ensures { Pushes S.sink S.began out.old out.new
         (block_text block.now.version block.now.value block.now.len) result }
 {
     let mut field = [0; BLOCK];

@@ -1,7 +1,7 @@
 //! The printed text of groups.
 ghost use Rattle.std.specs.Prelude.{◌≡◌, ◌+◌, ◌++◌, ◌∷◌, [], ℕ, List, IfOk, OnOk, false, length, option_map, slice_get, true};
 ghost use Rattle.std.specs.List.Sorted.{IsPermutation};
-ghost use Rattle.flow_io.specs.Sinks.{Prints};
+ghost use Rattle.flow_io.specs.Sinks.{Pushes};
 ghost use Rattle.flow_uniq.specs.Codes.{IsSmall, part_model};
 ghost use Rattle.flow_uniq.specs.Inner.{group_model};
 ghost use Rattle.flow_uniq.specs.Groups.{shown_groups};
@@ -22,7 +22,7 @@ const TOTALS: usize = 3;
 // Prints the header of groups by these fields. In a table with columns, the names of the columns each follow the byte
 // of their length.
 fn print_header<S: Sink>(out: &mut S, fields: &[KeyField], columns: bool) -> Result<(), S::Fault>
-    ensures { Prints S.sink S.began out.old out.new (header_text columns (group_titles fields.now)) result }
+    ensures { Pushes S.sink S.began out.old out.new (header_text columns (group_titles fields.now)) result }
 {
     for field in fields {
         let name = field.name().as_bytes();
@@ -46,7 +46,7 @@ fn print_header<S: Sink>(out: &mut S, fields: &[KeyField], columns: bool) -> Res
 #[inline(always)]
 fn print_part<S: Sink>(out: &mut S, mark: Mark, part: KeyPart<'_>) -> Result<(), S::Fault>
     requires { IsSmall (part_model part) }
-    ensures { Prints S.sink S.began out.old out.new (marked mark (part_text (part_model part.entry))) result }
+    ensures { Pushes S.sink S.began out.old out.new (marked mark (part_text (part_model part.entry))) result }
 {
     match part {
         KeyPart::Address(addr) => push_address(out, mark, addr),
@@ -63,7 +63,7 @@ fn print_marked<S: Sink>(
     first: Mark,
     mark: Mark,
 ) -> Result<(), S::Fault>
-    ensures { Prints S.sink S.began out.old out.new (marked_line first mark (group_fields (group_model group.now))) result }
+    ensures { Pushes S.sink S.began out.old out.new (marked_line first mark (group_fields (group_model group.now))) result }
 {
     let mut before = first;
     let mut rest = group.key;
@@ -151,7 +151,7 @@ fn print_plain<'a, S: Sink>(
     sorted: &Option<Vec<Group<'a>>>,
 ) -> Result<(), S::Fault>
     requires { IsPermutation groups.now.groups (ordered sorted.now groups.now) }
-    ensures { Prints S.sink S.began out.old out.new
+    ensures { Pushes S.sink S.began out.old out.new
         (groups_text groups.now.fields (ordered sorted.now groups.now) false) result }
 {
     print_header(out, groups.fields(), false)?;

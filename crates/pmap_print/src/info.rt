@@ -1,6 +1,6 @@
 //! The printed text of counts.
 ghost use Rattle.std.specs.Prelude.{◌≡◌, ◌++◌, ◌∷◌, [], IfOk, OnOk, decimal};
-ghost use Rattle.flow_io.specs.Sinks.{Prints};
+ghost use Rattle.flow_io.specs.Sinks.{Pushes};
 ghost use Rattle.flow_rows.specs.Counts.{count_list};
 ghost use Rattle.pmap_print.specs.Reports.{info_text};
 
@@ -12,7 +12,7 @@ use std::alloc::{AllocError, Global};
 
 // Prints the line of a count: its name and its number.
 fn print_count<S: Sink>(out: &mut S, name: &[u8], number: u64) -> Result<(), S::Fault>
-    ensures { Prints S.sink S.began out.old out.new (name.now ++ 32 ∷ decimal number ++ 10 ∷ []) result }
+    ensures { Pushes S.sink S.began out.old out.new (name.now ++ 32 ∷ decimal number ++ 10 ∷ []) result }
 {
     out.push(name)?;
     push_number(out, Mark::End(b' '), number)?;

@@ -1,6 +1,6 @@
 //! The printed text of a prefix list.
 ghost use Rattle.std.specs.Prelude.{◌≡◌, ◌++◌, ◌∷◌, [], IfOk};
-ghost use Rattle.flow_io.specs.Sinks.{Prints};
+ghost use Rattle.flow_io.specs.Sinks.{Pushes};
 ghost use Rattle.pmap_cert.proofs.ReadLines.{name_lines};
 ghost use Rattle.pmap_cert.specs.CertificateText.{text_of_lines};
 ghost use Rattle.pmap_cert.specs.ListText.{entry_line, list_text};
@@ -15,7 +15,7 @@ use std::marker::Model;
 
 // Prints the line with the name, if there is one.
 fn print_name<S: Sink>(out: &mut S, name: &Option<Name>) -> Result<(), S::Fault>
-    ensures { Prints S.sink S.began out.old out.new (text_of_lines (name_lines name.now)) result }
+    ensures { Pushes S.sink S.began out.old out.new (text_of_lines (name_lines name.now)) result }
 {
     if let Some(name) = name {
         out.push(b"map-name ")?;
@@ -27,7 +27,7 @@ fn print_name<S: Sink>(out: &mut S, name: &Option<Name>) -> Result<(), S::Fault>
 
 // Prints the line of an entry: its block and its label.
 fn print_entry<S: Sink>(out: &mut S, entry: &Entry, labels: &Labels) -> Result<(), S::Fault>
-    ensures { Prints S.sink S.began out.old out.new
+    ensures { Pushes S.sink S.began out.old out.new
         (entry_line entry.now.block.version (prefix_of labels.now entry.now) ++ 10 ∷ []) result }
 {
     push_block(out, &entry.block)?;

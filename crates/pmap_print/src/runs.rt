@@ -1,5 +1,5 @@
 ghost use Rattle.std.specs.Prelude.{◌<◌, IfOk, false, length};
-ghost use Rattle.flow_io.specs.Sinks.{Prints};
+ghost use Rattle.flow_io.specs.Sinks.{Pushes};
 ghost use Rattle.pmap_text.specs.Stretches.{AreLabelsBelow, text_held};
 ghost use Rattle.pmap_text.specs.RunsText.{IsRunsText, run_at, run_fields};
 ghost use Rattle.pmap_print.specs.Table.{added_line};
@@ -19,7 +19,7 @@ fn print_run<S: Sink>(
     labels: &Labels,
 ) -> Result<(), S::Fault>
     requires { index < length runs.now.firsts }
-    ensures { Prints S.sink S.began out.old out.new (added_line false
+    ensures { Pushes S.sink S.began out.old out.new (added_line false
         (run_fields runs.now.version (run_at labels.now runs.now index))) result }
 {
     runs.laws();

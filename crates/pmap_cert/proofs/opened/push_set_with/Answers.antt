@@ -2,7 +2,7 @@ use Rattle.std.proofs.Common.{◌≡◌, ◌∙◌, ◌∷◌, ◌++◌, List, �
 use Rattle.std.specs.Fmt.{decimal}
 use Rattle.std.specs.List.{flat_map}
 use Rattle.std.proofs.lemmas.List.Concat.{flat_map-append}
-use Rattle.flow_io.specs.Sinks.{Prints}
+use Rattle.flow_io.specs.Sinks.{Pushes}
 use Rattle.pmap_text.proofs.Places.{place_from_position, position_or_len-le}
 use Rattle.pmap_cert.specs.Opened.{numbers_of, with_number}
 use Rattle.pmap_cert.specs.Sinks.{adds-then}
@@ -28,7 +28,7 @@ returns g c =
     let text : words (with_number side (numbers_of set)) ≡ (words before ++ 32 ∷ decimal side) ++ words after =
     ap words (with-at side set ∙ rw (c.split_at.ensures.front, c.split_at.ensures.back, c.unwrap_or-index.ensures, index) refl) ∙ flat_map-append (λ n. 32 ∷ decimal n) before (side ∷ after)
     ∙ sym (append_assoc (words before) (32 ∷ decimal side) (words after)) in
-    subst (λ (t : List ℕ). Prints g.S.Sink.sink g.S.Sink.began c.args.out.now c.push_set-2.new.out t c.push_set-2.result) (sym text)
+    subst (λ (t : List ℕ). Pushes g.S.Sink.sink g.S.Sink.began c.args.out.now c.push_set-2.new.out t c.push_set-2.result) (sym text)
     (printed-then g.S.Sink.sink g.S.Sink.began c.args.out.now c.push_number.new.out c.push_set-2.new.out (words before ++ 32 ∷ decimal side) (words after) c.push_set-2.result
     (adds-then g.S.Sink.sink g.S.Sink.began c.args.out.now c.push_set.new.out c.push_number.new.out (words before) (32 ∷ decimal side) c.in_ok-push_set.ensures c.in_ok-push_number.ensures)
     c.push_set-2.ensures)
