@@ -1,6 +1,6 @@
 -- How the result of `parse` follows from the kind of clap's error, or from the entries of its matches.
 use Rattle.std.proofs.Common.{◌≡◌, ◌⊎◌, ◌∙◌, Bool, true, false, List, [], ◌∷◌, Option, Some, None, Result, Ok, Err, refl, ap, ap₂, inl, inr}
-use Rattle.std.specs.Prelude.{option_map, unwrap_or}
+use Rattle.std.specs.Prelude.{IfErr, IfOk, option_map, unwrap_or}
 use Rattle.std.specs.List.{list_any}
 use Rattle.std.proofs.lemmas.Bool.{or_right}
 use Rattle.clap.specs.Words.{IsAmong, Kinds, Row, fault_of, is_simple, is_simple_and_free, subcommand_name_of, subcommand_of, subcommand_rows_of}
@@ -8,9 +8,9 @@ use Rattle.clap.specs.declared.error.kind.ErrorKind.{ErrorKind}
 use Rattle.clap.specs.declared.error.kind.ErrorKind.TheVariants as kind
 use Rattle.clap.specs.declared.parser.ArgMatches.{ArgMatches}
 use Rattle.clap.proofs.OnLiterals.{clap_on_literals}
-use Rattle.flowlabel.specs.Request.{Text, request_of, Command}
+use Rattle.flowlabel.specs.Request.{Command, IsProper, Label, Text, request_of}
 use Rattle.flowlabel.specs.Definition.{flowlabel_app}
-use Rattle.flowlabel.specs.Answer.{Answer, Answers, IsAnswer, IsFaultAt, IsFaultOfKind, IsOwnAnswer, IsOwnFault, answer_of, is_help, is_mistake, IsUnlessMemory, UsageFault, Refused, NotUtf8, Help, NoMemory}
+use Rattle.flowlabel.specs.Answer.{Answer, Answers, IsAnswer, IsFaultAt, IsFaultOfKind, IsOwnFault, answer_of, is_help, is_mistake, IsUnlessMemory, UsageFault, Refused, NotUtf8, Help, NoMemory}
 
 -- clap's theorems are about definitions such as this one
 pub flowlabel_is_simple : is_simple flowlabel_app ≡ true
@@ -46,7 +46,7 @@ fault_of_answer words NoMemory own is = tt
 fault_of_answer words fault own is = is
 
 -- a result that is the answer or out of memory is neither a refusal of clap's nor help
-pub own : (answer : Answer) (r : Result Command UsageFault) → IsUnlessMemory request_of answer r → IsOwnAnswer r
+pub own : (answer : Answer) (r : Result Command UsageFault) → IsUnlessMemory request_of answer r → IfErr r IsOwnFault
 own answer (Ok command) says = tt
 own answer (Err fault) says = says.0
 
@@ -78,3 +78,13 @@ own_of_memory k (Refused text) e h = let bad : false ≡ true = rw e at h in cc
 own_of_memory k (Help text) e h = let bad : false ≡ true = rw e at h in cc
 own_of_memory k NotUtf8 e h = absurd h
 own_of_memory k fault e h = tt
+
+-- the address of a command's request is one of its version, as `Addr` ensures
+request_is_proper : (c : Command) → IsProper (request_of c)
+request_is_proper (Label labels addr) = addr.in_range
+request_is_proper c = tt
+
+-- the address of the request of each result is one of its version
+pub answer_is_proper : (r : Result Command UsageFault) → IfOk r (λ c. IsProper (request_of c))
+answer_is_proper (Ok command) = request_is_proper command
+answer_is_proper (Err fault) = tt

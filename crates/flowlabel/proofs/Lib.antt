@@ -6,7 +6,6 @@ pub mod EndLemmas
 pub mod LineLemmas
 pub mod MadeLemmas
 pub mod Outcomes
-pub mod RequestLemmas
 pub mod RowLemmas
 pub mod RunLemmas
 pub mod TakenLemmas

@@ -1,10 +1,11 @@
-use Rattle.std.specs.Prelude.{◌≡◌, ◌≢◌, ◌==◌, ◌&&◌, ◌||◌, Bool, not, true, false, List, [], ◌∷◌, Option, Some, None, Result, Ok, Err, codes, map, ok_or, option_and_then, option_map, unwrap_or, is_none, if◌then◌else◌}
+use Rattle.std.specs.Prelude.{◌≡◌, ◌≢◌, ◌==◌, ◌&&◌, ◌||◌, ◌∷◌, [], Bool, not, true, false, List, codes, map}
+use Rattle.std.specs.Prelude.{Option, Some, None, Result, Ok, Err, if◌then◌else◌, is_none, ok_or, option_map, unwrap_or}
 use Rattle.std.specs.List.{list_any}
 use Rattle.std.specs.Result.{result_map_both}
 use Rattle.std.specs.Str.{bytes_eq}
 use Rattle.std.specs.declared.io.ErrorKind.TheVariants as io
 use Rattle.std.specs.declared.io.ErrorKind.{ErrorKind as IoErrorKind}
-use Rattle.prefix_keys.specs.Text.{AddressOf, address_of}
+use Rattle.prefix_keys.specs.Text.{address_of}
 use Rattle.pmap_text.specs.Reading.{◌>>=◌}
 use Rattle.flow_filter.specs.Condition.{Condition, filter_of, condition_needs_labels}
 use Rattle.flow_filter.specs.Options.{name_of}
@@ -15,10 +16,13 @@ use Rattle.clap.specs.Words.{Row, fault_of, first_of, subcommand_of}
 use Rattle.clap.specs.declared.error.kind.ErrorKind.{ErrorKind}
 use Rattle.clap.specs.declared.error.kind.ErrorKind.TheVariants as kind
 use Rattle.flowlabel.specs.Definition.{flowlabel_app}
-use Rattle.flowlabel.specs.Request.{FromList, FromMap, LabelSource, Request, Text, cat, info, label, request_of, rows, shrink, check, uniq, recert, Command, Shrunk}
+use Rattle.flowlabel.specs.Request.{Command, FromList, FromMap, LabelSource, Request, Shrunk, Text, request_of}
+use Rattle.flowlabel.specs.Request.{cat, check, info, label, recert, rows, shrink, uniq}
 use Rattle.flowlabel.specs.declared.command.Shrunk.TheVariants as shrunk
 pub use Rattle.flowlabel.specs.declared.usage.UsageFault.{UsageFault}
-pub use Rattle.flowlabel.specs.declared.usage.UsageFault.TheVariants.{BadAddress, CompactAlone, Filter, Help, Key, LabelNeedsMap, MapMissing, MapTwice, NoMemory, NotUtf8, Refused}
+pub use Rattle.flowlabel.specs.declared.usage.UsageFault.TheVariants.{BadAddress, CompactAlone, Filter, Help, Key}
+pub use Rattle.flowlabel.specs.declared.usage.UsageFault.TheVariants.{LabelNeedsMap, MapMissing, MapTwice}
+pub use Rattle.flowlabel.specs.declared.usage.UsageFault.TheVariants.{NoMemory, NotUtf8, Refused}
 
 -- The answer to a command line.
 
@@ -37,22 +41,20 @@ abbrev pub sources_in_rows : List Row → Result (Option LabelSource) UsageFault
 sources_in_rows entries =
     source_answer (first_of (codes "pmap") entries) (first_of (codes "list") entries)
 
-abbrev pub address_in_rows : List Row → Option AddressOf
-address_in_rows entries = option_and_then address_of (first_of (codes "address") entries)
+-- the text of a required option or word: clap refuses a line without it
+abbrev pub text_in_rows : Text → List Row → Text
+text_in_rows id entries = unwrap_or (first_of id entries) []
 
 -- the answer for `label`, by the entries that clap finds for it; the faults of the source come first
 abbrev pub answer_of_label : List Row → Answer
 answer_of_label entries =
     sources_in_rows entries >>= (λ found. ok_or found MapMissing >>= (λ labels.
-    ok_or (address_in_rows entries) BadAddress >>= (λ address. Ok (label labels address))))
-
--- the text of a required option or word: clap refuses a line without it
-abbrev pub text_in_rows : Text → List Row → Text
-text_in_rows id entries = unwrap_or (first_of id entries) []
+    ok_or (address_of (text_in_rows (codes "address") entries)) BadAddress >>= (λ address.
+    Ok (label labels address))))
 
 -- whether a flag is given, to which clap then gives the value `true`
 abbrev pub is_given : Text → List Row → Bool
-is_given flag entries = bytes_eq (unwrap_or (first_of flag entries) []) (codes "true")
+is_given flag entries = bytes_eq (text_in_rows flag entries) (codes "true")
 
 -- the condition of the texts of the filter options
 abbrev pub condition_in_rows : List Row → Result Condition UsageFault
@@ -152,11 +154,6 @@ IsOwnFault NotUtf8 = ⊥
 IsOwnFault (Help text) = ⊥
 IsOwnFault fault = Unit {0}
 
--- the result is neither a refusal of clap's nor help
-abbrev pub IsOwnAnswer : {A : Type 0} → Result A UsageFault → Type 0
-IsOwnAnswer (Ok command) = Unit {0}
-IsOwnAnswer (Err fault) = IsOwnFault fault
-
 -- the fault of a command line whose words can't be obtained: a word isn't UTF-8, or an allocation failed
 abbrev pub words_fault_of : IoErrorKind → UsageFault
 words_fault_of io.InvalidData = NotUtf8
@@ -164,7 +161,7 @@ words_fault_of k = NoMemory
 
 -- Below: only contracts of parts and proofs use these; no promise of the program rests on them.
 
--- the result is this answer, with the meaning of its value, or out of memory; it is neither a refusal of clap's nor help
+-- the result is this answer, with the meaning of its value, or out of memory; it is no refusal of clap's and no help
 abbrev pub IsUnlessMemory : {A B : Type 0} → (A → B) → Result B UsageFault → Result A UsageFault → Type 0
 IsUnlessMemory meaning answer (Ok value) = answer ≡ Ok (meaning value)
 IsUnlessMemory meaning answer (Err fault) = IsOwnFault fault × (fault ≢ NoMemory → answer ≡ Err fault)

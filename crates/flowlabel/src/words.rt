@@ -1,10 +1,10 @@
-ghost use Rattle.std.specs.Prelude.{◌≡◌, IfOk, map, option_map, true};
+ghost use Rattle.std.specs.Prelude.{◌≡◌, IfErr, IfOk, map, option_map, true};
 ghost use Rattle.flow_filter.specs.Filters.{option_texts};
 ghost use Rattle.flow_filter.specs.Options.{name_of};
 ghost use Rattle.clap.specs.Words.{first_of, found_of, kind_of, rows_of, takes};
 ghost use Rattle.flowlabel.specs.Definition.{flowlabel_app};
 ghost use Rattle.flowlabel.specs.Request.{IsProper, Text, request_of, source_of};
-ghost use Rattle.flowlabel.specs.Answer.{HaveOneAnswer, IsAnswer, IsFaultOfKind, IsOwnAnswer, IsUnlessMemory, LinesHaveAnswers, address_in_rows, answer_of, answer_of_cat, answer_of_label, answer_of_rows, answer_of_shrink, text_in_rows, is_given, sources_in_rows, words_fault_of, condition_in_rows, answer_of_uniq, fields_in_rows};
+ghost use Rattle.flowlabel.specs.Answer.{HaveOneAnswer, IsAnswer, IsFaultOfKind, IsOwnFault, IsUnlessMemory, LinesHaveAnswers, answer_of, answer_of_cat, answer_of_label, answer_of_rows, answer_of_shrink, text_in_rows, is_given, sources_in_rows, words_fault_of, condition_in_rows, answer_of_uniq, fields_in_rows};
 
 use crate::command::{Command, LabelFile, Shrunk};
 use crate::definition::definition;
@@ -13,7 +13,7 @@ use clap::ArgMatches;
 use clap::error::ErrorKind;
 use flow_filter::{ALL_OPTIONS, Filter, FilterFaultKind, FilterWords};
 use flow_uniq::Keys;
-use prefix_keys::{Addr, read_addr};
+use prefix_keys::read_addr;
 use std::alloc::Global;
 use std::convert::AsStr;
 use std::io;
@@ -34,24 +34,23 @@ fn fault_of_error(alloc: Global, error: &clap::Error) -> UsageFault
     }
 }
 
-fn text_of<'a>(entries: &ArgMatches<'a>, id: &str) -> Option<&'a str>
+fn first_text<'a>(entries: &ArgMatches<'a>, id: &str) -> Option<&'a str>
     ensures { option_map (λ s. s.now) result ≡ first_of id.now (rows_of (found_of entries.now)) }
 {
     entries.get_str(id)
 }
 
-fn address_in(entries: &ArgMatches<'_>) -> Option<Addr>
-    ensures { option_map (λ a. (a.version, a.value)) result
-        ≡ address_in_rows (rows_of (found_of entries.now)) }
+// The text of a required option or word. Clap refuses a line without it.
+fn needed_text<'a>(entries: &ArgMatches<'a>, id: &str) -> &'a str
+    ensures { result.now ≡ text_in_rows id.now (rows_of (found_of entries.now)) }
 {
-    let text = text_of(entries, "address")?;
-    read_addr(text.as_bytes())
+    first_text(entries, id).unwrap_or("")
 }
 
 fn labels_in<'a>(entries: &ArgMatches<'a>) -> Result<Option<LabelFile<'a>>, UsageFault>
     ensures { IsUnlessMemory (option_map source_of) (sources_in_rows (rows_of (found_of entries.now))) result }
 {
-    match (text_of(entries, "pmap"), text_of(entries, "list")) {
+    match (first_text(entries, "pmap"), first_text(entries, "list")) {
         (Some(_), Some(_)) => Err(UsageFault::MapTwice),
         (Some(map), None) => Ok(Some(LabelFile::Map(map))),
         (None, Some(list)) => Ok(Some(LabelFile::List(list))),
@@ -63,29 +62,23 @@ fn label_command<'a>(entries: &ArgMatches<'a>) -> Result<Command<'a>, UsageFault
     ensures { IsUnlessMemory request_of (answer_of_label (rows_of (found_of entries.now))) result }
 {
     let labels = labels_in(entries)?.ok_or(UsageFault::MapMissing)?;
-    let addr = address_in(entries).ok_or(UsageFault::BadAddress)?;
+    let text = needed_text(entries, "address");
+    let addr = read_addr(text.as_bytes()).ok_or(UsageFault::BadAddress)?;
     Ok(Command::Label { labels, addr })
-}
-
-// The text of a required option or word. Clap refuses a line without it.
-fn needed_text<'a>(entries: &ArgMatches<'a>, id: &str) -> &'a str
-    ensures { result.now ≡ text_in_rows id.now (rows_of (found_of entries.now)) }
-{
-    text_of(entries, id).unwrap_or("")
 }
 
 // Returns whether a flag is given. Clap gives the text `true` to a flag that is.
 fn is_given(entries: &ArgMatches<'_>, flag: &str) -> bool
     ensures { result ≡ is_given flag.now (rows_of (found_of entries.now)) }
 {
-    text_of(entries, flag).unwrap_or("") == "true"
+    needed_text(entries, flag) == "true"
 }
 
 fn filter_words_in<'a>(entries: &ArgMatches<'a>) -> FilterWords<'a>
     ensures { option_texts result ≡ map (λ o. first_of (name_of o) (rows_of (found_of entries.now))) ALL_OPTIONS }
 {
     FilterWords {
-        texts: ALL_OPTIONS.map(|option| text_of(entries, option.name())),
+        texts: ALL_OPTIONS.map(|option| first_text(entries, option.name())),
     }
 }
 
@@ -176,32 +169,27 @@ fn command_of<'a>(
 {
     if name == "info" {
         let flows = needed_text(entries, "flows");
-        return Ok(Command::Info { flows });
-    }
-    if name == "rows" {
-        return rows_command(alloc, entries);
-    }
-    if name == "uniq" {
-        return uniq_command(alloc, entries);
-    }
-    if name == "cat" {
-        return cat_command(entries);
-    }
-    if name == "shrink" {
-        return shrink_command(entries);
-    }
-    if name == "check" {
-        return Ok(Command::Check {
+        Ok(Command::Info { flows })
+    } else if name == "rows" {
+        rows_command(alloc, entries)
+    } else if name == "uniq" {
+        uniq_command(alloc, entries)
+    } else if name == "cat" {
+        cat_command(entries)
+    } else if name == "shrink" {
+        shrink_command(entries)
+    } else if name == "check" {
+        Ok(Command::Check {
             map: needed_text(entries, "pmap"),
             list: needed_text(entries, "list"),
             certificate: needed_text(entries, "cert"),
-        });
-    }
-    if name == "recert" {
+        })
+    } else if name == "recert" {
         let certificate = needed_text(entries, "cert");
-        return Ok(Command::Recert { certificate });
+        Ok(Command::Recert { certificate })
+    } else {
+        label_command(entries)
     }
-    label_command(entries)
 }
 
 /// Returns the fault of a command line whose words can't be obtained, by the kind of the error: a word isn't UTF-8, or
@@ -232,7 +220,7 @@ pub fn lines_have_one_answer()
 pub fn parse<'a, S: AsStr>(alloc: Global, words: &'a [S]) -> Result<Command<'a>, UsageFault>
     ensures answer { IsAnswer (map S.text words.entry.now) result }
     ensures proper { IfOk result (λ command. IsProper (request_of command)) }
-    ensures taken { takes flowlabel_app (map S.text words.entry.now) ≡ true → IsOwnAnswer result }
+    ensures taken { takes flowlabel_app (map S.text words.entry.now) ≡ true → IfErr result IsOwnFault }
 {
     let command = definition(alloc)?;
     match command.try_get_matches_from(words) {

@@ -2,8 +2,7 @@ use Rattle.std.proofs.Common.{◌∙◌, List, ap, sym, subst, map}
 use Rattle.std.specs.Prelude.{option_map}
 use Rattle.clap.specs.Words.{App, HasKind, Row, Text, fault_of, found_of, is_simple, is_simple_and_free, rows_of, subcommand_of, takes}
 use Rattle.flowlabel.specs.Answer.{answer_of}
-use Rattle.flowlabel.proofs.AnswerLemmas.{answers, fault_at, flowlabel_is_free, flowlabel_is_simple, own, own_of_memory, subcommand_is}
-use Rattle.flowlabel.proofs.RequestLemmas.{answer_is_proper}
+use Rattle.flowlabel.proofs.AnswerLemmas.{answer_is_proper, answers, fault_at, flowlabel_is_free, flowlabel_is_simple, own, own_of_memory, subcommand_is}
 use Rattle.flowlabel.proofs.words.parse.Goals as goal
 
 pub returns-in-Ok-clause-answer : goal.returns-in-Ok-clause-answer
