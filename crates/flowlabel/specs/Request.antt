@@ -1,10 +1,11 @@
-use Rattle.std.specs.Prelude.{◌^◌, ◌<◌, ℕ, Bool, List, Option, Some, None, is_some, option_and_then, option_map}
+use Rattle.std.specs.Prelude.{◌^◌, ◌<◌, ℕ, Bool, List, Option, Some, None, option_map}
 use Rattle.std.specs.Borrow.{Bor}
 use Rattle.prefix_keys.specs.Text.{AddressOf}
 use Rattle.prefix_keys.specs.Block.{width_of}
 use Rattle.flow_filter.specs.Condition.{Condition}
 pub use Rattle.flowlabel.specs.declared.command.Command.{Command}
-pub use Rattle.flowlabel.specs.declared.command.Command.TheVariants.{Cat, Check, Info, Label, Recert, Rows, Shrink, Uniq}
+pub use Rattle.flowlabel.specs.declared.command.Command.TheVariants.{Cat, Check, Info, Label}
+pub use Rattle.flowlabel.specs.declared.command.Command.TheVariants.{Recert, Rows, Shrink, Uniq}
 use Rattle.flow_uniq.specs.declared.field.KeyField.{KeyField}
 use Rattle.flowlabel.specs.ByFile.{ByFile, each}
 use Rattle.flowlabel.specs.declared.command.LabelFile.{LabelFile}
@@ -59,22 +60,13 @@ request_of (Shrink map printed) = shrink map.now printed
 request_of (Check map list certificate) = check map.now list.now certificate.now
 request_of (Recert certificate) = recert certificate.now
 
--- the names of the map and of the list of a source, and of all files of a request
-abbrev pub map_in : LabelSource → Option Text
-map_in (FromMap file) = Some file
-map_in (FromList file) = None
-
-abbrev pub list_in : LabelSource → Option Text
-list_in (FromMap file) = None
-list_in (FromList file) = Some file
-
+-- the names of the files of labels and of flows, and of all files of a request
 abbrev pub files_named : Option LabelSource → Option Text → ByFile (Option Text)
-files_named source flows = record {
-  map = option_and_then map_in source;
-  list = option_and_then list_in source;
-  certificate = None;
-  flows = flows;
-}
+files_named None flows = record { map = None; list = None; certificate = None; flows = flows }
+files_named (Some (FromMap map)) flows =
+    record { map = Some map; list = None; certificate = None; flows = flows }
+files_named (Some (FromList list)) flows =
+    record { map = None; list = Some list; certificate = None; flows = flows }
 
 abbrev pub files_of : Request → ByFile (Option Text)
 files_of (label source address) = files_named (Some source) None
@@ -92,7 +84,3 @@ files_of (recert certificate) =
 
 abbrev pub names_of : ByFile (Option (Bor (List ℕ))) → ByFile (Option Text)
 names_of = each (option_map (λ s. s.now))
-
--- a request reads the files that it names
-abbrev pub needs_of : Request → ByFile Bool
-needs_of request = each is_some (files_of request)

@@ -1,5 +1,6 @@
-ghost use Rattle.std.specs.Prelude.{◌≡◌, option_map};
-ghost use Rattle.flowlabel.specs.Request.{files_named, files_of, names_of, needs_of, request_of, source_of};
+ghost use Rattle.std.specs.Prelude.{◌≡◌, is_some, option_map};
+ghost use Rattle.flowlabel.specs.ByFile.{each};
+ghost use Rattle.flowlabel.specs.Request.{files_named, files_of, names_of, request_of, source_of};
 
 use crate::by_file::ByFile;
 use flow_filter::Filter;
@@ -95,7 +96,7 @@ fn files_named<'a>(labels: Option<LabelFile<'a>>, flows: Option<&'a str>) -> ByF
 impl<'a> Command<'a> {
     /// Returns which inputs the command reads.
     pub fn needs(&self) -> ByFile<bool>
-        ensures { result ≡ needs_of (request_of self.now) }
+        ensures { result ≡ each is_some (files_of (request_of self.now)) }
     {
         let files = self.files();
         ByFile {
