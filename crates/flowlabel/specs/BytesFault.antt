@@ -12,7 +12,8 @@ use Rattle.cert_check.specs.declared.fault.CheckFaultKind.TheVariants as check
 use Rattle.flowlabel.specs.ByFile.{Role}
 use Rattle.flowlabel.specs.ByFile as role
 use Rattle.flowlabel.specs.declared.bytes_fault.BytesFault.{BytesFault}
-use Rattle.flowlabel.specs.declared.bytes_fault.BytesFault.TheVariants.{Map as InMap, List as InList, Flows as InFlows, Certificate as InCertificate, Check as InCheck}
+use Rattle.flowlabel.specs.declared.bytes_fault.BytesFault.TheVariants.{Map as InMap, List as InList, Flows as InFlows}
+use Rattle.flowlabel.specs.declared.bytes_fault.BytesFault.TheVariants.{Certificate as InCertificate, Check as InCheck}
 
 -- The code, the name and the position of a fault of a file's bytes, or of a certificate for a map and a list.
 
@@ -70,19 +71,12 @@ check_fault_name check.BoundNotMet = codes "K6 BoundNotMet"
 check_fault_name check.NoMemory = codes "K7 NoMemory"
 
 -- the code and the name of a fault, and its position
-abbrev pub bytes_fault_name : BytesFault → List ℕ
-bytes_fault_name (InMap fault) = map_fault_name fault.kind
-bytes_fault_name (InList fault) = map_fault_name fault.kind
-bytes_fault_name (InFlows fault) = flows_fault_name fault.kind
-bytes_fault_name (InCertificate fault) = certificate_fault_name fault.kind
-bytes_fault_name (InCheck fault) = check_fault_name fault.kind
-
-abbrev pub bytes_fault_position : BytesFault → ℕ
-bytes_fault_position (InMap fault) = fault.line
-bytes_fault_position (InList fault) = fault.line
-bytes_fault_position (InFlows fault) = fault.offset
-bytes_fault_position (InCertificate fault) = fault.line
-bytes_fault_position (InCheck fault) = fault.node
+abbrev pub name_and_position : BytesFault → List ℕ × ℕ
+name_and_position (InMap fault) = (map_fault_name fault.kind, fault.line)
+name_and_position (InList fault) = (map_fault_name fault.kind, fault.line)
+name_and_position (InFlows fault) = (flows_fault_name fault.kind, fault.offset)
+name_and_position (InCertificate fault) = (certificate_fault_name fault.kind, fault.line)
+name_and_position (InCheck fault) = (check_fault_name fault.kind, fault.node)
 
 -- the file that the fault names; it is the certificate if it doesn't fit the map and the list
 abbrev pub role_of : BytesFault → Role

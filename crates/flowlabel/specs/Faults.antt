@@ -5,9 +5,10 @@ use Rattle.flow_filter.specs.declared.fault.FilterFaultKind.TheVariants as filte
 use Rattle.flow_filter.specs.Options.{name_of}
 use Rattle.flow_uniq.specs.declared.fault.KeyFault.{KeyFault}
 use Rattle.flow_uniq.specs.declared.fault.KeyFault.TheVariants as keys
-use Rattle.flowlabel.specs.BytesFault.{bytes_fault_name, bytes_fault_position}
+use Rattle.flowlabel.specs.BytesFault.{name_and_position}
 use Rattle.flowlabel.specs.declared.fault.RunFault.{RunFault}
-use Rattle.flowlabel.specs.declared.fault.RunFault.TheVariants.{Usage, CannotOpen, CannotRead, CannotWrite, NoMemory, File}
+use Rattle.flowlabel.specs.declared.fault.RunFault.TheVariants.{CannotOpen, CannotRead, CannotWrite, File}
+use Rattle.flowlabel.specs.declared.fault.RunFault.TheVariants.{NoMemory, Usage}
 use Rattle.flowlabel.specs.declared.usage.UsageFault.{UsageFault}
 use Rattle.flowlabel.specs.declared.usage.UsageFault.TheVariants as usage
 
@@ -55,7 +56,7 @@ fault_text (CannotRead file) = codes "flowlabel: " ++ file.now ++ codes ": canno
 fault_text CannotWrite = codes "flowlabel: output: cannot write\n"
 fault_text NoMemory = out_of_memory_text
 fault_text (File file fault) =
-    position_text file.now (bytes_fault_name fault) (bytes_fault_position fault)
+    let found = name_and_position fault in position_text file.now found.0 found.1
 
 abbrev pub status_of : RunFault → ℕ
 status_of (Usage (usage.Help text)) = 0

@@ -1,5 +1,5 @@
 ghost use Rattle.std.specs.Prelude.{◌≡◌};
-ghost use Rattle.flowlabel.specs.BytesFault.{bytes_fault_name, bytes_fault_position, certificate_fault_name, check_fault_name, flows_fault_name, is_out_of_memory, map_fault_name, template_fault_name};
+ghost use Rattle.flowlabel.specs.BytesFault.{certificate_fault_name, check_fault_name, flows_fault_name, is_out_of_memory, map_fault_name, name_and_position, template_fault_name};
 
 use cert_check::{CheckFault, CheckFaultKind};
 use ipfix_read::{ReadFault, ReadFaultKind};
@@ -36,27 +36,19 @@ impl BytesFault {
         }
     }
 
-    /// Returns the code and the name of the fault, as its line shows them.
-    pub fn name(&self) -> &'static str
-        ensures { result.now ≡ bytes_fault_name self.now }
+    /// Returns the code and the name of the fault, as its line shows them, and its position: a line of a text, an offset
+    /// in bytes into a File, or a node of a certificate.
+    pub fn name_and_position(&self) -> (&'static str, u64)
+        ensures name { result.0.now ≡ (name_and_position self.now).0 }
+        ensures position { result.1 ≡ (name_and_position self.now).1 }
     {
         match self {
-            BytesFault::Map(fault) | BytesFault::List(fault) => map_fault_name(fault.kind),
-            BytesFault::Flows(fault) => flows_fault_name(fault.kind),
-            BytesFault::Certificate(fault) => certificate_fault_name(fault.kind),
-            BytesFault::Check(fault) => check_fault_name(fault.kind),
-        }
-    }
-
-    /// Returns the position of the fault: a line of a text, an offset in bytes into a File, or a node of a certificate.
-    pub fn position(&self) -> u64
-        ensures { result ≡ bytes_fault_position self.now }
-    {
-        match self {
-            BytesFault::Map(fault) | BytesFault::List(fault) => fault.line,
-            BytesFault::Flows(fault) => fault.offset,
-            BytesFault::Certificate(fault) => fault.line,
-            BytesFault::Check(fault) => fault.node,
+            BytesFault::Map(fault) | BytesFault::List(fault) => {
+                (map_fault_name(fault.kind), fault.line)
+            }
+            BytesFault::Flows(fault) => (flows_fault_name(fault.kind), fault.offset),
+            BytesFault::Certificate(fault) => (certificate_fault_name(fault.kind), fault.line),
+            BytesFault::Check(fault) => (check_fault_name(fault.kind), fault.node),
         }
     }
 }

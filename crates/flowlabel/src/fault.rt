@@ -119,12 +119,10 @@ fn line_of(alloc: Global, fault: &RunFault<'_>) -> Result<String, AllocError>
         RunFault::CannotRead(file) => format!(in alloc; "flowlabel: {file}: cannot read\n"),
         RunFault::CannotWrite => String::from_str(alloc, "flowlabel: output: cannot write\n"),
         RunFault::NoMemory => String::from_str(alloc, OUT_OF_MEMORY),
-        RunFault::File { file, fault } => position_line(
-            alloc,
-            file,
-            fault.name(),
-            fault.position(),
-        ),
+        RunFault::File { file, fault } => {
+            let (name, position) = fault.name_and_position();
+            position_line(alloc, file, name, position)
+        }
     }
 }
 
