@@ -5,10 +5,10 @@ use Rattle.std.specs.List.{fold}
 use Rattle.std.proofs.lemmas.Bool.{or_from}
 use Rattle.std.proofs.lemmas.List.{take_all}
 use Rattle.std.proofs.lemmas.List.Sums.{fold_more}
-use Rattle.clap.specs.Words.{AddsArg, AddsSubcommand, App, with_rule}
+use Rattle.clap.specs.Words.{AddsArg, AddsSubcommand, App, with_rule, with_subcommand}
 use Rattle.clap.specs.declared.builder.arg.Arg.{Arg}
 use Rattle.clap.specs.declared.builder.command.Command.{Command}
-use Rattle.flowlabel.specs.Definition.{IsArgument, IsCommand, app_for, rule_for, with_app, with_argument, with_arguments, with_sub}
+use Rattle.flowlabel.specs.Definition.{IsArgument, IsCommand, app_for, rule_for, with_argument, with_arguments, with_sub}
 use Rattle.flowlabel.specs.declared.definition.Argument.{Argument}
 use Rattle.flowlabel.specs.declared.definition.Subcommand.{Subcommand}
 
@@ -24,7 +24,7 @@ pub one_sub_more : (app : App) (old added new : Command) (subs : List Subcommand
     IsCommand (fold with_sub app (take (k + 1) subs)) new
 one_sub_more app old added new subs k d within (is, local) (has, own) adds =
     rw (fold_more with_sub app subs k d within)
-    (adds.shape own ∙ (λ i. with_app (is i) (has i)), adds.globals ∙ or_from _ _ local own)
+    (adds.shape own ∙ (λ i. with_subcommand (is i) (has i).top), adds.globals ∙ or_from _ _ local own)
 
 pub one_list_more : (app : App) (new : Command) (lists : List (Bor (List Argument))) (k : ℕ) (d : Bor (List Argument)) → k < length lists →
     IsCommand (with_arguments (fold with_arguments app (take k lists)) (get_or lists k d)) new → IsCommand (fold with_arguments app (take (k + 1) lists)) new

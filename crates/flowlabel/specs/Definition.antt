@@ -27,9 +27,6 @@ flag_rule name = record (new_rule name) { long = Some name; action = Some SetTru
 abbrev pub word_rule : Text → Rule
 word_rule name = record (new_rule name) { value_names = 1; required = true }
 
-abbrev pub with_app : App → App → App
-with_app app sub = with_subcommand app sub.top
-
 -- a command without subcommands, by its name and its arguments
 abbrev pub leaf : Text → List Rule → App
 leaf name = fold with_rule (new_app name)
@@ -56,7 +53,7 @@ program = record (new_app (codes "flowlabel")) {
 
 -- the program with its subcommands and their arguments
 unfoldable pub flowlabel_app : App
-flowlabel_app = fold with_app program (
+flowlabel_app = fold (λ app sub. with_subcommand app sub.top) program (
     leaf (codes "label") (source_rules ++ word_rule (codes "address") ∷ [])
     ∷ leaf (codes "info") (word_rule (codes "flows") ∷ [])
     ∷ leaf (codes "rows") (report_rules ++ table_rules)
@@ -89,7 +86,7 @@ abbrev pub app_for : Subcommand → App
 app_for sub = fold with_arguments (new_app sub.name.now) sub.arguments.now
 
 abbrev pub with_sub : App → Subcommand → App
-with_sub app sub = with_app app (app_for sub)
+with_sub app sub = with_subcommand app (app_for sub).top
 
 -- clap reads the argument by this rule, and for its own command alone
 abbrev pub IsArgument : Rule → Arg → Type 0

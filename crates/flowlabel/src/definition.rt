@@ -88,23 +88,6 @@ const TABLE: [Argument<'static>; 2] = arguments! {
     Word "flows" "FILE" "The IPFIX File";
 };
 
-const KEYS: [Argument<'static>; 1] = arguments! {
-    Needed "fields" "NAMES" "Keys"
-        "The fields to sum by, such as sip,dport: sip, dip,\nsport, dport, proto, flags, src-label, dst-label";
-};
-
-const SHRINK: [Argument<'static>; 3] = arguments! {
-    Needed "pmap" "FILE" "Files" "The prefix map";
-    Flag "certificate" "Print the certificate instead of the list";
-    Flag "compact" "Print the certificate in compact form";
-};
-
-const CHECK: [Argument<'static>; 3] = arguments! {
-    Needed "pmap" "FILE" "Files" "The prefix map";
-    Needed "list" "FILE" "Files" "The prefix list";
-    Needed "cert" "FILE" "Files" "The certificate";
-};
-
 const SUBCOMMANDS: [Subcommand<'static>; 8] = subcommands! {
     "label" "Print the label of an address" "(--pmap FILE | --list FILE) ADDR";
         "the label of one address" "--pmap customers.txt 10.2.3.4";
@@ -119,16 +102,22 @@ const SUBCOMMANDS: [Subcommand<'static>; 8] = subcommands! {
     "uniq" "Print the sums of the flows of an IPFIX File"
         "--fields NAMES [--pmap FILE | --list FILE] [OPTIONS] FILE";
         "the sums by the customer that receives" "--fields dst-label --pmap customers.txt flows.ipfix";
-        &KEYS, &SOURCES, &FILTERS, &[Flag("sort-output", "Print the sums in the order of their keys")], &TABLE;
+        &[Needed("fields", "NAMES", "Keys",
+            "The fields to sum by, such as sip,dport: sip, dip,\nsport, dport, proto, flags, src-label, dst-label")],
+        &SOURCES, &FILTERS, &[Flag("sort-output", "Print the sums in the order of their keys")], &TABLE;
     "cat" "Print the ranges of a map or a list" "(--pmap FILE | --list FILE)";
         "the addresses of each label" "--pmap customers.txt";
         &SOURCES;
     "shrink" "Print a shortest prefix list of a map" "--pmap FILE [--certificate [--compact]]";
         "the list of a map" "--pmap customers.txt >list.txt";
-        &SHRINK;
+        &[Needed("pmap", "FILE", "Files", "The prefix map"),
+            Flag("certificate", "Print the certificate instead of the list"),
+            Flag("compact", "Print the certificate in compact form")];
     "check" "Verify that a list is minimal" "--pmap FILE --list FILE --cert FILE";
         "whether list.txt is a shortest list" "--pmap customers.txt --list list.txt --cert cert.txt";
-        &CHECK;
+        &[Needed("pmap", "FILE", "Files", "The prefix map"),
+            Needed("list", "FILE", "Files", "The prefix list"),
+            Needed("cert", "FILE", "Files", "The certificate")];
     "recert" "Print a certificate in compact form" "--cert FILE";
         "a shorter form of cert.txt" "--cert cert.txt >compact.txt";
         &[Needed("cert", "FILE", "Files", "The certificate")];
