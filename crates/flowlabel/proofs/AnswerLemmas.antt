@@ -10,7 +10,7 @@ use Rattle.clap.specs.declared.parser.ArgMatches.{ArgMatches}
 use Rattle.clap.proofs.OnLiterals.{clap_on_literals}
 use Rattle.flowlabel.specs.Request.{Command, IsProper, Label, Text, request_of}
 use Rattle.flowlabel.specs.Definition.{flowlabel_app}
-use Rattle.flowlabel.specs.Answer.{Answer, Answers, IsAnswer, IsFaultAt, IsFaultOfKind, IsOwnFault, answer_of, is_help, is_mistake, IsUnlessMemory, UsageFault, Refused, NotUtf8, Help, NoMemory}
+use Rattle.flowlabel.specs.Answer.{Answer, IsAnswer, IsFaultAt, IsFaultOfKind, IsOwnFault, answer_of, is_help, is_mistake, IsUnlessMemory, UsageFault, Refused, NotUtf8, Help, NoMemory}
 
 -- clap's theorems are about definitions such as this one
 pub flowlabel_is_simple : is_simple flowlabel_app ≡ true
@@ -37,14 +37,6 @@ fault_at words k (Help text) (inr among) h = among_passes is_help k _ among h
 fault_at words k NoMemory from h = tt
 fault_at words k fault from h = absurd h
 
--- a fault that the program itself finds in words is a fault of the words
-fault_of_answer : (words : List Text) (f : UsageFault) → IsOwnFault f → Answers words (Err f) → IsFaultAt words f
-fault_of_answer words (Refused text) own is = absurd own
-fault_of_answer words NotUtf8 own is = absurd own
-fault_of_answer words (Help text) own is = absurd own
-fault_of_answer words NoMemory own is = tt
-fault_of_answer words fault own is = is
-
 -- a result that is the answer or out of memory is neither a refusal of clap's nor help
 pub own : (answer : Answer) (r : Result Command UsageFault) → IsUnlessMemory request_of answer r → IfErr r IsOwnFault
 own answer (Ok command) says = tt
@@ -69,8 +61,10 @@ pub answers : (words : List Text) (p : Text × List Row) (r : Result Command Usa
     → subcommand_of flowlabel_app words ≡ Some p → IsUnlessMemory request_of (answer_of p) r → IsAnswer words r
 answers words p (Ok command) none found says = (none, ap (option_map answer_of) found ∙ ap Some says)
 answers words p (Err NoMemory) none found says = tt
-answers words p (Err fault) none found says =
-    fault_of_answer words fault says.0 (none, ap (option_map answer_of) found ∙ ap Some (says.1 (λ e. cc)))
+answers words p (Err NotUtf8) none found says = absurd says.0
+answers words p (Err (Refused text)) none found says = absurd says.0
+answers words p (Err (Help text)) none found says = absurd says.0
+answers words p (Err fault) none found says = (none, ap (option_map answer_of) found ∙ ap Some (says.1 (λ e. cc)))
 
 -- the fault of an error that reports out of memory is neither a refusal of clap's nor help
 pub own_of_memory : (k : ErrorKind) (f : UsageFault) → k ≡ kind.OutOfMemory → IsFaultOfKind k f → IsOwnFault f

@@ -1,6 +1,6 @@
 ghost use Rattle.std.specs.Prelude.{◌≡◌, IfOk, true};
 ghost use Rattle.std.specs.List.{fold};
-ghost use Rattle.clap.specs.Words.{App, new_app};
+ghost use Rattle.clap.specs.Words.{App};
 ghost use Rattle.clap.specs.declared.builder.command.Command.TheViews.{out-Command};
 ghost use Rattle.flowlabel.specs.Definition.{IsArgument, IsCommand, app_for, flowlabel_app, program, rule_for, with_argument, with_sub};
 
@@ -55,7 +55,7 @@ pub enum Argument<'a> {
     Word(&'a str, &'a str, &'a str),
 }
 
-/// A subcommand: its name, its texts for help, and the lists of its arguments.
+/// A subcommand, or the program: its name, its texts for help, and the lists of its arguments.
 #[derive(Clone, Copy)]
 pub struct Subcommand<'a> {
     name: &'a str,
@@ -86,6 +86,14 @@ const FILTERS: [Argument<'static>; 10] = arguments! {
 const TABLE: [Argument<'static>; 2] = arguments! {
     Flag "columns" "Pad the fields to columns";
     Word "flows" "FILE" "The IPFIX File";
+};
+
+const PROGRAM: Subcommand<'static> = Subcommand {
+    name: "flowlabel",
+    about: "Label addresses by a prefix map, report on network flows, and shrink maps",
+    usage: "flowlabel COMMAND ...",
+    example: example!("the options of one command", "rows --help"),
+    arguments: &[],
 };
 
 const SUBCOMMANDS: [Subcommand<'static>; 8] = subcommands! {
@@ -150,22 +158,6 @@ fn argument_of<'a>(alloc: Global, argument: &Argument<'a>) -> Arg<'a>
     }
 }
 
-fn described<'a>(
-    alloc: Global,
-    name: &'a str,
-    about: &'a str,
-    usage: &'a str,
-    example: &'a str,
-) -> Command<'a>
-    ensures { IsCommand (new_app name.entry.now) result }
-{
-    Command::new(alloc, name)
-        .before_help(version!("flowlabel "))
-        .about(about)
-        .override_usage(usage)
-        .after_help(example)
-}
-
 // Adds arguments to a command.
 fn with_arguments<'a>(
     alloc: Global,
@@ -180,26 +172,31 @@ fn with_arguments<'a>(
     Ok(command)
 }
 
-// Returns the command of a subcommand.
+// Returns a command with its texts for help and its arguments.
 fn command_of<'a>(alloc: Global, sub: &Subcommand<'a>) -> Result<Command<'a>, AllocError>
     ensures { IfOk result (IsCommand (app_for sub.now)) }
 {
-    let mut command = described(alloc, sub.name, sub.about, sub.usage, sub.example);
+    let mut command = Command::new(alloc, sub.name)
+        .before_help(version!("flowlabel "))
+        .about(sub.about)
+        .override_usage(sub.usage)
+        .after_help(sub.example);
     for arguments in sub.arguments {
         command = with_arguments(alloc, command, arguments)?;
     }
     Ok(command)
 }
 
-fn program<'a>(alloc: Global) -> Command<'a>
-    ensures { IsCommand program result }
+fn program<'a>(alloc: Global) -> Result<Command<'a>, AllocError>
+    ensures { IfOk result (IsCommand program) }
 {
-    let about = "Label addresses by a prefix map, report on network flows, and shrink maps";
-    let example = example!("the options of one command", "rows --help");
-    described(alloc, "flowlabel", about, "flowlabel COMMAND ...", example)
-        .version(version!(""))
-        .subcommand_required(true)
-        .disable_help_subcommand(true)
+    let command = command_of(alloc, &PROGRAM)?;
+    Ok(
+        command
+            .version(version!(""))
+            .subcommand_required(true)
+            .disable_help_subcommand(true),
+    )
 }
 
 // Adds subcommands to a command.
@@ -221,5 +218,5 @@ pub fn definition<'a>(alloc: Global) -> Result<Command<'a>, AllocError>
     ensures app { IfOk result (IsCommand flowlabel_app) }
     ensures required { IfOk result (λ c. (out-Command c).subcommand_required ≡ true) }
 {
-    with_subcommands(alloc, program(alloc), &SUBCOMMANDS)
+    with_subcommands(alloc, program(alloc)?, &SUBCOMMANDS)
 }

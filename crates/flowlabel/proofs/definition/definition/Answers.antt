@@ -6,7 +6,7 @@ use Rattle.flowlabel.proofs.definition.definition.Goals as goal
 
 pub returns-clause-app : goal.returns-clause-app
 unfolding flowlabel_app
-returns-clause-app c = c.with_subcommands.ensures program c.program.ensures
+returns-clause-app c = c.with_subcommands.ensures program c.in_ok-program.ensures
 
 pub returns-clause-required : goal.returns-clause-required
 unfolding flowlabel_app
