@@ -88,26 +88,10 @@ role_of (InCheck fault) = role.Certificate
 
 -- Below: only contracts of parts and proofs use these; no promise of the program rests on them.
 
--- whether the kind is out of memory, which says nothing about the bytes
-abbrev pub is_map_memory : MapFaultKind → Bool
-is_map_memory kind.NoMemory = true
-is_map_memory k = false
-
-abbrev pub is_flows_memory : ReadFaultKind → Bool
-is_flows_memory flows.NoMemory = true
-is_flows_memory k = false
-
-abbrev pub is_certificate_memory : CertFaultKind → Bool
-is_certificate_memory certificate.NoMemory = true
-is_certificate_memory k = false
-
-abbrev pub is_check_memory : CheckFaultKind → Bool
-is_check_memory check.NoMemory = true
-is_check_memory k = false
-
+-- whether the fault is out of memory, which says nothing about the bytes
 abbrev pub is_out_of_memory : BytesFault → Bool
-is_out_of_memory (InMap fault) = is_map_memory fault.kind
-is_out_of_memory (InList fault) = is_map_memory fault.kind
-is_out_of_memory (InFlows fault) = is_flows_memory fault.kind
-is_out_of_memory (InCertificate fault) = is_certificate_memory fault.kind
-is_out_of_memory (InCheck fault) = is_check_memory fault.kind
+is_out_of_memory (InMap fault) = elim fault.kind [ kind.NoMemory ↦ true | _ ↦ false ]
+is_out_of_memory (InList fault) = elim fault.kind [ kind.NoMemory ↦ true | _ ↦ false ]
+is_out_of_memory (InFlows fault) = elim fault.kind [ flows.NoMemory ↦ true | _ ↦ false ]
+is_out_of_memory (InCertificate fault) = elim fault.kind [ certificate.NoMemory ↦ true | _ ↦ false ]
+is_out_of_memory (InCheck fault) = elim fault.kind [ check.NoMemory ↦ true | _ ↦ false ]

@@ -1,9 +1,9 @@
-use Rattle.std.proofs.Common.{◌≡◌, ℕ, Err, Ok, ap, length, rules, true}
+use Rattle.std.proofs.Common.{◌≡◌, ℕ, Err, Ok, length, refl, rules, true}
 use Rattle.std.specs.Global.{Vec}
 use Rattle.pmap_text.specs.MapText.{map_of}
 use Rattle.pmap_text.specs.PrefixList.{list_of}
 use Rattle.pmap_cert.specs.FormatReading.{format_reading}
-use Rattle.flowlabel.specs.BytesFault.{is_certificate_memory}
+use Rattle.flowlabel.specs.BytesFault.{is_out_of_memory}
 use Rattle.flowlabel.specs.Output.{minimal_text}
 use Rattle.flowlabel.specs.Reports.{ChecksThen}
 use Rattle.flowlabel.specs.declared.bytes_fault.BytesFault.TheVariants.{Certificate as InCertificate, Check as InCheck}
@@ -43,4 +43,4 @@ returns g c =
     c.in_ok-name.name c.in_ok-name.text c.in_ok-name.ensures (InCertificate c.in-Err-Certificate.fault) c.of-in-Err-Certificate.result (rw c.in-Err-Certificate.field-0-is at c.of-in-Err-Certificate.ensures)
     (λ bytes.
     over_text (map_of c.args.map.now) (list_of c.args.list.now) (format_reading c.in_ok-name.text.items) c.in-Err-Certificate.fault
-    (fault.0 (λ same. let wrong : is_certificate_memory c.in-Err-Certificate.fault.kind ≡ true = ap is_certificate_memory same in cc)))
+    (fault.0 (λ same. let wrong : is_out_of_memory (InCertificate c.in-Err-Certificate.fault) ≡ true = rw same refl in cc)))

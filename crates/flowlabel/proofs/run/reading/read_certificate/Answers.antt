@@ -2,7 +2,7 @@ use Rattle.std.proofs.Common.{◌≡◌, ◌∙◌, Ok, ap, refl, rules, sym, tr
 use Rattle.pmap_cert.specs.Certificate.{certificate_of}
 use Rattle.pmap_cert.specs.CertificateText.{HasFormatText, certificate_text}
 use Rattle.pmap_cert.specs.FormatReading.{format_reading}
-use Rattle.flowlabel.specs.BytesFault.{is_certificate_memory}
+use Rattle.flowlabel.specs.BytesFault.{is_out_of_memory}
 use Rattle.flowlabel.specs.Reports.{IsFaultIn}
 use Rattle.flowlabel.specs.declared.bytes_fault.BytesFault.TheVariants.{Certificate as InCertificate}
 use Rattle.flowlabel.proofs.MadeLemmas.{whole_is, whole_is_bad, whole_stops}
@@ -24,4 +24,4 @@ pub returns : goal.returns
 returns g c =
     whole_is_bad g.R.Input.input c.args.file.now c.read.new.file (λ text value. format_reading text ≡ Ok (certificate_of value)) (λ text. IsFaultIn InCertificate (format_reading text))
     c.in_ok-name.name c.in_ok-name.text c.in_ok-name.ensures (InCertificate c.in-Err.fault) c.of.result c.of.ensures
-    (λ bytes. (c.in-Err.fault, ap format_reading (sym c.as_slice.ensures.value) ∙ c.in-Err.ensures.fault (λ same. let wrong : is_certificate_memory c.in-Err.fault.kind ≡ true = ap is_certificate_memory same in cc), refl))
+    (λ bytes. (c.in-Err.fault, ap format_reading (sym c.as_slice.ensures.value) ∙ c.in-Err.ensures.fault (λ same. let wrong : is_out_of_memory (InCertificate c.in-Err.fault) ≡ true = rw same refl in cc), refl))

@@ -1,7 +1,7 @@
 use Rattle.std.proofs.Common.{◌≡◌, ◌∙◌, Ok, ap, refl, sym, true}
 use Rattle.pmap_text.specs.MapText.{map_of}
 use Rattle.pmap_text.specs.Reading.{map_reading}
-use Rattle.flowlabel.specs.BytesFault.{is_map_memory}
+use Rattle.flowlabel.specs.BytesFault.{is_out_of_memory}
 use Rattle.flowlabel.specs.Reports.{IsFaultIn}
 use Rattle.flowlabel.specs.declared.bytes_fault.BytesFault.TheVariants.{Map as InMap}
 use Rattle.flowlabel.proofs.MadeLemmas.{whole_is, whole_is_bad, whole_stops}
@@ -21,4 +21,4 @@ pub returns : goal.returns
 returns g c =
     whole_is_bad g.R.Input.input c.args.file.now c.read.new.file (λ text value. map_reading text ≡ Ok (map_of value)) (λ text. IsFaultIn InMap (map_reading text))
     c.in_ok-name.name c.in_ok-name.text c.in_ok-name.ensures (InMap c.in-Err.fault) c.of.result c.of.ensures
-    (λ bytes. (c.in-Err.fault, ap map_reading (sym c.as_slice.ensures.value) ∙ c.in-Err.ensures.fault (λ same. let wrong : is_map_memory c.in-Err.fault.kind ≡ true = ap is_map_memory same in cc), refl))
+    (λ bytes. (c.in-Err.fault, ap map_reading (sym c.as_slice.ensures.value) ∙ c.in-Err.ensures.fault (λ same. let wrong : is_out_of_memory (InMap c.in-Err.fault) ≡ true = rw same refl in cc), refl))
