@@ -73,12 +73,7 @@ own_of_memory k (Help text) e h = let bad : false ≡ true = rw e at h in cc
 own_of_memory k NotUtf8 e h = absurd h
 own_of_memory k fault e h = tt
 
--- the address of a command's request is one of its version, as `Addr` ensures
-request_is_proper : (c : Command) → IsProper (request_of c)
-request_is_proper (Label labels addr) = addr.in_range
-request_is_proper c = tt
-
--- the address of the request of each result is one of its version
+-- the address of the request of each result is one of its version, as `Addr` ensures
 pub answer_is_proper : (r : Result Command UsageFault) → IfOk r (λ c. IsProper (request_of c))
-answer_is_proper (Ok command) = request_is_proper command
-answer_is_proper (Err fault) = tt
+answer_is_proper (Ok (Label labels addr)) = addr.in_range
+answer_is_proper r = tt

@@ -100,13 +100,11 @@ fn rows_command<'a>(alloc: Global, entries: &ArgMatches<'a>) -> Result<Command<'
     if filter.needs_map() && labels.is_none() {
         return Err(UsageFault::LabelNeedsMap);
     }
-    let columns = is_given(entries, "columns");
-    let flows = needed_text(entries, "flows");
     Ok(Command::Rows {
         labels,
         filter,
-        columns,
-        flows,
+        columns: is_given(entries, "columns"),
+        flows: needed_text(entries, "flows"),
     })
 }
 
@@ -125,16 +123,13 @@ fn uniq_command<'a>(alloc: Global, entries: &ArgMatches<'a>) -> Result<Command<'
     if (filter.needs_map() || keys.needs_map()) && labels.is_none() {
         return Err(UsageFault::LabelNeedsMap);
     }
-    let sorted = is_given(entries, "sort-output");
-    let columns = is_given(entries, "columns");
-    let flows = needed_text(entries, "flows");
     Ok(Command::Uniq {
         keys,
         labels,
         filter,
-        sorted,
-        columns,
-        flows,
+        sorted: is_given(entries, "sort-output"),
+        columns: is_given(entries, "columns"),
+        flows: needed_text(entries, "flows"),
     })
 }
 

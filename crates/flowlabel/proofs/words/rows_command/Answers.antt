@@ -2,4 +2,4 @@ use Rattle.std.proofs.Common.{rules}
 use Rattle.flowlabel.proofs.words.rows_command.Goals as goal
 
 pub returns : goal.returns
-returns c = rw (c.in_ok-labels.ensures, c.in_ok-filter.ensures, c.is_given-columns.ensures, c.needed_text-flows.ensures) (search rules)
+returns c = rw (c.in_ok-labels.ensures, c.in_ok-filter.ensures, c.is_given.ensures, c.needed_text.ensures) (search rules)

@@ -7,7 +7,7 @@ returns c =
       c.in_ok-labels.ensures,
       c.in_ok-filter.ensures,
       c.in_ok-keys.ensures,
-      c.is_given-sorted.ensures,
-      c.is_given-columns.ensures,
-      c.needed_text-flows.ensures,
+      c.is_given.ensures,
+      c.is_given-2.ensures,
+      c.needed_text.ensures,
     ) (search rules)
