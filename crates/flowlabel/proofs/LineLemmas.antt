@@ -33,14 +33,14 @@ module _ (program : Text) where
   label_line [] [] h k = (refl {a = []}, refl {a = Some (labelled [] [])})
   label_line (x ∷ xs) [] h k =
       let e = not-true (x == 45) h in
-      (rw (e, not_short x xs e) (refl {a = []}), rw (e, not_short x xs e) (refl {a = Some (labelled (x ∷ xs) [])}))
+      rw (e, not_short x xs e) (refl {a = []}, refl {a = Some (labelled (x ∷ xs) [])})
   label_line [] (y ∷ ys) h k =
       let f = not-true (y == 45) k in
-      (rw (f, not_short y ys f) (refl {a = []}), rw (f, not_short y ys f) (refl {a = Some (labelled [] (y ∷ ys))}))
+      rw (f, not_short y ys f) (refl {a = []}, refl {a = Some (labelled [] (y ∷ ys))})
   label_line (x ∷ xs) (y ∷ ys) h k =
       let e = not-true (x == 45) h in
       let f = not-true (y == 45) k in
-      (rw (e, not_short x xs e, f, not_short y ys f) (refl {a = []}), rw (e, not_short x xs e, f, not_short y ys f) (refl {a = Some (labelled (x ∷ xs) (y ∷ ys))}))
+      rw (e, not_short x xs e, f, not_short y ys f) (refl {a = []}, refl {a = Some (labelled (x ∷ xs) (y ∷ ys))})
 
   rows_line : (file : Text) → is_plain_word file ≡ true
       → Answers (program ∷ codes "rows" ∷ codes "--columns" ∷ file ∷ [])
@@ -49,7 +49,7 @@ module _ (program : Text) where
   rows_line [] h = (refl {a = []}, refl {a = Some (condition_in_rows [] >>= (λ condition. Ok (rows None condition true [])))})
   rows_line (x ∷ xs) h =
       let e = not-true (x == 45) h in
-      (rw (e, not_short x xs e) (refl {a = []}), rw (e, not_short x xs e) (refl {a = Some (condition_in_rows [] >>= (λ condition. Ok (rows None condition true (x ∷ xs))))}))
+      rw (e, not_short x xs e) (refl {a = []}, refl {a = Some (condition_in_rows [] >>= (λ condition. Ok (rows None condition true (x ∷ xs))))})
 
   shrink_line : (file : Text) → is_plain_word file ≡ true
       → Answers (program ∷ codes "shrink" ∷ codes "--pmap" ∷ file ∷ codes "--compact" ∷ []) (Err CompactAlone)
@@ -57,7 +57,7 @@ module _ (program : Text) where
   shrink_line [] h = (refl {a = []}, refl {a = Some (Err CompactAlone)})
   shrink_line (x ∷ xs) h =
       let e = not-true (x == 45) h in
-      (rw (e, not_short x xs e) (refl {a = []}), rw (e, not_short x xs e) (refl {a = Some (Err CompactAlone)}))
+      rw (e, not_short x xs e) (refl {a = []}, refl {a = Some (Err CompactAlone)})
 
   pub lines_have_answers : LinesHaveAnswers program
   lines_have_answers = record { label_line = label_line; rows_line = rows_line; shrink_line = shrink_line }
