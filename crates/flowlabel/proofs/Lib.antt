@@ -1,5 +1,4 @@
 pub mod AnswerLemmas
-pub mod CheckedLemmas
 pub mod CoveringLabels
 pub mod DefinitionLemmas
 pub mod EndLemmas

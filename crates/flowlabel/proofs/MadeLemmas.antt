@@ -7,25 +7,27 @@ use Rattle.std.proofs.lemmas.Bool.{or_parts}
 use Rattle.std.specs.Prelude.{◌++◌, ◌==◌, length, unwrap_or, ⊤, is_some, option_copied, option_map}
 use Rattle.std.specs.Io.KnownBytes.{Consumes}
 use Rattle.std.specs.Borrow.{Bor}
-use Rattle.std.specs.Result.{IsErrAnd, result_map_both}
+use Rattle.std.specs.Result.{IsErrAnd}
 use Rattle.std.specs.Global.{Vec}
 use Rattle.std.proofs.lemmas.List.{append-nil}
-use Rattle.flow_io.specs.Devices.{InputView, Gives, OutputView, ReadsInput, has_ended}
+use Rattle.flow_io.specs.Devices.{InputView, Gives as GivesBytes, OutputView, ReadsInput, has_ended}
 use Rattle.flow_io.proofs.Moving.{gives_more, gives_none}
 use Rattle.ipfix_read.specs.Message.{MessageView}
 use Rattle.ipfix_read.specs.Messages.{StopsReading, file_reading}
 use Rattle.ipfix_read.specs.declared.fault.ReadFault.{ReadFault}
 use Rattle.label_lookup.specs.Labelling.{Labelling, StretchModel, labelling_of_list, labelling_of_map, labelling_of_stretches}
-use Rattle.pmap_text.specs.Reading.{list_reading, map_reading}
-use Rattle.pmap_text.specs.declared.fault.MapFault.{MapFault}
+use Rattle.pmap_text.specs.MapText.{map_of}
+use Rattle.pmap_text.specs.PrefixList.{list_of}
+use Rattle.pmap_text.specs.Reading.{◌>>=◌, list_reading, map_reading}
+use Rattle.pmap_text.specs.declared.map_text.MapText.{MapText}
+use Rattle.pmap_text.specs.declared.prefix_list.PrefixList.{PrefixList}
 use Rattle.flowlabel.specs.BytesFault.{is_out_of_memory, role_of}
 use Rattle.flowlabel.specs.ByFile.{ByFile, Role, at, each, turn, with_at}
 use Rattle.flowlabel.specs.ByFile as role
 use Rattle.flowlabel.specs.declared.bytes_fault.BytesFault.TheVariants.{Map as InMap, List as InList, Flows as InFlows}
 use Rattle.flowlabel.specs.Headline.{IsHeadline}
-use Rattle.flowlabel.specs.Output.{BytesFault, IsOutput, LabelsThen, Outcome, Prints, Then}
-use Rattle.flowlabel.proofs.Outcomes.{ReportsOf}
-use Rattle.flowlabel.specs.Reports.{AreFresh, AreLabels, AreLabelsOf, AreReadTo, Decodes, HasFault, IsFaultIn, IsMade, IsMadeWritten, IsRead, IsText, IsTextOf, IsWhole, Makes, ReadsInto, ReadsReport, ReportsThen, in_labels, labelling_found, labelling_read, labels_reading, labels_role}
+use Rattle.flowlabel.specs.Output.{BytesFault, FlowsThen, IsOutput, LabelsThen, Outcome, Then}
+use Rattle.flowlabel.specs.Reports.{AreFresh, AreLabelsOf, AreRead, Decodes, Gives, GivesAll, IsMade, IsMadeWritten, IsRead, IsText, IsTextOf, IsWhole, Makes, ReadsInto, in_file, labelling_found, labelling_read, labels_reading, report_reading, source_reading}
 use Rattle.flowlabel.specs.declared.run.labels.LabelsRead.{LabelsRead}
 use Rattle.flowlabel.specs.declared.run.made.Made.{Made}
 use Rattle.flowlabel.specs.declared.command.LabelFile.{LabelFile}
@@ -62,27 +64,31 @@ at_later x files r o later = elim (at_other x files r o) [
 ]
 
 module _ {R : Type 0} (input : R → InputView) (old : Readers R) (none : any_failed input old ≡ false) where
-  none_failed : ((view_of input old.map).failed ≡ false) × ((view_of input old.list).failed ≡ false)
-      × ((view_of input old.certificate).failed ≡ false) × ((view_of input old.flows).failed ≡ false)
-  none_failed =
-      let (map, later) = or_parts (view_of input old.map).failed _ none in
-      let (list, last) = or_parts (view_of input old.list).failed _ later in
-      let (certificate, flows) = or_parts (view_of input old.certificate).failed _ last in (map, list, certificate, flows)
+  others : ((view_of input old.list).failed ≡ false) × ((view_of input old.certificate).failed ≡ false) × ((view_of input old.flows).failed ≡ false)
+  others =
+      let (list, last) = or_parts (view_of input old.list).failed _ (or_parts (view_of input old.map).failed _ none).1 in
+      let (certificate, flows) = or_parts (view_of input old.certificate).failed _ last in (list, certificate, flows)
+
+  none_failed : (r : Role) → (view_of input (at r old)).failed ≡ false
+  none_failed role.Map = (or_parts (view_of input old.map).failed _ none).0
+  none_failed role.List = others.0
+  none_failed role.Certificate = others.1
+  none_failed role.Flows = others.2
 
   -- the one that was read since decides whether any has
   one_tells : (r : Role) (file : Option (Source R)) → any_failed input (with_at r file old) ≡ (view_of input file).failed
-  one_tells role.Map file = rw (none_failed.1, none_failed.2, none_failed.3) (or-false _)
-  one_tells role.List file = rw (none_failed.0, none_failed.2, none_failed.3) (or-false _)
-  one_tells role.Certificate file = rw (none_failed.0, none_failed.1, none_failed.3) (or-false _)
-  one_tells role.Flows file = rw (none_failed.0, none_failed.1, none_failed.2) refl
+  one_tells role.Map file = rw (others.0, others.1, others.2) (or-false _)
+  one_tells role.List file = rw (none_failed role.Map, others.1, others.2) (or-false _)
+  one_tells role.Certificate file = rw (none_failed role.Map, others.0, others.2) (or-false _)
+  one_tells role.Flows file = rw (none_failed role.Map, others.0, others.1) refl
 
 pub are_fresh : {R : Type 0} (input : R → InputView) (files : Readers R) → AreUnread input files → any_failed input files ≡ false → AreFresh input files
 are_fresh input files unread none =
-    let (map, list, certificate, flows) = none_failed input files none in
-    ((unread role.Map, map), (unread role.List, list), (unread role.Certificate, certificate), (unread role.Flows, flows))
+    let fresh : (r : Role) → ((view_of input (at r files)).returned ≡ []) × ((view_of input (at r files)).failed ≡ false) =
+    λ r. (unread r, none_failed input files none r) in (fresh role.Map, fresh role.List, fresh role.Certificate, fresh role.Flows)
 
 -- the bytes that are returned when none were before
-pub all_read : {old new : InputView} {bytes : List ℕ} → old.returned ≡ [] → Gives old new bytes → new.returned ≡ bytes
+pub all_read : {old new : InputView} {bytes : List ℕ} → old.returned ≡ [] → GivesBytes old new bytes → new.returned ≡ bytes
 all_read {bytes = bytes} none returns = returns.returned ∙ ap (λ (l : List ℕ). l ++ bytes) none
 
 -- an input that was read to its end has this text
@@ -100,50 +106,52 @@ are_texts input files role.List = may_have (view_of input files.list)
 are_texts input files role.Certificate = may_have (view_of input files.certificate)
 are_texts input files role.Flows = may_have (view_of input files.flows)
 
--- a fault of a text, or of what comes after it, is of no earlier file
-then_first : {F A : Type 0} (in_file : F → BytesFault) (rest : A → Outcome → Type 0) (r : Role) (reading : Result A F) (fault : BytesFault)
-    → ((own : F) → role_of (in_file own) ≡ r) → ((value : A) → rest value (Err fault) → turn r ≤ turn (role_of fault))
-    → Then in_file rest reading (Err fault) → turn r ≤ turn (role_of fault)
-then_first in_file rest r (Ok value) fault own follows is = follows value is
-then_first in_file rest r (Err f) fault own follows is =
-    let same : fault ≡ in_file f = cc in omega (arith, ap turn (ap role_of same ∙ own f))
+-- What follows from the text of a file that is to be read whole.
 
--- the faults of a report after its labels are those of the flows
-pub flows_only : (text : Option Labelling → List MessageView → List ℕ) (labels : Option Labelling) (flows : List ℕ) (fault : BytesFault)
-    → ReportsOf text labels flows (Err fault) → 3 ≤ turn (role_of fault)
-flows_only text labels flows fault =
-    then_first InFlows (λ messages. Prints (text labels messages)) role.Flows (file_reading flows) fault (λ own. refl) (λ messages is. cc)
+only_text : {R : Type 0} {input : R → InputView} {old new : Option (Source R)} {name : Bor Text} {text : Vec ℕ} → IsText input old new (Ok (name, text))
+    → (other : Text) → MayHave (view_of input new) other → (other ≡ text.items) × (name.now ≡ name_in old)
+only_text whole other may = let (found, same, (is, named)) = whole.gives.1 other may in (cc, named)
 
-module _ {R : Type 0} (input : R → InputView) (old new : Option (Source R)) {V : Type 0} (is : Text → V → Type 0) (Bad : Text → BytesFault → Type 0) where
-  -- a file that can't be read whole has no other fault
-  not_whole : (fault : RunFault) → HasFault input (λ _ _. ⊥) (λ _. ⊤) old new fault → HasFault input Bad (λ _. ⊤) old new fault
-  not_whole NoMemory has = has
-  not_whole (CannotRead file) has = has
-  not_whole (File file fault) has = absurd (has.2 (view_of input new).returned (may_have (view_of input new)))
-  not_whole fault has = absurd has
+-- a fault of one reading is that of another with the same faults
+pub with_fault_of : {R A B V W : Type 0} {input : R → InputView} {old new : Option (Source R)} {reading : Text → Result A BytesFault} {is : A → V → Type 0}
+    {other : Text → Result B BytesFault} {is' : B → W → Type 0} {stops : List ℕ → Type 0} (fault : RunFault)
+    → ((text : Text) (f : BytesFault) → reading text ≡ Err f → other text ≡ Err f) → IsRead input reading is stops old new (Err fault) → IsRead input other is' stops old new (Err fault)
+with_fault_of NoMemory fails one = record { reads = one.reads; gives = one.gives }
+with_fault_of (CannotRead file) fails one = record { reads = one.reads; gives = one.gives }
+with_fault_of (File file f) fails one = record { reads = one.reads; gives = (one.gives.0, one.gives.1, λ text may. fails text f (one.gives.2 text may)) }
+with_fault_of fault fails one = absurd one.gives
 
-  pub whole_stops : (result : Result V RunFault) (fault : RunFault) → IsErrAnd result (λ other. other ≡ fault) → IsText input old new (Err fault)
-      → IsRead input is Bad (λ _. ⊤) old new result
-  whole_stops result fault same (reads, has) = handed_on (IsRead input is Bad (λ _. ⊤) old new) result fault same (reads, not_whole fault has)
+module _ {R A V : Type 0} {input : R → InputView} {old new : Option (Source R)} {reading : Text → Result A BytesFault} {is : A → V → Type 0} where
+  pub whole_stops : {fault : RunFault} {result : Result V RunFault} → IsErrAnd result (λ other. other ≡ fault) → IsText input old new (Err fault)
+      → IsRead input reading is (λ _. ⊤) old new result
+  whole_stops {fault = fault} {result = result} same whole =
+      handed_on (IsRead input reading is (λ _. ⊤) old new) result fault same (with_fault_of fault (λ text other wrong. absurd (cc)) whole)
 
-  -- what follows from the text of a file that was read whole
-  module _ (name : Bor Text) (text : Vec ℕ) (whole : IsText input old new (Ok (name, text))) where
-    pub whole_is : (value : V) → is text.items value → IsRead input is Bad (λ _. ⊤) old new (Ok value)
-    whole_is value holds = (whole.0, whole.1, λ other may. subst (λ (t : Text). is t value) (sym (whole.2 other may).0) holds)
+  pub whole_is : {name : Bor Text} {text : Vec ℕ} {value : V} → IsText input old new (Ok (name, text)) → (a : A) → reading text.items ≡ Ok a → is a value
+      → IsRead input reading is (λ _. ⊤) old new (Ok value)
+  whole_is whole a reads holds = record {
+    reads = whole.reads;
+    gives = (whole.gives.0, λ other may. (a, ap reading (only_text whole other may).0 ∙ reads, holds));
+  }
 
-    whole_has : (fault : BytesFault) (made : RunFault) → IsFaultFor name.now fault made → (is_out_of_memory fault ≡ false → Bad text.items fault)
-        → HasFault input Bad (λ _. ⊤) old new made
-    whole_has fault NoMemory made holds = whole.1
-    whole_has fault (File file other) (named, same, bytes) holds = (
-      whole.1,
-      named ∙ (whole.2 (view_of input new).returned (may_have (view_of input new))).1,
-      λ t may. subst (Bad t) (sym same) (subst (λ (t : Text). Bad t fault) (sym (whole.2 t may).0) (holds bytes)),
-    )
-    whole_has fault made is holds = absurd is
+  pub whole_is_bad : {name : Bor Text} {text : Vec ℕ} {made : RunFault} → IsText input old new (Ok (name, text)) → (fault : BytesFault) → IsFaultFor name.now fault made
+      → (is_out_of_memory fault ≡ false → reading text.items ≡ Err fault) → IsRead input reading is (λ _. ⊤) old new (Err made)
+  whole_is_bad {name = name} {text = text} {made = made} whole fault made_of reads = record { reads = whole.reads; gives = by made made_of }
+    where
+      by : (made : RunFault) → IsFaultFor name.now fault made → Gives input reading is (λ _. ⊤) old new (Err made)
+      by NoMemory memory = whole.gives.0
+      by (File file other) (named, same, bytes) = (
+        whole.gives.0,
+        named ∙ (only_text whole (view_of input new).returned (may_have (view_of input new))).1,
+        λ t may. ap reading (only_text whole t may).0 ∙ reads bytes ∙ ap Err (sym same),
+      )
+      by made wrong = absurd wrong
 
-    pub whole_is_bad : (fault : BytesFault) (made : RunFault) → IsFaultFor name.now fault made → (is_out_of_memory fault ≡ false → Bad text.items fault)
-        → IsRead input is Bad (λ _. ⊤) old new (Err made)
-    whole_is_bad fault made is holds = (whole.0, whole_has fault made is holds)
+-- the faults of a reading are of this file
+pub named_in : {F A : Type 0} (wrap : F → BytesFault) {r : Role} → ((own : F) → role_of (wrap own) ≡ r) → (reading : Result A F) (fault : BytesFault)
+    → in_file wrap reading ≡ Err fault → role_of fault ≡ r
+named_in wrap own (Ok value) fault is = cc
+named_in wrap own (Err f) fault is = let same : fault ≡ wrap f = cc in ap role_of same ∙ own f
 
 module _ {R : Type 0} (input : R → InputView) where
   read_more : {a b c : Readers R} → AreReadOn input a b → AreReadOn input b c → AreReadOn input a c
@@ -158,228 +166,287 @@ module _ {R : Type 0} (input : R → InputView) where
         | inr still ↦ subst (P o) (sym still) ([], gives_none _, tt)
       ]
 
+-- what earlier files may have as their texts doesn't change
+as_before : {R : Type 0} (input : R → InputView) {n : ℕ} (r : Role) → n ≤ turn r → (file : Option (Source R)) (mid : Readers R) (texts : ByFile Text)
+    → ((o : Role) → turn o < n → MayHave (view_of input (at o (with_at r file mid))) (at o texts)) → (o : Role) → turn o < n → MayHave (view_of input (at o mid)) (at o texts)
+as_before input r early file mid texts given o front = elim (at_other file mid r o) [
+  | inl same ↦ absurd (omega (arith, ap turn same, front, early))
+  | inr still ↦ subst (λ (f : Option (Source _)). MayHave (view_of input f) (at o texts)) still (given o front)
+]
+
+-- a fault of some outcomes is one of others, which have the same faults, and perhaps faults of later files
+fault_as : {R : Type 0} (input : R → InputView) (Is Is' : ByFile Text → Outcome → Type 0) {n : ℕ} (old new : Readers R) → ((o : Role) → (view_of input (at o new)).failed ≡ true → turn o < n)
+    → ((texts : ByFile Text) → AreTexts input new texts → (f : BytesFault) → Is texts (Err f) → Is' texts (Err f))
+    → ((texts : ByFile Text) → AreTexts input new texts → (f : BytesFault) → Is' texts (Err f) → Is texts (Err f) ⊎ (n ≤ turn (role_of f) + 1))
+    → (fault : RunFault) → IsFaultOf input Is old new fault → IsFaultOf input Is' old new fault
+fault_as input Is Is' old new early to back NoMemory works = works
+fault_as input Is Is' old new early to back (CannotRead file) (r, named, failed, later, first, stops) = (
+  r,
+  named,
+  failed,
+  later,
+  λ texts given f is. elim (back texts given f is) [
+    | inl own ↦ first texts given f own
+    | inr last ↦ omega (arith, early r failed, last)
+  ],
+  stops,
+)
+fault_as input Is Is' old new early to back (File file f) (named, has, later, works) = (named, λ texts given. to texts given f (has texts given), later, works)
+fault_as input Is Is' old new early to back fault is = absurd is
+
+own_or_later : {A B : Type 0} (rest : A → Result B BytesFault) (f : BytesFault) (r : Result A BytesFault) → (r >>= rest) ≡ Err f → (r ≡ Err f) ⊎ ((a : A) × (rest a ≡ Err f))
+own_or_later rest f (Ok a) fails = inr (a, fails)
+own_or_later rest f (Err g) fails = let same : g ≡ f = cc in inl (ap Err same)
+
+own_or_after : {A : Type 0} (rest : A → Outcome → Type 0) (f : BytesFault) (r : Result A BytesFault) → Then (λ f. f) rest r (Err f) → (r ≡ Err f) ⊎ ((a : A) × rest a (Err f))
+own_or_after rest f (Ok a) fails = inr (a, fails)
+own_or_after rest f (Err g) fails = let e : g ≡ f = cc in inl (ap Err e)
+
+-- the outcome is the fault of this reading
+abbrev Own : {A : Type 0} → (ByFile Text → Result A BytesFault) → ByFile Text → Outcome → Type 0
+Own reading texts outcome = (own : BytesFault) × (reading texts ≡ Err own) × (outcome ≡ Err own)
+
 module _ {R : Type 0} {input : R → InputView} where
   -- no file is read yet
-  pub none_read : (n : ℕ) (files : Readers R) → AreFresh input files → AreReadTo input n files files
+  pub none_read : (n : ℕ) (files : Readers R) → AreFresh input files → AreRead input {A = Unit {0}} {V = Unit {0}} n (λ _. Ok tt) (λ _ _. ⊤) files files (Ok tt)
   none_read n files fresh =
-      record { read = λ r. ([], gives_none _, tt); works = rw (fresh.0.1, fresh.1.1, fresh.2.1, fresh.3.1) refl; kept = λ r _. refl }
-
-  module _ {n : ℕ} {old mid : Readers R} (had : AreReadTo input n old mid) where
-    -- a command ends without a fault, or because an allocation failed
-    pub done : (Is : ByFile Text → Outcome → Type 0) (made : Made) → IsWhole made
-        → ((texts : ByFile Text) → AreTexts input mid texts → (text : Text) → IsTextOf made text → Is texts (Ok text)) → IsMade input Is old mid (Ok made)
-    done Is made whole is = record { made = (whole, is, had.works); read = had.read }
-
-    pub no_memory_left : (Is : ByFile Text → Outcome → Type 0) (result : Result Made RunFault) → IsErrAnd result (λ fault. fault ≡ NoMemory) → IsMade input Is old mid result
-    no_memory_left Is result same = handed_on (IsMade input Is old mid) result NoMemory same (record { made = had.works; read = had.read })
-
-    -- the next file is read
-    module _ (r : Role) (early : n ≤ turn r) (file : Option (Source R)) (reads : ReadsInput (view_of input (at r mid)) (view_of input file) (λ _. ⊤)) where
-      pub then_read : {m : ℕ} → turn r < m → (view_of input file).failed ≡ false → AreReadTo input m old (with_at r file mid)
-      then_read after works = record {
-        read = read_more input had.read (one_read input r file mid reads);
-        works = one_tells input mid had.works r file ∙ works;
-        kept = λ o later. at_later file mid r o (omega (arith, after, later)) ∙ had.kept o (omega (arith, after, later, early));
+      let none : any_failed input files ≡ false = rw (fresh.0.1, fresh.1.1, fresh.2.1, fresh.3.1) refl in
+      record {
+        read = λ r. ([], gives_none _, tt);
+        kept = λ r _. refl;
+        early = λ r failed. let works = none_failed input files none r in absurd (cc);
+        gives = (none, λ texts given. (tt, refl, tt));
       }
 
-      -- The command ends with the fault of this file. `Is'` are its outcomes once the earlier files are read.
-      module _ (Bad : Text → BytesFault → Type 0) (stops : List ℕ → Type 0) (Is Is' : ByFile Text → Outcome → Type 0)
-          (same : (texts : ByFile Text) → AreTexts input (with_at r file mid) texts → Is texts ≡ Is' texts)
-          (first : (texts : ByFile Text) (fault : BytesFault) → Is' texts (Err fault) → turn r ≤ turn (role_of fault))
-          (faulty : (texts : ByFile Text) (fault : BytesFault) → Bad (at r texts) fault → Is' texts (Err fault))
-          (own : (text : Text) (fault : BytesFault) → Bad text fault → role_of fault ≡ r)
-          (flows : r ≡ role.Flows → (bytes : List ℕ) → stops bytes → (stop : ReadFault) × StopsReading bytes stop) where
-        is_fault : (fault : RunFault) → HasFault input Bad stops (at r mid) file fault → IsFaultOf input Is old (with_at r file mid) fault
-        is_fault NoMemory works = one_tells input mid had.works r file ∙ works
-        is_fault (CannotRead name) (failed, named, stopped) = (
+  -- the file that is read next, after files that are read without a fault
+  module _ {A B V W : Type 0} {n : ℕ} {before : ByFile Text → Result A BytesFault} {was : A → V → Type 0} {old mid : Readers R} {v : V}
+      (had : AreRead input n before was old mid (Ok v)) (r : Role) (early : n ≤ turn r) {file : Option (Source R)}
+      {reading : Text → Result B BytesFault} {is : B → W → Type 0} {stops : List ℕ → Type 0} (named : (text : Text) (fault : BytesFault) → reading text ≡ Err fault → role_of fault ≡ r)
+      (flows : r ≡ role.Flows → (bytes : List ℕ) → stops bytes → (stop : ReadFault) × StopsReading bytes stop) where
+    pub next : {m : ℕ} → turn r < m → {result : Result W RunFault} → IsRead input reading is stops (at r mid) file result
+        → AreRead input m (λ texts. reading (at r texts)) is old (with_at r file mid) result
+    next {m = m} after {result = result} one = record {
+      read = read_more input had.read (one_read input r file mid one.reads);
+      kept = λ o later. at_later file mid r o (omega (arith, after, later)) ∙ had.kept o (omega (arith, after, later, early));
+      early = λ o failed.
+          elim (at_other file mid r o) [
+            | inl same ↦ omega (arith, after, ap turn same)
+            | inr still ↦ let works = none_failed input mid had.gives.0 o in absurd (cc)
+          ];
+      gives = by result one.gives;
+    }
+      where
+        by : (result : Result W RunFault) → Gives input reading is stops (at r mid) file result
+            → GivesAll input m (λ texts. reading (at r texts)) is old (with_at r file mid) result
+        by (Ok w) (works, has) = (
+          one_tells input mid had.gives.0 r file ∙ works,
+          λ texts given. has (at r texts) (subst (λ (f : Option (Source R)). MayHave (view_of input f) (at r texts)) (at_same r file mid) (given r after)),
+        )
+        by (Err NoMemory) works = one_tells input mid had.gives.0 r file ∙ works
+        by (Err (CannotRead name)) (failed, name_is, stopped) = (
           r,
-          named ∙ ap name_in (had.kept r early),
+          name_is ∙ ap name_in (had.kept r early),
           ap (λ (f : Option (Source R)). (view_of input f).failed) (at_same r file mid) ∙ failed,
           λ o later. at_later file mid r o later ∙ had.kept o (omega (arith, later, early)),
-          λ texts given fault is. first texts fault (subst (λ (P : Outcome → Type 0). P (Err fault)) (same texts given) is),
+          λ texts given fault (own, reads, same).
+              let is : fault ≡ own = cc in omega (arith, ap turn (ap role_of is ∙ named (at r texts) own reads)),
           λ last.
               subst (λ (l : List ℕ). (stop : ReadFault) × StopsReading l stop)
               (sym (ap (λ (f : Option (Source R)). (view_of input f).returned) (ap (λ (p : Role). at p (with_at r file mid)) (sym last) ∙ at_same r file mid)))
               (flows last (view_of input file).returned stopped),
         )
-        is_fault (File name fault) (works, named, has) =
-            let is : role_of fault ≡ r = own (view_of input file).returned fault (has (view_of input file).returned (may_have (view_of input file))) in (
-              named ∙ ap name_in (had.kept r early) ∙ sym (ap (λ (p : Role). name_in (at p old)) is),
+        by (Err (File name fault)) (works, name_is, has) =
+            let own : role_of fault ≡ r = named (view_of input file).returned fault (has (view_of input file).returned (may_have (view_of input file))) in (
+              name_is ∙ ap name_in (had.kept r early) ∙ sym (ap (λ (p : Role). name_in (at p old)) own),
               λ texts given.
-                  subst (λ (P : Outcome → Type 0). P (Err fault)) (sym (same texts given))
-                  (faulty texts fault (has (at r texts) (subst (λ (f : Option (Source R)). MayHave (view_of input f) (at r texts)) (at_same r file mid) (given r)))),
+                  (fault, has (at r texts) (subst (λ (f : Option (Source R)). MayHave (view_of input f) (at r texts)) (at_same r file mid) (given r)), refl),
               λ o later.
-                  let after : turn r < turn o = subst (λ (p : Role). turn p < turn o) is later in
+                  let after : turn r < turn o = subst (λ (p : Role). turn p < turn o) own later in
                   at_later file mid r o after ∙ had.kept o (omega (arith, after, early)),
-              one_tells input mid had.works r file ∙ works,
+              one_tells input mid had.gives.0 r file ∙ works,
             )
-        is_fault fault has = absurd has
+        by (Err fault) has = absurd has
 
-        pub stops_at : (fault : RunFault) → HasFault input Bad stops (at r mid) file fault → IsMade input Is old (with_at r file mid) (Err fault)
-        stops_at fault has = record { made = is_fault fault has; read = read_more input had.read (one_read input r file mid reads) }
+  module _ {A V : Type 0} {n : ℕ} {before : ByFile Text → Result A BytesFault} {was : A → V → Type 0} {old mid : Readers R} {v : V} (had : AreRead input n before was old mid (Ok v)) where
+    pub text_read : {B W : Type 0} {reading : Text → Result B BytesFault} {is : B → W → Type 0} {file : Option (Source R)} {result : Result W RunFault}
+        (r : Role) → n ≤ turn r → turn r < 3 → ((text : Text) (fault : BytesFault) → reading text ≡ Err fault → role_of fault ≡ r)
+        → IsRead input reading is (λ _. ⊤) (at r mid) file result → AreRead input (turn r + 1) (λ texts. reading (at r texts)) is old (with_at r file mid) result
+    text_read r early text named =
+        next had r early named (λ last. let wrong : turn r ≡ 3 = ap turn last in absurd (omega (arith, wrong, text))) (omega arith)
 
-      -- The outcomes follow from the reading of this file's text.
-      pub decodes_at : {F A : Type 0} (stops : List ℕ → Type 0) (Is : ByFile Text → Outcome → Type 0) (in_file : F → BytesFault) (reading : Text → Result A F) (rest : ByFile Text → A → Outcome → Type 0)
-          → ((texts : ByFile Text) → AreTexts input (with_at r file mid) texts → Is texts ≡ Then in_file (rest texts) (reading (at r texts)))
-          → ((own : F) → role_of (in_file own) ≡ r)
-          → ((texts : ByFile Text) (value : A) (fault : BytesFault) → rest texts value (Err fault) → turn r ≤ turn (role_of fault))
-          → (r ≡ role.Flows → (bytes : List ℕ) → stops bytes → (stop : ReadFault) × StopsReading bytes stop)
-          → (fault : RunFault) → HasFault input (λ text. IsFaultIn in_file (reading text)) stops (at r mid) file fault → IsMade input Is old (with_at r file mid) (Err fault)
-      decodes_at stops Is in_file reading rest same own follows flows =
-          stops_at (λ text. IsFaultIn in_file (reading text)) stops Is (λ texts. Then in_file (rest texts) (reading (at r texts))) same
-          (λ texts fault. then_first in_file (rest texts) r (reading (at r texts)) fault own (λ value. follows texts value fault))
-          (λ texts fault (f, fails, is). rw fails (ap Err is))
-          (λ text fault (f, fails, is). ap role_of is ∙ own f) flows
+    pub flows_read : {W : Type 0} {is : List MessageView → W → Type 0} {file : Option (Source R)} {result : Result W RunFault} → n ≤ 3 → ReadsInto input is mid.flows file result
+        → AreRead input 4 (λ texts. in_file InFlows (file_reading texts.flows)) is old (with_at role.Flows file mid) result
+    flows_read early = next had role.Flows early (λ bytes. named_in InFlows (λ own. refl) (file_reading bytes)) (λ _ bytes stops. stops) (omega arith)
 
--- a command ends with the fault of its last call
-pub ends_with : {R : Type 0} {input : R → InputView} {Is : ByFile Text → Outcome → Type 0} {old new : Readers R} (result : Result Made RunFault) (fault : RunFault)
-    → IsErrAnd result (λ other. other ≡ fault) → IsMade input Is old new (Err fault) → IsMade input Is old new result
-ends_with {input = input} {Is = Is} {old = old} {new = new} = handed_on (IsMade input Is old new)
+    pub list_read : {file : Option (Source R)} {result : Result PrefixList RunFault} → n ≤ 1 → Decodes input InList list_reading list_of mid.list file result
+        → AreRead input 2 (λ texts. in_file InList (list_reading texts.list)) (λ l list. l ≡ list_of list) old (with_at role.List file mid) result
+    list_read early = text_read role.List early (omega arith) (λ bytes. named_in InList (λ own. refl) (list_reading bytes))
 
--- a command ends because a file of text, the next one that is read, isn't read as a value
-pub file_fault : {R : Type 0} {input : R → InputView} {n : ℕ} {old mid : Readers R} (had : AreReadTo input n old mid) (r : Role) (early : n ≤ turn r) (before : turn r < 3)
-    (file : Option (Source R)) (Is : ByFile Text → Outcome → Type 0) {F A : Type 0} (in_file : F → BytesFault) (reading : Text → Result A F) (rest : ByFile Text → A → Outcome → Type 0)
-    → ((texts : ByFile Text) → AreTexts input (with_at r file mid) texts → Is texts ≡ Then in_file (rest texts) (reading (at r texts)))
-    → ((own : F) → role_of (in_file own) ≡ r)
-    → ((texts : ByFile Text) (value : A) (fault : BytesFault) → rest texts value (Err fault) → turn r ≤ turn (role_of fault))
-    → {V : Type 0} (model : V → A) (fault : RunFault) → Decodes input in_file reading model (at r mid) file (Err fault) → IsMade input Is old (with_at r file mid) (Err fault)
-file_fault had r early before file Is in_file reading rest same own follows model fault is =
-    decodes_at had r early file is.0 (λ _. ⊤) Is in_file reading rest same own follows
-    (λ last. let wrong : turn r ≡ 3 = ap turn last in absurd (omega (arith, wrong, before))) fault is.1
+  pub map_read : (files : Readers R) → AreFresh input files → {file : Option (Source R)} {result : Result MapText RunFault} → Decodes input InMap map_reading map_of files.map file result
+      → AreRead input 1 (λ texts. in_file InMap (map_reading texts.map)) (λ m map. m ≡ map_of map) files (with_at role.Map file files) result
+  map_read files fresh =
+      text_read (none_read 0 files fresh) role.Map (omega arith) (omega arith) (λ bytes. named_in InMap (λ own. refl) (map_reading bytes))
 
--- The file that labels come from.
+  -- the value that all texts of a file are read as
+  pub decoded : {A V : Type 0} {reading : Text → Result A BytesFault} {model : V → A} {stops : List ℕ → Type 0} {old new : Option (Source R)} {v : V}
+      → IsRead input reading (λ a value. a ≡ model value) stops old new (Ok v) → (text : Text) → MayHave (view_of input new) text → reading text ≡ Ok (model v)
+  decoded one text may = let (a, reads, is) = one.gives.1 text may in reads ∙ ap Ok is
 
-labels_early : (file : LabelFile) → turn (labels_role file) ≤ 1
-labels_early (Map file) = omega arith
-labels_early (Prefixes file) = omega arith
+  module _ {A V : Type 0} {n : ℕ} {reading : ByFile Text → Result A BytesFault} {is : A → V → Type 0} {old new : Readers R} where
+    -- what is read is read as something else
+    module _ {B W : Type 0} {is' : B → W → Type 0} {whole : ByFile Text → Result B BytesFault} (rest : ByFile Text → A → Result B BytesFault) where
+      pub then_ok : {v : V} {w : W} {m : ℕ} → AreRead input n reading is old new (Ok v) → n ≤ m
+          → ((texts : ByFile Text) → ((o : Role) → turn o < m → MayHave (view_of input (at o new)) (at o texts)) → whole texts ≡ (reading texts >>= rest texts))
+          → ((texts : ByFile Text) (a : A) → is a v → (b : B) × (rest texts a ≡ Ok b) × is' b w) → AreRead input m whole is' old new (Ok w)
+      then_ok had more same holds = record {
+        read = had.read;
+        kept = λ r last. had.kept r (omega (arith, more, last));
+        early = λ r failed. omega (arith, had.early r failed, more);
+        gives = (
+          had.gives.0,
+          λ texts given.
+              let (a, reads, own) = had.gives.1 texts (λ o low. given o (omega (arith, more, low))) in let (b, then, made) = holds texts a own in
+              (b, same texts given ∙ ap (λ (r : Result A BytesFault). r >>= rest texts) reads ∙ then, made),
+        );
+      }
 
-labels_own : (file : LabelFile) (own : MapFault) → role_of (in_labels file own) ≡ labels_role file
-labels_own (Map file) own = refl
-labels_own (Prefixes file) own = refl
+      pub then_err : {fault : RunFault} {m : ℕ} {result : Result W RunFault} → AreRead input n reading is old new (Err fault) → n ≤ m
+          → ((texts : ByFile Text) → AreTexts input new texts → whole texts ≡ (reading texts >>= rest texts))
+          → ((texts : ByFile Text) (a : A) (f : BytesFault) → rest texts a ≡ Err f → n ≤ turn (role_of f) + 1)
+          → IsErrAnd result (λ other. other ≡ fault) → AreRead input m whole is' old new result
+      then_err {fault = fault} {m = m} {result = result} had more same later passed = handed_on (AreRead input m whole is' old new) result fault passed (record {
+        read = had.read;
+        kept = λ r last. had.kept r (omega (arith, more, last));
+        early = λ r failed. omega (arith, had.early r failed, more);
+        gives =
+            fault_as input (Own reading) (Own whole) old new had.early
+            (λ texts given f (own, reads, is). (own, same texts given ∙ ap (λ (r : Result A BytesFault). r >>= rest texts) reads, is))
+            (λ texts given f (own, fails, is).
+            elim (own_or_later (rest texts) own (reading texts) (sym (same texts given) ∙ fails)) [
+              | inl reads ↦ inl (own, reads, is)
+              | inr (a, last) ↦ let e : f ≡ own = cc in inr (omega (arith, later texts a own last, ap turn (ap role_of e)))
+            ])
+            fault had.gives;
+      })
 
-then_mapped : {F A B : Type 0} (in_file : F → BytesFault) (f : A → B) (rest : B → Outcome → Type 0) (reading : Result A F)
-    → Then in_file (λ x. rest (f x)) reading ≡ Then in_file rest (result_map_both f (λ fault. fault) reading)
-then_mapped in_file f rest (Ok value) = refl
-then_mapped in_file f rest (Err fault) = refl
+    -- an allocation fails after it
+    pub then_no_memory : {B W : Type 0} {whole : ByFile Text → Result B BytesFault} {is' : B → W → Type 0} {v : V} {m : ℕ} {result : Result W RunFault}
+        → AreRead input n reading is old new (Ok v) → n ≤ m → IsErrAnd result (λ fault. fault ≡ NoMemory) → AreRead input m whole is' old new result
+    then_no_memory {whole = whole} {is' = is'} {m = m} {result = result} had more same = handed_on (AreRead input m whole is' old new) result NoMemory same (record {
+      read = had.read;
+      kept = λ r last. had.kept r (omega (arith, more, last));
+      early = λ r failed. omega (arith, had.early r failed, more);
+      gives = had.gives.0;
+    })
 
--- a fault of a text is the one of its reading as something else
-pub mapped_fault : {R : Type 0} (input : R → InputView) (old new : Option (Source R)) {F A B V W : Type 0} (in_file : F → BytesFault) (reading : Text → Result A F) (f : A → B) (model : V → A) (model' : W → B)
-    (fault : RunFault) → Decodes input in_file reading model old new (Err fault)
-    → Decodes input in_file (λ text. result_map_both f (λ own. own) (reading text)) model' old new (Err fault)
-mapped_fault input old new in_file reading f model model' (File file fault) is =
-    (is.0, (is.1.0, is.1.1, λ text may. let (own, is, same) = is.1.2 text may in (own, ap (result_map_both f (λ own. own)) is, same)))
-mapped_fault input old new in_file reading f model model' NoMemory is = is
-mapped_fault input old new in_file reading f model model' (CannotRead file) is = is
-mapped_fault input old new in_file reading f model model' fault is = absurd is.1
+    pub no_memory_left : {v : V} {Is : ByFile Text → Outcome → Type 0} {result : Result Made RunFault} → AreRead input n reading is old new (Ok v)
+        → IsErrAnd result (λ fault. fault ≡ NoMemory) → IsMade input Is old new result
+    no_memory_left {Is = Is} {result = result} had same = handed_on (IsMade input Is old new) result NoMemory same (record { made = had.gives.0; read = had.read })
 
--- the outcome follows from the reading of the file's text as a labelling
-labels_then : (rest : Labelling → Outcome → Type 0) (file : LabelFile) (texts : ByFile Text)
-    → LabelsThen rest file texts ≡ Then (in_labels file) rest (labels_reading file (at (labels_role file) texts))
-labels_then rest (Map file) texts = then_mapped InMap labelling_of_map rest (map_reading texts.map)
-labels_then rest (Prefixes file) texts = then_mapped InList labelling_of_list rest (list_reading texts.list)
+    -- The outcomes of a command follow from what is read.
+    module _ {Is : ByFile Text → Outcome → Type 0} (rest : ByFile Text → A → Outcome → Type 0)
+        (same : (texts : ByFile Text) → AreTexts input new texts → Is texts ≡ Then (λ f. f) (rest texts) (reading texts)) where
+      pub makes : {v : V} {made : Made} → AreRead input n reading is old new (Ok v)
+          → ((texts : ByFile Text) (a : A) → is a v → IsWhole made × ((out : Text) → IsTextOf made out → rest texts a (Ok out))) → IsMade input Is old new (Ok made)
+      makes had says =
+          let now : ByFile Text = each (λ file. (view_of input file).returned) new in
+          let (first, _, own) = had.gives.1 now (λ o _. are_texts input new o) in
+          record {
+            made = (
+              (says now first own).0,
+              λ texts given out is_text.
+                  let (a, reads, own) = had.gives.1 texts (λ o _. given o) in
+                  subst (λ (P : Outcome → Type 0). P (Ok out)) (sym (same texts given ∙ ap (Then (λ f. f) (rest texts)) reads)) ((says texts a own).1 out is_text),
+              had.gives.0,
+            );
+            read = had.read;
+          }
 
-module _ {R : Type 0} (input : R → InputView) (old : Readers R) (fresh : AreFresh input old) (file : LabelFile) (new : Readers R) where
-  pub labels_fault : (rest : ByFile Text → Labelling → Outcome → Type 0)
-      → ((texts : ByFile Text) (l : Labelling) (fault : BytesFault) → rest texts l (Err fault) → 1 ≤ turn (role_of fault))
-      → (fault : RunFault) → AreLabels input file old new (Err fault) → IsMade input (λ texts. LabelsThen (rest texts) file texts) old new (Err fault)
-  labels_fault rest follows fault (is, only) =
-      let Is : ByFile Text → Outcome → Type 0 = λ texts. LabelsThen (rest texts) file texts in
-      let early : turn (labels_role file) ≤ 1 = labels_early file in
-      subst (λ (files : Readers R). IsMade input Is old files (Err fault)) (sym only)
-      (file_fault (none_read 0 old fresh) (labels_role file) (omega arith) (omega (arith, early)) (at (labels_role file) new) Is (in_labels file) (labels_reading file) rest
-      (λ texts given. labels_then (rest texts) file texts) (labels_own file) (λ texts l other after. omega (arith, follows texts l other after, early))
-      labelling_read fault is)
+      pub faulty : {fault : RunFault} {result : Result Made RunFault} → AreRead input n reading is old new (Err fault)
+          → ((texts : ByFile Text) (a : A) (f : BytesFault) → rest texts a (Err f) → n ≤ turn (role_of f) + 1)
+          → IsErrAnd result (λ other. other ≡ fault) → IsMade input Is old new result
+      faulty {fault = fault} {result = result} had later passed = handed_on (IsMade input Is old new) result fault passed (record {
+        made =
+            fault_as input (Own reading) Is old new had.early
+            (λ texts given f (own, reads, is).
+            subst (λ (P : Outcome → Type 0). P (Err f)) (sym (same texts given ∙ ap (Then (λ f. f) (rest texts)) reads)) is)
+            (λ texts given f is.
+            elim (own_or_after (rest texts) f (reading texts) (subst (λ (P : Outcome → Type 0). P (Err f)) (same texts given) is)) [
+              | inl reads ↦ inl (f, reads, refl)
+              | inr (a, last) ↦ inr (later texts a f last)
+            ])
+            fault had.gives;
+        read = had.read;
+      })
 
-  module _ (found : LabelsRead) (is : AreLabels input file old new (Ok found)) where
-    pub labels_read : AreReadTo input 2 old new
-    labels_read =
-        let early : turn (labels_role file) ≤ 1 = labels_early file in
-        subst (λ (files : Readers R). AreReadTo input 2 old files) (sym is.1)
-        (then_read (none_read 0 old fresh) (labels_role file) (omega arith) (at (labels_role file) new) is.0.0 (omega (arith, early)) is.0.1)
+-- The outcomes of commands, by what their texts are read as.
 
-    -- the outcome over the text is the one for the labelling
-    pub labels_are : (rest : Labelling → Outcome → Type 0) (texts : ByFile Text) → MayHave (view_of input (at (labels_role file) new)) (at (labels_role file) texts)
-        → LabelsThen rest file texts ≡ rest (labelling_read found)
-    labels_are rest texts may = labels_then rest file texts ∙ ap (Then (in_labels file) rest) (is.0.2 (at (labels_role file) texts) may)
+pub then_in : {F A : Type 0} (wrap : F → BytesFault) (rest : A → Outcome → Type 0) (reading : Result A F) → Then wrap rest reading ≡ Then (λ f. f) rest (in_file wrap reading)
+then_in wrap rest (Ok value) = refl
+then_in wrap rest (Err fault) = refl
 
-    -- a command ends without a fault
-    pub labels_done : (rest : Labelling → Outcome → Type 0) (made : Made) → IsWhole made → ((out : Text) → IsTextOf made out → rest (labelling_read found) (Ok out))
-        → IsMade input (λ texts. LabelsThen rest file texts) old new (Ok made)
-    labels_done rest made whole says =
-        done labels_read (λ texts. LabelsThen rest file texts) made whole
-        (λ texts given out is_text.
-        subst (λ (P : Outcome → Type 0). P (Ok out)) (sym (labels_are rest texts (given (labels_role file)))) (says out is_text))
+pub then_is : {F A : Type 0} (wrap : F → BytesFault) (rest : A → Outcome → Type 0) (reading : Result A F) {a : A} → in_file wrap reading ≡ Ok a → Then wrap rest reading ≡ rest a
+then_is wrap rest reading reads = then_in wrap rest reading ∙ ap (Then (λ f. f) rest) reads
 
--- Reports.
+then_more : {A B : Type 0} (f : A → B) (rest : B → Outcome → Type 0) (reading : Result A BytesFault)
+    → Then (λ f. f) (λ a. rest (f a)) reading ≡ Then (λ f. f) rest (reading >>= (λ a. Ok (f a)))
+then_more f rest (Ok value) = refl
+then_more f rest (Err fault) = refl
 
-module _ {R : Type 0} (input : R → InputView) (old : Readers R) (fresh : AreFresh input old) where
-  -- a report ends with the fault of the file that its labels come from
-  pub source_fault : (text : Option Labelling → List MessageView → List ℕ) (source : Option LabelFile) (new : Readers R) (fault : RunFault)
-      → AreLabelsOf input source old new (Err fault) → IsMade input (ReportsThen text source) old new (Err fault)
-  source_fault text None new fault (none, same) = cc
-  source_fault text (Some file) new fault is =
-      labels_fault input old fresh file new (λ texts l. ReportsOf text (Some l) texts.flows)
-      (λ texts l other after. omega (arith, flows_only text (Some l) texts.flows other after)) fault is
+pub labels_then : (rest : Labelling → Outcome → Type 0) (file : LabelFile) (texts : ByFile Text) → LabelsThen rest file texts ≡ Then (λ f. f) rest (labels_reading file texts)
+labels_then rest (Map file) texts =
+    then_in InMap (λ m. rest (labelling_of_map m)) (map_reading texts.map) ∙ then_more labelling_of_map rest (in_file InMap (map_reading texts.map))
+labels_then rest (Prefixes file) texts =
+    then_in InList (λ l. rest (labelling_of_list l)) (list_reading texts.list) ∙ then_more labelling_of_list rest (in_file InList (list_reading texts.list))
 
-  pub source_read : (source : Option LabelFile) (new : Readers R) (found : Option LabelsRead) → AreLabelsOf input source old new (Ok found) → AreReadTo input 2 old new
-  source_read None new found (none, same) = subst (λ (files : Readers R). AreReadTo input 2 old files) (sym same) (none_read 2 old fresh)
-  source_read (Some file) new (Some found) is = labels_read input old fresh file new found is
-  source_read (Some file) new None is = absurd is
+pub report_then : (rest : Option Labelling → List MessageView → Outcome → Type 0) (source : Option LabelFile) (texts : ByFile Text)
+    → FlowsThen rest source texts ≡ Then (λ f. f) (λ (read : Option Labelling × List MessageView). rest read.0 read.1) (report_reading source texts)
+report_then rest source texts = by source
+  where
+    flows : (l : Option Labelling) → Then InFlows (rest l) (file_reading texts.flows)
+        ≡ Then (λ f. f) (λ (read : Option Labelling × List MessageView). rest read.0 read.1) (in_file InFlows (file_reading texts.flows) >>= (λ messages. Ok (l, messages)))
+    flows l = then_in InFlows (rest l) (file_reading texts.flows)
+        ∙ then_more (λ messages. (l, messages)) (λ (read : Option Labelling × List MessageView). rest read.0 read.1) (in_file InFlows (file_reading texts.flows))
 
+    over : (labels : Result Labelling BytesFault) → Then (λ f. f) (λ l. Then InFlows (rest (Some l)) (file_reading texts.flows)) labels
+        ≡ Then (λ f. f) (λ (read : Option Labelling × List MessageView). rest read.0 read.1)
+        ((labels >>= (λ l. Ok (Some l))) >>= (λ l. in_file InFlows (file_reading texts.flows) >>= (λ messages. Ok (l, messages))))
+    over (Ok l) = flows (Some l)
+    over (Err fault) = refl
+
+    by : (source : Option LabelFile) → FlowsThen rest source texts ≡ Then (λ f. f) (λ (read : Option Labelling × List MessageView). rest read.0 read.1) (report_reading source texts)
+    by None = flows None
+    by (Some file) = labels_then (λ l. Then InFlows (rest (Some l)) (file_reading texts.flows)) file texts ∙ over (labels_reading file texts)
+
+-- what a report is on, once its labels are read
+abbrev pub report_after : Option Labelling → ByFile Text → Result (Option Labelling × List MessageView) BytesFault
+report_after labels texts = in_file InFlows (file_reading texts.flows) >>= (λ messages. Ok (labels, messages))
+
+pub flows_last : (labels : Option Labelling) (reading : Result (List MessageView) ReadFault) (fault : BytesFault)
+    → ◌>>=◌ {B = Option Labelling × List MessageView} (in_file InFlows reading) (λ messages. Ok (labels, messages)) ≡ Err fault → role_of fault ≡ role.Flows
+flows_last labels (Ok messages) fault fails = cc
+flows_last labels (Err own) fault fails = let same : fault ≡ InFlows own = cc in ap role_of same
+
+module _ {R : Type 0} {input : R → InputView} (source : Option LabelFile) {old mid : Readers R} {found : Option LabelsRead} (had : AreLabelsOf input source old mid (Ok found)) where
   -- there are labels exactly if they come from a file
-  pub source_some : (source : Option LabelFile) (new : Readers R) (found : Option LabelsRead) → AreLabelsOf input source old new (Ok found) → is_some (option_map labelling_read found) ≡ is_some source
-  source_some None new None is = refl
-  source_some None new (Some found) (none, same) = cc
-  source_some (Some file) new (Some found) is = refl
-  source_some (Some file) new None is = absurd is
+  pub source_some : is_some (option_map labelling_read found) ≡ is_some source
+  source_some =
+      let now : ByFile Text = each (λ file. (view_of input file).returned) mid in
+      let (labels, reads, is) = had.gives.1 now (λ o _. are_texts input mid o) in ap is_some (sym is) ∙ by source labels now reads
+    where
+      by : (source : Option LabelFile) (labels : Option Labelling) (texts : ByFile Text) → source_reading source texts ≡ Ok labels → is_some labels ≡ is_some source
+      by None labels texts reads = let none : labels ≡ None = cc in ap is_some none
+      by (Some file) labels texts reads = some (labels_reading file texts) reads
+        where
+          some : (reading : Result Labelling BytesFault) → (reading >>= (λ l. Ok (Some l))) ≡ Ok labels → is_some labels ≡ true
+          some (Ok l) is = let same : labels ≡ Some l = cc in ap is_some same
+          some (Err fault) is = cc
 
-  -- the outcomes of a report are those for its labels
-  report_is : (text : Option Labelling → List MessageView → List ℕ) (source : Option LabelFile) (new : Readers R) (found : Option LabelsRead) (flows : Option (Source R))
-      → AreLabelsOf input source old new (Ok found) → (texts : ByFile Text) → AreTexts input (with_at role.Flows flows new) texts
-      → ReportsThen text source texts ≡ ReportsOf text (option_map labelling_read found) texts.flows
-  report_is text None new None flows is texts given = refl
-  report_is text None new (Some found) flows (none, same) texts given = cc
-  report_is text (Some (Map file)) new (Some found) flows is texts given =
-      labels_are input old fresh (Map file) new found is (λ l. ReportsOf text (Some l) texts.flows) texts (given role.Map)
-  report_is text (Some (Prefixes file)) new (Some found) flows is texts given =
-      labels_are input old fresh (Prefixes file) new found is (λ l. ReportsOf text (Some l) texts.flows) texts (given role.List)
-  report_is text (Some file) new None flows is texts given = absurd is
-
-  module _ (source : Option LabelFile) (mid : Readers R) (found : Option LabelsRead) (labels : AreLabelsOf input source old mid (Ok found)) (flows : Option (Source R)) where
-    pub flows_fault : (text : Option Labelling → List MessageView → List ℕ) (fault : RunFault)
-        → ReadsInto input {T = Unit {0}} (λ _ _. ⊤) mid.flows flows (Err fault) → IsMade input (ReportsThen text source) old (with_at role.Flows flows mid) (Err fault)
-    flows_fault text fault (reads, has) =
-        decodes_at (source_read source mid found labels) role.Flows (omega arith) flows reads (λ bytes. (stop : ReadFault) × StopsReading bytes stop) (ReportsThen text source) InFlows file_reading
-        (λ texts messages. Prints (text (option_map labelling_read found) messages)) (λ texts given. report_is text source mid found flows labels texts given)
-        (λ own. refl) (λ texts messages other is. cc) (λ _ bytes stops. stops) fault has
-
-    pub flows_read : {T : Type 0} (has : Option Labelling → List MessageView → T → Type 0) (P : List MessageView → Type 0) (built : T)
-        → ReadsInto input {T = Unit {0}} (λ messages _. P messages) mid.flows flows (Ok tt)
-        → ((messages : List MessageView) → P messages → has (option_map labelling_read found) messages built) → ReadsReport input has source old (with_at role.Flows flows mid) (Ok built)
-    flows_read has P built (reads, works, is) holds = (
-      then_read (source_read source mid found labels) role.Flows (omega arith) flows reads (omega arith) works,
-      λ texts given.
-          let (messages, reading, has) = is texts.flows (given role.Flows) in (
-            option_map labelling_read found,
-            messages,
-            λ text.
-                subst (λ (P : Outcome → Type 0). P (Ok (text (option_map labelling_read found) messages))) (sym (report_is text source mid found flows labels texts given))
-                (rw reading refl),
-            holds messages has,
-          ),
-    )
-
--- what is built makes the output of a report
-pub report_done : {R : Type 0} (input : R → InputView) (old new : Readers R) (source : Option LabelFile) {T : Type 0} (has : Option Labelling → List MessageView → T → Type 0) (built : T)
-    → ReadsReport input has source old new (Ok built) → (text : Option Labelling → List MessageView → List ℕ) (made : Made)
-    → ((labels : Option Labelling) (messages : List MessageView) → has labels messages built → IsWhole made × ((out : Text) → IsTextOf made out → out ≡ text labels messages))
-    → IsMade input (ReportsThen text source) old new (Ok made)
-report_done input old new source has built (had, is) text made says =
-    let (labels, messages, read, holds) = is (each (λ file. (view_of input file).returned) new) (are_texts input new) in
-    done had (ReportsThen text source) made (says labels messages holds).0
-    (λ texts given out is_text.
-    let (labels, messages, read, holds) = is texts given in
-    subst (λ (out : Text). ReportsThen text source texts (Ok out)) (sym ((says labels messages holds).1 out is_text)) (read text))
+  pub report_is : (flows : Option (Source R)) (texts : ByFile Text) → ((o : Role) → turn o < 2 → MayHave (view_of input (at o (with_at role.Flows flows mid))) (at o texts))
+      → report_reading source texts ≡ report_after (option_map labelling_read found) texts
+  report_is flows texts given =
+      let (labels, reads, is) = had.gives.1 texts (as_before input role.Flows (omega arith) flows mid texts given) in
+      ap (λ (r : Result (Option Labelling) BytesFault). r >>= (λ labels. report_after labels texts)) (reads ∙ ap Ok is)
 
 -- an index that is borrowed has the labelling of the index
 pub found_is : (lent : Option (Bor StretchModel)) (owned : Option StretchModel) (labels : Option Labelling)

@@ -14,10 +14,10 @@ use Rattle.ipfix_read.proofs.Joining.{calls_start}
 use Rattle.ipfix_read.proofs.Readings.{not_of_reader}
 use Rattle.flowlabel.specs.declared.bytes_fault.BytesFault.TheVariants.{Flows as InFlows}
 use Rattle.flowlabel.specs.BytesFault.{is_out_of_memory}
-use Rattle.flowlabel.specs.Reports.{AreReadSoFar, IsFaultOfCall, IsFresh, ReadsInto, ReadsNext}
+use Rattle.flowlabel.specs.Reports.{AreReadSoFar, IsFaultOfCall, IsFresh, ReadsInto, ReadsNext, in_file}
 use Rattle.flowlabel.specs.Request.{Text}
 use Rattle.flowlabel.specs.Run.{CannotRead, File, NoMemory, RunFault, Source, name_in, view_of}
-use Rattle.flowlabel.proofs.MadeLemmas.{all_read, handed_on, text_is}
+use Rattle.flowlabel.proofs.MadeLemmas.{all_read, handed_on, text_is, with_fault_of}
 
 -- a fault of a reader that stopped is one of a reader
 stopped : (size : ℕ) (reading : Result (List MessageView) ReadFault) (stop : ReadFault) → StopsAfter size reading stop → is_of_reader stop.kind ≡ true
@@ -30,11 +30,11 @@ fault_read : {R : Type 0} (input : R → InputView) (start now : Option (Source 
     → ReadsInput (view_of input start) (view_of input now) (λ bytes. (fault ≡ out_of_memory) ⊎ (StopsReading bytes fault
     ⊎ ((is_of_calls fault.kind ≡ false) × ((rest : List ℕ) → MayFollow (has_ended (view_of input now)) rest → file_reading (bytes ++ rest) ≡ Err fault))))
     → ReadsInto input {T = List MessageView} (λ read all. read ≡ all) start now (Err made)
-fault_read input start now fault NoMemory is none works (bytes, gives, joined) = ((bytes, gives, tt), works ∙ is.0)
+fault_read input start now fault NoMemory is none works (bytes, gives, joined) = record { reads = (bytes, gives, tt); gives = works ∙ is.0 }
 fault_read input start now fault (CannotRead file) (named, reader) none works (bytes, gives, inl memory) =
     let wrong : is_of_reader fault.kind ≡ false = not_of_reader fault.kind (ap (λ (f : ReadFault). is_of_calls f.kind) memory) in cc
 fault_read input start now fault (CannotRead file) (named, reader) none works (bytes, gives, inr (inl stops)) =
-    ((bytes, gives, tt), (works ∙ reader, named, (fault, subst (λ (l : List ℕ). StopsReading l fault) (sym (all_read none gives)) stops)))
+    record { reads = (bytes, gives, tt); gives = (works ∙ reader, named, (fault, subst (λ (l : List ℕ). StopsReading l fault) (sym (all_read none gives)) stops)) }
 fault_read input start now fault (CannotRead file) (named, reader) none works (bytes, gives, inr (inr (calls, has))) =
     let wrong : is_of_reader fault.kind ≡ false = not_of_reader fault.kind calls in cc
 fault_read input start now fault (File file made) (bytes_fault, is) none works (bytes, gives, inl memory) =
@@ -42,15 +42,15 @@ fault_read input start now fault (File file made) (bytes_fault, is) none works (
     let other : is_out_of_memory (InFlows fault) ≡ false = is.2 in cc
 fault_read input start now fault (File file made) (bytes_fault, is) none works (bytes, gives, inr (inl stops)) =
     let wrong : is_of_reader fault.kind ≡ true = stopped (0 + length bytes) (file_reading bytes) fault stops in cc
-fault_read input start now fault (File file made) (bytes_fault, is) none works (bytes, gives, inr (inr (calls, has))) = (
-  (bytes, gives, tt),
-  (
+fault_read input start now fault (File file made) (bytes_fault, is) none works (bytes, gives, inr (inr (calls, has))) = record {
+  reads = (bytes, gives, tt);
+  gives = (
     works ∙ bytes_fault,
     is.0,
     λ text (rest, follows, all).
-        (fault, ap file_reading (all ∙ ap (λ (l : List ℕ). l ++ rest) (all_read none gives)) ∙ has rest follows, is.1),
-  ),
-)
+        ap (λ (r : Result (List MessageView) ReadFault). in_file InFlows r) (ap file_reading (all ∙ ap (λ (l : List ℕ). l ++ rest) (all_read none gives)) ∙ has rest follows) ∙ ap Err (sym is.1),
+  );
+}
 fault_read input start now fault made (bytes_fault, is) none works joined = absurd is
 
 -- before any call
@@ -63,7 +63,7 @@ none_so_far input file p at (none, works) =
 pub no_memory : {R : Type 0} (input : R → InputView) (Has : List MessageView → Type 0) (start now : Option (Source R)) (result : Result (Unit {0}) RunFault)
     → ReadsInput (view_of input start) (view_of input now) (λ _. ⊤) → (view_of input now).failed ≡ false
     → IsErrAnd result (λ fault. fault ≡ NoMemory) → ReadsInto input (λ messages _. Has messages) start now result
-no_memory input Has start now result reads works same = handed_on (ReadsInto input (λ messages _. Has messages) start now) result NoMemory same (reads, works)
+no_memory input Has start now result reads works same = handed_on (ReadsInto input (λ messages _. Has messages) start now) result NoMemory same (record { reads = reads; gives = works })
 
 -- the messages so far are read, and this holds of them
 pub record AreReadInto {R : Type 0} (input : R → InputView) (Has : List MessageView → Type 0) (start : Option (Source R)) (p : ProgressView) (now : Option (Source R)) : Type 0 where
@@ -76,15 +76,14 @@ module _ {R : Type 0} {input : R → InputView} {Has : List MessageView → Type
   -- the next call has a fault
   pub fault_next : (then : Option (Source R)) (fault : RunFault) (result : Result (Unit {0}) RunFault) → IsErrAnd result (λ other. other ≡ fault)
       → ReadsInto input {T = List MessageView} (λ read all. read ≡ all) start then (Err fault) → ReadsInto input (λ messages _. Has messages) start then result
-  fault_next then fault result same is = handed_on (ReadsInto input (λ messages _. Has messages) start then) result fault same is
+  fault_next then fault result same is = handed_on (ReadsInto input (λ messages _. Has messages) start then) result fault same (with_fault_of fault (λ text f reads. reads) is)
 
   -- the next call returns no message
   pub at_end : (then : Option (Source R)) → ReadsInto input (λ read all. read ≡ all) start then (Ok had.messages) → ReadsInto input {T = Unit {0}} (λ messages _. Has messages) start then (Ok tt)
-  at_end then (reads, works, has) = (
-    reads,
-    works,
-    λ text may. let (messages, reading, same) = has text may in (had.messages, reading ∙ ap Ok same, had.is),
-  )
+  at_end then is = record {
+    reads = is.reads;
+    gives = (is.gives.0, λ text may. let (messages, reading, same) = is.gives.1 text may in (had.messages, reading ∙ ap Ok same, had.is));
+  }
 
   -- the next call returns a message
   module _ (m : MessageView) (p' : ProgressView) (then : Option (Source R)) (next : ReadsNext input start had.messages (Ok (Some m)) p' then) where
@@ -104,11 +103,15 @@ module _ (joins : CallsJoinFile) {R : Type 0} (input : R → InputView) (start :
   pub ends : ReadsInput (view_of input now) (view_of input then) (AnswersNext p (Ok None) p' (has_ended (view_of input then)))
       → (view_of input then).failed ≡ false → ReadsInto input (λ read all. read ≡ all) start then (Ok messages)
   ends answers works =
-      let (bytes, gives, (end, reading)) = joins _ _ _ (view_of input start) (view_of input now) (view_of input then) messages p p' (Ok None) so_far.read answers in (
-        (bytes, gives, tt),
-        works,
-        λ text may. (messages, ap file_reading (text_is (view_of input then) text bytes (all_read so_far.first gives) end may) ∙ reading, refl),
-      )
+      let (bytes, gives, (end, reading)) = joins _ _ _ (view_of input start) (view_of input now) (view_of input then) messages p p' (Ok None) so_far.read answers in
+      record {
+        reads = (bytes, gives, tt);
+        gives = (
+          works,
+          λ text may.
+              (messages, ap (λ (r : Result (List MessageView) ReadFault). in_file InFlows r) (ap file_reading (text_is (view_of input then) text bytes (all_read so_far.first gives) end may) ∙ reading), refl),
+        );
+      }
 
   pub next_read : (result : Option MessageView) → ReadsInput (view_of input now) (view_of input then) (AnswersNext p (Ok result) p' (has_ended (view_of input then)))
       → OnSome result ((p'.count ≡ p.count + 1) × (p'.count ≤ 4294967295) × (p'.state ≡ Going)) → (view_of input then).failed ≡ false → name_in then ≡ name_in now

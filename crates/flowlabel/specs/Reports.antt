@@ -1,14 +1,14 @@
 use Rattle.std.specs.Prelude.{◌≡◌, ⊤, ◌≤◌, ◌<◌, ◌*◌, ◌++◌, ◌∷◌, [], List, ℕ, Option, Some, None, is_some, Result, Ok, Err, false, true, length, option_map}
 use Rattle.std.specs.Borrow.{Bor}
 use Rattle.std.specs.Global.{Vec}
+use Rattle.std.specs.Option.{option_map_or}
 use Rattle.std.specs.Result.{result_map_both}
 use Rattle.flow_io.specs.Devices.{InputView, OutputView, ReadsInput, StopsWriting, WritesWhole}
 use Rattle.pmap_text.specs.MapText.{map_of}
 use Rattle.pmap_text.specs.PrefixList.{list_of}
 use Rattle.pmap_text.specs.ListModel.{ListModel}
 use Rattle.pmap_text.specs.MapModel.{MapModel}
-use Rattle.pmap_text.specs.Reading.{map_reading, list_reading}
-use Rattle.pmap_text.specs.declared.fault.MapFault.{MapFault}
+use Rattle.pmap_text.specs.Reading.{◌>>=◌, map_reading, list_reading}
 use Rattle.label_lookup.specs.Labelling.{Labelling, StretchModel, label_where, labelling_of_list, labelling_of_map, labelling_of_stretches}
 use Rattle.ipfix_read.specs.Fault.{is_of_reader}
 use Rattle.ipfix_templates.specs.InForce.{no_templates}
@@ -28,16 +28,18 @@ use Rattle.pmap_text.specs.RunsText.{IsRunsText}
 use Rattle.pmap_text.specs.Stretches.{AreLabelsBelow, text_held}
 use Rattle.pmap_text.specs.declared.runs.Runs.{Runs}
 use Rattle.pmap_cert.specs.Acceptance.{IsMinimalPair}
+use Rattle.cert_check.specs.Checking.{text_fault}
+use Rattle.cert_check.specs.declared.fault.TextFault.{TextFault}
+use Rattle.cert_check.specs.declared.fault.TextFault.TheVariants as text
 use Rattle.pmap_cert.specs.CertificateModel.{CertificateModel}
 use Rattle.pmap_cert.specs.Certificate.{IsOpening, certificate_of}
 use Rattle.pmap_cert.specs.CertificateText.{certificate_text}
 use Rattle.pmap_cert.specs.Compacting.{compact}
 use Rattle.pmap_cert.specs.ListText.{list_text}
 use Rattle.pmap_cert.specs.FormatReading.{format_reading}
-use Rattle.flowlabel.specs.ByFile.{ByFile, Role, at, turn, with_at}
-use Rattle.flowlabel.specs.ByFile as role
-use Rattle.flowlabel.specs.declared.bytes_fault.BytesFault.TheVariants.{Certificate as InCertificate, Flows as InFlows, List as InList, Map as InMap}
-use Rattle.flowlabel.specs.Output.{BytesFault, FlowsThen, IsVerdict, Outcome, Prints, Then, labelled_row_lines, shrunk_text}
+use Rattle.flowlabel.specs.ByFile.{ByFile, Role, at, turn}
+use Rattle.flowlabel.specs.declared.bytes_fault.BytesFault.TheVariants.{Certificate as InCertificate, Check as InCheck, Flows as InFlows, List as InList, Map as InMap}
+use Rattle.flowlabel.specs.Output.{BytesFault, Outcome, labelled_row_lines, minimal_text, shrunk_text}
 use Rattle.flowlabel.specs.declared.command.LabelFile.{LabelFile}
 use Rattle.flowlabel.specs.declared.command.LabelFile.TheVariants.{Map, List as Prefixes}
 use Rattle.flowlabel.specs.Request.{Shrunk, Text}
@@ -59,27 +61,39 @@ labelling_read (read.List list) = labelling_of_list (list_of list)
 abbrev pub labelling_found : Option (Bor StretchModel) → Option Labelling
 labelling_found = option_map (λ index. labelling_of_stretches index.now)
 
--- the file that labels come from, the reading of its text as a labelling, and its faults
-abbrev pub labels_role : LabelFile → Role
-labels_role (Map file) = role.Map
-labels_role (Prefixes file) = role.List
+-- a reading, with its faults as those of a file
+abbrev pub in_file : {F A : Type 0} → (F → BytesFault) → Result A F → Result A BytesFault
+in_file = result_map_both (λ value. value)
 
-abbrev pub labels_reading : LabelFile → Text → Result Labelling MapFault
-labels_reading (Map file) text = result_map_both labelling_of_map (λ fault. fault) (map_reading text)
-labels_reading (Prefixes file) text = result_map_both labelling_of_list (λ fault. fault) (list_reading text)
+-- what the text that labels come from is read as: the labelling, or the first fault
+abbrev pub labels_reading : LabelFile → ByFile Text → Result Labelling BytesFault
+labels_reading (Map file) texts =
+    in_file InMap (map_reading texts.map) >>= (λ m. Ok (labelling_of_map m))
+labels_reading (Prefixes file) texts =
+    in_file InList (list_reading texts.list) >>= (λ l. Ok (labelling_of_list l))
 
-abbrev pub in_labels : LabelFile → MapFault → BytesFault
-in_labels (Map file) = InMap
-in_labels (Prefixes file) = InList
+-- the same, if there is such a text
+abbrev pub source_reading : Option LabelFile → ByFile Text → Result (Option Labelling) BytesFault
+source_reading None texts = Ok None
+source_reading (Some file) texts = labels_reading file texts >>= (λ labels. Ok (Some labels))
 
--- the outcome of a report: a text that depends on the labelling, if there is one, and on the messages of a File
-abbrev pub ReportsThen : (Option Labelling → List MessageView → List ℕ) → Option LabelFile → ByFile Text → Outcome → Type 0
-ReportsThen text = FlowsThen (λ labels messages. Prints (text labels messages))
+-- what a report is on: the labelling, if there is one, and the messages of a File
+abbrev pub report_reading : Option LabelFile → ByFile Text
+    → Result (Option Labelling × List MessageView) BytesFault
+report_reading source texts = source_reading source texts >>= (λ labels.
+    in_file InFlows (file_reading texts.flows) >>= (λ messages. Ok (labels, messages)))
 
--- the texts are read as these labels, if there is a file of labels, and these messages: each report is the one on them
-abbrev pub AreReadAs : Option LabelFile → ByFile Text → Option Labelling → List MessageView → Type 0
-AreReadAs source texts labels messages =
-    (text : Option Labelling → List MessageView → List ℕ) → ReportsThen text source texts (Ok (text labels messages))
+-- what `check` prints, by the first fault of a certificate's text and the number of the list's entries
+abbrev pub in_text : TextFault → BytesFault
+in_text (text.Certificate fault) = InCertificate fault
+in_text (text.Check fault) = InCheck fault
+
+abbrev pub verdict : Option TextFault → ℕ → Outcome
+verdict found count = option_map_or (λ fault. Err (in_text fault)) found (Ok (minimal_text count))
+
+abbrev pub check_reading : MapModel → ListModel → Text → Outcome
+check_reading m l bytes =
+    verdict (text_fault m l (format_reading bytes)) (length l.prefixes)
 
 -- the rows of messages that meet a condition
 abbrev pub passing_rows : Condition → Option Labelling → List MessageView → List RowView
@@ -131,55 +145,53 @@ abbrev pub IsFaultOfCall : Text → ReadFault → RunFault → Type 0
 IsFaultOfCall name fault (CannotRead file) = (file.now ≡ name) × (is_of_reader fault.kind ≡ true)
 IsFaultOfCall name fault made = (is_of_reader fault.kind ≡ false) × IsFaultFor name (InFlows fault) made
 
--- this is the fault of a file's text
-abbrev pub IsFaultIn : {F A : Type 0} → (F → BytesFault) → Result A F → BytesFault → Type 0
-IsFaultIn {F} in_file reading fault = (own : F) × (reading ≡ Err own) × (fault ≡ in_file own)
-
--- the outcome over the text of a certificate, for a map and a list
-abbrev pub ChecksThen : MapModel → ListModel → Text → Outcome → Type 0
-ChecksThen m l text = Then InCertificate (IsVerdict m l) (format_reading text)
-
 module _ {R : Type 0} (input : R → InputView) where
   -- nothing of the file is read yet, and its reader has not failed
   abbrev pub IsFresh : Option (Source R) → Type 0
   IsFresh file = ((view_of input file).returned ≡ []) × ((view_of input file).failed ≡ false)
 
   abbrev pub AreFresh : Readers R → Type 0
-  AreFresh files = IsFresh files.map × IsFresh files.list × IsFresh files.certificate × IsFresh files.flows
+  AreFresh files =
+      IsFresh files.map × IsFresh files.list × IsFresh files.certificate × IsFresh files.flows
 
-  -- The fault of reading a file, with its name: all texts that the file may have have the fault, its reader or an
-  -- allocation failed. The bytes that a failed reader returned have the second property.
-  abbrev pub HasFault : (Text → BytesFault → Type 0) → (List ℕ → Type 0) → Option (Source R) → Option (Source R) → RunFault → Type 0
-  HasFault Is stops old new NoMemory = (view_of input new).failed ≡ false
-  HasFault Is stops old new (CannotRead file) =
-      ((view_of input new).failed ≡ true) × (file.now ≡ name_in old) × stops (view_of input new).returned
-  HasFault Is stops old new (File file fault) = ((view_of input new).failed ≡ false) × (file.now ≡ name_in old)
-      × ((text : Text) → MayHave (view_of input new) text → Is text fault)
-  HasFault Is stops old new fault = ⊥
+  -- What reading a file returns, by what its text is read as: a value or a fault, which all texts that the file may have
+  -- share. Or its reader failed after bytes that meet a condition, or an allocation failed. A fault has the file's name.
+  abbrev pub Gives : {A V : Type 0} → (Text → Result A BytesFault) → (A → V → Type 0) → (List ℕ → Type 0)
+      → Option (Source R) → Option (Source R) → Result V RunFault → Type 0
+  Gives {A} reading is stops old new (Ok value) = ((view_of input new).failed ≡ false)
+      × ((text : Text) → MayHave (view_of input new) text
+      → (a : A) × (reading text ≡ Ok a) × is a value)
+  Gives reading is stops old new (Err NoMemory) = (view_of input new).failed ≡ false
+  Gives reading is stops old new (Err (CannotRead file)) = ((view_of input new).failed ≡ true)
+      × (file.now ≡ name_in old) × stops (view_of input new).returned
+  Gives reading is stops old new (Err (File file fault)) =
+      ((view_of input new).failed ≡ false) × (file.now ≡ name_in old)
+      × ((text : Text) → MayHave (view_of input new) text → reading text ≡ Err fault)
+  Gives reading is stops old new (Err fault) = ⊥
 
-  -- what is read of a file: a value for all texts that the file may have, or a fault
-  abbrev pub IsRead : {V : Type 0} → (Text → V → Type 0) → (Text → BytesFault → Type 0) → (List ℕ → Type 0) → Option (Source R) → Option (Source R) → Result V RunFault → Type 0
-  IsRead is Is stops old new (Ok value) = ReadsInput (view_of input old) (view_of input new) (λ _. ⊤)
-      × ((view_of input new).failed ≡ false) × ((text : Text) → MayHave (view_of input new) text → is text value)
-  IsRead is Is stops old new (Err fault) = ReadsInput (view_of input old) (view_of input new) (λ _. ⊤) × HasFault Is stops old new fault
+  -- what reading a file returns, and that no byte of it is lost
+  pub record IsRead {A V : Type 0} (reading : Text → Result A BytesFault) (is : A → V → Type 0)
+      (stops : List ℕ → Type 0) (old new : Option (Source R)) (result : Result V RunFault) : Type 0 where
+    pub reads : ReadsInput (view_of input old) (view_of input new) (λ _. ⊤)
+    pub gives : Gives reading is stops old new result
 
   -- the name of the file, and its text
   abbrev pub IsText : Option (Source R) → Option (Source R) → Result (Bor Text × Vec ℕ) RunFault → Type 0
-  IsText old = IsRead (λ text read. (text ≡ read.1.items) × (read.0.now ≡ name_in old)) (λ _ _. ⊥) (λ _. ⊤) old
+  IsText old = IsRead {A = Text} Ok (λ text read. (text ≡ read.1.items) × (read.0.now ≡ name_in old))
+      (λ _. ⊤) old
 
   -- the value that the text is read as
-  abbrev pub Decodes : {F A V : Type 0} → (F → BytesFault) → (Text → Result A F) → (V → A) → Option (Source R) → Option (Source R) → Result V RunFault → Type 0
-  Decodes in_file reading model = IsRead (λ text value. reading text ≡ Ok (model value)) (λ text. IsFaultIn in_file (reading text)) (λ _. ⊤)
-
-  -- what `check` prints for a map and a list and the text of a certificate
-  abbrev pub IsChecked : MapModel → ListModel → Option (Source R) → Option (Source R) → Result (Vec ℕ) RunFault → Type 0
-  IsChecked m l = IsRead (λ text out. ChecksThen m l text (Ok out.items)) (λ text fault. ChecksThen m l text (Err fault)) (λ _. ⊤)
+  abbrev pub Decodes : {F A V : Type 0} → (F → BytesFault) → (Text → Result A F) → (V → A)
+      → Option (Source R) → Option (Source R) → Result V RunFault → Type 0
+  Decodes wrap reading model =
+      IsRead (λ text. in_file wrap (reading text)) (λ a value. a ≡ model value) (λ _. ⊤)
 
   -- what is built from the messages of a File
-  abbrev pub ReadsInto : {T : Type 0} → (List MessageView → T → Type 0) → Option (Source R) → Option (Source R) → Result T RunFault → Type 0
+  abbrev pub ReadsInto : {T : Type 0} → (List MessageView → T → Type 0) → Option (Source R) → Option (Source R)
+      → Result T RunFault → Type 0
   ReadsInto is_of =
-      IsRead (λ text made. (messages : List MessageView) × (file_reading text ≡ Ok messages) × is_of messages made)
-      (λ text. IsFaultIn InFlows (file_reading text)) (λ bytes. (stop : ReadFault) × StopsReading bytes stop)
+      IsRead (λ text. in_file InFlows (file_reading text)) is_of
+      (λ bytes. (stop : ReadFault) × StopsReading bytes stop)
 
   -- The input has returned these messages, whose number the state has, and there may be more. Nothing was read before them.
   pub record AreReadSoFar (start : Option (Source R)) (messages : List MessageView) (p : ProgressView) (now : Option (Source R)) : Type 0 where
@@ -195,11 +207,23 @@ module _ {R : Type 0} (input : R → InputView) where
   ReadsNext start messages (Ok None) p now = ReadsInto (λ read all. read ≡ all) start now (Ok messages)
   ReadsNext start messages (Err fault) p now = ReadsInto {T = List MessageView} (λ read all. read ≡ all) start now (Err fault)
 
-  -- the files before this turn may have been read since, without a fault, and the others are untouched
-  pub record AreReadTo (n : ℕ) (old new : Readers R) : Type 0 where
+  -- What reading the files before this turn returns, by what their texts are read as.
+  abbrev pub GivesAll : {A V : Type 0} → ℕ → (ByFile Text → Result A BytesFault) → (A → V → Type 0)
+      → Readers R → Readers R → Result V RunFault → Type 0
+  GivesAll {A} n reading is old new (Ok value) = (any_failed input new ≡ false)
+      × ((texts : ByFile Text)
+      → ((role : Role) → turn role < n → MayHave (view_of input (at role new)) (at role texts))
+      → (a : A) × (reading texts ≡ Ok a) × is a value)
+  GivesAll n reading is old new (Err fault) = IsFaultOf input (λ texts outcome. (own : BytesFault)
+      × (reading texts ≡ Err own) × (outcome ≡ Err own)) old new fault
+
+  -- what reading these files returns; no byte of them is lost, and the other files are untouched
+  pub record AreRead {A V : Type 0} (n : ℕ) (reading : ByFile Text → Result A BytesFault) (is : A → V → Type 0)
+      (old new : Readers R) (result : Result V RunFault) : Type 0 where
     pub read : AreReadOn input old new
-    pub works : any_failed input new ≡ false
     pub kept : (role : Role) → n ≤ turn role → at role new ≡ at role old
+    pub early : (role : Role) → (view_of input (at role new)).failed ≡ true → turn role < n
+    pub gives : GivesAll n reading is old new result
 
   -- what a command returns, by its outcomes over the texts that its files may have: what it prints, or a fault
   abbrev pub Makes : (ByFile Text → Outcome → Type 0) → Readers R → Readers R → Result Made RunFault → Type 0
@@ -212,26 +236,19 @@ module _ {R : Type 0} (input : R → InputView) where
     pub made : Makes Is old new result
     pub read : AreReadOn input old new
 
-  -- the map or the list that labels come from is read, and no other file
+  -- the map or the list that labels come from
   abbrev pub AreLabels : LabelFile → Readers R → Readers R → Result LabelsRead RunFault → Type 0
-  AreLabels file old new result =
-      Decodes (in_labels file) (labels_reading file) labelling_read (at (labels_role file) old) (at (labels_role file) new) result
-      × (new ≡ with_at (labels_role file) (at (labels_role file) new) old)
+  AreLabels file = AreRead 2 (labels_reading file) (λ labels found. labels ≡ labelling_read found)
 
   -- the same, if there is such a file
   abbrev pub AreLabelsOf : Option LabelFile → Readers R → Readers R → Result (Option LabelsRead) RunFault → Type 0
-  AreLabelsOf None old new result = (result ≡ Ok None) × (new ≡ old)
-  AreLabelsOf (Some file) old new (Ok (Some found)) = AreLabels file old new (Ok found)
-  AreLabelsOf (Some file) old new (Ok None) = ⊥
-  AreLabelsOf (Some file) old new (Err fault) = AreLabels file old new (Err fault)
+  AreLabelsOf source =
+      AreRead 2 (source_reading source) (λ labels found. labels ≡ option_map labelling_read found)
 
   -- what is built from the labels, if there are any, and the messages of a File
-  abbrev pub ReadsReport : {T : Type 0} → (Option Labelling → List MessageView → T → Type 0) → Option LabelFile → Readers R → Readers R → Result T RunFault → Type 0
-  ReadsReport has source old new (Ok built) = AreReadTo 4 old new
-      × ((texts : ByFile Text) → AreTexts input new texts → (labels : Option Labelling) × (messages : List MessageView)
-      × AreReadAs source texts labels messages × has labels messages built)
-  ReadsReport has source old new (Err fault) =
-      (text : Option Labelling → List MessageView → List ℕ) → IsMade (ReportsThen text source) old new (Err fault)
+  abbrev pub ReadsReport : {T : Type 0} → (Option Labelling → List MessageView → T → Type 0) → Option LabelFile
+      → Readers R → Readers R → Result T RunFault → Type 0
+  ReadsReport has source = AreRead 4 (report_reading source) (λ read built. has read.0 read.1 built)
 
 -- What is built from messages and from rows. The first value is the one before any was added.
 

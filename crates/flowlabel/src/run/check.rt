@@ -1,9 +1,10 @@
 //! The output of `check`.
+ghost use Rattle.std.specs.Prelude.{◌≡◌, ⊤};
 ghost use Rattle.std.specs.Borrow.{Bor};
 ghost use Rattle.pmap_text.specs.MapText.{map_of};
 ghost use Rattle.pmap_text.specs.PrefixList.{list_of};
 ghost use Rattle.flowlabel.specs.Output.{IsOutput};
-ghost use Rattle.flowlabel.specs.Reports.{AreFresh, IsChecked, IsFresh, IsMade};
+ghost use Rattle.flowlabel.specs.Reports.{AreFresh, IsFresh, IsMade, IsRead, check_reading};
 ghost use Rattle.flowlabel.specs.Request.{Check, Text};
 
 use crate::bytes_fault::BytesFault;
@@ -25,7 +26,8 @@ fn checked<'a, R: Input>(
     hashing: KeyHashing,
 ) -> Result<Vec<u8>, RunFault<'a>>
     requires { IsFresh R.input file.old }
-    ensures { IsChecked R.input (map_of map.now) (list_of list.now) file.old file.new result }
+    ensures { IsRead R.input (check_reading (map_of map.now) (list_of list.now)) (λ out made. out ≡ made.items) (λ _. ⊤)
+        file.old file.new result }
 {
     let (name, text) = read(alloc, file)?;
     match check_text(alloc, map, list, text.as_slice(), hashing) {

@@ -1,12 +1,11 @@
-use Rattle.std.proofs.Common.{Ok, arith, ap, refl}
-use Rattle.pmap_cert.specs.Certificate.{certificate_of}
+use Rattle.std.proofs.Common.{◌∙◌, Ok, arith, ap, refl, sym}
+use Rattle.pmap_cert.specs.CertificateText.{certificate_text}
+use Rattle.pmap_cert.specs.Compacting.{compact}
 use Rattle.pmap_cert.specs.FormatReading.{format_reading}
 use Rattle.flowlabel.specs.ByFile as role
 use Rattle.flowlabel.specs.declared.bytes_fault.BytesFault.TheVariants.{Certificate as InCertificate}
-use Rattle.flowlabel.specs.Output.{IsOutput}
 use Rattle.flowlabel.proofs.Outcomes.{PrintsCompact}
-use Rattle.flowlabel.specs.Request.{Recert}
-use Rattle.flowlabel.proofs.MadeLemmas.{done, ends_with, file_fault, none_read, then_read}
+use Rattle.flowlabel.proofs.MadeLemmas.{faulty, makes, named_in, none_read, text_read, then_in}
 use Rattle.flowlabel.proofs.run.output.Goals as goal
 
 pub returns-in-Label : goal.returns-in-Label
@@ -33,13 +32,15 @@ returns-in-Shrink g c = rw c.in-Shrink.is (c.output-in-Shrink.ensures c.in-Shrin
 pub returns-in_err-certificate-in-Recert : goal.returns-in_err-certificate-in-Recert
 returns-in_err-certificate-in-Recert g c =
     rw c.in-Recert.is
-    (ends_with c.from_residual.result c.in_err-certificate-in-Recert.field-0.0 c.from_residual.ensures.1
-    (file_fault (none_read 2 c.args.files.now c.requires) role.Certificate (omega arith) (omega arith) c.read_certificate.new.file (IsOutput (Recert c.in-Recert.certificate)) InCertificate format_reading
-    (λ texts. PrintsCompact) (λ texts given. refl) (λ own. refl) (λ texts k fault is. cc) certificate_of c.in_err-certificate-in-Recert.field-0.0 c.in_err-certificate-in-Recert.ensures))
+    (faulty (λ texts. PrintsCompact) (λ texts given. then_in InCertificate _ (format_reading texts.certificate))
+    (text_read (none_read 2 c.args.files.now c.requires) role.Certificate (omega arith) (omega arith)
+    (λ bytes. named_in InCertificate (λ own. refl) (format_reading bytes))
+    c.in_err-certificate-in-Recert.ensures) (λ texts k fault is. cc) c.from_residual.ensures.1)
 
 pub returns-in_ok-certificate-in-Recert : goal.returns-in_ok-certificate-in-Recert
 returns-in_ok-certificate-in-Recert g c =
     rw c.in-Recert.is
-    (done (then_read (none_read 2 c.args.files.now c.requires) role.Certificate (omega arith) c.read_certificate.new.file c.in_ok-certificate-in-Recert.ensures.0 {m = 3} (omega arith) c.in_ok-certificate-in-Recert.ensures.1)
-    (IsOutput (Recert c.in-Recert.certificate)) _ tt
-    (λ texts given out same. rw (c.in_ok-certificate-in-Recert.ensures.2 texts.certificate (given role.Certificate)) (ap Ok same)))
+    (makes (λ texts. PrintsCompact) (λ texts given. then_in InCertificate _ (format_reading texts.certificate))
+    (text_read (none_read 2 c.args.files.now c.requires) role.Certificate (omega arith) (omega arith)
+    (λ bytes. named_in InCertificate (λ own. refl) (format_reading bytes))
+    c.in_ok-certificate-in-Recert.ensures) (λ texts k same. (tt, λ out is. ap Ok (is ∙ ap (λ x. certificate_text (compact x)) (sym same)))))

@@ -1,27 +1,25 @@
-use Rattle.std.proofs.Common.{◌≡◌, ◌∙◌, Ok, ap, refl, rules, sym, true}
+use Rattle.std.proofs.Common.{◌≡◌, ◌∙◌, ap, refl, rules, sym, true}
 use Rattle.pmap_cert.specs.Certificate.{certificate_of}
 use Rattle.pmap_cert.specs.CertificateText.{HasFormatText, certificate_text}
 use Rattle.pmap_cert.specs.FormatReading.{format_reading}
-use Rattle.flowlabel.specs.BytesFault.{is_out_of_memory}
-use Rattle.flowlabel.specs.Reports.{IsFaultIn}
+use Rattle.flowlabel.specs.BytesFault.{is_certificate_memory}
+use Rattle.flowlabel.specs.Reports.{in_file}
 use Rattle.flowlabel.specs.declared.bytes_fault.BytesFault.TheVariants.{Certificate as InCertificate}
 use Rattle.flowlabel.proofs.MadeLemmas.{whole_is, whole_is_bad, whole_stops}
 use Rattle.flowlabel.proofs.run.reading.read_certificate.Goals as goal
 
 pub returns-in_err-name : goal.returns-in_err-name
-returns-in_err-name g c =
-    whole_stops g.R.Input.input c.args.file.now c.read.new.file (λ text value. format_reading text ≡ Ok (certificate_of value)) (λ text. IsFaultIn InCertificate (format_reading text))
-    c.from_residual.result c.in_err-name.field-0.0 c.from_residual.ensures.1 c.in_err-name.ensures
+returns-in_err-name g c = whole_stops c.from_residual.ensures.1 c.in_err-name.ensures
 
 pub returns-in-Ok : goal.returns-in-Ok
 returns-in-Ok g c =
     let found = certificate_of c.in-Ok.certificate in
     let is : HasFormatText found × (c.in_ok-name.text.items ≡ certificate_text found) = search rules in
-    whole_is g.R.Input.input c.args.file.now c.read.new.file (λ text value. format_reading text ≡ Ok (certificate_of value)) (λ text. IsFaultIn InCertificate (format_reading text))
-    c.in_ok-name.name c.in_ok-name.text c.in_ok-name.ensures c.in-Ok.certificate ((c.text_of_format_is_read_or_has_a_fault.ensures.read c.in_ok-name.text.items found).1 is)
+    whole_is c.in_ok-name.ensures found
+    (ap (in_file InCertificate) ((c.text_of_format_is_read_or_has_a_fault.ensures.read c.in_ok-name.text.items found).1 is)) refl
 
 pub returns : goal.returns
 returns g c =
-    whole_is_bad g.R.Input.input c.args.file.now c.read.new.file (λ text value. format_reading text ≡ Ok (certificate_of value)) (λ text. IsFaultIn InCertificate (format_reading text))
-    c.in_ok-name.name c.in_ok-name.text c.in_ok-name.ensures (InCertificate c.in-Err.fault) c.of.result c.of.ensures
-    (λ bytes. (c.in-Err.fault, ap format_reading (sym c.as_slice.ensures.value) ∙ c.in-Err.ensures.fault (λ same. let wrong : is_out_of_memory (InCertificate c.in-Err.fault) ≡ true = rw same refl in cc), refl))
+    whole_is_bad c.in_ok-name.ensures (InCertificate c.in-Err.fault) c.of.ensures
+    (λ bytes. ap (in_file InCertificate) (ap format_reading (sym c.as_slice.ensures.value)
+    ∙ c.in-Err.ensures.fault (λ same. let wrong : is_certificate_memory c.in-Err.fault.kind ≡ true = ap is_certificate_memory same in cc)))

@@ -1,24 +1,22 @@
-use Rattle.std.proofs.Common.{◌≡◌, ◌∙◌, Ok, ap, refl, sym, true}
+use Rattle.std.proofs.Common.{◌≡◌, ◌∙◌, ap, refl, sym, true}
 use Rattle.pmap_text.specs.MapText.{map_of}
 use Rattle.pmap_text.specs.Reading.{map_reading}
-use Rattle.flowlabel.specs.BytesFault.{is_out_of_memory}
-use Rattle.flowlabel.specs.Reports.{IsFaultIn}
+use Rattle.flowlabel.specs.BytesFault.{is_map_memory}
+use Rattle.flowlabel.specs.Reports.{in_file}
 use Rattle.flowlabel.specs.declared.bytes_fault.BytesFault.TheVariants.{Map as InMap}
 use Rattle.flowlabel.proofs.MadeLemmas.{whole_is, whole_is_bad, whole_stops}
 use Rattle.flowlabel.proofs.run.reading.read_map.Goals as goal
 
 pub returns-in_err-name : goal.returns-in_err-name
-returns-in_err-name g c =
-    whole_stops g.R.Input.input c.args.file.now c.read.new.file (λ text value. map_reading text ≡ Ok (map_of value)) (λ text. IsFaultIn InMap (map_reading text))
-    c.from_residual.result c.in_err-name.field-0.0 c.from_residual.ensures.1 c.in_err-name.ensures
+returns-in_err-name g c = whole_stops c.from_residual.ensures.1 c.in_err-name.ensures
 
 pub returns-in-Ok : goal.returns-in-Ok
 returns-in-Ok g c =
-    whole_is g.R.Input.input c.args.file.now c.read.new.file (λ text value. map_reading text ≡ Ok (map_of value)) (λ text. IsFaultIn InMap (map_reading text))
-    c.in_ok-name.name c.in_ok-name.text c.in_ok-name.ensures c.in-Ok.map (ap map_reading (sym c.as_slice.ensures.value) ∙ c.in-Ok.ensures.ok)
+    whole_is c.in_ok-name.ensures (map_of c.in-Ok.map)
+    (ap (in_file InMap) (ap map_reading (sym c.as_slice.ensures.value) ∙ c.in-Ok.ensures.ok)) refl
 
 pub returns : goal.returns
 returns g c =
-    whole_is_bad g.R.Input.input c.args.file.now c.read.new.file (λ text value. map_reading text ≡ Ok (map_of value)) (λ text. IsFaultIn InMap (map_reading text))
-    c.in_ok-name.name c.in_ok-name.text c.in_ok-name.ensures (InMap c.in-Err.fault) c.of.result c.of.ensures
-    (λ bytes. (c.in-Err.fault, ap map_reading (sym c.as_slice.ensures.value) ∙ c.in-Err.ensures.fault (λ same. let wrong : is_out_of_memory (InMap c.in-Err.fault) ≡ true = rw same refl in cc), refl))
+    whole_is_bad c.in_ok-name.ensures (InMap c.in-Err.fault) c.of.ensures
+    (λ bytes. ap (in_file InMap) (ap map_reading (sym c.as_slice.ensures.value)
+    ∙ c.in-Err.ensures.fault (λ same. let wrong : is_map_memory c.in-Err.fault.kind ≡ true = ap is_map_memory same in cc)))
