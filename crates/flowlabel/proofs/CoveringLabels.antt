@@ -3,11 +3,13 @@ use Rattle.std.proofs.Common.{◌≡◌, ◌<◌, ◌≤◌, ◌&&◌, ◌++◌,
 use Rattle.std.specs.Prelude.{MatchOption, nat_le, nat_lt, option_map, slice_get, slice_index_or}
 use Rattle.std.specs.List.{last_or}
 use Rattle.std.specs.Option.{option_map_or, option_or}
-use Rattle.std.proofs.lemmas.Bool.{and_from, and_parts, le-leb, leb-true, lt-ltb, le-ltb, false_from_ne_true}
-use Rattle.std.proofs.lemmas.List.Elements.{All-head, All-tail}
+use Rattle.std.proofs.lemmas.Bool.{and_from, and_parts, le-leb, leb-true, lt-ltb, le-ltb}
+use Rattle.std.proofs.lemmas.List.Elements.{All-filter, All-head, All-tail, filter_passes}
+use Rattle.std.proofs.lemmas.List.Sorted.{All-permutation}
 use Rattle.pmap_text.specs.ListModel.{CoversAddress, IsLongestMatch, ListModel, Prefix, covers, list_label}
 use Rattle.pmap_text.specs.MapModel.{Label, MapModel, Mapping, last_such, map_label, spans}
 use Rattle.pmap_text.specs.Sorting.{in_order, with_in_order}
+use Rattle.pmap_text.proofs.Sorting.{same-in_order}
 use Rattle.pmap_text.proofs.ListLabels.{covers-from, covers-true, longest-match}
 use Rattle.prefix_keys.specs.Block.{width_of}
 use Rattle.std.proofs.Math.Path.{fun_ext}
@@ -61,39 +63,29 @@ module _ (t : Prefix → Bool) where
   best-more x ps true e = ap (λ b. slice_get (in_order longer (cond b (x ∷ filter t ps) (filter t ps))) 0) e ∙ first-with x (in_order longer (filter t ps))
   best-more x ps false e = ap (λ b. slice_get (in_order longer (cond b (x ∷ filter t ps) (filter t ps))) 0) e
 
+  passing : (P : Prefix → Type 0) (ps : List Prefix) → All (λ r. t r ≡ true → P r) ps → All P (in_order longer (filter t ps))
+  passing P ps all =
+      All-permutation P (filter t ps) (in_order longer (filter t ps)) (same-in_order longer (filter t ps))
+      (λ k d below. All-filter t (λ r. t r ≡ true → P r) ps all k d below (filter_passes t ps k d below))
+
   none-best : (ps : List Prefix) → All (λ p. t p ≡ true → ⊥) ps → best ps ≡ None
-  none-best [] none = refl
-  none-best (x ∷ ps) none =
-      best-more x ps false (false_from_ne_true (t x) (All-head (λ p. t p ≡ true → ⊥) x ps none)) ∙ none-best ps (All-tail (λ p. t p ≡ true → ⊥) x ps none)
+  none-best ps none = by (in_order longer (filter t ps)) (passing (λ _. ⊥) ps none)
+    where
+      by : (sorted : List Prefix) → All (λ _. ⊥) sorted → slice_get sorted 0 ≡ None
+      by [] all = refl
+      by (y ∷ ys) all = absurd (All-head (λ _. ⊥) y ys all)
 
   -- no entry after this one is longer
-  best-first : (p : Prefix) (ps : List Prefix) → All (λ r. t r ≡ true → r.bits ≤ p.bits) ps → (o : Option Prefix) → best ps ≡ o → better o p ≡ p
-  best-first p ps later None e = refl
-  best-first p [] later (Some y) e = cc
-  best-first p (x ∷ ps) later (Some y) e =
-      by (t x) refl (best ps) refl (best-first p ps (All-tail (λ r. t r ≡ true → r.bits ≤ p.bits) x ps later))
+  best-first : (p : Prefix) (ps : List Prefix) → All (λ r. t r ≡ true → r.bits ≤ p.bits) ps → better (best ps) p ≡ p
+  best-first p ps later = by (in_order longer (filter t ps)) (passing (λ r. r.bits ≤ p.bits) ps later)
     where
-      shorter : (z : Prefix) → z.bits ≤ p.bits → better (Some z) p ≡ p
-      shorter z le = ap (λ b. if b then z else p) (le-ltb p.bits z.bits le)
-
-      here : t x ≡ true → better (Some x) p ≡ p
-      here is = shorter x (All-head (λ r. t r ≡ true → r.bits ≤ p.bits) x ps later is)
-
-      pick : (z : Prefix) (b : Bool) → Some (if b then z else x) ≡ Some y → better (Some z) p ≡ p → better (Some x) p ≡ p → better (Some y) p ≡ p
-      pick z true same at_z at_x = ap (λ o. better o p) (sym same) ∙ at_z
-      pick z false same at_z at_x = ap (λ o. better o p) (sym same) ∙ at_x
-
-      by : (b : Bool) → t x ≡ b → (o : Option Prefix) → best ps ≡ o → ((o : Option Prefix) → best ps ≡ o → better o p ≡ p) → better (Some y) p ≡ p
-      by false is o f ih = ih (Some y) (sym (best-more x ps false is) ∙ e)
-      by true is None f ih =
-          let same : Some x ≡ Some y = sym (best-more x ps true is ∙ ap (λ o. Some (better o x)) f) ∙ e in
-          ap (λ o. better o p) (sym same) ∙ here is
-      by true is (Some z) f ih =
-          pick z (longer z x) (sym (best-more x ps true is ∙ ap (λ o. Some (better o x)) f) ∙ e) (ih (Some z) f) (here is)
+      by : (sorted : List Prefix) → All (λ r. r.bits ≤ p.bits) sorted → better (slice_get sorted 0) p ≡ p
+      by [] all = refl
+      by (y ∷ ys) all = ap (λ b. if b then y else p) (le-ltb p.bits y.bits (All-head (λ r. r.bits ≤ p.bits) y ys all))
 
   best-is : (before : List Prefix) (p : Prefix) (following : List Prefix) → t p ≡ true → All (λ r. t r ≡ true → r.bits < p.bits) before
       → All (λ r. t r ≡ true → r.bits ≤ p.bits) following → best (before ++ p ∷ following) ≡ Some p
-  best-is [] p following is earlier later = best-more p following true is ∙ ap Some (best-first p following later (best following) refl)
+  best-is [] p following is earlier later = best-more p following true is ∙ ap Some (best-first p following later)
   best-is (x ∷ before) p following is earlier later =
       by (t x) refl (best-is before p following is (All-tail (λ r. t r ≡ true → r.bits < p.bits) x before earlier) later)
     where

@@ -27,7 +27,7 @@ use Rattle.flowlabel.specs.ByFile as role
 use Rattle.flowlabel.specs.declared.bytes_fault.BytesFault.TheVariants.{Map as InMap, List as InList, Flows as InFlows}
 use Rattle.flowlabel.specs.Headline.{IsHeadline}
 use Rattle.flowlabel.specs.Output.{BytesFault, FlowsThen, IsOutput, LabelsThen, Outcome, Then}
-use Rattle.flowlabel.specs.Reports.{AreFresh, AreLabelsOf, AreRead, Decodes, Gives, GivesAll, IsMade, IsMadeWritten, IsRead, IsText, IsTextOf, IsWhole, Makes, ReadsInto, in_file, labelling_found, labelling_read, labels_reading, report_reading, source_reading}
+use Rattle.flowlabel.specs.Reports.{AreFresh, AreLabelsOf, AreRead, AreTextsBefore, Decodes, Gives, GivesAll, IsMade, IsMadeWritten, IsRead, IsReading, IsText, IsTextOf, IsWhole, ReadsInto, faults_of, in_file, labelling_found, labelling_read, labels_reading, report_reading, source_reading}
 use Rattle.flowlabel.specs.declared.run.labels.LabelsRead.{LabelsRead}
 use Rattle.flowlabel.specs.declared.run.made.Made.{Made}
 use Rattle.flowlabel.specs.declared.command.LabelFile.{LabelFile}
@@ -115,7 +115,8 @@ only_text whole other may = let (found, same, (is, named)) = whole.gives.1 other
 -- a fault of one reading is that of another with the same faults
 pub with_fault_of : {R A B V W : Type 0} {input : R → InputView} {old new : Option (Source R)} {reading : Text → Result A BytesFault} {is : A → V → Type 0}
     {other : Text → Result B BytesFault} {is' : B → W → Type 0} {stops : List ℕ → Type 0} (fault : RunFault)
-    → ((text : Text) (f : BytesFault) → reading text ≡ Err f → other text ≡ Err f) → IsRead input reading is stops old new (Err fault) → IsRead input other is' stops old new (Err fault)
+    → ((text : Text) (f : BytesFault) → reading text ≡ Err f → other text ≡ Err f) → IsRead input reading is stops old new (Err fault)
+    → IsRead input other is' stops old new (Err fault)
 with_fault_of NoMemory fails one = record { reads = one.reads; gives = one.gives }
 with_fault_of (CannotRead file) fails one = record { reads = one.reads; gives = one.gives }
 with_fault_of (File file f) fails one = record { reads = one.reads; gives = (one.gives.0, one.gives.1, λ text may. fails text f (one.gives.2 text may)) }
@@ -134,8 +135,8 @@ module _ {R A V : Type 0} {input : R → InputView} {old new : Option (Source R)
     gives = (whole.gives.0, λ other may. (a, ap reading (only_text whole other may).0 ∙ reads, holds));
   }
 
-  pub whole_is_bad : {name : Bor Text} {text : Vec ℕ} {made : RunFault} → IsText input old new (Ok (name, text)) → (fault : BytesFault) → IsFaultFor name.now fault made
-      → (is_out_of_memory fault ≡ false → reading text.items ≡ Err fault) → IsRead input reading is (λ _. ⊤) old new (Err made)
+  pub whole_is_bad : {name : Bor Text} {text : Vec ℕ} {made : RunFault} → IsText input old new (Ok (name, text)) → (fault : BytesFault)
+      → IsFaultFor name.now fault made → (is_out_of_memory fault ≡ false → reading text.items ≡ Err fault) → IsRead input reading is (λ _. ⊤) old new (Err made)
   whole_is_bad {name = name} {text = text} {made = made} whole fault made_of reads = record { reads = whole.reads; gives = by made made_of }
     where
       by : (made : RunFault) → IsFaultFor name.now fault made → Gives input reading is (λ _. ⊤) old new (Err made)
@@ -168,63 +169,48 @@ module _ {R : Type 0} (input : R → InputView) where
 
 -- what earlier files may have as their texts doesn't change
 as_before : {R : Type 0} (input : R → InputView) {n : ℕ} (r : Role) → n ≤ turn r → (file : Option (Source R)) (mid : Readers R) (texts : ByFile Text)
-    → ((o : Role) → turn o < n → MayHave (view_of input (at o (with_at r file mid))) (at o texts)) → (o : Role) → turn o < n → MayHave (view_of input (at o mid)) (at o texts)
+    → AreTextsBefore input n (with_at r file mid) texts → AreTextsBefore input n mid texts
 as_before input r early file mid texts given o front = elim (at_other file mid r o) [
   | inl same ↦ absurd (omega (arith, ap turn same, front, early))
   | inr still ↦ subst (λ (f : Option (Source _)). MayHave (view_of input f) (at o texts)) still (given o front)
 ]
 
--- a fault of some outcomes is one of others, which have the same faults, and perhaps faults of later files
-fault_as : {R : Type 0} (input : R → InputView) (Is Is' : ByFile Text → Outcome → Type 0) {n : ℕ} (old new : Readers R) → ((o : Role) → (view_of input (at o new)).failed ≡ true → turn o < n)
-    → ((texts : ByFile Text) → AreTexts input new texts → (f : BytesFault) → Is texts (Err f) → Is' texts (Err f))
-    → ((texts : ByFile Text) → AreTexts input new texts → (f : BytesFault) → Is' texts (Err f) → Is texts (Err f) ⊎ (n ≤ turn (role_of f) + 1))
-    → (fault : RunFault) → IsFaultOf input Is old new fault → IsFaultOf input Is' old new fault
-fault_as input Is Is' old new early to back NoMemory works = works
-fault_as input Is Is' old new early to back (CannotRead file) (r, named, failed, later, first, stops) = (
-  r,
-  named,
-  failed,
-  later,
-  λ texts given f is. elim (back texts given f is) [
-    | inl own ↦ first texts given f own
-    | inr last ↦ omega (arith, early r failed, last)
-  ],
-  stops,
-)
-fault_as input Is Is' old new early to back (File file f) (named, has, later, works) = (named, λ texts given. to texts given f (has texts given), later, works)
-fault_as input Is Is' old new early to back fault is = absurd is
+-- a result has the faults of another one, and perhaps faults of later files
+abbrev Follows : {V W : Type 0} → ℕ → (Result V BytesFault → Type 0) → (Result W BytesFault → Type 0) → Type 0
+Follows n Is Is' = ((f : BytesFault) → Is (Err f) → Is' (Err f)) × ((f : BytesFault) → Is' (Err f) → Is (Err f) ⊎ (n ≤ turn (role_of f) + 1))
 
-own_or_later : {A B : Type 0} (rest : A → Result B BytesFault) (f : BytesFault) (r : Result A BytesFault) → (r >>= rest) ≡ Err f → (r ≡ Err f) ⊎ ((a : A) × (rest a ≡ Err f))
-own_or_later rest f (Ok a) fails = inr (a, fails)
-own_or_later rest f (Err g) fails = let same : g ≡ f = cc in inl (ap Err same)
+more_follows : {A B V W : Type 0} (is : A → V → Type 0) (is' : B → W → Type 0) (n : ℕ) (rest : A → Result B BytesFault)
+    → ((a : A) (f : BytesFault) → rest a ≡ Err f → n ≤ turn (role_of f) + 1) → (reading : Result A BytesFault)
+    → Follows n (IsReading reading is) (IsReading (reading >>= rest) is')
+more_follows is is' n rest later (Ok a) = (λ f wrong. absurd (cc), λ f fails. inr (later a f fails))
+more_follows is is' n rest later (Err g) = (λ f fails. let same : g ≡ f = cc in ap Err same, λ f fails. let same : g ≡ f = cc in inl (ap Err same))
 
-own_or_after : {A : Type 0} (rest : A → Outcome → Type 0) (f : BytesFault) (r : Result A BytesFault) → Then (λ f. f) rest r (Err f) → (r ≡ Err f) ⊎ ((a : A) × rest a (Err f))
-own_or_after rest f (Ok a) fails = inr (a, fails)
-own_or_after rest f (Err g) fails = let e : g ≡ f = cc in inl (ap Err e)
-
--- the outcome is the fault of this reading
-abbrev Own : {A : Type 0} → (ByFile Text → Result A BytesFault) → ByFile Text → Outcome → Type 0
-Own reading texts outcome = (own : BytesFault) × (reading texts ≡ Err own) × (outcome ≡ Err own)
+then_follows : {A V : Type 0} (is : A → V → Type 0) (n : ℕ) (rest : A → Outcome → Type 0)
+    → ((a : A) (f : BytesFault) → rest a (Err f) → n ≤ turn (role_of f) + 1) → (reading : Result A BytesFault)
+    → Follows n (IsReading reading is) (Then (λ f. f) rest reading)
+then_follows is n rest later (Ok a) = (λ f wrong. absurd (cc), λ f fails. inr (later a f fails))
+then_follows is n rest later (Err g) = (λ f fails. let same : f ≡ g = cc in ap Err same, λ f fails. let same : g ≡ f = cc in inl (ap Err same))
 
 module _ {R : Type 0} {input : R → InputView} where
   -- no file is read yet
-  pub none_read : (n : ℕ) (files : Readers R) → AreFresh input files → AreRead input {A = Unit {0}} {V = Unit {0}} n (λ _. Ok tt) (λ _ _. ⊤) files files (Ok tt)
+  pub none_read : (n : ℕ) (files : Readers R) → AreFresh input files → AreRead input {V = Unit {0}} n (λ _ _. ⊤) files files (Ok tt)
   none_read n files fresh =
       let none : any_failed input files ≡ false = rw (fresh.0.1, fresh.1.1, fresh.2.1, fresh.3.1) refl in
       record {
         read = λ r. ([], gives_none _, tt);
         kept = λ r _. refl;
         early = λ r failed. let works = none_failed input files none r in absurd (cc);
-        gives = (none, λ texts given. (tt, refl, tt));
+        gives = (none, λ texts given. tt);
       }
 
   -- the file that is read next, after files that are read without a fault
-  module _ {A B V W : Type 0} {n : ℕ} {before : ByFile Text → Result A BytesFault} {was : A → V → Type 0} {old mid : Readers R} {v : V}
-      (had : AreRead input n before was old mid (Ok v)) (r : Role) (early : n ≤ turn r) {file : Option (Source R)}
-      {reading : Text → Result B BytesFault} {is : B → W → Type 0} {stops : List ℕ → Type 0} (named : (text : Text) (fault : BytesFault) → reading text ≡ Err fault → role_of fault ≡ r)
+  module _ {B V W : Type 0} {n : ℕ} {Was : ByFile Text → Result V BytesFault → Type 0} {old mid : Readers R} {v : V}
+      (had : AreRead input n Was old mid (Ok v)) (r : Role) (early : n ≤ turn r) {file : Option (Source R)}
+      {reading : Text → Result B BytesFault} {is : B → W → Type 0} {stops : List ℕ → Type 0}
+      (named : (text : Text) (fault : BytesFault) → reading text ≡ Err fault → role_of fault ≡ r)
       (flows : r ≡ role.Flows → (bytes : List ℕ) → stops bytes → (stop : ReadFault) × StopsReading bytes stop) where
     pub next : {m : ℕ} → turn r < m → {result : Result W RunFault} → IsRead input reading is stops (at r mid) file result
-        → AreRead input m (λ texts. reading (at r texts)) is old (with_at r file mid) result
+        → AreRead input m (λ texts. IsReading (reading (at r texts)) is) old (with_at r file mid) result
     next {m = m} after {result = result} one = record {
       read = read_more input had.read (one_read input r file mid one.reads);
       kept = λ o later. at_later file mid r o (omega (arith, after, later)) ∙ had.kept o (omega (arith, after, later, early));
@@ -237,7 +223,7 @@ module _ {R : Type 0} {input : R → InputView} where
     }
       where
         by : (result : Result W RunFault) → Gives input reading is stops (at r mid) file result
-            → GivesAll input m (λ texts. reading (at r texts)) is old (with_at r file mid) result
+            → GivesAll input m (λ texts. IsReading (reading (at r texts)) is) old (with_at r file mid) result
         by (Ok w) (works, has) = (
           one_tells input mid had.gives.0 r file ∙ works,
           λ texts given. has (at r texts) (subst (λ (f : Option (Source R)). MayHave (view_of input f) (at r texts)) (at_same r file mid) (given r after)),
@@ -248,8 +234,7 @@ module _ {R : Type 0} {input : R → InputView} where
           name_is ∙ ap name_in (had.kept r early),
           ap (λ (f : Option (Source R)). (view_of input f).failed) (at_same r file mid) ∙ failed,
           λ o later. at_later file mid r o later ∙ had.kept o (omega (arith, later, early)),
-          λ texts given fault (own, reads, same).
-              let is : fault ≡ own = cc in omega (arith, ap turn (ap role_of is ∙ named (at r texts) own reads)),
+          λ texts given fault reads. omega (arith, ap turn (named (at r texts) fault reads)),
           λ last.
               subst (λ (l : List ℕ). (stop : ReadFault) × StopsReading l stop)
               (sym (ap (λ (f : Option (Source R)). (view_of input f).returned) (ap (λ (p : Role). at p (with_at r file mid)) (sym last) ∙ at_same r file mid)))
@@ -258,8 +243,7 @@ module _ {R : Type 0} {input : R → InputView} where
         by (Err (File name fault)) (works, name_is, has) =
             let own : role_of fault ≡ r = named (view_of input file).returned fault (has (view_of input file).returned (may_have (view_of input file))) in (
               name_is ∙ ap name_in (had.kept r early) ∙ sym (ap (λ (p : Role). name_in (at p old)) own),
-              λ texts given.
-                  (fault, has (at r texts) (subst (λ (f : Option (Source R)). MayHave (view_of input f) (at r texts)) (at_same r file mid) (given r)), refl),
+              λ texts given. has (at r texts) (subst (λ (f : Option (Source R)). MayHave (view_of input f) (at r texts)) (at_same r file mid) (given r)),
               λ o later.
                   let after : turn r < turn o = subst (λ (p : Role). turn p < turn o) own later in
                   at_later file mid r o after ∙ had.kept o (omega (arith, after, early)),
@@ -267,23 +251,27 @@ module _ {R : Type 0} {input : R → InputView} where
             )
         by (Err fault) has = absurd has
 
-  module _ {A V : Type 0} {n : ℕ} {before : ByFile Text → Result A BytesFault} {was : A → V → Type 0} {old mid : Readers R} {v : V} (had : AreRead input n before was old mid (Ok v)) where
+  module _ {V : Type 0} {n : ℕ} {Was : ByFile Text → Result V BytesFault → Type 0} {old mid : Readers R} {v : V}
+      (had : AreRead input n Was old mid (Ok v)) where
     pub text_read : {B W : Type 0} {reading : Text → Result B BytesFault} {is : B → W → Type 0} {file : Option (Source R)} {result : Result W RunFault}
         (r : Role) → n ≤ turn r → turn r < 3 → ((text : Text) (fault : BytesFault) → reading text ≡ Err fault → role_of fault ≡ r)
-        → IsRead input reading is (λ _. ⊤) (at r mid) file result → AreRead input (turn r + 1) (λ texts. reading (at r texts)) is old (with_at r file mid) result
+        → IsRead input reading is (λ _. ⊤) (at r mid) file result
+        → AreRead input (turn r + 1) (λ texts. IsReading (reading (at r texts)) is) old (with_at r file mid) result
     text_read r early text named =
         next had r early named (λ last. let wrong : turn r ≡ 3 = ap turn last in absurd (omega (arith, wrong, text))) (omega arith)
 
-    pub flows_read : {W : Type 0} {is : List MessageView → W → Type 0} {file : Option (Source R)} {result : Result W RunFault} → n ≤ 3 → ReadsInto input is mid.flows file result
-        → AreRead input 4 (λ texts. in_file InFlows (file_reading texts.flows)) is old (with_at role.Flows file mid) result
+    pub flows_read : {W : Type 0} {is : List MessageView → W → Type 0} {file : Option (Source R)} {result : Result W RunFault}
+        → n ≤ 3 → ReadsInto input is mid.flows file result
+        → AreRead input 4 (λ texts. IsReading (in_file InFlows (file_reading texts.flows)) is) old (with_at role.Flows file mid) result
     flows_read early = next had role.Flows early (λ bytes. named_in InFlows (λ own. refl) (file_reading bytes)) (λ _ bytes stops. stops) (omega arith)
 
     pub list_read : {file : Option (Source R)} {result : Result PrefixList RunFault} → n ≤ 1 → Decodes input InList list_reading list_of mid.list file result
-        → AreRead input 2 (λ texts. in_file InList (list_reading texts.list)) (λ l list. l ≡ list_of list) old (with_at role.List file mid) result
+        → AreRead input 2 (λ texts. IsReading (in_file InList (list_reading texts.list)) (λ l list. l ≡ list_of list)) old (with_at role.List file mid) result
     list_read early = text_read role.List early (omega arith) (λ bytes. named_in InList (λ own. refl) (list_reading bytes))
 
-  pub map_read : (files : Readers R) → AreFresh input files → {file : Option (Source R)} {result : Result MapText RunFault} → Decodes input InMap map_reading map_of files.map file result
-      → AreRead input 1 (λ texts. in_file InMap (map_reading texts.map)) (λ m map. m ≡ map_of map) files (with_at role.Map file files) result
+  pub map_read : (files : Readers R) → AreFresh input files → {file : Option (Source R)} {result : Result MapText RunFault}
+      → Decodes input InMap map_reading map_of files.map file result
+      → AreRead input 1 (λ texts. IsReading (in_file InMap (map_reading texts.map)) (λ m map. m ≡ map_of map)) files (with_at role.Map file files) result
   map_read files fresh =
       text_read (none_read 0 files fresh) role.Map (omega arith) (omega arith) (λ bytes. named_in InMap (λ own. refl) (map_reading bytes))
 
@@ -292,100 +280,94 @@ module _ {R : Type 0} {input : R → InputView} where
       → IsRead input reading (λ a value. a ≡ model value) stops old new (Ok v) → (text : Text) → MayHave (view_of input new) text → reading text ≡ Ok (model v)
   decoded one text may = let (a, reads, is) = one.gives.1 text may in reads ∙ ap Ok is
 
-  module _ {A V : Type 0} {n : ℕ} {reading : ByFile Text → Result A BytesFault} {is : A → V → Type 0} {old new : Readers R} where
-    -- what is read is read as something else
-    module _ {B W : Type 0} {is' : B → W → Type 0} {whole : ByFile Text → Result B BytesFault} (rest : ByFile Text → A → Result B BytesFault) where
-      pub then_ok : {v : V} {w : W} {m : ℕ} → AreRead input n reading is old new (Ok v) → n ≤ m
-          → ((texts : ByFile Text) → ((o : Role) → turn o < m → MayHave (view_of input (at o new)) (at o texts)) → whole texts ≡ (reading texts >>= rest texts))
-          → ((texts : ByFile Text) (a : A) → is a v → (b : B) × (rest texts a ≡ Ok b) × is' b w) → AreRead input m whole is' old new (Ok w)
-      then_ok had more same holds = record {
-        read = had.read;
-        kept = λ r last. had.kept r (omega (arith, more, last));
-        early = λ r failed. omega (arith, had.early r failed, more);
-        gives = (
-          had.gives.0,
-          λ texts given.
-              let (a, reads, own) = had.gives.1 texts (λ o low. given o (omega (arith, more, low))) in let (b, then, made) = holds texts a own in
-              (b, same texts given ∙ ap (λ (r : Result A BytesFault). r >>= rest texts) reads ∙ then, made),
-        );
-      }
-
-      pub then_err : {fault : RunFault} {m : ℕ} {result : Result W RunFault} → AreRead input n reading is old new (Err fault) → n ≤ m
-          → ((texts : ByFile Text) → AreTexts input new texts → whole texts ≡ (reading texts >>= rest texts))
-          → ((texts : ByFile Text) (a : A) (f : BytesFault) → rest texts a ≡ Err f → n ≤ turn (role_of f) + 1)
-          → IsErrAnd result (λ other. other ≡ fault) → AreRead input m whole is' old new result
-      then_err {fault = fault} {m = m} {result = result} had more same later passed = handed_on (AreRead input m whole is' old new) result fault passed (record {
-        read = had.read;
-        kept = λ r last. had.kept r (omega (arith, more, last));
-        early = λ r failed. omega (arith, had.early r failed, more);
-        gives =
-            fault_as input (Own reading) (Own whole) old new had.early
-            (λ texts given f (own, reads, is). (own, same texts given ∙ ap (λ (r : Result A BytesFault). r >>= rest texts) reads, is))
-            (λ texts given f (own, fails, is).
-            elim (own_or_later (rest texts) own (reading texts) (sym (same texts given) ∙ fails)) [
-              | inl reads ↦ inl (own, reads, is)
-              | inr (a, last) ↦ let e : f ≡ own = cc in inr (omega (arith, later texts a own last, ap turn (ap role_of e)))
-            ])
-            fault had.gives;
-      })
-
-    -- an allocation fails after it
-    pub then_no_memory : {B W : Type 0} {whole : ByFile Text → Result B BytesFault} {is' : B → W → Type 0} {v : V} {m : ℕ} {result : Result W RunFault}
-        → AreRead input n reading is old new (Ok v) → n ≤ m → IsErrAnd result (λ fault. fault ≡ NoMemory) → AreRead input m whole is' old new result
-    then_no_memory {whole = whole} {is' = is'} {m = m} {result = result} had more same = handed_on (AreRead input m whole is' old new) result NoMemory same (record {
+  -- what is read makes something else
+  module _ {V W : Type 0} {n m : ℕ} {Is : ByFile Text → Result V BytesFault → Type 0} {Is' : ByFile Text → Result W BytesFault → Type 0}
+      {old new : Readers R} where
+    with_gives : {was : Result V RunFault} {result : Result W RunFault} → AreRead input n Is old new was → n ≤ m → GivesAll input m Is' old new result
+        → AreRead input m Is' old new result
+    with_gives had more gives = record {
       read = had.read;
       kept = λ r last. had.kept r (omega (arith, more, last));
       early = λ r failed. omega (arith, had.early r failed, more);
-      gives = had.gives.0;
-    })
+      gives = gives;
+    }
 
-    pub no_memory_left : {v : V} {Is : ByFile Text → Outcome → Type 0} {result : Result Made RunFault} → AreRead input n reading is old new (Ok v)
-        → IsErrAnd result (λ fault. fault ≡ NoMemory) → IsMade input Is old new result
-    no_memory_left {Is = Is} {result = result} had same = handed_on (IsMade input Is old new) result NoMemory same (record { made = had.gives.0; read = had.read })
+    as_ok : {v : V} {w : W} → AreRead input n Is old new (Ok v) → n ≤ m
+        → ((texts : ByFile Text) → AreTextsBefore input m new texts → Is texts (Ok v) → Is' texts (Ok w))
+        → AreRead input m Is' old new (Ok w)
+    as_ok had more holds = with_gives had more (had.gives.0, λ texts given. holds texts given (had.gives.1 texts (λ o low. given o (omega (arith, more, low)))))
+
+    as_err : {fault : RunFault} {result : Result W RunFault} → AreRead input n Is old new (Err fault) → n ≤ m
+        → ((texts : ByFile Text) → AreTexts input new texts → Follows n (Is texts) (Is' texts)) → IsErrAnd result (λ other. other ≡ fault)
+        → AreRead input m Is' old new result
+    as_err {fault = fault} {result = result} had more follows passed =
+        handed_on (AreRead input m Is' old new) result fault passed (with_gives had more (by fault had.gives))
+      where
+        by : (fault : RunFault) → IsFaultOf input (λ texts. faults_of (Is texts)) old new fault → IsFaultOf input (λ texts. faults_of (Is' texts)) old new fault
+        by NoMemory works = works
+        by (CannotRead file) (r, named, failed, rest, first, stops) = (
+          r,
+          named,
+          failed,
+          rest,
+          λ texts given f fails.
+              elim ((follows texts given).1 f fails) [ inl own ↦ first texts given f own | inr last ↦ omega (arith, had.early r failed, last) ],
+          stops,
+        )
+        by (File file f) (named, has, rest, works) = (named, λ texts given. (follows texts given).0 f (has texts given), rest, works)
+        by fault is = absurd is
+
+    -- an allocation fails
+    pub no_memory_left : {v : V} {result : Result W RunFault} → AreRead input n Is old new (Ok v) → n ≤ m → IsErrAnd result (λ fault. fault ≡ NoMemory)
+        → AreRead input m Is' old new result
+    no_memory_left {result = result} had more same = handed_on (AreRead input m Is' old new) result NoMemory same (with_gives had more had.gives.0)
+
+  module _ {A V : Type 0} {n : ℕ} {reading : ByFile Text → Result A BytesFault} {is : A → V → Type 0} {old new : Readers R} where
+    -- the reading goes on, without another file or after its fault
+    module _ {B W : Type 0} {m : ℕ} {is' : B → W → Type 0} {whole : ByFile Text → Result B BytesFault} (rest : ByFile Text → A → Result B BytesFault) where
+      pub then_ok : {v : V} {w : W} → AreRead input n (λ texts. IsReading (reading texts) is) old new (Ok v) → n ≤ m
+          → ((texts : ByFile Text) → AreTextsBefore input m new texts → whole texts ≡ (reading texts >>= rest texts))
+          → ((texts : ByFile Text) (a : A) → is a v → (b : B) × (rest texts a ≡ Ok b) × is' b w)
+          → AreRead input m (λ texts. IsReading (whole texts) is') old new (Ok w)
+      then_ok had more same holds = as_ok had more (λ texts given (a, reads, own).
+          let (b, then, made) = holds texts a own in (b, same texts given ∙ ap (λ (r : Result A BytesFault). r >>= rest texts) reads ∙ then, made))
+
+      pub then_err : {fault : RunFault} {result : Result W RunFault} → AreRead input n (λ texts. IsReading (reading texts) is) old new (Err fault) → n ≤ m
+          → ((texts : ByFile Text) → AreTexts input new texts → whole texts ≡ (reading texts >>= rest texts))
+          → ((texts : ByFile Text) (a : A) (f : BytesFault) → rest texts a ≡ Err f → n ≤ turn (role_of f) + 1)
+          → IsErrAnd result (λ other. other ≡ fault) → AreRead input m (λ texts. IsReading (whole texts) is') old new result
+      then_err had more same later = as_err had more (λ texts given.
+          subst (λ (r : Result B BytesFault). Follows n (IsReading (reading texts) is) (IsReading r is')) (sym (same texts given))
+          (more_follows is is' n (rest texts) (later texts) (reading texts)))
 
     -- The outcomes of a command follow from what is read.
     module _ {Is : ByFile Text → Outcome → Type 0} (rest : ByFile Text → A → Outcome → Type 0)
-        (same : (texts : ByFile Text) → AreTexts input new texts → Is texts ≡ Then (λ f. f) (rest texts) (reading texts)) where
-      pub makes : {v : V} {made : Made} → AreRead input n reading is old new (Ok v)
-          → ((texts : ByFile Text) (a : A) → is a v → IsWhole made × ((out : Text) → IsTextOf made out → rest texts a (Ok out))) → IsMade input Is old new (Ok made)
-      makes had says =
-          let now : ByFile Text = each (λ file. (view_of input file).returned) new in
-          let (first, _, own) = had.gives.1 now (λ o _. are_texts input new o) in
-          record {
-            made = (
-              (says now first own).0,
-              λ texts given out is_text.
-                  let (a, reads, own) = had.gives.1 texts (λ o _. given o) in
-                  subst (λ (P : Outcome → Type 0). P (Ok out)) (sym (same texts given ∙ ap (Then (λ f. f) (rest texts)) reads)) ((says texts a own).1 out is_text),
-              had.gives.0,
-            );
-            read = had.read;
-          }
+        (same : (texts : ByFile Text) → AreTextsBefore input 4 new texts → Is texts ≡ Then (λ f. f) (rest texts) (reading texts)) where
+      pub makes : {v : V} {made : Made} → AreRead input n (λ texts. IsReading (reading texts) is) old new (Ok v) → n ≤ 4
+          → ((texts : ByFile Text) (a : A) → is a v → IsWhole made × ((out : Text) → IsTextOf made out → rest texts a (Ok out)))
+          → IsMade input Is old new (Ok made)
+      makes had more says = as_ok had more (λ texts given (a, reads, own). (
+        (says texts a own).0,
+        λ out is_text.
+            subst (λ (P : Outcome → Type 0). P (Ok out)) (sym (same texts given ∙ ap (Then (λ f. f) (rest texts)) reads)) ((says texts a own).1 out is_text),
+      ))
 
-      pub faulty : {fault : RunFault} {result : Result Made RunFault} → AreRead input n reading is old new (Err fault)
+      pub faulty : {fault : RunFault} {result : Result Made RunFault} → AreRead input n (λ texts. IsReading (reading texts) is) old new (Err fault) → n ≤ 4
           → ((texts : ByFile Text) (a : A) (f : BytesFault) → rest texts a (Err f) → n ≤ turn (role_of f) + 1)
           → IsErrAnd result (λ other. other ≡ fault) → IsMade input Is old new result
-      faulty {fault = fault} {result = result} had later passed = handed_on (IsMade input Is old new) result fault passed (record {
-        made =
-            fault_as input (Own reading) Is old new had.early
-            (λ texts given f (own, reads, is).
-            subst (λ (P : Outcome → Type 0). P (Err f)) (sym (same texts given ∙ ap (Then (λ f. f) (rest texts)) reads)) is)
-            (λ texts given f is.
-            elim (own_or_after (rest texts) f (reading texts) (subst (λ (P : Outcome → Type 0). P (Err f)) (same texts given) is)) [
-              | inl reads ↦ inl (f, reads, refl)
-              | inr (a, last) ↦ inr (later texts a f last)
-            ])
-            fault had.gives;
-        read = had.read;
-      })
+      faulty had more later = as_err had more (λ texts given.
+          subst (λ (P : Outcome → Type 0). Follows n (IsReading (reading texts) is) P) (sym (same texts (λ o low. given o)))
+          (then_follows is n (rest texts) (later texts) (reading texts)))
 
 -- The outcomes of commands, by what their texts are read as.
 
-pub then_in : {F A : Type 0} (wrap : F → BytesFault) (rest : A → Outcome → Type 0) (reading : Result A F) → Then wrap rest reading ≡ Then (λ f. f) rest (in_file wrap reading)
+pub then_in : {F A : Type 0} (wrap : F → BytesFault) (rest : A → Outcome → Type 0) (reading : Result A F)
+    → Then wrap rest reading ≡ Then (λ f. f) rest (in_file wrap reading)
 then_in wrap rest (Ok value) = refl
 then_in wrap rest (Err fault) = refl
 
-pub then_is : {F A : Type 0} (wrap : F → BytesFault) (rest : A → Outcome → Type 0) (reading : Result A F) {a : A} → in_file wrap reading ≡ Ok a → Then wrap rest reading ≡ rest a
+pub then_is : {F A : Type 0} (wrap : F → BytesFault) (rest : A → Outcome → Type 0) (reading : Result A F) {a : A}
+    → in_file wrap reading ≡ Ok a → Then wrap rest reading ≡ rest a
 then_is wrap rest reading reads = then_in wrap rest reading ∙ ap (Then (λ f. f) rest) reads
 
 then_more : {A B : Type 0} (f : A → B) (rest : B → Outcome → Type 0) (reading : Result A BytesFault)
@@ -393,48 +375,53 @@ then_more : {A B : Type 0} (f : A → B) (rest : B → Outcome → Type 0) (read
 then_more f rest (Ok value) = refl
 then_more f rest (Err fault) = refl
 
-pub labels_then : (rest : Labelling → Outcome → Type 0) (file : LabelFile) (texts : ByFile Text) → LabelsThen rest file texts ≡ Then (λ f. f) rest (labels_reading file texts)
+pub labels_then : (rest : Labelling → Outcome → Type 0) (file : LabelFile) (texts : ByFile Text)
+    → LabelsThen rest file texts ≡ Then (λ f. f) rest (labels_reading file texts)
 labels_then rest (Map file) texts =
     then_in InMap (λ m. rest (labelling_of_map m)) (map_reading texts.map) ∙ then_more labelling_of_map rest (in_file InMap (map_reading texts.map))
 labels_then rest (Prefixes file) texts =
     then_in InList (λ l. rest (labelling_of_list l)) (list_reading texts.list) ∙ then_more labelling_of_list rest (in_file InList (list_reading texts.list))
 
-pub report_then : (rest : Option Labelling → List MessageView → Outcome → Type 0) (source : Option LabelFile) (texts : ByFile Text)
-    → FlowsThen rest source texts ≡ Then (λ f. f) (λ (read : Option Labelling × List MessageView). rest read.0 read.1) (report_reading source texts)
-report_then rest source texts = by source
-  where
-    flows : (l : Option Labelling) → Then InFlows (rest l) (file_reading texts.flows)
-        ≡ Then (λ f. f) (λ (read : Option Labelling × List MessageView). rest read.0 read.1) (in_file InFlows (file_reading texts.flows) >>= (λ messages. Ok (l, messages)))
-    flows l = then_in InFlows (rest l) (file_reading texts.flows)
-        ∙ then_more (λ messages. (l, messages)) (λ (read : Option Labelling × List MessageView). rest read.0 read.1) (in_file InFlows (file_reading texts.flows))
-
-    over : (labels : Result Labelling BytesFault) → Then (λ f. f) (λ l. Then InFlows (rest (Some l)) (file_reading texts.flows)) labels
-        ≡ Then (λ f. f) (λ (read : Option Labelling × List MessageView). rest read.0 read.1)
-        ((labels >>= (λ l. Ok (Some l))) >>= (λ l. in_file InFlows (file_reading texts.flows) >>= (λ messages. Ok (l, messages))))
-    over (Ok l) = flows (Some l)
-    over (Err fault) = refl
-
-    by : (source : Option LabelFile) → FlowsThen rest source texts ≡ Then (λ f. f) (λ (read : Option Labelling × List MessageView). rest read.0 read.1) (report_reading source texts)
-    by None = flows None
-    by (Some file) = labels_then (λ l. Then InFlows (rest (Some l)) (file_reading texts.flows)) file texts ∙ over (labels_reading file texts)
-
 -- what a report is on, once its labels are read
 abbrev pub report_after : Option Labelling → ByFile Text → Result (Option Labelling × List MessageView) BytesFault
 report_after labels texts = in_file InFlows (file_reading texts.flows) >>= (λ messages. Ok (labels, messages))
+
+abbrev pub both : (Option Labelling → List MessageView → Outcome → Type 0) → Option Labelling × List MessageView → Outcome → Type 0
+both rest read = rest read.0 read.1
+
+pub report_then : (rest : Option Labelling → List MessageView → Outcome → Type 0) (source : Option LabelFile) (texts : ByFile Text)
+    → FlowsThen rest source texts ≡ Then (λ f. f) (both rest) (report_reading source texts)
+report_then rest source texts = by source
+  where
+    flows : (l : Option Labelling) → Then InFlows (rest l) (file_reading texts.flows) ≡ Then (λ f. f) (both rest) (report_after l texts)
+    flows l =
+        then_in InFlows (rest l) (file_reading texts.flows)
+        ∙ then_more (λ messages. (l, messages)) (both rest) (in_file InFlows (file_reading texts.flows))
+
+    over : (labels : Result Labelling BytesFault) → Then (λ f. f) (λ l. Then InFlows (rest (Some l)) (file_reading texts.flows)) labels
+        ≡ Then (λ f. f) (both rest) ((labels >>= (λ l. Ok (Some l))) >>= (λ l. report_after l texts))
+    over (Ok l) = flows (Some l)
+    over (Err fault) = refl
+
+    by : (source : Option LabelFile) → FlowsThen rest source texts ≡ Then (λ f. f) (both rest) (report_reading source texts)
+    by None = flows None
+    by (Some file) = labels_then (λ l. Then InFlows (rest (Some l)) (file_reading texts.flows)) file texts ∙ over (labels_reading file texts)
 
 pub flows_last : (labels : Option Labelling) (reading : Result (List MessageView) ReadFault) (fault : BytesFault)
     → ◌>>=◌ {B = Option Labelling × List MessageView} (in_file InFlows reading) (λ messages. Ok (labels, messages)) ≡ Err fault → role_of fault ≡ role.Flows
 flows_last labels (Ok messages) fault fails = cc
 flows_last labels (Err own) fault fails = let same : fault ≡ InFlows own = cc in ap role_of same
 
-module _ {R : Type 0} {input : R → InputView} (source : Option LabelFile) {old mid : Readers R} {found : Option LabelsRead} (had : AreLabelsOf input source old mid (Ok found)) where
+module _ {R : Type 0} {input : R → InputView} (source : Option LabelFile) {old mid : Readers R} {found : Option LabelsRead}
+    (had : AreLabelsOf input source old mid (Ok found)) where
   -- there are labels exactly if they come from a file
   pub source_some : is_some (option_map labelling_read found) ≡ is_some source
   source_some =
       let now : ByFile Text = each (λ file. (view_of input file).returned) mid in
       let (labels, reads, is) = had.gives.1 now (λ o _. are_texts input mid o) in ap is_some (sym is) ∙ by source labels now reads
     where
-      by : (source : Option LabelFile) (labels : Option Labelling) (texts : ByFile Text) → source_reading source texts ≡ Ok labels → is_some labels ≡ is_some source
+      by : (source : Option LabelFile) (labels : Option Labelling) (texts : ByFile Text) → source_reading source texts ≡ Ok labels
+          → is_some labels ≡ is_some source
       by None labels texts reads = let none : labels ≡ None = cc in ap is_some none
       by (Some file) labels texts reads = some (labels_reading file texts) reads
         where
@@ -442,7 +429,7 @@ module _ {R : Type 0} {input : R → InputView} (source : Option LabelFile) {old
           some (Ok l) is = let same : labels ≡ Some l = cc in ap is_some same
           some (Err fault) is = cc
 
-  pub report_is : (flows : Option (Source R)) (texts : ByFile Text) → ((o : Role) → turn o < 2 → MayHave (view_of input (at o (with_at role.Flows flows mid))) (at o texts))
+  pub report_is : (flows : Option (Source R)) (texts : ByFile Text) → AreTextsBefore input 2 (with_at role.Flows flows mid) texts
       → report_reading source texts ≡ report_after (option_map labelling_read found) texts
   report_is flows texts given =
       let (labels, reads, is) = had.gives.1 texts (as_before input role.Flows (omega arith) flows mid texts given) in
@@ -461,10 +448,14 @@ none_follows stopped [] end = refl
 none_follows true (byte ∷ bytes) end = let none : 1 + length bytes ≡ 0 = grind (arith, nat_tests, common_steps) in absurd (omega (arith, none))
 none_follows false (byte ∷ bytes) end = cc
 
-reports : (new : InputView) (text bytes : List ℕ) (left : Option (List ℕ)) → new.left ≡ left → Consumes (Some text) left bytes → new.returned ≡ bytes → MayHave new text
+reports : (new : InputView) (text bytes : List ℕ) (left : Option (List ℕ)) → new.left ≡ left → Consumes (Some text) left bytes → new.returned ≡ bytes
+    → MayHave new text
 reports new text bytes None same gone all = absurd gone
-reports new text bytes (Some rest) same gone all =
-    (rest, (λ end. none_follows new.stopped rest (subst (λ o. (new.stopped && length (unwrap_or o []) == 0) ≡ true) same end)), gone ∙ ap (λ (l : List ℕ). l ++ rest) (sym all))
+reports new text bytes (Some rest) same gone all = (
+  rest,
+  λ end. none_follows new.stopped rest (subst (λ o. (new.stopped && length (unwrap_or o []) == 0) ≡ true) same end),
+  gone ∙ ap (λ (l : List ℕ). l ++ rest) (sym all),
+)
 
 pub are_reported : {R : Type 0} (input : R → InputView) (old new : Readers R) → AreUnread input old → AreReadOn input old new
     → (role : Role) (text : Text) → (view_of input (at role old)).left ≡ Some text → MayHave (view_of input (at role new)) text
@@ -472,21 +463,32 @@ are_reported input old new unread read role text is =
     let (bytes, gives, _) = read role in let now = view_of input (at role new) in
     reports now text bytes now.left refl (subst (λ o. Consumes o now.left bytes) is gives.left) (all_read (unread role) gives)
 
+-- what a command made can be printed
+pub is_whole : {R : Type 0} {input : R → InputView} (Is : ByFile Text → Outcome → Type 0) {old new : Readers R} {made : Made}
+    → IsMade input Is old new (Ok made) → IsWhole made
+is_whole {input = input} Is {new = new} had = (had.gives.1 (each (λ file. (view_of input file).returned) new) (λ o low. are_texts input new o)).0
+
 -- a run ends with the fault of its command
-pub run_fault : {R W : Type 0} (input : R → InputView) (output : W → OutputView) (command : Command) (old new : Readers R) (writer writer' : W) (fault : RunFault)
-    → IsFaultOf input (IsOutput command) old new fault → writer' ≡ writer → EndsAs input output command old new writer writer' (Err fault)
-run_fault input output command old new writer writer' NoMemory is same = (is, same)
-run_fault input output command old new writer writer' (CannotRead file) is same = (is, same)
-run_fault input output command old new writer writer' (File file fault) is same = (is, same)
-run_fault input output command old new writer writer' fault is same = absurd is
+pub run_fault : {R W : Type 0} {input : R → InputView} (output : W → OutputView) (command : Command) {old new : Readers R} {writer writer' : W}
+    (fault : RunFault) → IsMade input (IsOutput command) old new (Err fault) → writer' ≡ writer → EndsAs input output command old new writer writer' (Err fault)
+run_fault output command NoMemory had same = (had.gives, same)
+run_fault output command (CannotRead file) had same = (had.gives, same)
+run_fault output command (File file fault) had same = (had.gives, same)
+run_fault output command fault had same = absurd had.gives
 
 -- a run ends with what its command made, or with a fault of printing it
-pub made_written : {R W : Type 0} (input : R → InputView) (output : W → OutputView) (command : Command) (old new : Readers R) (made : Made) → Makes input (IsOutput command) old new (Ok made)
+pub made_written : {R W : Type 0} {input : R → InputView} (output : W → OutputView) (command : Command) {old new : Readers R} {made : Made}
+    → IsMade input (IsOutput command) old new (Ok made)
     → ((texts : ByFile Text) (out : Text) → IsOutput command texts (Ok out) → IsHeadline command texts out)
-    → (writer writer' : W) (result : Result (Unit {0}) RunFault) → IsMadeWritten output (IsTextOf made) writer writer' result → EndsAs input output command old new writer writer' result
-made_written input output command old new made (whole, is, works) headline writer writer' (Ok done) (out, is_text, writes) =
-    (out, λ texts given. (is texts given out is_text, headline texts out (is texts given out is_text)), writes, works)
-made_written input output command old new made (whole, is, works) headline writer writer' (Err CannotWrite) (out, is_text, stops) =
-    (out, λ texts given. is texts given out is_text, stops, works)
-made_written input output command old new made (whole, is, works) headline writer writer' (Err NoMemory) same = (works, same)
-made_written input output command old new made is headline writer writer' (Err fault) written = absurd written
+    → (writer writer' : W) (result : Result (Unit {0}) RunFault) → IsMadeWritten output (IsTextOf made) writer writer' result
+    → EndsAs input output command old new writer writer' result
+made_written output command had headline writer writer' (Ok done) (out, is_text, writes) = (
+  out,
+  λ texts given. let is = (had.gives.1 texts (λ o low. given o)).1 out is_text in (is, headline texts out is),
+  writes,
+  had.gives.0,
+)
+made_written output command had headline writer writer' (Err CannotWrite) (out, is_text, stops) =
+    (out, λ texts given. (had.gives.1 texts (λ o low. given o)).1 out is_text, stops, had.gives.0)
+made_written output command had headline writer writer' (Err NoMemory) same = (had.gives.0, same)
+made_written output command had headline writer writer' (Err fault) written = absurd written

@@ -145,6 +145,21 @@ abbrev pub IsFaultOfCall : Text → ReadFault → RunFault → Type 0
 IsFaultOfCall name fault (CannotRead file) = (file.now ≡ name) × (is_of_reader fault.kind ≡ true)
 IsFaultOfCall name fault made = (is_of_reader fault.kind ≡ false) × IsFaultFor name (InFlows fault) made
 
+-- the result is that of this reading: a value for what is read, or its fault
+abbrev pub IsReading : {A V : Type 0} → Result A BytesFault → (A → V → Type 0) → Result V BytesFault → Type 0
+IsReading {A} reading is (Ok value) = (a : A) × (reading ≡ Ok a) × is a value
+IsReading reading is (Err fault) = reading ≡ Err fault
+
+-- the result of a command with this outcome: what prints it, or its fault
+abbrev pub Makes : (Outcome → Type 0) → Result Made BytesFault → Type 0
+Makes Is (Ok made) = IsWhole made × ((text : Text) → IsTextOf made text → Is (Ok text))
+Makes Is (Err fault) = Is (Err fault)
+
+-- the outcome is a fault that the result may be
+abbrev pub faults_of : {V : Type 0} → (Result V BytesFault → Type 0) → Outcome → Type 0
+faults_of Is (Ok text) = ⊥
+faults_of Is (Err fault) = Is (Err fault)
+
 module _ {R : Type 0} (input : R → InputView) where
   -- nothing of the file is read yet, and its reader has not failed
   abbrev pub IsFresh : Option (Source R) → Type 0
@@ -207,48 +222,45 @@ module _ {R : Type 0} (input : R → InputView) where
   ReadsNext start messages (Ok None) p now = ReadsInto (λ read all. read ≡ all) start now (Ok messages)
   ReadsNext start messages (Err fault) p now = ReadsInto {T = List MessageView} (λ read all. read ≡ all) start now (Err fault)
 
-  -- What reading the files before this turn returns, by what their texts are read as.
-  abbrev pub GivesAll : {A V : Type 0} → ℕ → (ByFile Text → Result A BytesFault) → (A → V → Type 0)
-      → Readers R → Readers R → Result V RunFault → Type 0
-  GivesAll {A} n reading is old new (Ok value) = (any_failed input new ≡ false)
-      × ((texts : ByFile Text)
-      → ((role : Role) → turn role < n → MayHave (view_of input (at role new)) (at role texts))
-      → (a : A) × (reading texts ≡ Ok a) × is a value)
-  GivesAll n reading is old new (Err fault) = IsFaultOf input (λ texts outcome. (own : BytesFault)
-      × (reading texts ≡ Err own) × (outcome ≡ Err own)) old new fault
+  -- the files before this turn may have these texts
+  abbrev pub AreTextsBefore : ℕ → Readers R → ByFile Text → Type 0
+  AreTextsBefore n files texts =
+      (role : Role) → turn role < n → MayHave (view_of input (at role files)) (at role texts)
+
+  -- what reading the files before this turn returns, by what their texts may be read as
+  abbrev pub GivesAll : {V : Type 0} → ℕ → (ByFile Text → Result V BytesFault → Type 0) → Readers R → Readers R
+      → Result V RunFault → Type 0
+  GivesAll n Is old new (Ok value) = (any_failed input new ≡ false)
+      × ((texts : ByFile Text) → AreTextsBefore n new texts → Is texts (Ok value))
+  GivesAll n Is old new (Err fault) = IsFaultOf input (λ texts. faults_of (Is texts)) old new fault
 
   -- what reading these files returns; no byte of them is lost, and the other files are untouched
-  pub record AreRead {A V : Type 0} (n : ℕ) (reading : ByFile Text → Result A BytesFault) (is : A → V → Type 0)
-      (old new : Readers R) (result : Result V RunFault) : Type 0 where
+  pub record AreRead {V : Type 0} (n : ℕ) (Is : ByFile Text → Result V BytesFault → Type 0) (old new : Readers R)
+      (result : Result V RunFault) : Type 0 where
     pub read : AreReadOn input old new
     pub kept : (role : Role) → n ≤ turn role → at role new ≡ at role old
     pub early : (role : Role) → (view_of input (at role new)).failed ≡ true → turn role < n
-    pub gives : GivesAll n reading is old new result
+    pub gives : GivesAll n Is old new result
 
-  -- what a command returns, by its outcomes over the texts that its files may have: what it prints, or a fault
-  abbrev pub Makes : (ByFile Text → Outcome → Type 0) → Readers R → Readers R → Result Made RunFault → Type 0
-  Makes Is old new (Ok made) = IsWhole made
-      × ((texts : ByFile Text) → AreTexts input new texts → (text : Text) → IsTextOf made text → Is texts (Ok text)) × (any_failed input new ≡ false)
-  Makes Is old new (Err fault) = IsFaultOf input Is old new fault
-
-  -- the same, and that no byte of a file is lost
-  pub record IsMade (Is : ByFile Text → Outcome → Type 0) (old new : Readers R) (result : Result Made RunFault) : Type 0 where
-    pub made : Makes Is old new result
-    pub read : AreReadOn input old new
+  -- what a command returns, by its outcomes
+  abbrev pub IsMade : (ByFile Text → Outcome → Type 0) → Readers R → Readers R → Result Made RunFault → Type 0
+  IsMade Is = AreRead 4 (λ texts. Makes (Is texts))
 
   -- the map or the list that labels come from
   abbrev pub AreLabels : LabelFile → Readers R → Readers R → Result LabelsRead RunFault → Type 0
-  AreLabels file = AreRead 2 (labels_reading file) (λ labels found. labels ≡ labelling_read found)
+  AreLabels file = AreRead 2 (λ texts.
+      IsReading (labels_reading file texts) (λ labels found. labels ≡ labelling_read found))
 
   -- the same, if there is such a file
   abbrev pub AreLabelsOf : Option LabelFile → Readers R → Readers R → Result (Option LabelsRead) RunFault → Type 0
-  AreLabelsOf source =
-      AreRead 2 (source_reading source) (λ labels found. labels ≡ option_map labelling_read found)
+  AreLabelsOf source = AreRead 2 (λ texts.
+      IsReading (source_reading source texts) (λ labels found. labels ≡ option_map labelling_read found))
 
   -- what is built from the labels, if there are any, and the messages of a File
   abbrev pub ReadsReport : {T : Type 0} → (Option Labelling → List MessageView → T → Type 0) → Option LabelFile
       → Readers R → Readers R → Result T RunFault → Type 0
-  ReadsReport has source = AreRead 4 (report_reading source) (λ read built. has read.0 read.1 built)
+  ReadsReport has source = AreRead 4 (λ texts.
+      IsReading (report_reading source texts) (λ read built. has read.0 read.1 built))
 
 -- What is built from messages and from rows. The first value is the one before any was added.
 

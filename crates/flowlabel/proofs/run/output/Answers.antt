@@ -35,7 +35,7 @@ returns-in_err-certificate-in-Recert g c =
     (faulty (λ texts. PrintsCompact) (λ texts given. then_in InCertificate _ (format_reading texts.certificate))
     (text_read (none_read 2 c.args.files.now c.requires) role.Certificate (omega arith) (omega arith)
     (λ bytes. named_in InCertificate (λ own. refl) (format_reading bytes))
-    c.in_err-certificate-in-Recert.ensures) (λ texts k fault is. cc) c.from_residual.ensures.1)
+    c.in_err-certificate-in-Recert.ensures) (omega arith) (λ texts k fault is. cc) c.from_residual.ensures.1)
 
 pub returns-in_ok-certificate-in-Recert : goal.returns-in_ok-certificate-in-Recert
 returns-in_ok-certificate-in-Recert g c =
@@ -43,4 +43,4 @@ returns-in_ok-certificate-in-Recert g c =
     (makes (λ texts. PrintsCompact) (λ texts given. then_in InCertificate _ (format_reading texts.certificate))
     (text_read (none_read 2 c.args.files.now c.requires) role.Certificate (omega arith) (omega arith)
     (λ bytes. named_in InCertificate (λ own. refl) (format_reading bytes))
-    c.in_ok-certificate-in-Recert.ensures) (λ texts k same. (tt, λ out is. ap Ok (is ∙ ap (λ x. certificate_text (compact x)) (sym same)))))
+    c.in_ok-certificate-in-Recert.ensures) (omega arith) (λ texts k same. (tt, λ out is. ap Ok (is ∙ ap (λ x. certificate_text (compact x)) (sym same)))))

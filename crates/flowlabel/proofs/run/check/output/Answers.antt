@@ -62,15 +62,15 @@ pub returns-in_err-map : goal.returns-in_err-map
 returns-in_err-map g c map list certificate =
     faulty (λ texts m. ListThen (λ l. CertificateThen (IsVerdict m l) texts.certificate) texts.list)
     (λ texts given. then_in InMap _ (map_reading texts.map)) (map_read c.args.files.now c.requires c.in_err-map.ensures)
-    (λ texts m fault is. omega arith) c.from_residual.ensures.1
+    (omega arith) (λ texts m fault is. omega arith) c.from_residual.ensures.1
 
 pub returns-in_err-list : goal.returns-in_err-list
 returns-in_err-list g c map list certificate =
     let m = map_of c.in_ok-map.map in
     faulty (λ texts l. CertificateThen (IsVerdict m l) texts.certificate)
     (λ texts given.
-    over_list map list certificate m texts (decoded c.in_ok-map.ensures texts.map (given role.Map)) ∙ then_in InList _ (list_reading texts.list))
-    (list_read (map_read c.args.files.now c.requires c.in_ok-map.ensures) (omega arith) c.in_err-list.ensures)
+    over_list map list certificate m texts (decoded c.in_ok-map.ensures texts.map (given role.Map (omega arith))) ∙ then_in InList _ (list_reading texts.list))
+    (list_read (map_read c.args.files.now c.requires c.in_ok-map.ensures) (omega arith) c.in_err-list.ensures) (omega arith)
     (λ texts l fault is. omega (
       arith,
       ap turn (of_verdict (text_fault m l (format_reading texts.certificate)) (length l.prefixes) fault
@@ -83,9 +83,9 @@ returns-in_err-checked g c map list certificate =
     let l = list_of c.in_ok-list.list in
     faulty (λ texts. Prints)
     (λ texts given. over_certificate map list certificate m l texts
-    (decoded c.in_ok-map.ensures texts.map (given role.Map)) (decoded c.in_ok-list.ensures texts.list (given role.List)))
+    (decoded c.in_ok-map.ensures texts.map (given role.Map (omega arith))) (decoded c.in_ok-list.ensures texts.list (given role.List (omega arith))))
     (text_read (list_read (map_read c.args.files.now c.requires c.in_ok-map.ensures) (omega arith) c.in_ok-list.ensures)
-    role.Certificate (omega arith) (omega arith) (of_check m l) c.in_err-checked.ensures)
+    role.Certificate (omega arith) (omega arith) (of_check m l) c.in_err-checked.ensures) (omega arith)
     (λ texts out fault is. cc) c.from_residual-in_err-checked.ensures.1
 
 pub returns : goal.returns
@@ -94,7 +94,7 @@ returns g c map list certificate =
     let l = list_of c.in_ok-list.list in
     makes (λ texts. Prints)
     (λ texts given. over_certificate map list certificate m l texts
-    (decoded c.in_ok-map.ensures texts.map (given role.Map)) (decoded c.in_ok-list.ensures texts.list (given role.List)))
+    (decoded c.in_ok-map.ensures texts.map (given role.Map (omega arith))) (decoded c.in_ok-list.ensures texts.list (given role.List (omega arith))))
     (text_read (list_read (map_read c.args.files.now c.requires c.in_ok-map.ensures) (omega arith) c.in_ok-list.ensures)
-    role.Certificate (omega arith) (omega arith) (of_check m l) c.in_ok-checked.ensures)
+    role.Certificate (omega arith) (omega arith) (of_check m l) c.in_ok-checked.ensures) (omega arith)
     (λ texts out same. (tt, λ text is. ap Ok (is ∙ sym same)))

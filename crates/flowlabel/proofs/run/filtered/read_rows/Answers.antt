@@ -6,7 +6,7 @@ use Rattle.flowlabel.specs.ByFile.{turn}
 use Rattle.flowlabel.specs.ByFile as role
 use Rattle.flowlabel.specs.Reports.{IsFresh, labelling_found, labelling_read, passing_rows}
 use Rattle.flowlabel.specs.Run.{Source}
-use Rattle.flowlabel.proofs.MadeLemmas.{flows_last, flows_read, found_is, report_after, report_is, source_some, then_err, then_no_memory, then_ok}
+use Rattle.flowlabel.proofs.MadeLemmas.{flows_last, flows_read, found_is, no_memory_left, report_after, report_is, source_some, then_err, then_ok}
 use Rattle.flowlabel.proofs.run.filtered.read_rows.Goals as goal
 
 pub returns-in_err-read : goal.returns-in_err-read
@@ -15,7 +15,7 @@ returns-in_err-read g c =
     (λ texts labels fault fails. omega (arith, ap turn (flows_last labels (file_reading texts.flows) fault fails))) c.from_residual.ensures.1
 
 pub returns-in_err-index : goal.returns-in_err-index
-returns-in_err-index g c = then_no_memory c.in_ok-read.ensures (omega arith) c.from_residual-in_err-index.ensures.1
+returns-in_err-index g c = no_memory_left c.in_ok-read.ensures (omega arith) c.from_residual-in_err-index.ensures.1
 
 pub add_messages-requires : goal.add_messages-requires
 add_messages-requires g c =

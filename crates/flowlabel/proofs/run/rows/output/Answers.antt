@@ -1,4 +1,4 @@
-use Rattle.std.proofs.Common.{◌∙◌, ◌∷◌, [], Bool, List, Ok, ap, is_some, refl, subst, sym}
+use Rattle.std.proofs.Common.{◌∙◌, ◌∷◌, [], Bool, List, Ok, ap, arith, is_some, refl, subst, sym}
 use Rattle.pmap_print.specs.Reports.{column_count, title_line}
 use Rattle.pmap_print.specs.Table.{IsTable, Line, table_text}
 use Rattle.flowlabel.specs.Output.{Prints, labelled_row_lines}
@@ -9,7 +9,7 @@ use Rattle.flowlabel.proofs.RowLemmas.{no_rows}
 use Rattle.flowlabel.proofs.run.rows.output.Goals as goal
 
 pub returns-in_err-table : goal.returns-in_err-table
-returns-in_err-table g c flows = no_memory_left (none_read 0 c.args.files.now c.requires) c.from_residual.ensures.1
+returns-in_err-table g c flows = no_memory_left (none_read 0 c.args.files.now c.requires) (omega arith) c.from_residual.ensures.1
 
 pub read_rows-requires : goal.read_rows-requires
 read_rows-requires g c = record {
@@ -27,13 +27,13 @@ pub returns-in_err-table-2 : goal.returns-in_err-table-2
 returns-in_err-table-2 g c flows =
     faulty (λ texts read. Prints (report_of_rows c.args.filter.now c.args.columns read.0 read.1))
     (λ texts given. report_then (λ l messages. Prints (report_of_rows c.args.filter.now c.args.columns l messages)) c.args.labels texts)
-    c.in_err-table-2.ensures (λ texts read fault is. cc) c.from_residual-in_err-table-2.ensures.1
+    c.in_err-table-2.ensures (omega arith) (λ texts read fault is. cc) c.from_residual-in_err-table-2.ensures.1
 
 pub returns : goal.returns
 returns g c flows =
     makes (λ texts read. Prints (report_of_rows c.args.filter.now c.args.columns read.0 read.1))
     (λ texts given. report_then (λ l messages. Prints (report_of_rows c.args.filter.now c.args.columns l messages)) c.args.labels texts)
-    c.in_ok-table-2.ensures
+    c.in_ok-table-2.ensures (omega arith)
     (λ texts read has. (
       (_, _, has.lines),
       λ out is.

@@ -1,4 +1,4 @@
-use Rattle.std.proofs.Common.{Ok, ap}
+use Rattle.std.proofs.Common.{Ok, ap, arith}
 use Rattle.pmap_text.specs.Reading.{map_reading}
 use Rattle.flowlabel.specs.declared.bytes_fault.BytesFault.TheVariants.{Map as InMap}
 use Rattle.flowlabel.proofs.Outcomes.{PrintsMinimal}
@@ -8,16 +8,16 @@ use Rattle.flowlabel.proofs.run.shrink.output.Goals as goal
 pub returns-in_err-map : goal.returns-in_err-map
 returns-in_err-map g c map =
     faulty (λ texts. PrintsMinimal c.args.printed) (λ texts given. then_in InMap _ (map_reading texts.map))
-    (map_read c.args.files.now c.requires c.in_err-map.ensures) (λ texts m fault (l, k, pair, is). cc) c.from_residual.ensures.1
+    (map_read c.args.files.now c.requires c.in_err-map.ensures) (omega arith) (λ texts m fault (l, k, pair, is). cc) c.from_residual.ensures.1
 
 pub returns-in_err-made_of : goal.returns-in_err-made_of
 returns-in_err-made_of g c map =
-    no_memory_left (map_read c.args.files.now c.requires c.in_ok-map.ensures) c.from_residual-in_err-made_of.ensures.1
+    no_memory_left (map_read c.args.files.now c.requires c.in_ok-map.ensures) (omega arith) c.from_residual-in_err-made_of.ensures.1
 
 pub returns : goal.returns
 returns g c map =
     makes (λ texts. PrintsMinimal c.args.printed) (λ texts given. then_in InMap _ (map_reading texts.map))
-    (map_read c.args.files.now c.requires c.in_ok-map.ensures)
+    (map_read c.args.files.now c.requires c.in_ok-map.ensures) (omega arith)
     (λ texts m same. (
       c.in_ok-made_of.ensures.0,
       λ out is_text. let (l, k, pair, text) = c.in_ok-made_of.ensures.1 out is_text in rw same (l, k, pair, ap Ok text),

@@ -10,7 +10,7 @@ use Rattle.flowlabel.proofs.MadeLemmas.{faulty, makes, no_memory_left, none_read
 use Rattle.flowlabel.proofs.run.uniq.output.Goals as goal
 
 pub returns-in_err-groups : goal.returns-in_err-groups
-returns-in_err-groups g c flows = no_memory_left (none_read 0 c.args.files.now c.requires) c.from_residual.ensures.1
+returns-in_err-groups g c flows = no_memory_left (none_read 0 c.args.files.now c.requires) (omega arith) c.from_residual.ensures.1
 
 pub read_rows-requires : goal.read_rows-requires
 read_rows-requires g c =
@@ -21,14 +21,14 @@ pub returns-in_err-groups-2 : goal.returns-in_err-groups-2
 returns-in_err-groups-2 g c flows =
     let text = report_of_groups c.args.grouping.keys.now c.args.grouping.filter.now c.args.grouping.sorted c.args.grouping.columns in
     faulty (λ texts read. Prints (text read.0 read.1)) (λ texts given. report_then (λ l messages. Prints (text l messages)) c.args.labels texts)
-    c.in_err-groups-2.ensures (λ texts read fault is. cc) c.from_residual-in_err-groups-2.ensures.1
+    c.in_err-groups-2.ensures (omega arith) (λ texts read fault is. cc) c.from_residual-in_err-groups-2.ensures.1
 
 pub returns : goal.returns
 returns g c flows =
     let grouping = c.args.grouping in
     let text = report_of_groups grouping.keys.now grouping.filter.now grouping.sorted grouping.columns in
     makes (λ texts read. Prints (text read.0 read.1)) (λ texts given. report_then (λ l messages. Prints (text l messages)) c.args.labels texts)
-    c.in_ok-groups-2.ensures
+    c.in_ok-groups-2.ensures (omega arith)
     (λ texts read has. (
       tt,
       λ out same.
