@@ -34,9 +34,6 @@ last-such t (m ∷ ms) x = by (t m) (last_such t ms) (last-such t ms x) (last-su
     by false None other here = other
     by false (Some y) other here = other
 
-last-statement : (m : MapModel) (a : ℕ) → Some (map_label m a) ≡ last_or (Some m.fallback) (map (λ p. p.label) (filter (spans a) m.mappings))
-last-statement m a = last-such (spans a) m.mappings m.fallback
-
 -- Entries
 
 abbrev longer : Prefix → Prefix → Bool
@@ -103,30 +100,24 @@ reaches-true : (W a : ℕ) (p : Prefix) → reaches W a p ≡ true → CoversAdd
 reaches-true W a p e =
     let parts = and_parts (nat_le p.bits W) (covers W p.bits a p) e in (covers-true W p.bits a p (leb-true p.bits W parts.0) parts.1).1
 
-reaches-from : (W a : ℕ) (p : Prefix) → CoversAddress W a p → reaches W a p ≡ true
-reaches-from W a p c = and_from (nat_le p.bits W) (covers W p.bits a p) (le-leb p.bits W c.fits) (covers-from W p.bits a p c refl)
-
-longest-entry-in : (W a : ℕ) (ps : List Prefix) (x : Option Label)
+longest-entry : (W a : ℕ) (ps : List Prefix) (x : Option Label)
     → MatchOption x (All (λ p. CoversAddress W a p → ⊥) ps) (λ t. (p : Prefix) × IsLongestMatch W ps a p × (p.label ≡ t))
     → x ≡ option_map (λ p. p.label) (slice_get (in_order longer (filter (reaches W a) ps)) 0)
-longest-entry-in W a ps None none =
+longest-entry W a ps None none =
     sym (ap (option_map (λ (p : Prefix). p.label)) (none-best (reaches W a) ps (λ k d below e. none k d below (reaches-true W a (slice_index_or ps k d) e))))
-longest-entry-in W a ps (Some t) (p, longest, is) =
+longest-entry W a ps (Some t) (p, longest, is) =
     ap Some (sym is)
     ∙ sym (ap (option_map (λ (p : Prefix). p.label)) (ap (best (reaches W a)) longest.list
-    ∙ best-is (reaches W a) longest.before p longest.following (reaches-from W a p longest.covers)
+    ∙ best-is (reaches W a) longest.before p longest.following (and_from (nat_le p.bits W) (covers W p.bits a p) (le-leb p.bits W longest.covers.fits) (covers-from W p.bits a p longest.covers refl))
     (λ k d below e. longest.earlier k d below (reaches-true W a (slice_index_or longest.before k d) e))
     (λ k d below e. longest.later k d below (reaches-true W a (slice_index_or longest.following k d) e))))
-
-longest-entry : (l : ListModel) (a : ℕ) → list_label l a
-    ≡ option_map (λ p. p.label) (slice_get (in_order longer (filter (reaches (width_of l.version) a) l.prefixes)) 0)
-longest-entry l a = longest-entry-in (width_of l.version) a l.prefixes (list_label l a) (longest-match (width_of l.version) l.prefixes a)
 
 -- Labellings
 
 pub labelling-of_map : (m : MapModel) → labelling_of_map m ≡ labelling m.version (λ a. last_or (Some m.fallback) (map (λ p. p.label) (filter (spans a) m.mappings)))
-labelling-of_map m = ap (labelling m.version) (fun_ext (last-statement m))
+labelling-of_map m = ap (labelling m.version) (fun_ext (λ a. last-such (spans a) m.mappings m.fallback))
 
 pub labelling-of_list : (l : ListModel) → labelling_of_list l ≡ labelling l.version (λ a. option_map (λ p. p.label)
     (slice_get (in_order longer (filter (reaches (width_of l.version) a) l.prefixes)) 0))
-labelling-of_list l = ap (labelling l.version) (fun_ext (longest-entry l))
+labelling-of_list l =
+    ap (labelling l.version) (fun_ext (λ a. longest-entry (width_of l.version) a l.prefixes (list_label l a) (longest-match (width_of l.version) l.prefixes a)))

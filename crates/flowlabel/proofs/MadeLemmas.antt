@@ -154,18 +154,15 @@ pub named_in : {F A : Type 0} (wrap : F → BytesFault) {r : Role} → ((own : F
 named_in wrap own (Ok value) fault is = cc
 named_in wrap own (Err f) fault is = let same : fault ≡ wrap f = cc in ap role_of same ∙ own f
 
-module _ {R : Type 0} (input : R → InputView) where
-  read_more : {a b c : Readers R} → AreReadOn input a b → AreReadOn input b c → AreReadOn input a c
-  read_more first second r = let (front, returns, _) = first r in let (more, returns', _) = second r in (front ++ more, gives_more returns returns', tt)
-
-  one_read : (r : Role) (file : Option (Source R)) (old : Readers R)
-      → ReadsInput (view_of input (at r old)) (view_of input file) (λ _. ⊤) → AreReadOn input old (with_at r file old)
-  one_read r file old reads o =
-      let P : Role → Option (Source R) → Type 0 = λ p f. ReadsInput (view_of input (at p old)) (view_of input f) (λ _. ⊤) in
-      elim (at_other file old r o) [
-        | inl same ↦ subst (λ (p : Role). P p (at p (with_at r file old))) (sym same) (subst (P r) (sym (at_same r file old)) reads)
-        | inr still ↦ subst (P o) (sym still) ([], gives_none _, tt)
-      ]
+one_read : {R : Type 0} (input : R → InputView) (r : Role) (file : Option (Source R)) (old mid : Readers R) → AreReadOn input old mid
+    → ReadsInput (view_of input (at r mid)) (view_of input file) (λ _. ⊤) → AreReadOn input old (with_at r file mid)
+one_read input r file old mid had (more, returns', _) o = elim (at_other file mid r o) [
+  | inl same ↦
+      let P : Role → Option (Source _) → Type 0 = λ p f. ReadsInput (view_of input (at p old)) (view_of input f) (λ _. ⊤) in
+      let (front, returns, _) = had r in
+      subst (λ (p : Role). P p (at p (with_at r file mid))) (sym same) (subst (P r) (sym (at_same r file mid)) (front ++ more, gives_more returns returns', tt))
+  | inr still ↦ subst (λ (f : Option (Source _)). ReadsInput (view_of input (at o old)) (view_of input f) (λ _. ⊤)) (sym still) (had o)
+]
 
 -- what earlier files may have as their texts doesn't change
 as_before : {R : Type 0} (input : R → InputView) {n : ℕ} (r : Role) → n ≤ turn r → (file : Option (Source R)) (mid : Readers R) (texts : ByFile Text)
@@ -212,7 +209,7 @@ module _ {R : Type 0} {input : R → InputView} where
     pub next : {m : ℕ} → turn r < m → {result : Result W RunFault} → IsRead input reading is stops (at r mid) file result
         → AreRead input m (λ texts. IsReading (reading (at r texts)) is) old (with_at r file mid) result
     next {m = m} after {result = result} one = record {
-      read = read_more input had.read (one_read input r file mid one.reads);
+      read = one_read input r file old mid had.read one.reads;
       kept = λ o later. at_later file mid r o (omega (arith, after, later)) ∙ had.kept o (omega (arith, after, later, early));
       early = λ o failed.
           elim (at_other file mid r o) [

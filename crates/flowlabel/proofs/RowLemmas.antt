@@ -47,11 +47,6 @@ pub no_rows : (labels : Option Labelling) → title_line (is_some labels) ∷ []
 no_rows None = refl
 no_rows (Some l) = refl
 
--- an index that is borrowed is there exactly if its labelling is
-pub is_some-found : (labels : Option (Bor StretchModel)) → is_some labels ≡ is_some (labelling_found labels)
-is_some-found None = refl
-is_some-found (Some l) = refl
-
 -- the rows of messages, with one more message
 pub rows_more : (messages : List MessageView) (m : MessageView) → rows_of_messages messages ++ rows_of_sets m.sets ≡ rows_of_messages (messages ++ m ∷ [])
 rows_more messages m =

@@ -25,8 +25,8 @@ stopped size (Ok messages) stop is = ap (λ (f : ReadFault). is_of_reader f.kind
 stopped size (Err fault) stop is = ap (λ (f : ReadFault). is_of_reader f.kind) is.1
 
 -- a fault of a call is the one of the bytes, of a reader that stopped, or that an allocation failed
-fault_read : {R : Type 0} (input : R → InputView) (start now : Option (Source R)) (fault : ReadFault) (made : RunFault) → IsFaultOfCall (name_in start) fault made
-    → (view_of input start).returned ≡ [] → (view_of input now).failed ≡ is_of_reader fault.kind
+fault_read : {R : Type 0} (input : R → InputView) (start now : Option (Source R)) (fault : ReadFault) (made : RunFault)
+    → IsFaultOfCall (name_in start) fault made → (view_of input start).returned ≡ [] → (view_of input now).failed ≡ is_of_reader fault.kind
     → ReadsInput (view_of input start) (view_of input now) (λ bytes. (fault ≡ out_of_memory) ⊎ (StopsReading bytes fault
     ⊎ ((is_of_calls fault.kind ≡ false) × ((rest : List ℕ) → MayFollow (has_ended (view_of input now)) rest → file_reading (bytes ++ rest) ≡ Err fault))))
     → ReadsInto input {T = List MessageView} (λ read all. read ≡ all) start now (Err made)
@@ -34,7 +34,8 @@ fault_read input start now fault NoMemory is none works (bytes, gives, joined) =
 fault_read input start now fault (CannotRead file) (named, reader) none works (bytes, gives, inl memory) =
     let wrong : is_of_reader fault.kind ≡ false = not_of_reader fault.kind (ap (λ (f : ReadFault). is_of_calls f.kind) memory) in cc
 fault_read input start now fault (CannotRead file) (named, reader) none works (bytes, gives, inr (inl stops)) =
-    record { reads = (bytes, gives, tt); gives = (works ∙ reader, named, (fault, subst (λ (l : List ℕ). StopsReading l fault) (sym (all_read none gives)) stops)) }
+    let stop_is : StopsReading (view_of input now).returned fault = subst (λ (l : List ℕ). StopsReading l fault) (sym (all_read none gives)) stops in
+    record { reads = (bytes, gives, tt); gives = (works ∙ reader, named, (fault, stop_is)) }
 fault_read input start now fault (CannotRead file) (named, reader) none works (bytes, gives, inr (inr (calls, has))) =
     let wrong : is_of_reader fault.kind ≡ false = not_of_reader fault.kind calls in cc
 fault_read input start now fault (File file made) (bytes_fault, is) none works (bytes, gives, inl memory) =
@@ -48,7 +49,8 @@ fault_read input start now fault (File file made) (bytes_fault, is) none works (
     works ∙ bytes_fault,
     is.0,
     λ text (rest, follows, all).
-        ap (λ (r : Result (List MessageView) ReadFault). in_file InFlows r) (ap file_reading (all ∙ ap (λ (l : List ℕ). l ++ rest) (all_read none gives)) ∙ has rest follows) ∙ ap Err (sym is.1),
+        ap (λ (r : Result (List MessageView) ReadFault). in_file InFlows r)
+        (ap file_reading (all ∙ ap (λ (l : List ℕ). l ++ rest) (all_read none gives)) ∙ has rest follows) ∙ ap Err (sym is.1),
   );
 }
 fault_read input start now fault made (bytes_fault, is) none works joined = absurd is
@@ -59,47 +61,37 @@ pub none_so_far : {R : Type 0} (input : R → InputView) (file : Option (Source 
 none_so_far input file p at (none, works) =
     record { read = calls_start no_templates 0 0 (view_of input file) p at; going = at.3; works = works; name = refl; first = none }
 
--- an allocation failed, and nothing of the file is lost
-pub no_memory : {R : Type 0} (input : R → InputView) (Has : List MessageView → Type 0) (start now : Option (Source R)) (result : Result (Unit {0}) RunFault)
-    → ReadsInput (view_of input start) (view_of input now) (λ _. ⊤) → (view_of input now).failed ≡ false
-    → IsErrAnd result (λ fault. fault ≡ NoMemory) → ReadsInto input (λ messages _. Has messages) start now result
-no_memory input Has start now result reads works same = handed_on (ReadsInto input (λ messages _. Has messages) start now) result NoMemory same (record { reads = reads; gives = works })
-
 -- the messages so far are read, and this holds of them
-pub record AreReadInto {R : Type 0} (input : R → InputView) (Has : List MessageView → Type 0) (start : Option (Source R)) (p : ProgressView) (now : Option (Source R)) : Type 0 where
+pub record AreReadInto {R : Type 0} (input : R → InputView) (Has : List MessageView → Type 0) (start : Option (Source R)) (p : ProgressView)
+    (now : Option (Source R)) : Type 0 where
   pub messages : List MessageView
   pub so_far : AreReadSoFar input start messages p now
   pub is : Has messages
 
-module _ {R : Type 0} {input : R → InputView} {Has : List MessageView → Type 0} {start : Option (Source R)} {p : ProgressView} {now : Option (Source R)}
-    (had : AreReadInto input Has start p now) where
+module _ {R : Type 0} {input : R → InputView} {Has : List MessageView → Type 0} {start now : Option (Source R)} where
+  -- an allocation failed, and nothing of the file is lost
+  pub no_memory : {result : Result (Unit {0}) RunFault} → ReadsInput (view_of input start) (view_of input now) (λ _. ⊤) → (view_of input now).failed ≡ false
+      → IsErrAnd result (λ fault. fault ≡ NoMemory) → ReadsInto input (λ messages _. Has messages) start now result
+  no_memory {result = result} reads works same =
+      handed_on (ReadsInto input (λ messages _. Has messages) start now) result NoMemory same (record { reads = reads; gives = works })
+
   -- the next call has a fault
-  pub fault_next : (then : Option (Source R)) (fault : RunFault) (result : Result (Unit {0}) RunFault) → IsErrAnd result (λ other. other ≡ fault)
-      → ReadsInto input {T = List MessageView} (λ read all. read ≡ all) start then (Err fault) → ReadsInto input (λ messages _. Has messages) start then result
-  fault_next then fault result same is = handed_on (ReadsInto input (λ messages _. Has messages) start then) result fault same (with_fault_of fault (λ text f reads. reads) is)
+  pub fault_next : {fault : RunFault} {result : Result (Unit {0}) RunFault} → IsErrAnd result (λ other. other ≡ fault)
+      → ReadsInto input {T = List MessageView} (λ read all. read ≡ all) start now (Err fault) → ReadsInto input (λ messages _. Has messages) start now result
+  fault_next {fault = fault} {result = result} same is =
+      handed_on (ReadsInto input (λ messages _. Has messages) start now) result fault same (with_fault_of fault (λ text f reads. reads) is)
 
   -- the next call returns no message
-  pub at_end : (then : Option (Source R)) → ReadsInto input (λ read all. read ≡ all) start then (Ok had.messages) → ReadsInto input {T = Unit {0}} (λ messages _. Has messages) start then (Ok tt)
-  at_end then is = record {
+  pub at_end : {p : ProgressView} {before : Option (Source R)} (had : AreReadInto input Has start p before)
+      → ReadsInto input (λ read all. read ≡ all) start now (Ok had.messages) → ReadsInto input {T = Unit {0}} (λ messages _. Has messages) start now (Ok tt)
+  at_end had is = record {
     reads = is.reads;
     gives = (is.gives.0, λ text may. let (messages, reading, same) = is.gives.1 text may in (had.messages, reading ∙ ap Ok same, had.is));
   }
 
-  -- the next call returns a message
-  module _ (m : MessageView) (p' : ProgressView) (then : Option (Source R)) (next : ReadsNext input start had.messages (Ok (Some m)) p' then) where
-    pub fewer_left : 4294967295 - p'.count < 4294967295 - p.count
-    fewer_left = omega (arith, had.so_far.read.counted, next.0.read.counted, length-append had.messages (m ∷ []), next.1)
-
-    pub one_more : (Has' : List MessageView → Type 0) → Has' (had.messages ++ m ∷ []) → AreReadInto input Has' start p' then
-    one_more Has' is = record { messages = had.messages ++ m ∷ []; so_far = next.0; is = is }
-
-    -- an allocation failed after it
-    pub no_memory_then : (Has' : List MessageView → Type 0) (result : Result (Unit {0}) RunFault) → IsErrAnd result (λ fault. fault ≡ NoMemory) → ReadsInto input (λ messages _. Has' messages) start then result
-    no_memory_then Has' result = no_memory input Has' start then result (next.0.read.taken, next.0.read.consumed, tt) next.0.works
-
 -- the result of the next call, joined to the messages before it
-module _ (joins : CallsJoinFile) {R : Type 0} (input : R → InputView) (start : Option (Source R)) (messages : List MessageView) (p p' : ProgressView) (now then : Option (Source R))
-    (so_far : AreReadSoFar input start messages p now) where
+module _ (joins : CallsJoinFile) {R : Type 0} (input : R → InputView) (start : Option (Source R)) (messages : List MessageView) (p p' : ProgressView)
+    (now then : Option (Source R)) (so_far : AreReadSoFar input start messages p now) where
   pub ends : ReadsInput (view_of input now) (view_of input then) (AnswersNext p (Ok None) p' (has_ended (view_of input then)))
       → (view_of input then).failed ≡ false → ReadsInto input (λ read all. read ≡ all) start then (Ok messages)
   ends answers works =
