@@ -1,8 +1,8 @@
 -- The lines of rows, one by one.
-use Rattle.std.proofs.Common.{append_assoc, ◌≡◌, ◌∙◌, ◌≤◌, Bool, true, false, arith, cond, length, length-append, List, [], ◌∷◌, ◌++◌, Option, Some, None, is_some, map, refl, subst, sym, ap}
+use Rattle.std.proofs.Common.{append_assoc, ◌≡◌, ◌∙◌, ◌≤◌, Bool, true, false, arith, cond, drop, length, length-append, List, [], ◌∷◌, ◌++◌, Option, Some, None, is_some, map, refl, subst, sym, ap}
 use Rattle.std.specs.Prelude.{Err, Ok, OnOk, Result, option_map}
 use Rattle.std.specs.Borrow.{Bor}
-use Rattle.std.specs.List.{flat_map, zip}
+use Rattle.std.specs.List.{flat_map}
 use Rattle.std.proofs.lemmas.Grind.{flat_map-append}
 use Rattle.std.proofs.lemmas.List.{append-nil, map-append}
 use Rattle.std.proofs.lemmas.List.Elements.{filter-append}
@@ -13,26 +13,29 @@ use Rattle.flow_rows.specs.Counts.{records_in, records_of, rows_of_sets, rows_of
 use Rattle.flow_rows.specs.Elements.{RowView, rows_of_record}
 use Rattle.flow_filter.specs.Condition.{Condition, passing, row_passes}
 use Rattle.pmap_print.specs.declared.row_labels.RowLabels.{RowLabels}
-use Rattle.pmap_print.specs.Reports.{LabelTexts, label_fields, label_texts, label_titles, row_fields, row_line, row_titles, title_line}
+use Rattle.pmap_print.specs.Reports.{label_texts, row_line, title_line}
 use Rattle.pmap_print.specs.Table.{Line}
 use Rattle.label_lookup.specs.Labelling.{Labelling, StretchModel, label_where}
 use Rattle.flowlabel.specs.Output.{labelled_row_lines, row_labels}
 use Rattle.flowlabel.specs.Reports.{HasPassing, labelling_found, passing_rows}
 use Rattle.flowlabel.specs.declared.run.filtered.Filtered.{Filtered}
 
-zip_more : {X Y : Type 0} (f : X → Y) (xs : List X) (x : X) → zip (xs ++ x ∷ []) (map f (xs ++ x ∷ [])) ≡ zip xs (map f xs) ++ (x, f x) ∷ []
-zip_more f [] x = refl
-zip_more f (y ∷ ys) x = ap (λ (pairs : List (_ × _)). (y, f y) ∷ pairs) (zip_more f ys x)
+-- the line of a row, with the labels of its addresses if there is a labelling
+abbrev pub line_of_row : Option Labelling → RowView → Line
+line_of_row labels row = row_line row (option_map (λ l. row_labels l row) labels)
+
+-- the lines of rows are the header and that of each row
+pub lines_are : (labels : Option Labelling) (shown : List RowView) → labelled_row_lines labels shown ≡ title_line (is_some labels) ∷ map (line_of_row labels) shown
+lines_are None shown = refl
+lines_are (Some l) [] = refl
+lines_are (Some l) (row ∷ shown) = ap (λ (lines : List Line). title_line true ∷ line_of_row (Some l) row ∷ drop 1 lines) (lines_are (Some l) shown)
 
 -- the lines of rows, with that of one more row
 pub lines_more : (labels : Option Labelling) (shown : List RowView) (row : RowView)
-    → labelled_row_lines labels (shown ++ row ∷ [])
-    ≡ labelled_row_lines labels shown ++ row_line row (option_map (λ l. row_labels l row) labels) ∷ []
-lines_more None shown row = ap (λ (lines : List Line). row_titles ∷ lines) (map-append row_fields shown (row ∷ []))
-lines_more (Some l) shown row =
-    let fields : RowView × LabelTexts → Line = λ p. row_fields p.0 ++ label_fields p.1 in
-    ap (λ (ps : List (RowView × LabelTexts)). (row_titles ++ label_titles) ∷ map fields ps) (zip_more (row_labels l) shown row)
-    ∙ ap (λ (lines : List Line). (row_titles ++ label_titles) ∷ lines) (map-append fields (zip shown (map (row_labels l) shown)) ((row, row_labels l row) ∷ []))
+    → labelled_row_lines labels (shown ++ row ∷ []) ≡ labelled_row_lines labels shown ++ line_of_row labels row ∷ []
+lines_more labels shown row =
+    lines_are labels (shown ++ row ∷ []) ∙ ap (λ (lines : List Line). title_line (is_some labels) ∷ lines) (map-append (line_of_row labels) shown (row ∷ []))
+    ∙ ap (λ (lines : List Line). lines ++ line_of_row labels row ∷ []) (sym (lines_are labels shown))
 
 -- rows have labels exactly if there is a labelling
 pub same_labelled : (labels : Option Labelling) (own : Option RowLabels) (row : RowView)
@@ -41,11 +44,6 @@ same_labelled None None row same = refl
 same_labelled None (Some l) row same = ap is_some same
 same_labelled (Some l) None row same = ap is_some same
 same_labelled (Some l) (Some own) row same = refl
-
--- without rows the lines are the header alone, which names the label columns if there is a labelling
-pub no_rows : (labels : Option Labelling) → title_line (is_some labels) ∷ [] ≡ labelled_row_lines labels []
-no_rows None = refl
-no_rows (Some l) = refl
 
 -- the rows of messages, with one more message
 pub rows_more : (messages : List MessageView) (m : MessageView) → rows_of_messages messages ++ rows_of_sets m.sets ≡ rows_of_messages (messages ++ m ∷ [])

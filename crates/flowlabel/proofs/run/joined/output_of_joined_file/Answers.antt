@@ -17,7 +17,7 @@ use Rattle.flow_uniq.specs.Laws.{merged}
 use Rattle.flow_uniq.proofs.MergedParts.{merged_are_all}
 use Rattle.label_lookup.specs.Labelling.{Labelling, label_where, labelling_of_list, labelling_of_map}
 use Rattle.pmap_text.specs.Reading.{list_reading, map_reading}
-use Rattle.pmap_print.specs.Reports.{groups_text, info_text, label_fields, row_fields, title_line}
+use Rattle.pmap_print.specs.Reports.{groups_text, info_text, title_line}
 use Rattle.pmap_print.specs.Table.{Line, table_text}
 use Rattle.flowlabel.specs.ByFile.{ByFile, with_at}
 use Rattle.flowlabel.specs.ByFile as role
@@ -26,8 +26,9 @@ use Rattle.flowlabel.specs.declared.command.Command.TheVariants.{Cat, Info, Labe
 use Rattle.flowlabel.specs.declared.command.LabelFile.{LabelFile}
 use Rattle.flowlabel.specs.declared.command.LabelFile.TheVariants.{Map, List as Prefixes}
 use Rattle.flowlabel.specs.Joined.{IsPutTogether}
-use Rattle.flowlabel.specs.Output.{BytesFault, FlowsThen, IsOutput, Outcome, Prints, Then, labelled_row_lines, row_labels}
+use Rattle.flowlabel.specs.Output.{BytesFault, FlowsThen, IsOutput, Outcome, Prints, Then, labelled_row_lines}
 use Rattle.flowlabel.specs.Request.{Text}
+use Rattle.flowlabel.proofs.RowLemmas.{line_of_row, lines_are}
 use Rattle.flowlabel.proofs.run.joined.output_of_joined_file.Goals as goal
 
 -- ---- lists in parts
@@ -41,26 +42,6 @@ changed_parts : {F A B : Type 0} (f : List A → List B) (part : F → List A) (
     → flat_map f (map part files) ≡ flat_map (λ file. f (part file)) files
 changed_parts f part [] = refl
 changed_parts {B = B} f part (file ∷ files) = ap (λ (l : List B). f (part file) ++ l) (changed_parts f part files)
-
--- ---- the lines of rows
-
-module _ (l : Option Labelling) where
-  -- without the header
-  abbrev body : List RowView → List Line
-  body rows = drop 1 (labelled_row_lines l rows)
-
-body-append : (l : Option Labelling) (xs ys : List RowView) → body l (xs ++ ys) ≡ body l xs ++ body l ys
-body-append None xs ys = map-append row_fields xs ys
-body-append (Some l) [] ys = refl
-body-append (Some l) (x ∷ xs) ys = ap (λ (lines : List Line). (row_fields x ++ label_fields (row_labels l x)) ∷ lines) (body-append (Some l) xs ys)
-
-body-empty : (l : Option Labelling) → body l [] ≡ []
-body-empty None = refl
-body-empty (Some l) = refl
-
-lines_are : (l : Option Labelling) (rows : List RowView) → labelled_row_lines l rows ≡ title_line (is_some l) ∷ body l rows
-lines_are None rows = refl
-lines_are (Some l) rows = refl
 
 -- ---- the outcome over a File
 
@@ -146,8 +127,10 @@ module _ (first : File) (later : List File) (follow : CanFollow first later) (te
       let rest : Option Labelling → List MessageView → Outcome → Type 0 =
       λ l messages. Prints (printed l (passing condition l (rows_of_messages messages))) in
       let l : Option Labelling = (found rest labels is).given in
-      let lines : body l (shown condition l whole) ≡ flat_map (λ file. body l (shown condition l file)) files =
-      ap (body l) (shown_are condition l) ∙ of_parts (body l) (body-empty l) (body-append l) (shown condition l) files in (
+      let each : (rows : List RowView) → map (line_of_row l) rows ≡ drop 1 (labelled_row_lines l rows) = λ rows. ap (drop 1) (sym (lines_are l rows)) in
+      let lines : map (line_of_row l) (shown condition l whole) ≡ flat_map (λ file. drop 1 (labelled_row_lines l (shown condition l file))) files =
+      ap (map (line_of_row l)) (shown_are condition l) ∙ of_parts (map (line_of_row l)) refl (map-append (line_of_row l)) (shown condition l) files
+      ∙ (λ i. flat_map (λ file. each (shown condition l file) i) files) in (
         l,
         (
           each_prints rest labels is (λ file. printed l (shown condition l file)) (λ file. refl),

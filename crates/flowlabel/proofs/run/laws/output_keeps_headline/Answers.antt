@@ -1,6 +1,5 @@
 use Rattle.std.proofs.Common.{◌≡◌, ◌∙◌, ◌^◌, ℕ, Bool, List, [], ◌∷◌, ◌++◌, Option, None, Some, Result, Ok, Err, ap, map, refl, subst, sym}
 use Rattle.std.specs.Prelude.{◌↔◌, decimal, find, is_some, length, slice_index_or, unwrap_or, sum_by}
-use Rattle.std.specs.List.{zip}
 use Rattle.std.specs.Str.{bytes_eq}
 use Rattle.std.specs.Option.{option_map_or}
 use Rattle.pmap_text.specs.ListModel.{ListModel}
@@ -17,6 +16,7 @@ use Rattle.cert_check.specs.declared.fault.CheckFault.{CheckFault}
 use Rattle.label_lookup.specs.Labelling.{Labelling, label_by, label_where, labelling_of_list, labelling_of_map}
 use Rattle.flowlabel.proofs.CoveringLabels.{labelling-of_list, labelling-of_map}
 use Rattle.label_lookup.proofs.Labellings.{same_labelling}
+use Rattle.flowlabel.proofs.RowLemmas.{lines_are}
 use Rattle.flowlabel.proofs.RunLemmas.{apart-runs}
 use Rattle.ipfix_read.specs.Message.{MessageView}
 use Rattle.ipfix_read.specs.Messages.{file_reading}
@@ -28,10 +28,10 @@ use Rattle.flow_uniq.specs.declared.field.KeyField.{KeyField}
 use Rattle.flow_uniq.specs.declared.field.KeyField.TheVariants.{SourceAddress, DestinationAddress, SourcePort, DestinationPort, Protocol, Flags, SourceLabel, DestinationLabel}
 use Rattle.flow_uniq.specs.Key.{field_name, key_of, key_part}
 use Rattle.flow_uniq.specs.Grouped.{AreGrouped, group_with}
-use Rattle.pmap_print.specs.Reports.{group_fields, group_titles, info_text, label_fields, label_titles, part_text, row_fields, row_titles, title_line}
+use Rattle.pmap_print.specs.Reports.{group_fields, group_titles, info_text, part_text, title_line}
 use Rattle.pmap_print.specs.Table.{Line, table_text}
 use Rattle.flowlabel.specs.Headline.{GivesLabels, IsSameUnder, PrintsEachOnce, PrintsGroups, PrintsList, PrintsRows, row_columns}
-use Rattle.flowlabel.specs.Output.{BytesFault, IsVerdict, IsOutput, LabelsThen, Outcome, Prints, Then, FlowsThen, label_text, labelled_row_lines, minimal_text, row_labels}
+use Rattle.flowlabel.specs.Output.{BytesFault, IsVerdict, IsOutput, LabelsThen, Outcome, Prints, Then, FlowsThen, label_text, labelled_row_lines, minimal_text}
 use Rattle.flowlabel.proofs.Outcomes.{CertificateThen, ListThen, PrintsCompact, PrintsMinimal, PrintsRuns, ReportsOf, report_of_groups, report_of_rows, checked}
 use Rattle.std.specs.Borrow.{Bor}
 use Rattle.flowlabel.specs.Reports.{passing_rows}
@@ -113,30 +113,20 @@ flows_keep this that keep (Some file) texts out is =
     (λ labels. then_keep InFlows (this (Some labels)) (that (Some labels)) (keep (Some labels)) (file_reading texts.flows)) file texts out is
 
 -- the lines of rows have their fields, with their labels or without
-lines_of_rows : (labels : Option Labelling) (shown : List RowView) → labelled_row_lines labels shown
-    ≡ (row_titles ++ option_map_or (λ l. label_titles) labels []) ∷ map (λ row. map (λ c. c.1) (row_columns labels row)) shown
-lines_of_rows None shown = refl
-lines_of_rows (Some l) shown = ap (λ (lines : List Line). (row_titles ++ label_titles) ∷ lines) (each shown)
-  where
-    each : (all : List RowView) → map (λ p. row_fields p.0 ++ label_fields p.1) (zip all (map (row_labels l) all))
-        ≡ map (λ row. map (λ c. c.1) (row_columns (Some l) row)) all
-    each [] = refl
-    each (row ∷ more) = ap (λ (lines : List Line). (row_fields row ++ label_fields (row_labels l row)) ∷ lines) (each more)
+lines_of_rows : (labels : Option Labelling) (shown : List RowView)
+    → labelled_row_lines labels shown ≡ title_line (is_some labels) ∷ map (λ row. map (λ c. c.1) (row_columns labels row)) shown
+lines_of_rows None shown = lines_are None shown
+lines_of_rows (Some l) shown = lines_are (Some l) shown
 
-titles_of_rows : (labels : Option Labelling) (row : RowView) → map (λ c. c.0) (row_columns labels row) ≡ row_titles ++ option_map_or (λ l. label_titles) labels []
+titles_of_rows : (labels : Option Labelling) (row : RowView) → map (λ c. c.0) (row_columns labels row) ≡ title_line (is_some labels)
 titles_of_rows None row = refl
 titles_of_rows (Some l) row = refl
-
-titles_given : (labels : Option Labelling) → row_titles ++ option_map_or (λ l. label_titles) labels [] ≡ title_line (is_some labels)
-titles_given None = refl
-titles_given (Some l) = refl
 
 prints_rows : (columns : Bool) (labels : Option Labelling) (shown : List RowView) (outcome : Outcome)
     → outcome ≡ Ok (table_text columns (labelled_row_lines labels shown)) → PrintsRows columns labels shown outcome
 prints_rows columns labels shown outcome made = (
-  λ k d below. titles_of_rows labels (slice_index_or shown k d) ∙ titles_given labels,
-  made ∙ ap (λ (lines : List Line). Ok (table_text columns lines)) (lines_of_rows labels shown)
-      ∙ ap (λ (titles : Line). Ok (table_text columns (titles ∷ map (λ row. map (λ c. c.1) (row_columns labels row)) shown))) (titles_given labels),
+  λ k d below. titles_of_rows labels (slice_index_or shown k d),
+  made ∙ ap (λ (lines : List Line). Ok (table_text columns lines)) (lines_of_rows labels shown),
 )
 
 -- the line of a group has what a row has in the columns of the fields

@@ -5,7 +5,7 @@ use Rattle.flowlabel.specs.Output.{Prints, labelled_row_lines}
 use Rattle.flowlabel.specs.Reports.{passing_rows}
 use Rattle.flowlabel.proofs.Outcomes.{report_of_rows}
 use Rattle.flowlabel.proofs.MadeLemmas.{faulty, makes, no_memory_left, none_read, report_then}
-use Rattle.flowlabel.proofs.RowLemmas.{no_rows}
+use Rattle.flowlabel.proofs.RowLemmas.{lines_are}
 use Rattle.flowlabel.proofs.run.rows.output.Goals as goal
 
 pub returns-in_err-table : goal.returns-in_err-table
@@ -18,7 +18,7 @@ read_rows-requires g c = record {
       record {
         padded = refl;
         lines =
-            subst (λ (ls : List Line). IsTable (column_count (is_some labels)) ls c.in_ok-table.table) (no_rows labels)
+            subst (λ (ls : List Line). IsTable (column_count (is_some labels)) ls c.in_ok-table.table) (sym (lines_are labels []))
             (subst (λ (b : Bool). IsTable (column_count b) (title_line b ∷ []) c.in_ok-table.table) (c.is_some.ensures ∙ sym same) c.in_ok-table.ensures.header);
       };
 }
