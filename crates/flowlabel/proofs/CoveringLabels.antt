@@ -7,7 +7,7 @@ use Rattle.std.proofs.lemmas.Bool.{and_from, and_parts, le-leb, leb-true, lt-ltb
 use Rattle.std.proofs.lemmas.List.Elements.{All-filter, All-head, All-tail, filter_passes}
 use Rattle.std.proofs.lemmas.List.Sorted.{All-permutation}
 use Rattle.pmap_text.specs.ListModel.{CoversAddress, IsLongestMatch, ListModel, Prefix, covers, list_label}
-use Rattle.pmap_text.specs.MapModel.{Label, MapModel, Mapping, last_such, map_label, spans}
+use Rattle.pmap_text.specs.MapModel.{Label, MapModel, Mapping, last_such, spans}
 use Rattle.pmap_text.specs.Sorting.{in_order, with_in_order}
 use Rattle.pmap_text.proofs.Sorting.{same-in_order}
 use Rattle.pmap_text.proofs.ListLabels.{covers-from, covers-true, longest-match}

@@ -1,5 +1,6 @@
 -- The outcomes over the texts of files, as proofs name them.
-use Rattle.std.specs.Prelude.{Bool, List, ℕ, Option, Ok, Err}
+use Rattle.std.proofs.Common.{◌≡◌, refl}
+use Rattle.std.specs.Prelude.{Bool, List, ℕ, Option, Result, Ok, Err}
 use Rattle.std.specs.Option.{option_map_or}
 use Rattle.cert_check.specs.declared.fault.CheckFault.{CheckFault}
 use Rattle.pmap_text.specs.ListModel.{ListModel}
@@ -20,7 +21,7 @@ use Rattle.pmap_text.specs.RunsText.{IsRunsText}
 use Rattle.pmap_print.specs.Table.{table_text}
 use Rattle.label_lookup.specs.Labelling.{Labelling, label_where}
 use Rattle.flowlabel.specs.declared.bytes_fault.BytesFault.TheVariants.{List as InList, Flows as InFlows, Certificate as InCertificate, Check as InCheck}
-use Rattle.flowlabel.specs.Output.{Outcome, Prints, Then, labelled_row_lines, minimal_text, shrunk_text}
+use Rattle.flowlabel.specs.Output.{BytesFault, Outcome, Prints, Then, labelled_row_lines, minimal_text, shrunk_text}
 use Rattle.flowlabel.specs.Reports.{passing_rows}
 use Rattle.flowlabel.specs.Request.{Shrunk, Text}
 
@@ -59,3 +60,9 @@ report_of_groups fields condition sorted columns labels messages =
 -- what `check` prints for the first fault, if there is one, and for the number of entries
 abbrev pub checked : Option CheckFault → ℕ → Outcome
 checked found count = option_map_or (λ fault. Err (InCheck fault)) found (Ok (minimal_text count))
+
+-- a text comes of the value that a file's text is read as
+pub printed_of : {F A : Type 0} (in_file : F → BytesFault) (rest : A → Outcome → Type 0) (reading : Result A F) (out : List ℕ)
+    → Then in_file rest reading (Ok out) → (value : A) × (reading ≡ Ok value) × rest value (Ok out)
+printed_of in_file rest (Ok value) out is = (value, refl, is)
+printed_of in_file rest (Err fault) out is = cc

@@ -1,5 +1,5 @@
 -- The messages of a File, call by call.
-use Rattle.std.proofs.Common.{◌≡◌, ◌∙◌, ◌≤◌, ◌<◌, ◌-◌, ◌+◌, ◌⊎◌, inl, inr, ℕ, List, [], ◌∷◌, ◌++◌, Option, Some, None, Result, Ok, Err, true, false, length, length-append, refl, sym, ap, subst, arith}
+use Rattle.std.proofs.Common.{◌≡◌, ◌∙◌, ◌≤◌, ◌+◌, ◌⊎◌, inl, inr, ℕ, List, [], ◌++◌, Option, Some, None, Result, Ok, Err, true, false, length, refl, sym, ap, subst, arith}
 use Rattle.std.specs.Prelude.{OnSome, ⊤}
 use Rattle.std.specs.Result.{IsErrAnd}
 use Rattle.flow_io.specs.Devices.{InputView, MayFollow, ReadsInput, has_ended}

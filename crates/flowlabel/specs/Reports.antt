@@ -7,7 +7,7 @@ use Rattle.flow_io.specs.Devices.{InputView, OutputView, ReadsInput, StopsWritin
 use Rattle.pmap_text.specs.MapText.{map_of}
 use Rattle.pmap_text.specs.PrefixList.{list_of}
 use Rattle.pmap_text.specs.ListModel.{ListModel}
-use Rattle.pmap_text.specs.MapModel.{MapModel}
+use Rattle.pmap_text.specs.MapModel.{Label, MapModel}
 use Rattle.pmap_text.specs.Reading.{◌>>=◌, map_reading, list_reading}
 use Rattle.label_lookup.specs.Labelling.{Labelling, StretchModel, label_where, labelling_of_list, labelling_of_map, labelling_of_stretches}
 use Rattle.ipfix_read.specs.Fault.{is_of_reader}
@@ -23,7 +23,6 @@ use Rattle.flow_filter.specs.Condition.{Condition, passing}
 use Rattle.flow_uniq.specs.Groups.{GroupsModel, groups_of, record_count, shown_groups}
 use Rattle.pmap_print.specs.Reports.{column_count, groups_text}
 use Rattle.pmap_print.specs.Table.{IsTable, Line, has_columns, table_text}
-use Rattle.pmap_text.specs.MapModel.{Label}
 use Rattle.pmap_text.specs.RunsText.{IsRunsText}
 use Rattle.pmap_text.specs.Stretches.{AreLabelsBelow, text_held}
 use Rattle.pmap_text.specs.declared.runs.Runs.{Runs}
@@ -43,7 +42,7 @@ use Rattle.flowlabel.specs.Output.{BytesFault, Outcome, labelled_row_lines, mini
 use Rattle.flowlabel.specs.declared.command.LabelFile.{LabelFile}
 use Rattle.flowlabel.specs.declared.command.LabelFile.TheVariants.{Map, List as Prefixes}
 use Rattle.flowlabel.specs.Request.{Shrunk, Text}
-use Rattle.flowlabel.specs.Run.{AreReadOn, AreTexts, CannotRead, CannotWrite, File, IsFaultFor, IsFaultOf, MayHave, NoMemory, Readers, RunFault, Source, any_failed, name_in, view_of}
+use Rattle.flowlabel.specs.Run.{AreReadOn, CannotRead, CannotWrite, File, IsFaultFor, IsFaultOf, MayHave, NoMemory, Readers, RunFault, Source, any_failed, name_in, view_of}
 use Rattle.flowlabel.specs.declared.run.filtered.Filtered.{Filtered}
 use Rattle.flowlabel.specs.declared.run.labels.LabelsRead.{LabelsRead}
 use Rattle.flowlabel.specs.declared.run.labels.LabelsRead.TheVariants as read
@@ -67,10 +66,8 @@ in_file = result_map_both (λ value. value)
 
 -- what the text that labels come from is read as: the labelling, or the first fault
 abbrev pub labels_reading : LabelFile → ByFile Text → Result Labelling BytesFault
-labels_reading (Map file) texts =
-    in_file InMap (map_reading texts.map) >>= (λ m. Ok (labelling_of_map m))
-labels_reading (Prefixes file) texts =
-    in_file InList (list_reading texts.list) >>= (λ l. Ok (labelling_of_list l))
+labels_reading (Map file) texts = in_file InMap (map_reading texts.map) >>= (λ m. Ok (labelling_of_map m))
+labels_reading (Prefixes file) texts = in_file InList (list_reading texts.list) >>= (λ l. Ok (labelling_of_list l))
 
 -- the same, if there is such a text
 abbrev pub source_reading : Option LabelFile → ByFile Text → Result (Option Labelling) BytesFault
@@ -78,8 +75,7 @@ source_reading None texts = Ok None
 source_reading (Some file) texts = labels_reading file texts >>= (λ labels. Ok (Some labels))
 
 -- what a report is on: the labelling, if there is one, and the messages of a File
-abbrev pub report_reading : Option LabelFile → ByFile Text
-    → Result (Option Labelling × List MessageView) BytesFault
+abbrev pub report_reading : Option LabelFile → ByFile Text → Result (Option Labelling × List MessageView) BytesFault
 report_reading source texts = source_reading source texts >>= (λ labels.
     in_file InFlows (file_reading texts.flows) >>= (λ messages. Ok (labels, messages)))
 
@@ -92,8 +88,7 @@ abbrev pub verdict : Option TextFault → ℕ → Outcome
 verdict found count = option_map_or (λ fault. Err (in_text fault)) found (Ok (minimal_text count))
 
 abbrev pub check_reading : MapModel → ListModel → Text → Outcome
-check_reading m l bytes =
-    verdict (text_fault m l (format_reading bytes)) (length l.prefixes)
+check_reading m l bytes = verdict (text_fault m l (format_reading bytes)) (length l.prefixes)
 
 -- the rows of messages that meet a condition
 abbrev pub passing_rows : Condition → Option Labelling → List MessageView → List RowView
@@ -114,9 +109,12 @@ IsWhole _ = ⊤
 -- this is its text
 abbrev pub IsTextOf : Made → Text → Type 0
 IsTextOf (made.Text bytes) text = text ≡ bytes.items
-IsTextOf (made.Table table) text = (count : ℕ) (lines : List Line) → IsTable count lines table → text ≡ table_text (has_columns table) lines
-IsTextOf (made.Groups groups sorted columns) text = text ≡ groups_text groups.fields (shown_groups sorted groups.groups) columns
-IsTextOf (made.Runs runs labels) text = IsRunsText runs.stretches.version (text_held (table_read labels) runs.stretches) text
+IsTextOf (made.Table table) text =
+    (count : ℕ) (lines : List Line) → IsTable count lines table → text ≡ table_text (has_columns table) lines
+IsTextOf (made.Groups groups sorted columns) text =
+    text ≡ groups_text groups.fields (shown_groups sorted groups.groups) columns
+IsTextOf (made.Runs runs labels) text =
+    IsRunsText runs.stretches.version (text_held (table_read labels) runs.stretches) text
 IsTextOf (made.List list) text = text ≡ list_text (list_of list)
 IsTextOf (made.Certificate certificate) text = text ≡ certificate_text (certificate_of certificate)
 IsTextOf (made.Compact certificate) text = text ≡ certificate_text (compact (certificate_of certificate))
@@ -131,12 +129,15 @@ AreRunsFor labels runs = AreLabelsBelow (length (table_read labels)) runs.stretc
 -- what `shrink` made of a map
 abbrev pub IsShrunk : Shrunk → MapModel → Made → Type 0
 IsShrunk printed m made = IsWhole made
-    × ((text : Text) → IsTextOf made text → (l : ListModel) × (c : CertificateModel) × IsMinimalPair m l c × (text ≡ shrunk_text printed l c))
+    × ((text : Text) → IsTextOf made text
+    → (l : ListModel) × (c : CertificateModel) × IsMinimalPair m l c × (text ≡ shrunk_text printed l c))
 
 -- The writer has taken a text of what a command made, or a prefix of it. Out of memory comes before it is called.
-abbrev pub IsMadeWritten : {W : Type 0} → (W → OutputView) → (Text → Type 0) → W → W → Result (Unit {0}) RunFault → Type 0
+abbrev pub IsMadeWritten : {W : Type 0} → (W → OutputView) → (Text → Type 0) → W → W → Result (Unit {0}) RunFault
+    → Type 0
 IsMadeWritten output Is old new (Ok done) = (text : Text) × Is text × WritesWhole (output old) (output new) text
-IsMadeWritten output Is old new (Err CannotWrite) = (text : Text) × Is text × StopsWriting (output old) (output new) text
+IsMadeWritten output Is old new (Err CannotWrite) =
+    (text : Text) × Is text × StopsWriting (output old) (output new) text
 IsMadeWritten output Is old new (Err NoMemory) = new ≡ old
 IsMadeWritten output Is old new (Err fault) = ⊥
 
@@ -166,16 +167,14 @@ module _ {R : Type 0} (input : R → InputView) where
   IsFresh file = ((view_of input file).returned ≡ []) × ((view_of input file).failed ≡ false)
 
   abbrev pub AreFresh : Readers R → Type 0
-  AreFresh files =
-      IsFresh files.map × IsFresh files.list × IsFresh files.certificate × IsFresh files.flows
+  AreFresh files = IsFresh files.map × IsFresh files.list × IsFresh files.certificate × IsFresh files.flows
 
-  -- What reading a file returns, by what its text is read as: a value or a fault, which all texts that the file may have
-  -- share. Or its reader failed after bytes that meet a condition, or an allocation failed. A fault has the file's name.
+  -- What reading a file returns, by what its text is read as: the value or the fault of all texts that the file may
+  -- have. Or its reader failed after bytes that meet a condition, or an allocation failed. A fault has the file's name.
   abbrev pub Gives : {A V : Type 0} → (Text → Result A BytesFault) → (A → V → Type 0) → (List ℕ → Type 0)
       → Option (Source R) → Option (Source R) → Result V RunFault → Type 0
   Gives {A} reading is stops old new (Ok value) = ((view_of input new).failed ≡ false)
-      × ((text : Text) → MayHave (view_of input new) text
-      → (a : A) × (reading text ≡ Ok a) × is a value)
+      × ((text : Text) → MayHave (view_of input new) text → (a : A) × (reading text ≡ Ok a) × is a value)
   Gives reading is stops old new (Err NoMemory) = (view_of input new).failed ≡ false
   Gives reading is stops old new (Err (CannotRead file)) = ((view_of input new).failed ≡ true)
       × (file.now ≡ name_in old) × stops (view_of input new).returned
@@ -192,24 +191,22 @@ module _ {R : Type 0} (input : R → InputView) where
 
   -- the name of the file, and its text
   abbrev pub IsText : Option (Source R) → Option (Source R) → Result (Bor Text × Vec ℕ) RunFault → Type 0
-  IsText old = IsRead {A = Text} Ok (λ text read. (text ≡ read.1.items) × (read.0.now ≡ name_in old))
-      (λ _. ⊤) old
+  IsText old = IsRead {A = Text} Ok (λ text read. (text ≡ read.1.items) × (read.0.now ≡ name_in old)) (λ _. ⊤) old
 
   -- the value that the text is read as
-  abbrev pub Decodes : {F A V : Type 0} → (F → BytesFault) → (Text → Result A F) → (V → A)
-      → Option (Source R) → Option (Source R) → Result V RunFault → Type 0
-  Decodes wrap reading model =
-      IsRead (λ text. in_file wrap (reading text)) (λ a value. a ≡ model value) (λ _. ⊤)
+  abbrev pub Decodes : {F A V : Type 0} → (F → BytesFault) → (Text → Result A F) → (V → A) → Option (Source R)
+      → Option (Source R) → Result V RunFault → Type 0
+  Decodes wrap reading model = IsRead (λ text. in_file wrap (reading text)) (λ a value. a ≡ model value) (λ _. ⊤)
 
   -- what is built from the messages of a File
   abbrev pub ReadsInto : {T : Type 0} → (List MessageView → T → Type 0) → Option (Source R) → Option (Source R)
       → Result T RunFault → Type 0
-  ReadsInto is_of =
-      IsRead (λ text. in_file InFlows (file_reading text)) is_of
+  ReadsInto is_of = IsRead (λ text. in_file InFlows (file_reading text)) is_of
       (λ bytes. (stop : ReadFault) × StopsReading bytes stop)
 
-  -- The input has returned these messages, whose number the state has, and there may be more. Nothing was read before them.
-  pub record AreReadSoFar (start : Option (Source R)) (messages : List MessageView) (p : ProgressView) (now : Option (Source R)) : Type 0 where
+  -- The input has returned these messages, whose number the state has, and there may be more. Nothing was read before.
+  pub record AreReadSoFar (start : Option (Source R)) (messages : List MessageView) (p : ProgressView)
+      (now : Option (Source R)) : Type 0 where
     pub read : IsReadTo no_templates 0 0 (view_of input start) messages p (view_of input now)
     pub going : p.state ≡ Going
     pub works : (view_of input now).failed ≡ false
@@ -217,15 +214,17 @@ module _ {R : Type 0} (input : R → InputView) where
     pub first : (view_of input start).returned ≡ []
 
   -- the result of a call for the message after these, and the state after the call
-  abbrev pub ReadsNext : Option (Source R) → List MessageView → Result (Option MessageView) RunFault → ProgressView → Option (Source R) → Type 0
-  ReadsNext start messages (Ok (Some m)) p now = AreReadSoFar start (messages ++ m ∷ []) p now × (length messages < 4294967295)
+  abbrev pub ReadsNext : Option (Source R) → List MessageView → Result (Option MessageView) RunFault → ProgressView
+      → Option (Source R) → Type 0
+  ReadsNext start messages (Ok (Some m)) p now =
+      AreReadSoFar start (messages ++ m ∷ []) p now × (length messages < 4294967295)
   ReadsNext start messages (Ok None) p now = ReadsInto (λ read all. read ≡ all) start now (Ok messages)
-  ReadsNext start messages (Err fault) p now = ReadsInto {T = List MessageView} (λ read all. read ≡ all) start now (Err fault)
+  ReadsNext start messages (Err fault) p now =
+      ReadsInto {T = List MessageView} (λ read all. read ≡ all) start now (Err fault)
 
   -- the files before this turn may have these texts
   abbrev pub AreTextsBefore : ℕ → Readers R → ByFile Text → Type 0
-  AreTextsBefore n files texts =
-      (role : Role) → turn role < n → MayHave (view_of input (at role files)) (at role texts)
+  AreTextsBefore n files texts = (role : Role) → turn role < n → MayHave (view_of input (at role files)) (at role texts)
 
   -- what reading the files before this turn returns, by what their texts may be read as
   abbrev pub GivesAll : {V : Type 0} → ℕ → (ByFile Text → Result V BytesFault → Type 0) → Readers R → Readers R
@@ -271,18 +270,23 @@ pub record HasRows (first : Table) (labels : Option Labelling) (rows : List RowV
   pub padded : has_columns now ≡ has_columns first
   pub lines : IsTable (column_count (is_some labels)) (labelled_row_lines labels rows) now
 
-pub record HasGroups (first : GroupsModel) (labels : Option Labelling) (rows : List RowView) (now : GroupsModel) : Type 0 where
+pub record HasGroups (first : GroupsModel) (labels : Option Labelling) (rows : List RowView)
+    (now : GroupsModel) : Type 0 where
   pub fields : now.fields ≡ first.fields
   pub groups : now.groups ≡ groups_of first.fields (label_where labels) rows
   pub few : record_count now.groups ≤ length rows
 
 -- the rows of the messages that pass a filter were added
-pub record HasPassing {T : Type 0} (has : T → Option Labelling → List RowView → T → Type 0) (first : Filtered T) (messages : List MessageView) (now : Filtered T) : Type 0 where
+pub record HasPassing {T : Type 0} (has : T → Option Labelling → List RowView → T → Type 0) (first : Filtered T)
+    (messages : List MessageView) (now : Filtered T) : Type 0 where
   pub filter : now.filter ≡ first.filter
   pub labels : now.labels ≡ first.labels
-  pub rows : has first.taker (labelling_found first.labels) (passing_rows first.filter.now (labelling_found first.labels) messages) now.taker
+  pub rows : has first.taker (labelling_found first.labels)
+      (passing_rows first.filter.now (labelling_found first.labels) messages) now.taker
   pub few : length (rows_of_messages messages) ≤ 131070 * length messages
 
 -- a report can start with this value
-abbrev pub StartsReport : {T : Type 0} → (T → Option Labelling → List RowView → T → Type 0) → Option LabelFile → T → Type 0
-StartsReport has source first = (labels : Option Labelling) → is_some labels ≡ is_some source → has first labels [] first
+abbrev pub StartsReport : {T : Type 0} → (T → Option Labelling → List RowView → T → Type 0) → Option LabelFile → T
+    → Type 0
+StartsReport has source first =
+    (labels : Option Labelling) → is_some labels ≡ is_some source → has first labels [] first

@@ -19,7 +19,7 @@ use Rattle.flowlabel.specs.ByFile.{ByFile, turn}
 use Rattle.flowlabel.specs.ByFile as role
 use Rattle.flowlabel.specs.declared.bytes_fault.BytesFault.TheVariants.{Map as InMap, List as InList, Certificate as InCertificate, Check as InCheck}
 use Rattle.flowlabel.specs.Output.{BytesFault, IsOutput, IsVerdict, Outcome, Prints, Then, minimal_text}
-use Rattle.flowlabel.specs.Reports.{check_reading, in_file, in_text, verdict}
+use Rattle.flowlabel.specs.Reports.{check_reading, in_file, verdict}
 use Rattle.flowlabel.specs.Request.{Check, Text}
 use Rattle.flowlabel.proofs.Outcomes.{CertificateThen, ListThen}
 use Rattle.flowlabel.proofs.MadeLemmas.{decoded, faulty, list_read, makes, map_read, text_read, then_in, then_is}

@@ -1,4 +1,4 @@
-use Rattle.std.proofs.Common.{◌∙◌, Ok, None, ap, arith, sym}
+use Rattle.std.proofs.Common.{◌∙◌, Ok, ap, arith}
 use Rattle.ipfix_read.specs.Messages.{file_reading}
 use Rattle.flow_rows.specs.Counts.{counts_of}
 use Rattle.pmap_print.specs.Reports.{info_text}

@@ -5,7 +5,7 @@ use Rattle.std.specs.List.{flat_map}
 use Rattle.std.proofs.lemmas.List.{map-append}
 use Rattle.std.proofs.lemmas.List.Elements.{All-cons, All-weaker, filter-append}
 use Rattle.ipfix_read.specs.Message.{MessageView}
-use Rattle.ipfix_read.specs.Messages.{file_reading}
+use Rattle.ipfix_read.specs.declared.fault.ReadFault.{ReadFault}
 use Rattle.ipfix_read.specs.Laws.{CanFollow, File, IsRead, IsSelfContained, joined}
 use Rattle.flow_rows.specs.Counts.{counts_of, rows_of_messages}
 use Rattle.flow_rows.specs.Elements.{RowView}
@@ -15,19 +15,22 @@ use Rattle.flow_uniq.specs.declared.field.KeyField.{KeyField}
 use Rattle.flow_uniq.specs.Groups.{GroupModel, groups_of, shown_groups}
 use Rattle.flow_uniq.specs.Laws.{merged}
 use Rattle.flow_uniq.proofs.MergedParts.{merged_are_all}
-use Rattle.label_lookup.specs.Labelling.{Labelling, label_where, labelling_of_list, labelling_of_map}
-use Rattle.pmap_text.specs.Reading.{list_reading, map_reading}
+use Rattle.label_lookup.specs.Labelling.{Labelling, label_where}
+use Rattle.pmap_text.specs.Reading.{◌>>=◌}
 use Rattle.pmap_print.specs.Reports.{groups_text, info_text, title_line}
 use Rattle.pmap_print.specs.Table.{Line, table_text}
 use Rattle.flowlabel.specs.ByFile.{ByFile, with_at}
 use Rattle.flowlabel.specs.ByFile as role
-use Rattle.flowlabel.specs.declared.bytes_fault.BytesFault.TheVariants.{Map as InMap, List as InList, Flows as InFlows}
+use Rattle.flowlabel.specs.declared.bytes_fault.BytesFault.TheVariants.{Flows as InFlows}
 use Rattle.flowlabel.specs.declared.command.Command.TheVariants.{Cat, Info, Label, Rows, Uniq}
 use Rattle.flowlabel.specs.declared.command.LabelFile.{LabelFile}
 use Rattle.flowlabel.specs.declared.command.LabelFile.TheVariants.{Map, List as Prefixes}
 use Rattle.flowlabel.specs.Joined.{IsPutTogether}
 use Rattle.flowlabel.specs.Output.{BytesFault, FlowsThen, IsOutput, Outcome, Prints, Then, labelled_row_lines}
+use Rattle.flowlabel.specs.Reports.{in_file, source_reading}
 use Rattle.flowlabel.specs.Request.{Text}
+use Rattle.flowlabel.proofs.MadeLemmas.{both, report_after, report_then}
+use Rattle.flowlabel.proofs.Outcomes.{printed_of}
 use Rattle.flowlabel.proofs.RowLemmas.{line_of_row, lines_are}
 use Rattle.flowlabel.proofs.run.joined.output_of_joined_file.Goals as goal
 
@@ -48,35 +51,26 @@ changed_parts {B = B} f part (file ∷ files) = ap (λ (l : List B). f (part fil
 text_is : (out text : Text) → ◌≡◌ {A = Outcome} (Ok out) (Ok text) → out ≡ text
 text_is out text e = cc
 
-module _ (rest : Option Labelling → List MessageView → Outcome → Type 0) (whole : File) (read : IsRead whole) (texts : ByFile Text) (out : Text) where
-  -- the labelling of the outcome over a File, under which other Files are read too
-  record UnderLabels (labels : Option LabelFile) : Type 0 where
-    given : Option Labelling
-    outcome : rest given whole.1 (Ok out)
-    others : (file : File) (text : Text) → IsRead file → rest given file.1 (Ok text) → FlowsThen rest labels (with_at role.Flows file.0 texts) (Ok text)
+-- labels don't come from a File
+same_source : (source : Option LabelFile) (flows : Text) (texts : ByFile Text) → source_reading source (with_at role.Flows flows texts) ≡ source_reading source texts
+same_source None flows texts = refl
+same_source (Some (Map file)) flows texts = refl
+same_source (Some (Prefixes file)) flows texts = refl
 
-  there : (l : Option Labelling) (file : File) (text : Text) → IsRead file → rest l file.1 (Ok text) → Then InFlows (rest l) (file_reading file.0) (Ok text)
-  there l file text is r = subst (λ (m : Result (List MessageView) _). Then InFlows (rest l) m (Ok text)) (sym is) r
+-- the outcome over a File that is read, by the labels
+over_file : (rest : Option Labelling → List MessageView → Outcome → Type 0) (labels : Option LabelFile) (texts : ByFile Text) (file : File) → IsRead file
+    → FlowsThen rest labels (with_at role.Flows file.0 texts) ≡ Then (λ f. f) (λ l. rest l file.1) (source_reading labels texts)
+over_file rest labels texts file read =
+    report_then rest labels given
+    ∙ ap (λ (source : Result (Option Labelling) BytesFault). Then (λ f. f) (both rest) (source >>= (λ l. report_after l given))) (same_source labels file.0 texts)
+    ∙ by (source_reading labels texts)
+  where
+    given : ByFile Text
+    given = with_at role.Flows file.0 texts
 
-  here : (l : Option Labelling) → Then InFlows (rest l) (file_reading whole.0) (Ok out) → rest l whole.1 (Ok out)
-  here l is = subst (λ (m : Result (List MessageView) _). Then InFlows (rest l) m (Ok out)) read is
-
-  module _ {F A : Type 0} (in_file : F → BytesFault) (of : A → Labelling) where
-    abbrev Over : Result A F → Text → Text → Type 0
-    Over labels flows text = Then in_file (λ value. Then InFlows (rest (Some (of value))) (file_reading flows)) labels (Ok text)
-
-    given_labels : (labels : Result A F) → Over labels whole.0 out
-        → (l : Option Labelling) × rest l whole.1 (Ok out)
-        × ((file : File) (text : Text) → IsRead file → rest l file.1 (Ok text) → Over labels file.0 text)
-    given_labels (Ok value) is = (Some (of value), here (Some (of value)) is, there (Some (of value)))
-    given_labels (Err fault) is = absurd (cc)
-
-  under : (labels : Option LabelFile) → FlowsThen rest labels (with_at role.Flows whole.0 texts) (Ok out) → UnderLabels labels
-  under None is = record { given = None; outcome = here None is; others = there None }
-  under (Some (Map file)) is =
-      let l = given_labels InMap labelling_of_map (map_reading texts.map) is in record { given = l.0; outcome = l.1; others = l.2 }
-  under (Some (Prefixes file)) is =
-      let l = given_labels InList labelling_of_list (list_reading texts.list) is in record { given = l.0; outcome = l.1; others = l.2 }
+    by : (source : Result (Option Labelling) BytesFault) → Then (λ f. f) (both rest) (source >>= (λ l. report_after l given)) ≡ Then (λ f. f) (λ l. rest l file.1) source
+    by (Ok l) = ap (λ (messages : Result (List MessageView) ReadFault). Then (λ f. f) (both rest) (in_file InFlows messages >>= (λ m. Ok (l, m)))) read
+    by (Err fault) = refl
 
 -- ---- the commands
 
@@ -101,23 +95,24 @@ module _ (first : File) (later : List File) (follow : CanFollow first later) (te
       ∙ of_parts (filter passes) refl (filter-append passes) (λ (file : File). rows_of_messages file.1) files
 
   module _ (rest : Option Labelling → List MessageView → Outcome → Type 0) (labels : Option LabelFile) (is : FlowsThen rest labels (with_at role.Flows whole.0 texts) (Ok out)) where
-    abbrev whole_read : IsRead whole
-    whole_read = (joined_file_adds_up first later follow).0
+    found : (l : Option Labelling) × (source_reading labels texts ≡ Ok l) × rest l whole.1 (Ok out)
+    found =
+        printed_of (λ f. f) (λ l. rest l whole.1) (source_reading labels texts) out
+        (subst (λ (P : Outcome → Type 0). P (Ok out)) (over_file rest labels texts whole (joined_file_adds_up first later follow).0) is)
 
-    abbrev found : UnderLabels rest whole whole_read texts out labels
-    found = under rest whole whole_read texts out labels is
-
-    each_prints : (text : File → Text) → ((file : File) → rest found.given file.1 (Ok (text file)))
+    each_prints : (text : File → Text) → ((file : File) → rest found.0 file.1 (Ok (text file)))
         → All (λ file. FlowsThen rest labels (with_at role.Flows file.0 texts) (Ok (text file))) files
     each_prints text prints =
         All-weaker IsRead (λ file. FlowsThen rest labels (with_at role.Flows file.0 texts) (Ok (text file)))
-        (λ file read. found.others file (text file) read (prints file)) files all_read
+        (λ file read.
+        subst (λ (P : Outcome → Type 0). P (Ok (text file)))
+        (sym (over_file rest labels texts file read ∙ ap (Then (λ f. f) (λ l. rest l file.1)) found.1)) (prints file)) files all_read
 
   info_output : (flows : Bor Text) → IsOutput (Info flows) (with_at role.Flows whole.0 texts) (Ok out) → IsPutTogether (Info flows) texts files out
   info_output flows is =
       let rest : Option Labelling → List MessageView → Outcome → Type 0 = λ l messages. Prints (info_text (counts_of messages)) in (
         each_prints rest None is (λ file. info_text (counts_of file.1)) (λ file. refl),
-        text_is out (info_text (counts_of whole.1)) (found rest None is).outcome ∙ ap info_text (joined_file_adds_up first later follow).2,
+        text_is out (info_text (counts_of whole.1)) (found rest None is).2 ∙ ap info_text (joined_file_adds_up first later follow).2,
       )
 
   rows_output : (labels : Option LabelFile) (condition : Condition) (columns : Bool) (flows : Bor Text)
@@ -126,7 +121,7 @@ module _ (first : File) (later : List File) (follow : CanFollow first later) (te
       let printed : Option Labelling → List RowView → Text = λ l rows. table_text columns (labelled_row_lines l rows) in
       let rest : Option Labelling → List MessageView → Outcome → Type 0 =
       λ l messages. Prints (printed l (passing condition l (rows_of_messages messages))) in
-      let l : Option Labelling = (found rest labels is).given in
+      let l : Option Labelling = (found rest labels is).0 in
       let each : (rows : List RowView) → map (line_of_row l) rows ≡ drop 1 (labelled_row_lines l rows) = λ rows. ap (drop 1) (sym (lines_are l rows)) in
       let lines : map (line_of_row l) (shown condition l whole) ≡ flat_map (λ file. drop 1 (labelled_row_lines l (shown condition l file))) files =
       ap (map (line_of_row l)) (shown_are condition l) ∙ of_parts (map (line_of_row l)) refl (map-append (line_of_row l)) (shown condition l) files
@@ -134,7 +129,7 @@ module _ (first : File) (later : List File) (follow : CanFollow first later) (te
         l,
         (
           each_prints rest labels is (λ file. printed l (shown condition l file)) (λ file. refl),
-          text_is out (printed l (shown condition l whole)) (found rest labels is).outcome
+          text_is out (printed l (shown condition l whole)) (found rest labels is).2
               ∙ ap (table_text columns) (lines_are l (shown condition l whole) ∙ ap (λ (own : List Line). title_line (is_some l) ∷ own) lines),
         ),
       )
@@ -147,7 +142,7 @@ module _ (first : File) (later : List File) (follow : CanFollow first later) (te
       let printed : List GroupModel → Text = λ groups. groups_text fields groups columns in
       let rest : Option Labelling → List MessageView → Outcome → Type 0 =
       λ l messages. Prints (printed (grouped l (passing condition l (rows_of_messages messages)))) in
-      let l : Option Labelling = (found rest labels is).given in
+      let l : Option Labelling = (found rest labels is).0 in
       let groups : grouped l (shown condition l whole) ≡ shown_groups sorted (merged (flat_map (λ file. grouped l (shown condition l file)) files)) =
       ap (grouped l) (shown_are condition l ∙ sym (changed_parts (λ (rows : List RowView). rows) (shown condition l) files))
       ∙ merged_are_all fields (label_where l) sorted (map (shown condition l) files)
@@ -155,7 +150,7 @@ module _ (first : File) (later : List File) (follow : CanFollow first later) (te
         l,
         (
           each_prints rest labels is (λ file. printed (grouped l (shown condition l file))) (λ file. refl),
-          text_is out (printed (grouped l (shown condition l whole))) (found rest labels is).outcome ∙ ap printed groups,
+          text_is out (printed (grouped l (shown condition l whole))) (found rest labels is).2 ∙ ap printed groups,
         ),
       )
 

@@ -1,5 +1,5 @@
 use Rattle.std.proofs.Common.{Ok, Some, ap, arith, refl}
-use Rattle.flowlabel.proofs.MadeLemmas.{none_read, then_err, then_ok}
+use Rattle.flowlabel.proofs.MadeLemmas.{then_err, then_ok}
 use Rattle.flowlabel.proofs.run.labels.read_labels.Goals as goal
 
 pub returns-in_err-of_file-in-Some : goal.returns-in_err-of_file-in-Some

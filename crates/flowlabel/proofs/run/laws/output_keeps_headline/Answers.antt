@@ -32,7 +32,7 @@ use Rattle.pmap_print.specs.Reports.{group_fields, group_titles, info_text, part
 use Rattle.pmap_print.specs.Table.{Line, table_text}
 use Rattle.flowlabel.specs.Headline.{GivesLabels, IsSameUnder, PrintsEachOnce, PrintsGroups, PrintsList, PrintsRows, row_columns}
 use Rattle.flowlabel.specs.Output.{BytesFault, IsVerdict, IsOutput, LabelsThen, Outcome, Prints, Then, FlowsThen, label_text, labelled_row_lines, minimal_text}
-use Rattle.flowlabel.proofs.Outcomes.{CertificateThen, ListThen, PrintsCompact, PrintsMinimal, PrintsRuns, ReportsOf, report_of_groups, report_of_rows, checked}
+use Rattle.flowlabel.proofs.Outcomes.{CertificateThen, ListThen, PrintsCompact, PrintsMinimal, PrintsRuns, ReportsOf, printed_of, report_of_groups, report_of_rows, checked}
 use Rattle.std.specs.Borrow.{Bor}
 use Rattle.flowlabel.specs.Reports.{passing_rows}
 use Rattle.flowlabel.specs.ByFile.{ByFile}
@@ -42,12 +42,6 @@ use Rattle.flowlabel.specs.declared.command.LabelFile.TheVariants.{Map, List as 
 use Rattle.flowlabel.specs.declared.command.Shrunk.TheVariants as shrunk
 use Rattle.flowlabel.specs.declared.bytes_fault.BytesFault.TheVariants.{Map as InMap, List as InList, Certificate as InCertificate, Flows as InFlows}
 use Rattle.flowlabel.proofs.run.laws.output_keeps_headline.Goals as goal
-
--- a text comes of the value that a file's text is read as
-printed_of : {F A : Type 0} (in_file : F → BytesFault) (rest : A → Outcome → Type 0) (reading : Result A F) (out : List ℕ)
-    → Then in_file rest reading (Ok out) → (value : A) × (reading ≡ Ok value) × rest value (Ok out)
-printed_of in_file rest (Ok value) out is = (value, refl, is)
-printed_of in_file rest (Err fault) out is = cc
 
 -- a text that `check` prints comes of a certificate without a fault
 faultless : (found : Option CheckFault) (count : ℕ) (out : List ℕ) → Ok out ≡ checked found count → (found ≡ None) × (out ≡ minimal_text count)
