@@ -108,7 +108,8 @@ longest-entry W a ps None none =
 longest-entry W a ps (Some t) (p, longest, is) =
     ap Some (sym is)
     ∙ sym (ap (option_map (λ (p : Prefix). p.label)) (ap (best (reaches W a)) longest.list
-    ∙ best-is (reaches W a) longest.before p longest.following (and_from (nat_le p.bits W) (covers W p.bits a p) (le-leb p.bits W longest.covers.fits) (covers-from W p.bits a p longest.covers refl))
+    ∙ best-is (reaches W a) longest.before p longest.following
+    (and_from (nat_le p.bits W) (covers W p.bits a p) (le-leb p.bits W longest.covers.fits) (covers-from W p.bits a p longest.covers refl))
     (λ k d below e. longest.earlier k d below (reaches-true W a (slice_index_or longest.before k d) e))
     (λ k d below e. longest.later k d below (reaches-true W a (slice_index_or longest.following k d) e))))
 

@@ -445,8 +445,7 @@ none_follows stopped [] end = refl
 none_follows true (byte ∷ bytes) end = let none : 1 + length bytes ≡ 0 = grind (arith, nat_tests, common_steps) in absurd (omega (arith, none))
 none_follows false (byte ∷ bytes) end = cc
 
-reports : (new : InputView) (text bytes : List ℕ) (left : Option (List ℕ)) → new.left ≡ left → Consumes (Some text) left bytes → new.returned ≡ bytes
-    → MayHave new text
+reports : (new : InputView) (text bytes : List ℕ) (left : Option (List ℕ)) → new.left ≡ left → Consumes (Some text) left bytes → new.returned ≡ bytes → MayHave new text
 reports new text bytes None same gone all = absurd gone
 reports new text bytes (Some rest) same gone all = (
   rest,
@@ -477,8 +476,7 @@ run_fault output command fault had same = absurd had.gives
 pub made_written : {R W : Type 0} {input : R → InputView} (output : W → OutputView) (command : Command) {old new : Readers R} {made : Made}
     → IsMade input (IsOutput command) old new (Ok made)
     → ((texts : ByFile Text) (out : Text) → IsOutput command texts (Ok out) → IsHeadline command texts out)
-    → (writer writer' : W) (result : Result (Unit {0}) RunFault) → IsMadeWritten output (IsTextOf made) writer writer' result
-    → EndsAs input output command old new writer writer' result
+    → (writer writer' : W) (result : Result (Unit {0}) RunFault) → IsMadeWritten output (IsTextOf made) writer writer' result → EndsAs input output command old new writer writer' result
 made_written output command had headline writer writer' (Ok done) (out, is_text, writes) = (
   out,
   λ texts given. let is = (had.gives.1 texts (λ o low. given o)).1 out is_text in (is, headline texts out is),

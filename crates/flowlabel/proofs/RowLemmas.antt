@@ -1,7 +1,6 @@
 -- The lines of rows, one by one.
 use Rattle.std.proofs.Common.{append_assoc, ◌≡◌, ◌∙◌, ◌≤◌, Bool, true, false, arith, cond, drop, length, length-append, List, [], ◌∷◌, ◌++◌, Option, Some, None, is_some, map, refl, subst, sym, ap}
 use Rattle.std.specs.Prelude.{Err, Ok, OnOk, Result, option_map}
-use Rattle.std.specs.Borrow.{Bor}
 use Rattle.std.specs.List.{flat_map}
 use Rattle.std.proofs.lemmas.Grind.{flat_map-append}
 use Rattle.std.proofs.lemmas.List.{append-nil, map-append}
@@ -15,9 +14,9 @@ use Rattle.flow_filter.specs.Condition.{Condition, passing, row_passes}
 use Rattle.pmap_print.specs.declared.row_labels.RowLabels.{RowLabels}
 use Rattle.pmap_print.specs.Reports.{label_texts, row_line, title_line}
 use Rattle.pmap_print.specs.Table.{Line}
-use Rattle.label_lookup.specs.Labelling.{Labelling, StretchModel, label_where}
+use Rattle.label_lookup.specs.Labelling.{Labelling, label_where}
 use Rattle.flowlabel.specs.Output.{labelled_row_lines, row_labels}
-use Rattle.flowlabel.specs.Reports.{HasPassing, labelling_found, passing_rows}
+use Rattle.flowlabel.specs.Reports.{HasPassing, labelling_found}
 use Rattle.flowlabel.specs.declared.run.filtered.Filtered.{Filtered}
 
 -- the line of a row, with the labels of its addresses if there is a labelling
@@ -25,7 +24,8 @@ abbrev pub line_of_row : Option Labelling → RowView → Line
 line_of_row labels row = row_line row (option_map (λ l. row_labels l row) labels)
 
 -- the lines of rows are the header and that of each row
-pub lines_are : (labels : Option Labelling) (shown : List RowView) → labelled_row_lines labels shown ≡ title_line (is_some labels) ∷ map (line_of_row labels) shown
+pub lines_are : (labels : Option Labelling) (shown : List RowView)
+    → labelled_row_lines labels shown ≡ title_line (is_some labels) ∷ map (line_of_row labels) shown
 lines_are None shown = refl
 lines_are (Some l) [] = refl
 lines_are (Some l) (row ∷ shown) = ap (λ (lines : List Line). title_line true ∷ line_of_row (Some l) row ∷ drop 1 lines) (lines_are (Some l) shown)
@@ -98,9 +98,7 @@ few_passing condition labels rows =
 -- the rows of one more message that pass are added
 module _ {T : Type 0} (has : T → Option Labelling → List RowView → T → Type 0) (first : Filtered T) (messages : List MessageView) (now : Filtered T) (is : HasPassing has first messages now) where
   pub passing_before : has first.taker (labelling_found now.labels) (passing now.filter.now (labelling_found now.labels) (rows_of_messages messages)) now.taker
-  passing_before =
-      subst (λ (f : Bor Condition). has first.taker (labelling_found now.labels) (passing_rows f.now (labelling_found now.labels) messages) now.taker) (sym is.filter)
-      (subst (λ (l : Option (Bor StretchModel)). has first.taker (labelling_found l) (passing_rows first.filter.now (labelling_found l) messages) now.taker) (sym is.labels) is.rows)
+  passing_before = rw (is.filter, is.labels) is.rows
 
   pub passing_more : (m : MessageView) (taker : T) → length (rows_of_sets m.sets) ≤ 131070
       → has first.taker (labelling_found now.labels) (passing now.filter.now (labelling_found now.labels) (rows_of_messages messages ++ rows_of_sets m.sets)) taker
@@ -109,10 +107,18 @@ module _ {T : Type 0} (has : T → Option Labelling → List RowView → T → T
     filter = is.filter;
     labels = is.labels;
     rows =
-        subst (λ (l : Option (Bor StretchModel)). has first.taker (labelling_found l) (passing_rows first.filter.now (labelling_found l) (messages ++ m ∷ [])) taker) is.labels
-        (subst (λ (f : Bor Condition). has first.taker (labelling_found now.labels) (passing_rows f.now (labelling_found now.labels) (messages ++ m ∷ [])) taker) is.filter
-        (subst (λ (rows : List RowView). has first.taker (labelling_found now.labels) (passing now.filter.now (labelling_found now.labels) rows) taker) (rows_more messages m) holds));
-    few = omega (arith, is.few, few, ap length (rows_more messages m), length-append (rows_of_messages messages) (rows_of_sets m.sets), length-append messages (m ∷ []));
+        rw (← is.filter, ← is.labels)
+        (subst (λ (rows : List RowView). has first.taker (labelling_found now.labels) (passing now.filter.now (labelling_found now.labels) rows) taker)
+        (rows_more messages m) holds);
+    few =
+        omega (
+          arith,
+          is.few,
+          few,
+          ap length (rows_more messages m),
+          length-append (rows_of_messages messages) (rows_of_sets m.sets),
+          length-append messages (m ∷ []),
+        );
   }
 
 pub on_ok_both : {T E : Type 0} (P Q : Type 0) (r : Result T E) → OnOk r P → OnOk r Q → OnOk r (P × Q)

@@ -62,8 +62,7 @@ none_so_far input file p at (none, works) =
     record { read = calls_start no_templates 0 0 (view_of input file) p at; going = at.3; works = works; name = refl; first = none }
 
 -- the messages so far are read, and this holds of them
-pub record AreReadInto {R : Type 0} (input : R → InputView) (Has : List MessageView → Type 0) (start : Option (Source R)) (p : ProgressView)
-    (now : Option (Source R)) : Type 0 where
+pub record AreReadInto {R : Type 0} (input : R → InputView) (Has : List MessageView → Type 0) (start : Option (Source R)) (p : ProgressView) (now : Option (Source R)) : Type 0 where
   pub messages : List MessageView
   pub so_far : AreReadSoFar input start messages p now
   pub is : Has messages
@@ -95,13 +94,15 @@ module _ (joins : CallsJoinFile) {R : Type 0} (input : R → InputView) (start :
   pub ends : ReadsInput (view_of input now) (view_of input then) (AnswersNext p (Ok None) p' (has_ended (view_of input then)))
       → (view_of input then).failed ≡ false → ReadsInto input (λ read all. read ≡ all) start then (Ok messages)
   ends answers works =
-      let (bytes, gives, (end, reading)) = joins _ _ _ (view_of input start) (view_of input now) (view_of input then) messages p p' (Ok None) so_far.read answers in
+      let (bytes, gives, (end, reading)) = joins _ _ _ (view_of input start) (view_of input now) (view_of input then)
+      messages p p' (Ok None) so_far.read answers in
       record {
         reads = (bytes, gives, tt);
         gives = (
           works,
           λ text may.
-              (messages, ap (λ (r : Result (List MessageView) ReadFault). in_file InFlows r) (ap file_reading (text_is (view_of input then) text bytes (all_read so_far.first gives) end may) ∙ reading), refl),
+              let whole = ap file_reading (text_is (view_of input then) text bytes (all_read so_far.first gives) end may) ∙ reading in
+              (messages, ap (λ (r : Result (List MessageView) ReadFault). in_file InFlows r) whole, refl),
         );
       }
 

@@ -161,6 +161,12 @@ abbrev pub faults_of : {V : Type 0} → (Result V BytesFault → Type 0) → Out
 faults_of Is (Ok text) = ⊥
 faults_of Is (Err fault) = Is (Err fault)
 
+-- no file is touched but that of the labels, if there is one
+abbrev pub AreOthersKept : {R : Type 0} → Option LabelFile → Readers R → Readers R → Type 0
+AreOthersKept None old new = new ≡ old
+AreOthersKept (Some (Map file)) old new = new ≡ record old { map = new.map }
+AreOthersKept (Some (Prefixes file)) old new = new ≡ record old { list = new.list }
+
 module _ {R : Type 0} (input : R → InputView) where
   -- nothing of the file is read yet, and its reader has not failed
   abbrev pub IsFresh : Option (Source R) → Type 0

@@ -1,7 +1,7 @@
 //! The labels of a map or a list.
-ghost use Rattle.std.specs.Prelude.{◌≡◌, IfOk, option_map};
+ghost use Rattle.std.specs.Prelude.{◌≡◌, IfOk, Some, option_map};
 ghost use Rattle.label_lookup.specs.Labelling.{labelling_of_stretches};
-ghost use Rattle.flowlabel.specs.Reports.{AreFresh, AreLabels, AreLabelsOf, labelling_read, table_read};
+ghost use Rattle.flowlabel.specs.Reports.{AreFresh, AreLabels, AreLabelsOf, AreOthersKept, labelling_read, table_read};
 
 use crate::command::LabelFile;
 use crate::fault::RunFault;
@@ -36,7 +36,8 @@ impl LabelsRead {
         hashing: KeyHashing,
     ) -> Result<LabelsRead, RunFault<'a>>
         requires { AreFresh R.input files.old }
-        ensures { AreLabels R.input labels.entry files.old files.new result }
+        ensures read { AreLabels R.input labels.entry files.old files.new result }
+        ensures kept { AreOthersKept (Some labels.entry) files.old files.new }
     {
         match labels {
             LabelFile::Map(_) => Ok(LabelsRead::Map(read_map(alloc, &mut files.map, hashing)?)),
@@ -73,7 +74,8 @@ pub fn read_labels<'a, R: Input>(
     hashing: KeyHashing,
 ) -> Result<Option<LabelsRead>, RunFault<'a>>
     requires { AreFresh R.input files.old }
-    ensures { AreLabelsOf R.input source.entry files.old files.new result }
+    ensures read { AreLabelsOf R.input source.entry files.old files.new result }
+    ensures kept { AreOthersKept source.entry files.old files.new }
 {
     match source {
         Some(file) => Ok(Some(LabelsRead::of_file(alloc, file, files, hashing)?)),

@@ -6,12 +6,12 @@ use Rattle.flowlabel.proofs.run.cat.output.Goals as goal
 pub returns-in_err-labels : goal.returns-in_err-labels
 returns-in_err-labels g c =
     faulty (λ texts. PrintsRuns) (λ texts given. labels_then PrintsRuns c.args.source texts)
-    c.in_err-labels.ensures (omega arith) (λ texts l fault (out, runs, is). cc) c.from_residual.ensures.1
+    c.in_err-labels.ensures.read (omega arith) (λ texts l fault (out, runs, is). cc) c.from_residual.ensures.1
 
 pub returns-in_err-runs : goal.returns-in_err-runs
-returns-in_err-runs g c = no_memory_left c.in_ok-labels.ensures (omega arith) c.from_residual-in_err-runs.ensures.1
+returns-in_err-runs g c = no_memory_left c.in_ok-labels.ensures.read (omega arith) c.from_residual-in_err-runs.ensures.1
 
 pub returns : goal.returns
 returns g c =
-    makes (λ texts. PrintsRuns) (λ texts given. labels_then PrintsRuns c.args.source texts) c.in_ok-labels.ensures (omega arith)
+    makes (λ texts. PrintsRuns) (λ texts given. labels_then PrintsRuns c.args.source texts) c.in_ok-labels.ensures.read (omega arith)
     (λ texts l same. (c.in_ok-runs.ensures.0, λ out is. rw same (out, c.in_ok-runs.ensures.1 out is, refl)))

@@ -26,7 +26,8 @@ use Rattle.flowlabel.proofs.MadeLemmas.{decoded, faulty, list_read, makes, map_r
 use Rattle.flowlabel.proofs.run.check.output.Goals as goal
 
 -- the faults of a check are of the certificate
-of_verdict : (found : Option TextFault) (count : ℕ) (fault : BytesFault) → Then (λ f. f) Prints (verdict found count) (Err fault) → role_of fault ≡ role.Certificate
+of_verdict : (found : Option TextFault) (count : ℕ) (fault : BytesFault) → Then (λ f. f) Prints (verdict found count) (Err fault)
+    → role_of fault ≡ role.Certificate
 of_verdict None count fault is = cc
 of_verdict (Some (text.Certificate own)) count fault is = let same : fault ≡ InCertificate own = cc in ap role_of same
 of_verdict (Some (text.Check own)) count fault is = let same : fault ≡ InCheck own = cc in ap role_of same
@@ -40,7 +41,8 @@ over_text : (m : MapModel) (l : ListModel) (reading : Result CertificateModel Ce
 over_text m l (Err fault) = refl
 over_text m l (Ok c) = by (first_fault m l c)
   where
-    by : (found : Option CheckFault) → (λ (outcome : Outcome). outcome ≡ option_map_or (λ fault. Err (InCheck fault)) found (Ok (minimal_text (length l.prefixes))))
+    by : (found : Option CheckFault)
+        → (λ (outcome : Outcome). outcome ≡ option_map_or (λ fault. Err (InCheck fault)) found (Ok (minimal_text (length l.prefixes))))
         ≡ Then (λ f. f) Prints (verdict (option_map text.Check found) (length l.prefixes))
     by None = refl
     by (Some fault) = refl

@@ -11,11 +11,11 @@ use Rattle.flowlabel.proofs.run.filtered.read_rows.Goals as goal
 
 pub returns-in_err-read : goal.returns-in_err-read
 returns-in_err-read g c =
-    then_err (λ texts labels. report_after labels texts) c.in_err-read.ensures (omega arith) (λ texts given. refl)
+    then_err (λ texts labels. report_after labels texts) c.in_err-read.ensures.read (omega arith) (λ texts given. refl)
     (λ texts labels fault fails. omega (arith, ap turn (flows_last labels (file_reading texts.flows) fault fails))) c.from_residual.ensures.1
 
 pub returns-in_err-index : goal.returns-in_err-index
-returns-in_err-index g c = no_memory_left c.in_ok-read.ensures (omega arith) c.from_residual-in_err-index.ensures.1
+returns-in_err-index g c = no_memory_left c.in_ok-read.ensures.read (omega arith) c.from_residual-in_err-index.ensures.1
 
 pub add_messages-requires : goal.add_messages-requires
 add_messages-requires g c =
@@ -24,11 +24,11 @@ add_messages-requires g c =
     record {
       fresh =
           subst (λ (file : Option (Source g.row.R.Denot)). IsFresh g.R.Input.input file)
-          (sym (c.in_ok-read.ensures.kept role.Flows (omega arith))) c.requires.fresh.3;
+          (sym (c.in_ok-read.ensures.read.kept role.Flows (omega arith))) c.requires.fresh.3;
       none = record {
         filter = refl;
         labels = refl;
-        rows = c.requires.none (labelling_found c.as_ref.result) (ap is_some is ∙ source_some c.args.source c.in_ok-read.ensures);
+        rows = c.requires.none (labelling_found c.as_ref.result) (ap is_some is ∙ source_some c.args.source c.in_ok-read.ensures.read);
         few = omega arith;
       };
     }
@@ -36,8 +36,8 @@ add_messages-requires g c =
 pub returns-in_err-add_messages : goal.returns-in_err-add_messages
 returns-in_err-add_messages g c =
     then_err (λ texts messages. Ok (option_map labelling_read c.in_ok-read.read, messages))
-    (flows_read c.in_ok-read.ensures (omega arith) c.in_err-add_messages.ensures) (omega arith)
-    (λ texts given. report_is c.args.source c.in_ok-read.ensures c.add_messages.new.flows texts (λ o low. given o))
+    (flows_read c.in_ok-read.ensures.read (omega arith) c.in_err-add_messages.ensures) (omega arith)
+    (λ texts given. report_is c.args.source c.in_ok-read.ensures.read c.add_messages.new.flows texts (λ o low. given o))
     (λ texts messages fault is. cc) c.from_residual-in_err-add_messages.ensures.1
 
 pub returns : goal.returns
@@ -47,8 +47,8 @@ returns g c =
     let is : labelling_found c.as_ref.result ≡ option_map labelling_read c.in_ok-read.read =
     found_is c.as_ref.result c.in_ok-index.index (option_map labelling_read c.in_ok-read.read) c.as_ref.ensures.value c.in_ok-index.ensures in
     then_ok (λ texts messages. Ok (option_map labelling_read c.in_ok-read.read, messages))
-    (flows_read c.in_ok-read.ensures (omega arith) c.in_ok-add_messages.ensures) (omega arith)
-    (λ texts given. report_is c.args.source c.in_ok-read.ensures c.add_messages.new.flows texts (λ o low. given o (omega (arith, low))))
+    (flows_read c.in_ok-read.ensures.read (omega arith) c.in_ok-add_messages.ensures) (omega arith)
+    (λ texts given. report_is c.args.source c.in_ok-read.ensures.read c.add_messages.new.flows texts (λ o low. given o (omega (arith, low))))
     (λ texts messages passed. (
       (option_map labelling_read c.in_ok-read.read, messages),
       refl,

@@ -52,7 +52,8 @@ text_is : (out text : Text) → ◌≡◌ {A = Outcome} (Ok out) (Ok text) → o
 text_is out text e = cc
 
 -- labels don't come from a File
-same_source : (source : Option LabelFile) (flows : Text) (texts : ByFile Text) → source_reading source (with_at role.Flows flows texts) ≡ source_reading source texts
+same_source : (source : Option LabelFile) (flows : Text) (texts : ByFile Text)
+    → source_reading source (with_at role.Flows flows texts) ≡ source_reading source texts
 same_source None flows texts = refl
 same_source (Some (Map file)) flows texts = refl
 same_source (Some (Prefixes file)) flows texts = refl
@@ -62,13 +63,15 @@ over_file : (rest : Option Labelling → List MessageView → Outcome → Type 0
     → FlowsThen rest labels (with_at role.Flows file.0 texts) ≡ Then (λ f. f) (λ l. rest l file.1) (source_reading labels texts)
 over_file rest labels texts file read =
     report_then rest labels given
-    ∙ ap (λ (source : Result (Option Labelling) BytesFault). Then (λ f. f) (both rest) (source >>= (λ l. report_after l given))) (same_source labels file.0 texts)
+    ∙ ap (λ (source : Result (Option Labelling) BytesFault). Then (λ f. f) (both rest) (source >>= (λ l. report_after l given)))
+    (same_source labels file.0 texts)
     ∙ by (source_reading labels texts)
   where
     given : ByFile Text
     given = with_at role.Flows file.0 texts
 
-    by : (source : Result (Option Labelling) BytesFault) → Then (λ f. f) (both rest) (source >>= (λ l. report_after l given)) ≡ Then (λ f. f) (λ l. rest l file.1) source
+    by : (source : Result (Option Labelling) BytesFault)
+        → Then (λ f. f) (both rest) (source >>= (λ l. report_after l given)) ≡ Then (λ f. f) (λ l. rest l file.1) source
     by (Ok l) = ap (λ (messages : Result (List MessageView) ReadFault). Then (λ f. f) (both rest) (in_file InFlows messages >>= (λ m. Ok (l, m)))) read
     by (Err fault) = refl
 

@@ -2,12 +2,12 @@ use Rattle.std.proofs.Common.{Ok, Some, ap, arith, refl}
 use Rattle.flowlabel.proofs.MadeLemmas.{then_err, then_ok}
 use Rattle.flowlabel.proofs.run.labels.read_labels.Goals as goal
 
-pub returns-in_err-of_file-in-Some : goal.returns-in_err-of_file-in-Some
-returns-in_err-of_file-in-Some g c =
+pub returns-in_err-of_file-in-Some-clause-read : goal.returns-in_err-of_file-in-Some-clause-read
+returns-in_err-of_file-in-Some-clause-read g c =
     rw c.in-Some.is
-    (then_err (λ texts l. Ok (Some l)) c.in_err-of_file-in-Some.ensures (omega arith) (λ texts given. refl) (λ texts l fault is. cc) c.from_residual.ensures.1)
+    (then_err (λ texts l. Ok (Some l)) c.in_err-of_file-in-Some.ensures.read (omega arith) (λ texts given. refl) (λ texts l fault is. cc) c.from_residual.ensures.1)
 
-pub returns-in_ok-of_file-in-Some : goal.returns-in_ok-of_file-in-Some
-returns-in_ok-of_file-in-Some g c =
+pub returns-in_ok-of_file-in-Some-clause-read : goal.returns-in_ok-of_file-in-Some-clause-read
+returns-in_ok-of_file-in-Some-clause-read g c =
     rw c.in-Some.is
-    (then_ok (λ texts l. Ok (Some l)) c.in_ok-of_file-in-Some.ensures (omega arith) (λ texts given. refl) (λ texts l is. (Some l, refl, ap Some is)))
+    (then_ok (λ texts l. Ok (Some l)) c.in_ok-of_file-in-Some.ensures.read (omega arith) (λ texts given. refl) (λ texts l is. (Some l, refl, ap Some is)))

@@ -1,23 +1,23 @@
-use Rattle.std.proofs.Common.{◌≡◌, ◌∙◌, ℕ, List, Option, Some, None, Result, Ok, Err, ap, refl}
+use Rattle.std.proofs.Common.{◌≡◌, ◌∙◌, ℕ, List, Option, None, Result, Ok, Err, ap, refl, subst, sym}
 use Rattle.std.specs.Prelude.{length}
 use Rattle.pmap_text.specs.Reading.{list_reading, map_reading}
-use Rattle.label_lookup.specs.Labelling.{Labelling, labelling_of_list, labelling_of_map}
+use Rattle.label_lookup.specs.Labelling.{Labelling}
 use Rattle.pmap_cert.specs.CertificateText.{certificate_text}
 use Rattle.pmap_cert.specs.Compacting.{compact}
 use Rattle.pmap_cert.specs.FormatReading.{format_reading}
 use Rattle.cert_check.specs.Checking.{first_fault}
 use Rattle.ipfix_read.specs.Message.{MessageView}
-use Rattle.ipfix_read.specs.Messages.{file_reading}
 use Rattle.flow_rows.specs.Counts.{counts_of}
 use Rattle.pmap_print.specs.Reports.{info_text}
 use Rattle.pmap_text.specs.RunsText.{IsRunsText, runs_text}
 use Rattle.flowlabel.specs.Output.{BytesFault, IsVerdict, FlowsThen, LabelsThen, Outcome, Prints, Then, label_text, shrunk_text}
-use Rattle.flowlabel.proofs.Outcomes.{CertificateThen, ListThen, PrintsCompact, PrintsMinimal, PrintsRuns, ReportsOf, report_of_groups, report_of_rows, checked}
+use Rattle.flowlabel.specs.Reports.{labels_reading, report_reading}
+use Rattle.flowlabel.proofs.MadeLemmas.{labels_then, report_then}
+use Rattle.flowlabel.proofs.Outcomes.{CertificateThen, ListThen, PrintsCompact, PrintsMinimal, PrintsRuns, report_of_groups, report_of_rows, checked}
 use Rattle.flowlabel.specs.ByFile.{ByFile}
-use Rattle.flowlabel.specs.declared.bytes_fault.BytesFault.TheVariants.{Map as InMap, List as InList, Flows as InFlows, Certificate as InCertificate}
+use Rattle.flowlabel.specs.declared.bytes_fault.BytesFault.TheVariants.{Map as InMap, List as InList, Certificate as InCertificate}
 use Rattle.flowlabel.specs.Request.{Cat, Check, Info, Label, Recert, Rows, Shrink, Text, Uniq}
 use Rattle.flowlabel.specs.declared.command.LabelFile.{LabelFile}
-use Rattle.flowlabel.specs.declared.command.LabelFile.TheVariants.{Map, List as Prefixes}
 use Rattle.flowlabel.proofs.run.laws.one_output.Goals as goal
 
 -- exactly one outcome meets the condition
@@ -31,18 +31,16 @@ value_one in_file (Ok x) rest one = one x refl
 value_one in_file (Err f) rest one = (Err (in_file f), refl, (λ other is. is))
 
 labels_one : (rest : Labelling → Outcome → Type 0) (file : LabelFile) (texts : ByFile Text) → ((labels : Labelling) → One (rest labels)) → One (LabelsThen rest file texts)
-labels_one rest (Map file) texts one = value_one InMap (map_reading texts.map) (λ m. rest (labelling_of_map m)) (λ m reads. one (labelling_of_map m))
-labels_one rest (Prefixes file) texts one = value_one InList (list_reading texts.list) (λ l. rest (labelling_of_list l)) (λ l reads. one (labelling_of_list l))
+labels_one rest file texts one = subst One (sym (labels_then rest file texts)) (value_one (λ f. f) (labels_reading file texts) rest (λ labels reads. one labels))
 
 prints_one : (text : List ℕ) → One (Prints text)
 prints_one text = (Ok text, refl, (λ other is. is))
 
 reports_one : (text : Option Labelling → List MessageView → List ℕ) (file : Option LabelFile) (texts : ByFile Text)
     → One (FlowsThen (λ labels messages. Prints (text labels messages)) file texts)
-reports_one text None texts = value_one InFlows (file_reading texts.flows) _ (λ messages reads. prints_one (text None messages))
-reports_one text (Some file) texts =
-    labels_one (λ labels. ReportsOf text (Some labels) texts.flows) file texts (λ labels.
-    value_one InFlows (file_reading texts.flows) _ (λ messages reads. prints_one (text (Some labels) messages)))
+reports_one text file texts =
+    subst One (sym (report_then (λ labels messages. Prints (text labels messages)) file texts))
+    (value_one (λ f. f) (report_reading file texts) _ (λ read reads. prints_one (text read.0 read.1)))
 
 pub returns : goal.returns
 returns c (Label file addr) texts =

@@ -1,4 +1,4 @@
-use Rattle.std.proofs.Common.{◌≡◌, ◌∙◌, ◌^◌, ℕ, Bool, List, [], ◌∷◌, ◌++◌, Option, None, Some, Result, Ok, Err, ap, map, refl, subst, sym}
+use Rattle.std.proofs.Common.{◌≡◌, ◌∙◌, ◌^◌, ℕ, Bool, List, [], ◌∷◌, ◌++◌, Option, None, Some, Result, Ok, ap, map, refl, subst, sym}
 use Rattle.std.specs.Prelude.{◌↔◌, decimal, find, is_some, length, slice_index_or, unwrap_or, sum_by}
 use Rattle.std.specs.Str.{bytes_eq}
 use Rattle.std.specs.Option.{option_map_or}
@@ -18,8 +18,6 @@ use Rattle.flowlabel.proofs.CoveringLabels.{labelling-of_list, labelling-of_map}
 use Rattle.label_lookup.proofs.Labellings.{same_labelling}
 use Rattle.flowlabel.proofs.RowLemmas.{lines_are}
 use Rattle.flowlabel.proofs.RunLemmas.{apart-runs}
-use Rattle.ipfix_read.specs.Message.{MessageView}
-use Rattle.ipfix_read.specs.Messages.{file_reading}
 use Rattle.flow_rows.specs.Counts.{counts_of, rows_of_messages}
 use Rattle.flow_rows.specs.Elements.{RowView}
 use Rattle.flow_rows.specs.Laws.{summed_counts}
@@ -31,16 +29,17 @@ use Rattle.flow_uniq.specs.Grouped.{AreGrouped, group_with}
 use Rattle.pmap_print.specs.Reports.{group_fields, group_titles, info_text, part_text, title_line}
 use Rattle.pmap_print.specs.Table.{Line, table_text}
 use Rattle.flowlabel.specs.Headline.{GivesLabels, IsSameUnder, PrintsEachOnce, PrintsGroups, PrintsList, PrintsRows, row_columns}
-use Rattle.flowlabel.specs.Output.{BytesFault, IsVerdict, IsOutput, LabelsThen, Outcome, Prints, Then, FlowsThen, label_text, labelled_row_lines, minimal_text}
+use Rattle.flowlabel.specs.Output.{BytesFault, IsVerdict, IsOutput, LabelsThen, Outcome, Prints, Then, label_text, labelled_row_lines, minimal_text}
 use Rattle.flowlabel.proofs.Outcomes.{CertificateThen, ListThen, PrintsCompact, PrintsMinimal, PrintsRuns, ReportsOf, printed_of, report_of_groups, report_of_rows, checked}
 use Rattle.std.specs.Borrow.{Bor}
-use Rattle.flowlabel.specs.Reports.{passing_rows}
+use Rattle.flowlabel.specs.Reports.{labels_reading, passing_rows, report_reading}
+use Rattle.flowlabel.proofs.MadeLemmas.{labels_then, report_then}
 use Rattle.flowlabel.specs.ByFile.{ByFile}
 use Rattle.flowlabel.specs.Request.{Cat, Check, Command, Info, Label, Recert, Rows, Shrink, Text, Uniq}
 use Rattle.flowlabel.specs.declared.command.LabelFile.{LabelFile}
 use Rattle.flowlabel.specs.declared.command.LabelFile.TheVariants.{Map, List as Prefixes}
 use Rattle.flowlabel.specs.declared.command.Shrunk.TheVariants as shrunk
-use Rattle.flowlabel.specs.declared.bytes_fault.BytesFault.TheVariants.{Map as InMap, List as InList, Certificate as InCertificate, Flows as InFlows}
+use Rattle.flowlabel.specs.declared.bytes_fault.BytesFault.TheVariants.{Map as InMap, List as InList, Certificate as InCertificate}
 use Rattle.flowlabel.proofs.run.laws.output_keeps_headline.Goals as goal
 
 -- a text that `check` prints comes of a certificate without a fault
@@ -84,27 +83,13 @@ line_of_label address (Prefixes file) texts out is =
     let (l, reads, prints) = printed_of InList (λ l. Prints (label_text address (labelling_of_list l))) (list_reading texts.list) out is in
     (labelling_of_list l, (l, reads, labelling-of_list l), cc)
 
--- a text that meets one condition meets another that follows for each value
-then_keep : {F A : Type 0} (in_file : F → BytesFault) (this that : A → Outcome → Type 0)
-    → ((value : A) (out : List ℕ) → this value (Ok out) → that value (Ok out))
-    → (reading : Result A F) (out : List ℕ) → Then in_file this reading (Ok out) → Then in_file that reading (Ok out)
-then_keep in_file this that keep (Ok value) out is = keep value out is
-then_keep in_file this that keep (Err fault) out is = is
-
-labels_keep : (this that : Labelling → Outcome → Type 0) → ((labels : Labelling) (out : List ℕ) → this labels (Ok out) → that labels (Ok out))
-    → (file : LabelFile) (texts : ByFile Text) (out : List ℕ) → LabelsThen this file texts (Ok out) → LabelsThen that file texts (Ok out)
-labels_keep this that keep (Map file) texts out is =
-    then_keep InMap (λ m. this (labelling_of_map m)) (λ m. that (labelling_of_map m)) (λ m. keep (labelling_of_map m)) (map_reading texts.map) out is
-labels_keep this that keep (Prefixes file) texts out is =
-    then_keep InList (λ l. this (labelling_of_list l)) (λ l. that (labelling_of_list l)) (λ l. keep (labelling_of_list l)) (list_reading texts.list) out is
-
-flows_keep : (this that : Option Labelling → List MessageView → Outcome → Type 0)
-    → ((labels : Option Labelling) (messages : List MessageView) (out : List ℕ) → this labels messages (Ok out) → that labels messages (Ok out))
-    → (file : Option LabelFile) (texts : ByFile Text) (out : List ℕ) → FlowsThen this file texts (Ok out) → FlowsThen that file texts (Ok out)
-flows_keep this that keep None texts out is = then_keep InFlows (this None) (that None) (keep None) (file_reading texts.flows) out is
-flows_keep this that keep (Some file) texts out is =
-    labels_keep (λ labels. Then InFlows (this (Some labels)) (file_reading texts.flows)) (λ labels. Then InFlows (that (Some labels)) (file_reading texts.flows))
-    (λ labels. then_keep InFlows (this (Some labels)) (that (Some labels)) (keep (Some labels)) (file_reading texts.flows)) file texts out is
+-- a text that meets one condition meets another that follows for each value that is read
+keep_over : {A : Type 0} (this that : A → Outcome → Type 0) {Is Is' : Outcome → Type 0} (reading : Result A BytesFault)
+    → Is ≡ Then (λ f. f) this reading → Is' ≡ Then (λ f. f) that reading → ((a : A) (out : List ℕ) → this a (Ok out) → that a (Ok out))
+    → (out : List ℕ) → Is (Ok out) → Is' (Ok out)
+keep_over this that reading was becomes keep out is =
+    let (a, reads, holds) = printed_of (λ f. f) this reading out (subst (λ (P : Outcome → Type 0). P (Ok out)) was is) in
+    subst (λ (P : Outcome → Type 0). P (Ok out)) (sym (becomes ∙ ap (Then (λ f. f) that) reads)) (keep a out holds)
 
 -- the lines of rows have their fields, with their labels or without
 lines_of_rows : (labels : Option Labelling) (shown : List RowView)
@@ -171,47 +156,49 @@ returns c (Label file addr) texts out is = (
   line_of_label (addr.version, addr.value) file texts out is,
 )
 returns c (Info flows) texts out is =
-    flows_keep (λ labels messages. Prints (info_text (counts_of messages))) (λ labels messages. Prints (info_text (summed_counts messages)))
-    (λ labels messages text made. made ∙ ap (λ counts. Ok (info_text counts)) (c.counts_add_up.ensures.each messages)) None texts out is
+    keep_over _ _ (report_reading None texts) (report_then (λ labels messages. Prints (info_text (counts_of messages))) None texts)
+    (report_then (λ labels messages. Prints (info_text (summed_counts messages))) None texts)
+    (λ read text made. made ∙ ap (λ counts. Ok (info_text counts)) (c.counts_add_up.ensures.each read.1)) out is
 returns c (Rows file condition columns flows) texts out is = (
   same_under (λ labels. ReportsOf (report_of_rows condition columns) (Some labels) texts.flows)
       (λ other. Rows (Some other) condition columns flows) texts (λ other map list outcome. (λ h. h, λ h. h)),
-  flows_keep (λ labels messages. Prints (report_of_rows condition columns labels messages))
-      (λ labels messages. PrintsRows columns labels (rows_left condition labels (rows_of_messages messages)))
-      (λ labels messages text made.
-      prints_rows columns labels (rows_left condition labels (rows_of_messages messages)) (Ok text)
+  keep_over _ _ (report_reading file texts) (report_then (λ labels messages. Prints (report_of_rows condition columns labels messages)) file texts)
+      (report_then (λ labels messages. PrintsRows columns labels (rows_left condition labels (rows_of_messages messages))) file texts)
+      (λ read text made.
+      prints_rows columns read.0 (rows_left condition read.0 (rows_of_messages read.1)) (Ok text)
       (made
-      ∙ ap (λ (shown : List RowView). Ok (table_text columns (labelled_row_lines labels shown)))
-      (c.options_hold_together.ensures.left condition labels (rows_of_messages messages))))
-      file texts out is,
+      ∙ ap (λ (shown : List RowView). Ok (table_text columns (labelled_row_lines read.0 shown)))
+      (c.options_hold_together.ensures.left condition read.0 (rows_of_messages read.1))))
+      out is,
 )
 returns c (Uniq fields file condition sorted columns flows) texts out is = (
   same_under (λ labels. ReportsOf (report_of_groups fields condition sorted columns) (Some labels) texts.flows)
       (λ other. Uniq fields (Some other) condition sorted columns flows) texts (λ other map list outcome. (λ h. h, λ h. h)),
-  flows_keep (λ labels messages. Prints (report_of_groups fields condition sorted columns labels messages))
-      (λ labels messages. PrintsGroups fields sorted columns labels (rows_left condition labels (rows_of_messages messages)))
-      (λ labels messages text made.
-      let shown : List RowView = passing_rows condition labels messages in
+  keep_over _ _ (report_reading file texts) (report_then (λ labels messages. Prints (report_of_groups fields condition sorted columns labels messages)) file texts)
+      (report_then (λ labels messages. PrintsGroups fields sorted columns labels (rows_left condition labels (rows_of_messages messages))) file texts)
+      (λ read text made.
+      let labels : Option Labelling = read.0 in
+      let shown : List RowView = passing_rows condition labels read.1 in
       let (groups, divide, are) = c.rows_are_grouped_by_fields.ensures fields (label_where labels) sorted shown in (
         groups,
         subst (λ (left : List RowView). AreGrouped (label_where labels) fields sorted left (map (λ g. g.0 ∷ g.1) groups))
-            (c.options_hold_together.ensures.left condition labels (rows_of_messages messages)) divide,
+            (c.options_hold_together.ensures.left condition labels (rows_of_messages read.1)) divide,
         made
             ∙ ap (λ (lines : List Line). Ok (table_text columns (group_titles fields ∷ lines)))
             (ap (map group_fields) are ∙ lines_of_groups fields labels groups),
       ))
-      file texts out is,
+      out is,
 )
 returns c (Cat file) texts out is = (
   same_under PrintsRuns Cat texts (λ other map list outcome. (λ h. h, λ h. h)),
-  labels_keep PrintsRuns PrintsEachOnce
+  keep_over _ _ (labels_reading file texts) (labels_then PrintsRuns file texts) (labels_then PrintsEachOnce file texts)
       (λ labels text (lines, runs, made). (
         runs.runs,
         (λ a below. c.runs_cover_each_address_once.ensures.once labels.version labels.label runs.runs runs.are a below),
         (λ r s. apart-runs labels.label 0 (2 ^ width_of labels.version) runs.runs runs.are r s),
         made ∙ ap Ok runs.is,
       ))
-      file texts out is,
+      out is,
 )
 returns c (Shrink map shrunk.List) texts out is =
     let (m, reads, found) = printed_of InMap (PrintsMinimal shrunk.List) (map_reading texts.map) out is in
