@@ -1,7 +1,7 @@
 use Rattle.std.proofs.Common.{◌≡◌, Option, ap, length, rules, sym, true}
 use Rattle.pmap_text.specs.PrefixList.{list_of}
 use Rattle.cert_check.specs.declared.fault.TextFault.{TextFault}
-use Rattle.flowlabel.specs.BytesFault.{is_certificate_memory}
+use Rattle.flowlabel.specs.BytesFault.{is_out_of_memory}
 use Rattle.flowlabel.specs.Output.{minimal_text}
 use Rattle.flowlabel.specs.Reports.{verdict}
 use Rattle.flowlabel.specs.declared.bytes_fault.BytesFault.TheVariants.{Certificate as InCertificate, Check as InCheck}
@@ -27,8 +27,7 @@ returns-in-Err-Check g c =
 pub returns : goal.returns
 returns g c =
     let fault = rw (c.in-Err-Certificate.field-0-is, c.as_slice.ensures.value) at c.in-Err-Certificate.ensures.fault in
-    let kind = c.in-Err-Certificate.fault.kind in
     whole_is_bad c.in_ok-name.ensures (InCertificate c.in-Err-Certificate.fault)
     (rw c.in-Err-Certificate.field-0-is at c.of-in-Err-Certificate.ensures)
     (λ bytes. ap (λ (found : Option TextFault). verdict found (length (list_of c.args.list.now).prefixes))
-    (fault.0 (λ same. let wrong : is_certificate_memory kind ≡ true = ap is_certificate_memory same in cc)))
+    (fault.0 (λ same. let wrong : is_out_of_memory (InCertificate c.in-Err-Certificate.fault) ≡ true = rw same refl in cc)))

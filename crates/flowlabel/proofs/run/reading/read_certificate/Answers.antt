@@ -2,7 +2,7 @@ use Rattle.std.proofs.Common.{◌≡◌, ◌∙◌, ap, refl, rules, sym, true}
 use Rattle.pmap_cert.specs.Certificate.{certificate_of}
 use Rattle.pmap_cert.specs.CertificateText.{HasFormatText, certificate_text}
 use Rattle.pmap_cert.specs.FormatReading.{format_reading}
-use Rattle.flowlabel.specs.BytesFault.{is_certificate_memory}
+use Rattle.flowlabel.specs.BytesFault.{is_out_of_memory}
 use Rattle.flowlabel.specs.Reports.{in_file}
 use Rattle.flowlabel.specs.declared.bytes_fault.BytesFault.TheVariants.{Certificate as InCertificate}
 use Rattle.flowlabel.proofs.MadeLemmas.{whole_is, whole_is_bad, whole_stops}
@@ -22,4 +22,4 @@ pub returns : goal.returns
 returns g c =
     whole_is_bad c.in_ok-name.ensures (InCertificate c.in-Err.fault) c.of.ensures
     (λ bytes. ap (in_file InCertificate) (ap format_reading (sym c.as_slice.ensures.value)
-    ∙ c.in-Err.ensures.fault (λ same. let wrong : is_certificate_memory c.in-Err.fault.kind ≡ true = ap is_certificate_memory same in cc)))
+    ∙ c.in-Err.ensures.fault (λ same. let wrong : is_out_of_memory (InCertificate c.in-Err.fault) ≡ true = rw same refl in cc)))

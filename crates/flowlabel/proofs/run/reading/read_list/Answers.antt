@@ -1,7 +1,7 @@
 use Rattle.std.proofs.Common.{◌≡◌, ◌∙◌, ap, refl, sym, true}
 use Rattle.pmap_text.specs.PrefixList.{list_of}
 use Rattle.pmap_text.specs.Reading.{list_reading}
-use Rattle.flowlabel.specs.BytesFault.{is_map_memory}
+use Rattle.flowlabel.specs.BytesFault.{is_out_of_memory}
 use Rattle.flowlabel.specs.Reports.{in_file}
 use Rattle.flowlabel.specs.declared.bytes_fault.BytesFault.TheVariants.{List as InList}
 use Rattle.flowlabel.proofs.MadeLemmas.{whole_is, whole_is_bad, whole_stops}
@@ -19,4 +19,4 @@ pub returns : goal.returns
 returns g c =
     whole_is_bad c.in_ok-name.ensures (InList c.in-Err.fault) c.of.ensures
     (λ bytes. ap (in_file InList) (ap list_reading (sym c.as_slice.ensures.value)
-    ∙ c.in-Err.ensures.fault (λ same. let wrong : is_map_memory c.in-Err.fault.kind ≡ true = ap is_map_memory same in cc)))
+    ∙ c.in-Err.ensures.fault (λ same. let wrong : is_out_of_memory (InList c.in-Err.fault) ≡ true = rw same refl in cc)))

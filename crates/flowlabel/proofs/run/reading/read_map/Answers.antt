@@ -1,7 +1,7 @@
 use Rattle.std.proofs.Common.{◌≡◌, ◌∙◌, ap, refl, sym, true}
 use Rattle.pmap_text.specs.MapText.{map_of}
 use Rattle.pmap_text.specs.Reading.{map_reading}
-use Rattle.flowlabel.specs.BytesFault.{is_map_memory}
+use Rattle.flowlabel.specs.BytesFault.{is_out_of_memory}
 use Rattle.flowlabel.specs.Reports.{in_file}
 use Rattle.flowlabel.specs.declared.bytes_fault.BytesFault.TheVariants.{Map as InMap}
 use Rattle.flowlabel.proofs.MadeLemmas.{whole_is, whole_is_bad, whole_stops}
@@ -19,4 +19,4 @@ pub returns : goal.returns
 returns g c =
     whole_is_bad c.in_ok-name.ensures (InMap c.in-Err.fault) c.of.ensures
     (λ bytes. ap (in_file InMap) (ap map_reading (sym c.as_slice.ensures.value)
-    ∙ c.in-Err.ensures.fault (λ same. let wrong : is_map_memory c.in-Err.fault.kind ≡ true = ap is_map_memory same in cc)))
+    ∙ c.in-Err.ensures.fault (λ same. let wrong : is_out_of_memory (InMap c.in-Err.fault) ≡ true = rw same refl in cc)))
