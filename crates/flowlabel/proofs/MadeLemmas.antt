@@ -27,7 +27,7 @@ use Rattle.flowlabel.specs.ByFile as role
 use Rattle.flowlabel.specs.declared.bytes_fault.BytesFault.TheVariants.{Map as InMap, List as InList, Flows as InFlows}
 use Rattle.flowlabel.specs.Headline.{IsHeadline}
 use Rattle.flowlabel.specs.Output.{BytesFault, FlowsThen, IsOutput, LabelsThen, Outcome, Then}
-use Rattle.flowlabel.specs.Reports.{AreFresh, AreLabelsOf, AreRead, AreTextsBefore, Decodes, Gives, GivesAll, IsMade, IsMadeWritten, IsRead, IsReading, IsText, IsTextOf, IsWhole, ReadsInto, faults_of, in_file, labelling_found, labelling_read, labels_reading, report_reading, source_reading}
+use Rattle.flowlabel.specs.Reports.{AreFresh, AreLabelsOf, AreRead, AreTextsBefore, Decodes, Gives, GivesAll, IsMade, IsMadeWritten, IsRead, IsReading, IsText, IsTextOf, IsWhole, ReadsInto, faults_of, with_bytes_fault, labelling_found, labelling_read, labels_reading, report_reading, source_reading}
 use Rattle.flowlabel.specs.declared.run.labels.LabelsRead.{LabelsRead}
 use Rattle.flowlabel.specs.declared.run.made.Made.{Made}
 use Rattle.flowlabel.specs.declared.command.LabelFile.{LabelFile}
@@ -150,7 +150,7 @@ module _ {R A V : Type 0} {input : R → InputView} {old new : Option (Source R)
 
 -- the faults of a reading are of this file
 pub named_in : {F A : Type 0} (wrap : F → BytesFault) {r : Role} → ((own : F) → role_of (wrap own) ≡ r) → (reading : Result A F) (fault : BytesFault)
-    → in_file wrap reading ≡ Err fault → role_of fault ≡ r
+    → with_bytes_fault wrap reading ≡ Err fault → role_of fault ≡ r
 named_in wrap own (Ok value) fault is = cc
 named_in wrap own (Err f) fault is = let same : fault ≡ wrap f = cc in ap role_of same ∙ own f
 
@@ -259,16 +259,16 @@ module _ {R : Type 0} {input : R → InputView} where
 
     pub flows_read : {W : Type 0} {is : List MessageView → W → Type 0} {file : Option (Source R)} {result : Result W RunFault}
         → n ≤ 3 → ReadsInto input is mid.flows file result
-        → AreRead input 4 (λ texts. IsReading (in_file InFlows (file_reading texts.flows)) is) old (with_at role.Flows file mid) result
+        → AreRead input 4 (λ texts. IsReading (with_bytes_fault InFlows (file_reading texts.flows)) is) old (with_at role.Flows file mid) result
     flows_read early = next had role.Flows early (λ bytes. named_in InFlows (λ own. refl) (file_reading bytes)) (λ _ bytes stops. stops) (omega arith)
 
     pub list_read : {file : Option (Source R)} {result : Result PrefixList RunFault} → n ≤ 1 → Decodes input InList list_reading list_of mid.list file result
-        → AreRead input 2 (λ texts. IsReading (in_file InList (list_reading texts.list)) (λ l list. l ≡ list_of list)) old (with_at role.List file mid) result
+        → AreRead input 2 (λ texts. IsReading (with_bytes_fault InList (list_reading texts.list)) (λ l list. l ≡ list_of list)) old (with_at role.List file mid) result
     list_read early = text_read role.List early (omega arith) (λ bytes. named_in InList (λ own. refl) (list_reading bytes))
 
   pub map_read : (files : Readers R) → AreFresh input files → {file : Option (Source R)} {result : Result MapText RunFault}
       → Decodes input InMap map_reading map_of files.map file result
-      → AreRead input 1 (λ texts. IsReading (in_file InMap (map_reading texts.map)) (λ m map. m ≡ map_of map)) files (with_at role.Map file files) result
+      → AreRead input 1 (λ texts. IsReading (with_bytes_fault InMap (map_reading texts.map)) (λ m map. m ≡ map_of map)) files (with_at role.Map file files) result
   map_read files fresh =
       text_read (none_read 0 files fresh) role.Map (omega arith) (omega arith) (λ bytes. named_in InMap (λ own. refl) (map_reading bytes))
 
@@ -359,12 +359,12 @@ module _ {R : Type 0} {input : R → InputView} where
 -- The outcomes of commands, by what their texts are read as.
 
 pub then_in : {F A : Type 0} (wrap : F → BytesFault) (rest : A → Outcome → Type 0) (reading : Result A F)
-    → Then wrap rest reading ≡ Then (λ f. f) rest (in_file wrap reading)
+    → Then wrap rest reading ≡ Then (λ f. f) rest (with_bytes_fault wrap reading)
 then_in wrap rest (Ok value) = refl
 then_in wrap rest (Err fault) = refl
 
 pub then_is : {F A : Type 0} (wrap : F → BytesFault) (rest : A → Outcome → Type 0) (reading : Result A F) {a : A}
-    → in_file wrap reading ≡ Ok a → Then wrap rest reading ≡ rest a
+    → with_bytes_fault wrap reading ≡ Ok a → Then wrap rest reading ≡ rest a
 then_is wrap rest reading reads = then_in wrap rest reading ∙ ap (Then (λ f. f) rest) reads
 
 then_more : {A B : Type 0} (f : A → B) (rest : B → Outcome → Type 0) (reading : Result A BytesFault)
@@ -375,13 +375,13 @@ then_more f rest (Err fault) = refl
 pub labels_then : (rest : Labelling → Outcome → Type 0) (file : LabelFile) (texts : ByFile Text)
     → LabelsThen rest file texts ≡ Then (λ f. f) rest (labels_reading file texts)
 labels_then rest (Map file) texts =
-    then_in InMap (λ m. rest (labelling_of_map m)) (map_reading texts.map) ∙ then_more labelling_of_map rest (in_file InMap (map_reading texts.map))
+    then_in InMap (λ m. rest (labelling_of_map m)) (map_reading texts.map) ∙ then_more labelling_of_map rest (with_bytes_fault InMap (map_reading texts.map))
 labels_then rest (Prefixes file) texts =
-    then_in InList (λ l. rest (labelling_of_list l)) (list_reading texts.list) ∙ then_more labelling_of_list rest (in_file InList (list_reading texts.list))
+    then_in InList (λ l. rest (labelling_of_list l)) (list_reading texts.list) ∙ then_more labelling_of_list rest (with_bytes_fault InList (list_reading texts.list))
 
 -- what a report is on, once its labels are read
 abbrev pub report_after : Option Labelling → ByFile Text → Result (Option Labelling × List MessageView) BytesFault
-report_after labels texts = in_file InFlows (file_reading texts.flows) >>= (λ messages. Ok (labels, messages))
+report_after labels texts = with_bytes_fault InFlows (file_reading texts.flows) >>= (λ messages. Ok (labels, messages))
 
 abbrev pub both : (Option Labelling → List MessageView → Outcome → Type 0) → Option Labelling × List MessageView → Outcome → Type 0
 both rest read = rest read.0 read.1
@@ -393,7 +393,7 @@ report_then rest source texts = by source
     flows : (l : Option Labelling) → Then InFlows (rest l) (file_reading texts.flows) ≡ Then (λ f. f) (both rest) (report_after l texts)
     flows l =
         then_in InFlows (rest l) (file_reading texts.flows)
-        ∙ then_more (λ messages. (l, messages)) (both rest) (in_file InFlows (file_reading texts.flows))
+        ∙ then_more (λ messages. (l, messages)) (both rest) (with_bytes_fault InFlows (file_reading texts.flows))
 
     over : (labels : Result Labelling BytesFault) → Then (λ f. f) (λ l. Then InFlows (rest (Some l)) (file_reading texts.flows)) labels
         ≡ Then (λ f. f) (both rest) ((labels >>= (λ l. Ok (Some l))) >>= (λ l. report_after l texts))
@@ -405,7 +405,7 @@ report_then rest source texts = by source
     by (Some file) = labels_then (λ l. Then InFlows (rest (Some l)) (file_reading texts.flows)) file texts ∙ over (labels_reading file texts)
 
 pub flows_last : (labels : Option Labelling) (reading : Result (List MessageView) ReadFault) (fault : BytesFault)
-    → ◌>>=◌ {B = Option Labelling × List MessageView} (in_file InFlows reading) (λ messages. Ok (labels, messages)) ≡ Err fault → role_of fault ≡ role.Flows
+    → ◌>>=◌ {B = Option Labelling × List MessageView} (with_bytes_fault InFlows reading) (λ messages. Ok (labels, messages)) ≡ Err fault → role_of fault ≡ role.Flows
 flows_last labels (Ok messages) fault fails = cc
 flows_last labels (Err own) fault fails = let same : fault ≡ InFlows own = cc in ap role_of same
 

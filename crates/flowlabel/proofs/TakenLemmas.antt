@@ -14,7 +14,7 @@ use Rattle.ipfix_read.proofs.Joining.{calls_start}
 use Rattle.ipfix_read.proofs.Readings.{not_of_reader}
 use Rattle.flowlabel.specs.declared.bytes_fault.BytesFault.TheVariants.{Flows as InFlows}
 use Rattle.flowlabel.specs.BytesFault.{is_out_of_memory}
-use Rattle.flowlabel.specs.Reports.{AreReadSoFar, IsFaultOfCall, IsFresh, ReadsInto, ReadsNext, in_file}
+use Rattle.flowlabel.specs.Reports.{AreReadSoFar, IsFaultOfCall, IsFresh, ReadsInto, ReadsNext, with_bytes_fault}
 use Rattle.flowlabel.specs.Request.{Text}
 use Rattle.flowlabel.specs.Run.{CannotRead, File, NoMemory, RunFault, Source, name_in, view_of}
 use Rattle.flowlabel.proofs.MadeLemmas.{all_read, handed_on, text_is, with_fault_of}
@@ -49,7 +49,7 @@ fault_read input start now fault (File file made) (bytes_fault, is) none works (
     works ∙ bytes_fault,
     is.0,
     λ text (rest, follows, all).
-        ap (λ (r : Result (List MessageView) ReadFault). in_file InFlows r)
+        ap (λ (r : Result (List MessageView) ReadFault). with_bytes_fault InFlows r)
         (ap file_reading (all ∙ ap (λ (l : List ℕ). l ++ rest) (all_read none gives)) ∙ has rest follows) ∙ ap Err (sym is.1),
   );
 }
@@ -102,7 +102,7 @@ module _ (joins : CallsJoinFile) {R : Type 0} (input : R → InputView) (start :
           works,
           λ text may.
               let whole = ap file_reading (text_is (view_of input then) text bytes (all_read so_far.first gives) end may) ∙ reading in
-              (messages, ap (λ (r : Result (List MessageView) ReadFault). in_file InFlows r) whole, refl),
+              (messages, ap (λ (r : Result (List MessageView) ReadFault). with_bytes_fault InFlows r) whole, refl),
         );
       }
 

@@ -61,13 +61,13 @@ abbrev pub labelling_found : Option (Bor StretchModel) → Option Labelling
 labelling_found = option_map (λ index. labelling_of_stretches index.now)
 
 -- a reading, with its faults as those of a file
-abbrev pub in_file : {F A : Type 0} → (F → BytesFault) → Result A F → Result A BytesFault
-in_file = result_map_both (λ value. value)
+abbrev pub with_bytes_fault : {F A : Type 0} → (F → BytesFault) → Result A F → Result A BytesFault
+with_bytes_fault = result_map_both (λ value. value)
 
 -- what the text that labels come from is read as: the labelling, or the first fault
 abbrev pub labels_reading : LabelFile → ByFile Text → Result Labelling BytesFault
-labels_reading (Map file) texts = in_file InMap (map_reading texts.map) >>= (λ m. Ok (labelling_of_map m))
-labels_reading (Prefixes file) texts = in_file InList (list_reading texts.list) >>= (λ l. Ok (labelling_of_list l))
+labels_reading (Map file) texts = with_bytes_fault InMap (map_reading texts.map) >>= (λ m. Ok (labelling_of_map m))
+labels_reading (Prefixes file) texts = with_bytes_fault InList (list_reading texts.list) >>= (λ l. Ok (labelling_of_list l))
 
 -- the same, if there is such a text
 abbrev pub source_reading : Option LabelFile → ByFile Text → Result (Option Labelling) BytesFault
@@ -77,7 +77,7 @@ source_reading (Some file) texts = labels_reading file texts >>= (λ labels. Ok 
 -- what a report is on: the labelling, if there is one, and the messages of a File
 abbrev pub report_reading : Option LabelFile → ByFile Text → Result (Option Labelling × List MessageView) BytesFault
 report_reading source texts = source_reading source texts >>= (λ labels.
-    in_file InFlows (file_reading texts.flows) >>= (λ messages. Ok (labels, messages)))
+    with_bytes_fault InFlows (file_reading texts.flows) >>= (λ messages. Ok (labels, messages)))
 
 -- what `check` prints, by the first fault of a certificate's text and the number of the list's entries
 abbrev pub in_text : TextFault → BytesFault
@@ -202,12 +202,12 @@ module _ {R : Type 0} (input : R → InputView) where
   -- the value that the text is read as
   abbrev pub Decodes : {F A V : Type 0} → (F → BytesFault) → (Text → Result A F) → (V → A) → Option (Source R)
       → Option (Source R) → Result V RunFault → Type 0
-  Decodes wrap reading model = IsRead (λ text. in_file wrap (reading text)) (λ a value. a ≡ model value) (λ _. ⊤)
+  Decodes wrap reading model = IsRead (λ text. with_bytes_fault wrap (reading text)) (λ a value. a ≡ model value) (λ _. ⊤)
 
   -- what is built from the messages of a File
   abbrev pub ReadsInto : {T : Type 0} → (List MessageView → T → Type 0) → Option (Source R) → Option (Source R)
       → Result T RunFault → Type 0
-  ReadsInto is_of = IsRead (λ text. in_file InFlows (file_reading text)) is_of
+  ReadsInto is_of = IsRead (λ text. with_bytes_fault InFlows (file_reading text)) is_of
       (λ bytes. (stop : ReadFault) × StopsReading bytes stop)
 
   -- The input has returned these messages, whose number the state has, and there may be more. Nothing was read before.

@@ -1,4 +1,4 @@
-use Rattle.std.proofs.Common.{◌≡◌, Option, ap, length, rules, sym, true}
+use Rattle.std.proofs.Common.{◌≡◌, Option, ap, length, refl, rules, sym, true}
 use Rattle.pmap_text.specs.PrefixList.{list_of}
 use Rattle.cert_check.specs.declared.fault.TextFault.{TextFault}
 use Rattle.flowlabel.specs.BytesFault.{is_out_of_memory}

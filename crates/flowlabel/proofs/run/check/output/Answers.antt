@@ -19,7 +19,7 @@ use Rattle.flowlabel.specs.ByFile.{ByFile, turn}
 use Rattle.flowlabel.specs.ByFile as role
 use Rattle.flowlabel.specs.declared.bytes_fault.BytesFault.TheVariants.{Map as InMap, List as InList, Certificate as InCertificate, Check as InCheck}
 use Rattle.flowlabel.specs.Output.{BytesFault, IsOutput, IsVerdict, Outcome, Prints, Then, minimal_text}
-use Rattle.flowlabel.specs.Reports.{check_reading, in_file, verdict}
+use Rattle.flowlabel.specs.Reports.{check_reading, with_bytes_fault, verdict}
 use Rattle.flowlabel.specs.Request.{Check, Text}
 use Rattle.flowlabel.proofs.Outcomes.{CertificateThen, ListThen}
 use Rattle.flowlabel.proofs.MadeLemmas.{decoded, faulty, list_read, makes, map_read, text_read, then_in, then_is}
@@ -48,13 +48,13 @@ over_text m l (Ok c) = by (first_fault m l c)
     by (Some fault) = refl
 
 -- the outcomes once the map is read, and once the list is read too
-over_list : (map list certificate : Bor Text) (m : MapModel) (texts : ByFile Text) → in_file InMap (map_reading texts.map) ≡ Ok m
+over_list : (map list certificate : Bor Text) (m : MapModel) (texts : ByFile Text) → with_bytes_fault InMap (map_reading texts.map) ≡ Ok m
     → IsOutput (Check map list certificate) texts ≡ ListThen (λ l. CertificateThen (IsVerdict m l) texts.certificate) texts.list
 over_list map list certificate m texts is =
     then_is InMap (λ m. ListThen (λ l. CertificateThen (IsVerdict m l) texts.certificate) texts.list) (map_reading texts.map) is
 
-over_certificate : (map list certificate : Bor Text) (m : MapModel) (l : ListModel) (texts : ByFile Text) → in_file InMap (map_reading texts.map) ≡ Ok m
-    → in_file InList (list_reading texts.list) ≡ Ok l → IsOutput (Check map list certificate) texts ≡ Then (λ f. f) Prints (check_reading m l texts.certificate)
+over_certificate : (map list certificate : Bor Text) (m : MapModel) (l : ListModel) (texts : ByFile Text) → with_bytes_fault InMap (map_reading texts.map) ≡ Ok m
+    → with_bytes_fault InList (list_reading texts.list) ≡ Ok l → IsOutput (Check map list certificate) texts ≡ Then (λ f. f) Prints (check_reading m l texts.certificate)
 over_certificate map list certificate m l texts is_map is_list =
     over_list map list certificate m texts is_map
     ∙ then_is InList (λ l. CertificateThen (IsVerdict m l) texts.certificate) (list_reading texts.list) is_list

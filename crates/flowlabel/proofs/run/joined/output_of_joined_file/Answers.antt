@@ -27,7 +27,7 @@ use Rattle.flowlabel.specs.declared.command.LabelFile.{LabelFile}
 use Rattle.flowlabel.specs.declared.command.LabelFile.TheVariants.{Map, List as Prefixes}
 use Rattle.flowlabel.specs.Joined.{IsPutTogether}
 use Rattle.flowlabel.specs.Output.{BytesFault, FlowsThen, IsOutput, Outcome, Prints, Then, labelled_row_lines}
-use Rattle.flowlabel.specs.Reports.{in_file, source_reading}
+use Rattle.flowlabel.specs.Reports.{with_bytes_fault, source_reading}
 use Rattle.flowlabel.specs.Request.{Text}
 use Rattle.flowlabel.proofs.MadeLemmas.{both, report_after, report_then}
 use Rattle.flowlabel.proofs.Outcomes.{printed_of}
@@ -72,7 +72,7 @@ over_file rest labels texts file read =
 
     by : (source : Result (Option Labelling) BytesFault)
         → Then (λ f. f) (both rest) (source >>= (λ l. report_after l given)) ≡ Then (λ f. f) (λ l. rest l file.1) source
-    by (Ok l) = ap (λ (messages : Result (List MessageView) ReadFault). Then (λ f. f) (both rest) (in_file InFlows messages >>= (λ m. Ok (l, m)))) read
+    by (Ok l) = ap (λ (messages : Result (List MessageView) ReadFault). Then (λ f. f) (both rest) (with_bytes_fault InFlows messages >>= (λ m. Ok (l, m)))) read
     by (Err fault) = refl
 
 -- ---- the commands

@@ -2,7 +2,7 @@ use Rattle.std.proofs.Common.{◌≡◌, ◌∙◌, ap, refl, sym, true}
 use Rattle.pmap_text.specs.PrefixList.{list_of}
 use Rattle.pmap_text.specs.Reading.{list_reading}
 use Rattle.flowlabel.specs.BytesFault.{is_out_of_memory}
-use Rattle.flowlabel.specs.Reports.{in_file}
+use Rattle.flowlabel.specs.Reports.{with_bytes_fault}
 use Rattle.flowlabel.specs.declared.bytes_fault.BytesFault.TheVariants.{List as InList}
 use Rattle.flowlabel.proofs.MadeLemmas.{whole_is, whole_is_bad, whole_stops}
 use Rattle.flowlabel.proofs.run.reading.read_list.Goals as goal
@@ -13,10 +13,10 @@ returns-in_err-name g c = whole_stops c.from_residual.ensures.1 c.in_err-name.en
 pub returns-in-Ok : goal.returns-in-Ok
 returns-in-Ok g c =
     whole_is c.in_ok-name.ensures (list_of c.in-Ok.list)
-    (ap (in_file InList) (ap list_reading (sym c.as_slice.ensures.value) ∙ c.in-Ok.ensures.ok)) refl
+    (ap (with_bytes_fault InList) (ap list_reading (sym c.as_slice.ensures.value) ∙ c.in-Ok.ensures.ok)) refl
 
 pub returns : goal.returns
 returns g c =
     whole_is_bad c.in_ok-name.ensures (InList c.in-Err.fault) c.of.ensures
-    (λ bytes. ap (in_file InList) (ap list_reading (sym c.as_slice.ensures.value)
+    (λ bytes. ap (with_bytes_fault InList) (ap list_reading (sym c.as_slice.ensures.value)
     ∙ c.in-Err.ensures.fault (λ same. let wrong : is_out_of_memory (InList c.in-Err.fault) ≡ true = rw same refl in cc)))

@@ -2,7 +2,7 @@ use Rattle.std.proofs.Common.{◌≡◌, ◌∙◌, ap, refl, sym, true}
 use Rattle.pmap_text.specs.MapText.{map_of}
 use Rattle.pmap_text.specs.Reading.{map_reading}
 use Rattle.flowlabel.specs.BytesFault.{is_out_of_memory}
-use Rattle.flowlabel.specs.Reports.{in_file}
+use Rattle.flowlabel.specs.Reports.{with_bytes_fault}
 use Rattle.flowlabel.specs.declared.bytes_fault.BytesFault.TheVariants.{Map as InMap}
 use Rattle.flowlabel.proofs.MadeLemmas.{whole_is, whole_is_bad, whole_stops}
 use Rattle.flowlabel.proofs.run.reading.read_map.Goals as goal
@@ -13,10 +13,10 @@ returns-in_err-name g c = whole_stops c.from_residual.ensures.1 c.in_err-name.en
 pub returns-in-Ok : goal.returns-in-Ok
 returns-in-Ok g c =
     whole_is c.in_ok-name.ensures (map_of c.in-Ok.map)
-    (ap (in_file InMap) (ap map_reading (sym c.as_slice.ensures.value) ∙ c.in-Ok.ensures.ok)) refl
+    (ap (with_bytes_fault InMap) (ap map_reading (sym c.as_slice.ensures.value) ∙ c.in-Ok.ensures.ok)) refl
 
 pub returns : goal.returns
 returns g c =
     whole_is_bad c.in_ok-name.ensures (InMap c.in-Err.fault) c.of.ensures
-    (λ bytes. ap (in_file InMap) (ap map_reading (sym c.as_slice.ensures.value)
+    (λ bytes. ap (with_bytes_fault InMap) (ap map_reading (sym c.as_slice.ensures.value)
     ∙ c.in-Err.ensures.fault (λ same. let wrong : is_out_of_memory (InMap c.in-Err.fault) ≡ true = rw same refl in cc)))
