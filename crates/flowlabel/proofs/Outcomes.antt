@@ -62,7 +62,7 @@ abbrev pub checked : Option CheckFault → ℕ → Outcome
 checked found count = option_map_or (λ fault. Err (InCheck fault)) found (Ok (minimal_text count))
 
 -- a text comes of the value that a file's text is read as
-pub printed_of : {F A : Type 0} (with_bytes_fault : F → BytesFault) (rest : A → Outcome → Type 0) (reading : Result A F) (out : List ℕ)
-    → Then with_bytes_fault rest reading (Ok out) → (value : A) × (reading ≡ Ok value) × rest value (Ok out)
-printed_of with_bytes_fault rest (Ok value) out is = (value, refl, is)
-printed_of with_bytes_fault rest (Err fault) out is = cc
+pub printed_of : {F A : Type 0} (in_file : F → BytesFault) (rest : A → Outcome → Type 0) (reading : Result A F) (out : List ℕ)
+    → Then in_file rest reading (Ok out) → (value : A) × (reading ≡ Ok value) × rest value (Ok out)
+printed_of in_file rest (Ok value) out is = (value, refl, is)
+printed_of in_file rest (Err fault) out is = cc

@@ -42,8 +42,8 @@ Prints text outcome = outcome ≡ Ok text
 -- the outcome over a file's text, by its reading: the text's first fault, or the outcome for the value that the text is read as
 abbrev pub Then : {F A : Type 0} → (F → BytesFault) → (A → Outcome → Type 0) → Result A F → Outcome
     → Type 0
-Then with_bytes_fault rest (Ok value) outcome = rest value outcome
-Then with_bytes_fault rest (Err fault) outcome = outcome ≡ Err (with_bytes_fault fault)
+Then in_file rest (Ok value) outcome = rest value outcome
+Then in_file rest (Err fault) outcome = outcome ≡ Err (in_file fault)
 
 -- the outcome over the text of the map or the list that labels come from: its first fault, or the outcome for its
 -- labelling

@@ -25,10 +25,10 @@ abbrev One : (Outcome → Type 0) → Type 0
 One Is = (outcome : Outcome) × Is outcome × ((other : Outcome) → Is other → other ≡ outcome)
 
 -- there is one outcome over a text, if there is one for each value
-value_one : {F A : Type 0} (with_bytes_fault : F → BytesFault) (reading : Result A F) (rest : A → Outcome → Type 0) → ((x : A) → reading ≡ Ok x → One (rest x))
-    → One (Then with_bytes_fault rest reading)
-value_one with_bytes_fault (Ok x) rest one = one x refl
-value_one with_bytes_fault (Err f) rest one = (Err (with_bytes_fault f), refl, (λ other is. is))
+value_one : {F A : Type 0} (in_file : F → BytesFault) (reading : Result A F) (rest : A → Outcome → Type 0) → ((x : A) → reading ≡ Ok x → One (rest x))
+    → One (Then in_file rest reading)
+value_one in_file (Ok x) rest one = one x refl
+value_one in_file (Err f) rest one = (Err (in_file f), refl, (λ other is. is))
 
 labels_one : (rest : Labelling → Outcome → Type 0) (file : LabelFile) (texts : ByFile Text) → ((labels : Labelling) → One (rest labels)) → One (LabelsThen rest file texts)
 labels_one rest file texts one = subst One (sym (labels_then rest file texts)) (value_one (λ f. f) (labels_reading file texts) rest (λ labels reads. one labels))
