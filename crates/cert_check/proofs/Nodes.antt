@@ -10,8 +10,7 @@ use Rattle.pmap_cert.specs.Paths.{path_number}
 use Rattle.pmap_cert.specs.Compacting.{line_count}
 use Rattle.pmap_cert.specs.CertificateModel.{CertificateModel, ChainNode, InnerNode, LeafNode, Tree, claim_of, chosen_half, side_half}
 use Rattle.cert_check.specs.Inner.{IsHalfNumbered, sides_fault}
-use Rattle.cert_check.specs.Checking.{bits_fault, fault_of_number, first_fault, is_same_version, leaf_fault, node_fault, BoundNotMet, Certificate, Check, CheckFault, CostTooHigh, LeafNotUniform, ListDiffers, NoMemory, SetTooSmall, VersionDiffers}
-use Rattle.pmap_cert.specs.declared.fault.CertFault.{CertFault}
+use Rattle.cert_check.specs.Checking.{bits_fault, fault_of_number, first_fault, is_same_version, leaf_fault, node_fault, BoundNotMet, Check, CheckFault, CostTooHigh, LeafNotUniform, ListDiffers, NoMemory, SetTooSmall, VersionDiffers}
 use Rattle.pmap_text.specs.ListModel.{ListModel}
 
 pub or-none : {X : Type 0} (a : Option X) → option_or a None ≡ a
@@ -116,7 +115,3 @@ text-none (Some f) e = absurd (none-some (Check f) (sym e))
 pub text-checked : (o : Option CheckFault) (f : CheckFault) → option_map Check o ≡ Some (Check f) → o ≡ Some f
 text-checked None f e = absurd (none-some (Check f) e)
 text-checked (Some g) f e = let same : Check g ≡ Check f = same_Some (Check g) (Check f) e in cc
-
-pub text-read : (o : Option CheckFault) (f : CertFault) → option_map Check o ≡ Some (Certificate f) → ⊥
-text-read None f e = none-some (Certificate f) e
-text-read (Some g) f e = let bad : Check g ≡ Certificate f = same_Some (Check g) (Certificate f) e in cc

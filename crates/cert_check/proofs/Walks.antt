@@ -1,7 +1,7 @@
 -- The results of a walk over a tree, by those over the trees below it.
 use Rattle.std.proofs.Math.Seq.{drop-append_seam, take-append_seam}
 use Rattle.std.proofs.lemmas.List.{append-nil, append_assoc, length-append, length-drop, length-take-le, take-append-drop}
-use Rattle.std.proofs.Common.{◌≡◌, ◌∙◌, ℕ, drop, take, suc, ◌+◌, ◌-◌, ◌*◌, ◌≤◌, Bool, List, [], ◌++◌, length, Option, Ok, option_map, refl, sym, ap, subst, arith}
+use Rattle.std.proofs.Common.{◌≡◌, ◌∙◌, ℕ, drop, take, suc, ◌+◌, ◌-◌, ◌*◌, ◌≤◌, Bool, List, [], ◌++◌, length, Option, Ok, option_map, refl, sym, ap, arith}
 use Rattle.std.specs.Option.{option_or}
 use Rattle.prefix_keys.specs.declared.block.Block.{Block}
 use Rattle.pmap_text.specs.MapModel.{MapModel}
@@ -14,11 +14,10 @@ use Rattle.pmap_cert.specs.Compacting.{line_count}
 use Rattle.pmap_cert.specs.CertificateText.{IsAscending}
 use Rattle.pmap_cert.specs.CertificateModel.{ChainNode, InnerNode, Claim, Tree, chain_claim, claim_of, exact_claim}
 use Rattle.pmap_cert.specs.FormatReading.{Place}
-use Rattle.pmap_cert.specs.NodeSource.{place_in}
 use Rattle.pmap_cert.specs.Paths.{LeadsTo}
 use Rattle.pmap_cert.specs.declared.fault.CertFault.{CertFault}
 use Rattle.cert_check.specs.Checking.{bits_fault, claim_fault, fault_of_number, node_fault, BoundNotMet, CheckFault, CheckFaultKind}
-use Rattle.cert_check.specs.Inner.{CanBeRead, IsAfter, IsPassed, IsUnread, Read, Sources, Walk, chain_reading, claim_with, fault_of_node, fault_with, halves_reading, reading_at, sides_fault}
+use Rattle.cert_check.specs.Inner.{IsAfter, IsPassed, IsUnread, Read, Sources, Walk, chain_reading, claim_with, fault_of_node, fault_with, halves_reading, reading_at, sides_fault}
 use Rattle.cert_check.proofs.Nodes.{bits-sides, or-or}
 use Rattle.cert_check.proofs.Sets.{numbers}
 
@@ -46,11 +45,11 @@ module _ (s : Sources) (n q low high cost : ℕ) (low_is : low ≡ 2 * q) (high_
 
   module _ (sets : List LabelId) (before : Option CheckFault) (middle : Walk) (low_cost : ℕ)
       (lower : IsPassed s (reading_at s (n + 1) place) (fault_of_node s (n + 1) low) next sets before middle low_cost) where
-    pub upper-unread : (f : CertFault) → IsUnread (reading_at s (n + 1) (place_in middle.nodes)) f → IsUnread (halves_reading s n claim place) f
+    pub upper-unread : (f : CertFault) → IsUnread (reading_at s (n + 1) middle.nodes) f → IsUnread (halves_reading s n claim place) f
     upper-unread f unread = (λ some. ap lower_then lower.read ∙ ap (upper_then lower.tree) (unread.0 some), unread.1)
 
     pub halves-passed : (old : List LabelId) (last new : Walk) (high_cost : ℕ) (o : Option CheckFaultKind)
-        (upper : IsPassed s (reading_at s (n + 1) (place_in middle.nodes)) (fault_of_node s (n + 1) high) middle.number middle.sets.items middle.fault last high_cost)
+        (upper : IsPassed s (reading_at s (n + 1) middle.nodes) (fault_of_node s (n + 1) high) middle.number middle.sets.items middle.fault last high_cost)
         → IsAscending (length s.limits.labels.now) 0 (numbers own)
         → o ≡ claim_fault claim (exact_claim (claim_with s.limits.labels.now low_cost (numbers lower.set)) (claim_with s.limits.labels.now high_cost (numbers upper.set)))
         → new.nodes ≡ last.nodes → new.number ≡ last.number → new.sets.items ≡ old ++ own → new.fault ≡ option_or last.fault (fault_with number o)
@@ -58,8 +57,7 @@ module _ (s : Sources) (n q low high cost : ℕ) (low_is : low ≡ 2 * q) (high_
     halves-passed old last new high_cost o upper ascending fault nodes numbered sets noted = record {
       tree = InnerNode claim lower.tree upper.tree;
       set = own;
-      nodes = subst (CanBeRead s) (sym nodes) upper.nodes;
-      read = ap lower_then lower.read ∙ ap (upper_then lower.tree) upper.read ∙ ap (λ (l : Place). Ok (InnerNode claim lower.tree upper.tree, l)) (sym (ap place_in nodes));
+      read = ap lower_then lower.read ∙ ap (upper_then lower.tree) upper.read ∙ ap (λ (l : Place). Ok (InnerNode claim lower.tree upper.tree, l)) (sym nodes);
       claim = refl;
       ascending = ascending;
       sets = sets;
@@ -127,8 +125,7 @@ module _ (s : Sources) (b end : Block) (cost : ℕ) (own : List LabelId) (bits :
   chain-passed sets old before last new end_cost beside o below ascending sides fault nodes numbered items noted = record {
     tree = ChainNode claim' bits text below.tree;
     set = own;
-    nodes = subst (CanBeRead s) (sym nodes) below.nodes;
-    read = ap then_chain (end-at ∙ below.read) ∙ ap (λ (l : Place). Ok (ChainNode claim' bits text below.tree, l)) (sym (ap place_in nodes));
+    read = ap then_chain (end-at ∙ below.read) ∙ ap (λ (l : Place). Ok (ChainNode claim' bits text below.tree, l)) (sym nodes);
     claim = refl;
     ascending = ascending;
     sets = items;

@@ -17,8 +17,6 @@ use Rattle.pmap_text.specs.declared.prefix_list.PrefixList.{PrefixList}
 use Rattle.pmap_cert.specs.CertificateModel.{CertificateModel, Tree, claim_of}
 use Rattle.pmap_cert.specs.FormatReading.{Place, ended_by, fault_at, is_ended}
 use Rattle.pmap_cert.specs.Inner.{node_due_at, reading_from}
-use Rattle.pmap_cert.specs.NodeSource.{place_in}
-use Rattle.pmap_cert.proofs.Tables.{ok_is}
 use Rattle.pmap_cert.specs.declared.fault.CertFault.{CertFault}
 use Rattle.pmap_cert.specs.declared.fault.CertFaultKind.TheVariants.{NodesLeft}
 use Rattle.pmap_cert.specs.declared.format.Format.{Format}
@@ -42,7 +40,7 @@ root-checked s are place number cost old before last new one none passed nodes_s
     let versions = and_from _ _ (same_version-from l.version m.version are.list_version) (same_version-own m.version) in
     record {
       tree = passed.tree;
-      read = passed.read ∙ ap (λ (l : Place). Ok (passed.tree, l)) (sym (ap place_in nodes_same));
+      read = passed.read ∙ ap (λ (l : Place). Ok (passed.tree, l)) (sym nodes_same);
       fault = noted
           ∙ (λ i. bound (((passed.fault 1 (sym one)).0 ∙ ap (λ o. option_or o (fault_of_node s 0 (number_at s 0 0) passed.tree 1)) none) i)
           (nat_lt ((sym passed.claim i).cost + 1) (sym (length-map s.list.now.entries (prefix_of s.list.now.labels)) i)))
@@ -71,20 +69,14 @@ module _ (s : Sources) (are : AreSources s) (format : Format) (table : List Labe
     fault-of tree is =
         (λ i. first_fault (map_of (sym map_is i)) (list_of (sym list_is i)) (certificate_with (sym format_is i) (version_is i) (sym table_is i) (sym is i))) ∙ sym root.fault
 
-    pub read-as : is_ended (place_in new.nodes).pieces ≡ true
+    pub read-as : is_ended new.nodes.pieces ≡ true
         → (reading_from format version table place ≡ Ok (certificate_with format version table root.tree))
         × (first_fault (map_of m) (list_of l) (certificate_with format version table root.tree) ≡ new.fault)
     read-as ended = (
       from-root ∙ ap then_ended root.read
-          ∙ ap (λ (b : Bool). cond b (Ok (certificate_with format version table root.tree)) (Err (fault_at (place_in new.nodes) NodesLeft))) ended,
+          ∙ ap (λ (b : Bool). cond b (Ok (certificate_with format version table root.tree)) (Err (fault_at new.nodes NodesLeft))) ended,
       fault-of root.tree refl,
     )
-
-    -- it is that of the certificate that was given, if its nodes are read from the place
-    pub given-as : (tree : Tree) (after : Place) → node_due_at format (width_of version) table (width_of version) place ≡ Ok (tree, after)
-        → first_fault (map_of m) (list_of l) (certificate_with format version table tree) ≡ new.fault
-    given-as tree after read =
-        fault-of tree (ap (λ (x : Tree × Place). x.0) (ok_is (root.tree, place_in new.nodes) (tree, after) (sym root.read ∙ sym at-root ∙ read)))
 
 -- a certificate that is read after a head has the head's version
 read-version : (format : Format) (version : Version) (table : List Label) (k : CertificateModel) (r : Read)

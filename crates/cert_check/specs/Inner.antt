@@ -22,8 +22,6 @@ use Rattle.pmap_cert.specs.declared.fault.CertFault.{CertFault}
 use Rattle.pmap_cert.specs.declared.node.Claim.{Claim as Claimed}
 use Rattle.pmap_cert.specs.declared.fault.CertFaultKind.TheVariants.{NoMemory as NoMemoryForText}
 use Rattle.pmap_cert.specs.Inner.{node_due_at}
-use Rattle.pmap_cert.specs.NodeSource.{HasFittingLines, place_in}
-use Rattle.pmap_cert.specs.declared.node_source.NodeSource.{NodeSource}
 use Rattle.pmap_text.specs.Reading.{◌>>=◌}
 use Rattle.cert_check.specs.Checking.{is_label_of, fault_of_number, first_fault, leaf_fault, node_fault, BoundNotMet, CheckFault, CheckFaultKind}
 pub use Rattle.cert_check.specs.declared.source.Source.{Source}
@@ -144,17 +142,12 @@ pub record FitsPath (s : Sources) (b : Block) (side : ℕ) (bits : List Bool) : 
 abbrev pub fault_with : ℕ → Option CheckFaultKind → Option CheckFault
 fault_with number = option_map (λ kind. record { kind = kind; node = number })
 
--- the lines of the nodes that are left fit the certificate
-abbrev pub CanBeRead : Sources → NodeSource → Type 0
-CanBeRead s = HasFittingLines (format_number s.limits.format) s.limits.width (length s.limits.labels.now)
-
 -- A tree was read, whose node has this number. The walk has its claimed set after the old ones, and its first fault
 -- unless one came before.
 pub record IsPassed (s : Sources) (reading : Read) (fault_at : Tree → ℕ → Option CheckFault) (number : ℕ) (old : List LabelId) (before : Option CheckFault) (new : Walk) (cost : ℕ) : Type 0 where
   pub tree : Tree
   pub set : List LabelId
-  pub nodes : CanBeRead s new.nodes
-  pub read : reading ≡ Ok (tree, place_in new.nodes)
+  pub read : reading ≡ Ok (tree, new.nodes)
   pub claim : claim_of tree ≡ claim_with s.limits.labels.now cost (map (λ i. i.0) set)
   pub ascending : IsAscending (length s.limits.labels.now) 0 (map (λ i. i.0) set)
   pub sets : new.sets.items ≡ old ++ set
@@ -168,7 +161,7 @@ IsUnread read found = (found.kind ≢ NoMemoryForText → read ≡ Err found) ×
 -- the result of a walk over a tree: its claimed cost, or `None` if the walk has the first fault of its text
 abbrev pub IsWalkResult : Sources → Read → (Tree → ℕ → Option CheckFault) → ℕ → List LabelId → Option CheckFault → Walk → Option ℕ → Type 0
 IsWalkResult s read fault number old before new (Some cost) = IsPassed s read fault number old before new cost
-IsWalkResult s read fault number old before new None = (found : CertFault) × (new.end ≡ Err found) × IsUnread read found
+IsWalkResult s read fault number old before new None = (found : CertFault) × (new.outcome ≡ Err found) × IsUnread read found
 
 -- the certificate whose root is this tree
 abbrev pub certificate_with : Format → Version → List Label → Tree → CertificateModel
@@ -177,6 +170,6 @@ certificate_with format version table root = record { format = format_number for
 -- the root was read, and the walk has the first fault of its certificate
 pub record IsRootChecked (s : Sources) (place : Place) (new : Walk) : Type 0 where
   pub tree : Tree
-  pub read : reading_at s 0 place ≡ Ok (tree, place_in new.nodes)
+  pub read : reading_at s 0 place ≡ Ok (tree, new.nodes)
   pub fault : new.fault
       ≡ first_fault (map_of s.map.now) (list_of s.list.now) (certificate_with s.limits.format s.map.now.version s.limits.labels.now tree)

@@ -6,9 +6,8 @@ ghost use Rattle.pmap_text.specs.PrefixList.{list_of};
 ghost use Rattle.pmap_cert.specs.Acceptance.{IsAccepted, IsLeast};
 ghost use Rattle.pmap_cert.specs.Certificate.{certificate_of};
 ghost use Rattle.pmap_cert.specs.FormatReading.{format_reading};
-ghost use Rattle.pmap_cert.specs.NodeSource.{place_in};
 ghost use Rattle.cert_check.specs.Checking.{IsTextOutcome, first_fault, is_same_version, text_fault, NoMemory};
-ghost use Rattle.cert_check.specs.Inner.{AreSources, CanBeRead, IsRootChecked, IsUnread, reading_at};
+ghost use Rattle.cert_check.specs.Inner.{AreSources, IsRootChecked, IsUnread, reading_at};
 ghost use Rattle.pmap_cert.specs.CertificateModel.{CertificateModel};
 
 use crate::fault::{CheckFault, CheckFaultKind, TextFault};
@@ -16,7 +15,7 @@ use crate::laws::no_fault_is_acceptance;
 use crate::sources::Sources;
 use crate::walk::{Walk, check_node};
 use pmap_cert::{
-    CertFault, CertFaultKind, Certificate, Head, LineLimits, NodeSource, acceptance_is_enough,
+    CertFault, CertFaultKind, Certificate, Head, LineLimits, acceptance_is_enough,
     read_cert_with_hashing, read_head, text_of_format_is_read_or_has_a_fault, write_cert,
 };
 use pmap_text::{KeyHashing, MapText, PrefixList};
@@ -36,14 +35,13 @@ fn are_one_version(map: &MapText, list: &PrefixList, version: Version) -> bool
 // Checks the nodes of a certificate, and keeps its first fault.
 fn check_root(sources: &Sources, walk: &mut Walk) -> Result<(), CertFault>
     requires sources { AreSources sources.now }
-    requires nodes { CanBeRead sources.now walk.old.nodes }
     requires number { walk.old.number ≡ 1 }
     requires fault { walk.old.fault ≡ None }
-    ensures ok { OnOk result (IsRootChecked sources.now (place_in walk.old.nodes) walk.new) }
-    ensures err { IfErr result (IsUnread (reading_at sources.now 0 (place_in walk.old.nodes))) }
+    ensures ok { OnOk result (IsRootChecked sources.now walk.old.nodes walk.new) }
+    ensures err { IfErr result (IsUnread (reading_at sources.now 0 walk.old.nodes)) }
 {
     let Some(cost) = check_node(sources, walk, 0, sources.map.version.last_address(), 0) else {
-        return walk.end;
+        return walk.outcome;
     };
     if sources.list.entries.len() as u64 > u64::from(cost) + 1 {
         walk.note(Some(CheckFaultKind::BoundNotMet), 0);
@@ -90,7 +88,7 @@ pub fn check_text(
         }));
     }
     let sources = Sources::new(alloc, map, list, limits)?;
-    let mut walk = Walk::new(alloc, NodeSource::Text(nodes));
+    let mut walk = Walk::new(alloc, nodes);
     check_root(&sources, &mut walk)?;
     if !walk.nodes.is_ended() {
         return Err(TextFault::Certificate(walk.nodes.fault(CertFaultKind::NodesLeft)));
@@ -144,29 +142,14 @@ pub fn check(
         first_fault (map_of map.now) (list_of list.now) (certificate_of certificate.now) ≡ Some fault) }
     ensures memory { IfErr result (λ fault. fault.kind ≡ NoMemory → fault.node ≡ 0) }
 {
-    if !are_one_version(map, list, certificate.version) {
-        return Err(CheckFault {
-            kind: CheckFaultKind::VersionDiffers,
-            node: 0,
-        });
-    }
-    let limits = LineLimits {
-        format: certificate.format,
-        width: certificate.version.width(),
-        labels: &certificate.labels,
-    };
-    let sources = Sources::new(alloc, map, list, limits)?;
-    let mut walk = Walk::new(alloc, certificate.nodes());
-    let Ok(()) = check_root(&sources, &mut walk) else {
-        // The lines of a certificate are well formed, so only a failed allocation ends the walk early.
-        return Err(CheckFault::from(AllocError));
-    };
-    if let Some(fault) = walk.fault {
-        return Err(fault);
-    }
-    // Provides these laws: a certificate has a text, is accepted if it has no fault, and acceptance is enough.
+    let text = write_cert(alloc, certificate)?;
+    // Provides these laws: a certificate has a text, and a text is read as the certificate that it is the text of.
     let _root = certificate.root();
-    no_fault_is_acceptance();
-    acceptance_is_enough();
-    Ok(list.entries.len() as u64)
+    text_of_format_is_read_or_has_a_fault();
+    match check_text(alloc, map, list, text.as_slice(), KeyHashing::known()) {
+        Ok(count) => Ok(count),
+        Err(TextFault::Check(fault)) => Err(fault),
+        // The text of a certificate has no fault, so an allocation failed.
+        Err(TextFault::Certificate(_)) => Err(CheckFault::from(AllocError)),
+    }
 }

@@ -2,7 +2,6 @@
 //! sets.
 ghost use Rattle.std.specs.Prelude.{◌≡◌, ℕ, ◌+◌, ◌^◌, ◌<◌, ◌≤◌, ◌&&◌, ◌||◌, ◌==◌, ◌∷◌, [], IfSome, Some, None, length, map, nat_lt, not, if◌then◌else◌};
 ghost use Rattle.std.specs.List.{list_all};
-ghost use Rattle.pmap_text.specs.Label.{IsLabelTable};
 ghost use Rattle.pmap_text.specs.MapText.{text_at};
 ghost use Rattle.pmap_cert.specs.CertificateText.{IsAscending};
 ghost use Rattle.pmap_cert.specs.CertificateModel.{chain_claim, exact_claim};

@@ -35,7 +35,7 @@ pub enum CheckFaultKind {
 
 /// The first fault of a certificate: its kind, and the number of the node, from 1 in the order of the certificate's
 /// node lines. A fault of no single node, such as `NoMemory`, has the number 0.
-#[derive(Clone, Copy, Debug, Error)]
+#[derive(Clone, Copy, Debug, PartialEq, Eq, Error)]
 #[error("node {node}: {kind}")]
 pub struct CheckFault {
     pub kind: CheckFaultKind,
@@ -54,9 +54,11 @@ impl From<AllocError> for CheckFault {
 }
 
 /// The first fault of the text of a certificate, or of the certificate. Out of memory is a fault of the text.
-#[derive(Clone, Copy)]
+#[derive(Clone, Copy, Debug, PartialEq, Eq, Error)]
 pub enum TextFault {
+    #[error(transparent)]
     Certificate(CertFault),
+    #[error(transparent)]
     Check(CheckFault),
 }
 

@@ -31,7 +31,7 @@ pub struct Sources<'a> {
 /// The stretches of the map and of the list that were found last. The next ones are most often these or the ones after
 /// them. They don't affect any result.
 #[derive(Clone, Copy)]
-pub struct Near {
+pub struct LastFound {
     pub map: usize,
     pub list: usize,
 }
@@ -80,7 +80,7 @@ impl<'a> Sources<'a> {
     #[inline(always)]
     pub fn leaf_fault(
         &self,
-        near: &mut Near,
+        near: &mut LastFound,
         first: u128,
         last: u128,
         id: LabelId,
@@ -102,7 +102,7 @@ impl<'a> Sources<'a> {
     }
 
     // Returns `true` only if no block between the addresses has a fault as a leaf with the certificate's label `id`.
-    fn is_clear(&self, near: &mut Near, first: u128, last: u128, id: LabelId) -> bool
+    fn is_clear(&self, near: &mut LastFound, first: u128, last: u128, id: LabelId) -> bool
         requires sources { AreSources self.now }
         requires within { first < 2 ^ width_of self.now.map.now.version }
         requires order { first ≤ last }
@@ -116,7 +116,7 @@ impl<'a> Sources<'a> {
     /// Returns `true` only if no block inside `block` and before `end` has a fault as a leaf with the label `side`.
     pub fn is_clear_before(
         &self,
-        near: &mut Near,
+        near: &mut LastFound,
         block: &Block,
         end: &Block,
         side: LabelId,
@@ -131,7 +131,13 @@ impl<'a> Sources<'a> {
     }
 
     // Returns `true` only if no block inside `block` and after `end` has a fault as a leaf with the label `side`.
-    fn is_clear_after(&self, near: &mut Near, block: &Block, end: &Block, side: LabelId) -> bool
+    fn is_clear_after(
+        &self,
+        near: &mut LastFound,
+        block: &Block,
+        end: &Block,
+        side: LabelId,
+    ) -> bool
         requires sources { AreSources self.now }
         requires version { block.now.version ≡ self.now.map.now.version }
         requires known { side.0 < length self.now.limits.labels.now }
@@ -147,7 +153,7 @@ impl<'a> Sources<'a> {
     /// the label `side`. One look at the addresses after the end is enough if those before it are clear.
     pub fn path_fault(
         &self,
-        near: &mut Near,
+        near: &mut LastFound,
         block: &Block,
         path: &Path,
         side: LabelId,

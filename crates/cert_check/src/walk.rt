@@ -2,35 +2,34 @@
 ghost use Rattle.std.specs.Prelude.{◌≡◌, ◌+◌, ◌++◌, ◌∷◌, [], ◌<◌, Err, None, IfOk, OnOk, length, take};
 ghost use Rattle.std.specs.Option.{option_or};
 ghost use Rattle.pmap_text.specs.PrefixList.{number_of_block as number_of};
-ghost use Rattle.pmap_cert.specs.NodeSource.{place_in};
 ghost use Rattle.pmap_cert.specs.Packed.{bits_in};
-ghost use Rattle.cert_check.specs.Inner.{AreSources, CanBeRead, FitsPath, IsAfter, IsWalkResult, IsHeld, IsRangeOf, chain_reading, fault_of_node, fault_with, halves_reading, held_claim, number_at, reading_at};
+ghost use Rattle.cert_check.specs.Inner.{AreSources, FitsPath, IsAfter, IsWalkResult, IsHeld, IsRangeOf, chain_reading, fault_of_node, fault_with, halves_reading, held_claim, number_at, reading_at};
 
 use crate::claims::{chain_fault, claim_fault};
 use crate::fault::{CheckFault, CheckFaultKind};
-use crate::sources::{Near, Sources};
-use pmap_cert::{CertFault, CertFaultKind, Claim, LineLimits, Node, NodeBuffer, NodeSource, Path};
+use crate::sources::{LastFound, Sources};
+use pmap_cert::{CertFault, CertFaultKind, Claim, Lines, Node, NodeBuffer, Path};
 use pmap_text::LabelId;
 use prefix_keys::Block;
 use std::alloc::{AllocError, Global};
 
-/// The rest of a certificate's nodes, with the last one that was read from a text, the number of the next node, from 1,
+/// The rest of a certificate's text, with the last node that was read, the number of the next node, from 1,
 /// the sets of the nodes whose claims are still to be compared, in the order of their lines, the stretches that were
 /// found last, the first fault of the nodes so far, and the fault that has ended the walk, if any.
 #[derive(Drop)]
 pub struct Walk<'a> {
-    pub nodes: NodeSource<'a>,
+    pub nodes: Lines<'a>,
     pub buffer: NodeBuffer,
     number: u64,
     sets: Vec<LabelId>,
-    near: Near,
+    near: LastFound,
     pub fault: Option<CheckFault>,
-    pub end: Result<(), CertFault>,
+    pub outcome: Result<(), CertFault>,
 }
 
 impl<'a> Walk<'a> {
-    /// Constructs a walk at the first node.
-    pub fn new(alloc: Global, nodes: NodeSource<'a>) -> Walk<'a>
+    /// Constructs a walk at the first line of a node.
+    pub fn new(alloc: Global, nodes: Lines<'a>) -> Walk<'a>
         ensures nodes { result.nodes ≡ nodes.entry }
         ensures number { result.number ≡ 1 }
         ensures fault { result.fault ≡ None }
@@ -40,9 +39,9 @@ impl<'a> Walk<'a> {
             buffer: NodeBuffer::new(alloc),
             number: 1,
             sets: Vec::new(alloc),
-            near: Near { map: 0, list: 0 },
+            near: LastFound { map: 0, list: 0 },
             fault: None,
-            end: Ok(()),
+            outcome: Ok(()),
         }
     }
 
@@ -58,10 +57,10 @@ impl<'a> Walk<'a> {
     // Keeps the fault that ends the walk, and returns `None`. A result that has the fault wouldn't fit into registers.
     #[cold]
     fn stop(&mut self, fault: CertFault) -> Option<u32>
-        ensures stop { self.new ≡ record self.old { end = Err fault } }
+        ensures stop { self.new ≡ record self.old { outcome = Err fault } }
         ensures none { result ≡ None }
     {
-        self.end = Err(fault);
+        self.outcome = Err(fault);
         None
     }
 }
@@ -119,10 +118,9 @@ pub fn check_node(
     len: u32,
 ) -> Option<u32>
     requires sources { AreSources sources.now }
-    requires nodes { CanBeRead sources.now walk.old.nodes }
     requires range { IsRangeOf sources.now first last len (number_at sources.now len first) }
     ensures { let q = number_at sources.now len first in
-        IsWalkResult sources.now (reading_at sources.now len (place_in walk.old.nodes)) (fault_of_node sources.now len q)
+        IsWalkResult sources.now (reading_at sources.now len walk.old.nodes) (fault_of_node sources.now len q)
         walk.old.number walk.old.sets.items walk.old.fault walk.new result }
 {
     let deepest = walk.nodes.fault(CertFaultKind::TooDeep);
@@ -181,13 +179,12 @@ fn check_inner(
     held: StoredClaim,
 ) -> Option<u32>
     requires sources { AreSources sources.now }
-    requires nodes { CanBeRead sources.now walk.old.nodes }
     requires range { IsRangeOf sources.now first last len (number_at sources.now len first) }
     requires room { len < sources.now.limits.width }
     requires number { IsAfter number walk.old.number }
     requires held { IsHeld sources.now held walk.old.sets.items }
     ensures { let q = number_at sources.now len first in IsWalkResult sources.now
-        (halves_reading sources.now len (held_claim sources.now held walk.old.sets.items) (place_in walk.old.nodes))
+        (halves_reading sources.now len (held_claim sources.now held walk.old.sets.items) walk.old.nodes)
         (fault_of_node sources.now len q) number (take held.from walk.old.sets.items) walk.old.fault walk.new result }
 {
     let middle = first + (last - first) / 2;
@@ -229,7 +226,6 @@ fn check_chain(
     side: LabelId,
 ) -> Option<u32>
     requires sources { AreSources sources.now }
-    requires nodes { CanBeRead sources.now walk.old.nodes }
     requires version { block.now.version ≡ sources.now.map.now.version }
     requires fits { FitsPath sources.now block.now side.0 (bits_in path.now) }
     requires some { 0 < length (bits_in path.now) }
@@ -237,9 +233,9 @@ fn check_chain(
     requires held { IsHeld sources.now held walk.old.sets.items }
     ensures { IsWalkResult sources.now
         (chain_reading sources.now block.now.len (held_claim sources.now held walk.old.sets.items)
-        (bits_in path.now) side.0 (place_in walk.old.nodes))
-        (fault_of_node sources.now block.now.len (number_of block.now)) number (take held.from walk.old.sets.items) walk.old.fault
-        walk.new result }
+        (bits_in path.now) side.0 walk.old.nodes)
+        (fault_of_node sources.now block.now.len (number_of block.now)) number
+        (take held.from walk.old.sets.items) walk.old.fault walk.new result }
 {
     let end = path.end(block);
     let is_clear_before = sources.is_clear_before(&mut walk.near, block, &end, side);

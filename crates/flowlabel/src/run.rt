@@ -118,7 +118,7 @@ fn write_made<'a, W: Output>(alloc: Global, made: Made, writer: &mut W) -> Resul
         }
         Made::List(list) => print_to(writer, &ListText::new(alloc, &list)?),
         Made::Certificate(certificate) => print_to(writer, &certificate),
-        Made::Compact(certificate) => print_to(writer, &CompactText::new(alloc, certificate)?),
+        Made::Compact(certificate) => print_to(writer, &CompactText::new(alloc, &certificate)?),
         Made::Opened(compact) => print_to(writer, &OpenedText { compact }),
     }
 }

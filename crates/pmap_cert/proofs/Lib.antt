@@ -39,7 +39,6 @@ pub mod FormatTrees
 pub mod FormatWhole
 pub mod CompactNodes
 pub mod CompactPlaces
-pub mod StoredLines
 pub mod EntryOrder
 pub mod WordLines
 pub mod LastMatch

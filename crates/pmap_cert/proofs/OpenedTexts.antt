@@ -43,7 +43,7 @@ opens-claim (ChainNode claim bits side end) node is = is.claim_is ∙ by is.coun
 abbrev ended : List ℕ → List ℕ
 ended text = text ++ 10 ∷ []
 
-lines-text : (a b : List DueLine) → text_of_lines (map node_line_text (a ++ b)) ≡ text_of_lines (map node_line_text a) ++ text_of_lines (map node_line_text b)
+pub lines-text : (a b : List DueLine) → text_of_lines (map node_line_text (a ++ b)) ≡ text_of_lines (map node_line_text a) ++ text_of_lines (map node_line_text b)
 lines-text a b = ap text_of_lines (map-append node_line_text a b) ∙ text_of_lines-append (map node_line_text a) (map node_line_text b)
 
 leaf-text : (n : ℕ) → node_text (LeafNode n) ≡ ended (node_line_text (LeafLine n))

@@ -6,10 +6,6 @@ use Rattle.flow_io.specs.Sinks.{Adds, Pushes, PrintsText, SinkView}
 use Rattle.pmap_cert.specs.Sinks.{adds-then}
 
 module _ {S A E : Type 0} (sink : S → SinkView) (began : OutputView → S → Type 0) (old mid new : S) where
-  pub printed : (text : List ℕ) (r : Result A E) → OnOk r (Adds sink began old new text) → Pushes sink began old new text r
-  printed text (Ok _) adds = adds
-  printed text (Err _) adds = tt
-
   pub on-printed : {P : Type 0} (text : List ℕ) (r : Result A E) → Pushes sink began old new text r → (Adds sink began old new text → P) → OnOk r P
   on-printed text (Ok _) adds then = then adds
   on-printed text (Err _) adds then = tt

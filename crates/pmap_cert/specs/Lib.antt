@@ -9,7 +9,7 @@ pub mod Paths
 pub mod Format
 pub mod Certificate
 pub mod Inner
-pub mod NodeSource
+pub mod NextNode
 pub mod ListText
 pub mod Sinks
 pub mod Opened

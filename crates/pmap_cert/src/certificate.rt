@@ -1,4 +1,4 @@
-ghost use Rattle.std.specs.Prelude.{◌≡◌, ◌∷◌, [], Ok, length};
+ghost use Rattle.std.specs.Prelude.{◌≡◌, ◌∷◌, [], length};
 ghost use Rattle.prefix_keys.specs.Block.{width_of};
 ghost use Rattle.pmap_cert.specs.CertificateText.{HasFormatText, HasTextForm};
 ghost use Rattle.pmap_cert.specs.Format.{IsNodeOf, IsNodeOf-prop, One};
@@ -6,8 +6,6 @@ ghost use Rattle.pmap_cert.specs.Node.{HasChainForm, HasChainForm-prop, HasNumbe
 
 use crate::cursor::Cursor;
 use crate::format::Format;
-use crate::node_source::NodeSource;
-use crate::nodes_from::NodesFrom;
 use crate::root::Root;
 use pmap_text::Labels;
 use prefix_keys::Version;
@@ -28,11 +26,6 @@ pub struct Certificate {
 
 impl Certificate {
     ghost use Rattle.pmap_cert.specs.Certificate.{certificate_of};
-    ghost use Rattle.pmap_cert.specs.Format.{format_number};
-    ghost use Rattle.pmap_cert.specs.FormatReading.{Place};
-    ghost use Rattle.pmap_cert.specs.Inner.{node_due_at};
-    ghost use Rattle.pmap_cert.specs.Node.{tree_of};
-    ghost use Rattle.pmap_cert.specs.NodeSource.{HasFittingLines, place_in};
 
     /// Returns the certificate of format 1 with these parts.
     pub fn new(version: Version, labels: Labels, root: Root) -> Certificate
@@ -71,20 +64,5 @@ impl Certificate {
     {
         self.labels.laws();
         Cursor::at_root(&self.root)
-    }
-
-    /// Returns the nodes, from the root on. Read like a text, they are the certificate's.
-    pub fn nodes(&self) -> NodeSource<'_>
-        ensures fits { HasFittingLines (format_number self.now.format) (width_of self.now.version)
-            (length self.now.labels) result }
-        ensures read { let W = width_of self.now.version in (after : Place) ×
-            (node_due_at self.now.format W self.now.labels W (place_in result)
-            ≡ Ok (tree_of self.now.labels self.now.root, after)) }
-    {
-        self.labels.laws();
-        NodeSource::Nodes(NodesFrom {
-            nodes: self.root.nodes(),
-            number: 0,
-        })
     }
 }

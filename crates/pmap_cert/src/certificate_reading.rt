@@ -1,9 +1,9 @@
 //! Reading the text of a certificate, line by line.
-ghost use Rattle.std.specs.Prelude.{◌≡◌, ◌≢◌, ◌-◌, ◌<◌, ◌≤◌, [], Ok, Err, false, length, IfErr, IfOk, IsTrue, OnOk, if◌then◌else◌};
+ghost use Rattle.std.specs.Prelude.{◌≡◌, ◌≢◌, ◌-◌, ◌<◌, ◌≤◌, [], Ok, Err, false, length, IfErr, IfOk, IsTrue, OnOk};
 ghost use Rattle.pmap_text.specs.Label.{has_label, is_label as is_label_text};
 ghost use Rattle.pmap_cert.specs.Certificate.{ReturnsCertificate, certificate_of};
-ghost use Rattle.pmap_cert.specs.Format.{IsNodeOf, format_number};
-ghost use Rattle.pmap_cert.specs.FormatReading.{format_reading, is_ended, labels_at, line_due_at, new_label, line_value, BadLabelTable, BadNode, NoMemory, NodesMissing};
+ghost use Rattle.pmap_cert.specs.Format.{IsNodeOf};
+ghost use Rattle.pmap_cert.specs.FormatReading.{format_reading, is_ended, labels_at, new_label, line_value, BadLabelTable, NoMemory};
 ghost use Rattle.pmap_cert.specs.Node.{HasChainForm, tree_of};
 ghost use Rattle.pmap_cert.specs.Inner.{IsReadNode, node_due_at, reading_from};
 

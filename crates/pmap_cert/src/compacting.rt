@@ -1,23 +1,24 @@
 //! Compacting: a chain replaces each run of inner nodes that each have a leaf of the same label in one half.
 ghost use Rattle.std.specs.Coded.{→_prop};
-ghost use Rattle.std.specs.Prelude.{◌≡◌, ◌<◌, [], IfOk, IsSome, MatchOption, OnOk, length, nat_eq, option_map};
+ghost use Rattle.std.specs.Prelude.{◌≡◌, ◌<◌, [], IfOk, IsSome, MatchOption, length, nat_eq, option_map};
+ghost use Rattle.flow_io.specs.Sinks.{Pushes};
 ghost use Rattle.pmap_cert.specs.Certificate.{certificate_of};
-ghost use Rattle.pmap_cert.specs.CertificateModel.{IsPlain};
 ghost use Rattle.pmap_cert.specs.CertificateText.{certificate_text, node_lines};
 ghost use Rattle.pmap_cert.specs.Compacting.{compact, compacted, is_side, leaf_label, side_of};
+ghost use Rattle.pmap_cert.specs.Opened.{node_text};
 ghost use Rattle.pmap_cert.specs.Packed.{bits_in};
 ghost use Rattle.pmap_cert.specs.declared.format.Format.TheVariants.{One};
-ghost use Rattle.pmap_cert.specs.Inner.{AreEndsFrom, AreEndsFrom-prop, ArePlain, EndsAt, HasHalves, HasPlace, IsLong, IsRun, IsShallow, IsShort, IsStep, node_from};
+ghost use Rattle.pmap_cert.specs.Inner.{AreEndsFrom, AreEndsFrom-prop, ArePlain, EndsAt, HasHalves, HasPlace, IsLong, IsRun, IsShort, IsStep, node_from};
 
 use crate::certificate::Certificate;
+use crate::certificate_reading::read_cert;
+use crate::chain_laws::compact_has_a_text;
 use crate::format::Format;
 use crate::node::Node;
-use crate::node_sink::NodeSink;
 use crate::nodes::Nodes;
 use crate::path::Path;
-use crate::root::Root;
-use crate::writing::{push_head, push_nodes};
-use flow_io::{Printable, Sink};
+use crate::writing::{push_head, push_line, push_nodes};
+use flow_io::{Printable, Sink, text_of};
 use pmap_text::LabelId;
 use std::alloc::{AllocError, Global};
 
@@ -143,63 +144,78 @@ fn run_of(
 }
 
 // Compacts the node at line `number` and adds the lines of the result to `out`.
-fn compact_node<S: NodeSink>(
+fn compact_node<S: Sink>(
     out: &mut S,
     nodes: &Nodes,
     ends: &[usize],
     number: usize,
 ) -> Result<(), S::Fault>
     requires { HasPlace nodes.now ends.now number }
-    ensures { OnOk result (S.has_added out.old (node_lines (compacted nat_eq (node_from nodes.now number))) out.new) }
+    ensures { Pushes S.sink S.began out.old out.new
+        (node_text (compacted nat_eq (node_from nodes.now number))) result }
 {
     let Some(halves) = halves_of(nodes, ends, number) else {
-        return out.add(nodes.node(number));
+        return push_line(out, nodes.node(number));
     };
     match run_of(nodes, ends, number, halves) {
         Some((path, side, end)) => {
-            out.add(Node::Chain {
+            let chain = Node::Chain {
                 claim: nodes.claim(number),
                 path: &path,
                 side,
-            })?;
+            };
+            push_line(out, chain)?;
             compact_node(out, nodes, ends, end)
         }
         None => {
-            out.add(nodes.node(number))?;
+            push_line(out, nodes.node(number))?;
             compact_node(out, nodes, ends, halves.0)?;
             compact_node(out, nodes, ends, halves.1)
         }
     }
 }
 
-// Adds the lines of a compacted root to `out`, by the ends of its nodes.
-fn push_compacted<S: NodeSink>(out: &mut S, root: &Root, ends: &[usize]) -> Result<(), S::Fault>
-    requires plain { IsPlain root.now }
-    requires shallow { IsShallow root.now }
-    requires ends { AreEndsFrom (node_lines root.now) ends.now 0 }
-    ensures { OnOk result (S.has_added out.old (node_lines (compacted nat_eq root.now)) out.new) }
-{
-    compact_node(out, root.nodes(), ends, 0)
+/// The text of the certificate of `compact`, which is printed without its nodes.
+#[derive(Drop)]
+pub struct CompactText<'a> {
+    pub certificate: &'a Certificate,
+    // For each line of a certificate of format 1 the first line after its node and those below it.
+    ends: Vec<usize>,
+    ghost ends_are: { certificate.now.format ≡ One →
+        AreEndsFrom (node_lines certificate.now.root) ends.items 0 } by { →_prop
+            (AreEndsFrom-prop (node_lines certificate.now.root) ends.items 0) },
 }
 
-// Returns for each line of a root the first line after its node and those below it.
-fn root_ends(alloc: Global, root: &Root) -> Result<Vec<usize>, AllocError>
-    requires plain { IsPlain root.now }
-    requires shallow { IsShallow root.now }
-    ensures { IfOk result (λ ends. AreEndsFrom (node_lines root.now) ends.items 0) }
-{
-    ends_of(alloc, root.nodes())
+impl<'a> CompactText<'a> {
+    /// Prepares to print a certificate, compacted. Printing doesn't allocate.
+    pub fn new(alloc: Global, certificate: &'a Certificate) -> Result<CompactText<'a>, AllocError>
+        ensures { IfOk result (λ text. text.certificate ≡ certificate.entry) }
+    {
+        let ends = match certificate.format {
+            Format::One => ends_of(alloc, certificate.root.nodes())?,
+            Format::Two => Vec::new(alloc),
+        };
+        Ok(CompactText { certificate, ends })
+    }
 }
 
-fn compact_root(alloc: Global, root: &Root) -> Result<Root, AllocError>
-    requires plain { IsPlain root.now }
-    requires shallow { IsShallow root.now }
-    ensures { IfOk result (λ found. found ≡ compacted nat_eq root.now) }
-{
-    let ends = root_ends(alloc, root)?;
-    let mut out = Nodes::new(alloc);
-    push_compacted(&mut out, root, ends.as_slice())?;
-    Ok(Root::new(out))
+impl Printable for CompactText<'_> {
+    ghost use Rattle.std.specs.Prelude.{⊤};
+    ghost use Rattle.pmap_cert.specs.Certificate.{certificate_of};
+
+    ghost is_whole = { λ _. ⊤ };
+
+    ghost is_text = { λ t text. text ≡ certificate_text (compact (certificate_of t.certificate.now)) };
+
+    fn print<S: Sink>(&self, out: &mut S) -> Result<(), S::Fault> {
+        let certificate = self.certificate;
+        certificate.labels.laws();
+        push_head(out, Format::Two, certificate.version, &certificate.labels)?;
+        match certificate.format {
+            Format::One => compact_node(out, certificate.root.nodes(), self.ends.as_slice(), 0),
+            Format::Two => push_nodes(out, certificate.root.nodes()),
+        }
+    }
 }
 
 /// Compacts a certificate. In one of format 1, from the root down, a chain replaces each run of two or more inner nodes
@@ -207,53 +223,10 @@ fn compact_root(alloc: Global, root: &Root) -> Result<Root, AllocError>
 pub fn compact(alloc: Global, certificate: &Certificate) -> Result<Certificate, AllocError>
     ensures { IfOk result (λ found. certificate_of found ≡ compact (certificate_of certificate.now)) }
 {
-    certificate.labels.laws();
-    let labels = certificate.labels.copy()?;
-    let root = match certificate.format {
-        Format::One => compact_root(alloc, &certificate.root)?,
-        Format::Two => certificate.root.copy(alloc)?,
-    };
-    Ok(Certificate::of_format(Format::Two, certificate.version, labels, root))
-}
-
-/// The text of the certificate of `compact`, which is printed without its nodes.
-#[derive(Drop)]
-pub struct CompactText {
-    pub certificate: Certificate,
-    // For each line of a certificate of format 1 the first line after its node and those below it.
-    ends: Vec<usize>,
-    ghost ends_are: { certificate.format ≡ One → AreEndsFrom (node_lines certificate.root) ends.items 0 } by { →_prop
-        (AreEndsFrom-prop (node_lines certificate.root) ends.items 0) },
-}
-
-impl CompactText {
-    /// Prepares to print a certificate, compacted. Printing doesn't allocate.
-    pub fn new(alloc: Global, certificate: Certificate) -> Result<CompactText, AllocError>
-        ensures { IfOk result (λ text. text.certificate ≡ certificate) }
-    {
-        let ends = match certificate.format {
-            Format::One => root_ends(alloc, &certificate.root)?,
-            Format::Two => Vec::new(alloc),
-        };
-        Ok(CompactText { certificate, ends })
-    }
-}
-
-impl Printable for CompactText {
-    ghost use Rattle.std.specs.Prelude.{⊤};
-    ghost use Rattle.pmap_cert.specs.Certificate.{certificate_of};
-
-    ghost is_whole = { λ _. ⊤ };
-
-    ghost is_text = { λ t text. text ≡ certificate_text (compact (certificate_of t.certificate)) };
-
-    fn print<S: Sink>(&self, out: &mut S) -> Result<(), S::Fault> {
-        let certificate = &self.certificate;
-        certificate.labels.laws();
-        push_head(out, Format::Two, certificate.version, &certificate.labels)?;
-        match certificate.format {
-            Format::One => push_compacted(out, &certificate.root, self.ends.as_slice()),
-            Format::Two => push_nodes(out, certificate.root.nodes()),
-        }
-    }
+    let text = text_of(alloc, &CompactText::new(alloc, certificate)?)?;
+    // Provides these laws: a certificate has a text, and so has a compacted one.
+    let _root = certificate.root();
+    compact_has_a_text();
+    // A text of a certificate has no fault, so only an allocation can fail.
+    read_cert(alloc, text.as_slice()).map_err(|_| AllocError)
 }

@@ -31,7 +31,7 @@ pub enum CertFaultKind {
 }
 
 /// The first fault of a text: its kind and its line, counted from 1. `NoMemory` has line 0.
-#[derive(Clone, Copy, Debug, Error)]
+#[derive(Clone, Copy, Debug, PartialEq, Eq, Error)]
 #[error("line {line}: {kind}")]
 pub struct CertFault {
     pub kind: CertFaultKind,

@@ -1,6 +1,6 @@
 //! Laws about certificates.
 
-ghost use Rattle.std.specs.Prelude.{◌≡◌, ◌+◌, ◌≤◌, ◌&&◌, ◌||◌, ◌⊎◌, ◌↔◌, ℕ, List, Err, Ok, false, length, IsTrue};
+ghost use Rattle.std.specs.Prelude.{◌≡◌, ◌+◌, ◌≤◌, ◌&&◌, ◌||◌, ℕ, List, Ok, false, length, IsTrue};
 ghost use Rattle.pmap_text.specs.ListModel.{IsEquivalent, ListModel};
 ghost use Rattle.pmap_text.specs.MapModel.{Label, MapModel};
 ghost use Rattle.pmap_text.specs.Reading.{map_reading};

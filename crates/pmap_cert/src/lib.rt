@@ -38,10 +38,7 @@ mod lines;
 mod list_laws;
 mod node;
 mod node_line;
-mod node_sink;
-mod node_source;
 mod nodes;
-mod nodes_from;
 mod opened;
 mod packed;
 mod path;
@@ -64,12 +61,12 @@ pub use laws::{
     map_text_has_its_labels, minimal_list_is_in_order, minimal_pair_exists,
     minimal_pair_is_accepted, minimal_pair_is_unique,
 };
+pub use lines::Lines;
 pub use list_laws::{
     minimal_list_can_be_read_again, printed_list_is_read_back, printed_order_is_one,
 };
 pub use node::{Claim, Node, has_label};
 pub use node_line::{LineLimits, NodeBuffer};
-pub use node_source::NodeSource;
 pub use nodes::Nodes;
 pub use opened::OpenedText;
 pub use path::Path;

@@ -1,7 +1,7 @@
 ghost use Rattle.std.specs.Prelude.{◌≡◌, Err, IfErr, IfOk, Ok, option_map};
 ghost use Rattle.pmap_cert.specs.Format.{header_of};
 ghost use Rattle.pmap_cert.specs.FormatReading.{fault_at, format_header_at, is_ended, line_from, start_of};
-ghost use Rattle.pmap_cert.specs.NodeSource.{IsNextNode};
+ghost use Rattle.pmap_cert.specs.NextNode.{IsNextNode};
 
 use crate::fault::{CertFault, CertFaultKind};
 use crate::format::Format;

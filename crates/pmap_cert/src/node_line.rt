@@ -1,5 +1,5 @@
 //! The lines of nodes, each read in one pass over its bytes.
-ghost use Rattle.std.specs.Prelude.{◌≡◌, ◌≢◌, ◌^◌, ◌<◌, ◌≤◌, ◌⊎◌, ◌∷◌, IfOk, IsTrue, false, length, map, option_map, slice_index};
+ghost use Rattle.std.specs.Prelude.{◌≡◌, ◌^◌, ◌<◌, ◌≤◌, IfOk, map, option_map};
 ghost use Rattle.pmap_cert.specs.Format.{format_number};
 ghost use Rattle.pmap_cert.specs.Inner.{BeginsWithBits, BeginsWithChain, BeginsWithClaim, BeginsWithLast, BeginsWithLine, BeginsWithNumber, BeginsWithSet, Finds, after_byte as after_byte_of};
 ghost use Rattle.pmap_cert.specs.Packed.{bits_in, line_of};
@@ -9,6 +9,9 @@ use crate::node::{Claim, Node};
 use crate::path::Path;
 use pmap_text::{LabelId, Labels};
 use std::alloc::{AllocError, Global};
+
+// The number of costs that a node can claim: a cost has 32 bits.
+const COSTS: u64 = 1 << 32;
 
 /// The limits of node lines: the format, the number of bits of an address, and the label table.
 #[derive(Clone, Copy)]
@@ -168,10 +171,11 @@ fn chain<'a>(
     requires few { most ≤ 128 }
     requires count { count ≤ 2 ^ 32 }
     ensures { IfOk result (λ found. Finds (BeginsWithChain most count text.entry.now)
-        (option_map (λ x. ((x.0.0, (bits_in buffer.new.path, (x.0.1.0, map (λ id. id.0) buffer.new.set.items))), x.1.now))
+        (option_map
+        (λ x. ((x.0.0, (bits_in buffer.new.path, (x.0.1.0, map (λ id. id.0) buffer.new.set.items))), x.1.now))
         found)) }
 {
-    let Some((cost, rest)) = number_word(text, 1 << 32) else {
+    let Some((cost, rest)) = number_word(text, COSTS) else {
         return Ok(None);
     };
     let Some((path, rest)) = bits_word(rest, most) else {
@@ -204,7 +208,7 @@ pub fn node_line<'a, 's>(
             None => Ok(None),
         }
     } else if let Some(rest) = after_byte(text, b'n') {
-        match claim(&mut buffer.set, rest, 1 << 32, count)? {
+        match claim(&mut buffer.set, rest, COSTS, count)? {
             Some((cost, rest)) => {
                 let set = buffer.set.as_slice();
                 Ok(Some((Node::Inner(Claim { cost, set }), rest)))

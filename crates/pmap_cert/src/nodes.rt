@@ -1,11 +1,11 @@
-ghost use Rattle.std.specs.Prelude.{◌≡◌, ◌+◌, ◌^◌, ◌<◌, ◌≤◌, ◌++◌, ◌∷◌, [], IfOk, OnErr, OnOk, length, map, reverse, slice_index_or};
+ghost use Rattle.std.specs.Prelude.{◌≡◌, ◌+◌, ◌^◌, ◌<◌, ◌++◌, ◌∷◌, [], IfOk, OnErr, OnOk, length, map, reverse, slice_index_or};
 ghost use Rattle.pmap_cert.specs.CertificateText.{ChainLine, LeafLine};
 ghost use Rattle.pmap_cert.specs.CertificateModel.{claim_of};
 ghost use Rattle.pmap_cert.specs.Node.{node_of};
 ghost use Rattle.pmap_cert.specs.Packed.{HasSetAt, IsGrown, IsLine, IsMore, bits_in, cost_at, line_of, set_at, store_of};
 
 use crate::node::{Claim, Node};
-use crate::packed::{HALF, Packed, Unpacked};
+use crate::packed::{HALF, Packed, SHORT_COSTS, Unpacked};
 use crate::path::Path;
 use pmap_text::LabelId;
 use std::alloc::{AllocError, Global};
@@ -145,7 +145,7 @@ fn pack(
         Node::Leaf(id) => Ok(Packed::pack(Unpacked::Leaf(id))),
         Node::Inner(claim) => {
             if let [id] = claim.set
-                && claim.cost < 1 << 29
+                && claim.cost < SHORT_COSTS
             {
                 return Ok(Packed::pack(Unpacked::Single(claim.cost, *id)));
             }
@@ -184,16 +184,6 @@ impl Nodes {
         ensures { result ≡ length self.now }
     {
         self.lines.len()
-    }
-
-    /// Returns the number, from 1, of the line that follows this many lines.
-    pub fn line_after(&self, count: usize) -> u64
-        requires { count ≤ length self.now }
-        ensures { result ≡ count + 1 }
-    {
-        // Provides the bound on the number of nodes.
-        let _count = self.lines.as_slice().len();
-        count as u64 + 1
     }
 
     /// Adds the line of a node. The lines of an inner node's lower half must follow, then those of its upper half, and
@@ -258,16 +248,5 @@ impl Nodes {
         ensures { self.new ≡ reverse self.old }
     {
         self.lines.reverse();
-    }
-
-    /// Copies the nodes.
-    pub fn copy(&self, alloc: Global) -> Result<Nodes, AllocError>
-        ensures { IfOk result (λ copy. copy ≡ self.now) }
-    {
-        Ok(Nodes {
-            lines: Vec::from_slice(alloc, self.lines.as_slice())?,
-            chains: Vec::from_slice(alloc, self.chains.as_slice())?,
-            sets: Vec::from_slice(alloc, self.sets.as_slice())?,
-        })
     }
 }

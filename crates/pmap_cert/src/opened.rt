@@ -223,7 +223,8 @@ fn push_chain<S: Sink>(
 ) -> Result<(), S::Fault>
     requires { IsOpenedAt at.old }
     ensures next { OnOk result (at.new ≡ drop 1 at.old) }
-    ensures text { OnOk result ((end : AnyNode) → Opens (first_node at.old) end → cost ≡ cost_above side.0 (claim_of end)
+    ensures text { OnOk result ((end : AnyNode) → Opens (first_node at.old) end
+        → cost ≡ cost_above side.0 (claim_of end)
         → Adds S.sink S.began out.old out.new (node_text (path_node side.0 path.now.value path.now.count end))) }
 {
     let chain = chain_of(cost, side, path.value);

@@ -36,6 +36,9 @@ const CHAIN: u32 = 4;
 // The number of kinds that three bits can tell apart.
 const KINDS: u32 = 8;
 
+/// The number of costs that fit into a tail beside its kind.
+pub const SHORT_COSTS: u32 = 1 << 29;
+
 /// The number of values of 32 bits.
 pub const HALF: usize = 1 << 32;
 

@@ -1,8 +1,7 @@
-ghost use Rattle.std.specs.Prelude.{◌≡◌, IfOk, reverse};
+ghost use Rattle.std.specs.Prelude.{◌≡◌, reverse};
 ghost use Rattle.pmap_cert.specs.Node.{IsTree, Node, node_lines};
 
 use crate::nodes::Nodes;
-use std::alloc::{AllocError, Global};
 use std::marker::Model;
 
 /// The root of a certificate with the nodes below it. A node is a leaf with the number of its label, an inner node with
@@ -49,14 +48,5 @@ impl Root {
         ensures { result.now ≡ node_lines self.now }
     {
         &self.nodes
-    }
-
-    /// Copies the tree.
-    pub fn copy(&self, alloc: Global) -> Result<Root, AllocError>
-        ensures { IfOk result (λ copy. copy ≡ self.now) }
-    {
-        Ok(Root {
-            nodes: self.nodes.copy(alloc)?,
-        })
     }
 }

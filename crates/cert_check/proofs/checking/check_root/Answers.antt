@@ -1,7 +1,6 @@
 use Rattle.std.proofs.Common.{◌∙◌, ◌+◌, ap, arith, length, nat_lt, refl, sym}
 use Rattle.std.proofs.lemmas.Bool.{false_from_ne_true, lt-ltb, ltb-true}
 use Rattle.cert_check.proofs.Nodes.{or-none}
-use Rattle.pmap_cert.specs.NodeSource.{place_in}
 use Rattle.cert_check.proofs.OneStretch.{whole-range}
 use Rattle.cert_check.proofs.Whole.{bound, root-checked}
 use Rattle.cert_check.proofs.checking.check_root.Goals as goal
@@ -16,7 +15,7 @@ returns-then-len-from-clause-ok c =
     let count = length s.list.now.entries in
     let cost = c.in-Some.cost in
     rw c.note.ensures
-    (root-checked s c.requires.sources (place_in c.args.walk.now.nodes) c.args.walk.now.number cost c.args.walk.now.sets.items c.args.walk.now.fault last _
+    (root-checked s c.requires.sources c.args.walk.now.nodes c.args.walk.now.number cost c.args.walk.now.sets.items c.args.walk.now.fault last _
     c.requires.number c.requires.fault c.in-Some.ensures refl
     (ap (bound last.fault) (sym (lt-ltb (cost + 1) count (omega (arith, c.if-len-from.true, c.len.ensures, c.from.ensures))))))
 
@@ -26,7 +25,7 @@ returns-else-len-from-clause-ok c =
     let last = c.check_node.new.walk in
     let count = length s.list.now.entries in
     let cost = c.in-Some.cost in
-    root-checked s c.requires.sources (place_in c.args.walk.now.nodes) c.args.walk.now.number cost c.args.walk.now.sets.items c.args.walk.now.fault last last
+    root-checked s c.requires.sources c.args.walk.now.nodes c.args.walk.now.number cost c.args.walk.now.sets.items c.args.walk.now.fault last last
     c.requires.number c.requires.fault c.in-Some.ensures refl
     (sym (or-none last.fault)
     ∙ ap (bound last.fault) (sym (false_from_ne_true (nat_lt (cost + 1) count) (λ t. absurd (omega (arith, ltb-true (cost + 1) count t, c.if-len-from.false, c.len.ensures, c.from.ensures))))))

@@ -6,7 +6,6 @@ use Rattle.pmap_text.specs.declared.map_text.MapText.{MapText}
 use Rattle.pmap_text.specs.declared.prefix_list.PrefixList.{PrefixList}
 use Rattle.pmap_cert.specs.Certificate.{certificate_of}
 use Rattle.pmap_cert.specs.Inner.{reading_from}
-use Rattle.pmap_cert.specs.NodeSource.{place_in}
 use Rattle.pmap_cert.specs.declared.node_line.LineLimits.{LineLimits}
 use Rattle.cert_check.specs.Checking.{text_fault, Check}
 use Rattle.cert_check.specs.Inner.{certificate_with}
@@ -34,9 +33,9 @@ returns-in-Some-clause-fault c =
     let root = c.in_ok-check_root.ensures.ok in
     let limits = made.limits in
     let version = c.are_one_version.ensures.certificate c.if-not-are_one_version.false ∙ sym (ap (λ (b : Bor MapText). b.now.version) made.map) in
-    let read = read-as s made.sources head.format head.labels head.version (ap (λ (f : LineLimits). f.format) limits) (ap (λ (f : LineLimits). f.labels.now) limits) version (place_in c.new-walk.result.nodes)
+    let read = read-as s made.sources head.format head.labels head.version (ap (λ (f : LineLimits). f.format) limits) (ap (λ (f : LineLimits). f.labels.now) limits) version c.new-walk.result.nodes
     c.args.map.now c.args.list.now (ap (λ (b : Bor MapText). b.now) made.map) (ap (λ (b : Bor PrefixList). b.now) made.list) c.check_root.new.walk root (sym c.is_ended.ensures ∙ c.if-not-is_ended.false) in
-    ap (text_fault m l) (c.in_ok-format.ensures.ok ∙ ap (reading_from head.format head.version head.labels) (sym (ap place_in c.new-walk.ensures.nodes)) ∙ read.0)
+    ap (text_fault m l) (c.in_ok-format.ensures.ok ∙ ap (reading_from head.format head.version head.labels) (sym c.new-walk.ensures.nodes) ∙ read.0)
     ∙ ap (option_map Check) (read.1 ∙ c.in-Some.is)
 
 pub returns : goal.returns
@@ -50,9 +49,9 @@ returns c =
     let k = certificate_with head.format head.version head.labels root.tree in
     let limits = made.limits in
     let version = c.are_one_version.ensures.certificate c.if-not-are_one_version.false ∙ sym (ap (λ (b : Bor MapText). b.now.version) made.map) in
-    let is = read-as s made.sources head.format head.labels head.version (ap (λ (f : LineLimits). f.format) limits) (ap (λ (f : LineLimits). f.labels.now) limits) version (place_in c.new-walk.result.nodes)
+    let is = read-as s made.sources head.format head.labels head.version (ap (λ (f : LineLimits). f.format) limits) (ap (λ (f : LineLimits). f.labels.now) limits) version c.new-walk.result.nodes
     c.args.map.now c.args.list.now (ap (λ (b : Bor MapText). b.now) made.map) (ap (λ (b : Bor PrefixList). b.now) made.list) c.check_root.new.walk root (sym c.is_ended.ensures ∙ c.if-not-is_ended.false) in
-    let read = c.in_ok-format.ensures.ok ∙ ap (reading_from head.format head.version head.labels) (sym (ap place_in c.new-walk.ensures.nodes)) ∙ is.0 in
+    let read = c.in_ok-format.ensures.ok ∙ ap (reading_from head.format head.version head.labels) (sym c.new-walk.ensures.nodes) ∙ is.0 in
     let none = is.1 ∙ c.in_default.is in
     let accepted = c.no_fault_is_acceptance.ensures.accepted m l k ((c.text_of_format_is_read_or_has_a_fault-2.ensures.read c.args.text.now k).0 read).0 none in
     record {

@@ -10,7 +10,6 @@ use Rattle.pmap_text.specs.declared.label.LabelId.{LabelId}
 use Rattle.pmap_cert.specs.CertificateModel.{Claim, InnerNode, LeafNode, chain_claim, exact_claim}
 use Rattle.pmap_cert.specs.Format.{format_number}
 use Rattle.pmap_cert.specs.FormatReading.{ChainLine, InnerLine, LeafLine, nodes_at}
-use Rattle.pmap_cert.specs.NodeSource.{place_in}
 use Rattle.pmap_cert.specs.Packed.{bits_in}
 use Rattle.pmap_cert.specs.CertificateText.{IsAscending}
 use Rattle.pmap_cert.proofs.FormatTrees.{line_due-found}
@@ -30,9 +29,9 @@ check_node-returns-in-Err t c =
       c.in-Err.fault,
       refl,
       (
-        λ some. node-fault (due_in limits.format limits.width limits.labels.now) limits.labels.now (place_in c.args.walk.now.nodes) (place_in c.args.walk.now.nodes) (limits.width - c.args.len)
-            c.in-Err.fault (c.in-Err.ensures.next.err some),
-        c.in-Err.ensures.next.memory,
+        λ some. node-fault (due_in limits.format limits.width limits.labels.now) limits.labels.now c.args.walk.now.nodes c.args.walk.now.nodes (limits.width - c.args.len)
+            c.in-Err.fault (c.in-Err.ensures.err some),
+        c.in-Err.ensures.memory,
       ),
     )
 
@@ -44,9 +43,9 @@ check_node-returns-then-len-sources t c =
       c.fault-deepest.result,
       refl,
       rw c.fault-deepest.ensures (
-        λ _. ap (λ (n : ℕ). nodes_at (due_in limits.format limits.width limits.labels.now) limits.labels.now n 0 (place_in c.args.walk.now.nodes)) room
-            ∙ node-deep (due_in limits.format limits.width limits.labels.now) limits.labels.now (place_in c.args.walk.now.nodes) (place_in c.next_node.new.self) c.in-Inner.claim.cost (numbers c.in-Inner.claim.set.now)
-            (rw c.in-Inner.is at c.in-Ok.ensures.next.ok),
+        λ _. ap (λ (n : ℕ). nodes_at (due_in limits.format limits.width limits.labels.now) limits.labels.now n 0 c.args.walk.now.nodes) room
+            ∙ node-deep (due_in limits.format limits.width limits.labels.now) limits.labels.now c.args.walk.now.nodes c.next_node.new.self c.in-Inner.claim.cost (numbers c.in-Inner.claim.set.now)
+            (rw c.in-Inner.is at c.in-Ok.ensures.ok),
         λ e. cc,
       ),
     )
@@ -54,8 +53,8 @@ check_node-returns-then-len-sources t c =
 pub check_node-check_inner-requires : goal.check_node-check_inner-requires
 check_node-check_inner-requires t c =
     let limits = c.args.sources.now.limits in
-    let said = line_due-found (format_number limits.format) limits.width (length limits.labels.now) (place_in c.args.walk.now.nodes)
-    (InnerLine c.in-Inner.claim.cost (numbers c.in-Inner.claim.set.now), (place_in c.next_node.new.self)) (rw c.in-Inner.is at c.in-Ok.ensures.next.ok) in
+    let said = line_due-found (format_number limits.format) limits.width (length limits.labels.now) c.args.walk.now.nodes
+    (InnerLine c.in-Inner.claim.cost (numbers c.in-Inner.claim.set.now), c.next_node.new.self) (rw c.in-Inner.is at c.in-Ok.ensures.ok) in
     let at = held-at c.args.walk.now.sets.items c.in-Inner.claim.set.now c.hold.new.sets.items c.in-Ok-hold.held.from c.in-Ok-hold.ensures.sets c.in-Ok-hold.ensures.from in
     let held : IsHeld c.args.sources.now c.in-Ok-hold.held c.hold.new.sets.items =
     record { within = at.2; ascending = subst (λ (ids : List LabelId). IsAscending (length limits.labels.now) 0 (numbers ids)) (sym at.1) said.1.1 } in
@@ -75,13 +74,13 @@ check_node-returns-in-Ok-hold t c =
     let some : n < limits.width = omega (arith, c.requires.sources.width, c.requires.range.short, c.if-len-sources.false) in
     let less : limits.width - n - 1 ≡ limits.width - (n + 1) = omega arith in
     let held = held-at walk.sets.items c.in-Inner.claim.set.now c.hold.new.sets.items c.in-Ok-hold.held.from c.in-Ok-hold.ensures.sets c.in-Ok-hold.ensures.from in
-    let is : reading_at s n (place_in walk.nodes) ≡ halves_reading s n claim (place_in c.next_node.new.self) =
-    deeper due table (place_in walk.nodes) (place_in c.next_node.new.self) c.in-Inner.claim.cost numbers' (rw c.in-Inner.is at c.in-Ok.ensures.next.ok) (limits.width - n) (omega (arith, some))
-    ∙ ap (λ (m : ℕ). nodes_at due table m 0 (place_in c.next_node.new.self) >>= (λ lower. nodes_at due table m 0 lower.1 >>= (λ upper.
+    let is : reading_at s n walk.nodes ≡ halves_reading s n claim c.next_node.new.self =
+    deeper due table walk.nodes c.next_node.new.self c.in-Inner.claim.cost numbers' (rw c.in-Inner.is at c.in-Ok.ensures.ok) (limits.width - n) (omega (arith, some))
+    ∙ ap (λ (m : ℕ). nodes_at due table m 0 c.next_node.new.self >>= (λ lower. nodes_at due table m 0 lower.1 >>= (λ upper.
     Ok (InnerNode claim lower.0 upper.0, upper.1)))) less in
     let q = number_at s n c.args.first in
     subst (λ (r : Read). IsWalkResult s r (fault_of_node s n q) walk.number walk.sets.items walk.fault c.check_inner.new.walk c.check_inner.result) (sym is)
-    (subst (λ (x : Claim × List LabelId). IsWalkResult s (halves_reading s n x.0 (place_in c.next_node.new.self)) (fault_of_node s n q) walk.number x.1 walk.fault c.check_inner.new.walk c.check_inner.result)
+    (subst (λ (x : Claim × List LabelId). IsWalkResult s (halves_reading s n x.0 c.next_node.new.self) (fault_of_node s n q) walk.number x.1 walk.fault c.check_inner.new.walk c.check_inner.result)
     (λ i. (claim_with table (c.in-Ok-hold.ensures.cost i) (numbers (held.1 i)), held.0 i)) c.check_inner.ensures)
 
 pub check_node-returns-then-len-sources-2 : goal.check_node-returns-then-len-sources-2
@@ -90,7 +89,7 @@ check_node-returns-then-len-sources-2 t c =
       c.fault-deepest.result,
       refl,
       rw c.fault-deepest.ensures (
-        λ _. chain-over _ _ _ _ _ _ _ _ _ (rw c.in-Chain.is at c.in-Ok.ensures.next.ok) _ c.len.result c.len.ensures (omega (arith, c.if-len-sources-2.true)),
+        λ _. chain-over _ _ _ _ _ _ _ _ _ (rw c.in-Chain.is at c.in-Ok.ensures.ok) _ c.len.result c.len.ensures (omega (arith, c.if-len-sources-2.true)),
         λ e. cc,
       ),
     )
@@ -99,8 +98,8 @@ pub check_node-check_chain-requires : goal.check_node-check_chain-requires
 check_node-check_chain-requires t c =
     let limits = c.args.sources.now.limits in
     let bits : List Bool = bits_in c.in-Chain.path.now in
-    let said = line_due-found (format_number limits.format) limits.width (length limits.labels.now) (place_in c.args.walk.now.nodes)
-    (ChainLine c.in-Chain.claim.cost bits c.in-Chain.side.0 (numbers c.in-Chain.claim.set.now), (place_in c.next_node.new.self)) (rw c.in-Chain.is at c.in-Ok.ensures.next.ok) in
+    let said = line_due-found (format_number limits.format) limits.width (length limits.labels.now) c.args.walk.now.nodes
+    (ChainLine c.in-Chain.claim.cost bits c.in-Chain.side.0 (numbers c.in-Chain.claim.set.now), c.next_node.new.self) (rw c.in-Chain.is at c.in-Ok.ensures.ok) in
     let at = held-at c.args.walk.now.sets.items c.in-Chain.claim.set.now c.hold-in-Chain.new.sets.items c.in-Ok-hold-2.held.from c.in-Ok-hold-2.ensures.sets c.in-Ok-hold-2.ensures.from in
     let held : IsHeld c.args.sources.now c.in-Ok-hold-2.held c.hold-in-Chain.new.sets.items =
     record { within = at.2; ascending = subst (λ (ids : List LabelId). IsAscending (length limits.labels.now) 0 (numbers ids)) (sym at.1) said.1.5 } in
@@ -122,13 +121,13 @@ check_node-returns-in-Ok-hold-2 t c =
     let claim = claim_with table c.in-Chain.claim.cost numbers' in
     let less : limits.width - n - c.len.result ≡ limits.width - (n + length bits) = omega (arith, c.len.ensures) in
     let held = held-at walk.sets.items c.in-Chain.claim.set.now c.hold-in-Chain.new.sets.items c.in-Ok-hold-2.held.from c.in-Ok-hold-2.ensures.sets c.in-Ok-hold-2.ensures.from in
-    let is : reading_at s n (place_in walk.nodes) ≡ chain_reading s n claim bits side (place_in c.next_node.new.self) =
-    chain-below limits.format limits.width table (place_in walk.nodes) (place_in c.next_node.new.self) c.in-Chain.claim.cost bits side numbers' (rw c.in-Chain.is at c.in-Ok.ensures.next.ok)
-    (limits.width - n) c.len.result c.len.ensures (omega (arith, c.if-len-sources-2.false)) (reading_at s (n + length bits) (place_in c.next_node.new.self))
-    (ap (λ (m : ℕ). nodes_at (due_in limits.format limits.width table) table m 0 (place_in c.next_node.new.self)) less) in
+    let is : reading_at s n walk.nodes ≡ chain_reading s n claim bits side c.next_node.new.self =
+    chain-below limits.format limits.width table walk.nodes c.next_node.new.self c.in-Chain.claim.cost bits side numbers' (rw c.in-Chain.is at c.in-Ok.ensures.ok)
+    (limits.width - n) c.len.result c.len.ensures (omega (arith, c.if-len-sources-2.false)) (reading_at s (n + length bits) c.next_node.new.self)
+    (ap (λ (m : ℕ). nodes_at (due_in limits.format limits.width table) table m 0 c.next_node.new.self) less) in
     let q = number_at s n c.args.first in
     subst (λ (r : Read). IsWalkResult s r (fault_of_node s n q) walk.number walk.sets.items walk.fault c.check_chain.new.walk c.check_chain.result) (sym is)
-    (subst (λ (x : Claim × List LabelId). IsWalkResult s (chain_reading s n x.0 bits side (place_in c.next_node.new.self)) (fault_of_node s n q) walk.number x.1 walk.fault c.check_chain.new.walk c.check_chain.result)
+    (subst (λ (x : Claim × List LabelId). IsWalkResult s (chain_reading s n x.0 bits side c.next_node.new.self) (fault_of_node s n q) walk.number x.1 walk.fault c.check_chain.new.walk c.check_chain.result)
     (λ i. (claim_with table (c.in-Ok-hold-2.ensures.cost i) (numbers (held.1 i)), held.0 i)) c.check_chain.ensures)
 
 pub check_node-returns-in-Ok-hold_leaf : goal.check_node-returns-in-Ok-hold_leaf
@@ -137,14 +136,13 @@ check_node-returns-in-Ok-hold_leaf t c =
     let limits = s.limits in
     let id = c.in-Leaf.id in
     let walk = c.args.walk.now in
-    let due = rw c.in-Leaf.is at c.in-Ok.ensures.next.ok in
-    let said = line_due-found (format_number limits.format) limits.width (length limits.labels.now) (place_in walk.nodes) (LeafLine id.0, (place_in c.next_node.new.self)) due in
+    let due = rw c.in-Leaf.is at c.in-Ok.ensures.ok in
+    let said = line_due-found (format_number limits.format) limits.width (length limits.labels.now) walk.nodes (LeafLine id.0, c.next_node.new.self) due in
     rw c.note.ensures
     (record {
       tree = LeafNode (text_at limits.labels.now id.0);
       set = id ∷ [];
-      nodes = c.in-Ok.ensures.fits;
-      read = node-leaf (due_in limits.format limits.width limits.labels.now) limits.labels.now (place_in walk.nodes) (place_in c.next_node.new.self) (limits.width - c.args.len) id.0 due;
+      read = node-leaf (due_in limits.format limits.width limits.labels.now) limits.labels.now walk.nodes c.next_node.new.self (limits.width - c.args.len) id.0 due;
       claim = refl;
       ascending = (omega arith, said.1, tt);
       sets = c.in-Ok-hold_leaf.ensures;
@@ -154,8 +152,8 @@ check_node-returns-in-Ok-hold_leaf t c =
 pub check_node-leaf_fault-fault-requires-clause-known : goal.check_node-leaf_fault-fault-requires-clause-known
 check_node-leaf_fault-fault-requires-clause-known t c =
     let limits = c.args.sources.now.limits in
-    let due = rw c.in-Leaf.is at c.in-Ok.ensures.next.ok in
-    (line_due-found (format_number limits.format) limits.width (length limits.labels.now) (place_in c.args.walk.now.nodes) (LeafLine c.in-Leaf.id.0, (place_in c.next_node.new.self)) due).1
+    let due = rw c.in-Leaf.is at c.in-Ok.ensures.ok in
+    (line_due-found (format_number limits.format) limits.width (length limits.labels.now) c.args.walk.now.nodes (LeafLine c.in-Leaf.id.0, c.next_node.new.self) due).1
 
 pub check_node-invariant_of-block : goal.check_node-invariant_of-block
 check_node-invariant_of-block t c =
@@ -195,7 +193,7 @@ check_inner-returns-in_err-lower_cost t c =
     rw c.from_residual.ensures (
       stopped.0,
       stopped.1,
-      lower-unread s c.args.len q _ _ c.args.held.cost halves.low_is halves.high_is (drop c.args.held.from walk.sets.items) (place_in walk.nodes) c.args.number walk.number c.requires.number stopped.0 stopped.2,
+      lower-unread s c.args.len q _ _ c.args.held.cost halves.low_is halves.high_is (drop c.args.held.from walk.sets.items) walk.nodes c.args.number walk.number c.requires.number stopped.0 stopped.2,
     )
 
 pub check_inner-returns-in_err-upper_cost : goal.check_inner-returns-in_err-upper_cost
@@ -209,7 +207,7 @@ check_inner-returns-in_err-upper_cost t c =
     rw c.from_residual-in_err-upper_cost.ensures (
       stopped.0,
       stopped.1,
-      upper-unread s c.args.len q _ _ c.args.held.cost halves.low_is halves.high_is (drop c.args.held.from walk.sets.items) (place_in walk.nodes) c.args.number walk.number c.requires.number walk.sets.items walk.fault c.check_node.new.walk
+      upper-unread s c.args.len q _ _ c.args.held.cost halves.low_is halves.high_is (drop c.args.held.from walk.sets.items) walk.nodes c.args.number walk.number c.requires.number walk.sets.items walk.fault c.check_node.new.walk
           c.in_ok-lower_cost.lower_cost lower stopped.0 stopped.2,
     )
 
@@ -229,7 +227,7 @@ check_inner-returns t c =
     let second = low-piece _ _ _ _ _ _ _ _ c.requires.held.within lower.sets upper.sets low_at up_at in
     let third = up-piece _ _ _ _ _ _ _ _ c.requires.held.within lower.sets upper.sets low_at up_at in
     rw c.note.ensures
-    (halves-passed s c.args.len q _ _ c.args.held.cost halves.low_is halves.high_is own (place_in walk.nodes) c.args.number walk.number c.requires.number
+    (halves-passed s c.args.len q _ _ c.args.held.cost halves.low_is halves.high_is own walk.nodes c.args.number walk.number c.requires.number
     walk.sets.items walk.fault c.check_node.new.walk c.in_ok-lower_cost.lower_cost lower (take c.args.held.from walk.sets.items) c.check_node-2.new.walk _ c.in_ok-upper_cost.upper_cost c.claim_fault-fault.result
     upper c.requires.held.ascending
     (rw c.as_slice-sets.ensures.value at c.claim_fault-fault.ensures
@@ -256,7 +254,7 @@ check_chain-returns-in_err-end_cost t c =
     rw c.from_residual.ensures (
       stopped.0,
       stopped.1,
-      end-unread c.args.sources.now c.args.block.now c.end-end.result c.args.held.cost (drop c.args.held.from walk.sets.items) (bits_in c.args.path.now) c.args.side.0 c.end-end.ensures (place_in walk.nodes) c.args.number walk.number c.requires.number
+      end-unread c.args.sources.now c.args.block.now c.end-end.result c.args.held.cost (drop c.args.held.from walk.sets.items) (bits_in c.args.path.now) c.args.side.0 c.end-end.ensures walk.nodes c.args.number walk.number c.requires.number
           stopped.0 stopped.2,
     )
 
@@ -268,7 +266,7 @@ check_chain-returns t c =
     let own = drop c.args.held.from walk.sets.items in
     let bits = bits_in c.args.path.now in
     let end = c.end-end.result in
-    let below = subst (λ (v : Version). IsPassed s (reading_at s end.len (place_in walk.nodes)) (fault_of_node s end.len (block_number (width_of v) end.len end.value)) walk.number walk.sets.items walk.fault
+    let below = subst (λ (v : Version). IsPassed s (reading_at s end.len walk.nodes) (fault_of_node s end.len (block_number (width_of v) end.len end.value)) walk.number walk.sets.items walk.fault
     c.check_node.new.walk c.in_ok-end_cost.end_cost) (sym (c.end-end.ensures.version ∙ c.requires.version)) c.in_ok-end_cost.ensures in
     let last = c.check_node.new.walk in
     let at = c.len-start.ensures ∙ walk.sets.ok.0 in
@@ -276,7 +274,7 @@ check_chain-returns t c =
     let first = own-piece _ _ _ _ _ _ _ (length last.sets.items) c.requires.held.within below.sets none at refl in
     let second = low-piece _ _ _ _ _ _ _ (length last.sets.items) c.requires.held.within below.sets none at refl in
     rw (c.note-2.ensures, c.note.ensures)
-    (chain-passed s c.args.block.now c.end-end.result c.args.held.cost own bits c.args.side.0 c.end-end.ensures (place_in walk.nodes) c.args.number walk.number c.requires.number
+    (chain-passed s c.args.block.now c.end-end.result c.args.held.cost own bits c.args.side.0 c.end-end.ensures walk.nodes c.args.number walk.number c.requires.number
     walk.sets.items (take c.args.held.from walk.sets.items) walk.fault last _ c.in_ok-end_cost.end_cost c.path_fault-beside.result c.chain_fault-fault.result below c.requires.held.ascending
     c.path_fault-beside.ensures
     (rw (c.as_slice-sets.ensures.value, c.note.ensures) at c.chain_fault-fault.ensures

@@ -1,4 +1,4 @@
-use Rattle.std.proofs.Common.{◌≡◌, List, ℕ, subst}
+use Rattle.std.proofs.Common.{◌≡◌, Bor, List, ℕ, subst}
 use Rattle.pmap_cert.specs.Certificate.{certificate_of}
 use Rattle.pmap_cert.specs.CertificateText.{certificate_text}
 use Rattle.pmap_cert.specs.Compacting.{compact}
@@ -18,7 +18,7 @@ returns-in-Certificate g c = rw c.in-Certificate.is c.print_to-in-Certificate.en
 pub returns-in_ok-new-in-Compact : goal.returns-in_ok-new-in-Compact
 returns-in_ok-new-in-Compact g c =
     rw c.in-Compact.is
-    (subst (λ (k : Certificate). IsMadeWritten g.W.Output.output (λ out. out ≡ certificate_text (compact (certificate_of k))) c.args.writer.now c.print_to-in-Compact.new.writer c.print_to-in-Compact.result)
+    (subst (λ (k : Bor Certificate). IsMadeWritten g.W.Output.output (λ out. out ≡ certificate_text (compact (certificate_of k.now))) c.args.writer.now c.print_to-in-Compact.new.writer c.print_to-in-Compact.result)
     c.in_ok-new-in-Compact.ensures c.print_to-in-Compact.ensures)
 
 pub returns-in-Opened : goal.returns-in-Opened
