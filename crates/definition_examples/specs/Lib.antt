@@ -9,4 +9,5 @@ pub mod Files
 pub mod Samples
 pub mod Shortest
 pub mod Templates
+pub mod Times
 pub mod Commands

@@ -1,4 +1,4 @@
--- Files of real exporters: those of examples/ in hexadecimal, as tests/definitions checks.
+-- Files of real exporters: those of examples/ in hexadecimal, as dev/definitions checks.
 use Rattle.std.specs.Prelude.{ℕ, ◌-◌, List, ◌++◌, codes, drop, length, sum_by, take}
 use Rattle.ipfix_read.specs.Message.{MessageView}
 use Rattle.flow_rows.specs.Counts.{counts_of, rows_of_messages}

@@ -25,3 +25,4 @@ pub mod samples;
 pub mod shortest;
 pub mod tables;
 pub mod templates;
+pub mod times;

@@ -7,12 +7,14 @@ use Rattle.std.specs.Cmp.{nat_cmp_is}
 use Rattle.std.specs.Cmp.Lexicographic.{slice_cmp}
 use Rattle.std.specs.Int.{w16, w32, w64, bytes_high_first, to_be_bytes}
 use Rattle.std.specs.List.{AllByRecursion}
+use Rattle.std.specs.Option.{option_map_or}
 use Rattle.std.specs.Ordering.{MatchOrdering, nat_cmp, ordering_then}
 use Rattle.std.specs.declared.cmp.Ordering.{Ordering}
 use Rattle.prefix_keys.specs.declared.version.Version.TheVariants.{V4, V6}
 use Rattle.flow_uniq.specs.Codes.{AreSmall, IsCode, IsSmall, key_code, key_in, part_code}
-use Rattle.flow_uniq.specs.Key.{Key, KeyPartModel, AddressPart, NumberPart, LabelPart, part_numbers}
-use Rattle.flow_uniq.proofs.Cutting.{LacksZero, label-lacks_zero}
+use Rattle.flow_uniq.specs.Key.{Key, KeyPartModel, AddressPart, NumberPart, LabelPart, TimePart, part_numbers}
+use Rattle.flow_uniq.specs.Times.{precision_number}
+use Rattle.flow_uniq.proofs.Cutting.{LacksZero, label-lacks_zero, small_code}
 
 abbrev bytes_cmp : List ℕ → List ℕ → Ordering
 bytes_cmp xs ys = slice_cmp nat_cmp xs ys
@@ -139,6 +141,19 @@ label_order (Some []) None r s h k = absurd (true≢false (sym h))
 label_order (Some (x ∷ t)) None r s h k = more_first x 0 _ (label-lacks_zero (x ∷ t) h).0
 label_order (Some t) (Some u) r s h k = text_order t u r s (label-lacks_zero t h) (label-lacks_zero u k)
 
+-- the numbers of times, one more than they are, and 0 for none
+number_or_none : (t u : Option ℕ)
+    → nat_cmp (option_map_or suc t 0) (option_map_or suc u 0) ≡ bytes_cmp (option_map_or (λ n. n ∷ []) t []) (option_map_or (λ n. n ∷ []) u [])
+number_or_none None None = refl
+number_or_none None (Some m) = sym (nat_cmp_is 0 (suc m) Less (omega arith))
+number_or_none (Some n) None = sym (nat_cmp_is (suc n) 0 Greater (omega arith))
+number_or_none (Some n) (Some m) = sym (nat_cmp_is (suc n) (suc m) (nat_cmp n m) (raised (nat_cmp n m) (ranked n m _ refl))) ∙ sym (then_equal (nat_cmp n m))
+  where
+    raised : (o : Ordering) → MatchOrdering o (n < m) (n ≡ m) (m < n) → MatchOrdering o (suc n < suc m) (suc n ≡ suc m) (suc m < suc n)
+    raised Less h = omega arith
+    raised Equal h = ap suc h
+    raised Greater h = omega arith
+
 part_order : (p q : KeyPartModel) (r s : List ℕ) → IsSmall p → IsSmall q
     → bytes_cmp (part_code p ++ r) (part_code q ++ s) ≡ ordering_then (parts_cmp p q) (bytes_cmp r s)
 part_order (AddressPart (V4, v)) (AddressPart (V4, w)) r s h k =
@@ -147,6 +162,12 @@ part_order (AddressPart (V6, v)) (AddressPart (V6, w)) r s h k =
     halves_order v w r s h k ∙ ap (λ o. ordering_then o (bytes_cmp r s)) (sym (then_equal (nat_cmp v w)))
 part_order (NumberPart n) (NumberPart m) r s h k =
     number_order 2 n m r s (value_2 n h) (value_2 m k) ∙ ap (λ o. ordering_then o (bytes_cmp r s)) (sym (then_equal (nat_cmp n m)))
+part_order (TimePart p t) (TimePart q u) r s h k =
+    let order : Ordering = nat_cmp (precision_number p) (precision_number q) in
+    ap (ordering_then order)
+    (number_order 8 (option_map_or suc t 0) (option_map_or suc u 0) r s (value_8 _ (small_code p t h)) (value_8 _ (small_code q u k))
+    ∙ ap (λ o. ordering_then o (bytes_cmp r s)) (number_or_none t u))
+    ∙ sym (then_assoc order _ (bytes_cmp r s))
 part_order (LabelPart t) (LabelPart u) r s h k = label_order t u r s h k
 part_order (AddressPart (V4, v)) (AddressPart (V6, w)) r s h k = refl
 part_order (AddressPart (V6, v)) (AddressPart (V4, w)) r s h k = refl
@@ -160,12 +181,21 @@ part_order (NumberPart n) (LabelPart u) r s h k = refl
 part_order (LabelPart t) (AddressPart (V4, w)) r s h k = refl
 part_order (LabelPart t) (AddressPart (V6, w)) r s h k = refl
 part_order (LabelPart t) (NumberPart m) r s h k = refl
+part_order (AddressPart (V4, v)) (TimePart q u) r s h k = refl
+part_order (AddressPart (V6, v)) (TimePart q u) r s h k = refl
+part_order (NumberPart n) (TimePart q u) r s h k = refl
+part_order (LabelPart t) (TimePart q u) r s h k = refl
+part_order (TimePart p t) (AddressPart (V4, w)) r s h k = refl
+part_order (TimePart p t) (AddressPart (V6, w)) r s h k = refl
+part_order (TimePart p t) (NumberPart m) r s h k = refl
+part_order (TimePart p t) (LabelPart u) r s h k = refl
 
 code_first : (p : KeyPartModel) (r : List ℕ) → (bytes_cmp [] (part_code p ++ r) ≡ Less) × (bytes_cmp (part_code p ++ r) [] ≡ Greater)
 code_first (AddressPart (V4, v)) r = (refl, refl)
 code_first (AddressPart (V6, v)) r = (refl, refl)
 code_first (NumberPart n) r = (refl, refl)
 code_first (LabelPart t) r = (refl, refl)
+code_first (TimePart precision number) r = (refl, refl)
 
 key_code-order : (a b : Key) → AreSmall a → AreSmall b → bytes_cmp (key_code a) (key_code b) ≡ slice_cmp parts_cmp a b
 key_code-order [] [] h k = refl

@@ -3,11 +3,12 @@ use Rattle.std.proofs.Common.{◌≡◌, ◌==◌, Bool, List, [], ◌∷◌, ge
 use Rattle.std.proofs.lemmas.Bool.Decides.{Decides-like, same_from_decides}
 use Rattle.std.proofs.lemmas.Slice.Eq.{bytes_eq-Decides, slice_eq-Decides}
 use Rattle.std.specs.Bool.{Decides}
+use Rattle.std.specs.Prelude.{slice_get}
 use Rattle.std.specs.Str.{bytes_eq}
 use Rattle.prefix_keys.specs.declared.version.Version.TheVariants.{V4, V6}
-use Rattle.flow_uniq.specs.Key.{Key, KeyPartModel, AddressPart, NumberPart, LabelPart, part_numbers, same_key}
-use Rattle.flow_uniq.specs.Codes.{AreSmall, key_code, same_code}
-use Rattle.flow_uniq.proofs.Cutting.{same_from_codes}
+use Rattle.flow_uniq.specs.Key.{Key, KeyPartModel, AddressPart, NumberPart, LabelPart, TimePart, part_numbers, same_key}
+use Rattle.flow_uniq.specs.Codes.{AreSmall, key_code, precision_at, same_code}
+use Rattle.flow_uniq.proofs.Cutting.{precision-back, same_from_codes}
 
 -- the part with these numbers
 abbrev part_with : List ℕ → KeyPartModel
@@ -16,6 +17,7 @@ part_with (kind ∷ []) = LabelPart None
 part_with (kind ∷ first ∷ rest) =
     if kind == 0 then AddressPart (if first == 32 then V4 else V6, get_or rest 0 0)
     else if kind == 1 then NumberPart first
+    else if kind == 3 then TimePart (precision_at first) (slice_get rest 0)
     else LabelPart (Some rest)
 
 part_with-numbers : (p : KeyPartModel) → part_with (part_numbers p) ≡ p
@@ -24,6 +26,8 @@ part_with-numbers (AddressPart (V6, value)) = refl
 part_with-numbers (NumberPart number) = refl
 part_with-numbers (LabelPart None) = refl
 part_with-numbers (LabelPart (Some text)) = refl
+part_with-numbers (TimePart precision None) = ap (λ p. TimePart p None) (precision-back precision)
+part_with-numbers (TimePart precision (Some number)) = ap (λ p. TimePart p (Some number)) (precision-back precision)
 
 -- whether the parts are equal
 abbrev same_part : KeyPartModel → KeyPartModel → Bool

@@ -1,5 +1,5 @@
 -- The bytes that are written for a key are read back as this key.
-use Rattle.std.proofs.Common.{◌≡◌, ℕ, zero, suc, ◌+◌, ◌*◌, ◌/◌, ◌%◌, ◌^◌, ◌<◌, ◌≤◌, ◌==◌, Bool, true, false, not, cond, if◌then◌else◌, true≢false, List, [], ◌∷◌, ◌++◌, length, take, drop, nat_lt, get_or, map, Option, Some, None, unwrap_or, refl, sym, ap, subst, ◌∙◌, arith}
+use Rattle.std.proofs.Common.{◌≡◌, ℕ, zero, suc, ◌+◌, ◌-◌, ◌*◌, ◌/◌, ◌%◌, ◌^◌, ◌<◌, ◌≤◌, ◌==◌, Bool, true, false, not, cond, if◌then◌else◌, true≢false, List, [], ◌∷◌, ◌++◌, length, take, drop, nat_lt, get_or, map, Option, Some, None, unwrap_or, refl, sym, ap, subst, ◌∙◌, arith}
 use Rattle.std.proofs.lemmas.List.{append_assoc, drop_at, length-append, length-drop, take_all, take_at}
 use Rattle.std.proofs.lemmas.Bool.{and_parts, le-ltb, ne_eqb}
 use Rattle.std.proofs.lemmas.Bool.Decides.{nat_tests}
@@ -12,8 +12,9 @@ use Rattle.std.specs.Prelude.{IfSome, IsTrue, nat_le, option_and_then, option_ma
 use Rattle.std.specs.Int.{w16, w32, w64, from_be_bytes, to_be_bytes}
 use Rattle.prefix_keys.specs.declared.version.Version.TheVariants.{V4, V6}
 use Rattle.pmap_text.specs.Label.{is_label, is_label_byte}
-use Rattle.flow_uniq.specs.Key.{KeyField, Key, KeyPartModel, AddressPart, NumberPart, LabelPart}
-use Rattle.flow_uniq.specs.Codes.{AreSmall, IsCode, IsSmall, first_part, front_bytes, front_label, key_code, key_in, part_code, parts_in}
+use Rattle.flow_uniq.specs.Key.{KeyField, Key, KeyPartModel, AddressPart, NumberPart, LabelPart, TimePart, Precision, Day, Hour, Minute}
+use Rattle.flow_uniq.specs.Times.{precision_number}
+use Rattle.flow_uniq.specs.Codes.{AreSmall, IsCode, IsSmall, first_part, front_bytes, front_label, front_time, key_code, key_in, number_before, part_code, parts_in, precision_at}
 
 -- bytes that were written are read back
 front_bytes-back : (n : ℕ) (xs r : List ℕ) → length xs ≡ n → front_bytes n (xs ++ r) ≡ Some (xs, r)
@@ -56,11 +57,31 @@ front_label-back (Some (b ∷ t)) r h =
     ap (option_map (λ count. (if count == 0 then None else Some (take count code), drop (count + 1) code))) at
     ∙ (λ i. Some (if ne_eqb (length text) 0 (λ e. omega (arith, e)) i then None else Some (front i), back i))
 
+-- how exact a time is is read back, and so is its number
+pub precision-back : (precision : Precision) → precision_at (precision_number precision) ≡ precision
+precision-back Day = refl
+precision-back Hour = refl
+precision-back Minute = refl
+
+number-back : (number : Option ℕ) → number_before (option_map_or suc number 0) ≡ number
+number-back None = refl
+number-back (Some n) = (λ i. if ne_eqb (suc n) 0 (λ e. omega (arith, e)) i then None else Some (suc n - 1)) ∙ ap Some (omega arith)
+
+pub small_code : (precision : Precision) (number : Option ℕ) → IsSmall (TimePart precision number) → option_map_or suc number 0 < 2 ^ 64
+small_code precision None h = omega arith
+small_code precision (Some n) h = omega arith
+
 -- a part that was written is read back, and the bytes after it remain
 first_part-back : (p : KeyPartModel) (r : List ℕ) → IsSmall p → first_part (part_code p ++ r) ≡ Some (p, r)
 first_part-back (NumberPart n) r h =
     ap (option_map (λ c. (NumberPart (from_be_bytes w16 c.0), c.1))) (front_bytes-back 2 (to_be_bytes w16 n) r refl)
     ∙ ap (λ (m : ℕ). Some (NumberPart m, r)) (from_be_bytes-to_be_bytes_2 n h)
+first_part-back (TimePart precision number) r h =
+    let code : ℕ = option_map_or suc number 0 in
+    ap (option_map (λ c. (TimePart (precision_at (precision_number precision)) (number_before (from_be_bytes w64 c.0)), c.1)))
+    (front_bytes-back 8 (to_be_bytes w64 code) r refl)
+    ∙ (λ i. Some (TimePart (precision-back precision i) (number_before (from_be_bytes-to_be_bytes_8 code (small_code precision number h) i)), r))
+    ∙ ap (λ n. Some (TimePart precision n, r)) (number-back number)
 first_part-back (LabelPart label) r h = ap (option_map (λ c. (LabelPart c.0, c.1))) (front_label-back label r h)
 first_part-back (AddressPart (V4, v)) r h =
     ap (option_map (λ c. (AddressPart (V4, from_be_bytes w32 c.0), c.1))) (front_bytes-back 4 (to_be_bytes w32 v) r refl)
@@ -79,6 +100,7 @@ first_part-back (AddressPart (V6, v)) r h =
 one_byte : (p : KeyPartModel) → 1 ≤ length (part_code p)
 one_byte (NumberPart n) = omega arith
 one_byte (LabelPart label) = omega arith
+one_byte (TimePart precision number) = omega arith
 one_byte (AddressPart (V4, v)) = omega arith
 one_byte (AddressPart (V6, v)) = omega arith
 
@@ -140,10 +162,18 @@ module _ (code : List ℕ) where
       by true n = omega (arith, length-drop (n + 1) code)
       by false n = tt
 
+rest_of_time : (code : List ℕ) → Within (length code) (front_time code)
+rest_of_time [] = tt
+rest_of_time (byte ∷ code) = more _ (rest_of_one code 8 _)
+  where
+    more : (part : Option (KeyPartModel × List ℕ)) → Within (length code) part → Within (length (byte ∷ code)) part
+    more None h = tt
+    more (Some c) h = omega arith
+
 rest_shorter : (kind : ℕ) (code : List ℕ) → Within (length code) (first_part (kind ∷ code))
 rest_shorter kind code =
     by _ _ (kind == 0) (rest_of_one code 4 _) (by _ _ (kind == 1) (rest_of_two code 8 _ _)
-    (by _ _ (kind == 2) (rest_of_one code 2 _) (rest_of_label code)))
+    (by _ _ (kind == 2) (rest_of_one code 2 _) (by _ _ (kind == 4) (rest_of_time code) (rest_of_label code))))
   where
     by : (x y : Option (KeyPartModel × List ℕ)) (b : Bool) → Within (length code) x → Within (length code) y → Within (length code) (if b then x else y)
     by x y true h k = h

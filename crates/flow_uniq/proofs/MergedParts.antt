@@ -1,28 +1,25 @@
 -- The groups of all rows are the groups of each part of the rows, merged.
-use Rattle.std.proofs.Common.{◌≡◌, ◌∙◌, Equal, Greater, Less, Ordering, ℕ, Bool, true, false, not, ◌||◌, ◌&&◌, cond, Option, Some, None, List, [], ◌∷◌, ◌++◌, map, filter, true≢false, refl, sym, ap, ap₂, arith}
+use Rattle.std.proofs.Common.{◌≡◌, ◌∙◌, Equal, Greater, Less, Ordering, Bool, true, false, not, ◌||◌, ◌&&◌, cond, Option, List, [], ◌∷◌, ◌++◌, map, filter, refl, sym, ap}
 use Rattle.std.specs.Cmp.{IsStrictWeakOrder}
-use Rattle.std.specs.Cmp.Lexicographic.{lists_ties, same_text, slice_cmp, texts_ties}
+use Rattle.std.specs.Cmp.Lexicographic.{lists_ties, slice_cmp, texts_ties}
 use Rattle.std.specs.Ordering.{is_eq, is_lt, nat_cmp, ordering_reverse}
 use Rattle.std.specs.List.{AllByRecursion, flat_map, list_any}
-use Rattle.std.specs.Option.{option_map_or}
 use Rattle.std.specs.List.Sorted.{IsPermutation, ties}
-use Rattle.std.proofs.lemmas.Bool.{and_parts, not-true}
+use Rattle.std.proofs.lemmas.Bool.{not-true}
 use Rattle.std.proofs.lemmas.Cmp.{lists_total, nat_list_cmp_total, on_total}
 use Rattle.std.proofs.lemmas.List.{map-append, map-id}
 use Rattle.std.proofs.lemmas.List.Elements.{filter_agree}
 use Rattle.std.proofs.lemmas.List.Sorted.{IsPermutation-append, IsPermutation-map, IsPermutation-refl, list_any-IsPermutation, ranks_by}
 use Rattle.std.proofs.lemmas.Simd.{map-map}
 use Rattle.prefix_keys.specs.Text.{AddressOf}
-use Rattle.prefix_keys.specs.Block.{width_of}
-use Rattle.prefix_keys.specs.declared.version.Version.{Version}
-use Rattle.prefix_keys.specs.declared.version.Version.TheVariants.{V4, V6}
 use Rattle.pmap_text.specs.MapModel.{Label}
 use Rattle.pmap_text.specs.Sorting.{in_order}
 use Rattle.pmap_text.proofs.Sorting.{in_order-sorted, same-in_order, sorted_is, stable-in_order}
 use Rattle.flow_rows.specs.Elements.{RowView}
-use Rattle.flow_uniq.specs.Key.{AddressPart, Key, KeyField, KeyPartModel, LabelPart, NumberPart, key_of, part_numbers, same_key}
+use Rattle.flow_uniq.specs.Key.{Key, KeyField, KeyPartModel, key_of, part_numbers, same_key}
 use Rattle.flow_uniq.specs.Groups.{GroupModel, distinct_keys, groups_of, is_before, totals_of}
 use Rattle.flow_uniq.specs.Laws.{DivideRows, MergedAreAll, merged, totals_at}
+use Rattle.flow_uniq.proofs.Codes.{same_key-Decides}
 use Rattle.flow_uniq.proofs.Dividing.{groups-divide, keyed_by}
 use Rattle.flow_uniq.proofs.Filtering.{filter-map, filter-none, filter-swap, filter-weaker, sum_by-filter_moved}
 use Rattle.flow_uniq.proofs.Grouping.{other_than, rows_with, same_key-equiv}
@@ -105,50 +102,6 @@ module _ (fields : List KeyField) (label : AddressOf → Option Label) where
   groups-parts : (parts : List (List RowView)) → groups (all_rows parts) ≡ merged (all_groups parts)
   groups-parts parts = λ i. map (λ k. record { key = k; totals = sym (same_totals parts k) i }) (sym (same_keys parts) i)
 
--- ---- keys with the same parts are equal
-
-first_is : (n m : ℕ) (ns ms : List ℕ) → n ∷ ns ≡ m ∷ ms → n ≡ m
-first_is n m ns ms e = cc
-
-rest_is : (n m : ℕ) (ns ms : List ℕ) → n ∷ ns ≡ m ∷ ms → ns ≡ ms
-rest_is n m ns ms e = cc
-
-version_is : (v w : Version) → width_of v ≡ width_of w → v ≡ w
-version_is V4 V4 e = refl
-version_is V4 V6 e = absurd (omega (arith, e))
-version_is V6 V4 e = absurd (omega (arith, e))
-version_is V6 V6 e = refl
-
-label_is : (l m : Option Label) → option_map_or (λ text. 0 ∷ text) l [] ≡ option_map_or (λ text. 0 ∷ text) m [] → l ≡ m
-label_is None None e = refl
-label_is None (Some m) e = absurd (cc)
-label_is (Some l) None e = absurd (cc)
-label_is (Some l) (Some m) e = ap Some (rest_is 0 0 l m e)
-
-part_is : (p q : KeyPartModel) → part_numbers p ≡ part_numbers q → p ≡ q
-part_is (AddressPart a) (AddressPart b) e =
-    let more = rest_is 0 0 (width_of a.0 ∷ a.1 ∷ []) (width_of b.0 ∷ b.1 ∷ []) e in
-    let version = version_is a.0 b.0 (first_is (width_of a.0) (width_of b.0) (a.1 ∷ []) (b.1 ∷ []) more) in
-    let number = first_is a.1 b.1 [] [] (rest_is (width_of a.0) (width_of b.0) (a.1 ∷ []) (b.1 ∷ []) more) in
-    λ i. AddressPart (version i, number i)
-part_is (NumberPart n) (NumberPart m) e = ap NumberPart (first_is n m [] [] (rest_is 1 1 (n ∷ []) (m ∷ []) e))
-part_is (LabelPart l) (LabelPart m) e =
-    ap LabelPart (label_is l m (rest_is 2 2 (option_map_or (λ text. 0 ∷ text) l []) (option_map_or (λ text. 0 ∷ text) m []) e))
-part_is (AddressPart a) (NumberPart m) e = absurd (omega (arith, first_is 0 1 (width_of a.0 ∷ a.1 ∷ []) (m ∷ []) e))
-part_is (AddressPart a) (LabelPart m) e = absurd (omega (arith, first_is 0 2 (width_of a.0 ∷ a.1 ∷ []) _ e))
-part_is (NumberPart n) (AddressPart a) e = absurd (omega (arith, first_is 1 0 (n ∷ []) (width_of a.0 ∷ a.1 ∷ []) e))
-part_is (NumberPart n) (LabelPart m) e = absurd (omega (arith, first_is 1 2 (n ∷ []) _ e))
-part_is (LabelPart l) (AddressPart a) e = absurd (omega (arith, first_is 2 0 _ (width_of a.0 ∷ a.1 ∷ []) e))
-part_is (LabelPart l) (NumberPart m) e = absurd (omega (arith, first_is 2 1 _ (m ∷ []) e))
-
-key_is : (a b : Key) → same_key a b ≡ true → a ≡ b
-key_is [] [] e = refl
-key_is [] (q ∷ b) e = absurd (true≢false (sym e))
-key_is (p ∷ a) [] e = absurd (true≢false (sym e))
-key_is (p ∷ a) (q ∷ b) e =
-    let both = and_parts _ (same_key a b) e in
-    ap₂ (λ (r : KeyPartModel) (c : Key). r ∷ c) (part_is p q (same_text (part_numbers p) (part_numbers q) (sym both.0))) (key_is a b both.1)
-
 -- ---- groups that tie in the order of groups have the same key
 
 pub before-order : IsStrictWeakOrder is_before
@@ -184,7 +137,7 @@ distinct-same k (x ∷ ks) = by (same_key k x) refl (distinct-same k ks)
         → cond b (x ∷ filter (same_key k) (others x ds)) (filter (same_key k) (others x ds)) ≡ cond (b || list_any (same_key k) ks) (k ∷ []) []
     by true e ih =
         let none = filter-none (other_than x) (same_key k) (λ o h. same_key-equiv.congr k x o e ∙ not-true (same_key x o) h) ds in
-        λ i. sym (key_is k x e) i ∷ none i
+        λ i. sym ((same_key-Decides k x).0 e) i ∷ none i
     by false e ih =
         filter-weaker (other_than x) (same_key k)
         (λ o h. ap not (same_key-equiv.symm x o ∙ sym (same_key-equiv.congr k o x h) ∙ e)) ds

@@ -1,23 +1,39 @@
 -- The fields of a text, item by item.
-use Rattle.std.proofs.Common.{◌≡◌, ℕ, ◌<◌, Bool, false, true, not, true≢false, if◌then◌else◌, List, [], ◌∷◌, ◌++◌, Some, None, length, refl, sym, ap, ◌∙◌, arith}
+use Rattle.std.proofs.Common.{◌≡◌, ℕ, ◌<◌, Bool, false, true, not, true≢false, if◌then◌else◌, List, [], ◌∷◌, ◌++◌, Some, None, length, ◌+◌, take, drop, get_or, refl, sym, ap, ◌∙◌, arith}
 use Rattle.std.proofs.lemmas.Cmp.{nat_list_eq_equiv, on_equiv}
-use Rattle.std.proofs.lemmas.List.{length_push}
+use Rattle.std.proofs.lemmas.List.{length_push, take-append-drop}
 use Rattle.std.proofs.lemmas.List.Elements.{filter_map-append}
 use Rattle.std.proofs.lemmas.List.Folds.{list_any-append}
-use Rattle.std.proofs.lemmas.List.Sums.{fold_push}
+use Rattle.std.proofs.lemmas.List.Sums.{fold-append, fold_more, fold_push}
 use Rattle.std.proofs.lemmas.Map.Keys.{IsDistinct-push}
 use Rattle.std.proofs.lemmas.Map.Made.{length-le_from_is_member}
 use Rattle.std.specs.Cmp.{IsEquivalence}
 use Rattle.std.specs.List.{IsDistinct, cons_option, list_any}
-use Rattle.std.specs.Prelude.{Result, Ok, Err, is_none, ok_or, ◌||◌}
+use Rattle.std.specs.Str.{bytes_eq}
+use Rattle.std.specs.Prelude.{fold, Result, Ok, Err, is_none, ok_or, ◌||◌}
 use Rattle.std.specs.Set.{is_member}
-use Rattle.flow_uniq.specs.Key.{KeyField, KeyFault, BadField, FieldRepeated, all_fields, each_once, field_name, field_named, has_unnamed, items_of, keys_reading, named_fields, same_field, with_field}
-use Rattle.flow_uniq.specs.declared.field.KeyField.TheVariants.{SourceAddress, DestinationAddress, SourcePort, DestinationPort, Protocol, Flags, SourceLabel, DestinationLabel}
+use Rattle.flow_uniq.specs.Key.{KeyField, TimeUnit, Precision, Day, Hour, Minute, KeyFault, BadField, FieldRepeated, all_fields, each_once, field_name, field_named, has_unnamed, items_of, keys_reading, named_fields, same_field, with_field, with_unit}
+use Rattle.flow_uniq.specs.Times.{precision_name}
+use Rattle.flow_uniq.specs.declared.field.KeyField.TheVariants.{SourceAddress, DestinationAddress, SourcePort, DestinationPort, Protocol, Flags, SourceLabel, DestinationLabel, Start}
 
 same_field-equiv : IsEquivalence same_field
 same_field-equiv = on_equiv field_name nat_list_eq_equiv
 
-is_field : (field : KeyField) → is_member same_field all_fields field ≡ true
+-- a field of each name
+abbrev every_name : List KeyField
+every_name =
+    one Day ∷ one Hour ∷ one Minute ∷ all_fields
+  where
+    one : Precision → KeyField
+    one precision = Start (record { precision = precision; count = 1; some = omega arith })
+
+is_field : (field : KeyField) → is_member same_field every_name field ≡ true
+is_field (Start unit) = by unit.precision
+  where
+    by : (precision : Precision) → list_any (λ other. bytes_eq (precision_name precision) (field_name other)) every_name ≡ true
+    by Day = refl
+    by Hour = refl
+    by Minute = refl
 is_field SourceAddress = refl
 is_field DestinationAddress = refl
 is_field SourcePort = refl
@@ -31,17 +47,17 @@ pub none_there : IsDistinct same_field []
 unfolding IsDistinct
 none_there = tt
 
--- fields that are distinct, and another one, are at most eight
+-- fields that are distinct, and another one, are at most eleven
 module _ (fields : List KeyField) (field : KeyField) (once : IsDistinct same_field fields) (new : list_any (same_field field) fields ≡ false) where
   pub once_more : IsDistinct same_field (fields ++ field ∷ [])
   once_more = IsDistinct-push same_field-equiv fields field once new
 
-  pub at_most_eight : length fields < 8
-  at_most_eight =
+  pub at_most_eleven : length fields < 11
+  at_most_eleven =
       omega (
         arith,
         length_push fields field,
-        length-le_from_is_member same_field-equiv (fields ++ field ∷ []) all_fields once_more (λ other _. is_field other),
+        length-le_from_is_member same_field-equiv (fields ++ field ∷ []) every_name once_more (λ other _. is_field other),
       )
 
 -- the items name fields, which are these unless one occurs twice
@@ -89,3 +105,35 @@ module _ (text : List ℕ) where
 abbrev pub fault_of : Result KeyField KeyFault → KeyFault
 fault_of (Ok field) = BadField
 fault_of (Err fault) = fault
+
+-- The start of a unit of time, and the first fields of a list.
+
+none_more : (fields : List KeyField) → fold with_field None fields ≡ None
+none_more [] = refl
+none_more (field ∷ fields) = none_more fields
+
+module _ (unit : TimeUnit) (fields : List KeyField) (i : ℕ) (d : KeyField) (field : KeyField) (is : field ≡ get_or fields i d) (within : i < length fields)
+    (keys : List KeyField) (so_far : Some keys ≡ with_unit unit (take i fields)) where
+  next_field : with_unit unit (take (i + 1) fields) ≡ with_field (Some keys) field
+  next_field = fold_more with_field (Some (Start unit ∷ [])) fields i d within ∙ (λ j. with_field (sym so_far j) (sym is j))
+
+  pub field_added : (added : Bool) → added ≡ true → added ≡ not (list_any (same_field field) keys) → (new : List KeyField)
+      → new ≡ (if added then keys ++ field ∷ [] else keys) → Some new ≡ with_unit unit (take (i + 1) fields)
+  field_added true _ at new grown = ap Some grown ∙ by (list_any (same_field field) keys) at ∙ sym next_field
+    where
+      by : (b : Bool) → true ≡ not b → Some (keys ++ field ∷ []) ≡ (if b then None else Some (keys ++ field ∷ []))
+      by true e = absurd (true≢false e)
+      by false _ = refl
+  field_added false is_true _ new grown = absurd (true≢false (sym is_true))
+
+  pub field_twice : (added : Bool) → added ≡ false → added ≡ not (list_any (same_field field) keys) → None ≡ with_unit unit fields
+  field_twice true is_false _ = absurd (true≢false is_false)
+  field_twice false _ at =
+      sym (ap (with_unit unit) (sym (take-append-drop (i + 1) fields))
+      ∙ fold-append with_field (Some (Start unit ∷ [])) (take (i + 1) fields) (drop (i + 1) fields)
+      ∙ ap (λ o. fold with_field o (drop (i + 1) fields)) (next_field ∙ by (list_any (same_field field) keys) at)
+      ∙ none_more (drop (i + 1) fields))
+    where
+      by : (b : Bool) → false ≡ not b → (if b then None else Some (keys ++ field ∷ [])) ≡ None
+      by true e = refl
+      by false e = absurd (true≢false (sym e))

@@ -1,4 +1,4 @@
-use Rattle.std.specs.Prelude.{◌≡◌, ℕ, zero, suc, ◌^◌, ◌<◌, ◌==◌, ◌++◌, ◌+◌, ◌*◌, ◌/◌, ◌%◌, Bool, List, [], ◌∷◌, Option, Some, None, IsTrue, length, take, drop, nat_lt, option_and_then, option_copied, option_map, position, unwrap_or, if◌then◌else◌}
+use Rattle.std.specs.Prelude.{◌≡◌, ℕ, zero, suc, ◌^◌, ◌<◌, ◌==◌, ◌++◌, ◌+◌, ◌-◌, ◌*◌, ◌/◌, ◌%◌, Bool, List, [], ◌∷◌, Option, Some, None, IsTrue, length, take, drop, nat_lt, option_and_then, option_copied, option_map, position, unwrap_or, if◌then◌else◌}
 use Rattle.std.specs.Coded.{Coded-set, Unit-prop, coded_bool, coded_list, coded_ℕ, le_prop}
 use Rattle.std.specs.Int.{w16, w32, w64, from_be_bytes, to_be_bytes}
 use Rattle.std.specs.List.{AllByRecursion, AllByRecursion-prop, flat_map}
@@ -9,7 +9,8 @@ use Rattle.prefix_keys.specs.declared.version.Version.TheVariants.{V4, V6}
 use Rattle.pmap_text.specs.Label.{is_label}
 use Rattle.flow_uniq.specs.declared.codec.KeyPart.{KeyPart}
 use Rattle.flow_uniq.specs.declared.codec.KeyPart.TheVariants as part
-use Rattle.flow_uniq.specs.Key.{Key, KeyPartModel, AddressPart, NumberPart, LabelPart}
+use Rattle.flow_uniq.specs.Key.{Key, KeyPartModel, AddressPart, NumberPart, LabelPart, TimePart, Precision, Day, Hour, Minute}
+use Rattle.flow_uniq.specs.Times.{precision_number}
 
 -- How keys are stored: as bytes that are in the order of keys.
 
@@ -18,14 +19,16 @@ abbrev pub part_model : KeyPart → KeyPartModel
 part_model (part.Address addr) = AddressPart (addr.version, addr.value)
 part_model (part.Number number) = NumberPart number
 part_model (part.Label label) = LabelPart (option_copied label)
+part_model (part.Time precision number) = TimePart precision number
 
 -- A part as bytes, which begin with its kind. Numbers have their highest byte first. A label, which is empty if there is
--- none, is followed by a 0, since no label contains one.
+-- none, is followed by a 0, since no label contains one. A time has one more than its number, or 0 if there is none.
 abbrev pub part_code : KeyPartModel → List ℕ
 part_code (AddressPart (V4, value)) = 0 ∷ to_be_bytes w32 value
 part_code (AddressPart (V6, value)) = 1 ∷ to_be_bytes w64 (value / 2 ^ 64) ++ to_be_bytes w64 (value % 2 ^ 64)
 part_code (NumberPart number) = 2 ∷ to_be_bytes w16 number
 part_code (LabelPart label) = 3 ∷ unwrap_or label [] ++ 0 ∷ []
+part_code (TimePart precision number) = 4 ∷ precision_number precision ∷ to_be_bytes w64 (option_map_or suc number 0)
 
 abbrev pub key_code : Key → List ℕ
 key_code key = flat_map part_code key
@@ -39,6 +42,8 @@ IsSmall (AddressPart address) = address.1 < 2 ^ width_of address.0
 IsSmall (NumberPart number) = number < 2 ^ 16
 IsSmall (LabelPart None) = Unit {0}
 IsSmall (LabelPart (Some text)) = IsTrue (is_label text)
+IsSmall (TimePart precision None) = Unit {0}
+IsSmall (TimePart precision (Some number)) = number + 1 < 2 ^ 64
 
 abbrev pub AreSmall : Key → Type 0
 AreSmall key = AllByRecursion IsSmall key
@@ -52,6 +57,20 @@ abbrev pub front_label : List ℕ → Option (Option (List ℕ) × List ℕ)
 front_label code =
     option_map (λ count. (if count == 0 then None else Some (take count code), drop (count + 1) code)) (position (λ b. b == 0) code)
 
+-- how exact a time with this byte is
+abbrev pub precision_at : ℕ → Precision
+precision_at byte = if byte == 0 then Day else if byte == 1 then Hour else Minute
+
+-- the number that has this one after it, if there is one
+abbrev pub number_before : ℕ → Option ℕ
+number_before number = if number == 0 then None else Some (number - 1)
+
+-- the time before other bytes, and those bytes
+abbrev pub front_time : List ℕ → Option (KeyPartModel × List ℕ)
+front_time [] = None
+front_time (byte ∷ code) =
+    option_map (λ c. (TimePart (precision_at byte) (number_before (from_be_bytes w64 c.0)), c.1)) (front_bytes 8 code)
+
 -- the part at the start of bytes, and the bytes after it
 abbrev pub first_part : List ℕ → Option (KeyPartModel × List ℕ)
 first_part [] = None
@@ -59,6 +78,7 @@ first_part (kind ∷ code) =
     if kind == 0 then option_map (λ c. (AddressPart (V4, from_be_bytes w32 c.0), c.1)) (front_bytes 4 code)
     else if kind == 1 then option_and_then (λ high. option_map (λ low. (AddressPart (V6, from_be_bytes w64 high.0 * 2 ^ 64 + from_be_bytes w64 low.0), low.1)) (front_bytes 8 high.1)) (front_bytes 8 code)
     else if kind == 2 then option_map (λ c. (NumberPart (from_be_bytes w16 c.0), c.1)) (front_bytes 2 code)
+    else if kind == 4 then front_time code
     else option_map (λ c. (LabelPart c.0, c.1)) (front_label code)
 
 -- the parts that the bytes encode, up to a maximum number
@@ -80,6 +100,8 @@ IsSmall-prop (AddressPart address) = le_prop
 IsSmall-prop (NumberPart number) = le_prop
 IsSmall-prop (LabelPart None) = Unit-prop
 IsSmall-prop (LabelPart (Some text)) = Coded-set coded_bool _ _
+IsSmall-prop (TimePart precision None) = Unit-prop
+IsSmall-prop (TimePart precision (Some number)) = le_prop
 
 pub IsCode-prop : (code : List ℕ) → IsProp (IsCode code)
 IsCode-prop code = λ x y i. record {

@@ -9,16 +9,17 @@ use Rattle.prefix_keys.specs.Text.{AddressOf}
 use Rattle.pmap_text.specs.MapModel.{Label}
 use Rattle.flow_rows.specs.Elements.{RowView}
 use Rattle.flow_uniq.specs.declared.field.KeyField.{KeyField}
-use Rattle.flow_uniq.specs.declared.field.KeyField.TheVariants.{SourceAddress, DestinationAddress, SourcePort, DestinationPort, Protocol, Flags, SourceLabel, DestinationLabel}
+use Rattle.flow_uniq.specs.declared.field.KeyField.TheVariants.{SourceAddress, DestinationAddress, SourcePort, DestinationPort, Protocol, Flags, SourceLabel, DestinationLabel, Start}
 use Rattle.flow_uniq.specs.Key.{key_of}
+use Rattle.flow_uniq.specs.Times.{unit_start}
 use Rattle.flow_uniq.specs.Groups.{GroupModel}
 
 -- What it means that rows are grouped by fields, without the keys by which `groups_of` finds the groups.
 
 -- The function gives the label of each address, if it has one.
 module _ (label : AddressOf → Option Label) where
-  -- What a row has in a field, as numbers: the width and the number of an address, a number, or the bytes of a label after
-  -- a 0. No label is no numbers.
+  -- What a row has in a field, as numbers: the width and the number of an address, a number, the number of the day, hour
+  -- or minute at which a unit of time begins, or the bytes of a label after a 0. No label and no time are no numbers.
   abbrev pub in_field : RowView → KeyField → List ℕ
   in_field r SourceAddress = width_of r.version ∷ r.src ∷ []
   in_field r DestinationAddress = width_of r.version ∷ r.dst ∷ []
@@ -28,6 +29,7 @@ module _ (label : AddressOf → Option Label) where
   in_field r Flags = r.flags ∷ []
   in_field r SourceLabel = option_map_or (λ t. 0 ∷ t) (label (r.version, r.src)) []
   in_field r DestinationLabel = option_map_or (λ t. 0 ∷ t) (label (r.version, r.dst)) []
+  in_field r (Start unit) = option_map_or (λ n. n ∷ []) (unit_start unit r.start_ms) []
 
   -- Each row is in one group. Two rows are in the same group if and only if they have the same in each field. If the groups
   -- are sorted, a row of an earlier group is before a row of a later one: in the first field that differs, it has less.

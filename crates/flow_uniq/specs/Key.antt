@@ -8,7 +8,11 @@ use Rattle.prefix_keys.specs.Block.{width_of}
 use Rattle.pmap_text.specs.MapModel.{Label}
 use Rattle.flow_rows.specs.Elements.{RowView}
 pub use Rattle.flow_uniq.specs.declared.field.KeyField.{KeyField}
-use Rattle.flow_uniq.specs.declared.field.KeyField.TheVariants.{SourceAddress, DestinationAddress, SourcePort, DestinationPort, Protocol, Flags, SourceLabel, DestinationLabel}
+pub use Rattle.flow_uniq.specs.declared.field.TimeUnit.{TimeUnit}
+pub use Rattle.flow_uniq.specs.declared.field.Precision.{Precision}
+pub use Rattle.flow_uniq.specs.declared.field.Precision.TheVariants.{Day, Hour, Minute}
+use Rattle.flow_uniq.specs.Times.{precision_name, precision_number, unit_start}
+use Rattle.flow_uniq.specs.declared.field.KeyField.TheVariants.{SourceAddress, DestinationAddress, SourcePort, DestinationPort, Protocol, Flags, SourceLabel, DestinationLabel, Start}
 pub use Rattle.flow_uniq.specs.declared.fault.KeyFault.{KeyFault}
 pub use Rattle.flow_uniq.specs.declared.fault.KeyFault.TheVariants.{BadField, FieldRepeated, NoMemory}
 
@@ -24,7 +28,9 @@ field_name Protocol = codes "proto"
 field_name Flags = codes "flags"
 field_name SourceLabel = codes "src-label"
 field_name DestinationLabel = codes "dst-label"
+field_name (Start unit) = precision_name unit.precision
 
+-- the fields that a text can name
 abbrev pub all_fields : List KeyField
 all_fields =
     SourceAddress ∷ DestinationAddress ∷ SourcePort ∷ DestinationPort ∷ Protocol ∷ Flags
@@ -79,11 +85,12 @@ keys_reading text =
 
 -- The key of a row.
 
--- a part of a key: an address, a number, or the text of a label or none
+-- a part of a key: an address, a number, the text of a label or none, or the number of a day, an hour or a minute or none
 pub data KeyPartModel : Type 0 where
   AddressPart : (address : AddressOf) → KeyPartModel
   NumberPart : (number : ℕ) → KeyPartModel
   LabelPart : (label : Option Label) → KeyPartModel
+  TimePart : (precision : Precision) (number : Option ℕ) → KeyPartModel
 
 abbrev pub Key : Type 0
 Key = List KeyPartModel
@@ -99,18 +106,28 @@ module _ (label : AddressOf → Option Label) where
   key_part row Flags = NumberPart row.flags
   key_part row SourceLabel = LabelPart (label (row.version, row.src))
   key_part row DestinationLabel = LabelPart (label (row.version, row.dst))
+  key_part row (Start unit) = TimePart unit.precision (unit_start unit row.start_ms)
 
   -- the key of a row: the parts for these fields, in order
   abbrev pub key_of : List KeyField → RowView → Key
   key_of fields row = map (key_part row) fields
 
 -- the numbers by which parts are distinguished and ordered: the number of the kind, followed by the width and the
--- value of an address, by the number itself, by nothing for a missing label, or by a zero and the bytes of a label
+-- value of an address, by the number itself, by a zero and the bytes of a label, or by how exact a time is and its number;
+-- a missing label or time has no numbers
 abbrev pub part_numbers : KeyPartModel → List ℕ
 part_numbers (AddressPart address) = 0 ∷ width_of address.0 ∷ address.1 ∷ []
 part_numbers (NumberPart number) = 1 ∷ number ∷ []
 part_numbers (LabelPart label) = 2 ∷ option_map_or (λ text. 0 ∷ text) label []
+part_numbers (TimePart precision number) =
+    3 ∷ precision_number precision ∷ option_map_or (λ n. n ∷ []) number []
 
 -- whether the keys have equal parts
 abbrev pub same_key : Key → Key → Bool
 same_key a b = pointwise (λ p q. bytes_eq (part_numbers p) (part_numbers q)) a b
+
+-- Below: only contracts of parts and proofs use these; no promise of the program rests on them.
+
+-- the start of a unit of time, followed by fields, if each occurs once
+abbrev pub with_unit : TimeUnit → List KeyField → Option (List KeyField)
+with_unit unit fields = fold with_field (Some (Start unit ∷ [])) fields

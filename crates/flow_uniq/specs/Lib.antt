@@ -1,3 +1,4 @@
+pub mod Times
 pub mod Key
 pub mod Groups
 pub mod Codes

@@ -5,9 +5,10 @@ ghost use Rattle.std.specs.Cmp.Lexicographic.{slice_cmp};
 ghost use Rattle.std.specs.Ordering.{nat_cmp};
 ghost use Rattle.label_lookup.specs.Labelling.{label_where, labelling_borrowed};
 ghost use Rattle.flow_uniq.specs.Key.{AddressPart, key_of, key_part, part_numbers};
-ghost use Rattle.flow_uniq.specs.Codes.{IsCode, IsCode-prop, IsSmall, first_part, front_label, key_code, key_in, part_code, part_model};
+ghost use Rattle.flow_uniq.specs.Times.{precision_number};
+ghost use Rattle.flow_uniq.specs.Codes.{IsCode, IsCode-prop, IsSmall, first_part, front_label, key_code, key_in, part_code, part_model, precision_at};
 
-use crate::field::KeyField;
+use crate::field::{KeyField, Precision};
 use flow_rows::Row;
 use label_lookup::{Labeller, label_row_under};
 use prefix_keys::{Addr, Version, find_byte};
@@ -26,6 +27,8 @@ pub enum KeyPart<'a> {
     Number(u16),
     /// The label of an address, or none.
     Label(Option<&'a [u8]>),
+    /// The number of a UTC day, hour or minute, where the first of 1970 has the number 0, or none.
+    Time(Precision, Option<u64>),
 }
 
 /// The key of a group, borrowed: its parts in the order of the fields. Each part is read from the key's bytes when
@@ -44,6 +47,8 @@ const IPV6: u8 = 1;
 const NUMBER: u8 = 2;
 
 const LABEL: u8 = 3;
+
+const TIME: u8 = 4;
 
 /// A key as bytes, which are hashed and compared in one piece. Most keys have few bytes, which are stored inline.
 #[derive(Drop)]
@@ -116,6 +121,7 @@ fn part_of<'a, L: Labeller>(field: KeyField, row: &Row<'_>, labeller: Option<&'a
         KeyField::Flags => KeyPart::Number(row.flags()),
         KeyField::SourceLabel => KeyPart::Label(label_row_under(labeller, row.src())),
         KeyField::DestinationLabel => KeyPart::Label(label_row_under(labeller, row.dst())),
+        KeyField::Start(unit) => KeyPart::Time(unit.precision, unit.start_of(row.start_ms())),
     }
 }
 
@@ -138,10 +144,34 @@ fn append_address(out: &mut Vec<u8>, addr: Addr) -> Result<(), AllocError>
     Ok(())
 }
 
+// Returns the byte for how exact a time is.
+#[inline(always)]
+fn precision_byte(precision: Precision) -> u8
+    ensures { result ≡ precision_number precision }
+{
+    match precision {
+        Precision::Day => 0,
+        Precision::Hour => 1,
+        Precision::Minute => 2,
+    }
+}
+
+// Returns how exact a time with this byte is.
+fn precision_at(byte: u8) -> Precision
+    ensures { result ≡ precision_at byte }
+{
+    match byte {
+        0 => Precision::Day,
+        1 => Precision::Hour,
+        _ => Precision::Minute,
+    }
+}
+
 // Appends the bytes of a part. If an allocation fails, some of them may have been appended. Inlined into its one
 // caller, so that no part is copied.
 #[inline(always)]
 fn append_part(out: &mut Vec<u8>, part: KeyPart<'_>) -> Result<(), AllocError>
+    requires { IsSmall (part_model part) }
     ensures { OnOk result (out.new.items ≡ out.old.items ++ part_code (part_model part.entry)) }
 {
     match part {
@@ -154,6 +184,14 @@ fn append_part(out: &mut Vec<u8>, part: KeyPart<'_>) -> Result<(), AllocError>
             out.push(LABEL)?;
             out.extend_from_slice(label.unwrap_or(b""))?;
             out.push(0)?;
+        }
+        KeyPart::Time(precision, number) => {
+            out.extend_from_slice(&[TIME, precision_byte(precision)])?;
+            let number = match number {
+                Some(number) => number + 1,
+                None => 0,
+            };
+            out.extend_from_slice(&number.to_be_bytes())?;
         }
     }
     Ok(())
@@ -234,6 +272,12 @@ fn first_part(code: &[u8]) -> Option<(KeyPart<'_>, &[u8])>
             let (number, rest) = code.split_first_chunk()?;
             Some((KeyPart::Number(u16::from_be_bytes(*number)), rest))
         }
+        TIME => {
+            let (precision, code) = code.split_first()?;
+            let (number, rest) = code.split_first_chunk()?;
+            let number = u64::from_be_bytes(*number).checked_sub(1);
+            Some((KeyPart::Time(precision_at(*precision), number), rest))
+        }
         _ => {
             let (label, rest) = front_label(code)?;
             Some((KeyPart::Label(label), rest))
@@ -265,9 +309,9 @@ impl<'a> Key<'a> {
     }
 }
 
-/// Compares two keys by their parts from the left. Addresses are before numbers, and numbers before labels. IPv4
-/// addresses are before those of IPv6, and no label is before any label. Otherwise addresses and numbers compare by
-/// value, and labels by their bytes. The codes of keys compare in the same way.
+/// Compares two keys by their parts from the left. Addresses are before numbers, numbers before labels, and labels before
+/// times. IPv4 addresses are before those of IPv6, no label is before any label, and no time before any time. Otherwise
+/// addresses, numbers and times compare by value, and labels by their bytes. The codes of keys compare in the same way.
 pub fn compare_keys(a: Key<'_>, b: Key<'_>) -> Ordering
     ensures { result
         ≡ slice_cmp (λ p q. slice_cmp nat_cmp (part_numbers p) (part_numbers q)) (key_in a.entry.code.now) (key_in b.entry.code.now) }

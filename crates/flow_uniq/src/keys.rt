@@ -1,16 +1,16 @@
 ghost use Rattle.std.specs.Prelude.{◌≡◌, ◌++◌, ◌∷◌, [], if◌then◌else◌, not};
 ghost use Rattle.std.specs.List.{list_any};
-ghost use Rattle.flow_uniq.specs.Key.{field_named, keys_reading, fields_need_labels, same_field};
+ghost use Rattle.flow_uniq.specs.Key.{field_named, keys_reading, fields_need_labels, same_field, with_unit};
 
 use crate::fault::KeyFault;
-use crate::field::{ALL_FIELDS, KeyField};
+use crate::field::{ALL_FIELDS, KeyField, TimeUnit};
 use arrayvec::ArrayVec;
 use std::marker::Model;
 
 /// The fields of keys, each once.
 #[derive(Drop)]
 pub struct Keys {
-    fields: ArrayVec<KeyField, 8>,
+    fields: ArrayVec<KeyField, 11>,
 }
 
 impl Model for Keys {
@@ -74,6 +74,23 @@ impl Keys {
             return Err(KeyFault::FieldRepeated);
         }
         Ok(keys)
+    }
+
+    /// Returns the keys whose first field is the start of the unit of time in which a row starts, followed by these fields.
+    /// Returns `None` if a field occurs twice.
+    pub fn by_time(unit: TimeUnit, fields: &[KeyField]) -> Option<Keys>
+        ensures { result ≡ with_unit unit fields.now }
+    {
+        let mut keys = Keys {
+            fields: ArrayVec::new(),
+        };
+        keys.add(KeyField::Start(unit));
+        for field in fields {
+            if !keys.add(*field) {
+                return None;
+            }
+        }
+        Some(keys)
     }
 
     /// Returns `true` if a field is a label, so that rows have no keys without a map or a list.

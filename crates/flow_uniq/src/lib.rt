@@ -28,7 +28,7 @@ mod recent;
 
 pub use codec::{Key, KeyPart};
 pub use fault::KeyFault;
-pub use field::KeyField;
+pub use field::{KeyField, Precision, TimeUnit};
 pub use groups::{Group, Groups, Totals};
 pub use keys::Keys;
 pub use laws::{

@@ -14,17 +14,26 @@ struct Guess {
     index: u32,
 }
 
-/// Guesses of the groups of keys, which the caller must check. The last bytes of a key select its guess. A guess has a
-/// mark of its key, so that most wrong ones are found without a look at the group.
+/// Guesses of the groups of keys, which the caller must check. Some bytes of a key select its guess. A guess has a mark
+/// of its key, so that most wrong ones are found without a look at the group.
 #[derive(Drop)]
 pub struct Recent {
     guesses: Box<[Guess; PLACES]>,
 }
 
-/// Returns a number that depends on the last eight bytes of a key, by which its group is guessed.
+/// Returns a number that depends on the eight bytes after the first two of a key, and on its last eight bytes. By this
+/// number the key's group is guessed. A key that begins with a time has the time's number in the former.
 #[inline(always)]
 pub fn mixed(key: &[u8]) -> u64 {
-    last_bytes(key).wrapping_mul(0x9e37_79b9_7f4a_7c15)
+    let first = match key.first_chunk::<10>() {
+        Some([_, _, a, b, c, d, e, f, g, h]) => {
+            u64::from_be_bytes([*a, *b, *c, *d, *e, *f, *g, *h])
+        }
+        None => 0,
+    };
+    last_bytes(key)
+        .wrapping_add(first)
+        .wrapping_mul(0x9e37_79b9_7f4a_7c15)
 }
 
 // Returns the last eight bytes of a key, or the last four or two if it has fewer.

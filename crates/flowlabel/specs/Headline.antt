@@ -22,12 +22,15 @@ use Rattle.flow_rows.specs.Elements.{RowView}
 use Rattle.flow_rows.specs.Laws.{summed_counts}
 use Rattle.flow_filter.specs.Laws.{rows_left}
 use Rattle.flow_uniq.specs.Key.{field_name}
+use Rattle.flow_uniq.specs.Times.{unit_start}
 use Rattle.flow_uniq.specs.Grouped.{AreGrouped}
 use Rattle.flow_uniq.specs.declared.field.KeyField.{KeyField}
+use Rattle.flow_uniq.specs.declared.field.KeyField.TheVariants.{Start}
 use Rattle.pmap_cert.specs.ListText.{labels_of, list_text}
 use Rattle.pmap_print.specs.Reports.{group_titles, info_text, title_line}
 use Rattle.pmap_text.specs.RunsText.{runs_text}
 use Rattle.pmap_print.specs.Table.{table_text}
+use Rattle.pmap_print.specs.Times.{time_text}
 use Rattle.flowlabel.specs.Output.{FlowsThen, IsOutput, LabelsThen, Outcome, Prints, minimal_text}
 use Rattle.flowlabel.specs.ByFile.{ByFile}
 use Rattle.flowlabel.specs.Request.{Cat, Check, Command, Info, Label, Recert, Rows, Shrink, Text, Uniq}
@@ -112,16 +115,21 @@ PrintsRows columns labels shown outcome = let titles = title_line (is_some label
     × Prints (table_text columns
     (titles ∷ map (λ row. map (λ c. c.1) (row_columns labels row)) shown)) outcome
 
--- The outcome is a table of groups of the rows, each with a first row and others. The line of a group has the columns of
--- the fields as in the first row, empty if there is no such column, the number of its rows, and the sums of their packets
--- and bytes.
+-- the text of a field of a row: of its column, empty if there is no such column, or of the start of a unit of time
+abbrev pub field_text : Option Labelling → RowView → KeyField → Text
+field_text labels row (Start unit) = time_text unit.precision (unit_start unit row.start_ms)
+field_text labels row field =
+    option_map_or (λ c. c.1)
+    (find (λ c. bytes_eq c.0 (field_name field)) (row_columns labels row)) []
+
+-- The outcome is a table of groups of the rows, each with a first row and others. The line of a group has the texts of
+-- the fields of the first row, the number of its rows, and the sums of their packets and bytes.
 abbrev pub PrintsGroups : List KeyField → Bool → Bool → Option Labelling → List RowView → Outcome
     → Type 0
 PrintsGroups fields sorted columns labels shown outcome = (groups : List (RowView × List RowView))
     × AreGrouped (label_where labels) fields sorted shown (map (λ g. g.0 ∷ g.1) groups)
     × Prints (table_text columns (group_titles fields ∷ map (λ g. let rows = g.0 ∷ g.1 in
-    map (λ f. option_map_or (λ c. c.1)
-    (find (λ c. bytes_eq c.0 (field_name f)) (row_columns labels g.0)) []) fields
+    map (field_text labels g.0) fields
     ++ decimal (length rows) ∷ decimal (sum_by (λ r. r.packets) rows)
     ∷ decimal (sum_by (λ r. r.octets) rows) ∷ []) groups)) outcome
 

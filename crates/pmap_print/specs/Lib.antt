@@ -1,2 +1,3 @@
 pub mod Table
+pub mod Times
 pub mod Reports

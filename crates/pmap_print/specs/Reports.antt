@@ -6,12 +6,13 @@ use Rattle.std.specs.Option.{option_map_or}
 use Rattle.prefix_keys.specs.Print.{address_text}
 use Rattle.flow_rows.specs.Elements.{RowView}
 use Rattle.flow_uniq.specs.declared.field.KeyField.{KeyField}
-use Rattle.flow_uniq.specs.Key.{field_name, KeyPartModel, AddressPart, NumberPart, LabelPart}
+use Rattle.flow_uniq.specs.Key.{field_name, KeyPartModel, AddressPart, NumberPart, LabelPart, TimePart}
 use Rattle.flow_uniq.specs.declared.groups.Group.{Group}
 use Rattle.flow_uniq.specs.Groups.{GroupModel, GroupsModel}
 use Rattle.flow_uniq.specs.Inner.{group_model}
 pub use Rattle.pmap_print.specs.declared.row_labels.RowLabels.{RowLabels}
 use Rattle.pmap_print.specs.Table.{Text, Line, table_text}
+use Rattle.pmap_print.specs.Times.{time_text}
 
 -- The printed text of flow rows.
 
@@ -69,6 +70,7 @@ abbrev pub part_text : KeyPartModel → Text
 part_text (AddressPart address) = address_text address.0 address.1
 part_text (NumberPart number) = decimal number
 part_text (LabelPart label) = unwrap_or label []
+part_text (TimePart precision number) = time_text precision number
 
 -- the fields of a group's line
 abbrev pub group_fields : GroupModel → Line

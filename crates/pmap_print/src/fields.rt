@@ -3,11 +3,14 @@ ghost use Rattle.std.specs.Prelude.{◌≡◌, ◌+◌, ◌^◌, ◌<◌, ◌≤
 ghost use Rattle.flow_io.specs.Sinks.{Pushes};
 ghost use Rattle.prefix_keys.specs.Print.{address_text, block_text};
 ghost use Rattle.pmap_print.specs.Table.{marked};
+ghost use Rattle.pmap_print.specs.Times.{time_text};
 
 use crate::mark::Mark;
 use flow_io::Sink;
+use flow_uniq::Precision;
 use itoa::{Buffer, write_digits};
 use prefix_keys::{Addr, Block, write_addr};
+use utc_text::{day_text, hour_text, minute_text};
 
 // The maximum length of a number below 2^64 and of an address, each with the byte before it, rounded up.
 const NUMBER: usize = 24;
@@ -77,6 +80,32 @@ pub fn push_total<S: Sink>(out: &mut S, mark: Mark, number: u128) -> Result<(), 
         return push_number(out, mark, number as u64);
     }
     push_field(out, mark, Buffer::new().format(number).as_bytes())
+}
+
+/// Prints a mark and the text of a time. Of a day, an hour or a minute after the year 9999 it prints the number, and of no
+/// time `0`. It isn't inlined, which would make the printing of other parts slower.
+#[cold]
+#[inline(never)]
+pub fn push_time<S: Sink>(
+    out: &mut S,
+    mark: Mark,
+    precision: Precision,
+    number: Option<u64>,
+) -> Result<(), S::Fault>
+    ensures { Pushes S.sink S.began out.old out.new (marked mark (time_text precision number)) result }
+{
+    let Some(number) = number else {
+        return push_field(out, mark, b"0");
+    };
+    let text = match precision {
+        Precision::Day => day_text(number),
+        Precision::Hour => hour_text(number),
+        Precision::Minute => minute_text(number),
+    };
+    match text {
+        Some(text) => push_field(out, mark, text.as_str().as_bytes()),
+        None => push_number(out, mark, number),
+    }
 }
 
 /// Prints a mark and an address.

@@ -8,7 +8,7 @@ ghost use Rattle.flow_uniq.specs.Groups.{shown_groups};
 ghost use Rattle.pmap_print.specs.Table.{has_columns, header_text, IsTable, Line, marked, marked_line};
 ghost use Rattle.pmap_print.specs.Reports.{group_fields, group_lines, group_titles, groups_text, ordered, part_text};
 
-use crate::fields::{push_address, push_field, push_number, push_total};
+use crate::fields::{push_address, push_field, push_number, push_time, push_total};
 use crate::mark::Mark;
 use crate::table::Table;
 use flow_io::{Printable, Sink, text_of};
@@ -52,6 +52,7 @@ fn print_part<S: Sink>(out: &mut S, mark: Mark, part: KeyPart<'_>) -> Result<(),
         KeyPart::Address(addr) => push_address(out, mark, addr),
         KeyPart::Number(number) => push_number(out, mark, u64::from(number)),
         KeyPart::Label(label) => push_field(out, mark, label.unwrap_or(b"")),
+        KeyPart::Time(precision, number) => push_time(out, mark, precision, number),
     }
 }
 

@@ -23,12 +23,12 @@ use Rattle.flow_rows.specs.Elements.{RowView}
 use Rattle.flow_rows.specs.Laws.{summed_counts}
 use Rattle.flow_filter.specs.Laws.{rows_left}
 use Rattle.flow_uniq.specs.declared.field.KeyField.{KeyField}
-use Rattle.flow_uniq.specs.declared.field.KeyField.TheVariants.{SourceAddress, DestinationAddress, SourcePort, DestinationPort, Protocol, Flags, SourceLabel, DestinationLabel}
-use Rattle.flow_uniq.specs.Key.{field_name, key_of, key_part}
+use Rattle.flow_uniq.specs.declared.field.KeyField.TheVariants.{SourceAddress, DestinationAddress, SourcePort, DestinationPort, Protocol, Flags, SourceLabel, DestinationLabel, Start}
+use Rattle.flow_uniq.specs.Key.{key_of, key_part}
 use Rattle.flow_uniq.specs.Grouped.{AreGrouped, group_with}
 use Rattle.pmap_print.specs.Reports.{group_fields, group_titles, info_text, part_text, title_line}
 use Rattle.pmap_print.specs.Table.{Line, table_text}
-use Rattle.flowlabel.specs.Headline.{GivesLabels, IsSameUnder, PrintsEachOnce, PrintsGroups, PrintsList, PrintsRows, row_columns}
+use Rattle.flowlabel.specs.Headline.{GivesLabels, IsSameUnder, PrintsEachOnce, PrintsGroups, PrintsList, PrintsRows, field_text, row_columns}
 use Rattle.flowlabel.specs.Output.{BytesFault, IsVerdict, IsOutput, LabelsThen, Outcome, Prints, Then, label_text, labelled_row_lines, minimal_text}
 use Rattle.flowlabel.proofs.Outcomes.{CertificateThen, ListThen, PrintsCompact, PrintsMinimal, PrintsRuns, ReportsOf, printed_of, report_of_groups, report_of_rows, checked}
 use Rattle.std.specs.Borrow.{Bor}
@@ -108,11 +108,8 @@ prints_rows columns labels shown outcome made = (
   made ∙ ap (λ (lines : List Line). Ok (table_text columns lines)) (lines_of_rows labels shown),
 )
 
--- the line of a group has what a row has in the columns of the fields
-abbrev column_text : Option Labelling → RowView → KeyField → Text
-column_text labels row field = option_map_or (λ c. c.1) (find (λ c. bytes_eq c.0 (field_name field)) (row_columns labels row)) []
-
-text_of_field : (labels : Option Labelling) (row : RowView) (field : KeyField) → part_text (key_part (label_where labels) row field) ≡ column_text labels row field
+-- the line of a group has the texts of a row's fields
+text_of_field : (labels : Option Labelling) (row : RowView) (field : KeyField) → part_text (key_part (label_where labels) row field) ≡ field_text labels row field
 text_of_field labels row SourceAddress = refl
 text_of_field labels row DestinationAddress = refl
 text_of_field labels row SourcePort = refl
@@ -123,16 +120,17 @@ text_of_field None row SourceLabel = refl
 text_of_field (Some l) row SourceLabel = refl
 text_of_field None row DestinationLabel = refl
 text_of_field (Some l) row DestinationLabel = refl
+text_of_field labels row (Start unit) = refl
 
 texts_of_fields : (labels : Option Labelling) (row : RowView) (fields : List KeyField)
-    → map part_text (key_of (label_where labels) fields row) ≡ map (column_text labels row) fields
+    → map part_text (key_of (label_where labels) fields row) ≡ map (field_text labels row) fields
 texts_of_fields labels row [] = refl
 texts_of_fields labels row (field ∷ fields) = λ i. text_of_field labels row field i ∷ texts_of_fields labels row fields i
 
 abbrev group_line : List KeyField → Option Labelling → RowView × List RowView → Line
 group_line fields labels g =
     let rows : List RowView = g.0 ∷ g.1 in
-    map (column_text labels g.0) fields ++ decimal (length rows) ∷ decimal (sum_by (λ r. r.packets) rows) ∷ decimal (sum_by (λ r. r.octets) rows) ∷ []
+    map (field_text labels g.0) fields ++ decimal (length rows) ∷ decimal (sum_by (λ r. r.packets) rows) ∷ decimal (sum_by (λ r. r.octets) rows) ∷ []
 
 lines_of_groups : (fields : List KeyField) (labels : Option Labelling) (groups : List (RowView × List RowView))
     → map group_fields (map (group_with (label_where labels) fields) groups) ≡ map (group_line fields labels) groups
