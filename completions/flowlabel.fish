@@ -14,6 +14,14 @@ function __flowlabel_labels
     end
 end
 
+# The fields that the word of `--fields` doesn't have yet, after those that it has.
+function __flowlabel_fields
+    set -l begun (commandline -tc | string replace -r '^--fields=' '' | string replace -r '[^,]*$' '')
+    for field in sip dip sport dport proto flags src-label dst-label
+        contains -- $field (string split , -- $begun); or echo $begun$field
+    end
+end
+
 set -l commands label info rows uniq cat shrink check recert
 set -l of __fish_seen_subcommand_from
 
@@ -52,4 +60,4 @@ complete -c flowlabel -n "$of rows uniq" -l columns -d 'Pad the fields to column
 
 complete -c flowlabel -n "$of uniq" -l sort-output -d 'Print the sums in the order of their keys'
 complete -c flowlabel -n "$of uniq" -l fields -x -d 'The fields to sum by' \
-    -a '(__fish_append , sip dip sport dport proto flags src-label dst-label)'
+    -a '(__flowlabel_fields)'

@@ -1,0 +1,633 @@
+"""Evaluates the definitions of specs/ over your files: what a command must print, without the program and the prover.
+
+  dev/evaluate COMMAND ARGUMENT..      prints what the definitions give for this command line of flowlabel: standard
+                                        output, standard error and the exit status
+  dev/evaluate --definition CRATE/MODULE.NAME ARGUMENT..
+                                        prints the value of a definition. An argument is a term in the language of the
+                                        definitions, such as V4, 32 or '(codes "10.0.0.1")', or @FILE, a file's bytes
+
+For example: dev/evaluate uniq --fields dst-label --pmap examples/customers.txt examples/softflowd.ipfix
+
+It reads crates/*/specs/*.antt as they are, translates each equation into Python, and calls the result. So it shares
+nothing with the prover, the compiler and the program. If you take its result for that of the definitions, you trust:
+
+- the reading of the language: dev/specs.py turns texts into trees, and `Translator` trees into Python. The first
+  equation is taken whose patterns fit.
+- LIBRARY in dev/kit.py: the words of the kit's library, such as lists, numbers and options, each with its meaning.
+  The words of clap are among them: `divided` divides a command line by the rules that the definitions give. Constants
+  and enumerations of src/ are read from src/.
+- `Definitions.outcome`: which definitions are evaluated for a command line, and how a run ends by their results. The
+  definitions must confirm the command that it makes for a command line, and the first file that it can't open.
+
+Relations. If a definition says that there is a value, its parts are evaluated in turn, and a part `unknown ≡ value`
+gives the unknown its value. A part that needs the value waits. The runs that `cat` prints, and the list and
+certificate that `shrink` prints, can't be found so. For these, WITNESSES computes values, and then the relation is
+evaluated on them: with a wrong value it would be false. A statement about all numbers is evaluated once for each range
+of numbers in which all comparisons have the same results (`Number`). A statement about all values of another type can
+be evaluated if the type has finitely many values, or if its premises determine the value. Others can't be evaluated.
+
+The definitions leave open the words of clap's refusals, of help and of the version; a line on standard error says so.
+Faults of memory and of devices are not evaluated, except that a file can't be opened.
+
+The exit status is that of the definitions. If the input of dev/evaluate is malformed, or something can't be
+evaluated, one line on standard error says why, and the status is 2.
+"""
+
+import functools
+import itertools
+import os
+import re
+import sys
+import threading
+from collections import deque, namedtuple
+from concurrent.futures import ThreadPoolExecutor
+from pathlib import Path
+
+from kit import LIBRARY, NONE, UNIT, Case, Record, borrowed, codes, curried, err, is_ok, is_some, less, own_name
+from kit import pair, quotient, remainder, shown, some
+from specs import CannotEvaluate, Malformed, Module, Parser, cannot, lex
+
+ROOT = Path(__file__).resolve().parent.parent
+
+# Unknowns, and statements about some value or all values.
+
+
+class Stuck(CannotEvaluate):
+    """The value of an unknown is needed before it is found."""
+
+
+class Unknown:
+    """A value that is to be found: the first one to which it must be equal. Or a list: the items `front` and then those
+    of another unknown, `rest`."""
+
+    closed = 0  # how many statements are being evaluated that may not determine the values of earlier unknowns
+
+    def __init__(self, front=(), rest=None):
+        self.value, self.depth, self.front, self.rest = None, Unknown.closed, front, rest
+
+    def meet(self, value):
+        """Gives the unknown a value, or compares its value."""
+        if self.rest is not None:
+            return value[:len(self.front)] == self.front and self.rest.meet(value[len(self.front):])
+        if self.value is None and (type(value) is Unknown or Unknown.closed > self.depth):
+            self.needed()
+        self.value = value if self.value is None else self.value
+        return same(self.value, value)
+
+    def needed(self, *_):
+        raise Stuck("no equation determines a value")
+
+    def __radd__(self, front):
+        return Unknown(front, self)
+
+    __getattr__ = __bool__ = __len__ = __iter__ = __getitem__ = __eq__ = __lt__ = __le__ = __gt__ = __ge__ = needed
+    __add__ = __mul__ = __rmul__ = __rsub__ = __floordiv__ = __mod__ = __pow__ = __rpow__ = __call__ = needed
+
+
+def known(value):
+    """Returns a value, or what was found for it if it is an unknown."""
+    return value.value if type(value) is Unknown and value.value is not None else value
+
+
+def closed(statement):
+    """Returns whether a statement holds. It gives no unknown a value, since others may be as good."""
+    Unknown.closed += 1
+    try:
+        return statement()
+    finally:
+        Unknown.closed -= 1
+
+
+def same(a, b):
+    """Returns whether a ≡ b."""
+    if a is b:
+        return True
+    kind, other = type(a), type(b)
+    if Unknown in (kind, other):
+        return a.meet(known(b)) if kind is Unknown else b.meet(a)
+    if kind is not other and Number not in (kind, other) or kind is FUNCTION:
+        cannot(f"{shown(a)} and {shown(b)} are compared")
+    if kind is tuple:
+        return len(a) == len(b) and all(map(same, a, b))
+    if kind is Case:
+        return a.tag == b.tag and all(map(same, a.args, b.args))
+    if kind is Record:
+        return vars(a).keys() == vars(b).keys() and all(same(value, vars(b)[name]) for name, value in vars(a).items())
+    return a == b
+
+
+def solutions(kind, count, parts):
+    """Yields the values of which all parts hold. If there are infinitely many values of this type, the parts must
+    determine them. A part that needs a value waits until others have determined it."""
+    if kind in ENUMERATIONS:
+        values = itertools.product(ENUMERATIONS[kind], repeat=count)
+        yield from (xs for xs in values if all(part(*xs) for part in parts))
+        return
+    unknowns, waiting, turns = [Unknown() for _ in range(count)], deque(parts), 0
+    while turns < len(waiting):  # not all of them have waited in turn
+        part = waiting.popleft()
+        try:
+            if not part(*map(known, unknowns)):
+                return
+            turns = 0
+        except Stuck:
+            waiting.append(part)
+            turns += 1
+    values = tuple(map(known, unknowns))
+    yield cannot(f"nothing determines a {kind}", Stuck) if waiting or Unknown in map(type, values) else values
+
+
+def exists(kind, count, parts):
+    """Returns whether all parts hold of some values."""
+    return any(True for _ in solutions(kind, count, parts))
+
+
+def for_all(kind, count, premises, claim):
+    """Returns whether the claim holds of all values of which the premises hold."""
+    if kind == "ℕ" and count == 1:
+        return all(value for _, _, value in ranges(lambda x: not all(part(x) for part in premises) or claim(x)))
+    return all(claim(*values) for values in solutions(kind, count, premises))
+
+
+FUNCTION = type(lambda: None)
+ENUMERATIONS = {"Bool": (False, True)}  # the values of each type that has finitely many; those of src/ and specs/ are added
+INFINITE, MOST_RANGES = 1 << 300, 100_000  # more than any number with which a definition compares
+
+
+class Number:
+    """A number that depends on one of a span: `of` returns it for each. Each comparison shortens the span to the first
+    numbers that have the same result. No operation makes a greater number less, so that these are consecutive."""
+
+    def __init__(self, of, span):
+        self.of, self.span = of, span
+
+    def sign(self, other):
+        if type(other) is not int:
+            cannot("two numbers of ranges are compared")
+        sign_of = lambda a: (self.of(a) > other) - (self.of(a) < other)
+        low, high = self.span
+        sign = sign_of(low)
+        if sign_of(high) != sign:
+            while high - low > 1:
+                middle = (low + high) // 2
+                low, high = (middle, high) if sign_of(middle) == sign else (low, middle)
+            self.span[1] = low
+        return sign
+
+    def changed(self, step):
+        return Number(lambda a: step(self.of(a)), self.span)
+
+    def less(self, other):
+        return self.changed(lambda number: max(number - other, 0))
+
+    __eq__, __lt__ = (lambda self, other: self.sign(other) == 0), (lambda self, other: self.sign(other) < 0)
+    __le__, __gt__ = (lambda self, other: self.sign(other) <= 0), (lambda self, other: self.sign(other) > 0)
+    __ge__ = lambda self, other: self.sign(other) >= 0
+    __add__ = __radd__ = lambda self, other: self.changed(lambda number: number + other)
+    __mul__ = __rmul__ = lambda self, other: self.changed(lambda number: number * other)
+    __floordiv__ = lambda self, other: self.changed(lambda number: number // other)
+
+
+def ranges(function):
+    """Yields the value of a function of a number on consecutive ranges, with the first and the last number of each."""
+    first = 0
+    for _ in range(MOST_RANGES):
+        span = [first, INFINITE]
+        value = function(Number(lambda a: a, span))
+        yield first, span[1], value
+        first = span[1] + 1
+        if first > INFINITE:
+            return
+    cannot("there are too many ranges of numbers")
+
+
+# The translation into Python. A definition is a Python function, by equations, or by the fields of a record.
+
+SIGNS = {
+    ",": "pair({}, {})", "if": "{1} if {0} else {2}", "¬": "not {}", "++": "{} + {}", "+": "{} + {}",
+    "-": "less({}, {})", "*": "{} * {}", "^": "{} ** {}", "/": "quotient({}, {})", "%": "remainder({}, {})",
+    "==": "{} == {}", "≤": "{} <= {}", "<": "{} < {}", "&&": "{} and {}", "||": "{} or {}", "×": "{} and {}",
+    "≡": "same({}, {})", "≢": "not closed(lambda: same({}, {}))",
+    "⊎": "closed(lambda: {}) or closed(lambda: {})", "→": "not closed(lambda: {}) or {}",
+    "↔": "closed(lambda: {}) is closed(lambda: {})"}
+PATTERNS = {"[]": "not {}", "true": "{}", "false": "not {}", "zero": "{} == 0"}
+
+
+def identifier(text):
+    return re.sub(r"\W", lambda match: f"_{ord(match[0]):x}_", text)
+
+
+def variable(name):
+    """Returns the Python variable of a parameter or a name that a term gives to a value."""
+    return f"v_{identifier(name)}"
+
+
+class Translator:
+    """Translates the terms of a module. `outer` are the parameters of the part of the module that they are in. `scope`
+    has the names of variables."""
+
+    def __init__(self, definitions, module, outer=()):
+        self.all, self.module, self.outer = definitions, module, list(outer)
+
+    def term(self, tree, scope):
+        inside = functools.partial(self.term, scope=scope)
+        match tree:
+            case ("number", value):
+                return str(value)
+            case ("text", text):
+                return repr(codes(text))
+            case ("name", word):
+                return self.call(word, [], scope)
+            case ("apply", ("name", word), args):
+                return self.call(word, list(map(inside, args)), scope)
+            case ("apply", head, args):
+                return inside(head) + "".join(f"({inside(arg)})" for arg in args)
+            case ("field", record, name):
+                return f"{inside(record)}.f_{identifier(name)}"
+            case ("record", base, fields):
+                values = ", ".join(f"f_{identifier(name)}={inside(value)}" for name, value in fields)
+                return f"{inside(base)}.updated({values})" if base else f"Record({values})"
+            case ("function", names, body):
+                return f"({''.join(f'lambda {variable(name)}: ' for name in names)}{self.term(body, scope | {*names})})"
+            case ("operator", "∷", _, _):
+                *items, rest = map(inside, self.flat("∷", tree))
+                return f"(({', '.join(items)},) + {rest})"
+            case ("operator", sign, *operands) if sign in SIGNS:
+                return f"({SIGNS[sign].format(*map(inside, operands))})"
+            case ("operator", sign, *operands):
+                return self.call(f"◌{sign}◌", list(map(inside, operands)), scope)
+            case ("binder", sign, names, kind, body):
+                return self.binder(sign, names, self.kind(kind), body, scope)
+
+    def flat(self, sign, tree):
+        """Returns the parts of a tree that this operator joins."""
+        return [tree[2], *self.flat(sign, tree[3])] if tree[:2] == ("operator", sign) else [tree]
+
+    def call(self, word, args, scope):
+        """Translates a name, the fields that follow it, and arguments. A definition or a word of the kit is called with
+        all its arguments at once, if there are enough."""
+        head, *fields = word.split(".")
+        if head in self.module.modules and head not in scope:
+            head, fields = ".".join([head, *fields[:1]]), fields[1:]
+        sort, what = ("variable", head) if head in scope else self.all.meaning(self.module, head)
+        code, arity = f"{sort}({what!r})", 0
+        if sort == "variable":
+            code = variable(head)
+        elif sort == "constructor" and args and not fields:
+            return f"Case({what!r}, ({', '.join(args)},))"
+        elif sort == "word" and len(args) >= LIBRARY[what][0]:
+            code, arity = f"word_{identifier(what)}", LIBRARY[what][0]
+        elif sort == "definition":
+            args = [*map(variable, self.shared(what)), *args]
+            if 0 < (self.all.definition(what).arity or 0) <= len(args):
+                code, arity = self.all.translated(what), self.all.definition(what).arity
+        elif not sort:
+            code = f"cannot({f'{head} has no meaning'!r})"
+        first = f"({', '.join(args[:arity])})" if arity else ""
+        fields = "".join(f".f_{identifier(field)}" for field in fields)
+        return code + first + fields + "".join(f"({arg})" for arg in args[arity:])
+
+    def shared(self, full):
+        """Returns the parameters that a definition takes from the part of the module where it is used."""
+        is_inside = full[0] == self.module.key and self.all.definition(full).outer == self.outer
+        return self.outer if is_inside else []
+
+    def kind(self, text):
+        """Returns the type of a binder, an enumeration by its whole name."""
+        sort, what = self.all.meaning(self.module, text)
+        return what if sort == "type" and what in ENUMERATIONS else text
+
+    def binder(self, sign, names, kind, body, scope):
+        """Joins binders that follow one another, except for enumerations and all numbers."""
+        is_single = lambda kind: kind == "ℕ" and sign == "→" or kind in ENUMERATIONS
+        kinds = [kind]
+        while body[:2] == ("binder", sign) and not is_single(kind) and not is_single(self.kind(body[3])):
+            names, kinds, body = [*names, *body[2]], [*kinds, self.kind(body[3])], body[4]
+        scope, params = scope | {*names}, ", ".join(map(variable, names))
+        parts = [f"lambda {params}: {self.term(tree, scope)}" for tree in self.flat(sign, body)]
+        kind, count = ", ".join(dict.fromkeys(kinds)), len(names)
+        if sign == "×":
+            return f"exists({kind!r}, {count}, [{', '.join(parts)}])"
+        return f"for_all({kind!r}, {count}, [{', '.join(parts[:-1])}], {parts[-1]})"
+
+    def pattern(self, tree, place, conditions, names):
+        """Adds under which conditions the value at a place fits a pattern, and where the values of its names are."""
+        match tree:
+            case ("operator", ",", first, second):
+                self.pattern(first, place + ".f_0", conditions, names)
+                self.pattern(second, place + ".f_1", conditions, names)
+            case ("operator", "∷", first, rest):
+                conditions.append(f"len({place}) > 0")
+                self.pattern(first, place + "[0]", conditions, names)
+                self.pattern(rest, place + "[1:]", conditions, names)
+            case ("number", value):
+                conditions.append(f"{place} == {value}")
+            case ("apply", ("name", "suc"), [before]):
+                conditions.append(f"{place} > 0")
+                self.pattern(before, f"less({place}, 1)", conditions, names)
+            case ("name", word) if word in PATTERNS:
+                conditions.append(PATTERNS[word].format(place))
+            case ("name", word) | ("apply", ("name", word), _):
+                sort, what = self.all.meaning(self.module, word)
+                parts = tree[2] if tree[0] == "apply" else []
+                if sort == "constructor" or sort == "word" and what in ("Some", "None", "Ok", "Err"):
+                    conditions.append(f"{place}.tag == {what!r}")
+                    for index, part in enumerate(parts):
+                        self.pattern(part, f"{place}.args[{index}]", conditions, names)
+                elif parts or "." in word:
+                    cannot(f"{word} is no constructor", Malformed)
+                else:
+                    names |= {word: place} if word != "_" else {}
+            case _:
+                cannot("a pattern is expected", Malformed)
+
+    def function(self, definition, name):
+        """Returns the Python function of a definition."""
+        sides = definition.sides
+        params = [*map(variable, self.outer), *(f"a{place}" for place, _ in enumerate(sides[0][0]))]
+        lines = [f"def {name}({', '.join(params)}):"]
+        for patterns, right in sides:
+            conditions, names = [], {}
+            for place, tree in enumerate(patterns):
+                self.pattern(tree, f"a{place}", conditions, names)
+            lines.append(f"  if {' and '.join(conditions) or 'True'}:")
+            lines += [f"    {variable(name)} = {place}" for name, place in names.items()]
+            lines.append(f"    return {self.term(right, {*self.outer, *names})}")
+        return "\n".join([*lines, f"  cannot('no equation of {definition.name} fits')"])
+
+
+# Values for the relations that can't be solved. Each gets the definitions and the arguments, some of them unknown.
+
+
+def runs_of(definitions, label_of, first, end, runs):
+    """The ranges of consecutive addresses with one label, by the labels of ranges of numbers."""
+    made = []
+    for low, high, label in ranges(label_of):
+        if high >= first and low < end and made and made[-1].f_label == label:
+            made[-1] = made[-1].updated(f_high=min(high, end - 1))
+        elif high >= first and low < end:
+            made.append(Record(f_low=max(low, first), f_high=min(high, end - 1), f_label=label))
+    runs.meet(tuple(made))
+
+
+def minimal_pair(definitions, m, l, c):
+    """The tree that divides blocks until the map settles them, with exact claims; and the list that is read off it."""
+    settled_label = definitions.call("pmap_text/MapModel.settled_label", m)
+    in_table_order = definitions.call("pmap_cert/Acceptance.in_table_order", m.f_table)
+    width = definitions.call("prefix_keys/Block.width_of", m.f_version)
+    leaf, inner, claim_of, exact_claim = (definitions.call(f"pmap_cert/CertificateModel.{name}") for name in (
+        "LeafNode", "InnerNode", "claim_of", "exact_claim"))
+
+    def tree(bits, number):
+        label = settled_label(bits)(number)
+        if is_some(label) or bits >= width:
+            return leaf(*label.args or cannot("the map settles no block of one address"))
+        lower, upper = tree(bits + 1, 2 * number), tree(bits + 1, 2 * number + 1)
+        return inner(in_table_order(exact_claim(claim_of(lower))(claim_of(upper))))(lower)(upper)
+
+    root = tree(0, 0)
+    entries = definitions.call("pmap_cert/Acceptance.entries_of", width, m.f_table, root, NONE, 0, 0)
+    c.meet(Record(f_format=1, f_version=m.f_version, f_table=m.f_table, f_root=root))
+    l.meet(Record(f_version=m.f_version, f_name=m.f_name, f_prefixes=entries, f_table=m.f_table))
+
+
+WITNESSES = {("pmap_text/Runs", "AreRuns"): runs_of, ("pmap_cert/Acceptance", "IsMinimalPair"): minimal_pair}
+
+
+# The definitions of a repository, and the runs of the program by them.
+
+# What Python raises for terms that have no type.
+ILL_TYPED = (TypeError, AttributeError, LookupError, ValueError, ArithmeticError, RecursionError, NameError,
+             StopIteration)
+
+
+class Definitions:
+    """The definitions of specs/, translated."""
+
+    def __init__(self, root=ROOT):
+        self.root, self.modules, self.values = root, {}, {}
+        self.space = globals() | {f"word_{identifier(name)}": code for name, (_, _, code) in LIBRARY.items()} | {
+            "definition": self.value, "constant": self.constant, "constructor": Case,
+            "word": lambda name: curried(LIBRARY[name][2], LIBRARY[name][0])}
+        for path in sorted(root.glob("crates/*/specs/*.antt")):
+            module = Module(f"{path.parts[-3]}/{path.stem}", path, path.read_text(encoding="utf-8"))
+            self.modules[module.key] = module.read()
+
+    @functools.cache
+    def meaning(self, module, word):
+        """Returns what a word is in a module: the sort of thing, and which one."""
+        head, _, name = word.partition(".")
+        if name and head in module.modules:
+            return self.imported(module.modules[head], name)
+        if word in module.definitions:
+            return self.listed(module, word) if module.definitions[word].kind == "data" else ("definition", (module.key, word))
+        if word in module.constructors:
+            return "constructor", module.constructors[word]
+        if word in module.names:
+            return self.imported(*module.names[word])
+        return ("word", word) if word in LIBRARY else ("", "")
+
+    def imported(self, source, name):
+        """Returns what a name of a module of specs/, or of a declaration of src/, is."""
+        crate, *path = source.split(".")
+        if f"{crate}/{path[-1]}" in self.modules and len(path) == 2:
+            return self.meaning(self.modules[f"{crate}/{path[-1]}"], name)
+        if path[:2] == ["specs", "declared"] and (self.root / "crates" / crate).is_dir():
+            kind = ".".join([crate, *path[2:-1]])
+            if path[-1] == "TheVariants":
+                return "constructor", f"{kind}.{name}"
+            if path[-1] == "TheConstants":
+                return "constant", f"{kind}.{name}"
+            return self.declared(f"{kind}.{path[-1]}")
+        return ("word", name) if name in LIBRARY else ("constructor", name) if path[-1] == "TheVariants" else ("", "")
+
+    def source(self, place, pattern):
+        """Returns the match of a pattern in the file of src/ that has a place, without comments."""
+        crate, *path, _ = place.split(".")
+        path = self.root / "crates" / crate / "src" / ("/".join(path) + ".rt")
+        return re.search(pattern, re.sub(r"//.*", "", path.read_text(encoding="utf-8")) if path.is_file() else "")
+
+    def declared(self, kind):
+        """Returns a type of src/, whose values are noted if it is an enumeration."""
+        match = self.source(kind, rf"\benum {own_name(kind)} \{{([\w\s,#()\[\]]*)\}}")
+        names = re.findall(r"(\w+),", re.sub(r"#\[.*?\]", "", match[1] + ",")) if match and "(" not in match[1] else ()
+        ENUMERATIONS.update({kind: tuple(Case(f"{kind}.{value}") for value in names)} if names else {})
+        return "type", kind
+
+    def listed(self, module, word):
+        """Returns a type of specs/, whose values are noted if it is an enumeration."""
+        kind = f"{module.key}.{word}"
+        tags = [tag for tag in module.constructors.values() if tag.rpartition(".")[0] == kind]
+        if not any("→" in line for line in module.definitions[word].lines):
+            ENUMERATIONS[kind] = tuple(map(Case, tags))
+        return "type", kind
+
+    def constant(self, place):
+        """Returns a constant of src/: a number, or an array of pairs or of variants."""
+        if place not in self.values:
+            match = self.source(place, rf"\bconst {own_name(place)}: [^=]+ = ([^;]+);")
+            text = match[1] if match else cannot(f"src/ has no constant {place}")
+            text = re.sub(r"\b([A-Z]\w+)::(\w+)", rf"Case('{place.rpartition('.')[0]}.\1.\2')", text)
+            made = {tuple: lambda x: pair(*map(value, x)), list: lambda x: tuple(map(value, x))}
+            value = lambda x: made.get(type(x), lambda x: x)(x)
+            self.values[place] = value(eval(text, {"Case": Case}))
+        return self.values[place]
+
+    def definition(self, full):
+        return self.modules[full[0]].definitions[full[1]]
+
+    def python_name(self, full):
+        return "d_" + identifier(".".join(full))
+
+    def translated(self, full):
+        """Returns the name of the Python function of a definition, which is made when it is first needed."""
+        name, definition = self.python_name(full), self.definition(full)
+        if name not in self.space:
+            self.space[name] = None
+            try:
+                text = Translator(self, self.modules[full[0]], definition.outer).function(definition, name)
+            except Malformed as error:
+                text = f"def {name}(*args):\n  cannot({str(error)!r})"
+            exec(compile(text, name, "exec"), self.space)
+            if full in WITNESSES:
+                self.space[name] = functools.partial(self.with_witness, self.space[name], WITNESSES[full])
+        return name
+
+    def with_witness(self, relation, witness, *args):
+        if Unknown in map(type, map(known, args)):
+            witness(self, *args)
+        return relation(*map(known, args))
+
+    def value(self, full):
+        """Returns a definition as a value."""
+        if full not in self.values:
+            arity = self.definition(full).arity
+            code = self.space[self.translated(full)] if self.definition(full).sides else cannot(f"{full[1]} is a type")
+            self.values[full] = curried(code, arity) if arity else code()
+        return self.values[full]
+
+    def evaluated(self, function, *args):
+        """Returns the value of a function. Whatever ill-typed definitions may cause is reported as such."""
+        try:
+            return function(*args)
+        except ILL_TYPED as error:
+            raise CannotEvaluate(f"{type(error).__name__}: {error}") from None
+
+    def term(self, text, module):
+        """Returns the value of a term, with the names that a module has."""
+        source = Translator(self, module).term(Parser(lex(text)).whole(), frozenset())
+        return self.evaluated(eval, compile(source, "term", "eval"), self.space)
+
+    def call(self, name, *args):
+        """Returns the value of the definition or constructor CRATE/MODULE.NAME with arguments."""
+        key, _, own = name.partition(".")
+        module = self.module(key)
+        value = self.term(own, module) if self.meaning(module, own)[0] else cannot(f"there is no definition {name}")
+        return self.evaluated(functools.reduce, lambda function, arg: function(arg), args, value)
+
+    def module(self, key):
+        return self.modules[key] if key in self.modules else cannot(f"there is no module {key}")
+
+    def run(self, words, content_of):
+        """Returns what is seen of a run with these words and files, whose contents a function returns, or None if a
+        file can't be opened. No device fails, and there is memory."""
+        outcome = self.evaluated(self.outcome, words, content_of)
+        status, (result,) = self.call("flowlabel/Faults.exit_status_of", outcome), outcome.args
+        if is_ok(outcome):
+            return Seen(status, bytes(result), b"")
+        if shown(result) == "(Usage (Help tt))":
+            return Seen(status, None, b"")
+        is_open = shown(result) == "(Usage (Refused tt))"
+        return Seen(status, b"", None if is_open else bytes(self.call("flowlabel/Faults.fault_text", result)))
+
+    def outcome(self, words, content_of):
+        """Returns how a run ends: Ok of the text, or Err of the fault."""
+        usage = lambda fault: err(self.call("flowlabel/Run.Usage", fault))
+        try:
+            b" ".join(words).decode()
+        except UnicodeDecodeError:
+            return usage(self.call("flowlabel/Answer.words_fault_of", Case("InvalidData")))
+        texts, answer = tuple(map(tuple, (b"flowlabel", *words))), Unknown()
+        if not self.call("flowlabel/Answer.Answers", texts, answer):
+            faults = [self.call(f"flowlabel/Answer.{name}", UNIT) for name in ("Help", "Refused")]
+            return usage(next(fault for fault in faults if self.call("flowlabel/Answer.IsFaultAt", texts, fault)))
+        if not is_ok(answer.value):
+            return usage(*answer.value.args)
+        request, = answer.value.args
+        asked = self.call("flowlabel/Request.files_of", request)
+        names = {role: name.args[0] for role, name in vars(asked).items() if is_some(name)}
+        contents = {name: content_of(bytes(name)) for name in names.values()}
+        opens = lambda name: lambda reader: same(reader, NONE if contents[name] is None else some(UNIT))
+        for fault in (self.call("flowlabel/Run.CannotOpen", borrowed(name)) for name in contents):
+            if None in contents.values() and self.call("flowlabel/Opening.CannotOpenFirst", opens, asked, fault):
+                return err(fault)
+        of_all = lambda found: Record(**{role: tuple(found.get(role, ())) for role in vars(asked)})
+        contents, end = {role: contents[name] for role, name in names.items()}, Unknown()
+        if not self.call("flowlabel/Output.IsOutput", self.command(request), of_all(contents), end):
+            cannot("the command has no output")
+        if is_ok(end.value):
+            return end.value
+        fault, = end.value.args
+        role = self.call("flowlabel/BytesFault.role_of", fault)
+        return err(self.call("flowlabel/Run.File", borrowed(self.call("flowlabel/ByFile.at", role, of_all(names))), fault))
+
+    def command(self, request):
+        """Returns the command that asks for a request. Its arguments are those of the request, with borrowed names."""
+        keep = lambda value: value
+        address = lambda value: Record(f_version=value.f_0, f_value=value.f_1)
+        kinds = {"FromMap": "Map", "FromList": "Prefixes"}
+        source = lambda value: self.call(f"flowlabel/Output.{kinds[own_name(value.tag)]}", borrowed(*value.args))
+        sources = lambda value: some(source(*value.args)) if is_some(value) else value
+        name = own_name(request.tag).capitalize()
+        made = {"Label": (source, address), "Info": (borrowed,), "Rows": (sources, keep, keep, borrowed),
+                "Cat": (source,), "Uniq": (keep, sources, keep, keep, keep, borrowed), "Shrink": (borrowed, keep),
+                "Check": 3 * (borrowed,), "Recert": (borrowed,)}[name]
+        command = self.call(f"flowlabel/Output.{name}", *(make(value) for make, value in zip(made, request.args)))
+        is_its = same(self.call("flowlabel/Request.request_of", command), request)
+        return command if is_its else cannot("no command asks for the request")
+
+
+# What is seen of a run, with None in place of a text that the definitions leave open.
+Seen = namedtuple("Seen", "status out err")
+
+
+def content(name):
+    """Returns the bytes of a file, or None if it can't be opened."""
+    return Path(os.fsdecode(name)).read_bytes() if os.access(name, os.R_OK) else None
+
+
+def with_stack(function):
+    """Returns what the function returns. Definitions that it calls may recurse deeply."""
+    sys.setrecursionlimit(1_000_000)
+    threading.stack_size(1 << 30)
+    with ThreadPoolExecutor(1) as pool:
+        return pool.submit(function).result()
+
+
+def main(words):
+    if words in ([], ["--definition"]):
+        cannot("usage: dev/evaluate COMMAND ARGUMENT.. | --definition CRATE/MODULE.NAME ARGUMENT..", Malformed)
+    definitions = Definitions()
+    if words[0] == "--definition":
+        module = definitions.module(words[1].partition(".")[0])
+        args = (tuple(Path(word[1:]).read_bytes()) if word[:1] == "@" else definitions.term(word, module)
+                for word in words[2:])
+        print(shown(definitions.call(words[1], *args)))
+        return 0
+    seen = definitions.run(list(map(os.fsencode, words)), content)
+    sys.stdout.buffer.write(seen.out or b"")
+    sys.stdout.flush()
+    sys.stderr.buffer.write(seen.err or b"")
+    if None in seen:
+        print("dev/evaluate: the program prints a text that the definitions leave open", file=sys.stderr)
+    return seen.status
+
+
+def command():
+    """Evaluates what the words of the command line ask for, and ends with its status."""
+    try:
+        sys.exit(with_stack(lambda: main(sys.argv[1:])))
+    except (CannotEvaluate, OSError) as error:
+        text = f"{error.filename}: {error.strerror}" if isinstance(error, OSError) else error
+        print(f"dev/evaluate: {text}", file=sys.stderr)
+        sys.exit(2)

@@ -1,0 +1,170 @@
+"""Compares the definitions with the program, and evaluates the worked examples.
+
+dev/evaluate evaluates the definitions of specs/ for a command line and its files, and the program runs with the same
+ones. Both must end with the same output, the same standard error and the same status, for the inputs of
+tests/definitions/inputs.py. If the definitions leave a text open, such as help and clap's refusals, the program must
+print one. The inputs are the same in each run, and each fault must occur in them.
+
+The worked examples are claims of crates/definition_examples, which the prover computes too, and those of
+tests/definitions/claims.rt.in.
+"""
+
+import itertools
+import os
+import re
+
+from definitions import inputs
+from support import PROGRAM, ROOT, Case, rows, run, write
+
+# The made inputs: a number of parts, each with inputs of its own seed.
+SEED, PARTS, INPUTS = 20261129, 36, 250
+# The faults that must occur. P1, a word that isn't UTF-8, has its own input. M12, more than 65,535 labels or a million
+# mappings, takes too long to evaluate.
+FAULTS = {*(f"M{number}" for number in range(1, 15) if number != 12), *(f"F{number}" for number in range(1, 8)),
+          *(f"{kind}{number}" for kind in "CKP" for number in range(1, 7) if (kind, number) != ("P", 1)),
+          *(f"{kind}{number}" for kind in "XL" for number in range(1, 4)), "U1", "U2", "cannot open"}
+COMMANDS = {"label", "info", "rows", "uniq", "cat", "shrink", "check", "recert"}
+# Worked examples that speak of all values of a type: all lists of a million mappings, lists with fewer entries, texts.
+# They can't be evaluated.
+NOT_EVALUATED = {"a_text_has_at_most_1000000_mappings", "a_list_with_an_entry_too_many_is_not_least",
+                 "a_run_reports_any_other_fault", "a_file_may_have_a_text"}
+# The examples over the Files of examples/ take longer than all others together.
+SLOW, SLOW_CLAIMS = "samples.rt", 5
+FILES = sorted(path.name for path in (ROOT / "examples").iterdir())
+
+
+def parts(first, last):
+    """Makes a test for each of these parts."""
+    return rows(*((part,) for part in range(first, last)))
+
+
+def difference(seen, ended):
+    """Returns what differs between what the definitions give and a run. A text that they leave open must be there."""
+    for name, wanted, found in (("status", seen.status, ended.returncode), ("output", seen.out, ended.stdout),
+                                ("standard error", seen.err, ended.stderr)):
+        if found != wanted if wanted is not None else not found:
+            return f"the {name} is {found!r:.300}, and by the definitions {wanted!r:.300}"
+    return ""
+
+
+def run_of(given):
+    """Runs the program with an input, whose files are written to the working folder."""
+    for name in inputs.NAMES:
+        if name not in given.files and os.path.exists(name):
+            os.remove(name)
+    for name, content in given.files.items():
+        write(os.fsdecode(name), content)
+    return run(PROGRAM, *given.words)
+
+
+class Evaluated(Case):
+    @classmethod
+    def prepare(cls):
+        # It imports dev/evaluator.py, which takes longer than an import of tests may.
+        from definitions import claims
+        cls.claims, cls.definitions = claims, claims.with_stack(claims.Definitions)
+
+    def check(self, faults):
+        """Checks that there is no fault: `faults` yields what was tried, and why it failed, if it did."""
+        found = self.claims.with_stack(lambda: list(faults))
+        for what, fault in found:
+            with self.subTest(str(what)):
+                self.assertFalse(fault, f"{what}: {fault}")
+        self.assertTrue(found, "nothing was tried")
+
+    def compared(self, given):
+        """Yields each input with what differs."""
+        for each in given:
+            ended = run_of(each)
+            try:
+                fault = difference(self.definitions.run(*each), ended)
+            except self.claims.CannotEvaluate as error:
+                fault = f"can't be evaluated: {error}"
+            files = "".join(f"\n  {os.fsdecode(name)}: {content[:400]!r}" for name, content in each.files.items()
+                            if any(name in word for word in each.words)) if fault else ""
+            yield each, fault and fault + files
+
+    def claimed(self, chosen):
+        """Yields each worked example with why it isn't true."""
+        for claim in chosen:
+            try:
+                fault = "" if self.definitions.verdict(claim) else "is false"
+            except self.claims.CannotEvaluate as error:
+                fault = "" if claim.function in NOT_EVALUATED else f"can't be evaluated: {error}"
+            yield claim, fault
+
+    def claims_of(self, name):
+        return [claim for claim in self.definitions.claims() if claim.file.name == name]
+
+
+class Claims(Evaluated):
+    @rows(*((path.name,) for path in sorted((ROOT / "crates/definition_examples/src").glob("*.rt"))
+            if path.name not in ("lib.rt", SLOW)), ("claims.rt.in",))
+    def test_claims(self, name):
+        self.check(self.claimed(self.claims_of(name)))
+
+
+class ClaimsOfFiles(Evaluated):
+    @parts(0, SLOW_CLAIMS)
+    def test_claim(self, part):
+        self.check(self.claimed(self.claims_of(SLOW)[part::SLOW_CLAIMS]))
+
+
+class Known(Evaluated):
+    def test_worked_examples(self):
+        self.check(self.compared(inputs.known()))
+
+    @rows(*((name,) for name in FILES if name.endswith(".txt")))
+    def test_text(self, name):
+        self.check(self.compared(inputs.of_text(name.encode())))
+
+
+class Files(Evaluated):
+    @rows(*((name,) for name in FILES if name.endswith(".ipfix")))
+    def test_file(self, name):
+        self.check(self.compared(inputs.of_file(name.encode())))
+
+
+class Made(Evaluated):
+    is_long = True
+    def compare(self, part):
+        self.check(self.compared(inputs.made(f"{SEED} {part}", INPUTS)))
+
+
+class Made1(Made):
+    @parts(0, 9)
+    def test_made(self, part):
+        self.compare(part)
+
+
+class Made2(Made):
+    @parts(9, 18)
+    def test_made(self, part):
+        self.compare(part)
+
+
+class Made3(Made):
+    @parts(18, 27)
+    def test_made(self, part):
+        self.compare(part)
+
+
+class Made4(Made):
+    @parts(27, PARTS)
+    def test_made(self, part):
+        self.compare(part)
+
+
+class Faults(Case):
+    def test_each_fault_occurs(self):
+        """Each fault, and a success of each command, is that of some input."""
+        missing = FAULTS | COMMANDS
+        for given in itertools.chain(inputs.known(), *(inputs.made(f"{SEED} {part}", INPUTS) for part in range(PARTS))):
+            ended = run_of(given)
+            if ended.returncode and len(ended.stderr) < 200:
+                missing -= {code.decode() for code in re.findall(rb"cannot open|\b[A-Z]\d+\b", ended.stderr)}
+            elif not ended.returncode:
+                missing -= {os.fsdecode(given.words[0])}
+            if not missing:
+                return
+        self.assertFalse(missing, "these don't occur")
