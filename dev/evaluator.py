@@ -532,24 +532,25 @@ class Definitions:
         """Returns what is seen of a run with these words and files, whose contents a function returns, or None if a
         file can't be opened. No device fails, and there is memory."""
         outcome = self.evaluated(self.outcome, words, content_of)
-        status, (result,) = self.call("flowlabel/Faults.exit_status_of", outcome), outcome.args
+        status, (result,) = self.call("flow_files/Faults.exit_status_of", outcome), outcome.args
         if is_ok(outcome):
             return Seen(status, bytes(result), b"")
         if shown(result) == "(Usage (Help tt))":
             return Seen(status, None, b"")
         is_open = shown(result) == "(Usage (Refused tt))"
-        return Seen(status, b"", None if is_open else bytes(self.call("flowlabel/Faults.fault_text", result)))
+        name = self.call("flowlabel/Definition.program_name")
+        return Seen(status, b"", None if is_open else bytes(self.call("flow_files/Faults.fault_text", name, result)))
 
     def outcome(self, words, content_of):
         """Returns how a run ends: Ok of the text, or Err of the fault."""
-        usage = lambda fault: err(self.call("flowlabel/Run.Usage", fault))
+        usage = lambda fault: err(self.call("flow_files/Readers.Usage", fault))
         try:
             b" ".join(words).decode()
         except UnicodeDecodeError:
-            return usage(self.call("flowlabel/Answer.words_fault_of", Case("InvalidData")))
+            return usage(self.call("flow_files/Answer.words_fault_of", Case("InvalidData")))
         texts, answer = tuple(map(tuple, (b"flowlabel", *words))), Unknown()
         if not self.call("flowlabel/Answer.Answers", texts, answer):
-            faults = [self.call(f"flowlabel/Answer.{name}", UNIT) for name in ("Help", "Refused")]
+            faults = [self.call(f"flow_files/Answer.{name}", UNIT) for name in ("Help", "Refused")]
             return usage(next(fault for fault in faults if self.call("flowlabel/Answer.IsFaultAt", texts, fault)))
         if not is_ok(answer.value):
             return usage(*answer.value.args)
@@ -558,8 +559,8 @@ class Definitions:
         names = {role: name.args[0] for role, name in vars(asked).items() if is_some(name)}
         contents = {name: content_of(bytes(name)) for name in names.values()}
         opens = lambda name: lambda reader: same(reader, NONE if contents[name] is None else some(UNIT))
-        for fault in (self.call("flowlabel/Run.CannotOpen", borrowed(name)) for name in contents):
-            if None in contents.values() and self.call("flowlabel/Opening.CannotOpenFirst", opens, asked, fault):
+        for fault in (self.call("flow_files/Readers.CannotOpen", borrowed(name)) for name in contents):
+            if None in contents.values() and self.call("flow_files/Opening.CannotOpenFirst", opens, asked, fault):
                 return err(fault)
         of_all = lambda found: Record(**{role: tuple(found.get(role, ())) for role in vars(asked)})
         contents, end = {role: contents[name] for role, name in names.items()}, Unknown()
@@ -568,15 +569,15 @@ class Definitions:
         if is_ok(end.value):
             return end.value
         fault, = end.value.args
-        role = self.call("flowlabel/BytesFault.role_of", fault)
-        return err(self.call("flowlabel/Run.File", borrowed(self.call("flowlabel/ByFile.at", role, of_all(names))), fault))
+        role = self.call("flow_files/BytesFault.role_of", fault)
+        return err(self.call("flow_files/Readers.File", borrowed(self.call("flow_files/ByFile.at", role, of_all(names))), fault))
 
     def command(self, request):
         """Returns the command that asks for a request. Its arguments are those of the request, with borrowed names."""
         keep = lambda value: value
         address = lambda value: Record(f_version=value.f_0, f_value=value.f_1)
         kinds = {"FromMap": "Map", "FromList": "Prefixes"}
-        source = lambda value: self.call(f"flowlabel/Output.{kinds[own_name(value.tag)]}", borrowed(*value.args))
+        source = lambda value: self.call(f"flow_files/Outcomes.{kinds[own_name(value.tag)]}", borrowed(*value.args))
         sources = lambda value: some(source(*value.args)) if is_some(value) else value
         name = own_name(request.tag).capitalize()
         made = {"Label": (source, address), "Info": (borrowed,), "Rows": (sources, keep, keep, borrowed),

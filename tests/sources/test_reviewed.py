@@ -40,7 +40,8 @@ CRATES, STORED = ROOT / "crates", Path(__file__).with_name("reviewed.txt")
 OUTERMOST = {"flowlabel_main/src/main.rt main", "flowlabel/src/lib.rt program", "flowlabel/src/lib.rt execute",
              "flowlabel/src/ending.rt end", "flowlabel/src/words.rt parse", "flowlabel/src/run.rt run"}
 # Files whose definitions are stored up to DIVIDER, and those of other files.
-HEADLINE = ("flowlabel/specs/Ending", "flowlabel/specs/Headline", "flowlabel/specs/Opening", "flowlabel/specs/Run",
+HEADLINE = ("flowlabel/specs/Ending", "flowlabel/specs/Headline", "flowlabel/specs/Run", "flow_files/specs/Ending",
+            "flow_files/specs/Opening", "flow_files/specs/Readers",
             "flow_io/specs/Ahead", "flow_io/specs/Devices", "flow_io/specs/Watched", "flow_uniq/specs/Grouped",
             "pmap_text/specs/Runs")
 DEFINITIONS = {"pmap_cert/specs/Acceptance": ("HasBlock", "IsInOrder", "IsLeast", "begins_before"),
@@ -50,7 +51,7 @@ DIVIDER = "-- Below:"
 MADE = re.compile(r"\b(?:AllocError|NoMemory)\b")
 PLAIN = re.compile(r"^use std::alloc::(?:\{AllocError, Global\}|AllocError);$|[<:,] ?AllocError[>,)]|"
                    r"^type Fault = AllocError;|^NoMemory,$|(?:==|!=) \w+::NoMemory|"
-                   r"^\w+::NoMemory => (?:true|\"|String::).*")
+                   r"^\w+::NoMemory => (?:true|\"|String::|memory_line\().*")
 CHOOSES = re.compile(r"\b(?:with_capacity\w*|reserve\w*|resize\w*|try_\w+|repeat)\(|\bvec!\[in \w+; [^;]+; ")
 HAND = re.compile(r"\b(?:unsafe|extern|also_owns|also_shares|Owns|OwnsFields|SharesFields|Move(?= for\b))\b")
 AXIOM = re.compile(r"\baxioms?\b", re.IGNORECASE)

@@ -22,23 +22,26 @@ use Rattle.clap.specs.Words.{fault_of}
 use Rattle.definition_examples.specs.Devices.{flushes_by}
 use Rattle.flow_io.specs.Devices.{InputView, OutputView}
 use Rattle.flow_io.specs.declared.devices.LastCall.{LastCall}
-use Rattle.flowlabel.specs.Answer.{Answers, is_help, is_mistake}
-use Rattle.flowlabel.specs.BytesFault.{role_of}
-use Rattle.flowlabel.specs.ByFile.{at}
-use Rattle.flowlabel.specs.Definition.{flowlabel_app}
-use Rattle.flowlabel.specs.Faults.{exit_status_of, fault_text}
-use Rattle.flowlabel.specs.Output.{IsOutput, Outcome}
-use Rattle.flowlabel.specs.Request.{Request, Text, files_of, request_of}
-use Rattle.flowlabel.specs.declared.by_file.ByFile.{ByFile}
+use Rattle.flowlabel.specs.Answer.{Answers}
+use Rattle.flow_files.specs.Answer.{is_help, is_mistake}
+use Rattle.flow_files.specs.BytesFault.{role_of}
+use Rattle.flow_files.specs.ByFile.{at}
+use Rattle.flowlabel.specs.Definition.{flowlabel_app, program_name}
+use Rattle.flow_files.specs.Faults.{exit_status_of, fault_text}
+use Rattle.flowlabel.specs.Output.{IsOutput}
+use Rattle.flow_files.specs.Outcomes.{Outcome}
+use Rattle.flowlabel.specs.Request.{Request, files_of, request_of}
+use Rattle.flow_files.specs.Sources.{Text}
+use Rattle.flow_files.specs.declared.by_file.ByFile.{ByFile}
 use Rattle.flowlabel.specs.declared.command.Command.{Command}
 use Rattle.flowlabel.specs.declared.command.Command.TheVariants.{Check, Info, Label, Recert, Rows, Uniq}
-use Rattle.flowlabel.specs.declared.command.LabelFile.{LabelFile}
-use Rattle.flowlabel.specs.declared.command.LabelFile.TheVariants.{Map, List as Prefixes}
-use Rattle.flowlabel.specs.declared.fault.RunFault.{RunFault}
-use Rattle.flowlabel.specs.declared.fault.RunFault.TheVariants.{File, Usage}
-use Rattle.flowlabel.specs.declared.inputs.Source.{Source}
-use Rattle.flowlabel.specs.declared.usage.UsageFault.{UsageFault}
-use Rattle.flowlabel.specs.declared.usage.UsageFault.TheVariants.{Help}
+use Rattle.flow_files.specs.declared.label_file.LabelFile.{LabelFile}
+use Rattle.flow_files.specs.declared.label_file.LabelFile.TheVariants.{Map, List as Prefixes}
+use Rattle.flow_files.specs.declared.fault.RunFault.{RunFault}
+use Rattle.flow_files.specs.declared.fault.RunFault.TheVariants.{File, Usage}
+use Rattle.flow_files.specs.declared.inputs.Source.{Source}
+use Rattle.flow_files.specs.declared.usage.UsageFault.{UsageFault}
+use Rattle.flow_files.specs.declared.usage.UsageFault.TheVariants.{Help}
 
 -- Texts of the worked examples.
 
@@ -85,7 +88,7 @@ pub data Stream : Type 0 where
 abbrev pub seen : Result Text RunFault → ℕ × Stream × Text
 seen (Ok out) = (exit_status_of (Ok out), StandardOutput, out)
 seen (Err (Usage (Help text))) = (exit_status_of {A = Text} (Err (Usage (Help text))), StandardOutput, string_bytes text)
-seen (Err fault) = (exit_status_of {A = Text} (Err fault), StandardError, fault_text fault)
+seen (Err fault) = (exit_status_of {A = Text} (Err fault), StandardError, fault_text program_name fault)
 
 -- a name of a file on the command line
 abbrev pub named : Text → Bor Text

@@ -5,14 +5,15 @@
 #![tactic(auto, unfolding(crate::specs::Commands::opened))]
 
 ghost use Rattle.flow_io.specs.declared.devices.LastCall.TheVariants.{Flush, Nothing};
-ghost use Rattle.flowlabel.specs.Answer.{is_help, is_mistake, words_fault_of};
-ghost use Rattle.flowlabel.specs.ByFile.{turn};
-ghost use Rattle.flowlabel.specs.ByFile as role;
-ghost use Rattle.flowlabel.specs.BytesFault.{certificate_fault_name, check_fault_name, flows_fault_name, map_fault_name};
-ghost use Rattle.flowlabel.specs.Ending.{IsReported, IsWritten};
-ghost use Rattle.flowlabel.specs.Faults.{filter_fault_text, key_fault_text};
-ghost use Rattle.flowlabel.specs.Opening.{AreOpened, CanOpen, CannotOpenFirst, CannotOpenNamed, IsOpened};
-ghost use Rattle.flowlabel.specs.declared.bytes_fault.BytesFault.TheVariants.{Map as InMap, Flows as InFlows};
+ghost use Rattle.flow_files.specs.Answer.{is_help, is_mistake, words_fault_of};
+ghost use Rattle.flow_files.specs.ByFile.{turn};
+ghost use Rattle.flow_files.specs.ByFile as role;
+ghost use Rattle.flow_files.specs.BytesFault.{certificate_fault_name, check_fault_name, flows_fault_name, map_fault_name};
+ghost use Rattle.flow_files.specs.Ending.{IsReported, IsWritten};
+ghost use Rattle.flowlabel.specs.Definition.{program_name};
+ghost use Rattle.flow_files.specs.Faults.{filter_fault_text, key_fault_text};
+ghost use Rattle.flow_files.specs.Opening.{AreOpened, CanOpen, CannotOpenFirst, CannotOpenNamed, IsOpened};
+ghost use Rattle.flow_files.specs.declared.bytes_fault.BytesFault.TheVariants.{Map as InMap, Flows as InFlows};
 ghost use Rattle.ipfix_read.specs.declared.fault.ReadFaultKind.TheVariants.{TooManyMessages};
 ghost use Rattle.pmap_text.specs.declared.fault.MapFaultKind.TheVariants.{NoMemory as NoMemoryForMap, TooMany};
 ghost use Rattle.prefix_keys.specs.declared.version.Version.TheVariants.{V4, V6};
@@ -25,12 +26,13 @@ ghost use Rattle.flow_filter.specs.declared.option.FilterOption.TheVariants.{Any
 ghost use Rattle.flow_uniq.specs.declared.fault.KeyFault.TheVariants.{BadField, FieldRepeated, NoMemory as NoMemoryForKeys};
 ghost use Rattle.flow_uniq.specs.declared.field.KeyField.TheVariants as field;
 ghost use Rattle.definition_examples.specs.Commands.{Checks, Counts, Drops, Groups, HasCertificateFault, HasCheckFault, HasFlowsFault, HasListFault, HasMapFault, Keeps, Labels, LabelsByList, Recerts, Reports, StandardError, StandardOutput, Writes, both_ways, by_list, by_map, day, empty, halves_certificate, halves_map, head, labelled_flow, labelled_header, long_address, named, of_flows, of_list, of_map, one_flow, quarters_list, quarters_map, quarters_nodes, seen, Asks, HasUsageFault, asks_for_help, is_refused, file_with, map_read, of_files, opens, reader_of, seen_of, shown_of, writer_of};
-ghost use Rattle.flowlabel.specs.Run.{AreLaterUntouched, AreTexts, AreUnread, MayHave, any_failed, view_of};
-ghost use Rattle.flowlabel.specs.Request.{Text, FromList, FromMap, IsProper};
+ghost use Rattle.flow_files.specs.Readers.{AreTexts, AreUnread, MayHave, any_failed, view_of};
+ghost use Rattle.flow_files.specs.Sources.{Text, FromList, FromMap};
+ghost use Rattle.flowlabel.specs.Request.{IsProper};
 ghost use Rattle.flowlabel.specs.declared.command.Command.TheVariants as command;
 ghost use Rattle.flowlabel.specs.declared.command.Shrunk.TheVariants as shrunk;
-ghost use Rattle.flowlabel.specs.declared.fault.RunFault.TheVariants.{CannotOpen, CannotRead, CannotWrite, File, NoMemory, Usage};
-ghost use Rattle.flowlabel.specs.declared.usage.UsageFault.TheVariants as usage;
+ghost use Rattle.flow_files.specs.declared.fault.RunFault.TheVariants.{CannotOpen, CannotRead, CannotWrite, File, NoMemory, Usage};
+ghost use Rattle.flow_files.specs.declared.usage.UsageFault.TheVariants as usage;
 ghost use Rattle.clap.specs.declared.error.kind.ErrorKind.TheVariants as kind;
 ghost use Rattle.std.specs.declared.io.ErrorKind.TheVariants as io;
 ghost use Rattle.flowlabel.specs.Request as ask;
@@ -407,11 +409,11 @@ pub fn readers_are_seen()
 /// FORMATS.md, "Statuses and fault lines": the line of a fault goes to standard error, if there is memory for it.
 pub fn a_fault_is_reported()
     ensures written { IsWritten (writer_of false Nothing (codes "")) (writer_of false Flush (codes "ab")) (codes "ab") }
-    ensures nothing_to_report { IsReported shown_of shown_of (Ok tt) (writer_of false Nothing (codes "")) (writer_of false Nothing (codes "")) (writer_of false Nothing (codes "")) (writer_of false Nothing (codes "")) }
-    ensures a_line { IsReported shown_of shown_of (Err CannotWrite) (writer_of false Nothing (codes "")) (writer_of false Nothing (codes "")) (writer_of false Nothing (codes "")) (writer_of false Flush (codes "flowlabel: output: cannot write\n")) }
-    ensures a_line_on_standard_output { IsReported shown_of shown_of (Err CannotWrite) (writer_of false Nothing (codes "")) (writer_of false Flush (codes "x")) (writer_of false Nothing (codes "")) (writer_of false Nothing (codes "")) → ⊥ }
-    ensures output_after_a_success { IsReported shown_of shown_of (Ok tt) (writer_of false Nothing (codes "")) (writer_of false Flush (codes "x")) (writer_of false Nothing (codes "")) (writer_of false Nothing (codes "")) → ⊥ }
-    ensures a_line_after_a_success { IsReported shown_of shown_of (Ok tt) (writer_of false Nothing (codes "")) (writer_of false Nothing (codes "")) (writer_of false Nothing (codes "")) (writer_of false Flush (codes "x")) → ⊥ }
+    ensures nothing_to_report { IsReported shown_of shown_of program_name (Ok tt) (writer_of false Nothing (codes "")) (writer_of false Nothing (codes "")) (writer_of false Nothing (codes "")) (writer_of false Nothing (codes "")) }
+    ensures a_line { IsReported shown_of shown_of program_name (Err CannotWrite) (writer_of false Nothing (codes "")) (writer_of false Nothing (codes "")) (writer_of false Nothing (codes "")) (writer_of false Flush (codes "flowlabel: output: cannot write\n")) }
+    ensures a_line_on_standard_output { IsReported shown_of shown_of program_name (Err CannotWrite) (writer_of false Nothing (codes "")) (writer_of false Flush (codes "x")) (writer_of false Nothing (codes "")) (writer_of false Nothing (codes "")) → ⊥ }
+    ensures output_after_a_success { IsReported shown_of shown_of program_name (Ok tt) (writer_of false Nothing (codes "")) (writer_of false Flush (codes "x")) (writer_of false Nothing (codes "")) (writer_of false Nothing (codes "")) → ⊥ }
+    ensures a_line_after_a_success { IsReported shown_of shown_of program_name (Ok tt) (writer_of false Nothing (codes "")) (writer_of false Nothing (codes "")) (writer_of false Nothing (codes "")) (writer_of false Flush (codes "x")) → ⊥ }
 {}
 
 /// RFC 791: an IPv4 address has 32 bits.

@@ -1,10 +1,7 @@
 pub mod AnswerLemmas
 pub mod CoveringLabels
-pub mod DefinitionLemmas
-pub mod EndLemmas
 pub mod LineLemmas
 pub mod MadeLemmas
 pub mod Outcomes
 pub mod RowLemmas
 pub mod RunLemmas
-pub mod TakenLemmas

@@ -8,8 +8,11 @@ use Rattle.clap.proofs.OnLiterals.{clap_on_literals}
 use Rattle.prefix_keys.specs.Text.{address_of}
 use Rattle.flowlabel.specs.Definition.{flowlabel_app}
 use Rattle.pmap_text.specs.Reading.{◌>>=◌}
-use Rattle.flowlabel.specs.Request.{FromMap, label, rows}
-use Rattle.flowlabel.specs.Answer.{Answer, Answers, HaveOneAnswer, LinesHaveAnswers, condition_in_rows, is_plain_word, Refused, NotUtf8, Help, BadAddress, CompactAlone, NoMemory}
+use Rattle.flow_files.specs.Sources.{FromMap}
+use Rattle.flowlabel.specs.Request.{label, rows}
+use Rattle.flowlabel.specs.Answer.{Answer, Answers, HaveOneAnswer, LinesHaveAnswers, is_plain_word}
+use Rattle.flow_files.specs.Answer.{condition_in_rows}
+use Rattle.flow_files.specs.declared.usage.UsageFault.TheVariants.{Refused, NotUtf8, Help, BadAddress, CompactAlone, NoMemory}
 
 pub one_answer : HaveOneAnswer
 one_answer words answer (Ok command) own is = ap (λ (o : Option Answer). unwrap_or o answer) (sym own.1 ∙ is.1)

@@ -20,10 +20,13 @@ use Rattle.pmap_print.specs.Reports.{groups_text}
 use Rattle.pmap_text.specs.RunsText.{IsRunsText}
 use Rattle.pmap_print.specs.Table.{table_text}
 use Rattle.label_lookup.specs.Labelling.{Labelling, label_where}
-use Rattle.flowlabel.specs.declared.bytes_fault.BytesFault.TheVariants.{List as InList, Flows as InFlows, Certificate as InCertificate, Check as InCheck}
-use Rattle.flowlabel.specs.Output.{BytesFault, Outcome, Prints, Then, labelled_row_lines, minimal_text, shrunk_text}
-use Rattle.flowlabel.specs.Reports.{passing_rows}
-use Rattle.flowlabel.specs.Request.{Shrunk, Text}
+use Rattle.flow_files.specs.declared.bytes_fault.BytesFault.TheVariants.{List as InList, Flows as InFlows, Certificate as InCertificate, Check as InCheck}
+use Rattle.flow_files.specs.declared.bytes_fault.BytesFault.{BytesFault}
+use Rattle.flow_files.specs.Outcomes.{Outcome, Prints, Then}
+use Rattle.flowlabel.specs.Output.{labelled_row_lines, minimal_text, shrunk_text}
+use Rattle.flow_files.specs.Reports.{passing_rows}
+use Rattle.flowlabel.specs.Request.{Shrunk}
+use Rattle.flow_files.specs.Sources.{Text}
 
 abbrev pub ListThen : (ListModel → Outcome → Type 0) → List ℕ → Outcome → Type 0
 ListThen rest text = Then InList rest (list_reading text)

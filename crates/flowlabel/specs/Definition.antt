@@ -1,59 +1,19 @@
-use Rattle.std.specs.Prelude.{◌≡◌, false, true, List, [], ◌∷◌, ◌++◌, Some, codes, map}
-use Rattle.std.specs.Borrow.{Bor}
-use Rattle.std.specs.List.{fold}
-use Rattle.clap.specs.declared.builder.action.ArgAction.TheVariants.{SetTrue}
-use Rattle.clap.specs.declared.builder.arg.Arg.{Arg}
-use Rattle.clap.specs.declared.builder.command.Command.{Command}
-use Rattle.clap.specs.declared.builder.command.Command.TheViews.{out-Command}
-use Rattle.clap.specs.Words.{App, Rule, Text, app_of, new_app, new_rule, rule_of, with_rule, with_subcommand}
-use Rattle.flow_filter.specs.Options.{name_of}
-use Rattle.flow_filter.specs.declared.option.TheConstants.{ALL_OPTIONS}
-use Rattle.flowlabel.specs.declared.definition.Argument.{Argument}
-use Rattle.flowlabel.specs.declared.definition.Argument.TheVariants.{Flag, Needed, Optional, Word}
-use Rattle.flowlabel.specs.declared.definition.Subcommand.{Subcommand}
+use Rattle.std.specs.Prelude.{List, [], ◌∷◌, ◌++◌, codes}
+use Rattle.clap.specs.Words.{App, Rule, Text, new_app}
+use Rattle.flow_files.specs.Definition.{flag_rule, leaf, needed_rule, as_program, report_rules, source_rules, with_leaves, word_rule}
 
 -- The command line as clap reads its definition: each subcommand with its options and words.
 
--- the rules of the option `--name VALUE`, of a required one, of the flag `--name`, and of the required word `VALUE`
-abbrev pub option_rule : Text → Rule
-option_rule name = record (new_rule name) { long = Some name; value_names = 1 }
+abbrev pub program_name : Text
+program_name = codes "flowlabel"
 
-abbrev pub needed_rule : Text → Rule
-needed_rule name = record (new_rule name) { long = Some name; value_names = 1; required = true }
-
-abbrev pub flag_rule : Text → Rule
-flag_rule name = record (new_rule name) { long = Some name; action = Some SetTrue }
-
-abbrev pub word_rule : Text → Rule
-word_rule name = record (new_rule name) { value_names = 1; required = true }
-
--- a command without subcommands, by its name and its arguments
-abbrev pub leaf : Text → List Rule → App
-leaf name = fold with_rule (new_app name)
-
--- the rules of `--pmap FILE` and `--list FILE`, of these and the filters, and of `[--columns] FILE`
-abbrev pub source_rules : List Rule
-source_rules = option_rule (codes "pmap") ∷ option_rule (codes "list") ∷ []
-
-abbrev pub report_rules : List Rule
-report_rules = source_rules ++ map (λ o. option_rule (name_of o)) ALL_OPTIONS
-
+-- the rules of `[--columns] FILE`
 abbrev pub table_rules : List Rule
 table_rules = flag_rule (codes "columns") ∷ word_rule (codes "flows") ∷ []
 
--- the program without its subcommands: it has a version, one of them is required, and `help` isn't one
-abbrev pub program : App
-program = record (new_app (codes "flowlabel")) {
-  top = record (new_app (codes "flowlabel")).top {
-    has_version = true;
-    subcommand_required = true;
-    disable_help_subcommand = true;
-  };
-}
-
 -- the program with its subcommands and their arguments
 unfoldable pub flowlabel_app : App
-flowlabel_app = fold (λ app sub. with_subcommand app sub.top) program (
+flowlabel_app = with_leaves (as_program (new_app program_name)) (
     leaf (codes "label") (source_rules ++ word_rule (codes "address") ∷ [])
     ∷ leaf (codes "info") (word_rule (codes "flows") ∷ [])
     ∷ leaf (codes "rows") (report_rules ++ table_rules)
@@ -65,33 +25,3 @@ flowlabel_app = fold (λ app sub. with_subcommand app sub.top) program (
     ∷ leaf (codes "check") (needed_rule (codes "pmap") ∷ needed_rule (codes "list")
     ∷ needed_rule (codes "cert") ∷ [])
     ∷ leaf (codes "recert") (needed_rule (codes "cert") ∷ []) ∷ [])
-
--- Below: only contracts of parts and proofs use these; no promise of the program rests on them.
-
--- the rule of an argument in the program
-abbrev pub rule_for : Argument → Rule
-rule_for (Optional name value heading help) = option_rule name.now
-rule_for (Needed name value heading help) = needed_rule name.now
-rule_for (Flag name help) = flag_rule name.now
-rule_for (Word name value help) = word_rule name.now
-
-abbrev pub with_argument : App → Argument → App
-with_argument app argument = with_rule app (rule_for argument)
-
-abbrev pub with_arguments : App → Bor (List Argument) → App
-with_arguments app arguments = fold with_argument app arguments.now
-
--- a subcommand in the program, and a program with it
-abbrev pub app_for : Subcommand → App
-app_for sub = fold with_arguments (new_app sub.name.now) sub.arguments.now
-
-abbrev pub with_sub : App → Subcommand → App
-with_sub app sub = with_subcommand app (app_for sub).top
-
--- clap reads the argument by this rule, and for its own command alone
-abbrev pub IsArgument : Rule → Arg → Type 0
-IsArgument rule arg = (rule_of arg ≡ rule) × (arg.global ≡ false)
-
--- clap reads the command as this one, and the command has no arguments for others
-abbrev pub IsCommand : App → Command → Type 0
-IsCommand app command = (app_of command ≡ app) × ((out-Command command).has_globals ≡ false)

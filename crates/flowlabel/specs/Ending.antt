@@ -1,15 +1,21 @@
 use Rattle.std.specs.Prelude.{◌≡◌, ◌⊎◌, ℕ, List, MatchResult, Option, Result, Ok, Err}
 use Rattle.std.specs.Result.{IsErrAnd}
-use Rattle.std.specs.String.{string_bytes}
 use Rattle.std.specs.declared.io.ErrorKind.{ErrorKind as IoErrorKind}
-use Rattle.flow_io.specs.Devices.{InputView, OutputView, StopsWriting, WritesWhole}
-use Rattle.flowlabel.specs.Answer.{Answers, IsFaultAt, words_fault_of}
-use Rattle.flowlabel.specs.ByFile.{ByFile}
-use Rattle.flowlabel.specs.Faults.{exit_status_of, fault_text}
-use Rattle.flowlabel.specs.Opening.{AreOpened, CannotOpenFirst}
-use Rattle.flowlabel.specs.Request.{Command, Text, files_of, request_of}
-use Rattle.flowlabel.specs.Run.{AreUnread, IsRunOf, RunFault, Source, Usage}
-use Rattle.flowlabel.specs.declared.usage.UsageFault.TheVariants as usage
+use Rattle.flow_io.specs.Devices.{InputView, OutputView}
+use Rattle.flowlabel.specs.Answer.{Answers, IsFaultAt}
+use Rattle.flow_files.specs.Answer.{words_fault_of}
+use Rattle.flow_files.specs.declared.by_file.ByFile.{ByFile}
+use Rattle.flow_files.specs.Faults.{exit_status_of}
+use Rattle.flow_files.specs.Opening.{AreOpened, CannotOpenFirst}
+use Rattle.flowlabel.specs.Request.{Command, files_of, request_of}
+use Rattle.flow_files.specs.Sources.{Text}
+use Rattle.flow_files.specs.Readers.{AreUnread}
+use Rattle.flow_files.specs.declared.fault.RunFault.{RunFault}
+use Rattle.flow_files.specs.declared.inputs.Source.{Source}
+use Rattle.flow_files.specs.declared.fault.RunFault.TheVariants.{Usage}
+use Rattle.flowlabel.specs.Run.{IsRunOf}
+use Rattle.flow_files.specs.Ending.{IsReported}
+use Rattle.flowlabel.specs.Definition.{program_name}
 
 -- What the program does: how it ends for its words, which text it writes to which stream, and its exit status.
 
@@ -27,20 +33,6 @@ module _ {R W : Type 0} (answers : Text → Option R → Type 0) (input : R → 
       × (files' : ByFile (Option (Source R)))
       × IsRunOf input output command files files' old new result))
 
--- the writer took the text whole and was flushed, or it failed before that
-abbrev pub IsWritten : OutputView → OutputView → List ℕ → Type 0
-IsWritten old new text = WritesWhole old new text ⊎ StopsWriting old new text
-
--- Help goes to standard output, and the line of a fault to standard error if there is memory for it. Nothing else is
--- written.
-module _ {O E : Type 0} (output : O → OutputView) (error : E → OutputView) where
-  abbrev pub IsReported : Result (Unit {0}) RunFault → O → O → E → E → Type 0
-  IsReported (Ok done) out out' err err' = (out' ≡ out) × (err' ≡ err)
-  IsReported (Err (Usage (usage.Help text))) out out' err err' =
-      IsWritten (output out) (output out') (string_bytes text) × (err' ≡ err)
-  IsReported (Err fault) out out' err err' =
-      (out' ≡ out) × (IsWritten (error err) (error err') (fault_text fault) ⊎ (err' ≡ err))
-
 -- The program for these words, or an error of getting them: a command's outcome, the text that is written for it, and
 -- the exit status. Between the two the output is in this state.
 module _ {R O E : Type 0} (answers : Text → Option R → Type 0) (input : R → InputView) (output : O → OutputView) (error : E → OutputView) where
@@ -50,5 +42,5 @@ module _ {R O E : Type 0} (answers : Text → Option R → Type 0) (input : R �
     pub between : O
     pub ends : MatchResult words (λ list. IsEndOf answers input output list out between outcome)
         (λ kind. (outcome ≡ Err (Usage (words_fault_of kind))) × (between ≡ out))
-    pub reported : IsReported output error outcome between out' err err'
+    pub reported : IsReported output error program_name outcome between out' err err'
     pub status : code ≡ exit_status_of outcome

@@ -31,11 +31,13 @@ use Rattle.pmap_print.specs.Reports.{group_titles, info_text, title_line}
 use Rattle.pmap_text.specs.RunsText.{runs_text}
 use Rattle.pmap_print.specs.Table.{table_text}
 use Rattle.pmap_print.specs.Times.{time_text}
-use Rattle.flowlabel.specs.Output.{FlowsThen, IsOutput, LabelsThen, Outcome, Prints, minimal_text}
-use Rattle.flowlabel.specs.ByFile.{ByFile}
-use Rattle.flowlabel.specs.Request.{Cat, Check, Command, Info, Label, Recert, Rows, Shrink, Text, Uniq}
-use Rattle.flowlabel.specs.declared.command.LabelFile.{LabelFile}
-use Rattle.flowlabel.specs.declared.command.LabelFile.TheVariants.{Map, List as Prefixes}
+use Rattle.flow_files.specs.Outcomes.{FlowsThen, LabelsThen, Outcome, Prints}
+use Rattle.flowlabel.specs.Output.{IsOutput, minimal_text}
+use Rattle.flow_files.specs.declared.by_file.ByFile.{ByFile}
+use Rattle.flowlabel.specs.Request.{Cat, Check, Command, Info, Label, Recert, Rows, Shrink, Uniq}
+use Rattle.flow_files.specs.Sources.{Text}
+use Rattle.flow_files.specs.declared.label_file.LabelFile.{LabelFile}
+use Rattle.flow_files.specs.declared.label_file.LabelFile.TheVariants.{Map, List as Prefixes}
 use Rattle.flowlabel.specs.declared.command.Shrunk.TheVariants as shrunk
 
 -- The headline: what a command that ends without a fault has written.

@@ -10,9 +10,11 @@ use Rattle.flow_uniq.specs.Laws.{merged}
 use Rattle.label_lookup.specs.Labelling.{Labelling, label_where}
 use Rattle.pmap_print.specs.Reports.{groups_text, info_text, title_line}
 use Rattle.pmap_print.specs.Table.{Line, table_text}
-use Rattle.flowlabel.specs.ByFile.{ByFile, with_at}
-use Rattle.flowlabel.specs.ByFile as role
-use Rattle.flowlabel.specs.Request.{Command, Info, Rows, Text, Uniq}
+use Rattle.flow_files.specs.declared.by_file.ByFile.{ByFile}
+use Rattle.flow_files.specs.ByFile.{with_at}
+use Rattle.flow_files.specs.ByFile as role
+use Rattle.flowlabel.specs.Request.{Command, Info, Rows, Uniq}
+use Rattle.flow_files.specs.Sources.{Text}
 use Rattle.flowlabel.specs.Output.{IsOutput, labelled_row_lines}
 
 -- the command prints this text for each of these Files, if its other files have these texts

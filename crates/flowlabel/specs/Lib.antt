@@ -1,13 +1,9 @@
-pub mod ByFile
 pub mod Request
 pub mod Definition
 pub mod Answer
-pub mod BytesFault
-pub mod Faults
 pub mod Output
 pub mod Headline
 pub mod Run
 pub mod Reports
-pub mod Opening
 pub mod Ending
 pub mod Joined

@@ -1,4 +1,4 @@
-use Rattle.std.specs.Prelude.{◌≡◌, ℕ, List, [], ◌∷◌, ◌++◌, Option, Some, None, Result, Ok, Err, map, option_map, unwrap_or, codes, decimal, length}
+use Rattle.std.specs.Prelude.{◌≡◌, ℕ, List, [], ◌∷◌, ◌++◌, Option, None, Ok, Err, map, option_map, unwrap_or, codes, decimal, length}
 use Rattle.std.specs.Option.{option_map_or}
 use Rattle.prefix_keys.specs.Text.{AddressOf}
 use Rattle.pmap_text.specs.ListModel.{ListModel}
@@ -10,56 +10,23 @@ use Rattle.pmap_cert.specs.CertificateModel.{CertificateModel}
 use Rattle.pmap_cert.specs.Compacting.{compact}
 use Rattle.pmap_cert.specs.FormatReading.{format_reading}
 use Rattle.cert_check.specs.Checking.{first_fault}
-use Rattle.ipfix_read.specs.Messages.{file_reading}
-use Rattle.ipfix_read.specs.Message.{MessageView}
 use Rattle.flow_rows.specs.Counts.{counts_of, rows_of_messages}
 use Rattle.flow_rows.specs.Elements.{RowView}
 use Rattle.flow_filter.specs.Condition.{passing}
-use Rattle.flow_uniq.specs.Groups.{groups_of, shown_groups}
-use Rattle.pmap_print.specs.Reports.{groups_text, info_text, LabelTexts, row_lines}
+use Rattle.pmap_print.specs.Reports.{info_text, LabelTexts, row_lines}
 use Rattle.pmap_cert.specs.ListText.{list_text}
 use Rattle.pmap_text.specs.RunsText.{IsRunsText}
 use Rattle.pmap_print.specs.Table.{Line, table_text}
-use Rattle.label_lookup.specs.Labelling.{Labelling, label_by, label_where, labelling_of_list, labelling_of_map}
-pub use Rattle.flowlabel.specs.declared.bytes_fault.BytesFault.{BytesFault}
-use Rattle.flowlabel.specs.declared.bytes_fault.BytesFault.TheVariants.{Map as InMap, List as InList, Flows as InFlows, Certificate as InCertificate, Check as InCheck}
-use Rattle.flowlabel.specs.ByFile.{ByFile}
-use Rattle.flowlabel.specs.Request.{Cat, Check, Command, Info, Label, Recert, Rows, Shrink, Shrunk, Text, Uniq}
-use Rattle.flowlabel.specs.declared.command.LabelFile.{LabelFile}
-use Rattle.flowlabel.specs.declared.command.LabelFile.TheVariants.{Map, List as Prefixes}
+use Rattle.label_lookup.specs.Labelling.{Labelling, label_by}
+pub use Rattle.flow_files.specs.declared.bytes_fault.BytesFault.{BytesFault}
+use Rattle.flow_files.specs.declared.bytes_fault.BytesFault.TheVariants.{Map as InMap, List as InList, Certificate as InCertificate, Check as InCheck}
+use Rattle.flow_files.specs.declared.by_file.ByFile.{ByFile}
+use Rattle.flowlabel.specs.Request.{Cat, Check, Command, Info, Label, Recert, Rows, Shrink, Shrunk, Uniq}
+use Rattle.flow_files.specs.Sources.{Text}
 use Rattle.flowlabel.specs.declared.command.Shrunk.TheVariants as shrunk
+use Rattle.flow_files.specs.Outcomes.{Outcome, Prints, Then, LabelsThen, FlowsThen, uniq_text}
 
 -- The output of a command for the texts of its files: the text that it prints, or the first fault of these texts.
-
--- a text, or the first fault
-abbrev pub Outcome : Type 0
-Outcome = Result (List ℕ) BytesFault
-
--- the outcome is this text
-abbrev pub Prints : List ℕ → Outcome → Type 0
-Prints text outcome = outcome ≡ Ok text
-
--- the outcome over a file's text, by its reading: the text's first fault, or the outcome for the value that the text is read as
-abbrev pub Then : {F A : Type 0} → (F → BytesFault) → (A → Outcome → Type 0) → Result A F → Outcome
-    → Type 0
-Then in_file rest (Ok value) outcome = rest value outcome
-Then in_file rest (Err fault) outcome = outcome ≡ Err (in_file fault)
-
--- the outcome over the text of the map or the list that labels come from: its first fault, or the outcome for its
--- labelling
-abbrev pub LabelsThen : (Labelling → Outcome → Type 0) → LabelFile → ByFile Text → Outcome → Type 0
-LabelsThen rest (Map file) texts =
-    Then InMap (λ m. rest (labelling_of_map m)) (map_reading texts.map)
-LabelsThen rest (Prefixes file) texts =
-    Then InList (λ l. rest (labelling_of_list l)) (list_reading texts.list)
-
--- the outcome over the bytes of an IPFIX File and the text that labels come from, if there is one: the first fault, or
--- the outcome for the labelling, if there is one, and the messages
-abbrev pub FlowsThen : (Option Labelling → List MessageView → Outcome → Type 0) → Option LabelFile
-    → ByFile Text → Outcome → Type 0
-FlowsThen rest None texts = Then InFlows (rest None) (file_reading texts.flows)
-FlowsThen rest (Some file) texts =
-    LabelsThen (λ l. Then InFlows (rest (Some l)) (file_reading texts.flows)) file texts
 
 -- the line of the label that a labelling gives an address, which is the line feed alone if there is no label
 abbrev pub label_text : AddressOf → Labelling → List ℕ
@@ -101,9 +68,8 @@ IsOutput (Rows labels condition columns flows) texts =
     Prints (table_text columns
     (labelled_row_lines l (passing condition l (rows_of_messages messages))))) labels texts
 IsOutput (Uniq fields labels condition sorted columns flows) texts =
-    FlowsThen (λ l messages. let groups =
-    groups_of fields (label_where l) (passing condition l (rows_of_messages messages)) in
-    Prints (groups_text fields (shown_groups sorted groups) columns)) labels texts
+    FlowsThen (λ l messages. Prints (uniq_text fields condition sorted columns l messages))
+    labels texts
 IsOutput (Cat labels) texts = LabelsThen (λ l outcome.
     (text : Text) × IsRunsText l.version l.label text × Prints text outcome) labels texts
 IsOutput (Shrink map printed) texts =

@@ -1,26 +1,14 @@
-use Rattle.std.specs.Prelude.{◌≡◌, ⊤, ◌≤◌, ◌<◌, ◌*◌, ◌++◌, ◌∷◌, [], List, ℕ, Option, Some, None, is_some, Result, Ok, Err, false, true, length, option_map}
-use Rattle.std.specs.Borrow.{Bor}
-use Rattle.std.specs.Global.{Vec}
+use Rattle.std.specs.Prelude.{◌≡◌, ⊤, List, ℕ, Option, is_some, Result, Ok, Err, length}
 use Rattle.std.specs.Option.{option_map_or}
-use Rattle.std.specs.Result.{result_map_both}
-use Rattle.flow_io.specs.Devices.{InputView, OutputView, ReadsInput, StopsWriting, WritesWhole}
-use Rattle.pmap_text.specs.MapText.{map_of}
+use Rattle.flow_io.specs.Devices.{InputView}
 use Rattle.pmap_text.specs.PrefixList.{list_of}
 use Rattle.pmap_text.specs.ListModel.{ListModel}
-use Rattle.pmap_text.specs.MapModel.{Label, MapModel}
-use Rattle.pmap_text.specs.Reading.{◌>>=◌, map_reading, list_reading}
-use Rattle.label_lookup.specs.Labelling.{Labelling, StretchModel, label_where, labelling_of_list, labelling_of_map, labelling_of_stretches}
-use Rattle.ipfix_read.specs.Fault.{is_of_reader}
-use Rattle.ipfix_templates.specs.InForce.{no_templates}
-use Rattle.ipfix_read.specs.Messages.{IsReadTo, ProgressView, StopsReading, file_reading}
-use Rattle.ipfix_read.specs.declared.progress.State.TheVariants.{Going}
-use Rattle.ipfix_read.specs.declared.fault.ReadFault.{ReadFault}
+use Rattle.pmap_text.specs.MapModel.{MapModel}
+use Rattle.label_lookup.specs.Labelling.{Labelling}
 use Rattle.ipfix_read.specs.Message.{MessageView}
-use Rattle.flow_rows.specs.Counts.{counts_of, count_list, rows_of_messages}
-use Rattle.flow_rows.specs.declared.counts.Counts.{Counts}
+use Rattle.flow_rows.specs.Counts.{counts_of, count_list}
 use Rattle.flow_rows.specs.Elements.{RowView}
-use Rattle.flow_filter.specs.Condition.{Condition, passing}
-use Rattle.flow_uniq.specs.Groups.{GroupsModel, groups_of, record_count, shown_groups}
+use Rattle.flow_uniq.specs.Groups.{shown_groups}
 use Rattle.pmap_print.specs.Reports.{column_count, groups_text}
 use Rattle.pmap_print.specs.Table.{IsTable, Line, has_columns, table_text}
 use Rattle.pmap_text.specs.RunsText.{IsRunsText}
@@ -36,48 +24,23 @@ use Rattle.pmap_cert.specs.CertificateText.{certificate_text}
 use Rattle.pmap_cert.specs.Compacting.{compact}
 use Rattle.pmap_cert.specs.ListText.{list_text}
 use Rattle.pmap_cert.specs.FormatReading.{format_reading}
-use Rattle.flowlabel.specs.ByFile.{ByFile, Role, at, turn}
-use Rattle.flowlabel.specs.declared.bytes_fault.BytesFault.TheVariants.{Certificate as InCertificate, Check as InCheck, Flows as InFlows, List as InList, Map as InMap}
-use Rattle.flowlabel.specs.Output.{BytesFault, Outcome, labelled_row_lines, minimal_text, shrunk_text}
-use Rattle.flowlabel.specs.declared.command.LabelFile.{LabelFile}
-use Rattle.flowlabel.specs.declared.command.LabelFile.TheVariants.{Map, List as Prefixes}
-use Rattle.flowlabel.specs.Request.{Shrunk, Text}
-use Rattle.flowlabel.specs.Run.{AreReadOn, CannotRead, CannotWrite, File, IsFaultFor, IsFaultOf, MayHave, NoMemory, Readers, RunFault, Source, any_failed, name_in, view_of}
-use Rattle.flowlabel.specs.declared.run.filtered.Filtered.{Filtered}
-use Rattle.flowlabel.specs.declared.run.labels.LabelsRead.{LabelsRead}
-use Rattle.flowlabel.specs.declared.run.labels.LabelsRead.TheVariants as read
+use Rattle.flow_files.specs.declared.by_file.ByFile.{ByFile}
+use Rattle.flow_files.specs.declared.bytes_fault.BytesFault.TheVariants.{Certificate as InCertificate, Check as InCheck}
+use Rattle.flow_files.specs.declared.bytes_fault.BytesFault.{BytesFault}
+use Rattle.flow_files.specs.Outcomes.{Outcome}
+use Rattle.flowlabel.specs.Output.{labelled_row_lines, minimal_text, shrunk_text}
+use Rattle.flowlabel.specs.Request.{Shrunk}
+use Rattle.flow_files.specs.Sources.{Text}
+use Rattle.flow_files.specs.Readers.{Readers}
+use Rattle.flow_files.specs.declared.fault.RunFault.{RunFault}
+use Rattle.flow_files.specs.declared.labels.LabelsRead.{LabelsRead}
 use Rattle.flowlabel.specs.declared.run.made.Made.{Made}
 use Rattle.flowlabel.specs.declared.run.made.Made.TheVariants as made
-use Rattle.pmap_print.specs.declared.table.Table.{Table}
+use Rattle.flowlabel.specs.declared.run.info.Counted.{Counted}
+use Rattle.flowlabel.specs.declared.run.rows.Lines.{Lines}
+use Rattle.flow_files.specs.Reports.{labelling_read, table_read, AreRead}
 
--- What the parts of a command read of its files.
-
--- the labelling of a map or a list
-abbrev pub labelling_read : LabelsRead → Labelling
-labelling_read (read.Map map) = labelling_of_map (map_of map)
-labelling_read (read.List list) = labelling_of_list (list_of list)
-
-abbrev pub labelling_found : Option (Bor StretchModel) → Option Labelling
-labelling_found = option_map (λ index. labelling_of_stretches index.now)
-
--- a reading, with its faults as those of a file
-abbrev pub with_bytes_fault : {F A : Type 0} → (F → BytesFault) → Result A F → Result A BytesFault
-with_bytes_fault = result_map_both (λ value. value)
-
--- what the text that labels come from is read as: the labelling, or the first fault
-abbrev pub labels_reading : LabelFile → ByFile Text → Result Labelling BytesFault
-labels_reading (Map file) texts = with_bytes_fault InMap (map_reading texts.map) >>= (λ m. Ok (labelling_of_map m))
-labels_reading (Prefixes file) texts = with_bytes_fault InList (list_reading texts.list) >>= (λ l. Ok (labelling_of_list l))
-
--- the same, if there is such a text
-abbrev pub source_reading : Option LabelFile → ByFile Text → Result (Option Labelling) BytesFault
-source_reading None texts = Ok None
-source_reading (Some file) texts = labels_reading file texts >>= (λ labels. Ok (Some labels))
-
--- what a report is on: the labelling, if there is one, and the messages of a File
-abbrev pub report_reading : Option LabelFile → ByFile Text → Result (Option Labelling × List MessageView) BytesFault
-report_reading source texts = source_reading source texts >>= (λ labels.
-    with_bytes_fault InFlows (file_reading texts.flows) >>= (λ messages. Ok (labels, messages)))
+-- What the parts of a command make of what they read.
 
 -- what `check` prints, by the first fault of a certificate's text and the number of the list's entries
 abbrev pub in_text : TextFault → BytesFault
@@ -89,15 +52,6 @@ verdict found count = option_map_or (λ fault. Err (in_text fault)) found (Ok (m
 
 abbrev pub check_reading : MapModel → ListModel → Text → Outcome
 check_reading m l bytes = verdict (text_fault m l (format_reading bytes)) (length l.prefixes)
-
--- the rows of messages that meet a condition
-abbrev pub passing_rows : Condition → Option Labelling → List MessageView → List RowView
-passing_rows condition labels messages = passing condition labels (rows_of_messages messages)
-
--- the table of the labels of a map or a list
-abbrev pub table_read : LabelsRead → List Label
-table_read (read.Map map) = map.labels
-table_read (read.List list) = list.labels
 
 -- what a command made can be printed
 abbrev pub IsWhole : Made → Type 0
@@ -132,167 +86,21 @@ IsShrunk printed m made = IsWhole made
     × ((text : Text) → IsTextOf made text
     → (l : ListModel) × (c : CertificateModel) × IsMinimalPair m l c × (text ≡ shrunk_text printed l c))
 
--- The writer has taken a text of what a command made, or a prefix of it. Out of memory comes before it is called.
-abbrev pub IsMadeWritten : {W : Type 0} → (W → OutputView) → (Text → Type 0) → W → W → Result (Unit {0}) RunFault
-    → Type 0
-IsMadeWritten output Is old new (Ok done) = (text : Text) × Is text × WritesWhole (output old) (output new) text
-IsMadeWritten output Is old new (Err CannotWrite) =
-    (text : Text) × Is text × StopsWriting (output old) (output new) text
-IsMadeWritten output Is old new (Err NoMemory) = new ≡ old
-IsMadeWritten output Is old new (Err fault) = ⊥
-
--- the fault for that of a call for a message of the file with this name
-abbrev pub IsFaultOfCall : Text → ReadFault → RunFault → Type 0
-IsFaultOfCall name fault (CannotRead file) = (file.now ≡ name) × (is_of_reader fault.kind ≡ true)
-IsFaultOfCall name fault made = (is_of_reader fault.kind ≡ false) × IsFaultFor name (InFlows fault) made
-
--- the result is that of this reading: a value for what is read, or its fault
-abbrev pub IsReading : {A V : Type 0} → Result A BytesFault → (A → V → Type 0) → Result V BytesFault → Type 0
-IsReading {A} reading is (Ok value) = (a : A) × (reading ≡ Ok a) × is a value
-IsReading reading is (Err fault) = reading ≡ Err fault
-
 -- the result of a command with this outcome: what prints it, or its fault
 abbrev pub Makes : (Outcome → Type 0) → Result Made BytesFault → Type 0
 Makes Is (Ok made) = IsWhole made × ((text : Text) → IsTextOf made text → Is (Ok text))
 Makes Is (Err fault) = Is (Err fault)
 
--- the outcome is a fault that the result may be
-abbrev pub faults_of : {V : Type 0} → (Result V BytesFault → Type 0) → Outcome → Type 0
-faults_of Is (Ok text) = ⊥
-faults_of Is (Err fault) = Is (Err fault)
-
--- no file is touched but that of the labels, if there is one
-abbrev pub AreOthersKept : {R : Type 0} → Option LabelFile → Readers R → Readers R → Type 0
-AreOthersKept None old new = new ≡ old
-AreOthersKept (Some (Map file)) old new = new ≡ record old { map = new.map }
-AreOthersKept (Some (Prefixes file)) old new = new ≡ record old { list = new.list }
-
-module _ {R : Type 0} (input : R → InputView) where
-  -- nothing of the file is read yet, and its reader has not failed
-  abbrev pub IsFresh : Option (Source R) → Type 0
-  IsFresh file = ((view_of input file).returned ≡ []) × ((view_of input file).failed ≡ false)
-
-  abbrev pub AreFresh : Readers R → Type 0
-  AreFresh files = IsFresh files.map × IsFresh files.list × IsFresh files.certificate × IsFresh files.flows
-
-  -- What reading a file returns, by what its text is read as: the value or the fault of all texts that the file may
-  -- have. Or its reader failed after bytes that meet a condition, or an allocation failed. A fault has the file's name.
-  abbrev pub Gives : {A V : Type 0} → (Text → Result A BytesFault) → (A → V → Type 0) → (List ℕ → Type 0)
-      → Option (Source R) → Option (Source R) → Result V RunFault → Type 0
-  Gives {A} reading is stops old new (Ok value) = ((view_of input new).failed ≡ false)
-      × ((text : Text) → MayHave (view_of input new) text → (a : A) × (reading text ≡ Ok a) × is a value)
-  Gives reading is stops old new (Err NoMemory) = (view_of input new).failed ≡ false
-  Gives reading is stops old new (Err (CannotRead file)) = ((view_of input new).failed ≡ true)
-      × (file.now ≡ name_in old) × stops (view_of input new).returned
-  Gives reading is stops old new (Err (File file fault)) =
-      ((view_of input new).failed ≡ false) × (file.now ≡ name_in old)
-      × ((text : Text) → MayHave (view_of input new) text → reading text ≡ Err fault)
-  Gives reading is stops old new (Err fault) = ⊥
-
-  -- what reading a file returns, and that no byte of it is lost
-  pub record IsRead {A V : Type 0} (reading : Text → Result A BytesFault) (is : A → V → Type 0)
-      (stops : List ℕ → Type 0) (old new : Option (Source R)) (result : Result V RunFault) : Type 0 where
-    pub reads : ReadsInput (view_of input old) (view_of input new) (λ _. ⊤)
-    pub gives : Gives reading is stops old new result
-
-  -- the name of the file, and its text
-  abbrev pub IsText : Option (Source R) → Option (Source R) → Result (Bor Text × Vec ℕ) RunFault → Type 0
-  IsText old = IsRead {A = Text} Ok (λ text read. (text ≡ read.1.items) × (read.0.now ≡ name_in old)) (λ _. ⊤) old
-
-  -- the value that the text is read as
-  abbrev pub Decodes : {F A V : Type 0} → (F → BytesFault) → (Text → Result A F) → (V → A) → Option (Source R)
-      → Option (Source R) → Result V RunFault → Type 0
-  Decodes wrap reading model = IsRead (λ text. with_bytes_fault wrap (reading text)) (λ a value. a ≡ model value) (λ _. ⊤)
-
-  -- what is built from the messages of a File
-  abbrev pub ReadsInto : {T : Type 0} → (List MessageView → T → Type 0) → Option (Source R) → Option (Source R)
-      → Result T RunFault → Type 0
-  ReadsInto is_of = IsRead (λ text. with_bytes_fault InFlows (file_reading text)) is_of
-      (λ bytes. (stop : ReadFault) × StopsReading bytes stop)
-
-  -- The input has returned these messages, whose number the state has, and there may be more. Nothing was read before.
-  pub record AreReadSoFar (start : Option (Source R)) (messages : List MessageView) (p : ProgressView)
-      (now : Option (Source R)) : Type 0 where
-    pub read : IsReadTo no_templates 0 0 (view_of input start) messages p (view_of input now)
-    pub going : p.state ≡ Going
-    pub works : (view_of input now).failed ≡ false
-    pub name : name_in now ≡ name_in start
-    pub first : (view_of input start).returned ≡ []
-
-  -- the result of a call for the message after these, and the state after the call
-  abbrev pub ReadsNext : Option (Source R) → List MessageView → Result (Option MessageView) RunFault → ProgressView
-      → Option (Source R) → Type 0
-  ReadsNext start messages (Ok (Some m)) p now =
-      AreReadSoFar start (messages ++ m ∷ []) p now × (length messages < 4294967295)
-  ReadsNext start messages (Ok None) p now = ReadsInto (λ read all. read ≡ all) start now (Ok messages)
-  ReadsNext start messages (Err fault) p now =
-      ReadsInto {T = List MessageView} (λ read all. read ≡ all) start now (Err fault)
-
-  -- the files before this turn may have these texts
-  abbrev pub AreTextsBefore : ℕ → Readers R → ByFile Text → Type 0
-  AreTextsBefore n files texts = (role : Role) → turn role < n → MayHave (view_of input (at role files)) (at role texts)
-
-  -- what reading the files before this turn returns, by what their texts may be read as
-  abbrev pub GivesAll : {V : Type 0} → ℕ → (ByFile Text → Result V BytesFault → Type 0) → Readers R → Readers R
-      → Result V RunFault → Type 0
-  GivesAll n Is old new (Ok value) = (any_failed input new ≡ false)
-      × ((texts : ByFile Text) → AreTextsBefore n new texts → Is texts (Ok value))
-  GivesAll n Is old new (Err fault) = IsFaultOf input (λ texts. faults_of (Is texts)) old new fault
-
-  -- what reading these files returns; no byte of them is lost, and the other files are untouched
-  pub record AreRead {V : Type 0} (n : ℕ) (Is : ByFile Text → Result V BytesFault → Type 0) (old new : Readers R)
-      (result : Result V RunFault) : Type 0 where
-    pub read : AreReadOn input old new
-    pub kept : (role : Role) → n ≤ turn role → at role new ≡ at role old
-    pub early : (role : Role) → (view_of input (at role new)).failed ≡ true → turn role < n
-    pub gives : GivesAll n Is old new result
-
-  -- what a command returns, by its outcomes
-  abbrev pub IsMade : (ByFile Text → Outcome → Type 0) → Readers R → Readers R → Result Made RunFault → Type 0
-  IsMade Is = AreRead 4 (λ texts. Makes (Is texts))
-
-  -- the map or the list that labels come from
-  abbrev pub AreLabels : LabelFile → Readers R → Readers R → Result LabelsRead RunFault → Type 0
-  AreLabels file = AreRead 2 (λ texts.
-      IsReading (labels_reading file texts) (λ labels found. labels ≡ labelling_read found))
-
-  -- the same, if there is such a file
-  abbrev pub AreLabelsOf : Option LabelFile → Readers R → Readers R → Result (Option LabelsRead) RunFault → Type 0
-  AreLabelsOf source = AreRead 2 (λ texts.
-      IsReading (source_reading source texts) (λ labels found. labels ≡ option_map labelling_read found))
-
-  -- what is built from the labels, if there are any, and the messages of a File
-  abbrev pub ReadsReport : {T : Type 0} → (Option Labelling → List MessageView → T → Type 0) → Option LabelFile
-      → Readers R → Readers R → Result T RunFault → Type 0
-  ReadsReport has source = AreRead 4 (λ texts.
-      IsReading (report_reading source texts) (λ read built. has read.0 read.1 built))
+-- what a command returns, by its outcomes
+abbrev pub IsMade : {R : Type 0} → (R → InputView) → (ByFile Text → Outcome → Type 0) → Readers R → Readers R
+    → Result Made RunFault → Type 0
+IsMade input Is = AreRead input 4 (λ texts. Makes (Is texts))
 
 -- What is built from messages and from rows. The first value is the one before any was added.
 
-abbrev pub HasCounts : Counts → List MessageView → Counts → Type 0
-HasCounts first messages now = count_list now ≡ counts_of messages
+abbrev pub HasCounts : List MessageView → Counted → Type 0
+HasCounts messages now = count_list now.counts ≡ counts_of messages
 
-pub record HasRows (first : Table) (labels : Option Labelling) (rows : List RowView) (now : Table) : Type 0 where
-  pub padded : has_columns now ≡ has_columns first
-  pub lines : IsTable (column_count (is_some labels)) (labelled_row_lines labels rows) now
-
-pub record HasGroups (first : GroupsModel) (labels : Option Labelling) (rows : List RowView)
-    (now : GroupsModel) : Type 0 where
-  pub fields : now.fields ≡ first.fields
-  pub groups : now.groups ≡ groups_of first.fields (label_where labels) rows
-  pub few : record_count now.groups ≤ length rows
-
--- the rows of the messages that pass a filter were added
-pub record HasPassing {T : Type 0} (has : T → Option Labelling → List RowView → T → Type 0) (first : Filtered T)
-    (messages : List MessageView) (now : Filtered T) : Type 0 where
-  pub filter : now.filter ≡ first.filter
-  pub labels : now.labels ≡ first.labels
-  pub rows : has first.taker (labelling_found first.labels)
-      (passing_rows first.filter.now (labelling_found first.labels) messages) now.taker
-  pub few : length (rows_of_messages messages) ≤ 131070 * length messages
-
--- a report can start with this value
-abbrev pub StartsReport : {T : Type 0} → (T → Option Labelling → List RowView → T → Type 0) → Option LabelFile → T
-    → Type 0
-StartsReport has source first =
-    (labels : Option Labelling) → is_some labels ≡ is_some source → has first labels [] first
+pub record HasRows (first : Lines) (labels : Option Labelling) (rows : List RowView) (now : Lines) : Type 0 where
+  pub padded : has_columns now.table ≡ has_columns first.table
+  pub lines : IsTable (column_count (is_some labels)) (labelled_row_lines labels rows) now.table

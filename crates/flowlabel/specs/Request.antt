@@ -1,5 +1,4 @@
-use Rattle.std.specs.Prelude.{◌^◌, ◌<◌, ℕ, Bool, List, Option, Some, None, option_map}
-use Rattle.std.specs.Borrow.{Bor}
+use Rattle.std.specs.Prelude.{◌^◌, ◌<◌, Bool, List, Option, Some, None, option_map}
 use Rattle.prefix_keys.specs.Text.{AddressOf}
 use Rattle.prefix_keys.specs.Block.{width_of}
 use Rattle.flow_filter.specs.Condition.{Condition}
@@ -7,18 +6,11 @@ pub use Rattle.flowlabel.specs.declared.command.Command.{Command}
 pub use Rattle.flowlabel.specs.declared.command.Command.TheVariants.{Cat, Check, Info, Label}
 pub use Rattle.flowlabel.specs.declared.command.Command.TheVariants.{Recert, Rows, Shrink, Uniq}
 use Rattle.flow_uniq.specs.declared.field.KeyField.{KeyField}
-use Rattle.flowlabel.specs.ByFile.{ByFile, each}
-use Rattle.flowlabel.specs.declared.command.LabelFile.{LabelFile}
-use Rattle.flowlabel.specs.declared.command.LabelFile.TheVariants.{Map, List as Prefixes}
+use Rattle.flow_files.specs.declared.by_file.ByFile.{ByFile}
 pub use Rattle.flowlabel.specs.declared.command.Shrunk.{Shrunk}
-pub use Rattle.pmap_print.specs.Table.{Text}
+use Rattle.flow_files.specs.Sources.{FromMap, LabelSource, Text, files_named, source_of}
 
 -- What a command line may ask for, independent of how the program represents it.
-
--- the source of labels: a map, or a prefix list, by its name or its text
-pub data LabelSource : Type 0 where
-  FromMap : (file : Text) → LabelSource
-  FromList : (file : Text) → LabelSource
 
 -- `label`: the label that a file's labels give an address. `info`: the counts of a File. `rows`: the rows of a File
 -- that meet a condition, with the labels of their addresses if there is a source of labels, padded to columns or not.
@@ -42,11 +34,6 @@ abbrev pub IsProper : Request → Type 0
 IsProper (label source address) = address.1 < 2 ^ width_of address.0
 IsProper request = Unit {0}
 
--- a file of labels as a source of labels
-abbrev pub source_of : LabelFile → LabelSource
-source_of (Map file) = FromMap file.now
-source_of (Prefixes file) = FromList file.now
-
 -- the request of a command
 abbrev pub request_of : Command → Request
 request_of (Label labels addr) = label (source_of labels) (addr.version, addr.value)
@@ -60,14 +47,7 @@ request_of (Shrink map printed) = shrink map.now printed
 request_of (Check map list certificate) = check map.now list.now certificate.now
 request_of (Recert certificate) = recert certificate.now
 
--- the names of the files of labels and of flows, and of all files of a request
-abbrev pub files_named : Option LabelSource → Option Text → ByFile (Option Text)
-files_named None flows = record { map = None; list = None; certificate = None; flows = flows }
-files_named (Some (FromMap map)) flows =
-    record { map = Some map; list = None; certificate = None; flows = flows }
-files_named (Some (FromList list)) flows =
-    record { map = None; list = Some list; certificate = None; flows = flows }
-
+-- the names of the files of a request
 abbrev pub files_of : Request → ByFile (Option Text)
 files_of (label source address) = files_named (Some source) None
 files_of (info flows) = files_named None (Some flows)
@@ -79,8 +59,3 @@ files_of (check map list certificate) =
     record { map = Some map; list = Some list; certificate = Some certificate; flows = None }
 files_of (recert certificate) =
     record { map = None; list = None; certificate = Some certificate; flows = None }
-
--- Below: only contracts of parts and proofs use these; no promise of the program rests on them.
-
-abbrev pub names_of : ByFile (Option (Bor (List ℕ))) → ByFile (Option Text)
-names_of = each (option_map (λ s. s.now))

@@ -1,20 +1,12 @@
-ghost use Rattle.std.specs.Prelude.{◌≡◌, is_some, option_map};
-ghost use Rattle.flowlabel.specs.ByFile.{each};
-ghost use Rattle.flowlabel.specs.Request.{files_named, files_of, names_of, request_of, source_of};
+ghost use Rattle.std.specs.Prelude.{◌≡◌, is_some};
+ghost use Rattle.flow_files.specs.ByFile.{each};
+ghost use Rattle.flow_files.specs.Sources.{files_named, names_of};
+ghost use Rattle.flowlabel.specs.Request.{files_of, request_of};
 
-use crate::by_file::ByFile;
+use flow_files::{ByFile, LabelFile, files_named};
 use flow_filter::Filter;
 use flow_uniq::Keys;
 use prefix_keys::Addr;
-
-/// The name of a file that labels come from.
-#[derive(Clone, Copy)]
-pub enum LabelFile<'a> {
-    /// `--pmap FILE`: a prefix map.
-    Map(&'a str),
-    /// `--list FILE`: a prefix list.
-    List(&'a str),
-}
 
 /// The output of `shrink` for a map.
 #[derive(Clone, Copy)]
@@ -74,23 +66,6 @@ pub enum Command<'a> {
     Recert {
         certificate: &'a str,
     },
-}
-
-// The files of a command that may name labels and flows.
-fn files_named<'a>(labels: Option<LabelFile<'a>>, flows: Option<&'a str>) -> ByFile<Option<&'a str>>
-    ensures { names_of result ≡ files_named (option_map source_of labels.entry) (option_map (λ s. s.now) flows.entry) }
-{
-    let (map, list) = match labels {
-        None => (None, None),
-        Some(LabelFile::Map(file)) => (Some(file), None),
-        Some(LabelFile::List(file)) => (None, Some(file)),
-    };
-    ByFile {
-        map,
-        list,
-        certificate: None,
-        flows,
-    }
 }
 
 impl<'a> Command<'a> {

@@ -1,11 +1,11 @@
 ghost use Rattle.std.specs.Prelude.{◌≡◌, IfOk, true};
-ghost use Rattle.std.specs.List.{fold};
-ghost use Rattle.clap.specs.Words.{App};
 ghost use Rattle.clap.specs.declared.builder.command.Command.TheViews.{out-Command};
-ghost use Rattle.flowlabel.specs.Definition.{IsArgument, IsCommand, app_for, flowlabel_app, program, rule_for, with_argument, with_sub};
+ghost use Rattle.flow_files.specs.Definition.{IsCommand};
+ghost use Rattle.flowlabel.specs.Definition.{flowlabel_app};
 
-use Argument::{Flag, Needed, Optional, Word};
-use clap::{Arg, ArgAction, Command};
+use clap::Command;
+use flow_files::Argument::{Flag, Needed, Word};
+use flow_files::{Argument, FILTERS, SOURCES, Subcommand, program_of, with_subcommands};
 use std::alloc::{AllocError, Global};
 
 // Appends the version, which is written only here, to a text.
@@ -42,54 +42,19 @@ macro_rules! subcommands {
     };
 }
 
-/// An argument of a command: the text after its name, if there is any, and its texts for help.
-#[derive(Clone, Copy)]
-pub enum Argument<'a> {
-    // `--name VALUE`, with the heading and the text.
-    Optional(&'a str, &'a str, &'a str, &'a str),
-    // Like `Optional`, but required.
-    Needed(&'a str, &'a str, &'a str, &'a str),
-    // `--name`, with the text.
-    Flag(&'a str, &'a str),
-    // A required word, with its name, its name in help, and the text.
-    Word(&'a str, &'a str, &'a str),
-}
-
-/// A subcommand, or the program: its name, its texts for help, and the lists of its arguments.
-#[derive(Clone, Copy)]
-pub struct Subcommand<'a> {
-    name: &'a str,
-    about: &'a str,
-    usage: &'a str,
-    example: &'a str,
-    arguments: &'a [&'a [Argument<'a>]],
-}
-
-const SOURCES: [Argument<'static>; 2] = arguments! {
-    Optional "pmap" "FILE" "Labels" "The prefix map";
-    Optional "list" "FILE" "Labels" "The prefix list";
-};
-
-const FILTERS: [Argument<'static>; 10] = arguments! {
-    Optional "protocol" "NUMBERS" "Filters" "Flows of these protocols, such as 6,17 or 1-16";
-    Optional "sport" "NUMBERS" "Filters" "Flows from these ports";
-    Optional "dport" "NUMBERS" "Filters" "Flows to these ports";
-    Optional "saddress" "BLOCKS" "Filters" "Flows from these addresses: 10.0.0.1,2001:db8::/32";
-    Optional "daddress" "BLOCKS" "Filters" "Flows to these addresses";
-    Optional "packets" "RANGE" "Filters" "Flows with this many packets, such as 5, 5- or 5-9";
-    Optional "bytes" "RANGE" "Filters" "Flows with this many bytes";
-    Optional "src-label" "LABEL" "Filters" "Flows whose source has this label";
-    Optional "dst-label" "LABEL" "Filters" "Flows whose destination has this label";
-    Optional "any-label" "LABEL" "Filters" "Flows whose source or destination has this label";
-};
-
 const TABLE: [Argument<'static>; 2] = arguments! {
     Flag "columns" "Pad the fields to columns";
     Word "flows" "FILE" "The IPFIX File";
 };
 
+/// The name of the program.
+pub const NAME: &str = "flowlabel";
+
+// The first line of each help.
+const TITLE: &str = version!("flowlabel ");
+
 const PROGRAM: Subcommand<'static> = Subcommand {
-    name: "flowlabel",
+    name: NAME,
     about: "Label addresses by a prefix map, report on network flows, and shrink maps",
     usage: "flowlabel COMMAND ...",
     example: example!("the options of one command", "rows --help"),
@@ -131,92 +96,11 @@ const SUBCOMMANDS: [Subcommand<'static>; 8] = subcommands! {
         &[Needed("cert", "FILE", "Files", "The certificate")];
 };
 
-fn argument_of<'a>(alloc: Global, argument: &Argument<'a>) -> Arg<'a>
-    ensures { IsArgument (rule_for argument.now) result }
-{
-    match *argument {
-        Optional(name, value, heading, help) => Arg::new(alloc, name)
-            .long(name)
-            .value_name(value)
-            .help_heading(heading)
-            .help(help),
-        Needed(name, value, heading, help) => Arg::new(alloc, name)
-            .long(name)
-            .value_name(value)
-            .required(true)
-            .help_heading(heading)
-            .help(help),
-        Flag(name, help) => Arg::new(alloc, name)
-            .long(name)
-            .action(ArgAction::SetTrue)
-            .help_heading("Output")
-            .help(help),
-        Word(name, value, help) => Arg::new(alloc, name)
-            .value_name(value)
-            .required(true)
-            .help(help),
-    }
-}
-
-// Adds arguments to a command.
-fn with_arguments<'a>(
-    alloc: Global,
-    mut command: Command<'a>,
-    arguments: &[Argument<'a>],
-) -> Result<Command<'a>, AllocError>
-    ensures { (app : App) → IsCommand app command.entry → IfOk result (IsCommand (fold with_argument app arguments.now)) }
-{
-    for argument in arguments {
-        command = command.arg(argument_of(alloc, argument))?;
-    }
-    Ok(command)
-}
-
-// Returns a command with its texts for help and its arguments.
-fn command_of<'a>(alloc: Global, sub: &Subcommand<'a>) -> Result<Command<'a>, AllocError>
-    ensures { IfOk result (IsCommand (app_for sub.now)) }
-{
-    let mut command = Command::new(alloc, sub.name)
-        .before_help(version!("flowlabel "))
-        .about(sub.about)
-        .override_usage(sub.usage)
-        .after_help(sub.example);
-    for arguments in sub.arguments {
-        command = with_arguments(alloc, command, arguments)?;
-    }
-    Ok(command)
-}
-
-fn program<'a>(alloc: Global) -> Result<Command<'a>, AllocError>
-    ensures { IfOk result (IsCommand program) }
-{
-    let command = command_of(alloc, &PROGRAM)?;
-    Ok(
-        command
-            .version(version!(""))
-            .subcommand_required(true)
-            .disable_help_subcommand(true),
-    )
-}
-
-// Adds subcommands to a command.
-fn with_subcommands<'a>(
-    alloc: Global,
-    mut command: Command<'a>,
-    subcommands: &[Subcommand<'a>],
-) -> Result<Command<'a>, AllocError>
-    ensures { (app : App) → IsCommand app command.entry → IfOk result (IsCommand (fold with_sub app subcommands.now)) }
-{
-    for sub in subcommands {
-        command = command.subcommand(command_of(alloc, sub)?)?;
-    }
-    Ok(command)
-}
-
 /// Returns the definition of the command line for clap: a program with one required level of subcommands.
 pub fn definition<'a>(alloc: Global) -> Result<Command<'a>, AllocError>
     ensures app { IfOk result (IsCommand flowlabel_app) }
     ensures required { IfOk result (λ c. (out-Command c).subcommand_required ≡ true) }
 {
-    with_subcommands(alloc, program(alloc)?, &SUBCOMMANDS)
+    let program = program_of(alloc, TITLE, version!(""), &PROGRAM)?;
+    with_subcommands(alloc, TITLE, program, &SUBCOMMANDS)
 }

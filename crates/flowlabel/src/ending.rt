@@ -2,14 +2,15 @@
 ghost use Rattle.std.specs.Prelude.{◌≡◌, Err, false};
 ghost use Rattle.std.specs.declared.alloc.Global.{Global};
 ghost use Rattle.std.specs.declared.string.String.{String};
-ghost use Rattle.flowlabel.specs.Ending.{IsReported};
-ghost use Rattle.flowlabel.specs.Faults.{exit_status_of};
-ghost use Rattle.flowlabel.specs.Run.{Usage};
-ghost use Rattle.flowlabel.specs.declared.usage.UsageFault.TheVariants as usage;
+ghost use Rattle.flow_files.specs.Ending.{IsReported};
+ghost use Rattle.flow_files.specs.Faults.{exit_status_of};
+ghost use Rattle.flow_files.specs.declared.fault.RunFault.TheVariants.{Usage};
+ghost use Rattle.flow_files.specs.declared.usage.UsageFault.TheVariants as usage;
+ghost use Rattle.flowlabel.specs.Definition.{program_name};
 
-use crate::fault::{RunFault, fault_line, status};
-use crate::usage::UsageFault;
-use flow_io::{Output, write_whole};
+use crate::definition::NAME;
+use flow_files::RunFault;
+use flow_io::Output;
 use std::alloc::Global;
 
 /// Writes help to standard output, or the line of a fault to standard error, and flushes it. Returns the exit status,
@@ -23,20 +24,7 @@ pub fn end<O: Output, E: Output>(
     requires output { (text : String Global) → outcome.now ≡ Err (Usage (usage.Help text)) → (O.output output.old).failed ≡ false }
     requires error { (E.output error.old).failed ≡ false }
     ensures status { result ≡ exit_status_of outcome.now }
-    ensures reported { IsReported O.output E.output outcome.now output.old output.new error.old error.new }
+    ensures reported { IsReported O.output E.output program_name outcome.now output.old output.new error.old error.new }
 {
-    let _ = match outcome {
-        Ok(()) => Ok(()),
-        Err(RunFault::Usage(UsageFault::Help(text))) => {
-            write_whole(output, text.as_str().as_bytes())
-        }
-        Err(fault) => match fault_line(alloc, fault) {
-            Ok(line) => write_whole(error, line.as_slice()),
-            Err(_) => Ok(()),
-        },
-    };
-    match outcome {
-        Ok(()) => 0,
-        Err(fault) => status(fault),
-    }
+    flow_files::end(alloc, NAME, outcome, output, error)
 }

@@ -32,53 +32,37 @@
 //! system's.
 #![tactic(auto)]
 
-ghost use Rattle.std.specs.Prelude.{◌≡◌, false, map, IfOk};
+ghost use Rattle.std.specs.Prelude.{◌≡◌, false, map};
 ghost use Rattle.std.specs.Result.{result_map_both};
 ghost use Rattle.std.specs.String.{string_bytes};
 ghost use Rattle.std.specs.Vec.Iter.{into_iter_items};
 ghost use Rattle.flowlabel.specs.Ending.{IsEndOf, IsProgram};
 
+use flow_files::{listed, words_fault};
 use flow_io::Output;
 use pmap_text::KeyHashing;
 use run::run;
-use std::alloc::{AllocError, Global};
+use std::alloc::Global;
 use std::convert::AsStr;
 use std::env;
 use std::io::ErrorKind;
-use words::words_fault;
 
-mod by_file;
-mod bytes_fault;
 mod command;
 mod definition;
 mod ending;
 mod fault;
 mod inputs;
-mod opening;
 pub mod run;
-mod usage;
 mod words;
 
-pub use by_file::ByFile;
-pub use bytes_fault::BytesFault;
-pub use command::{Command, LabelFile, Shrunk};
+pub use command::{Command, Shrunk};
 pub use ending::end;
-pub use fault::{RunFault, fault_line, status};
-pub use inputs::{Files, Inputs, Source};
-pub use opening::{Opener, open_all};
-pub use usage::UsageFault;
+pub use fault::fault_line;
+pub use flow_files::{
+    ByFile, BytesFault, Files, LabelFile, Opener, RunFault, Source, UsageFault, open_all, status,
+};
+pub use inputs::Inputs;
 pub use words::{lines_have_one_answer, parse};
-
-// Lists the words in one allocation. `collect` would try a smaller one after a failure.
-fn listed(alloc: Global, words: env::Args) -> Result<Vec<String>, AllocError>
-    ensures { IfOk result (λ list. list.items ≡ into_iter_items words) }
-{
-    let mut list = Vec::with_capacity(alloc, words.len())?;
-    for word in words {
-        list.push(word)?;
-    }
-    Ok(list)
-}
 
 /// Runs the command that the words ask for over the files that they name.
 pub fn execute<'a, S: AsStr, O: Opener, W: Output>(

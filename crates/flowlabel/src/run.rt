@@ -1,12 +1,14 @@
 ghost use Rattle.std.specs.Prelude.{◌≡◌, false};
 ghost use Rattle.flowlabel.specs.Output.{IsOutput};
-ghost use Rattle.flowlabel.specs.Reports.{AreFresh, IsMade, IsMadeWritten, IsTextOf, IsWhole};
-ghost use Rattle.flowlabel.specs.Run.{AreUnread, any_failed, IsRunOf};
+ghost use Rattle.flow_files.specs.Reports.{AreFresh, IsTextWritten};
+ghost use Rattle.flowlabel.specs.Reports.{IsMade, IsTextOf, IsWhole};
+ghost use Rattle.flow_files.specs.Readers.{AreUnread, any_failed};
+ghost use Rattle.flowlabel.specs.Run.{IsRunOf};
 
 use crate::command::Command;
-use crate::fault::RunFault;
-use crate::inputs::{Files, Inputs};
-use flow_io::{DeviceFault, Input, Output, Printable, write_printed};
+use crate::inputs::Inputs;
+use flow_files::{Files, RunFault, print_to, read_certificate};
+use flow_io::{Input, Output};
 use pmap_cert::{CompactText, OpenedText};
 use pmap_print::{GroupsText, ListText, RunsText};
 use pmap_text::KeyHashing;
@@ -14,15 +16,11 @@ use std::alloc::Global;
 
 mod cat;
 mod check;
-mod filtered;
 mod info;
 mod joined;
 mod label;
-mod labels;
 mod laws;
 mod made;
-mod messages;
-mod reading;
 mod rows;
 mod shrink;
 mod uniq;
@@ -32,7 +30,6 @@ pub use laws::{
     one_output, output_keeps_headline, shrunk_list_is_least, shrunk_list_keeps_reports,
 };
 use made::Made;
-use reading::read_certificate;
 use uniq::Grouping;
 
 // Returns what a command prints. Its files are read here: the map, the list, the certificate, the flows.
@@ -80,23 +77,11 @@ fn output<'a, R: Input>(
     }
 }
 
-// Writes a value while it is printed, and flushes the writer once.
-fn print_to<'a, P: Printable, W: Output>(writer: &mut W, value: &P) -> Result<(), RunFault<'a>>
-    requires writer { (W.output writer.old).failed ≡ false }
-    requires value { P.is_whole value.now }
-    ensures { IsMadeWritten W.output (P.is_text value.now) writer.old writer.new result }
-{
-    match write_printed(writer, value) {
-        Ok(()) => Ok(()),
-        Err(DeviceFault) => Err(RunFault::CannotWrite),
-    }
-}
-
 // Writes what a command made. What its printing needs is allocated before the writer is called.
 fn write_made<'a, W: Output>(alloc: Global, made: Made, writer: &mut W) -> Result<(), RunFault<'a>>
     requires writer { (W.output writer.old).failed ≡ false }
     requires whole { IsWhole made }
-    ensures { IsMadeWritten W.output (IsTextOf made) writer.old writer.new result }
+    ensures { IsTextWritten W.output (IsTextOf made) writer.old writer.new result }
 {
     match made {
         Made::Text(text) => print_to(writer, &text.as_slice()),

@@ -1,62 +1,20 @@
-ghost use Rattle.std.specs.Prelude.{◌≡◌, IfErr, IfOk, map, option_map, true};
-ghost use Rattle.flow_filter.specs.Filters.{option_texts};
-ghost use Rattle.flow_filter.specs.Options.{name_of};
-ghost use Rattle.clap.specs.Words.{first_of, found_of, kind_of, rows_of, takes};
+ghost use Rattle.std.specs.Prelude.{◌≡◌, IfErr, IfOk, map, true};
+ghost use Rattle.clap.specs.Words.{found_of, rows_of, takes};
+ghost use Rattle.flow_files.specs.Sources.{Text};
+ghost use Rattle.flow_files.specs.Answer.{IsOwnFault, IsUnlessMemory};
 ghost use Rattle.flowlabel.specs.Definition.{flowlabel_app};
-ghost use Rattle.flowlabel.specs.Request.{IsProper, Text, request_of, source_of};
-ghost use Rattle.flowlabel.specs.Answer.{HaveOneAnswer, IsAnswer, IsFaultOfKind, IsOwnFault, IsUnlessMemory, LinesHaveAnswers, answer_of, answer_of_cat, answer_of_label, answer_of_rows, answer_of_shrink, text_in_rows, is_given, sources_in_rows, words_fault_of, condition_in_rows, answer_of_uniq, fields_in_rows};
+ghost use Rattle.flowlabel.specs.Request.{IsProper, request_of};
+ghost use Rattle.flowlabel.specs.Answer.{HaveOneAnswer, IsAnswer, LinesHaveAnswers, answer_of, answer_of_cat, answer_of_label, answer_of_rows, answer_of_shrink, answer_of_uniq};
 
-use crate::command::{Command, LabelFile, Shrunk};
+use crate::command::{Command, Shrunk};
 use crate::definition::definition;
-use crate::usage::UsageFault;
 use clap::ArgMatches;
-use clap::error::ErrorKind;
-use flow_filter::{ALL_OPTIONS, Filter, FilterFaultKind, FilterWords};
-use flow_uniq::Keys;
+use flow_files::{
+    UsageFault, fault_of_error, filter_in, is_given, keys_in, labels_in, needed_text,
+};
 use prefix_keys::read_addr;
 use std::alloc::Global;
 use std::convert::AsStr;
-use std::io;
-
-fn fault_of_error(alloc: Global, error: &clap::Error) -> UsageFault
-    ensures { IsFaultOfKind (kind_of error.now) result }
-{
-    let kind = error.kind();
-    if let ErrorKind::OutOfMemory = kind {
-        return UsageFault::NoMemory;
-    }
-    match format!(in alloc; "{error}") {
-        Err(_) => UsageFault::NoMemory,
-        Ok(text) => match kind {
-            ErrorKind::DisplayHelp | ErrorKind::DisplayVersion => UsageFault::Help(text),
-            _ => UsageFault::Refused(text),
-        },
-    }
-}
-
-fn first_text<'a>(entries: &ArgMatches<'a>, id: &str) -> Option<&'a str>
-    ensures { option_map (λ s. s.now) result ≡ first_of id.now (rows_of (found_of entries.now)) }
-{
-    entries.get_str(id)
-}
-
-// The text of a required option or word. Clap refuses a line without it.
-fn needed_text<'a>(entries: &ArgMatches<'a>, id: &str) -> &'a str
-    ensures { result.now ≡ text_in_rows id.now (rows_of (found_of entries.now)) }
-{
-    first_text(entries, id).unwrap_or("")
-}
-
-fn labels_in<'a>(entries: &ArgMatches<'a>) -> Result<Option<LabelFile<'a>>, UsageFault>
-    ensures { IsUnlessMemory (option_map source_of) (sources_in_rows (rows_of (found_of entries.now))) result }
-{
-    match (first_text(entries, "pmap"), first_text(entries, "list")) {
-        (Some(_), Some(_)) => Err(UsageFault::MapTwice),
-        (Some(map), None) => Ok(Some(LabelFile::Map(map))),
-        (None, Some(list)) => Ok(Some(LabelFile::List(list))),
-        (None, None) => Ok(None),
-    }
-}
 
 fn label_command<'a>(entries: &ArgMatches<'a>) -> Result<Command<'a>, UsageFault>
     ensures { IsUnlessMemory request_of (answer_of_label (rows_of (found_of entries.now))) result }
@@ -65,31 +23,6 @@ fn label_command<'a>(entries: &ArgMatches<'a>) -> Result<Command<'a>, UsageFault
     let text = needed_text(entries, "address");
     let addr = read_addr(text.as_bytes()).ok_or(UsageFault::BadAddress)?;
     Ok(Command::Label { labels, addr })
-}
-
-// Returns whether a flag is given. Clap gives the text `true` to a flag that is.
-fn is_given(entries: &ArgMatches<'_>, flag: &str) -> bool
-    ensures { result ≡ is_given flag.now (rows_of (found_of entries.now)) }
-{
-    needed_text(entries, flag) == "true"
-}
-
-fn filter_words_in<'a>(entries: &ArgMatches<'a>) -> FilterWords<'a>
-    ensures { option_texts result ≡ map (λ o. first_of (name_of o) (rows_of (found_of entries.now))) ALL_OPTIONS }
-{
-    FilterWords {
-        texts: ALL_OPTIONS.map(|option| first_text(entries, option.name())),
-    }
-}
-
-fn filter_in<'a>(alloc: Global, entries: &ArgMatches<'a>) -> Result<Filter<'a>, UsageFault>
-    ensures { IsUnlessMemory (λ filter. filter) (condition_in_rows (rows_of (found_of entries.now))) result }
-{
-    match Filter::read(alloc, &filter_words_in(entries)) {
-        Ok(filter) => Ok(filter),
-        Err(fault) if fault.kind == FilterFaultKind::NoMemory => Err(UsageFault::NoMemory),
-        Err(fault) => Err(UsageFault::Filter(fault)),
-    }
 }
 
 fn rows_command<'a>(alloc: Global, entries: &ArgMatches<'a>) -> Result<Command<'a>, UsageFault>
@@ -106,12 +39,6 @@ fn rows_command<'a>(alloc: Global, entries: &ArgMatches<'a>) -> Result<Command<'
         columns: is_given(entries, "columns"),
         flows: needed_text(entries, "flows"),
     })
-}
-
-fn keys_in(entries: &ArgMatches<'_>) -> Result<Keys, UsageFault>
-    ensures { IsUnlessMemory (λ keys. keys) (fields_in_rows (rows_of (found_of entries.now))) result }
-{
-    Keys::read(needed_text(entries, "fields")).map_err(UsageFault::Key)
 }
 
 fn uniq_command<'a>(alloc: Global, entries: &ArgMatches<'a>) -> Result<Command<'a>, UsageFault>
@@ -184,17 +111,6 @@ fn command_of<'a>(
         Ok(Command::Recert { certificate })
     } else {
         label_command(entries)
-    }
-}
-
-/// Returns the fault of a command line whose words can't be obtained, by the kind of the error: a word isn't UTF-8, or
-/// an allocation failed.
-pub fn words_fault(kind: io::ErrorKind) -> UsageFault
-    ensures { result ≡ words_fault_of kind }
-{
-    match kind {
-        io::ErrorKind::InvalidData => UsageFault::NotUtf8,
-        _ => UsageFault::NoMemory,
     }
 }
 

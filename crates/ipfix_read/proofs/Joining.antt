@@ -1,11 +1,11 @@
 -- The result of a call for a message, from what it gathered and read.
-use Rattle.std.proofs.Common.{◌≡◌, ◌∙◌, ℕ, ◌+◌, ◌<◌, List, ◌++◌, length, Bool, Option, None, Some, Result, Ok, Err, inl, inr, refl, sym, subst, ap, append_assoc, arith, length-append, []}
+use Rattle.std.proofs.Common.{◌≡◌, ◌∙◌, ℕ, ◌+◌, ◌<◌, List, ◌++◌, length, Bool, Option, None, Some, Result, Ok, Err, inl, inr, refl, sym, subst, ap, append_assoc, arith, length-append, [], ◌∷◌}
 use Rattle.flow_io.specs.Devices.{InputView, ReadsInput}
 use Rattle.flow_io.proofs.Moving.{gives_more, gives_none}
 use Rattle.std.specs.Result.{result_map_both}
-use Rattle.std.proofs.lemmas.List.{length_push}
+use Rattle.std.proofs.lemmas.List.{length_push, map-append}
 use Rattle.ipfix_read.specs.Message.{ReadFault, ReadFaultKind, MessageView, HasHeader, events_of_message, message_next, whole_reading}
-use Rattle.ipfix_read.specs.Messages.{Going, Ended, Failed, ProgressView, AnswersNext, Gathers, messages_from}
+use Rattle.ipfix_read.specs.Messages.{Going, Ended, Failed, ProgressView, AnswersNext, Gathers, events_of_messages, messages_from, messages_in, placed_from}
 use Rattle.ipfix_read.specs.Set.{ReadsUnder}
 use Rattle.ipfix_templates.specs.declared.table.TemplateTable.{TemplateTable}
 use Rattle.ipfix_templates.specs.InForce.{in_force, template_at}
@@ -13,7 +13,7 @@ use Rattle.ipfix_templates.specs.Reading.{after_items}
 use Rattle.ipfix_templates.proofs.Reading.{no_items}
 use Rattle.ipfix_read.specs.Laws.{CallsJoinFile, CallsStart}
 use Rattle.ipfix_read.proofs.Sets.{in_force_more, none_in_force}
-use Rattle.ipfix_read.proofs.Readings.{front_read, message_cut, messages_end, messages_fault, messages_more, stops_after}
+use Rattle.ipfix_read.proofs.Readings.{front_read, message_cut, messages_fault, placed_are_messages, placed_end, placed_more, stops_after, without_offsets}
 
 -- The results, by the parts of the state between two calls, which are the view of the old state.
 module _ {view old : ProgressView} (same : view ≡ old) (o n : InputView) (ended : Bool) where
@@ -73,37 +73,42 @@ pub calls_start : CallsStart
 calls_start templates count offset input p at = record {
   taken = [];
   consumed = gives_none input;
-  read = λ rest. no_items _ ∙ (λ i. after_items [] (messages_from (sym at.0 i) (sym at.1 i) (sym at.2 i) rest));
+  read = λ rest. no_items _ ∙ (λ i. after_items [] (placed_from (sym at.0 i) (sym at.1 i) (sym at.2 i) rest));
   table = at.0 ∙ sym (none_in_force templates);
   counted = omega (arith, at.1);
   placed = omega (arith, at.2);
 }
 
 pub calls_join_file : CallsJoinFile
-calls_join_file templates count offset start now then messages old new (Ok (Some m)) so_far (taken, returned, a) = record {
+calls_join_file templates count offset start now then placed old new (Ok (Some m)) so_far (taken, returned, a) = record {
   taken = so_far.taken ++ taken;
   consumed = gives_more so_far.consumed returned;
   read = λ rest.
-      ap (messages_from templates count offset) (append_assoc so_far.taken taken rest)
-      ∙ messages_more _ messages _ _ old.offset (taken ++ rest) (so_far.read (taken ++ rest)) m rest _ _ new.offset (a.0 rest) a.1 a.3
+      ap (placed_from templates count offset) (append_assoc so_far.taken taken rest)
+      ∙ placed_more _ placed _ _ old.offset (taken ++ rest) (so_far.read (taken ++ rest)) m rest _ _ new.offset (a.0 rest) a.1 a.3
       (omega (arith, a.2, length-append taken rest));
-  table = a.1 ∙ ap (λ now. in_force now (events_of_message m)) so_far.table ∙ in_force_more events_of_message templates messages m;
-  counted = omega (arith, a.3, so_far.counted, length_push messages m);
+  table = a.1 ∙ ap (λ now. in_force now (events_of_message m)) so_far.table ∙ in_force_more events_of_message templates (messages_in placed) m
+      ∙ ap (λ messages. in_force templates (events_of_messages messages)) (sym (map-append (λ (p : ℕ × MessageView). p.1) placed ((old.offset, m) ∷ [])));
+  counted = omega (arith, a.3, so_far.counted, length_push placed (old.offset, m));
   placed = omega (arith, a.2, so_far.placed, length-append so_far.taken taken);
 }
-calls_join_file templates count offset start now then messages old new (Ok None) so_far (taken, returned, a) =
-    (so_far.taken ++ taken, gives_more so_far.consumed returned, (a.1, messages_end _ messages _ _ old.offset taken (so_far.read taken) a.0))
-calls_join_file templates count offset start now then messages old new (Err fault) so_far (taken, returned, a) = (
+calls_join_file templates count offset start now then placed old new (Ok None) so_far (taken, returned, a) =
+    (so_far.taken ++ taken, gives_more so_far.consumed returned, (a.1, placed_end _ placed _ _ old.offset taken (so_far.read taken) a.0))
+calls_join_file templates count offset start now then placed old new (Err fault) so_far (taken, returned, a) = (
   so_far.taken ++ taken,
   gives_more so_far.consumed returned,
   elim a.1 [
     | inl memory ↦ inl memory
-    | inr (inl unread) ↦ inr (inl (stops_after _ messages _ _ old.offset _ taken fault (so_far.read taken) unread.1 (omega (arith, so_far.placed, length-append so_far.taken taken)) unread.0))
+    | inr (inl unread) ↦ inr (inl (stops_after _ (messages_in placed) _ _ old.offset _ taken fault (read taken) unread.1 (omega (arith, so_far.placed, length-append so_far.taken taken)) unread.0))
     | inr (inr found) ↦ inr (inr (
       found.0,
       λ rest follows.
           ap (messages_from templates count offset) (append_assoc so_far.taken taken rest)
-          ∙ messages_fault _ messages _ _ old.offset (taken ++ rest) (so_far.read (taken ++ rest)) fault (omega (arith, found.1, length-append taken rest)) (found.2 rest follows),
+          ∙ messages_fault _ (messages_in placed) _ _ old.offset (taken ++ rest) (read (taken ++ rest)) fault (omega (arith, found.1, length-append taken rest)) (found.2 rest follows),
     ))
   ],
 )
+  where
+    read : (rest : List ℕ) → messages_from templates count offset (so_far.taken ++ rest)
+        ≡ after_items (messages_in placed) (messages_from (template_at old.table) old.count old.offset rest)
+    read rest = without_offsets _ _ placed _ _ old.offset rest (placed_are_messages templates count offset (so_far.taken ++ rest)) (so_far.read rest)

@@ -1,20 +1,20 @@
 -- A message, and consecutive messages.
-use Rattle.std.proofs.Common.{◌≡◌, ◌∙◌, false, ℕ, ◌+◌, ◌-◌, ◌<◌, eqb, List, [], ◌∷◌, ◌++◌, length, take, drop, Some, None, Result, Ok, Err, inl, inr, refl, sym, ap, ap₂, arith, length-drop}
-use Rattle.std.specs.Prelude.{◌==◌}
-use Rattle.std.specs.Result.{result_map_both}
+use Rattle.std.proofs.Common.{◌≡◌, ◌∙◌, Bool, true, false, ℕ, zero, suc, ◌+◌, ◌-◌, ◌<◌, eqb, List, [], ◌∷◌, ◌++◌, length, take, drop, Some, None, Result, Ok, Err, inl, inr, refl, sym, ap, ap₂, arith, length-drop}
+use Rattle.std.specs.Prelude.{◌==◌, if◌then◌else◌}
+use Rattle.std.specs.Result.{result_flatten, result_map_both}
 use Rattle.std.proofs.lemmas.Bool.Decides.{nat_tests}
 use Rattle.std.proofs.lemmas.Grind.{common_steps}
-use Rattle.std.proofs.lemmas.List.{take_at, drop_at}
+use Rattle.std.proofs.lemmas.List.{take_at, drop_at, map-append}
 use Rattle.byteorder.specs.Endian.{big_number}
 use Rattle.ipfix_templates.specs.InForce.{InForce, in_force}
-use Rattle.ipfix_templates.specs.Reading.{after_items}
+use Rattle.ipfix_templates.specs.Reading.{after_items, items_by}
 use Rattle.ipfix_templates.proofs.Reading.{at_end, at_fault, at_item, first_and_rest}
 use Rattle.ipfix_read.specs.Set.{Set, sets_reading, written_length}
 use Rattle.ipfix_read.specs.Message.{ReadFault, ReadFaultKind, MessageView, HasHeader, events_of_message, header_fault, message_next, whole_reading}
-use Rattle.ipfix_read.specs.Messages.{IsIncomplete, StopsAfter, messages_from}
+use Rattle.ipfix_read.specs.Messages.{IsIncomplete, StopsAfter, messages_from, messages_in, placed_from}
 use Rattle.ipfix_read.specs.Fault.{is_of_calls, is_of_reader, read_fault}
 use Rattle.ipfix_read.specs.declared.fault.ReadFaultKind.TheVariants.{ReadFault as Unread}
-use Rattle.ipfix_read.specs.Laws.{FirstMessageAndRest}
+use Rattle.ipfix_read.specs.Laws.{FirstMessageAndRest, PlacedAreMessages}
 use Rattle.ipfix_read.proofs.Gathering.{header_sound, header_whole, written_ahead}
 use Rattle.ipfix_read.proofs.Sets.{from_place, result_mapped}
 
@@ -98,6 +98,77 @@ some_left bytes some = grind (arith, nat_tests, common_steps)
 pub first_message_and_rest : FirstMessageAndRest
 first_message_and_rest templates count offset bytes after m read =
     first_and_rest (λ rest. length rest == 0) Next With refl smaller (templates, count) offset bytes m after (some_left bytes (omega (arith, message_smaller templates count offset bytes m after read))) read
+
+-- ---- messages with their offsets
+
+abbrev Placed : Type 0
+Placed = ℕ × MessageView
+
+abbrev NextPlaced : Before → ℕ → List ℕ → Result (Placed × List ℕ) ReadFault
+NextPlaced before at rest = result_map_both (λ read. ((at, read.0), read.1)) (λ fault. fault) (message_next before.0 before.1 at rest)
+
+abbrev WithPlaced : Before → Placed → Before
+WithPlaced before placed = (in_force before.0 (events_of_message placed.1), before.1 + 1)
+
+smaller_placed : (before : Before) (offset : ℕ) (bytes : List ℕ) (placed : Placed) (after : List ℕ) → eqb (length bytes) 0 ≡ false → NextPlaced before offset bytes ≡ Ok (placed, after) → length after < length bytes
+smaller_placed before offset bytes placed after some e =
+    let (read, reads, same) = result_mapped (message_next before.0 before.1 offset bytes) (λ (read : MessageView × List ℕ). ((offset, read.0), read.1)) (placed, after) e in
+    let less = message_smaller before.0 before.1 offset bytes read.0 read.1 reads in
+    omega (arith, less, ap (λ (x : Placed × List ℕ). length x.1) same)
+
+-- the messages with their offsets are these messages, whatever the bound on their number
+placed_by : (most : ℕ) (before : Before) (offset : ℕ) (bytes : List ℕ)
+    → items_by {A = MessageView} (λ rest. length rest == 0) Next With most before offset bytes
+    ≡ result_map_both messages_in (λ fault. fault) (items_by {A = Placed} (λ rest. length rest == 0) NextPlaced WithPlaced most before offset bytes)
+placed_by zero before offset bytes = refl
+placed_by (suc most) before offset bytes = by (placed_by most) (length bytes == 0) (message_next before.0 before.1 offset bytes)
+  where
+    after : (m : MessageView) (later : Result (List MessageView) ReadFault) (placed : Result (List Placed) ReadFault)
+        → later ≡ result_map_both messages_in (λ fault. fault) placed
+        → after_items (m ∷ []) later ≡ result_map_both messages_in (λ fault. fault) (after_items ((offset, m) ∷ []) placed)
+    after m later (Ok placed) is = ap (after_items (m ∷ [])) is
+    after m later (Err fault) is = ap (after_items (m ∷ [])) is
+
+    by : ((before : Before) (offset : ℕ) (bytes : List ℕ) → items_by (λ rest. length rest == 0) Next With most before offset bytes
+        ≡ result_map_both messages_in (λ fault. fault) (items_by (λ rest. length rest == 0) NextPlaced WithPlaced most before offset bytes))
+        → (end : Bool) (read : Result (MessageView × List ℕ) ReadFault)
+        → (if end then Ok [] else result_flatten (result_map_both
+        (λ (x : MessageView × List ℕ). after_items (x.0 ∷ []) (items_by (λ rest. length rest == 0) Next With most (With before x.0) (offset + (length bytes - length x.1)) x.1))
+        (λ fault. fault) read))
+        ≡ result_map_both messages_in (λ fault. fault) (if end then Ok [] else result_flatten (result_map_both
+        (λ (x : Placed × List ℕ). after_items (x.0 ∷ []) (items_by (λ rest. length rest == 0) NextPlaced WithPlaced most (WithPlaced before x.0) (offset + (length bytes - length x.1)) x.1))
+        (λ fault. fault) (result_map_both (λ (read : MessageView × List ℕ). ((offset, read.0), read.1)) (λ fault. fault) read)))
+    by same true read = refl
+    by same false (Ok (m, rest)) = after m _ _ (same (With before m) (offset + (length bytes - length rest)) rest)
+    by same false (Err fault) = refl
+
+pub placed_are_messages : PlacedAreMessages
+placed_are_messages templates count offset bytes = placed_by (length bytes) (templates, count) offset bytes
+
+-- reading has come to these bytes, after some messages of the whole, with their offsets
+module _ (whole : Result (List Placed) ReadFault) (placed : List Placed) (now : InForce) (count offset : ℕ) (rest : List ℕ) (so_far : whole ≡ after_items placed (placed_from now count offset rest)) where
+  pub placed_more : (m : MessageView) (after : List ℕ) (new : InForce) (more later : ℕ) → message_next now count offset rest ≡ Ok (m, after) → new ≡ in_force now (events_of_message m)
+      → more ≡ count + 1 → later ≡ offset + (length rest - length after) → whole ≡ after_items (placed ++ (offset, m) ∷ []) (placed_from new more later after)
+  placed_more m after new more later read is counted e =
+      at_item (λ rest. length rest == 0) NextPlaced WithPlaced refl smaller_placed whole placed (now, count) offset rest so_far (offset, m) after later (some_left rest (omega (arith, message_smaller now count offset rest m after read)))
+      (ap (result_map_both (λ (read : MessageView × List ℕ). ((offset, read.0), read.1)) (λ (fault : ReadFault). fault)) read) e
+      ∙ ap₂ (λ (t : InForce) (n : ℕ). after_items (placed ++ (offset, m) ∷ []) (placed_from t n later after)) (sym is) (sym counted)
+
+  pub placed_end : rest ≡ [] → whole ≡ Ok placed
+  placed_end none = at_end (λ rest. length rest == 0) NextPlaced WithPlaced refl smaller_placed whole placed (now, count) offset rest so_far (ap (λ (l : List ℕ). length l == 0) none)
+
+-- the same of the messages without their offsets
+pub without_offsets : (whole : Result (List MessageView) ReadFault) (all : Result (List Placed) ReadFault) (placed : List Placed) (now : InForce) (count offset : ℕ) (rest : List ℕ)
+    → whole ≡ result_map_both messages_in (λ fault. fault) all → all ≡ after_items placed (placed_from now count offset rest)
+    → whole ≡ after_items (messages_in placed) (messages_from now count offset rest)
+without_offsets whole all placed now count offset rest is so_far =
+    is ∙ ap (result_map_both messages_in (λ (fault : ReadFault). fault)) so_far ∙ by (placed_from now count offset rest)
+    ∙ ap (after_items (messages_in placed)) (sym (placed_are_messages now count offset rest))
+  where
+    by : (later : Result (List Placed) ReadFault) → result_map_both messages_in (λ (fault : ReadFault). fault) (after_items placed later)
+        ≡ after_items (messages_in placed) (result_map_both messages_in (λ (fault : ReadFault). fault) later)
+    by (Ok later) = ap Ok (map-append (λ (p : Placed). p.1) placed later)
+    by (Err fault) = refl
 
 -- reading has come to these bytes, after some messages of the whole
 module _ (whole : Result (List MessageView) ReadFault) (messages : List MessageView) (now : InForce) (count offset : ℕ) (rest : List ℕ) (so_far : whole ≡ after_items messages (messages_from now count offset rest)) where

@@ -1,12 +1,13 @@
 -- Laws about the definitions.
 use Rattle.std.specs.Prelude.{◌≡◌, ℕ, ◌+◌, ◌-◌, ◌≤◌, Bool, false, not, nat_lt, List, [], ◌∷◌, ◌++◌, length, Option, Ok, Result}
 use Rattle.std.specs.List.{All, flat_map, list_any}
+use Rattle.std.specs.Result.{result_map_both}
 use Rattle.flow_io.specs.Devices.{InputView, ReadsInput, has_ended}
 use Rattle.ipfix_templates.specs.InForce.{InForce, in_force}
 use Rattle.ipfix_templates.specs.Reading.{after_items}
 use Rattle.ipfix_read.specs.Message.{ReadFault, MessageView, events_of_message, message_next}
 use Rattle.ipfix_read.specs.Set.{Set, Skipped}
-use Rattle.ipfix_read.specs.Messages.{IsAt, ProgressView, file_reading, messages_from, AnswersNext, IsReadTo, JoinsFile}
+use Rattle.ipfix_read.specs.Messages.{IsAt, ProgressView, file_reading, messages_from, messages_in, placed_from, AnswersNext, IsReadTo, JoinsFile}
 
 -- the first message, and the rest read after it, are the whole, whatever came before
 abbrev pub FirstMessageAndRest : Type 0
@@ -15,6 +16,12 @@ FirstMessageAndRest = (templates : InForce) (count offset : ℕ) (bytes after : 
     → messages_from templates count offset bytes
     ≡ after_items (m ∷ []) (messages_from (in_force templates (events_of_message m)) (count + 1) (offset + (length bytes - length after)) after)
 
+-- the messages with their offsets are these messages
+abbrev pub PlacedAreMessages : Type 0
+PlacedAreMessages = (templates : InForce) (count offset : ℕ) (bytes : List ℕ)
+    → messages_from templates count offset bytes
+    ≡ result_map_both messages_in (λ fault. fault) (placed_from templates count offset bytes)
+
 -- before any call nothing is read of the bytes, wherever reading begins
 abbrev pub CallsStart : Type 0
 CallsStart = (templates : InForce) (count offset : ℕ) (input : InputView) (start : ProgressView)
@@ -22,9 +29,9 @@ CallsStart = (templates : InForce) (count offset : ℕ) (input : InputView) (sta
 
 -- if some messages are read so far, the result of the next call joins them to the whole
 abbrev pub CallsJoinFile : Type 0
-CallsJoinFile = (templates : InForce) (count offset : ℕ) (start now then : InputView) (messages : List MessageView) (old new : ProgressView) (result : Result (Option MessageView) ReadFault)
-    → IsReadTo templates count offset start messages old now → ReadsInput now then (AnswersNext old result new (has_ended then))
-    → JoinsFile templates count offset start messages result new then
+CallsJoinFile = (templates : InForce) (count offset : ℕ) (start now then : InputView) (placed : List (ℕ × MessageView)) (old new : ProgressView) (result : Result (Option MessageView) ReadFault)
+    → IsReadTo templates count offset start placed old now → ReadsInput now then (AnswersNext old result new (has_ended then))
+    → JoinsFile templates count offset start placed old.offset result new then
 
 -- Files that are joined, one after the other.
 

@@ -1,5 +1,6 @@
-use Rattle.std.specs.Prelude.{◌≡◌, ℕ, ◌+◌, ◌<◌, List, [], ◌++◌, length, None, ◌⊎◌, Bool, true, false, ◌∷◌, Option, Some, Result, Ok, Err, ◌==◌}
+use Rattle.std.specs.Prelude.{◌≡◌, ℕ, ◌+◌, ◌<◌, List, [], ◌++◌, length, None, ◌⊎◌, Bool, true, false, ◌∷◌, Option, Some, Result, Ok, Err, ◌==◌, map}
 use Rattle.std.specs.List.{flat_map}
+use Rattle.std.specs.Result.{result_map_both}
 use Rattle.flow_io.specs.Devices.{InputView, MayFollow, ReadsInput, Gives, has_ended}
 use Rattle.ipfix_templates.specs.declared.event.TemplateEvent.{TemplateEvent}
 use Rattle.ipfix_templates.specs.Reading.{after_items, items_from}
@@ -43,6 +44,22 @@ abbrev pub StopsReading : List ℕ → ReadFault → Type 0
 StopsReading bytes stop = StopsFrom no_templates 0 0 bytes stop
 
 -- Below: only contracts of parts and proofs use these; no promise of the program rests on them.
+
+-- The messages in bytes, each with the offset at which it begins.
+abbrev pub placed_from : InForce → ℕ → ℕ → List ℕ → Result (List (ℕ × MessageView)) ReadFault
+placed_from templates count offset bytes =
+    items_from {S = InForce × ℕ} (λ rest. length rest == 0)
+    (λ before at rest. result_map_both (λ read. ((at, read.0), read.1)) (λ fault. fault)
+    (message_next before.0 before.1 at rest))
+    (λ before placed. (in_force before.0 (events_of_message placed.1), before.1 + 1))
+    (templates, count) offset bytes
+
+abbrev pub placed_messages : List ℕ → Result (List (ℕ × MessageView)) ReadFault
+placed_messages bytes = placed_from no_templates 0 0 bytes
+
+-- messages without their offsets
+abbrev pub messages_in : List (ℕ × MessageView) → List MessageView
+messages_in = map (λ placed. placed.1)
 
 -- the template events of messages
 abbrev pub events_of_messages : List MessageView → List (ℕ × TemplateEvent)
@@ -101,22 +118,22 @@ Gathers count (Err kind) ended taken =
 
 -- The calls of reading that began under these templates in force, after this number of messages and at this offset.
 module _ (templates : InForce) (count offset : ℕ) where
-  -- The bytes that a reader has returned since `start` are these messages. The state between two calls is the one after
-  -- these messages.
-  pub record IsReadTo (start : InputView) (messages : List MessageView) (p : ProgressView) (now : InputView) : Type 0 where
+  -- The bytes that a reader has returned since `start` are these messages, each with its offset. The state between two
+  -- calls is the one after these messages.
+  pub record IsReadTo (start : InputView) (messages : List (ℕ × MessageView)) (p : ProgressView) (now : InputView) : Type 0 where
     pub taken : List ℕ
     pub consumed : Gives start now taken
-    pub read : (rest : List ℕ) → messages_from templates count offset (taken ++ rest) ≡ after_items messages (messages_from (template_at p.table) p.count p.offset rest)
-    pub table : template_at p.table ≡ in_force templates (events_of_messages messages)
+    pub read : (rest : List ℕ) → placed_from templates count offset (taken ++ rest) ≡ after_items messages (placed_from (template_at p.table) p.count p.offset rest)
+    pub table : template_at p.table ≡ in_force templates (events_of_messages (messages_in messages))
     pub counted : p.count ≡ count + length messages
     pub placed : p.offset ≡ offset + length taken
 
-  -- The meaning of a result for the bytes: their messages begin with those so far and one more; the end was found, and the
+  -- The meaning of a result for the bytes: their messages begin with those so far and one more at this offset; the end was found, and the
   -- bytes returned are the messages so far; or the fault is their first one, whatever bytes may follow, unless it is that of
   -- a failed allocation, or of a reader that failed before a fault.
-  abbrev pub JoinsFile : InputView → List MessageView → Result (Option MessageView) ReadFault → ProgressView → InputView → Type 0
-  JoinsFile start messages (Ok (Some m)) new now = IsReadTo start (messages ++ m ∷ []) new now
-  JoinsFile start messages (Ok None) new now = ReadsInput start now (λ bytes. (has_ended now ≡ true) × (messages_from templates count offset bytes ≡ Ok messages))
-  JoinsFile start messages (Err fault) new now = ReadsInput start now (λ bytes. (fault ≡ out_of_memory)
+  abbrev pub JoinsFile : InputView → List (ℕ × MessageView) → ℕ → Result (Option MessageView) ReadFault → ProgressView → InputView → Type 0
+  JoinsFile start placed at (Ok (Some m)) new now = IsReadTo start (placed ++ (at, m) ∷ []) new now
+  JoinsFile start placed at (Ok None) new now = ReadsInput start now (λ bytes. (has_ended now ≡ true) × (placed_from templates count offset bytes ≡ Ok placed))
+  JoinsFile start placed at (Err fault) new now = ReadsInput start now (λ bytes. (fault ≡ out_of_memory)
       ⊎ (StopsFrom templates count offset bytes fault
       ⊎ ((is_of_calls fault.kind ≡ false) × ((rest : List ℕ) → MayFollow (has_ended now) rest → messages_from templates count offset (bytes ++ rest) ≡ Err fault))))

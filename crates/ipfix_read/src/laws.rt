@@ -1,5 +1,5 @@
 //! Laws about reading Files.
-ghost use Rattle.ipfix_read.specs.Laws.{CallsJoinFile, CallsStart, FileAfterFile, FirstMessageAndRest, JoinedFileIsRead};
+ghost use Rattle.ipfix_read.specs.Laws.{CallsJoinFile, CallsStart, FileAfterFile, FirstMessageAndRest, JoinedFileIsRead, PlacedAreMessages};
 
 /// A first message, followed by the rest read after it, is the whole, under any templates in force, after any number of
 /// messages and at any offset.
@@ -7,9 +7,14 @@ pub fn first_message_and_rest()
     ensures { FirstMessageAndRest }
 {}
 
+/// The messages of bytes, each with the offset at which it begins, are the messages of these bytes.
+pub fn placed_are_messages()
+    ensures { PlacedAreMessages }
+{}
+
 /// Calls for messages join to the whole, whether reading begins with a File or after other messages. Before any call
-/// nothing is read. If some messages are read so far, the next call returns one more of them, or that there are no
-/// more, or the first fault of the whole, or that the reader failed before it.
+/// nothing is read. If some messages are read so far, the next call returns one more of them at the offset of the state,
+/// or that there are no more, or the first fault of the whole, or that the reader failed before it.
 pub fn calls_join_file()
     ensures start { CallsStart }
     ensures join { CallsJoinFile }

@@ -29,7 +29,7 @@ mod set;
 mod value;
 
 pub use fault::{ReadFault, ReadFaultKind};
-pub use laws::{calls_join_file, file_after_file, first_message_and_rest};
+pub use laws::{calls_join_file, file_after_file, first_message_and_rest, placed_are_messages};
 pub use message::{FileEvents, Message, read_file};
 pub use progress::{Buffer, Messages, Progress, State};
 pub use record::{Record, RecordList, Records};

@@ -111,6 +111,13 @@ impl Progress {
         }
     }
 
+    /// Returns the offset in the File at which the next message begins.
+    pub fn offset(&self) -> u64
+        ensures { result ≡ self.now.offset }
+    {
+        self.offset
+    }
+
     /// Returns the next message of the File, which borrows from the buffer. Returns `None` at the end of the File and
     /// in each call after it. The reader is asked for the missing bytes of the message's header, then for the missing
     /// bytes of the message, and for no others.

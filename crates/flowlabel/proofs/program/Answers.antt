@@ -1,6 +1,6 @@
 use Rattle.std.proofs.Common.{◌∙◌, Err, ap, refl, rules}
-use Rattle.flowlabel.specs.Run.{Usage}
-use Rattle.flowlabel.specs.declared.usage.UsageFault.{UsageFault}
+use Rattle.flow_files.specs.declared.fault.RunFault.TheVariants.{Usage}
+use Rattle.flow_files.specs.declared.usage.UsageFault.{UsageFault}
 use Rattle.flowlabel.proofs.program.Goals.{in-Ok+in-Ok-listed, in-Ok+in-Err-listed, in-Err}
 use Rattle.flowlabel.proofs.program.Goals as goal
 

@@ -1,14 +1,12 @@
 //! The output of `cat`.
 ghost use Rattle.std.specs.Prelude.{IfOk};
 ghost use Rattle.flowlabel.specs.Output.{IsOutput};
-ghost use Rattle.flowlabel.specs.Reports.{AreFresh, AreRunsFor, IsMade};
+ghost use Rattle.flow_files.specs.Reports.{AreFresh};
+ghost use Rattle.flowlabel.specs.Reports.{AreRunsFor, IsMade};
 ghost use Rattle.flowlabel.specs.Request.{Cat};
 
-use crate::command::LabelFile;
-use crate::fault::RunFault;
-use crate::inputs::Files;
-use crate::run::labels::LabelsRead;
 use crate::run::made::Made;
+use flow_files::{Files, LabelFile, LabelsRead, RunFault};
 use flow_io::Input;
 use pmap_text::{KeyHashing, Runs, labelling_has_one_runs_text};
 use std::alloc::{AllocError, Global};

@@ -1,27 +1,34 @@
 //! The output of `info`.
 ghost use Rattle.std.specs.Borrow.{Bor};
 ghost use Rattle.flowlabel.specs.Output.{IsOutput};
-ghost use Rattle.flowlabel.specs.Reports.{AreFresh, IsMade};
-ghost use Rattle.flowlabel.specs.Request.{Info, Text};
+ghost use Rattle.flow_files.specs.Reports.{AreFresh};
+ghost use Rattle.flowlabel.specs.Reports.{IsMade};
+ghost use Rattle.flowlabel.specs.Request.{Info};
+ghost use Rattle.flow_files.specs.Sources.{Text};
 
-use crate::fault::RunFault;
-use crate::inputs::Files;
 use crate::run::made::Made;
-use crate::run::messages::{TakesMessages, add_messages};
+use flow_files::{Files, RunFault, TakesMessages, add_messages};
 use flow_io::Input;
 use flow_rows::Counts;
-use ipfix_read::Message;
+use ipfix_read::{Buffer, Message};
 use pmap_print::print_info;
 use std::alloc::{AllocError, Global};
 
-impl TakesMessages for Counts {
+/// The counts of the messages that were added.
+#[derive(Drop)]
+struct Counted {
+    counts: Counts,
+}
+
+impl TakesMessages for Counted {
+    ghost use Rattle.ipfix_read.specs.Messages.{messages_in};
     ghost use Rattle.flowlabel.specs.Reports.{HasCounts};
 
-    ghost has_messages = { HasCounts };
+    ghost has_messages = { λ first placed now. HasCounts (messages_in placed) now };
 
     #[inline(always)]
-    fn take_message(&mut self, message: &Message<'_>) -> Result<(), AllocError> {
-        self.add(message);
+    fn take_message(&mut self, message: &Message<'_>, _offset: u64) -> Result<(), AllocError> {
+        self.counts.add(message);
         Ok(())
     }
 }
@@ -31,7 +38,10 @@ pub fn output<'a, R: Input>(alloc: Global, files: &mut Files<'a, R>) -> Result<M
     requires { AreFresh R.input files.old }
     ensures { (flows : Bor Text) → IsMade R.input (IsOutput (Info flows)) files.old files.new result }
 {
-    let mut counts = Counts::new();
-    add_messages(alloc, &mut files.flows, &mut counts)?;
-    Ok(Made::Text(print_info(alloc, &counts)?))
+    let mut buffer = Buffer::new(alloc)?;
+    let mut counted = Counted {
+        counts: Counts::new(),
+    };
+    add_messages(alloc, &mut files.flows, &mut buffer, &mut counted)?;
+    Ok(Made::Text(print_info(alloc, &counted.counts)?))
 }

@@ -2,14 +2,12 @@
 ghost use Rattle.std.specs.Prelude.{◌≡◌, ◌++◌, ◌∷◌, [], IfOk, option_map, unwrap_or};
 ghost use Rattle.label_lookup.specs.Labelling.{labelling};
 ghost use Rattle.flowlabel.specs.Output.{IsOutput, label_text};
-ghost use Rattle.flowlabel.specs.Reports.{AreFresh, IsMade, labelling_read};
+ghost use Rattle.flow_files.specs.Reports.{AreFresh, labelling_read};
+ghost use Rattle.flowlabel.specs.Reports.{IsMade};
 ghost use Rattle.flowlabel.specs.Request.{Label};
 
-use crate::command::LabelFile;
-use crate::fault::RunFault;
-use crate::inputs::Files;
-use crate::run::labels::LabelsRead;
 use crate::run::made::Made;
+use flow_files::{Files, LabelFile, LabelsRead, RunFault};
 use flow_io::Input;
 use label_lookup::{Labeller, ListIndex, Scan};
 use pmap_text::KeyHashing;

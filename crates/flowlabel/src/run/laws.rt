@@ -13,10 +13,12 @@ ghost use Rattle.flow_filter.specs.Condition.{Condition};
 ghost use Rattle.flow_filter.specs.Laws.{rows_left};
 ghost use Rattle.flow_uniq.specs.declared.field.KeyField.{KeyField};
 ghost use Rattle.flowlabel.specs.Headline.{AreShrunk, IsHeadline, PrintsGroups, PrintsRows};
-ghost use Rattle.flowlabel.specs.Output.{IsOutput, Outcome};
-ghost use Rattle.flowlabel.specs.ByFile.{ByFile};
-ghost use Rattle.flowlabel.specs.Request.{Command, Rows, Shrink, Text, Uniq};
-ghost use Rattle.flowlabel.specs.declared.command.LabelFile.TheVariants.{List as Prefixes, Map};
+ghost use Rattle.flowlabel.specs.Output.{IsOutput};
+ghost use Rattle.flow_files.specs.Outcomes.{Outcome};
+ghost use Rattle.flow_files.specs.declared.by_file.ByFile.{ByFile};
+ghost use Rattle.flowlabel.specs.Request.{Command, Rows, Shrink, Uniq};
+ghost use Rattle.flow_files.specs.Sources.{Text};
+ghost use Rattle.flow_files.specs.declared.label_file.LabelFile.TheVariants.{List as Prefixes, Map};
 ghost use Rattle.flowlabel.specs.declared.command.Shrunk.TheVariants as shrunk;
 
 use cert_check::no_fault_is_acceptance;

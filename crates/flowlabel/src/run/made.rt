@@ -1,5 +1,5 @@
 //! What a command prints.
-use crate::run::labels::LabelsRead;
+use flow_files::LabelsRead;
 use flow_uniq::Groups;
 use pmap_cert::Certificate;
 use pmap_print::Table;

@@ -3,14 +3,13 @@ ghost use Rattle.std.specs.Prelude.{◌≡◌, option_map};
 ghost use Rattle.std.specs.Borrow.{Bor};
 ghost use Rattle.pmap_print.specs.Reports.{label_texts};
 ghost use Rattle.flowlabel.specs.Output.{IsOutput, row_labels};
-ghost use Rattle.flowlabel.specs.Reports.{AreFresh, IsMade, labelling_found};
-ghost use Rattle.flowlabel.specs.Request.{Rows, Text};
+ghost use Rattle.flow_files.specs.Reports.{AreFresh, labelling_found};
+ghost use Rattle.flowlabel.specs.Reports.{IsMade};
+ghost use Rattle.flowlabel.specs.Request.{Rows};
+ghost use Rattle.flow_files.specs.Sources.{Text};
 
-use crate::command::LabelFile;
-use crate::fault::RunFault;
-use crate::inputs::Files;
-use crate::run::filtered::{TakesRows, read_rows};
 use crate::run::made::Made;
+use flow_files::{Files, LabelFile, RunFault, TakesRows, read_rows};
 use flow_filter::Filter;
 use flow_io::Input;
 use flow_rows::Row;
@@ -30,7 +29,13 @@ fn labels_under<'l>(labels: Option<&'l StretchIndex<'_>>, row: &Row<'_>) -> Opti
     })
 }
 
-impl TakesRows for Table {
+/// The lines of the rows that were added.
+#[derive(Drop)]
+struct Lines {
+    table: Table,
+}
+
+impl TakesRows for Lines {
     ghost use Rattle.flowlabel.specs.Reports.{HasRows};
 
     ghost has_rows = { HasRows };
@@ -41,7 +46,7 @@ impl TakesRows for Table {
         row: &Row<'_>,
         labels: Option<&StretchIndex<'_>>,
     ) -> Result<(), AllocError> {
-        self.add_row(row, labels_under(labels, row))
+        self.table.add_row(row, labels_under(labels, row))
     }
 }
 
@@ -59,7 +64,9 @@ pub fn output<'a, R: Input>(
     ensures { (flows : Bor Text) →
         IsMade R.input (IsOutput (Rows labels.entry filter.now columns flows)) files.old files.new result }
 {
-    let table = Table::of_rows(alloc, labels.is_some(), columns)?;
-    let table = read_rows(alloc, labels, files, filter, hashing, table)?;
-    Ok(Made::Table(table))
+    let lines = Lines {
+        table: Table::of_rows(alloc, labels.is_some(), columns)?,
+    };
+    let lines = read_rows(alloc, labels, files, filter, hashing, lines)?;
+    Ok(Made::Table(lines.table))
 }

@@ -1,21 +1,18 @@
 //! The output of `uniq`.
 ghost use Rattle.std.specs.Borrow.{Bor};
 ghost use Rattle.flowlabel.specs.Output.{IsOutput};
-ghost use Rattle.flowlabel.specs.Reports.{AreFresh, IsMade};
-ghost use Rattle.flowlabel.specs.Request.{Text, Uniq};
+ghost use Rattle.flow_files.specs.Reports.{AreFresh};
+ghost use Rattle.flowlabel.specs.Reports.{IsMade};
+ghost use Rattle.flow_files.specs.Sources.{Text};
+ghost use Rattle.flowlabel.specs.Request.{Uniq};
 
-use crate::command::LabelFile;
-use crate::fault::RunFault;
-use crate::inputs::Files;
-use crate::run::filtered::{TakesRows, read_rows};
 use crate::run::made::Made;
+use flow_files::{Files, LabelFile, RunFault, read_rows};
 use flow_filter::Filter;
 use flow_io::Input;
-use flow_rows::Row;
 use flow_uniq::{Groups, Keys};
-use label_lookup::StretchIndex;
 use pmap_text::KeyHashing;
-use std::alloc::{AllocError, Global};
+use std::alloc::Global;
 
 /// How rows are chosen, grouped and printed.
 #[derive(Clone, Copy)]
@@ -28,21 +25,6 @@ pub struct Grouping<'a> {
     pub sorted: bool,
     /// Whether the fields are padded to columns.
     pub columns: bool,
-}
-
-impl TakesRows for Groups {
-    ghost use Rattle.flowlabel.specs.Reports.{HasGroups};
-
-    ghost has_rows = { HasGroups };
-
-    #[inline(always)]
-    fn take_row(
-        &mut self,
-        row: &Row<'_>,
-        labels: Option<&StretchIndex<'_>>,
-    ) -> Result<(), AllocError> {
-        self.add(row, labels)
-    }
 }
 
 /// Returns the groups of the rows of a File that pass a filter.

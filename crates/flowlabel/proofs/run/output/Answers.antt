@@ -2,10 +2,11 @@ use Rattle.std.proofs.Common.{◌∙◌, Ok, arith, ap, refl, sym}
 use Rattle.pmap_cert.specs.CertificateText.{certificate_text}
 use Rattle.pmap_cert.specs.Compacting.{compact}
 use Rattle.pmap_cert.specs.FormatReading.{format_reading}
-use Rattle.flowlabel.specs.ByFile as role
-use Rattle.flowlabel.specs.declared.bytes_fault.BytesFault.TheVariants.{Certificate as InCertificate}
+use Rattle.flow_files.specs.ByFile as role
+use Rattle.flow_files.specs.declared.bytes_fault.BytesFault.TheVariants.{Certificate as InCertificate}
 use Rattle.flowlabel.proofs.Outcomes.{PrintsCompact}
-use Rattle.flowlabel.proofs.MadeLemmas.{faulty, makes, named_in, none_read, text_read, then_in}
+use Rattle.flowlabel.proofs.MadeLemmas.{faulty, makes}
+use Rattle.flow_files.proofs.ReadLemmas.{named_in, none_read, text_read, then_in}
 use Rattle.flowlabel.proofs.run.output.Goals as goal
 
 pub returns-in-Label : goal.returns-in-Label

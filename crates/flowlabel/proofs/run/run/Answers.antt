@@ -1,7 +1,8 @@
 use Rattle.std.proofs.Common.{rules}
 use Rattle.flowlabel.specs.Output.{IsOutput}
 use Rattle.flowlabel.specs.Run.{IsRunOf}
-use Rattle.flowlabel.proofs.MadeLemmas.{are_fresh, are_reported, handed_on, is_whole, made_written, run_fault}
+use Rattle.flow_files.proofs.ReadLemmas.{are_fresh, are_reported, handed_on}
+use Rattle.flowlabel.proofs.MadeLemmas.{is_whole, made_written, run_fault}
 use Rattle.flowlabel.proofs.run.run.Goals as goal
 
 pub output-requires : goal.output-requires

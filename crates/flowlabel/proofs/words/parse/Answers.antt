@@ -2,7 +2,10 @@ use Rattle.std.proofs.Common.{◌∙◌, List, ap, sym, subst, map}
 use Rattle.std.specs.Prelude.{option_map}
 use Rattle.clap.specs.Words.{App, HasKind, Row, Text, fault_of, found_of, is_simple, is_simple_and_free, rows_of, subcommand_of, takes}
 use Rattle.flowlabel.specs.Answer.{answer_of}
-use Rattle.flowlabel.proofs.AnswerLemmas.{answer_is_proper, answers, fault_at, flowlabel_is_free, flowlabel_is_simple, own, own_of_memory, subcommand_is}
+use Rattle.flowlabel.specs.Definition.{flowlabel_app}
+use Rattle.flowlabel.specs.Request.{request_of}
+use Rattle.flowlabel.proofs.AnswerLemmas.{answer_is_proper, flowlabel_is_free, flowlabel_is_simple}
+use Rattle.flow_files.proofs.AnswerLemmas.{answers, fault_at, own, own_of_memory, subcommand_is}
 use Rattle.flowlabel.proofs.words.parse.Goals as goal
 
 pub returns-in-Ok-clause-answer : goal.returns-in-Ok-clause-answer
@@ -16,12 +19,12 @@ returns-in-Ok-clause-answer g c =
     let name = sym c.subcommand.ensures.name ∙ ap (option_map (λ p. p.0.now)) c.unwrap.ensures in
     let rows = sym c.subcommand.ensures.rows ∙ ap (option_map (λ p. rows_of (found_of p.1.now))) c.unwrap.ensures in
     let sub = subcommand_is c.in-Ok.matches _ _ name rows in
-    answers words _ _ none (sym found ∙ sub) c.command_of.ensures
+    answers flowlabel_app answer_of request_of words _ _ none (sym found ∙ sub) c.command_of.ensures
 
 pub returns-in-Ok-clause-taken : goal.returns-in-Ok-clause-taken
 returns-in-Ok-clause-taken g c =
     let found : Text × List Row = (c.unwrap.result.0.now, rows_of (found_of c.unwrap.result.1.now)) in
-    λ taken. own (answer_of found) _ c.command_of.ensures
+    λ taken. own request_of (answer_of found) _ c.command_of.ensures
 
 pub returns-in-Err-clause-answer : goal.returns-in-Err-clause-answer
 returns-in-Err-clause-answer g c =
@@ -29,7 +32,7 @@ returns-in-Err-clause-answer g c =
     let fails = c.in-Err.ensures.kinds (ap is_simple_and_free app_is ∙ flowlabel_is_free) in
     let words = map g.S.AsStr.text c.args.words.now in
     let of = subst (λ (a : App). HasKind (fault_of a words) c.in-Err.error) app_is fails in
-    fault_at words _ _ of c.fault_of_error.ensures
+    fault_at flowlabel_app answer_of words _ _ of c.fault_of_error.ensures
 
 pub returns-in-Err-clause-taken : goal.returns-in-Err-clause-taken
 returns-in-Err-clause-taken g c =

@@ -1,6 +1,7 @@
 use Rattle.std.proofs.Common.{arith, refl}
 use Rattle.flowlabel.proofs.Outcomes.{PrintsRuns}
-use Rattle.flowlabel.proofs.MadeLemmas.{faulty, labels_then, makes, no_memory_left}
+use Rattle.flowlabel.proofs.MadeLemmas.{faulty, makes}
+use Rattle.flow_files.proofs.ReadLemmas.{labels_then, no_memory_left}
 use Rattle.flowlabel.proofs.run.cat.output.Goals as goal
 
 pub returns-in_err-labels : goal.returns-in_err-labels

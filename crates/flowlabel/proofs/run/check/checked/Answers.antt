@@ -1,11 +1,11 @@
 use Rattle.std.proofs.Common.{◌≡◌, Option, ap, length, refl, rules, sym, true}
 use Rattle.pmap_text.specs.PrefixList.{list_of}
 use Rattle.cert_check.specs.declared.fault.TextFault.{TextFault}
-use Rattle.flowlabel.specs.BytesFault.{is_out_of_memory}
+use Rattle.flow_files.specs.BytesFault.{is_out_of_memory}
 use Rattle.flowlabel.specs.Output.{minimal_text}
 use Rattle.flowlabel.specs.Reports.{verdict}
-use Rattle.flowlabel.specs.declared.bytes_fault.BytesFault.TheVariants.{Certificate as InCertificate, Check as InCheck}
-use Rattle.flowlabel.proofs.MadeLemmas.{whole_is, whole_is_bad, whole_stops}
+use Rattle.flow_files.specs.declared.bytes_fault.BytesFault.TheVariants.{Certificate as InCertificate, Check as InCheck}
+use Rattle.flow_files.proofs.ReadLemmas.{whole_is, whole_is_bad, whole_stops}
 use Rattle.flowlabel.proofs.run.check.checked.Goals as goal
 
 pub returns-in_err-name : goal.returns-in_err-name

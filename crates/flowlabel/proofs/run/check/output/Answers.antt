@@ -14,15 +14,21 @@ use Rattle.cert_check.specs.Checking.{first_fault, text_fault}
 use Rattle.cert_check.specs.declared.fault.CheckFault.{CheckFault}
 use Rattle.cert_check.specs.declared.fault.TextFault.{TextFault}
 use Rattle.cert_check.specs.declared.fault.TextFault.TheVariants as text
-use Rattle.flowlabel.specs.BytesFault.{role_of}
-use Rattle.flowlabel.specs.ByFile.{ByFile, turn}
-use Rattle.flowlabel.specs.ByFile as role
-use Rattle.flowlabel.specs.declared.bytes_fault.BytesFault.TheVariants.{Map as InMap, List as InList, Certificate as InCertificate, Check as InCheck}
-use Rattle.flowlabel.specs.Output.{BytesFault, IsOutput, IsVerdict, Outcome, Prints, Then, minimal_text}
-use Rattle.flowlabel.specs.Reports.{check_reading, with_bytes_fault, verdict}
-use Rattle.flowlabel.specs.Request.{Check, Text}
+use Rattle.flow_files.specs.BytesFault.{role_of}
+use Rattle.flow_files.specs.declared.by_file.ByFile.{ByFile}
+use Rattle.flow_files.specs.ByFile.{turn}
+use Rattle.flow_files.specs.ByFile as role
+use Rattle.flow_files.specs.declared.bytes_fault.BytesFault.TheVariants.{Map as InMap, List as InList, Certificate as InCertificate, Check as InCheck}
+use Rattle.flow_files.specs.declared.bytes_fault.BytesFault.{BytesFault}
+use Rattle.flow_files.specs.Outcomes.{Outcome, Prints, Then}
+use Rattle.flowlabel.specs.Output.{IsOutput, IsVerdict, minimal_text}
+use Rattle.flowlabel.specs.Reports.{check_reading, verdict}
+use Rattle.flow_files.specs.Reports.{with_bytes_fault}
+use Rattle.flowlabel.specs.Request.{Check}
+use Rattle.flow_files.specs.Sources.{Text}
 use Rattle.flowlabel.proofs.Outcomes.{CertificateThen, ListThen}
-use Rattle.flowlabel.proofs.MadeLemmas.{decoded, faulty, list_read, makes, map_read, text_read, then_in, then_is}
+use Rattle.flow_files.proofs.ReadLemmas.{decoded, list_read, map_read, text_read, then_in, then_is}
+use Rattle.flowlabel.proofs.MadeLemmas.{faulty, makes}
 use Rattle.flowlabel.proofs.run.check.output.Goals as goal
 
 -- the faults of a check are of the certificate

@@ -19,17 +19,20 @@ use Rattle.label_lookup.specs.Labelling.{Labelling, label_where}
 use Rattle.pmap_text.specs.Reading.{◌>>=◌}
 use Rattle.pmap_print.specs.Reports.{groups_text, info_text, title_line}
 use Rattle.pmap_print.specs.Table.{Line, table_text}
-use Rattle.flowlabel.specs.ByFile.{ByFile, with_at}
-use Rattle.flowlabel.specs.ByFile as role
-use Rattle.flowlabel.specs.declared.bytes_fault.BytesFault.TheVariants.{Flows as InFlows}
+use Rattle.flow_files.specs.declared.by_file.ByFile.{ByFile}
+use Rattle.flow_files.specs.ByFile.{with_at}
+use Rattle.flow_files.specs.ByFile as role
+use Rattle.flow_files.specs.declared.bytes_fault.BytesFault.TheVariants.{Flows as InFlows}
 use Rattle.flowlabel.specs.declared.command.Command.TheVariants.{Cat, Info, Label, Rows, Uniq}
-use Rattle.flowlabel.specs.declared.command.LabelFile.{LabelFile}
-use Rattle.flowlabel.specs.declared.command.LabelFile.TheVariants.{Map, List as Prefixes}
+use Rattle.flow_files.specs.declared.label_file.LabelFile.{LabelFile}
+use Rattle.flow_files.specs.declared.label_file.LabelFile.TheVariants.{Map, List as Prefixes}
 use Rattle.flowlabel.specs.Joined.{IsPutTogether}
-use Rattle.flowlabel.specs.Output.{BytesFault, FlowsThen, IsOutput, Outcome, Prints, Then, labelled_row_lines}
-use Rattle.flowlabel.specs.Reports.{with_bytes_fault, source_reading}
-use Rattle.flowlabel.specs.Request.{Text}
-use Rattle.flowlabel.proofs.MadeLemmas.{both, report_after, report_then}
+use Rattle.flow_files.specs.declared.bytes_fault.BytesFault.{BytesFault}
+use Rattle.flow_files.specs.Outcomes.{FlowsThen, Outcome, Prints, Then}
+use Rattle.flowlabel.specs.Output.{IsOutput, labelled_row_lines}
+use Rattle.flow_files.specs.Reports.{with_bytes_fault, source_reading}
+use Rattle.flow_files.specs.Sources.{Text}
+use Rattle.flow_files.proofs.ReadLemmas.{both, report_after, report_then}
 use Rattle.flowlabel.proofs.Outcomes.{printed_of}
 use Rattle.flowlabel.proofs.RowLemmas.{line_of_row, lines_are}
 use Rattle.flowlabel.proofs.run.joined.output_of_joined_file.Goals as goal

@@ -1,6 +1,8 @@
 use Rattle.std.proofs.Common.{◌∙◌, Ok, ap, arith, sym}
-use Rattle.flowlabel.specs.Output.{Prints, label_text}
-use Rattle.flowlabel.proofs.MadeLemmas.{faulty, labels_then, makes, no_memory_left}
+use Rattle.flow_files.specs.Outcomes.{Prints}
+use Rattle.flowlabel.specs.Output.{label_text}
+use Rattle.flowlabel.proofs.MadeLemmas.{faulty, makes}
+use Rattle.flow_files.proofs.ReadLemmas.{labels_then, no_memory_left}
 use Rattle.flowlabel.proofs.run.label.output.Goals as goal
 
 pub returns-in_err-read : goal.returns-in_err-read

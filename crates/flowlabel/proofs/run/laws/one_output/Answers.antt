@@ -10,14 +10,17 @@ use Rattle.ipfix_read.specs.Message.{MessageView}
 use Rattle.flow_rows.specs.Counts.{counts_of}
 use Rattle.pmap_print.specs.Reports.{info_text}
 use Rattle.pmap_text.specs.RunsText.{IsRunsText, runs_text}
-use Rattle.flowlabel.specs.Output.{BytesFault, IsVerdict, FlowsThen, LabelsThen, Outcome, Prints, Then, label_text, shrunk_text}
-use Rattle.flowlabel.specs.Reports.{labels_reading, report_reading}
-use Rattle.flowlabel.proofs.MadeLemmas.{labels_then, report_then}
+use Rattle.flow_files.specs.declared.bytes_fault.BytesFault.{BytesFault}
+use Rattle.flow_files.specs.Outcomes.{FlowsThen, LabelsThen, Outcome, Prints, Then}
+use Rattle.flowlabel.specs.Output.{IsVerdict, label_text, shrunk_text}
+use Rattle.flow_files.specs.Reports.{labels_reading, report_reading}
+use Rattle.flow_files.proofs.ReadLemmas.{labels_then, report_then}
 use Rattle.flowlabel.proofs.Outcomes.{CertificateThen, ListThen, PrintsCompact, PrintsMinimal, PrintsRuns, report_of_groups, report_of_rows, checked}
-use Rattle.flowlabel.specs.ByFile.{ByFile}
-use Rattle.flowlabel.specs.declared.bytes_fault.BytesFault.TheVariants.{Map as InMap, List as InList, Certificate as InCertificate}
-use Rattle.flowlabel.specs.Request.{Cat, Check, Info, Label, Recert, Rows, Shrink, Text, Uniq}
-use Rattle.flowlabel.specs.declared.command.LabelFile.{LabelFile}
+use Rattle.flow_files.specs.declared.by_file.ByFile.{ByFile}
+use Rattle.flow_files.specs.declared.bytes_fault.BytesFault.TheVariants.{Map as InMap, List as InList, Certificate as InCertificate}
+use Rattle.flowlabel.specs.Request.{Cat, Check, Info, Label, Recert, Rows, Shrink, Uniq}
+use Rattle.flow_files.specs.Sources.{Text}
+use Rattle.flow_files.specs.declared.label_file.LabelFile.{LabelFile}
 use Rattle.flowlabel.proofs.run.laws.one_output.Goals as goal
 
 -- exactly one outcome meets the condition

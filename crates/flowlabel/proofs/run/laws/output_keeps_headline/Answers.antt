@@ -1,7 +1,5 @@
 use Rattle.std.proofs.Common.{◌≡◌, ◌∙◌, ◌^◌, ℕ, Bool, List, [], ◌∷◌, ◌++◌, Option, None, Some, Result, Ok, ap, map, refl, subst, sym}
-use Rattle.std.specs.Prelude.{◌↔◌, decimal, find, is_some, length, slice_index_or, unwrap_or, sum_by}
-use Rattle.std.specs.Str.{bytes_eq}
-use Rattle.std.specs.Option.{option_map_or}
+use Rattle.std.specs.Prelude.{◌↔◌, decimal, is_some, length, slice_index_or, unwrap_or, sum_by}
 use Rattle.pmap_text.specs.ListModel.{ListModel}
 use Rattle.pmap_text.specs.MapModel.{MapModel}
 use Rattle.prefix_keys.specs.Block.{width_of}
@@ -29,17 +27,20 @@ use Rattle.flow_uniq.specs.Grouped.{AreGrouped, group_with}
 use Rattle.pmap_print.specs.Reports.{group_fields, group_titles, info_text, part_text, title_line}
 use Rattle.pmap_print.specs.Table.{Line, table_text}
 use Rattle.flowlabel.specs.Headline.{GivesLabels, IsSameUnder, PrintsEachOnce, PrintsGroups, PrintsList, PrintsRows, field_text, row_columns}
-use Rattle.flowlabel.specs.Output.{BytesFault, IsVerdict, IsOutput, LabelsThen, Outcome, Prints, Then, label_text, labelled_row_lines, minimal_text}
+use Rattle.flow_files.specs.declared.bytes_fault.BytesFault.{BytesFault}
+use Rattle.flow_files.specs.Outcomes.{LabelsThen, Outcome, Prints, Then}
+use Rattle.flowlabel.specs.Output.{IsVerdict, IsOutput, label_text, labelled_row_lines, minimal_text}
 use Rattle.flowlabel.proofs.Outcomes.{CertificateThen, ListThen, PrintsCompact, PrintsMinimal, PrintsRuns, ReportsOf, printed_of, report_of_groups, report_of_rows, checked}
 use Rattle.std.specs.Borrow.{Bor}
-use Rattle.flowlabel.specs.Reports.{labels_reading, passing_rows, report_reading}
-use Rattle.flowlabel.proofs.MadeLemmas.{labels_then, report_then}
-use Rattle.flowlabel.specs.ByFile.{ByFile}
-use Rattle.flowlabel.specs.Request.{Cat, Check, Command, Info, Label, Recert, Rows, Shrink, Text, Uniq}
-use Rattle.flowlabel.specs.declared.command.LabelFile.{LabelFile}
-use Rattle.flowlabel.specs.declared.command.LabelFile.TheVariants.{Map, List as Prefixes}
+use Rattle.flow_files.specs.Reports.{labels_reading, passing_rows, report_reading}
+use Rattle.flow_files.proofs.ReadLemmas.{labels_then, report_then}
+use Rattle.flow_files.specs.declared.by_file.ByFile.{ByFile}
+use Rattle.flowlabel.specs.Request.{Cat, Check, Command, Info, Label, Recert, Rows, Shrink, Uniq}
+use Rattle.flow_files.specs.Sources.{Text}
+use Rattle.flow_files.specs.declared.label_file.LabelFile.{LabelFile}
+use Rattle.flow_files.specs.declared.label_file.LabelFile.TheVariants.{Map, List as Prefixes}
 use Rattle.flowlabel.specs.declared.command.Shrunk.TheVariants as shrunk
-use Rattle.flowlabel.specs.declared.bytes_fault.BytesFault.TheVariants.{Map as InMap, List as InList, Certificate as InCertificate}
+use Rattle.flow_files.specs.declared.bytes_fault.BytesFault.TheVariants.{Map as InMap, List as InList, Certificate as InCertificate}
 use Rattle.flowlabel.proofs.run.laws.output_keeps_headline.Goals as goal
 
 -- a text that `check` prints comes of a certificate without a fault

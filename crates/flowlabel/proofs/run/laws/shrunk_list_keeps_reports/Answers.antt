@@ -4,9 +4,10 @@ use Rattle.pmap_text.specs.Reading.{list_reading}
 use Rattle.label_lookup.specs.Labelling.{labelling_of_map}
 use Rattle.flowlabel.specs.Headline.{IsReadAgain}
 use Rattle.flowlabel.specs.Output.{IsOutput}
-use Rattle.flowlabel.specs.ByFile.{ByFile}
-use Rattle.flowlabel.specs.Request.{Rows, Shrink, Text, Uniq}
-use Rattle.flowlabel.specs.declared.command.LabelFile.TheVariants.{Map}
+use Rattle.flow_files.specs.declared.by_file.ByFile.{ByFile}
+use Rattle.flowlabel.specs.Request.{Rows, Shrink, Uniq}
+use Rattle.flow_files.specs.Sources.{Text}
+use Rattle.flow_files.specs.declared.label_file.LabelFile.TheVariants.{Map}
 use Rattle.flowlabel.specs.declared.command.Shrunk.TheVariants as shrunk
 use Rattle.flowlabel.proofs.Outcomes.{report_of_groups, report_of_rows}
 use Rattle.flowlabel.proofs.run.laws.shrunk_list_keeps_reports.Goals as goal

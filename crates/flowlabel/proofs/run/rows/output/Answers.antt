@@ -1,15 +1,17 @@
 use Rattle.std.proofs.Common.{◌∙◌, ◌∷◌, [], Bool, List, Ok, ap, arith, is_some, refl, subst, sym}
 use Rattle.pmap_print.specs.Reports.{column_count, title_line}
 use Rattle.pmap_print.specs.Table.{IsTable, Line, table_text}
-use Rattle.flowlabel.specs.Output.{Prints, labelled_row_lines}
-use Rattle.flowlabel.specs.Reports.{passing_rows}
+use Rattle.flow_files.specs.Outcomes.{Prints}
+use Rattle.flowlabel.specs.Output.{labelled_row_lines}
+use Rattle.flow_files.specs.Reports.{passing_rows}
 use Rattle.flowlabel.proofs.Outcomes.{report_of_rows}
-use Rattle.flowlabel.proofs.MadeLemmas.{faulty, makes, no_memory_left, none_read, report_then}
+use Rattle.flowlabel.proofs.MadeLemmas.{faulty, makes}
+use Rattle.flow_files.proofs.ReadLemmas.{no_memory_left, none_read, report_then}
 use Rattle.flowlabel.proofs.RowLemmas.{lines_are}
 use Rattle.flowlabel.proofs.run.rows.output.Goals as goal
 
-pub returns-in_err-table : goal.returns-in_err-table
-returns-in_err-table g c flows = no_memory_left (none_read 0 c.args.files.now c.requires) (omega arith) c.from_residual.ensures.1
+pub returns-in_err-of_rows : goal.returns-in_err-of_rows
+returns-in_err-of_rows g c flows = no_memory_left (none_read 0 c.args.files.now c.requires) (omega arith) c.from_residual.ensures.1
 
 pub read_rows-requires : goal.read_rows-requires
 read_rows-requires g c = record {
@@ -18,25 +20,25 @@ read_rows-requires g c = record {
       record {
         padded = refl;
         lines =
-            subst (λ (ls : List Line). IsTable (column_count (is_some labels)) ls c.in_ok-table.table) (sym (lines_are labels []))
-            (subst (λ (b : Bool). IsTable (column_count b) (title_line b ∷ []) c.in_ok-table.table) (c.is_some.ensures ∙ sym same) c.in_ok-table.ensures.header);
+            subst (λ (ls : List Line). IsTable (column_count (is_some labels)) ls c.in_ok-of_rows.field-0) (sym (lines_are labels []))
+            (subst (λ (b : Bool). IsTable (column_count b) (title_line b ∷ []) c.in_ok-of_rows.field-0) (c.is_some.ensures ∙ sym same) c.in_ok-of_rows.ensures.header);
       };
 }
 
-pub returns-in_err-table-2 : goal.returns-in_err-table-2
-returns-in_err-table-2 g c flows =
+pub returns-in_err-lines : goal.returns-in_err-lines
+returns-in_err-lines g c flows =
     faulty (λ texts read. Prints (report_of_rows c.args.filter.now c.args.columns read.0 read.1))
     (λ texts given. report_then (λ l messages. Prints (report_of_rows c.args.filter.now c.args.columns l messages)) c.args.labels texts)
-    c.in_err-table-2.ensures (omega arith) (λ texts read fault is. cc) c.from_residual-in_err-table-2.ensures.1
+    c.in_err-lines.ensures (omega arith) (λ texts read fault is. cc) c.from_residual-in_err-lines.ensures.1
 
 pub returns : goal.returns
 returns g c flows =
     makes (λ texts read. Prints (report_of_rows c.args.filter.now c.args.columns read.0 read.1))
     (λ texts given. report_then (λ l messages. Prints (report_of_rows c.args.filter.now c.args.columns l messages)) c.args.labels texts)
-    c.in_ok-table-2.ensures (omega arith)
+    c.in_ok-lines.ensures (omega arith)
     (λ texts read has. (
       (_, _, has.lines),
       λ out is.
           ap Ok (is _ _ has.lines
-          ∙ ap (λ b. table_text b (labelled_row_lines read.0 (passing_rows c.args.filter.now read.0 read.1))) (has.padded ∙ c.in_ok-table.ensures.columns)),
+          ∙ ap (λ b. table_text b (labelled_row_lines read.0 (passing_rows c.args.filter.now read.0 read.1))) (has.padded ∙ c.in_ok-of_rows.ensures.columns)),
     ))

@@ -1,8 +1,9 @@
 use Rattle.std.proofs.Common.{Ok, ap, arith}
 use Rattle.pmap_text.specs.Reading.{map_reading}
-use Rattle.flowlabel.specs.declared.bytes_fault.BytesFault.TheVariants.{Map as InMap}
+use Rattle.flow_files.specs.declared.bytes_fault.BytesFault.TheVariants.{Map as InMap}
 use Rattle.flowlabel.proofs.Outcomes.{PrintsMinimal}
-use Rattle.flowlabel.proofs.MadeLemmas.{faulty, makes, map_read, no_memory_left, then_in}
+use Rattle.flowlabel.proofs.MadeLemmas.{faulty, makes}
+use Rattle.flow_files.proofs.ReadLemmas.{map_read, no_memory_left, then_in}
 use Rattle.flowlabel.proofs.run.shrink.output.Goals as goal
 
 pub returns-in_err-map : goal.returns-in_err-map

@@ -3,10 +3,11 @@ use Rattle.flow_uniq.specs.Groups.{groups_of, record_count, shown_groups}
 use Rattle.flow_uniq.specs.declared.field.KeyField.{KeyField}
 use Rattle.label_lookup.specs.Labelling.{label_where}
 use Rattle.pmap_print.specs.Reports.{groups_text}
-use Rattle.flowlabel.specs.Output.{Prints}
-use Rattle.flowlabel.specs.Reports.{passing_rows}
+use Rattle.flow_files.specs.Outcomes.{Prints}
+use Rattle.flow_files.specs.Reports.{passing_rows}
 use Rattle.flowlabel.proofs.Outcomes.{report_of_groups}
-use Rattle.flowlabel.proofs.MadeLemmas.{faulty, makes, no_memory_left, none_read, report_then}
+use Rattle.flowlabel.proofs.MadeLemmas.{faulty, makes}
+use Rattle.flow_files.proofs.ReadLemmas.{no_memory_left, none_read, report_then}
 use Rattle.flowlabel.proofs.run.uniq.output.Goals as goal
 
 pub returns-in_err-groups : goal.returns-in_err-groups

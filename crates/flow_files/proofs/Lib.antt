@@ -1,0 +1,6 @@
+pub mod AnswerLemmas
+pub mod DefinitionLemmas
+pub mod EndLemmas
+pub mod ReadLemmas
+pub mod RowLemmas
+pub mod TakenLemmas

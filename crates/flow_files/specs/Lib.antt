@@ -1,0 +1,12 @@
+pub mod ByFile
+pub mod BytesFault
+pub mod Sources
+pub mod Definition
+pub mod Answer
+pub mod Faults
+pub mod Outcomes
+pub mod Readers
+pub mod Reports
+pub mod Opening
+pub mod Ending
+pub mod Laws

@@ -1,0 +1,87 @@
+//! Reads a file whole, and decodes its text. A text is given away once it is decoded.
+ghost use Rattle.pmap_text.specs.MapText.{map_of};
+ghost use Rattle.pmap_text.specs.PrefixList.{list_of};
+ghost use Rattle.pmap_text.specs.Reading.{list_reading, map_reading};
+ghost use Rattle.pmap_cert.specs.Certificate.{certificate_of};
+ghost use Rattle.pmap_cert.specs.FormatReading.{format_reading};
+ghost use Rattle.flow_files.specs.declared.bytes_fault.BytesFault.TheVariants.{Certificate as InCertificate, List as InList, Map as InMap};
+ghost use Rattle.flow_files.specs.Reports.{Decodes, IsFresh, IsText};
+
+use crate::bytes_fault::BytesFault;
+use crate::fault::RunFault;
+use crate::inputs::Source;
+use flow_io::{Input, ReadStop, read_whole};
+use pmap_cert::{Certificate, read_cert_with_hashing, text_of_format_is_read_or_has_a_fault};
+use pmap_text::{KeyHashing, MapText, PrefixList, read_list_with_hashing, read_map_with_hashing};
+use std::alloc::Global;
+
+/// Reads the rest of a file, and returns its name and its text. Both are empty if the file isn't there.
+pub fn read<'a, R: Input>(
+    alloc: Global,
+    file: &mut Option<Source<'a, R>>,
+) -> Result<(&'a str, Vec<u8>), RunFault<'a>>
+    requires { IsFresh R.input file.old }
+    ensures { IsText R.input file.old file.new result }
+{
+    let Some(source) = file else {
+        return Ok(("", Vec::new(alloc)));
+    };
+    match read_whole(alloc, &mut source.reader) {
+        Ok(text) => Ok((source.name, text)),
+        Err(ReadStop::ReadFault) => Err(RunFault::CannotRead(source.name)),
+        Err(ReadStop::NoMemory) => Err(RunFault::NoMemory),
+    }
+}
+
+/// Reads a file as the text of a map.
+pub fn read_map<'a, R: Input>(
+    alloc: Global,
+    file: &mut Option<Source<'a, R>>,
+    hashing: KeyHashing,
+) -> Result<MapText, RunFault<'a>>
+    requires { IsFresh R.input file.old }
+    ensures { Decodes R.input InMap map_reading map_of file.old file.new result }
+{
+    let (name, text) = read(alloc, file)?;
+    match read_map_with_hashing(alloc, text.as_slice(), hashing) {
+        Ok(map) => Ok(map),
+        Err(fault) => Err(RunFault::of(name, BytesFault::Map(fault))),
+    }
+}
+
+/// Reads a file as the text of a list.
+pub fn read_list<'a, R: Input>(
+    alloc: Global,
+    file: &mut Option<Source<'a, R>>,
+    hashing: KeyHashing,
+) -> Result<PrefixList, RunFault<'a>>
+    requires { IsFresh R.input file.old }
+    ensures { Decodes R.input InList list_reading list_of file.old file.new result }
+{
+    let (name, text) = read(alloc, file)?;
+    match read_list_with_hashing(alloc, text.as_slice(), hashing) {
+        Ok(list) => Ok(list),
+        Err(fault) => Err(RunFault::of(name, BytesFault::List(fault))),
+    }
+}
+
+/// Reads a file as the text of a certificate.
+pub fn read_certificate<'a, R: Input>(
+    alloc: Global,
+    file: &mut Option<Source<'a, R>>,
+    hashing: KeyHashing,
+) -> Result<Certificate, RunFault<'a>>
+    requires { IsFresh R.input file.old }
+    ensures { Decodes R.input InCertificate format_reading certificate_of file.old file.new result }
+{
+    let (name, text) = read(alloc, file)?;
+    // Each certificate has a text, and is read from it.
+    text_of_format_is_read_or_has_a_fault();
+    match read_cert_with_hashing(alloc, text.as_slice(), hashing) {
+        Ok(certificate) => {
+            let _root = certificate.root();
+            Ok(certificate)
+        }
+        Err(fault) => Err(RunFault::of(name, BytesFault::Certificate(fault))),
+    }
+}
