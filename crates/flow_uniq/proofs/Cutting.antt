@@ -1,9 +1,8 @@
 -- The bytes that are written for a key are read back as this key.
-use Rattle.std.proofs.Common.{◌≡◌, ℕ, zero, suc, ◌+◌, ◌-◌, ◌*◌, ◌/◌, ◌%◌, ◌^◌, ◌<◌, ◌≤◌, ◌==◌, Bool, true, false, not, cond, if◌then◌else◌, true≢false, List, [], ◌∷◌, ◌++◌, length, take, drop, nat_lt, get_or, map, Option, Some, None, unwrap_or, refl, sym, ap, subst, ◌∙◌, arith}
-use Rattle.std.proofs.lemmas.List.{append_assoc, drop_at, length-append, length-drop, take_all, take_at}
+use Rattle.std.proofs.Common.{◌≡◌, ℕ, zero, suc, ◌+◌, ◌-◌, ◌*◌, ◌/◌, ◌%◌, ◌^◌, ◌<◌, ◌≤◌, ◌==◌, Bool, true, false, not, cond, if◌then◌else◌, true≢false, List, [], ◌∷◌, ◌++◌, length, take, drop, nat_lt, map, Option, Some, None, unwrap_or, refl, sym, ap, subst, ◌∙◌, arith}
+use Rattle.std.proofs.lemmas.List.{append-nil, append_assoc, drop_at, length-append, length-drop, take_at}
 use Rattle.std.proofs.lemmas.Bool.{and_parts, le-ltb, ne_eqb}
 use Rattle.std.proofs.lemmas.Bool.Decides.{nat_tests}
-use Rattle.std.proofs.lemmas.Grind.{common_steps}
 use Rattle.std.proofs.lemmas.Nat.{from_be_bytes-to_be_bytes_2, from_be_bytes-to_be_bytes_4, from_be_bytes-to_be_bytes_8}
 use Rattle.std.proofs.lemmas.Option.{none-some}
 use Rattle.std.specs.List.{AllByRecursion, list_all, position_or_len}
@@ -204,28 +203,11 @@ key_in-rest (kind ∷ code) = by (first_part (kind ∷ code)) (rest_shorter kind
     by None h = refl
     by (Some c) h = ap (λ (k : Key). c.0 ∷ k) (enough (length code) (length c.1) c.1 h (omega arith))
 
--- one more part
-small-push : (k : Key) (p : KeyPartModel) → AreSmall k → IsSmall p → AreSmall (k ++ p ∷ [])
-small-push [] p h s = (s, tt)
-small-push (q ∷ k) p h s = (h.0, small-push k p h.1 s)
-
--- one more field is appended
-module _ (f : KeyField → KeyPartModel) (fields : List KeyField) (i : ℕ) (d : KeyField) (p : KeyPartModel) (is : p ≡ f (get_or fields i d))
-    (within : i < length fields) where
-  one_more : map f (take (i + 1) fields) ≡ map f (take i fields) ++ p ∷ []
-  one_more = grind (arith, common_steps)
-
-  pub more_small : AreSmall (map f (take i fields)) → IsSmall p → AreSmall (map f (take (i + 1) fields))
-  more_small all small = subst AreSmall (sym one_more) (small-push (map f (take i fields)) p all small)
-
-  pub more_code : (out new : List ℕ) → out ≡ key_code (map f (take i fields)) → new ≡ out ++ part_code p
-      → new ≡ key_code (map f (take (i + 1) fields))
-  more_code out new e h = rw one_more (grind (arith, common_steps))
-
--- after the last field the bytes are those of the key
-pub all_written : (f : KeyField → KeyPartModel) (fields : List KeyField) (i : ℕ) (code : List ℕ) → length fields ≤ i
-    → code ≡ key_code (map f (take i fields)) → AreSmall (map f (take i fields)) → IsCode code × (key_in code ≡ map f fields)
-all_written f fields i code end e h =
-    let key : Key = map f (take i fields) in
-    let back : key_in code ≡ key = ap key_in e ∙ key_in-code key h in
-    (record { small = subst AreSmall (sym back) h; same = e ∙ ap key_code (sym back) }, back ∙ ap (map f) (take_all i fields end))
+-- after the last part the bytes are those of the key
+pub all_written : (f : KeyField → KeyPartModel) (rest : List KeyField) (key : Key) (code : List ℕ) → length rest ≡ 0
+    → code ++ key_code (map f rest) ≡ key_code key → (AreSmall (map f rest) → AreSmall key) → IsCode code × (key_in code ≡ key)
+all_written f (field ∷ rest) key code end e small = absurd (omega arith)
+all_written f [] key code end e small =
+    let whole : code ≡ key_code key = sym (append-nil code) ∙ e in
+    let back : key_in code ≡ key = ap key_in whole ∙ key_in-code key (small tt) in
+    (record { small = subst AreSmall (sym back) (small tt); same = whole ∙ ap key_code (sym back) }, back)

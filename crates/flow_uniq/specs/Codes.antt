@@ -19,7 +19,7 @@ abbrev pub part_model : KeyPart → KeyPartModel
 part_model (part.Address addr) = AddressPart (addr.version, addr.value)
 part_model (part.Number number) = NumberPart number
 part_model (part.Label label) = LabelPart (option_copied label)
-part_model (part.Time precision number) = TimePart precision number
+part_model (part.Time number precision) = TimePart precision number
 
 -- A part as bytes, which begin with its kind. Numbers have their highest byte first. A label, which is empty if there is
 -- none, is followed by a 0, since no label contains one. A time has one more than its number, or 0 if there is none.

@@ -76,8 +76,8 @@ impl Keys {
         Ok(keys)
     }
 
-    /// Returns the keys whose first field is the start of the unit of time in which a row starts, followed by these fields.
-    /// Returns `None` if a field occurs twice.
+    /// Returns the keys whose first field is the start of the unit of time in which a row starts, followed by these
+    /// fields. Returns `None` if a field occurs twice.
     pub fn by_time(unit: TimeUnit, fields: &[KeyField]) -> Option<Keys>
         ensures { result ≡ with_unit unit fields.now }
     {

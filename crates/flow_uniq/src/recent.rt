@@ -21,32 +21,35 @@ pub struct Recent {
     guesses: Box<[Guess; PLACES]>,
 }
 
-/// Returns a number that depends on the eight bytes after the first two of a key, and on its last eight bytes. By this
-/// number the key's group is guessed. A key that begins with a time has the time's number in the former.
+/// Returns a number that depends on the last eight bytes of a key and, if it has ten or more, on the eight bytes after
+/// its first two. By this number the key's group is guessed. A key that begins with a time has the time's number there.
 #[inline(always)]
 pub fn mixed(key: &[u8]) -> u64 {
-    let first = match key.first_chunk::<10>() {
-        Some([_, _, a, b, c, d, e, f, g, h]) => {
-            u64::from_be_bytes([*a, *b, *c, *d, *e, *f, *g, *h])
-        }
-        None => 0,
-    };
-    last_bytes(key)
-        .wrapping_add(first)
-        .wrapping_mul(0x9e37_79b9_7f4a_7c15)
+    outer_bytes(key).wrapping_mul(0x9e37_79b9_7f4a_7c15)
 }
 
-// Returns the last eight bytes of a key, or the last four or two if it has fewer.
+// Returns the last eight bytes of a key plus those of `start_bytes`, or its last four or two bytes if it is shorter.
 #[inline(always)]
-fn last_bytes(key: &[u8]) -> u64 {
+fn outer_bytes(key: &[u8]) -> u64 {
     if let Some(end) = key.last_chunk::<8>() {
-        u64::from_le_bytes(*end)
+        u64::from_le_bytes(*end).wrapping_add(start_bytes(key))
     } else if let Some(end) = key.last_chunk::<4>() {
         u64::from(u32::from_le_bytes(*end))
     } else if let Some(end) = key.last_chunk::<2>() {
         u64::from(u16::from_le_bytes(*end))
     } else {
         0
+    }
+}
+
+// Returns the eight bytes after the first two of a key, or 0 if it has fewer.
+#[inline(always)]
+fn start_bytes(key: &[u8]) -> u64 {
+    match key.first_chunk::<10>() {
+        Some([_, _, a, b, c, d, e, f, g, h]) => {
+            u64::from_be_bytes([*a, *b, *c, *d, *e, *f, *g, *h])
+        }
+        None => 0,
     }
 }
 

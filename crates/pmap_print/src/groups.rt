@@ -52,7 +52,7 @@ fn print_part<S: Sink>(out: &mut S, mark: Mark, part: KeyPart<'_>) -> Result<(),
         KeyPart::Address(addr) => push_address(out, mark, addr),
         KeyPart::Number(number) => push_number(out, mark, u64::from(number)),
         KeyPart::Label(label) => push_field(out, mark, label.unwrap_or(b"")),
-        KeyPart::Time(precision, number) => push_time(out, mark, precision, number),
+        KeyPart::Time(number, precision) => push_time(out, mark, precision, number),
     }
 }
 
