@@ -6,6 +6,7 @@ pub mod Maps
 pub mod Reports
 pub mod Rows
 pub mod Files
+pub mod Messages
 pub mod Samples
 pub mod Shortest
 pub mod Templates

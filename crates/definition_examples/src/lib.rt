@@ -18,6 +18,7 @@ pub mod limits;
 pub mod lists;
 pub mod map_faults;
 pub mod maps;
+pub mod messages;
 pub mod printed_addresses;
 pub mod rows;
 pub mod runs;

@@ -8,14 +8,15 @@ use Rattle.std.proofs.lemmas.List.Sums.{sum_by-append, sum_by-cons}
 use Rattle.ipfix_templates.specs.Template.{same_kind}
 use Rattle.ipfix_templates.specs.declared.kind.Kind.TheVariants.{Flow, Options}
 use Rattle.ipfix_read.specs.Set.{events_in}
+use Rattle.ipfix_read.specs.declared.record.Record.{Record}
 use Rattle.ipfix_read.specs.declared.set.Set.{Set}
 use Rattle.ipfix_read.specs.declared.set.Set.TheVariants.{Skipped, Templates, Values}
 use Rattle.ipfix_read.specs.Message.{MessageView}
 use Rattle.ipfix_read.specs.Laws.{File, lacks_template}
 use Rattle.ipfix_read.proofs.Following.{joined_file_is_read}
-use Rattle.flow_rows.specs.Elements.{rows_of_record}
-use Rattle.flow_rows.specs.Counts.{counts_in, counts_of, defines, is_data_set, is_skipped, is_withdrawal, records_in, records_of, rows_of_messages, rows_of_sets, sets_of}
-use Rattle.flow_rows.specs.Laws.{JoinedFileAddsUp, NoneSkipped, summed_counts, sums}
+use Rattle.flow_rows.specs.Elements.{RowView, rows_of_record}
+use Rattle.flow_rows.specs.Counts.{counts_in, counts_of, defines, events_of, has_no_bytes, is_data_set, is_skipped, is_withdrawal, message_counts, records_in, records_of, rows_of_messages, rows_of_sets, sets_of}
+use Rattle.flow_rows.specs.Laws.{JoinedFileAddsUp, NoneSkipped, summed_counts, summed_message_counts, sums, sums_of_lines}
 
 count-append : {X : Type 0} (p : X → Bool) (xs ys : List X) → count_by p (xs ++ ys) ≡ count_by p xs + count_by p ys
 count-append p = sum_by-append (λ x. cond (p x) 1 0)
@@ -24,6 +25,14 @@ count-append p = sum_by-append (λ x. cond (p x) 1 0)
 rows-append : (xs ys : List Set) → rows_of_sets (xs ++ ys) ≡ rows_of_sets xs ++ rows_of_sets ys
 rows-append xs ys =
     ap (flat_map rows_of_record) (flat_map-append records_in xs ys) ∙ flat_map-append rows_of_record (records_of xs) (records_of ys)
+
+-- the rows of one more set
+pub more-rows : (p : RowView → Bool) (sets : List Set) (set : Set)
+    → count_by p (rows_of_sets (sets ++ set ∷ [])) ≡ count_by p (rows_of_sets sets) + count_by p (flat_map rows_of_record (records_in set))
+more-rows p sets set =
+    ap (count_by p)
+    (rows-append sets (set ∷ []) ∙ ap (λ (records : List Record). rows_of_sets sets ++ flat_map rows_of_record records) (append-nil (records_in set)))
+    ∙ count-append p (rows_of_sets sets) (flat_map rows_of_record (records_in set))
 
 has-append : {X : Type 0} (p : X → Bool) (has : Set → List X) (xs ys : List Set)
     → count_by p (flat_map has (xs ++ ys)) ≡ count_by p (flat_map has xs) + count_by p (flat_map has ys)
@@ -68,6 +77,33 @@ module _ {X : Type 0} (part : X → List MessageView) where
 pub counts-each : (messages : List MessageView) → counts_of messages ≡ summed_counts messages
 counts-each messages =
     ap counts_of (sym (flat_map_single (λ (m : MessageView). m) messages ∙ map-id messages)) ∙ counts-parts (λ m. m ∷ []) [] messages
+
+-- the counts of each message that lines show
+message_counts-append : (xs ys : List Set) → message_counts (xs ++ ys) ≡ sums (message_counts xs) (message_counts ys)
+message_counts-append xs ys = λ i.
+    both i
+    ∷ count-append is_skipped xs ys i
+    ∷ has-append (λ r. same_kind r.kind Flow) records_in xs ys i
+    ∷ has-append (λ r. same_kind r.kind Options) records_in xs ys i
+    ∷ (ap length (rows-append xs ys) ∙ length-append (rows_of_sets xs) (rows_of_sets ys)) i
+    ∷ (ap (count_by has_no_bytes) (rows-append xs ys) ∙ count-append has_no_bytes (rows_of_sets xs) (rows_of_sets ys)) i
+    ∷ []
+  where
+    both : count_by (defines Flow) (events_of (xs ++ ys)) + count_by (defines Options) (events_of (xs ++ ys))
+        ≡ (count_by (defines Flow) (events_of xs) + count_by (defines Options) (events_of xs))
+        + (count_by (defines Flow) (events_of ys) + count_by (defines Options) (events_of ys))
+    both = omega (arith, has-append (defines Flow) events_in xs ys, has-append (defines Options) events_in xs ys)
+
+message_counts-from : (front : List Set) (messages : List MessageView)
+    → fold sums (message_counts front) (map (λ (m : MessageView). message_counts m.sets) messages) ≡ message_counts (front ++ sets_of messages)
+message_counts-from front [] = ap message_counts (sym (append-nil front))
+message_counts-from front (m ∷ messages) =
+    ap (λ (counts : List ℕ). fold sums counts (map (λ (m : MessageView). message_counts m.sets) messages)) (sym (message_counts-append front m.sets))
+    ∙ message_counts-from (front ++ m.sets) messages ∙ ap message_counts (append_assoc front m.sets (sets_of messages))
+
+pub message_counts-each : (messages : List MessageView)
+    → summed_message_counts messages ≡ sums_of_lines (counts_of messages) (count_by has_no_bytes (rows_of_messages messages))
+message_counts-each = message_counts-from []
 
 -- ---- Files
 

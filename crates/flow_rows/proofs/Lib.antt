@@ -3,3 +3,4 @@ pub mod Reading
 pub mod LayoutRows
 pub mod Walking
 pub mod Adding
+pub mod EqualRecords

@@ -104,6 +104,9 @@ set_within (Templates kind events) = omega arith
 set_within (Values kind records) = omega arith
 set_within (Skipped id) = omega arith
 
+pub set_rows_within : (set : Set) → length (flat_map rows_of_record (records_in set)) ≤ 2 * set_size set
+set_rows_within set = omega (arith, records_within (records_in set), set_within set)
+
 pub empty_of : {A : Type 0} (xs : List A) → length xs ≡ 0 → [] ≡ xs
 empty_of [] none = refl
 empty_of (x ∷ xs) none = absurd (omega (arith, none))

@@ -1,4 +1,4 @@
-use Rattle.std.specs.Prelude.{List, [], ◌∷◌, ℕ, ◌+◌, Bool, true, false, length, count_by}
+use Rattle.std.specs.Prelude.{List, [], ◌∷◌, ℕ, ◌+◌, ◌==◌, Bool, true, false, length, count_by}
 use Rattle.std.specs.List.{flat_map}
 use Rattle.ipfix_templates.specs.declared.event.TemplateEvent.{TemplateEvent}
 use Rattle.ipfix_templates.specs.declared.kind.Kind.{Kind}
@@ -11,6 +11,7 @@ use Rattle.ipfix_read.specs.declared.set.Set.TheVariants.{Values, Skipped}
 use Rattle.ipfix_read.specs.Message.{MessageView}
 use Rattle.flow_rows.specs.Elements.{RowView, rows_of_record}
 use Rattle.flow_rows.specs.declared.counts.Counts.{Counts}
+use Rattle.flow_rows.specs.declared.message_counts.MessageCounts.{MessageCounts}
 use Rattle.ipfix_read.specs.Set.{events_in}
 
 -- The contents of the sets of messages, in order.
@@ -76,6 +77,20 @@ counts_in messages sets =
 abbrev pub counts_of : List MessageView → List ℕ
 counts_of messages = counts_in (length messages) (sets_of messages)
 
+-- whether the row has no bytes: their number is 0 or missing
+abbrev pub has_no_bytes : RowView → Bool
+has_no_bytes row = row.octets == 0
+
+-- the counts of one message with these sets: definitions of templates of either kind, skipped
+-- sets, records of each kind, rows, and rows without bytes
+abbrev pub message_counts : List Set → List ℕ
+message_counts sets =
+    (count_by (defines Flow) (events_of sets) + count_by (defines Options) (events_of sets))
+    ∷ count_by is_skipped sets
+    ∷ count_by (λ r. same_kind r.kind Flow) (records_of sets)
+    ∷ count_by (λ r. same_kind r.kind Options) (records_of sets)
+    ∷ length (rows_of_sets sets) ∷ count_by has_no_bytes (rows_of_sets sets) ∷ []
+
 -- Below: only contracts of parts and proofs use these; no promise of the program rests on them.
 
 -- the nine numbers, in the order in which `info` prints them
@@ -83,6 +98,11 @@ abbrev pub count_list : Counts → List ℕ
 count_list c =
     c.messages ∷ c.templates ∷ c.options_templates ∷ c.withdrawals ∷ c.data_sets ∷ c.skipped_sets ∷ c.records
     ∷ c.options_records ∷ c.rows ∷ []
+
+-- the six numbers of a message
+abbrev pub message_count_list : MessageCounts → List ℕ
+message_count_list c =
+    c.definitions ∷ c.skipped_sets ∷ c.records ∷ c.options_records ∷ c.rows ∷ c.zero_bytes ∷ []
 
 -- the sum of all counts
 abbrev pub total : Counts → ℕ

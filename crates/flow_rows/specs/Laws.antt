@@ -2,7 +2,7 @@ use Rattle.std.specs.Prelude.{◌≡◌, ℕ, ◌+◌, List, [], ◌∷◌, coun
 use Rattle.std.specs.List.{flat_map, zip}
 use Rattle.ipfix_read.specs.Message.{MessageView}
 use Rattle.ipfix_read.specs.Laws.{CanFollow, File, IsRead, IsSelfContained, joined}
-use Rattle.flow_rows.specs.Counts.{counts_of, is_skipped, rows_of_messages, sets_of}
+use Rattle.flow_rows.specs.Counts.{counts_of, is_skipped, message_counts, rows_of_messages, sets_of}
 
 -- two lists of counts, each count added to the one of its kind
 abbrev pub sums : List ℕ → List ℕ → List ℕ
@@ -15,6 +15,18 @@ all_sums counts = fold sums (counts_of []) counts
 -- the counts of each message, added up
 abbrev pub summed_counts : List MessageView → List ℕ
 summed_counts messages = all_sums (map (λ message. counts_of (message ∷ [])) messages)
+
+-- the counts that lines of messages show, added up over messages
+abbrev pub summed_message_counts : List MessageView → List ℕ
+summed_message_counts messages =
+    fold sums (message_counts []) (map (λ message. message_counts message.sets) messages)
+
+-- what these sums are, from the counts of a File and the number of its rows without bytes
+abbrev pub sums_of_lines : List ℕ → ℕ → List ℕ
+sums_of_lines (_ ∷ templates ∷ options_templates ∷ _ ∷ _ ∷ skipped ∷ records ∷ options ∷ rows ∷ [])
+    zero_bytes =
+    (templates + options_templates) ∷ skipped ∷ records ∷ options ∷ rows ∷ zero_bytes ∷ []
+sums_of_lines _ zero_bytes = []
 
 -- Below: only contracts of parts and proofs use these; no promise of the program rests on them.
 

@@ -17,20 +17,23 @@
 //! data record, and `reverse_row_of` the second row of a record with both directions of a flow (RFC 5103). A row
 //! borrows its record. Each number is read when it is requested: the first usable field of its information element, in
 //! network byte order. `rows_of` returns an iterator over the rows of a message. `Counts` counts the contents of
-//! messages. Callers may rely on this: the rows are a function of the list of the record's fields with their values. A
-//! record without both addresses of a version, and an options record, have none. Counts of a list of messages are,
-//! after one more message, those of the list with that message. Nothing here allocates.
+//! messages, and `MessageCounts` those of one message. Callers may rely on this: the rows are a function of the list of
+//! the record's fields with their values. A record without both addresses of a version, and an options record, have
+//! none. Counts of a list of messages are, after one more message, those of the list with that message. Nothing here
+//! allocates.
 #![tactic(auto)]
 
 mod counts;
 mod laws;
+mod message_counts;
 mod place;
 mod record;
 mod row;
 mod walk;
 
 pub use counts::Counts;
-pub use laws::{counts_add_up, joined_file_adds_up};
+pub use laws::{counts_add_up, joined_file_adds_up, message_counts_add_up};
+pub use message_counts::MessageCounts;
 pub use record::{reverse_row_of, row_of};
 pub use row::Row;
 pub use walk::{Rows, rows_of};

@@ -1,14 +1,16 @@
 //! The rows of a message, one after the other.
-ghost use Rattle.std.specs.Prelude.{◌≡◌, ◌≤◌, [], IfNone, IfSome, None, length, option_map, unwrap_or};
+ghost use Rattle.std.specs.Prelude.{◌≡◌, ◌≤◌, [], IfNone, IfSome, None, count_by, false, length, option_map, true, unwrap_or};
 ghost use Rattle.std.specs.Iterator.{YieldsFirst, item_count};
 ghost use Rattle.std.specs.List.{flat_map};
-ghost use Rattle.flow_rows.specs.Counts.{records_in, rows_of_sets};
+ghost use Rattle.flow_rows.specs.Counts.{has_no_bytes, records_in, rows_of_sets};
 ghost use Rattle.flow_rows.specs.Elements.{rows_of_record};
+ghost use Rattle.flow_rows.specs.Inner.{HaveLayout};
 ghost use Rattle.flow_rows.specs.Walk.{HaveRows, rows_to_come};
+ghost use Rattle.ipfix_templates.specs.Layout.{is_there};
 
 use crate::record::second_row;
 use crate::row::Row;
-use ipfix_read::{Message, Records, Set};
+use ipfix_read::{Message, RecordList, Records, Set};
 use ipfix_templates::RowLayout;
 use std::marker::Model;
 use std::slice::Iter;
@@ -57,6 +59,89 @@ impl<'m> SetRows<'m> {
         }
         Some(Row::new(&self.layout.first, self.runs, bytes))
     }
+
+    // Returns the number of rows without bytes.
+    #[inline(always)]
+    fn count_without_bytes(mut self) -> u32
+        requires have { HaveRows self None }
+        requires few { length (rows_to_come self None) ≤ 131070 }
+        ensures { result ≡ count_by has_no_bytes (rows_to_come self.entry None) }
+    {
+        let mut last = None;
+        let mut count = 0;
+        while let Some(row) = self.next_row(&mut last) {
+            if row.octets() == 0 {
+                count += 1;
+            }
+        }
+        count
+    }
+}
+
+// Whether all records have one length, and one row each, whose number of bytes is a number of 64 bits.
+#[inline(always)]
+fn is_usual(layout: &RowLayout, runs: &[u32]) -> bool
+    ensures runs { result ≡ true → runs.now ≡ [] }
+    ensures second { result ≡ true → is_there layout.now.second.packets ≡ false }
+{
+    let octets = &layout.first.octets;
+    runs.is_empty() && octets.skips == 0 && octets.length == 8 && !layout.second.packets.is_there()
+}
+
+// Returns the number of rows without bytes of records of one length, which have one row each.
+#[inline(always)]
+fn count_in_equal(layout: &RowLayout, records: &RecordList<'_>) -> u32
+    requires layout { HaveLayout layout.now [] records.now }
+    requires second { is_there layout.now.second.packets ≡ false }
+    requires few { length (flat_map rows_of_record records.now) ≤ 131070 }
+    ensures { result ≡ count_by has_no_bytes (flat_map rows_of_record records.now) }
+{
+    let length = records.fields().last_run() as usize;
+    let mut rest = records.bytes();
+    let mut count = 0;
+    for _index in 0..records.len() {
+        if Row::new(&layout.first, &[], rest).octets() == 0 {
+            count += 1;
+        }
+        let (_record, others) = rest.split_at(length);
+        rest = others;
+    }
+    count
+}
+
+// Returns the number of rows without bytes of a set.
+fn count_in_set(set: &Set<'_>) -> u32
+    requires { length (flat_map rows_of_record (records_in set.now)) ≤ 131070 }
+    ensures { result ≡ count_by has_no_bytes (flat_map rows_of_record (records_in set.now)) }
+{
+    let Set::Values(_, list) = set else {
+        return 0;
+    };
+    let fields = list.fields();
+    let Some(layout) = fields.row_layout(list.kind()) else {
+        return 0;
+    };
+    let runs = fields.runs();
+    if is_usual(layout, runs) {
+        return count_in_equal(layout, list);
+    }
+    let rows = SetRows {
+        layout,
+        runs,
+        records: list.iter(),
+    };
+    rows.count_without_bytes()
+}
+
+/// Returns the number of rows of a message without bytes: their number of bytes is 0 or missing.
+pub fn count_without_bytes(message: &Message<'_>) -> u32
+    ensures count { result ≡ count_by has_no_bytes (rows_of_sets message.now.sets) }
+{
+    let mut count = 0;
+    for set in message.sets().as_slice() {
+        count += count_in_set(set);
+    }
+    count
 }
 
 /// An iterator over the rows of a message, in order. The second row of a record, if there is one, comes right after the

@@ -20,7 +20,7 @@ use Rattle.ipfix_read.specs.Record.{Record, data_set_reading, is_padding, record
 use Rattle.std.proofs.Math.Nat.{add-mul, le-div_iff_mul-le, suc-mul}
 use Rattle.std.proofs.lemmas.List.Elements.{All-cons, All-nil}
 use Rattle.ipfix_templates.specs.declared.kind.Kind.{Kind}
-use Rattle.ipfix_read.specs.WholeRecords.{ArePacked, whole_records}
+use Rattle.ipfix_read.specs.WholeRecords.{AreInBytes, ArePacked, whole_records}
 
 whole_step : (field : Field) (fields : List Field) (bytes : List ℕ) (v : List ℕ × List ℕ) → value_at field bytes ≡ Some v
     → whole_values (field ∷ fields) bytes ≡ record { field = field; value = v.0 } ∷ whole_values fields v.1
@@ -189,6 +189,11 @@ some_first : (kind : Kind) (fields : List Field) (count : ℕ) (bytes : List ℕ
 unfolding whole_records
 some_first kind fields count bytes x e = rw e refl
 
+none_first : (kind : Kind) (fields : List Field) (count : ℕ) (bytes : List ℕ) → values_at fields bytes ≡ None
+    → whole_records kind fields (suc count) bytes ≡ []
+unfolding whole_records
+none_first kind fields count bytes e = rw e refl
+
 no_count : (kind : Kind) (fields : List Field) (bytes : List ℕ) → whole_records kind fields zero bytes ≡ []
 unfolding whole_records
 no_count kind fields bytes = refl
@@ -209,6 +214,16 @@ all_of_fields kind fields = all_of (λ r. map (λ v. v.field) r.fields ≡ field
 
 pub all_of_kind : (kind : Kind) (fields : List Field) (count : ℕ) (bytes : List ℕ) → All (λ r. r.kind ≡ kind) (whole_records kind fields count bytes)
 all_of_kind kind fields = all_of (λ r. r.kind ≡ kind) kind fields (λ _ _ _. refl)
+
+pub in_bytes : (kind : Kind) (fields : List Field) (count : ℕ) (bytes : List ℕ) → AreInBytes (whole_records kind fields count bytes) bytes
+in_bytes kind fields zero bytes = rw (no_count kind fields bytes) tt
+in_bytes kind fields (suc count) bytes =
+    elim (values_at fields bytes) as (λ o. values_at fields bytes ≡ o → AreInBytes (whole_records kind fields (suc count) bytes) bytes) [
+      | None ↦ λ e. rw (none_first kind fields count bytes e) tt
+      | Some x ↦ λ e.
+          rw (some_first kind fields count bytes x e)
+          (x.1, ap (λ (fs : List Field). values_at fs bytes) (fields_are fields bytes x e) ∙ e, in_bytes kind fields count x.1)
+    ] refl
 
 -- The records before the rest are read: the bytes begin with them, whatever number of records follows, and reading goes on
 -- after them.

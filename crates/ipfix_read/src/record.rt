@@ -3,7 +3,7 @@ ghost use Rattle.std.specs.Prelude.{◌≡◌, ◌^◌, ◌+◌, ◌<◌, ◌≤
 ghost use Rattle.std.specs.Iterator.{YieldsFirst, item_count};
 ghost use Rattle.ipfix_read.specs.Fault.{Reads, is_of_calls};
 ghost use Rattle.ipfix_read.specs.Record.{data_set_reading};
-ghost use Rattle.ipfix_read.specs.WholeRecords.{ArePacked};
+ghost use Rattle.ipfix_read.specs.WholeRecords.{AreInBytes, ArePacked};
 
 use crate::fault::{ReadFault, ReadFaultKind};
 use crate::value::{FieldValues, skip_values};
@@ -61,6 +61,13 @@ impl<'a> RecordList<'a> {
         ensures { All (λ r. map (λ v. v.field) r.fields ≡ result.now) self.now }
     {
         &self.specifiers
+    }
+
+    /// Returns the bytes of the data records, one after the other, and all that follow them in the data set.
+    pub fn bytes(&self) -> &'a [u8]
+        ensures { AreInBytes self.now result.now }
+    {
+        self.bytes
     }
 
     /// Returns an iterator over the data records in order.

@@ -5,3 +5,4 @@ pub mod WideLines
 pub mod PaddedLines
 pub mod TableLines
 pub mod RowLines
+pub mod MessageLines

@@ -1,3 +1,4 @@
 pub mod Table
 pub mod Times
 pub mod Reports
+pub mod Messages

@@ -11,10 +11,11 @@
 //! ```
 //!
 //! It depends on the crates of what it prints. A `Table` of flow rows, with or without labels and columns, is built row
-//! by row. A `Table`, a `GroupsText`, a `ListText` or a `RunsText` prints its text into a sink of flow_io, such as the
-//! buffer before a writer. Only building them allocates. `print_rows`, `print_groups`, `print_list` and `print_runs`
-//! return these texts, and `print_info` returns the text of counts. The layer above may rely on this: the text is, byte
-//! for byte, what the definitions state for the printed value, and the only error is out of memory.
+//! by row. A `Table`, a `GroupsText`, a `ListText`, a `MessagesText` or a `RunsText` prints its text into a sink of
+//! flow_io, such as the buffer before a writer. Only building them allocates. `print_rows`, `print_groups`,
+//! `print_list` and `print_runs` return these texts, and `print_info` returns the text of counts. The layer above may
+//! rely on this: the text is, byte for byte, what the definitions state for the printed value, and the only error is
+//! out of memory.
 #![tactic(auto)]
 
 mod columns;
@@ -23,6 +24,7 @@ mod groups;
 mod info;
 mod list;
 mod mark;
+mod messages;
 mod row_labels;
 mod rows;
 mod runs;
@@ -32,6 +34,7 @@ mod text;
 pub use groups::{GroupsText, print_groups};
 pub use info::print_info;
 pub use list::{ListText, print_list};
+pub use messages::{MessageLine, MessagesText};
 pub use row_labels::RowLabels;
 pub use rows::print_rows;
 pub use runs::{RunsText, print_runs};
