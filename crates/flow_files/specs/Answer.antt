@@ -45,9 +45,12 @@ condition_in_rows entries =
     result_map_both (λ condition. condition) Filter
     (filter_of (map (λ o. first_of (name_of o) entries) ALL_OPTIONS))
 
+-- the fields that the text of `--fields` names
+abbrev pub fields_reading : Text → Result (List KeyField) UsageFault
+fields_reading names = result_map_both (λ fields. fields) Key (keys_reading names)
+
 abbrev pub fields_in_rows : List Row → Result (List KeyField) UsageFault
-fields_in_rows entries =
-    result_map_both (λ fields. fields) Key (keys_reading (text_in_rows (codes "fields") entries))
+fields_in_rows entries = fields_reading (text_in_rows (codes "fields") entries)
 
 -- the error asks for help or the version, and the error is a mistake in the words
 abbrev pub is_help : ErrorKind → Bool

@@ -1,7 +1,7 @@
 use Rattle.std.specs.Prelude.{◌≡◌, false, true, List, [], ◌∷◌, ◌++◌, Some, codes, map}
 use Rattle.std.specs.Borrow.{Bor}
 use Rattle.std.specs.List.{fold}
-use Rattle.clap.specs.declared.builder.action.ArgAction.TheVariants.{SetTrue}
+use Rattle.clap.specs.declared.builder.action.ArgAction.TheVariants.{Append, SetTrue}
 use Rattle.clap.specs.declared.builder.arg.Arg.{Arg}
 use Rattle.clap.specs.declared.builder.command.Command.{Command}
 use Rattle.clap.specs.declared.builder.command.Command.TheViews.{out-Command}
@@ -9,7 +9,7 @@ use Rattle.clap.specs.Words.{App, Rule, Text, app_of, new_app, new_rule, rule_of
 use Rattle.flow_filter.specs.Options.{name_of}
 use Rattle.flow_filter.specs.declared.option.TheConstants.{ALL_OPTIONS}
 use Rattle.flow_files.specs.declared.definition.Argument.{Argument}
-use Rattle.flow_files.specs.declared.definition.Argument.TheVariants.{Flag, Needed, Optional, Word}
+use Rattle.flow_files.specs.declared.definition.Argument.TheVariants.{Flag, Needed, Optional, Word, Words}
 use Rattle.flow_files.specs.declared.definition.Subcommand.{Subcommand}
 
 -- The command line as clap reads its definition: a program of subcommands with their options and words.
@@ -26,6 +26,10 @@ flag_rule name = record (new_rule name) { long = Some name; action = Some SetTru
 
 abbrev pub word_rule : Text → Rule
 word_rule name = record (new_rule name) { value_names = 1; required = true }
+
+-- the rule of one or more such words
+abbrev pub words_rule : Text → Rule
+words_rule name = record (word_rule name) { action = Some Append }
 
 -- a command without subcommands, by its name and its arguments
 abbrev pub leaf : Text → List Rule → App
@@ -60,6 +64,7 @@ rule_for (Optional name value heading help) = option_rule name.now
 rule_for (Needed name value heading help) = needed_rule name.now
 rule_for (Flag name help) = flag_rule name.now
 rule_for (Word name value help) = word_rule name.now
+rule_for (Words name value help) = words_rule name.now
 
 abbrev pub with_argument : App → Argument → App
 with_argument app argument = with_rule app (rule_for argument)

@@ -7,6 +7,7 @@ pub mod Faults
 pub mod Outcomes
 pub mod Readers
 pub mod Reports
+pub mod Groups
 pub mod Opening
 pub mod Ending
 pub mod Laws

@@ -4,7 +4,7 @@ ghost use Rattle.std.specs.List.{fold};
 ghost use Rattle.clap.specs.Words.{App};
 ghost use Rattle.flow_files.specs.Definition.{IsArgument, IsCommand, app_for, as_program, rule_for, with_argument, with_sub};
 
-use Argument::{Flag, Needed, Optional, Word};
+use Argument::{Flag, Needed, Optional, Word, Words};
 use clap::{Arg, ArgAction, Command};
 use std::alloc::{AllocError, Global};
 
@@ -24,6 +24,8 @@ pub enum Argument<'a> {
     Flag(&'a str, &'a str),
     /// A required word, with its name, its name in help, and the text.
     Word(&'a str, &'a str, &'a str),
+    /// Like `Word`, but one or more.
+    Words(&'a str, &'a str, &'a str),
 }
 
 /// A subcommand, or the program: its name, its texts for help, and the lists of its arguments.
@@ -79,6 +81,11 @@ fn argument_of<'a>(alloc: Global, argument: &Argument<'a>) -> Arg<'a>
         Word(name, value, help) => Arg::new(alloc, name)
             .value_name(value)
             .required(true)
+            .help(help),
+        Words(name, value, help) => Arg::new(alloc, name)
+            .value_name(value)
+            .required(true)
+            .action(ArgAction::Append)
             .help(help),
     }
 }

@@ -1,7 +1,18 @@
 //! Laws about the definitions.
+ghost use Rattle.std.specs.Prelude.{Bool, List, Ok, Option};
+ghost use Rattle.label_lookup.specs.Labelling.{Labelling};
+ghost use Rattle.ipfix_read.specs.Message.{MessageView};
+ghost use Rattle.flow_rows.specs.Counts.{rows_of_messages};
+ghost use Rattle.flow_filter.specs.Condition.{Condition};
+ghost use Rattle.flow_filter.specs.Laws.{rows_left};
+ghost use Rattle.flow_uniq.specs.declared.field.KeyField.{KeyField};
+ghost use Rattle.flow_files.specs.Groups.{PrintsGroups};
+ghost use Rattle.flow_files.specs.Outcomes.{uniq_text};
 ghost use Rattle.flow_files.specs.Laws.{AnsweredWordsAreTaken, AreShared, OutcomesFollowReadings, SubcommandsAreAdded};
 
 use crate::definition::{Argument, FILTERS, SOURCES};
+use flow_filter::options_hold_together;
+use flow_uniq::rows_are_grouped_by_fields;
 
 /// The outcome of a command follows from what the texts of its files are read as: the text that is printed for it, or
 /// the first fault.
@@ -24,4 +35,14 @@ pub fn shared_arguments() -> ([Argument<'static>; 2], [Argument<'static>; 10])
     ensures { AreShared result.0 result.1 }
 {
     (SOURCES, FILTERS)
+}
+
+/// What `uniq` prints is a table of the groups of the rows that each option leaves.
+pub fn uniq_prints_groups()
+    ensures { (fields : List KeyField) (condition : Condition) (sorted columns : Bool) (labels : Option Labelling)
+        (messages : List MessageView) → PrintsGroups fields sorted columns labels
+        (rows_left condition labels (rows_of_messages messages)) (Ok (uniq_text fields condition sorted columns labels messages)) }
+{
+    options_hold_together();
+    rows_are_grouped_by_fields();
 }

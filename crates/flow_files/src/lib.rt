@@ -36,6 +36,7 @@ pub use label_file::{LabelFile, files_named};
 pub use labels::{LabelsRead, index_of, read_labels};
 pub use laws::{
     answered_words_are_taken, outcomes_follow_readings, shared_arguments, subcommands_are_added,
+    uniq_prints_groups,
 };
 pub use messages::{TakesMessages, add_messages};
 pub use opening::{Opener, open_all, open_source};
@@ -43,6 +44,6 @@ pub use printing::print_to;
 pub use reading::{read, read_certificate, read_list, read_map};
 pub use usage::UsageFault;
 pub use words::{
-    fault_of_error, filter_in, first_text, is_given, keys_in, labels_in, listed, needed_text,
+    fault_of_error, filter_in, first_text, is_given, keys_in, labels_in, listed, needed_text, read_keys,
     words_fault,
 };

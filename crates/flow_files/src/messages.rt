@@ -1,5 +1,5 @@
 //! The messages of an IPFIX File, which are read one after the other.
-ghost use Rattle.std.specs.Prelude.{◌++◌, ◌∷◌, ◌<◌, [], List, ℕ, OnOk, Option, length};
+ghost use Rattle.std.specs.Prelude.{◌≡◌, ◌++◌, ◌∷◌, ◌<◌, [], List, ℕ, OnOk, Option, is_some, length};
 ghost use Rattle.ipfix_read.specs.Message.{MessageView};
 ghost use Rattle.flow_files.specs.Reports.{AreReadSoFar, IsFaultOfCall, IsFresh, ReadsInto, ReadsNext};
 ghost use Rattle.flow_files.specs.Readers.{Source};
@@ -41,9 +41,10 @@ fn next_message<'a, 'b, R: Input>(
     progress: &mut Progress,
     buffer: &'b mut Buffer,
 ) -> Result<Option<Message<'b>>, RunFault<'a>>
-    ensures { (start : Option (Source R)) (placed : List (ℕ × MessageView))
+    ensures reads { (start : Option (Source R)) (placed : List (ℕ × MessageView))
         → AreReadSoFar R.input start placed progress.old flows.old
         → ReadsNext R.input start placed progress.old.offset result progress.new flows.new }
+    ensures there { is_some flows.new ≡ is_some flows.old }
 {
     // Provides the law that the calls so far and the next one read the whole File.
     calls_join_file();
@@ -66,7 +67,8 @@ pub fn add_messages<'a, R: Input, T: TakesMessages>(
 ) -> Result<(), RunFault<'a>>
     requires fresh { IsFresh R.input flows.old }
     requires none { T.has_messages taker.old [] taker.old }
-    ensures { ReadsInto R.input (λ placed _. T.has_messages taker.old placed taker.new) flows.old flows.new result }
+    ensures reads { ReadsInto R.input (λ placed _. T.has_messages taker.old placed taker.new) flows.old flows.new result }
+    ensures there { is_some flows.new ≡ is_some flows.old }
 {
     let mut progress = Progress::new(alloc);
     let mut offset = progress.offset();

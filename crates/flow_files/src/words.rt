@@ -5,7 +5,7 @@ ghost use Rattle.flow_filter.specs.Filters.{option_texts};
 ghost use Rattle.flow_filter.specs.Options.{name_of};
 ghost use Rattle.clap.specs.Words.{first_of, found_of, kind_of, rows_of};
 ghost use Rattle.flow_files.specs.Sources.{source_of};
-ghost use Rattle.flow_files.specs.Answer.{IsFaultOfKind, IsUnlessMemory, condition_in_rows, fields_in_rows, is_given, sources_in_rows, text_in_rows, words_fault_of};
+ghost use Rattle.flow_files.specs.Answer.{IsFaultOfKind, IsUnlessMemory, condition_in_rows, fields_in_rows, fields_reading, is_given, sources_in_rows, text_in_rows, words_fault_of};
 
 use crate::label_file::LabelFile;
 use crate::usage::UsageFault;
@@ -85,11 +85,18 @@ pub fn filter_in<'a>(alloc: Global, entries: &ArgMatches<'a>) -> Result<Filter<'
     }
 }
 
+/// Returns the keys by the fields that the text of `--fields` names.
+pub fn read_keys(names: &str) -> Result<Keys, UsageFault>
+    ensures { IsUnlessMemory (λ keys. keys) (fields_reading names.now) result }
+{
+    Keys::read(names).map_err(UsageFault::Key)
+}
+
 /// Returns the keys that `--fields` asks for.
 pub fn keys_in(entries: &ArgMatches<'_>) -> Result<Keys, UsageFault>
     ensures { IsUnlessMemory (λ keys. keys) (fields_in_rows (rows_of (found_of entries.now))) result }
 {
-    Keys::read(needed_text(entries, "fields")).map_err(UsageFault::Key)
+    read_keys(needed_text(entries, "fields"))
 }
 
 /// Returns the fault of a command line whose words can't be obtained, by the kind of the error: a word isn't UTF-8, or

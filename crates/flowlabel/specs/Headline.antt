@@ -1,10 +1,7 @@
-use Rattle.std.specs.Prelude.{◌≡◌, ◌≢◌, ◌≤◌, ◌<◌, ◌+◌, ◌^◌, ◌↔◌, ◌⊎◌, ◌&&◌, ◌∷◌, ◌++◌, [], ℕ, All, Contains, IsTrue, List, Bool, Option, None, Some, Ok, codes, decimal, filter, find, is_some, length, map, nat_le, nat_lt, option_map, slice_get, sum_by, unwrap_or}
+use Rattle.std.specs.Prelude.{◌≡◌, ◌≢◌, ◌≤◌, ◌<◌, ◌+◌, ◌^◌, ◌↔◌, ◌⊎◌, ◌&&◌, ◌∷◌, ◌++◌, [], ℕ, All, Contains, IsTrue, List, Bool, Option, None, Some, Ok, filter, is_some, length, map, nat_le, nat_lt, option_map, slice_get, unwrap_or}
 use Rattle.std.specs.Borrow.{Bor}
 use Rattle.std.specs.List.{last_or}
-use Rattle.std.specs.Option.{option_map_or}
-use Rattle.std.specs.Str.{bytes_eq}
 use Rattle.prefix_keys.specs.Block.{width_of}
-use Rattle.prefix_keys.specs.Print.{address_text}
 use Rattle.pmap_text.specs.ListModel.{IsEquivalent, ListModel, covers}
 use Rattle.pmap_text.specs.Label.{is_label}
 use Rattle.pmap_text.specs.MapModel.{Label as LabelOf, MapModel, spans}
@@ -16,21 +13,16 @@ use Rattle.pmap_cert.specs.Compacting.{compact, line_count}
 use Rattle.pmap_cert.specs.FormatReading.{format_reading}
 use Rattle.cert_check.specs.Checking.{first_fault}
 use Rattle.pmap_text.specs.Runs.{HasOneRun, Run}
-use Rattle.label_lookup.specs.Labelling.{Labelling, label_by, label_where, labelling}
+use Rattle.label_lookup.specs.Labelling.{Labelling, label_by, labelling}
 use Rattle.flow_rows.specs.Counts.{rows_of_messages}
 use Rattle.flow_rows.specs.Elements.{RowView}
 use Rattle.flow_rows.specs.Laws.{summed_counts}
 use Rattle.flow_filter.specs.Laws.{rows_left}
-use Rattle.flow_uniq.specs.Key.{field_name}
-use Rattle.flow_uniq.specs.Times.{unit_start}
-use Rattle.flow_uniq.specs.Grouped.{AreGrouped}
-use Rattle.flow_uniq.specs.declared.field.KeyField.{KeyField}
-use Rattle.flow_uniq.specs.declared.field.KeyField.TheVariants.{Start}
 use Rattle.pmap_cert.specs.ListText.{labels_of, list_text}
-use Rattle.pmap_print.specs.Reports.{group_titles, info_text, title_line}
+use Rattle.pmap_print.specs.Reports.{info_text, title_line}
 use Rattle.pmap_text.specs.RunsText.{runs_text}
 use Rattle.pmap_print.specs.Table.{table_text}
-use Rattle.pmap_print.specs.Times.{time_text}
+use Rattle.flow_files.specs.Groups.{PrintsGroups, row_columns}
 use Rattle.flow_files.specs.Outcomes.{FlowsThen, LabelsThen, Outcome, Prints}
 use Rattle.flowlabel.specs.Output.{IsOutput, minimal_text}
 use Rattle.flow_files.specs.declared.by_file.ByFile.{ByFile}
@@ -96,19 +88,6 @@ GivesLabels (Prefixes file) texts labels = (l : ListModel) × (list_reading text
     (slice_get (in_order (λ p q. nat_lt q.bits p.bits)
     (filter (λ p. nat_le p.bits W && covers W p.bits a p) l.prefixes)) 0)))
 
--- the columns of a row, each with its title and the row's field; the last two are the labels of its addresses, if there is
--- a labelling
-abbrev pub row_columns : Option Labelling → RowView → List (Text × Text)
-row_columns labels row =
-    (codes "sip", address_text row.version row.src)
-    ∷ (codes "dip", address_text row.version row.dst)
-    ∷ (codes "sport", decimal row.sport) ∷ (codes "dport", decimal row.dport)
-    ∷ (codes "proto", decimal row.protocol) ∷ (codes "flags", decimal row.flags)
-    ∷ (codes "packets", decimal row.packets) ∷ (codes "bytes", decimal row.octets)
-    ∷ (codes "stime", decimal row.start_ms) ∷ (codes "etime", decimal row.end_ms)
-    ∷ option_map_or (λ l. (codes "src-label", unwrap_or (label_by l (row.version, row.src)) [])
-    ∷ (codes "dst-label", unwrap_or (label_by l (row.version, row.dst)) []) ∷ []) labels []
-
 -- The outcome is a table of a header and a line for each row, in order. The header has the titles of each row's columns,
 -- and the row's line has the fields.
 abbrev pub PrintsRows : Bool → Option Labelling → List RowView → Outcome → Type 0
@@ -116,24 +95,6 @@ PrintsRows columns labels shown outcome = let titles = title_line (is_some label
     All (λ row. map (λ c. c.0) (row_columns labels row) ≡ titles) shown
     × Prints (table_text columns
     (titles ∷ map (λ row. map (λ c. c.1) (row_columns labels row)) shown)) outcome
-
--- the text of a field of a row: of its column, empty if there is no such column, or of the start of a unit of time
-abbrev pub field_text : Option Labelling → RowView → KeyField → Text
-field_text labels row (Start unit) = time_text unit.precision (unit_start unit row.start_ms)
-field_text labels row field =
-    option_map_or (λ c. c.1)
-    (find (λ c. bytes_eq c.0 (field_name field)) (row_columns labels row)) []
-
--- The outcome is a table of groups of the rows, each with a first row and others. The line of a group has the texts of
--- the fields of the first row, the number of its rows, and the sums of their packets and bytes.
-abbrev pub PrintsGroups : List KeyField → Bool → Bool → Option Labelling → List RowView → Outcome
-    → Type 0
-PrintsGroups fields sorted columns labels shown outcome = (groups : List (RowView × List RowView))
-    × AreGrouped (label_where labels) fields sorted shown (map (λ g. g.0 ∷ g.1) groups)
-    × Prints (table_text columns (group_titles fields ∷ map (λ g. let rows = g.0 ∷ g.1 in
-    map (field_text labels g.0) fields
-    ++ decimal (length rows) ∷ decimal (sum_by (λ r. r.packets) rows)
-    ∷ decimal (sum_by (λ r. r.octets) rows) ∷ []) groups)) outcome
 
 -- The outcome is the text of runs. Exactly one run has each address. If a run begins right after another one, their labels
 -- differ. No run is empty.

@@ -12,7 +12,8 @@ ghost use Rattle.flow_rows.specs.Counts.{rows_of_messages};
 ghost use Rattle.flow_filter.specs.Condition.{Condition};
 ghost use Rattle.flow_filter.specs.Laws.{rows_left};
 ghost use Rattle.flow_uniq.specs.declared.field.KeyField.{KeyField};
-ghost use Rattle.flowlabel.specs.Headline.{AreShrunk, IsHeadline, PrintsGroups, PrintsRows};
+ghost use Rattle.flowlabel.specs.Headline.{AreShrunk, IsHeadline, PrintsRows};
+ghost use Rattle.flow_files.specs.Groups.{PrintsGroups};
 ghost use Rattle.flowlabel.specs.Output.{IsOutput};
 ghost use Rattle.flow_files.specs.Outcomes.{Outcome};
 ghost use Rattle.flow_files.specs.declared.by_file.ByFile.{ByFile};
@@ -22,9 +23,9 @@ ghost use Rattle.flow_files.specs.declared.label_file.LabelFile.TheVariants.{Lis
 ghost use Rattle.flowlabel.specs.declared.command.Shrunk.TheVariants as shrunk;
 
 use cert_check::no_fault_is_acceptance;
+use flow_files::uniq_prints_groups;
 use flow_filter::options_hold_together;
 use flow_rows::counts_add_up;
-use flow_uniq::rows_are_grouped_by_fields;
 use pmap_cert::{
     acceptance_is_enough, compact_gives_back_equal, compact_has_a_text, compact_has_no_more_lines,
     compact_keeps_acceptance, map_text_has_a_minimal_pair, map_text_has_its_labels,
@@ -82,7 +83,7 @@ pub fn output_keeps_headline()
     compact_keeps_acceptance();
     counts_add_up();
     options_hold_together();
-    rows_are_grouped_by_fields();
+    uniq_prints_groups();
     runs_cover_each_address_once();
 }
 

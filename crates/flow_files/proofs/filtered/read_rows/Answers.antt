@@ -39,7 +39,7 @@ add_messages-requires g c =
 pub returns-in_err-add_messages : goal.returns-in_err-add_messages
 returns-in_err-add_messages g c =
     then_err (λ texts messages. Ok (option_map labelling_read c.in_ok-read.read, messages))
-    (flows_read c.in_ok-read.ensures.read {is = λ messages _. HasPassing g.T.TakesRows.has_rows (record { filter = c.args.filter; labels = c.as_ref.result; taker = c.args.taker }) messages c.add_messages.new.taker} (omega arith) c.in_err-add_messages.ensures) (omega arith)
+    (flows_read c.in_ok-read.ensures.read {is = λ messages _. HasPassing g.T.TakesRows.has_rows (record { filter = c.args.filter; labels = c.as_ref.result; taker = c.args.taker }) messages c.add_messages.new.taker} (omega arith) c.in_err-add_messages.ensures.reads) (omega arith)
     (λ texts given. report_is c.args.source c.in_ok-read.ensures.read c.add_messages.new.flows texts (λ o low. given o))
     (λ texts messages fault is. cc) c.from_residual-in_err-add_messages.ensures.1
 
@@ -50,7 +50,7 @@ returns g c =
     let is : labelling_found c.as_ref.result ≡ option_map labelling_read c.in_ok-read.read =
     found_is c.as_ref.result c.in_ok-index.index (option_map labelling_read c.in_ok-read.read) c.as_ref.ensures.value c.in_ok-index.ensures in
     then_ok (λ texts messages. Ok (option_map labelling_read c.in_ok-read.read, messages))
-    (flows_read c.in_ok-read.ensures.read {is = λ messages _. HasPassing g.T.TakesRows.has_rows (record { filter = c.args.filter; labels = c.as_ref.result; taker = c.args.taker }) messages c.add_messages.new.taker} (omega arith) c.in_ok-add_messages.ensures) (omega arith)
+    (flows_read c.in_ok-read.ensures.read {is = λ messages _. HasPassing g.T.TakesRows.has_rows (record { filter = c.args.filter; labels = c.as_ref.result; taker = c.args.taker }) messages c.add_messages.new.taker} (omega arith) c.in_ok-add_messages.ensures.reads) (omega arith)
     (λ texts given. report_is c.args.source c.in_ok-read.ensures.read c.add_messages.new.flows texts (λ o low. given o (omega (arith, low))))
     (λ texts messages passed. (
       (option_map labelling_read c.in_ok-read.read, messages),

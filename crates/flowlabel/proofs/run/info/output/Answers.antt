@@ -15,16 +15,16 @@ returns-in_err-buffer g c flows = no_memory_left (none_read 3 c.args.files.now c
 pub returns-in_err-add_messages : goal.returns-in_err-add_messages
 returns-in_err-add_messages g c flows =
     faulty (λ texts messages. Prints (info_text (counts_of messages))) (λ texts given. then_in InFlows _ (file_reading texts.flows))
-    (flows_read (none_read 3 c.args.files.now c.requires) {is = λ messages _. HasCounts messages c.add_messages.new.taker} (omega arith) c.in_err-add_messages.ensures) (omega arith)
+    (flows_read (none_read 3 c.args.files.now c.requires) {is = λ messages _. HasCounts messages c.add_messages.new.taker} (omega arith) c.in_err-add_messages.ensures.reads) (omega arith)
     (λ texts messages fault is. cc) c.from_residual-in_err-add_messages.ensures.1
 
 pub returns-in_err-print_info : goal.returns-in_err-print_info
 returns-in_err-print_info g c flows =
-    no_memory_left (flows_read (none_read 3 c.args.files.now c.requires) {is = λ messages _. HasCounts messages c.add_messages.new.taker} (omega arith) c.in_ok-add_messages.ensures) (omega arith)
+    no_memory_left (flows_read (none_read 3 c.args.files.now c.requires) {is = λ messages _. HasCounts messages c.add_messages.new.taker} (omega arith) c.in_ok-add_messages.ensures.reads) (omega arith)
     c.from_residual-in_err-print_info.ensures.1
 
 pub returns : goal.returns
 returns g c flows =
     makes (λ texts messages. Prints (info_text (counts_of messages))) (λ texts given. then_in InFlows _ (file_reading texts.flows))
-    (flows_read (none_read 3 c.args.files.now c.requires) {is = λ messages _. HasCounts messages c.add_messages.new.taker} (omega arith) c.in_ok-add_messages.ensures) (omega arith)
+    (flows_read (none_read 3 c.args.files.now c.requires) {is = λ messages _. HasCounts messages c.add_messages.new.taker} (omega arith) c.in_ok-add_messages.ensures.reads) (omega arith)
     (λ texts messages is. (tt, λ out same. ap Ok (same ∙ c.in_ok-print_info.ensures ∙ ap info_text is)))

@@ -1,5 +1,5 @@
-use Rattle.std.proofs.Common.{◌≡◌, ◌∙◌, ◌^◌, ℕ, Bool, List, [], ◌∷◌, ◌++◌, Option, None, Some, Result, Ok, ap, map, refl, subst, sym}
-use Rattle.std.specs.Prelude.{◌↔◌, decimal, is_some, length, slice_index_or, unwrap_or, sum_by}
+use Rattle.std.proofs.Common.{◌≡◌, ◌∙◌, ◌^◌, ℕ, Bool, List, ◌∷◌, ◌++◌, [], Option, None, Some, Result, Ok, ap, map, refl, subst, sym}
+use Rattle.std.specs.Prelude.{◌↔◌, is_some, length, slice_index_or, unwrap_or}
 use Rattle.pmap_text.specs.ListModel.{ListModel}
 use Rattle.pmap_text.specs.MapModel.{MapModel}
 use Rattle.prefix_keys.specs.Block.{width_of}
@@ -11,7 +11,7 @@ use Rattle.pmap_cert.specs.CertificateModel.{CertificateModel}
 use Rattle.pmap_cert.specs.Compacting.{compact}
 use Rattle.cert_check.specs.Checking.{first_fault}
 use Rattle.cert_check.specs.declared.fault.CheckFault.{CheckFault}
-use Rattle.label_lookup.specs.Labelling.{Labelling, label_by, label_where, labelling_of_list, labelling_of_map}
+use Rattle.label_lookup.specs.Labelling.{Labelling, label_by, labelling_of_list, labelling_of_map}
 use Rattle.flowlabel.proofs.CoveringLabels.{labelling-of_list, labelling-of_map}
 use Rattle.label_lookup.proofs.Labellings.{same_labelling}
 use Rattle.flowlabel.proofs.RowLemmas.{lines_are}
@@ -20,19 +20,16 @@ use Rattle.flow_rows.specs.Counts.{counts_of, rows_of_messages}
 use Rattle.flow_rows.specs.Elements.{RowView}
 use Rattle.flow_rows.specs.Laws.{summed_counts}
 use Rattle.flow_filter.specs.Laws.{rows_left}
-use Rattle.flow_uniq.specs.declared.field.KeyField.{KeyField}
-use Rattle.flow_uniq.specs.declared.field.KeyField.TheVariants.{SourceAddress, DestinationAddress, SourcePort, DestinationPort, Protocol, Flags, SourceLabel, DestinationLabel, Start}
-use Rattle.flow_uniq.specs.Key.{key_of, key_part}
-use Rattle.flow_uniq.specs.Grouped.{AreGrouped, group_with}
-use Rattle.pmap_print.specs.Reports.{group_fields, group_titles, info_text, part_text, title_line}
+use Rattle.pmap_print.specs.Reports.{info_text, title_line}
 use Rattle.pmap_print.specs.Table.{Line, table_text}
-use Rattle.flowlabel.specs.Headline.{GivesLabels, IsSameUnder, PrintsEachOnce, PrintsGroups, PrintsList, PrintsRows, field_text, row_columns}
+use Rattle.flowlabel.specs.Headline.{GivesLabels, IsSameUnder, PrintsEachOnce, PrintsList, PrintsRows}
 use Rattle.flow_files.specs.declared.bytes_fault.BytesFault.{BytesFault}
+use Rattle.flow_files.specs.Groups.{PrintsGroups, row_columns}
 use Rattle.flow_files.specs.Outcomes.{LabelsThen, Outcome, Prints, Then}
 use Rattle.flowlabel.specs.Output.{IsVerdict, IsOutput, label_text, labelled_row_lines, minimal_text}
 use Rattle.flowlabel.proofs.Outcomes.{CertificateThen, ListThen, PrintsCompact, PrintsMinimal, PrintsRuns, ReportsOf, printed_of, report_of_groups, report_of_rows, checked}
 use Rattle.std.specs.Borrow.{Bor}
-use Rattle.flow_files.specs.Reports.{labels_reading, passing_rows, report_reading}
+use Rattle.flow_files.specs.Reports.{labels_reading, report_reading}
 use Rattle.flow_files.proofs.ReadLemmas.{labels_then, report_then}
 use Rattle.flow_files.specs.declared.by_file.ByFile.{ByFile}
 use Rattle.flowlabel.specs.Request.{Cat, Check, Command, Info, Label, Recert, Rows, Shrink, Uniq}
@@ -59,11 +56,11 @@ checked_of name texts out is =
 
 -- a command has the same outcome under an equivalent file of labels, since the labellings are equal
 same_under : (rest : Labelling → Outcome → Type 0) (command : LabelFile → Command) (texts : ByFile Text)
-    → ((file : LabelFile) (map list : Text) (outcome : Outcome) → LabelsThen rest file (record texts { map = map; list = list }) outcome
-    ↔ IsOutput (command file) (record texts { map = map; list = list }) outcome)
+    → ((file : LabelFile) (map list : Text) (outcome : Outcome) → LabelsThen rest file (record texts {map = map; list = list }) outcome
+    ↔ IsOutput (command file) (record texts {map = map; list = list }) outcome)
     → IsSameUnder command texts
 same_under rest command texts is name m l map list outcome reads_map reads_list equivalent =
-    let given : ByFile Text = record texts { map = map; list = list } in
+    let given : ByFile Text = record texts {map = map; list = list } in
     let same : labelling_of_list l ≡ labelling_of_map m = same_labelling l m equivalent in
     let under_map : LabelsThen rest (Map name) given outcome ↔ rest (labelling_of_map m) outcome = (λ h. rw reads_map at h, λ h. rw reads_map h) in
     let under_list : LabelsThen rest (Prefixes name) given outcome ↔ rest (labelling_of_list l) outcome = (λ h. rw reads_list at h, λ h. rw reads_list h) in (
@@ -109,38 +106,6 @@ prints_rows columns labels shown outcome made = (
   made ∙ ap (λ (lines : List Line). Ok (table_text columns lines)) (lines_of_rows labels shown),
 )
 
--- the line of a group has the texts of a row's fields
-text_of_field : (labels : Option Labelling) (row : RowView) (field : KeyField) → part_text (key_part (label_where labels) row field) ≡ field_text labels row field
-text_of_field labels row SourceAddress = refl
-text_of_field labels row DestinationAddress = refl
-text_of_field labels row SourcePort = refl
-text_of_field labels row DestinationPort = refl
-text_of_field labels row Protocol = refl
-text_of_field labels row Flags = refl
-text_of_field None row SourceLabel = refl
-text_of_field (Some l) row SourceLabel = refl
-text_of_field None row DestinationLabel = refl
-text_of_field (Some l) row DestinationLabel = refl
-text_of_field labels row (Start unit) = refl
-
-texts_of_fields : (labels : Option Labelling) (row : RowView) (fields : List KeyField)
-    → map part_text (key_of (label_where labels) fields row) ≡ map (field_text labels row) fields
-texts_of_fields labels row [] = refl
-texts_of_fields labels row (field ∷ fields) = λ i. text_of_field labels row field i ∷ texts_of_fields labels row fields i
-
-abbrev group_line : List KeyField → Option Labelling → RowView × List RowView → Line
-group_line fields labels g =
-    let rows : List RowView = g.0 ∷ g.1 in
-    map (field_text labels g.0) fields ++ decimal (length rows) ∷ decimal (sum_by (λ r. r.packets) rows) ∷ decimal (sum_by (λ r. r.octets) rows) ∷ []
-
-lines_of_groups : (fields : List KeyField) (labels : Option Labelling) (groups : List (RowView × List RowView))
-    → map group_fields (map (group_with (label_where labels) fields) groups) ≡ map (group_line fields labels) groups
-lines_of_groups fields labels [] = refl
-lines_of_groups fields labels (group ∷ groups) =
-    let g = group_with (label_where labels) fields group in
-    λ i. (texts_of_fields labels group.0 fields i ++ decimal g.totals.records ∷ decimal g.totals.packets ∷ decimal g.totals.octets ∷ [])
-    ∷ lines_of_groups fields labels groups i
-
 -- two texts that a command prints are equal
 only : (command : Command) (texts : ByFile Text) → (outcome : Outcome) × IsOutput command texts outcome × ((other : Outcome) → IsOutput command texts other → other ≡ outcome)
     → {this that : List ℕ} → IsOutput command texts (Ok this) → IsOutput command texts (Ok that) → this ≡ that
@@ -176,16 +141,8 @@ returns c (Uniq fields file condition sorted columns flows) texts out is = (
   keep_over _ _ (report_reading file texts) (report_then (λ labels messages. Prints (report_of_groups fields condition sorted columns labels messages)) file texts)
       (report_then (λ labels messages. PrintsGroups fields sorted columns labels (rows_left condition labels (rows_of_messages messages))) file texts)
       (λ read text made.
-      let labels : Option Labelling = read.0 in
-      let shown : List RowView = passing_rows condition labels read.1 in
-      let (groups, divide, are) = c.rows_are_grouped_by_fields.ensures fields (label_where labels) sorted shown in (
-        groups,
-        subst (λ (left : List RowView). AreGrouped (label_where labels) fields sorted left (map (λ g. g.0 ∷ g.1) groups))
-            (c.options_hold_together.ensures.left condition labels (rows_of_messages read.1)) divide,
-        made
-            ∙ ap (λ (lines : List Line). Ok (table_text columns (group_titles fields ∷ lines)))
-            (ap (map group_fields) are ∙ lines_of_groups fields labels groups),
-      ))
+      subst (λ (outcome : Outcome). PrintsGroups fields sorted columns read.0 (rows_left condition read.0 (rows_of_messages read.1)) outcome) (sym made)
+      (c.uniq_prints_groups.ensures fields condition sorted columns read.0 read.1))
       out is,
 )
 returns c (Cat file) texts out is = (

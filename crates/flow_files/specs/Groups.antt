@@ -1,0 +1,49 @@
+use Rattle.std.specs.Prelude.{◌∷◌, ◌++◌, [], Bool, List, None, Option, codes, decimal, find, length, map, sum_by, unwrap_or}
+use Rattle.std.specs.Option.{option_map_or}
+use Rattle.std.specs.Str.{bytes_eq}
+use Rattle.prefix_keys.specs.Print.{address_text}
+use Rattle.label_lookup.specs.Labelling.{Labelling, label_by, label_where}
+use Rattle.flow_rows.specs.Elements.{RowView}
+use Rattle.flow_uniq.specs.Grouped.{AreGrouped}
+use Rattle.flow_uniq.specs.Key.{field_name}
+use Rattle.flow_uniq.specs.Times.{unit_start}
+use Rattle.flow_uniq.specs.declared.field.KeyField.{KeyField}
+use Rattle.flow_uniq.specs.declared.field.KeyField.TheVariants.{Start}
+use Rattle.pmap_print.specs.Reports.{group_titles}
+use Rattle.pmap_print.specs.Table.{table_text}
+use Rattle.pmap_print.specs.Times.{time_text}
+use Rattle.flow_files.specs.Outcomes.{Outcome, Prints}
+use Rattle.flow_files.specs.Sources.{Text}
+
+-- Tables of groups of rows, in a row's own terms.
+
+-- the columns of a row, each with its title and the row's field; the last two are the labels of its addresses, if there is
+-- a labelling
+abbrev pub row_columns : Option Labelling → RowView → List (Text × Text)
+row_columns labels row =
+    (codes "sip", address_text row.version row.src)
+    ∷ (codes "dip", address_text row.version row.dst)
+    ∷ (codes "sport", decimal row.sport) ∷ (codes "dport", decimal row.dport)
+    ∷ (codes "proto", decimal row.protocol) ∷ (codes "flags", decimal row.flags)
+    ∷ (codes "packets", decimal row.packets) ∷ (codes "bytes", decimal row.octets)
+    ∷ (codes "stime", decimal row.start_ms) ∷ (codes "etime", decimal row.end_ms)
+    ∷ option_map_or (λ l. (codes "src-label", unwrap_or (label_by l (row.version, row.src)) [])
+    ∷ (codes "dst-label", unwrap_or (label_by l (row.version, row.dst)) []) ∷ []) labels []
+
+-- the text of a field of a row: of its column, empty if there is no such column, or of the start of a unit of time
+abbrev pub field_text : Option Labelling → RowView → KeyField → Text
+field_text labels row (Start unit) = time_text unit.precision (unit_start unit row.start_ms)
+field_text labels row field =
+    option_map_or (λ c. c.1)
+    (find (λ c. bytes_eq c.0 (field_name field)) (row_columns labels row)) []
+
+-- The outcome is a table of groups of the rows, each with a first row and others. The line of a group has the texts of
+-- the fields of the first row, the number of its rows, and the sums of their packets and bytes.
+abbrev pub PrintsGroups : List KeyField → Bool → Bool → Option Labelling → List RowView → Outcome
+    → Type 0
+PrintsGroups fields sorted columns labels shown outcome = (groups : List (RowView × List RowView))
+    × AreGrouped (label_where labels) fields sorted shown (map (λ g. g.0 ∷ g.1) groups)
+    × Prints (table_text columns (group_titles fields ∷ map (λ g. let rows = g.0 ∷ g.1 in
+    map (field_text labels g.0) fields
+    ++ decimal (length rows) ∷ decimal (sum_by (λ r. r.packets) rows)
+    ∷ decimal (sum_by (λ r. r.octets) rows) ∷ []) groups)) outcome

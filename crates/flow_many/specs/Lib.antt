@@ -1,0 +1,10 @@
+pub mod Answer
+pub mod Definition
+pub mod Ending
+pub mod Files
+pub mod Headline
+pub mod Joined
+pub mod Output
+pub mod Reading
+pub mod Request
+pub mod Run
