@@ -10,8 +10,8 @@ use Rattle.pmap_text.specs.declared.entry.Entry.{Entry}
 use Rattle.pmap_text.specs.declared.statement.Statement.{Statement}
 use Rattle.cert_check.specs.Checking.{is_same_version}
 
--- The statements of a map and the entries of a list that affect a block. Those of another version than the block's cover
--- no address of it.
+-- The statements of a map and the entries of a list that affect a block. Those of another version than the block's
+-- cover no address of it.
 
 -- the items from the last one that passes the test, or all of them if none does
 abbrev pub from_last : {X : Type 0} → (X → Bool) → List X → List X
@@ -20,7 +20,8 @@ from_last p (x ∷ xs) = if list_any p xs then from_last p xs else x ∷ xs
 
 -- the statement covers some address of the block
 abbrev pub meets_block : Block → Statement → Bool
-meets_block b s = is_same_version s.span.low.version b.version && meets (width_of b.version) b.len (number_of b) (mapping_of [] s)
+meets_block b s = is_same_version s.span.low.version b.version
+    && meets (width_of b.version) b.len (number_of b) (mapping_of [] s)
 
 -- the statement covers each address of the block
 abbrev pub spans_block : Block → Statement → Bool
@@ -48,4 +49,5 @@ is_inside b e =
 -- the longest entry that covers the block, if there is one, and those strictly inside it, in the given order
 abbrev pub entries_carried_to : Block → List Entry → List Entry
 entries_carried_to b es =
-    filter (λ e. (covers_whole b e && not (list_any (λ r. covers_whole b r && nat_lt e.block.len r.block.len) es)) || is_inside b e) es
+    filter (λ e. (covers_whole b e && not (list_any (λ r. covers_whole b r && nat_lt e.block.len r.block.len) es))
+        || is_inside b e) es

@@ -31,7 +31,8 @@ is_same_version _ _ = false
 abbrev pub is_label_of : Option Label → Label → Bool
 is_label_of label x = option_map_or (λ y. bytes_eq y x) label false
 
--- the list settles the block with the label: no entry lies strictly inside, and the longest that covers it has the label
+-- the list settles the block with the label: no entry lies strictly inside, and the longest that covers it has the
+-- label
 abbrev pub list_settles : ℕ → List Prefix → ℕ → ℕ → Label → Bool
 list_settles W ps n q x =
     not (list_any (lies_inside W n q) ps)

@@ -57,13 +57,15 @@ pub record AreSources (s : Sources) : Type 0 where
   pub map_width : s.of_map.stretches.version ≡ s.map.now.version
   pub list_width : s.of_list.stretches.version ≡ s.list.now.version
   pub map_stretches : AreStretches s.map.now.statements (Some s.map.now.default) s.of_map.stretches
-  pub list_stretches : (ss : List Statement) × AreShortestFirst s.list.now.entries ss × AreStretches ss None s.of_list.stretches
+  pub list_stretches : (ss : List Statement) × AreShortestFirst s.list.now.entries ss
+      × AreStretches ss None s.of_list.stretches
 
 -- no block whose addresses are all at least `first` and below `stop` has a fault as a leaf with the label x
 abbrev pub IsClear : Sources → ℕ → ℕ → Label → Type 0
 IsClear s first stop x =
     (n q : ℕ) → n ≤ width_of s.map.now.version → first ≤ first_of (width_of s.map.now.version) n q →
-    last_of (width_of s.map.now.version) n q < stop → leaf_fault (map_of s.map.now) (list_of s.list.now).prefixes n q x ≡ None
+    last_of (width_of s.map.now.version) n q < stop
+        → leaf_fault (map_of s.map.now) (list_of s.list.now).prefixes n q x ≡ None
 
 -- the fault of the blocks beside the path with these bits, from the deepest up, as leaves with the label x
 abbrev pub sides_fault : MapModel → List Prefix → Label → List Bool → ℕ → ℕ → Option CheckFaultKind
@@ -144,7 +146,8 @@ fault_with number = option_map (λ kind. record { kind = kind; node = number })
 
 -- A tree was read, whose node has this number. The walk has its claimed set after the old ones, and its first fault
 -- unless one came before.
-pub record IsPassed (s : Sources) (reading : Read) (fault_at : Tree → ℕ → Option CheckFault) (number : ℕ) (old : List LabelId) (before : Option CheckFault) (new : Walk) (cost : ℕ) : Type 0 where
+pub record IsPassed (s : Sources) (reading : Read) (fault_at : Tree → ℕ → Option CheckFault) (number : ℕ)
+    (old : List LabelId) (before : Option CheckFault) (new : Walk) (cost : ℕ) : Type 0 where
   pub tree : Tree
   pub set : List LabelId
   pub read : reading ≡ Ok (tree, new.nodes)
@@ -152,24 +155,30 @@ pub record IsPassed (s : Sources) (reading : Read) (fault_at : Tree → ℕ → 
   pub ascending : IsAscending (length s.limits.labels.now) 0 (map (λ i. i.0) set)
   pub sets : new.sets.items ≡ old ++ set
   pub fault : (k : ℕ) → (fault_of_number k BoundNotMet).node ≡ number
-      → (new.fault ≡ option_or before (fault_at tree k)) × (new.number ≡ (fault_of_number (k + line_count tree) BoundNotMet).node)
+      → (new.fault ≡ option_or before (fault_at tree k))
+      × (new.number ≡ (fault_of_number (k + line_count tree) BoundNotMet).node)
 
 -- the text has this fault, or an allocation failed
 abbrev pub IsUnread : {A : Type 0} → Result A CertFault → CertFault → Type 0
-IsUnread read found = (found.kind ≢ NoMemoryForText → read ≡ Err found) × (found.kind ≡ NoMemoryForText → found.line ≡ 0)
+IsUnread read found = (found.kind ≢ NoMemoryForText → read ≡ Err found)
+    × (found.kind ≡ NoMemoryForText → found.line ≡ 0)
 
 -- the result of a walk over a tree: its claimed cost, or `None` if the walk has the first fault of its text
-abbrev pub IsWalkResult : Sources → Read → (Tree → ℕ → Option CheckFault) → ℕ → List LabelId → Option CheckFault → Walk → Option ℕ → Type 0
+abbrev pub IsWalkResult : Sources → Read → (Tree → ℕ → Option CheckFault) → ℕ → List LabelId → Option CheckFault → Walk
+    → Option ℕ → Type 0
 IsWalkResult s read fault number old before new (Some cost) = IsPassed s read fault number old before new cost
-IsWalkResult s read fault number old before new None = (found : CertFault) × (new.outcome ≡ Err found) × IsUnread read found
+IsWalkResult s read fault number old before new None = (found : CertFault) × (new.outcome ≡ Err found)
+    × IsUnread read found
 
 -- the certificate whose root is this tree
 abbrev pub certificate_with : Format → Version → List Label → Tree → CertificateModel
-certificate_with format version table root = record { format = format_number format; version = version; table = table; root = root }
+certificate_with format version table root = record { format = format_number format; version = version; table = table;
+    root = root }
 
 -- the root was read, and the walk has the first fault of its certificate
 pub record IsRootChecked (s : Sources) (place : Place) (new : Walk) : Type 0 where
   pub tree : Tree
   pub read : reading_at s 0 place ≡ Ok (tree, new.nodes)
   pub fault : new.fault
-      ≡ first_fault (map_of s.map.now) (list_of s.list.now) (certificate_with s.limits.format s.map.now.version s.limits.labels.now tree)
+      ≡ first_fault (map_of s.map.now) (list_of s.list.now)
+      (certificate_with s.limits.format s.map.now.version s.limits.labels.now tree)

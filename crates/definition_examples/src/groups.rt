@@ -7,7 +7,7 @@ ghost use Rattle.definition_examples.specs.Rows.{tcp, tcp_back};
 ghost use Rattle.flow_uniq.specs.Key.{fields_need_labels};
 ghost use Rattle.flow_uniq.specs.declared.fault.KeyFault.TheVariants.{BadField, FieldRepeated};
 ghost use Rattle.flow_uniq.specs.declared.field.KeyField.TheVariants.{Flags, SourceAddress, SourceLabel};
-ghost use Rattle.prefix_keys.specs.declared.version.Version.TheVariants.{V4, V6};
+ghost use Rattle.prefix_keys.specs.declared.version.Version.TheVariants.{V6};
 ghost use Rattle.std.specs.Prelude.{◌≡◌, ◌∷◌, [], codes, Err, false, Ok, true};
 
 /// FORMATS.md, "Groups of rows": a group is all rows with the same values of the fields.

@@ -6,7 +6,7 @@ ghost use Rattle.flow_rows.specs.Elements.{rows_of_record};
 ghost use Rattle.ipfix_read.specs.Value.{values_at};
 ghost use Rattle.ipfix_templates.specs.Elements.{fits};
 ghost use Rattle.ipfix_templates.specs.declared.kind.Kind.TheVariants.{Flow, Options};
-ghost use Rattle.prefix_keys.specs.declared.version.Version.TheVariants.{V4, V6};
+ghost use Rattle.prefix_keys.specs.declared.version.Version.TheVariants.{V6};
 ghost use Rattle.std.specs.Prelude.{◌≡◌, ◌++◌, ◌∷◌, [], codes, None, Some, false};
 
 /// FORMATS.md, "Rows of a File": the table. The values are those of Python's `int.from_bytes`.

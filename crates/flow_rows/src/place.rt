@@ -1,6 +1,5 @@
 //! The numbers at places in the bytes of records.
 ghost use Rattle.std.specs.Prelude.{◌≡◌, ◌+◌, ◌≤◌, ◌⊎◌, [], IfSome, length, option_map, unwrap_or};
-ghost use Rattle.flow_rows.specs.Elements.{big_endian};
 ghost use Rattle.flow_rows.specs.Inner.{IsWithin, bytes_there, number_there};
 
 use byteorder::{BigEndian, ByteOrder};

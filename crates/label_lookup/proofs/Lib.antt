@@ -1,3 +1,4 @@
 pub mod Scanned
 pub mod Labellings
 pub mod Tops
+pub mod Entries

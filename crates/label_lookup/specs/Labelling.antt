@@ -47,7 +47,8 @@ label_where labels address = option_and_then (λ l. label_by l address) labels
 abbrev pub labelling_by : {L : Type 0} → (L → Version) → (L → ℕ → Option Label) → L → Labelling
 labelling_by version_of label_of labeller = record { version = version_of labeller; label = label_of labeller }
 
-abbrev pub labelling_borrowed : {L : Type 0} → (L → Version) → (L → ℕ → Option Label) → Option (Bor L) → Option Labelling
+abbrev pub labelling_borrowed : {L : Type 0} → (L → Version) → (L → ℕ → Option Label) → Option (Bor L)
+    → Option Labelling
 labelling_borrowed version_of label_of labeller = option_map (λ l. labelling_by version_of label_of l.now) labeller
 
 -- a trie of label numbers, with the table of their texts

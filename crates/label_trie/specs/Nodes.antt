@@ -38,7 +38,8 @@ abbrev pub leaves_from : List TrieNode → ℕ → ℕ → ℕ → ℕ → List 
 leaves_from nodes zero n q k = labelled_leaf n q (stored_label (stored_at nodes k)) ∷ []
 leaves_from nodes (suc h) n q k =
     if is_stored_leaf (stored_at nodes k) then labelled_leaf n q (stored_label (stored_at nodes k)) ∷ []
-    else leaves_from nodes h (suc n) (2 * q) (k + 1) ++ leaves_from nodes h (suc n) (2 * q + 1) (upper_of (stored_at nodes k))
+    else leaves_from nodes h (suc n) (2 * q) (k + 1)
+        ++ leaves_from nodes h (suc n) (2 * q + 1) (upper_of (stored_at nodes k))
 
 abbrev pub trie_node_from : List TrieNode → ℕ → ℕ → ℕ → ℕ → NodeModel
 trie_node_from nodes h n q k = record { bits = n; number = q; leaves = leaves_from nodes h n q k }
@@ -49,7 +50,8 @@ nodes_from nodes zero n q k = trie_node_from nodes zero n q k ∷ []
 nodes_from nodes (suc h) n q k =
     if is_stored_leaf (stored_at nodes k) then trie_node_from nodes (suc h) n q k ∷ []
     else trie_node_from nodes (suc h) n q k
-    ∷ (nodes_from nodes h (suc n) (2 * q) (k + 1) ++ nodes_from nodes h (suc n) (2 * q + 1) (upper_of (stored_at nodes k)))
+    ∷ (nodes_from nodes h (suc n) (2 * q) (k + 1)
+    ++ nodes_from nodes h (suc n) (2 * q + 1) (upper_of (stored_at nodes k)))
 
 -- the trie with these nodes
 abbrev pub trie_in : Version → List TrieNode → TrieModel
@@ -74,7 +76,8 @@ leaves_at nodes number = (get_or nodes number (record { bits = 0; number = 0; le
 -- the node with this number is for this block
 pub record IsPlace (t : TrieModel) (number : ℕ) (block : Block) : Type 0 where
   pub version : block.version ≡ t.version
-  pub node : IsNodeAt t number (record { bits = block.len; number = number_of block; leaves = leaves_at t.nodes number })
+  pub node : IsNodeAt t number (record { bits = block.len; number = number_of block;
+      leaves = leaves_at t.nodes number })
 
 -- The nodes of a block as they are stored from the number k on. The block is that of n bits with the number q, which
 -- has h host bits.
@@ -83,7 +86,8 @@ stored_in s zero n q k = leaf_stored (label_held s (first_of (width_of s.version
 stored_in s (suc h) n q k =
     if in_one s n q then leaf_stored (label_held s (first_of (width_of s.version) n q)) ∷ []
     else Inner (k + 2 * length (leaves_in s h (suc n) (2 * q)))
-    ∷ (stored_in s h (suc n) (2 * q) (k + 1) ++ stored_in s h (suc n) (2 * q + 1) (k + 2 * length (leaves_in s h (suc n) (2 * q))))
+    ∷ (stored_in s h (suc n) (2 * q) (k + 1)
+    ++ stored_in s h (suc n) (2 * q + 1) (k + 2 * length (leaves_in s h (suc n) (2 * q))))
 
 abbrev pub stored_of : StretchesModel → Window → ℕ → List TrieNode
 stored_of s w k = stored_in s (width_of s.version - w.len) w.len (window_number s w) k

@@ -17,7 +17,8 @@ pub record IsDivided (whole low high : CursorModel) : Type 0 where
   pub low_half : IsHalf 0 whole.block low.block
   pub high_half : IsHalf 1 whole.block high.block
   pub leaves : whole.leaves ≡ low.leaves ++ high.leaves
-  pub unsettled : (m : MapModel) → All (IsUndivided m) whole.leaves → settled_label m whole.block.len (number_of whole.block) ≡ None
+  pub unsettled : (m : MapModel) → All (IsUndivided m) whole.leaves
+      → settled_label m whole.block.len (number_of whole.block) ≡ None
   pub low_nodes : low.nodes ≡ whole.nodes
   pub high_nodes : high.nodes ≡ whole.nodes
   pub low_number : low.number ≡ whole.number + 1
@@ -36,7 +37,8 @@ pub record IsRoot (t : TrieModel) (c : CursorModel) : Type 0 where
 abbrev pub DescendsTo : ℕ → CursorModel → CursorModel → Type 0
 DescendsTo zero from to = to ≡ from
 DescendsTo (suc steps) from to =
-    (whole : CursorModel) × (other : CursorModel) × DescendsTo steps from whole × (IsDivided whole to other ⊎ IsDivided whole other to)
+    (whole : CursorModel) × (other : CursorModel) × DescendsTo steps from whole
+        × (IsDivided whole to other ⊎ IsDivided whole other to)
 
 -- a walk from the root meets the node
 pub record IsMet (t : TrieModel) (c : CursorModel) : Type 0 where

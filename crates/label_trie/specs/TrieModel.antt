@@ -17,7 +17,8 @@ pub record LeafModel : Type 0 where
   pub number : ℕ
   pub label : Option ℕ
 
--- a node of a trie: the block of `bits` bits with the number `number`, and the leaves at and below it in ascending order
+-- a node of a trie: the block of `bits` bits with the number `number`, and the leaves at and below it in ascending
+-- order
 pub record NodeModel : Type 0 where
   pub bits : ℕ
   pub number : ℕ
@@ -64,7 +65,8 @@ IsUndivided m leaf = (k : ℕ) → k < leaf.bits → settled_label m k (leaf.num
 -- that covers it has the leaf's label. If no entry covers the block, the leaf has no label.
 pub record IsLeafSettledByList (l : ListModel) (leaf : LeafModel) : Type 0 where
   pub inside : filter (lies_inside (width_of l.version) leaf.bits leaf.number) l.prefixes ≡ []
-  pub longest : label_below (width_of l.version) l.prefixes (suc leaf.bits) (first_of (width_of l.version) leaf.bits leaf.number)
+  pub longest : label_below (width_of l.version) l.prefixes (suc leaf.bits)
+      (first_of (width_of l.version) leaf.bits leaf.number)
       ≡ option_and_then (slice_get l.table) leaf.label
   pub known : ForSome leaf.label (λ id. id < length l.table)
 

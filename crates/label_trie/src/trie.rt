@@ -29,7 +29,6 @@ pub struct Trie {
 }
 
 impl Model for Trie {
-    ghost use Rattle.prefix_keys.specs.Block.{width_of};
     ghost use Rattle.label_trie.specs.TrieModel.{TrieModel};
 
     ghost Value = { TrieModel };
@@ -75,8 +74,8 @@ impl Trie {
         Ok(trie)
     }
 
-    /// Returns the number of the label at `addr`, which must be of the trie's version. Takes at most one step for each bit
-    /// of the address.
+    /// Returns the number of the label at `addr`, which must be of the trie's version. Takes at most one step for each
+    /// bit of the address.
     pub fn label_at(&self, addr: Addr) -> Option<LabelId>
         requires { addr.version ≡ self.now.version }
         ensures { option_map (λ id. id.0) result ≡ label_in self.now addr.value }

@@ -96,7 +96,8 @@ pub record HasBlock (W : ℕ) (p : Prefix) : Type 0 where
 
 -- When a certificate is accepted for a map and a prefix list.
 
--- the list settles the block with the label x: no entry lies strictly inside, and the longest that covers the block has x
+-- the list settles the block with the label x: no entry lies strictly inside, and the longest that covers the block has
+-- x
 pub record ListSettles (W : ℕ) (ps : List Prefix) (n q : ℕ) (x : Label) : Type 0 where
   pub inside : filter (lies_inside W n q) ps ≡ []
   pub longest : label_below W ps (suc n) (first_of W n q) ≡ Some x

@@ -26,8 +26,8 @@ format_header header =
     join_with_byte 32 (codes "flowlabel-cert" ∷ format_word header.0 ∷ version_word header.1.0
     ∷ decimal header.1.1 ∷ [])
 
--- a line of a leaf with its label's number, of an inner node with its cost and its set's numbers, or of a chain with its
--- cost, its bits, and the numbers of its side label and its set
+-- a line of a leaf with its label's number, of an inner node with its cost and its set's numbers, or of a chain with
+-- its cost, its bits, and the numbers of its side label and its set
 pub data DueLine : Type 0 where
   LeafLine : (number : ℕ) → DueLine
   InnerLine : (cost : ℕ) (numbers : List ℕ) → DueLine
@@ -81,7 +81,8 @@ IsAscending bound low (n ∷ ns) = (low ≤ n) × (n < bound) × IsAscending bou
 
 pub IsAscending-prop : (bound low : ℕ) (ns : List ℕ) → IsProp (IsAscending bound low ns)
 IsAscending-prop bound low [] = Unit-prop
-IsAscending-prop bound low (n ∷ ns) = λ x y i. (le_prop x.0 y.0 i, le_prop x.1 y.1 i, IsAscending-prop bound (n + 1) ns x.2 y.2 i)
+IsAscending-prop bound low (n ∷ ns) = λ x y i.
+    (le_prop x.0 y.0 i, le_prop x.1 y.1 i, IsAscending-prop bound (n + 1) ns x.2 y.2 i)
 
 -- The node at a chain's end fits into the room below the chain: each of the chain's bits takes one level.
 abbrev pub HasRoomBelow : (ℕ → Type 0) → List Bool → ℕ → Type 0
@@ -95,7 +96,8 @@ abbrev pub HasChainForm : ℕ → TreeOf ℕ → ℕ → Type 0
 HasChainForm count (LeafNode number) room = number < count
 HasChainForm count (InnerNode claim lower upper) zero = ⊥
 HasChainForm count (InnerNode claim lower upper) (suc room) =
-    (claim.cost < 2 ^ 32) × IsAscending count 0 claim.labels × HasChainForm count lower room × HasChainForm count upper room
+    (claim.cost < 2 ^ 32) × IsAscending count 0 claim.labels × HasChainForm count lower room
+        × HasChainForm count upper room
 HasChainForm count (ChainNode claim bits side end) room =
     (claim.cost < 2 ^ 32) × IsAscending count 0 claim.labels × (side < count) × (0 < length bits)
     × HasRoomBelow (HasChainForm count end) bits room

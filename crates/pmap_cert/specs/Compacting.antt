@@ -17,7 +17,8 @@ abbrev pub leaf_label : {L : Type 0} → TreeOf L → Option L
 leaf_label (LeafNode x) = Some x
 leaf_label _ = None
 
--- the side label of an inner node's run, by its halves: that of the lower one if it is a leaf, otherwise of the upper one
+-- the side label of an inner node's run, by its halves: that of the lower one if it is a leaf, otherwise of the upper
+-- one
 abbrev pub side_of : {L : Type 0} → TreeOf L → TreeOf L → Option L
 side_of lower upper = option_or (leaf_label lower) (leaf_label upper)
 

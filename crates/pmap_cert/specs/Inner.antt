@@ -26,7 +26,8 @@ reading_from format version table place =
     ended_by (record { format = format_number format; version = version; table = table; root = root.0 }) root.1)
 
 -- the next node was read, and its lines with those of the nodes below it follow the old ones
-pub record IsReadNode (format : Format) (most : ℕ) (table : List Label) (room : ℕ) (place : Place) (old new : List DueLine) (after : Place) : Type 0 where
+pub record IsReadNode (format : Format) (most : ℕ) (table : List Label) (room : ℕ) (place : Place)
+    (old new : List DueLine) (after : Place) : Type 0 where
   pub node : Node
   pub read : node_due_at format most table room place ≡ Ok (tree_of table node, after)
   pub form : HasChainForm (length table) node room
@@ -71,7 +72,8 @@ pub record BeginsWithSet (bound low : ℕ) (text : List ℕ) (numbers rest : Lis
   pub ascending : IsAscending bound low numbers
 
 -- the text is the text of a value that passes the test, a line feed, and the rest
-pub record BeginsWithLineOf {A : Type 0} (test : A → Bool) (text_of : A → List ℕ) (text : List ℕ) (x : A) (rest : List ℕ) : Type 0 where
+pub record BeginsWithLineOf {A : Type 0} (test : A → Bool) (text_of : A → List ℕ) (text : List ℕ) (x : A)
+    (rest : List ℕ) : Type 0 where
   pub whole : text ≡ text_of x ++ 10 ∷ rest
   pub fits : test x ≡ true
 
@@ -89,7 +91,8 @@ BeginsWithHeader text = BeginsWithLineOf fits_header format_header text
 abbrev pub header_name : ℕ → Version → List ℕ
 header_name format version = join_with_byte 32 (codes "flowlabel-cert" ∷ format_word format ∷ version_word version ∷ [])
 
-pub record BeginsWithBoth {A B : Type 0} (First : A → List ℕ → Type 0) (Second : List ℕ → B → List ℕ → Type 0) (both : A × B) (rest : List ℕ) : Type 0 where
+pub record BeginsWithBoth {A B : Type 0} (First : A → List ℕ → Type 0) (Second : List ℕ → B → List ℕ → Type 0)
+    (both : A × B) (rest : List ℕ) : Type 0 where
   pub middle : List ℕ
   pub first : First both.0 middle
   pub second : Second middle both.1 rest
@@ -99,7 +102,8 @@ BeginsWithClaim bound count text = BeginsWithBoth (BeginsWithNumber bound text) 
 
 abbrev pub BeginsWithChain : ℕ → ℕ → List ℕ → ℕ × (List Bool × (ℕ × List ℕ)) → List ℕ → Type 0
 BeginsWithChain most count text =
-    BeginsWithBoth (BeginsWithNumber (2 ^ 32) text) (λ middle. BeginsWithBoth (BeginsWithBits most middle) (BeginsWithClaim count count))
+    BeginsWithBoth (BeginsWithNumber (2 ^ 32) text)
+        (λ middle. BeginsWithBoth (BeginsWithBits most middle) (BeginsWithClaim count count))
 
 abbrev pub node_from : List DueLine → ℕ → Node
 node_from lines number = first_node (nodes_of (drop number lines))

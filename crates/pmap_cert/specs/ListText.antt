@@ -20,8 +20,8 @@ entry_line version p = block_text version p.start p.bits ++ 32 ∷ p.label
 abbrev pub entries_in_order : List Prefix → List Prefix
 entries_in_order ps = in_order begins_before ps
 
--- the printed text of a prefix list: `map-name NAME` if there is a name, `mode VERSION`, and the lines of the entries in
--- order
+-- the printed text of a prefix list: `map-name NAME` if there is a name, `mode VERSION`, and the lines of the entries
+-- in order
 abbrev pub list_text : ListModel → List ℕ
 list_text l =
     text_of_lines (option_map_or (λ name. (codes "map-name" ++ 32 ∷ name) ∷ []) l.name []

@@ -20,7 +20,8 @@ tree_of table node = map_tree (text_at table) node
 abbrev pub HasNumberForm : ℕ → Node → ℕ → Type 0
 HasNumberForm count node room = HasChainForm count node room × IsPlain node
 
-room-prop : (Fits : ℕ → Type 0) → ((room : ℕ) → IsProp (Fits room)) → (bits : List Bool) (room : ℕ) → IsProp (HasRoomBelow Fits bits room)
+room-prop : (Fits : ℕ → Type 0) → ((room : ℕ) → IsProp (Fits room)) → (bits : List Bool) (room : ℕ)
+    → IsProp (HasRoomBelow Fits bits room)
 room-prop Fits prop [] room = prop room
 room-prop Fits prop (bit ∷ bits) zero = λ x y. absurd x
 room-prop Fits prop (bit ∷ bits) (suc room) = room-prop Fits prop bits room
@@ -120,15 +121,18 @@ joined_line (ChainLine cost bits side numbers) = refl
 abbrev pub line_code : Coded DueLine
 line_code =
     code_by (ℕ ⊎ ((ℕ × List ℕ) ⊎ ((ℕ × List Bool) × (ℕ × List ℕ))))
-    (coded⊎ coded_ℕ (coded⊎ (coded× coded_ℕ (coded_list coded_ℕ)) (coded× (coded× coded_ℕ (coded_list coded_bool)) (coded× coded_ℕ (coded_list coded_ℕ)))))
+    (coded⊎ coded_ℕ (coded⊎ (coded× coded_ℕ (coded_list coded_ℕ))
+        (coded× (coded× coded_ℕ (coded_list coded_bool)) (coded× coded_ℕ (coded_list coded_ℕ)))))
     split_line join_line joined_line
 
 pub nodes-lines : (node : Node) (rest : List DueLine) → nodes_of (node_lines node ++ rest) ≡ node ∷ nodes_of rest
 nodes-lines (LeafNode number) rest = refl
 nodes-lines (InnerNode claim lower upper) rest =
     ap (λ (ls : List DueLine). joined claim (nodes_of ls)) (append_assoc (node_lines lower) (node_lines upper) rest)
-    ∙ ap (joined claim) (nodes-lines lower (node_lines upper ++ rest) ∙ ap (λ (ns : List Node). lower ∷ ns) (nodes-lines upper rest))
+    ∙ ap (joined claim) (nodes-lines lower (node_lines upper ++ rest)
+    ∙ ap (λ (ns : List Node). lower ∷ ns) (nodes-lines upper rest))
 nodes-lines (ChainNode claim bits side end) rest = ap (chained claim bits side) (nodes-lines end rest)
 
 abbrev pub node_code : Coded Node
-node_code = code_by (List DueLine) (coded_list line_code) (λ node. node_lines node ++ []) (λ lines. first_node (nodes_of lines)) (λ node. ap first_node (nodes-lines node []))
+node_code = code_by (List DueLine) (coded_list line_code) (λ node. node_lines node ++ [])
+    (λ lines. first_node (nodes_of lines)) (λ node. ap first_node (nodes-lines node []))

@@ -51,7 +51,8 @@ pub record OpensInner (claim : ClaimOf ℕ) (OpensLower OpensUpper : Node → Ty
   pub node_is : node ≡ InnerNode claim lower upper
 
 -- the chain has two bits or more, and its claim is the exact one of the run's first node
-pub record OpensChain (claim : ClaimOf ℕ) (bits : List Bool) (side : ℕ) (OpensEnd : Node → Type 0) (node : Node) : Type 0 where
+pub record OpensChain (claim : ClaimOf ℕ) (bits : List Bool) (side : ℕ) (OpensEnd : Node → Type 0)
+    (node : Node) : Type 0 where
   pub value : ℕ
   pub count : ℕ
   pub end : Node

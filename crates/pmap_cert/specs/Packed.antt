@@ -19,7 +19,8 @@ joined_halves low high = high * 2 ^ 32 + low
 -- the number of labels of the set with this index, whose halves are stored before the labels
 abbrev pub count_at : List LabelId → ℕ → ℕ
 count_at sets place =
-    joined_halves (slice_index_or sets place (record { 0 = 0 })).0 (slice_index_or sets (place + 1) (record { 0 = 0 })).0
+    joined_halves (slice_index_or sets place (record { 0 = 0 })).0
+        (slice_index_or sets (place + 1) (record { 0 = 0 })).0
 
 abbrev pub set_at : List LabelId → ℕ → List ℕ
 set_at sets place = map (λ id. id.0) (slice_range sets (place + 2) (place + 2 + count_at sets place))

@@ -19,7 +19,8 @@ pub record IsEntryOf (version : Version) (count : ℕ) (e : Entry) : Type 0 wher
   pub known : e.label.0 < count
 
 -- the new entries are the old ones and these, in a table of labels
-pub record AddsPrefixes (table : List Label) (version : Version) (added : List Prefix) (old new : List Entry) : Type 0 where
+pub record AddsPrefixes (table : List Label) (version : Version) (added : List Prefix)
+    (old new : List Entry) : Type 0 where
   pub entries : map (prefix_of table) new ≡ map (prefix_of table) old ++ added
   pub fit : All (IsEntryOf version (length table)) old → All (IsEntryOf version (length table)) new
 
@@ -27,8 +28,10 @@ pub record AddsPrefixes (table : List Label) (version : Version) (added : List P
 -- the numbers of the node and of the inherited label.
 abbrev pub AddsEntries : Node → Block → Option LabelId → List Entry → List Entry → Type 0
 AddsEntries node block inherited old new =
-    (table : List Label) → IsLabelTable table → ForSome inherited (λ id. id.0 < length table) → HasNumberForm (length table) node (width_of block.version - block.len)
-    → AddsPrefixes table block.version (entries_of (width_of block.version) table (tree_of table node) (text_if_some table inherited) block.len (number_of block)) old new
+    (table : List Label) → IsLabelTable table → ForSome inherited (λ id. id.0 < length table)
+        → HasNumberForm (length table) node (width_of block.version - block.len)
+    → AddsPrefixes table block.version (entries_of (width_of block.version) table (tree_of table node)
+    (text_if_some table inherited) block.len (number_of block)) old new
 
 -- the entries are those of the node for the address space
 pub record IsListedBy (version : Version) (node : Node) (entries : List Entry) : Type 0 where

@@ -27,7 +27,8 @@ pub record AreApart (low high : List ℕ) : Type 0 where
 -- otherwise one more than the sum and the numbers of either set.
 abbrev pub IsExactBy : ClaimOf ℕ → ClaimOf ℕ → List ℕ → ClaimOf ℕ → Type 0
 IsExactBy low high [] claim =
-    (claim.cost ≡ low.cost + high.cost + 1) × IsUnion low.labels high.labels claim.labels × IsAscending (2 ^ 32) 0 claim.labels
+    (claim.cost ≡ low.cost + high.cost + 1) × IsUnion low.labels high.labels claim.labels
+        × IsAscending (2 ^ 32) 0 claim.labels
 IsExactBy low high (n ∷ ns) claim = (claim.cost ≡ low.cost + high.cost) × (claim.labels ≡ n ∷ ns)
 
 abbrev pub IsExact : ClaimOf ℕ → ClaimOf ℕ → ClaimOf ℕ → Type 0
@@ -63,6 +64,7 @@ pub record IsMapNode (m : MapModel) (n q h : ℕ) (node : Node) : Type 0 where
 -- the node is the certificate's for the block with these leaves, in each map that settles the leaves with their labels
 -- and settles no block above a leaf
 pub record IsCertified (n q h : ℕ) (leaves : List LeafModel) (node : Node) : Type 0 where
-  pub each : (m : MapModel) → IsLabelTable m.table → All (IsSettledLeaf m) leaves → All (IsUndivided m) leaves → IsMapNode m n q h node
+  pub each : (m : MapModel) → IsLabelTable m.table → All (IsSettledLeaf m) leaves → All (IsUndivided m) leaves
+      → IsMapNode m n q h node
   pub sound : IsSound node h
   pub cost : (claim_of node).cost < length leaves

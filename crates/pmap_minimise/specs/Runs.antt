@@ -31,7 +31,8 @@ pub record IsMapOn (s : StretchesModel) (m : MapModel) : Type 0 where
   pub is : IsMapOf (width_of s.version) statements default m
   pub table : IsLabelTable m.table
 
--- The stretches are those of statements with a default, few enough in the window's block that its leaves can be counted.
+-- The stretches are those of statements with a default, few enough in the window's block that its leaves can be
+-- counted.
 pub record AreFew (s : StretchesModel) (a : Window) : Type 0 where
   pub statements : List Statement
   pub default : Option LabelId
@@ -57,7 +58,8 @@ own_label s a = if a.from == a.to then option_map (λ id. id.0) (label_at s a.fr
 
 -- no half of a block has a label alone, or both have, so that a run from the block has at most one step
 abbrev pub HasNoLongRun : StretchesModel → Window → Window → Type 0
-HasNoLongRun s low high = (option_or (own_label s low) (own_label s high) ≡ None) ⊎ ((low.from ≡ low.to) × (high.from ≡ high.to))
+HasNoLongRun s low high = (option_or (own_label s low) (own_label s high) ≡ None)
+    ⊎ ((low.from ≡ low.to) × (high.from ≡ high.to))
 
 abbrev pub HasLabel : StretchesModel → ℕ → ℕ → Type 0
 HasLabel s label i = option_map (λ id. id.0) (label_at s i) ≡ Some label
@@ -110,7 +112,8 @@ pub record HasLabelledHalves (s : StretchesModel) (low high : Window) (node : No
 -- The node represents the block in each map on the stretches. It costs at most as often as the block is divided.
 pub record IsWindowNode (s : StretchesModel) (a : Window) (node : Node) : Type 0 where
   pub each : (m : MapModel) → IsMapOn s m → IsMapNode m a.len (window_number s a) (width_of s.version - a.len) node
-  pub few : (ss : List Statement) (default : Option LabelId) → AreStretches ss default s → (claim_of node).cost ≤ divisions s a ss
+  pub few : (ss : List Statement) (default : Option LabelId) → AreStretches ss default s
+      → (claim_of node).cost ≤ divisions s a ss
   pub sound : IsSound node (width_of s.version - a.len)
   pub ascending : IsAscending (2 ^ 32) 0 (claim_of node).labels
   pub own : leaf_label node ≡ own_label s a

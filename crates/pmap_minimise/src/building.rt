@@ -18,7 +18,8 @@ use pmap_text::{LabelId, Stretches, Window};
 use std::alloc::{AllocError, Global};
 use std::slice;
 
-// Adds the line of an inner node over two nodes that each claim a cost and one label. The node claims their exact claim.
+// Adds the line of an inner node over two nodes that each claim a cost and one label. The node claims their exact
+// claim.
 #[inline(always)]
 fn push_over_labels(
     nodes: &mut Nodes,
@@ -26,7 +27,8 @@ fn push_over_labels(
     high: (u32, LabelId),
 ) -> Result<(), AllocError>
     requires { low.0 + high.0 + 1 < 2 ^ 32 }
-    ensures { OnOk result (AddsExact (claiming low.0 (low.1.0 ∷ [])) (claiming high.0 (high.1.0 ∷ [])) nodes.old nodes.new) }
+    ensures { OnOk result (AddsExact (claiming low.0 (low.1.0 ∷ []))
+        (claiming high.0 (high.1.0 ∷ [])) nodes.old nodes.new) }
 {
     let (sum, x, y) = (low.0 + high.0, low.1, high.1);
     if x.0 == y.0 {
@@ -72,7 +74,8 @@ fn push_chain(nodes: &mut Nodes, path: Path, side: LabelId) -> Result<(), AllocE
     requires some { 0 < length nodes.old }
     requires few { (last_claim nodes.old).cost + 1 < 2 ^ 32 }
     ensures { OnOk result (nodes.new ≡ nodes.old
-        ++ ChainLine (cost_above side.0 (last_claim nodes.old)) (path_to path.value path.count) side.0 (side.0 ∷ []) ∷ []) }
+        ++ ChainLine (cost_above side.0 (last_claim nodes.old)) (path_to path.value path.count) side.0 (side.0 ∷ [])
+            ∷ []) }
 {
     let end = nodes.claim(nodes.len() - 1);
     let claim = Claim {

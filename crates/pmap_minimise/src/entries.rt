@@ -1,5 +1,5 @@
 //! Reads the entries of a map's shortest list off its certificate, compact or not, from the root down.
-ghost use Rattle.std.specs.Prelude.{◌≡◌, IfOk};
+ghost use Rattle.std.specs.Prelude.{IfOk};
 ghost use Rattle.prefix_keys.specs.Block.{width_of};
 ghost use Rattle.pmap_cert.specs.Node.{Node as AnyNode};
 ghost use Rattle.pmap_minimise.specs.Listing.{IsListedBy};
@@ -21,8 +21,8 @@ pub fn entries_of(alloc: Global, root: &Root, version: Version) -> Result<Entrie
     // Reads the nodes from the first line to the last.
     let mut at = Cursor::at_root(root);
     let mut entries = Entries::new(alloc);
-    // The blocks whose nodes are still to be read, without the blocks inside them, and the label that each inherits. The
-    // block of the next node is the last.
+    // The blocks whose nodes are still to be read, without the blocks inside them, and the label that each inherits.
+    // The block of the next node is the last.
     let mut due: Vec<(Block, Option<LabelId>)> = Vec::new(alloc);
     due.push((Block::whole(version), None))?;
     while let Some((block, inherited)) = due.pop() {

@@ -1,6 +1,5 @@
 //! Runs: steps down to the half whose sibling has the side label alone.
-ghost use Rattle.std.specs.Prelude.{◌≡◌, ◌+◌, ◌^◌, ◌<◌, ◌≤◌, ◌↔◌, IsTrue, MatchOption, Some, length, option_map};
-ghost use Rattle.prefix_keys.specs.Block.{width_of};
+ghost use Rattle.std.specs.Prelude.{◌≡◌, ◌+◌, ◌^◌, ◌<◌, ◌↔◌, IsTrue, MatchOption, Some, length, option_map};
 ghost use Rattle.pmap_text.specs.Windows.{IsWindow};
 ghost use Rattle.pmap_minimise.specs.Runs.{HasLabel, IsCounted, IsRunTo, IsStepInto, IsStop, own_label};
 

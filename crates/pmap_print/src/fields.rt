@@ -1,5 +1,5 @@
 //! Printing fields, each after a mark.
-ghost use Rattle.std.specs.Prelude.{◌≡◌, ◌+◌, ◌^◌, ◌<◌, ◌≤◌, ◌++◌, ◌∷◌, decimal, drop, length, take};
+ghost use Rattle.std.specs.Prelude.{◌≡◌, ◌+◌, ◌^◌, ◌<◌, ◌≤◌, ◌++◌, decimal, drop, length};
 ghost use Rattle.flow_io.specs.Sinks.{Pushes};
 ghost use Rattle.prefix_keys.specs.Print.{address_text, block_text};
 ghost use Rattle.pmap_print.specs.Table.{marked};

@@ -1,5 +1,5 @@
 //! The printed text of counts.
-ghost use Rattle.std.specs.Prelude.{◌≡◌, ◌++◌, ◌∷◌, [], IfOk, OnOk, decimal};
+ghost use Rattle.std.specs.Prelude.{◌≡◌, ◌++◌, ◌∷◌, [], IfOk, decimal};
 ghost use Rattle.flow_io.specs.Sinks.{Pushes};
 ghost use Rattle.flow_rows.specs.Counts.{count_list};
 ghost use Rattle.pmap_print.specs.Reports.{info_text};

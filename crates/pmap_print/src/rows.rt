@@ -1,9 +1,7 @@
 //! The printed text of flow rows.
-ghost use Rattle.std.specs.Prelude.{◌≡◌, ℕ, ◌+◌, ◌<◌, ◌≤◌, List, [], ◌∷◌, ◌++◌, IfOk, OnErr, OnOk, is_some, length, option_map};
-ghost use Rattle.std.specs.Fmt.{decimal};
+ghost use Rattle.std.specs.Prelude.{◌≡◌, ◌+◌, ◌<◌, List, [], ◌∷◌, ◌++◌, IfOk, OnErr, OnOk, is_some, length, option_map};
 ghost use Rattle.std.specs.List.{flat_map};
 ghost use Rattle.std.specs.Option.{ForSome};
-ghost use Rattle.prefix_keys.specs.Print.{address_text};
 ghost use Rattle.pmap_print.specs.Table.{IsFrontOf, has_columns, header_text, IsTable, Line, marked, marked_line};
 ghost use Rattle.pmap_print.specs.Reports.{column_count, labels_of_row, given_labels, label_fields, label_texts, row_fields, row_line, rows_text, title_line};
 

@@ -50,9 +50,9 @@ module _ (ss : List Statement) (default : Option LabelId) where
   alike joins f g l k x y first last label are = rw (first, last, label) are
 
   -- the first one begins at 0
-  pub stretches_from : (joins : Bool) (g : Growing) (label : Option LabelId) → HasEveryAddress g.stretches → g.stretches.firsts ≡ 0 ∷ []
-      → g.stretches.labels ≡ label ∷ [] → ((a : ℕ) → 0 ≤ a → a ≤ g.last → HasTop ss default joins g.top label a) → AreStretchesTo joins ss default g
-  stretches_from joins g label every firsts labels has =
+  pub stretches_from : (g : Growing) (label : Option LabelId) → HasEveryAddress g.stretches → g.stretches.firsts ≡ 0 ∷ []
+      → g.stretches.labels ≡ label ∷ [] → ((a : ℕ) → 0 ≤ a → a ≤ g.last → HasTop ss default g.joined g.top label a) → AreStretchesTo ss default g
+  stretches_from g label every firsts labels has =
       let one : length g.stretches.firsts ≡ 1 = ap (λ (l : List ℕ). length l) firsts in
       let zero : last_first g.stretches ≡ 0 = ap (λ (n : ℕ). first_at g.stretches (n - 1)) one ∙ every.zero in
       record {
@@ -61,17 +61,17 @@ module _ (ss : List Statement) (default : Option LabelId) where
         begins = λ i some below. absurd (omega (arith, some, below, one));
         from = omega (arith, zero);
         last_each = λ a from to.
-            subst (λ x. HasTop ss default joins g.top x a) (sym (ap (λ (n : ℕ). label_at g.stretches (n - 1)) one ∙ label_first g.stretches.labels labels))
+            subst (λ x. HasTop ss default g.joined g.top x a) (sym (ap (λ (n : ℕ). label_at g.stretches (n - 1)) one ∙ label_first g.stretches.labels labels))
             (has a (omega arith) to);
       }
     where
       label_first : (l : List (Option LabelId)) → l ≡ label ∷ [] → get_or l 0 None ≡ label
       label_first l is = rw is refl
 
-  module _ (joins : Bool) (g : Growing) (are : AreStretchesTo joins ss default g) (top : Option ℕ) (label : Option LabelId) (last : ℕ) (more : g.last + 1 ≤ last)
-      (has : (a : ℕ) → g.last + 1 ≤ a → a ≤ last → HasTop ss default joins top label a) where
+  module _ (g : Growing) (are : AreStretchesTo ss default g) (top : Option ℕ) (label : Option LabelId) (last : ℕ) (more : g.last + 1 ≤ last)
+      (has : (a : ℕ) → g.last + 1 ≤ a → a ≤ last → HasTop ss default g.joined top label a) where
     -- the last one goes on
-    pub stretches_longer : top ≡ g.top → AreStretchesTo joins ss default (record g { last = last })
+    pub stretches_longer : top ≡ g.top → AreStretchesTo ss default (record g { last = last })
     stretches_longer same = record {
       every = are.every;
       each = are.each;
@@ -80,7 +80,7 @@ module _ (ss : List Statement) (default : Option LabelId) where
       last_each = λ a from to. elim (cases_lt g.last a) [
         | inl above ↦
             let here = has a (omega (arith, above)) to in
-            let label_is = top_label joins top g.top label _ a g.last here (are.last_each g.last are.from (omega arith)) same in
+            let label_is = top_label g.joined top g.top label _ a g.last here (are.last_each g.last are.from (omega arith)) same in
             rw (sym same, sym label_is) here
         | inr below ↦ are.last_each a from below
       ];
@@ -88,7 +88,7 @@ module _ (ss : List Statement) (default : Option LabelId) where
 
     -- another one begins
     pub stretches_more : (s : StretchesModel) → HasEveryAddress s → Adds g.stretches (g.last + 1) label s → top ≢ g.top
-        → AreStretchesTo joins ss default (record { stretches = s; top = top; last = last })
+        → AreStretchesTo ss default (record { stretches = s; top = top; last = last; joined = g.joined })
     stretches_more s every adds other =
         let longer = length_added g.stretches (g.last + 1) label s are.every adds in
         let first : last_first s ≡ g.last + 1 = first_late g.stretches (g.last + 1) label s are.every adds (length s.firsts - 1) (omega (arith, longer)) in
@@ -96,32 +96,32 @@ module _ (ss : List Statement) (default : Option LabelId) where
           every = every;
           each = λ i within. elim (cases_lt (i + 1) (length g.stretches.firsts)) [
             | inl early ↦
-                alike joins _ _ _ _ _ _ (first_early g.stretches (g.last + 1) label s are.every adds i (omega (arith, early)))
+                alike g.joined _ _ _ _ _ _ (first_early g.stretches (g.last + 1) label s are.every adds i (omega (arith, early)))
                 (last_early g.stretches (g.last + 1) label s are.every adds i early)
                 (label_early g.stretches (g.last + 1) label s are.every adds i (omega (arith, early))) (are.each i early)
             | inr late ↦
                 let here : i + 1 ≡ length g.stretches.firsts = omega (arith, late, within, longer) in
                 let place : i ≡ length g.stretches.firsts - 1 = omega (arith, here) in
                 let below : i < length g.stretches.firsts = omega (arith, here) in
-                alike joins (last_first g.stretches) _ g.last _ _ _
+                alike g.joined (last_first g.stretches) _ g.last _ _ _
                 (first_early g.stretches (g.last + 1) label s are.every adds i below ∙ ap (first_at g.stretches) place)
                 (last_late g.stretches (g.last + 1) label s are.every adds i here ∙ omega arith)
                 (label_early g.stretches (g.last + 1) label s are.every adds i below ∙ ap (label_at g.stretches) place) (g.top, are.last_each)
           ];
           begins = λ i some within. elim (cases_lt i (length g.stretches.firsts)) [
             | inl early ↦
-                subst (IsBegin ss default joins) (sym (first_early g.stretches (g.last + 1) label s are.every adds i early)) (are.begins i some early)
+                subst (IsBegin ss default g.joined) (sym (first_early g.stretches (g.last + 1) label s are.every adds i early)) (are.begins i some early)
             | inr late ↦
-                subst (IsBegin ss default joins) (sym (first_late g.stretches (g.last + 1) label s are.every adds i (omega (arith, late, within, longer))))
+                subst (IsBegin ss default g.joined) (sym (first_late g.stretches (g.last + 1) label s are.every adds i (omega (arith, late, within, longer))))
                 begins
           ];
           from = omega (arith, first, more);
           last_each = λ a from to.
-              subst (λ x. HasTop ss default joins top x a)
+              subst (λ x. HasTop ss default g.joined top x a)
               (sym (label_late g.stretches (g.last + 1) label s are.every adds (length s.firsts - 1) (omega (arith, longer)))) (has a (omega (arith, first, from)) to);
         }
       where
-        begins : IsBegin ss default joins (g.last + 1)
+        begins : IsBegin ss default g.joined (g.last + 1)
         begins = record {
           top = g.top;
           label = label_at g.stretches (length g.stretches.firsts - 1);
@@ -167,20 +167,20 @@ module _ (ss : List Statement) (default : Option LabelId) where
         begin.other (begin.next_has.top_is ∙ ap (option_map (λ id. id.0)) (next_label ∙ same ∙ sym label) ∙ sym begin.has.top_is);
   }
 
-  module _ (joins : Bool) (g : Growing) (are : AreStretchesTo joins ss default g) (end : g.last + 1 ≡ 2 ^ width_of g.stretches.version) where
+  module _ (g : Growing) (are : AreStretchesTo ss default g) (end : g.last + 1 ≡ 2 ^ width_of g.stretches.version) where
     each_alike : (i : ℕ) → i < length g.stretches.firsts
-        → AreAlike ss default joins (label_at g.stretches i) (first_at g.stretches i) (last_at g.stretches i)
+        → AreAlike ss default g.joined (label_at g.stretches i) (first_at g.stretches i) (last_at g.stretches i)
     each_alike i below = elim (cases_lt (i + 1) (length g.stretches.firsts)) [
       | inl early ↦ are.each i early
       | inr late ↦
           let place : i ≡ length g.stretches.firsts - 1 = omega (arith, late, below) in
-          alike joins (last_first g.stretches) _ g.last _ _ _ (ap (first_at g.stretches) place) (last_end g.stretches i late ∙ omega (arith, end))
+          alike g.joined (last_first g.stretches) _ g.last _ _ _ (ap (first_at g.stretches) place) (last_end g.stretches i late ∙ omega (arith, end))
           (ap (label_at g.stretches) place) (g.top, are.last_each)
     ]
 
     -- all stretches are there
-    pub stretches_all : AreSwept joins ss default g.stretches
-    stretches_all = all_swept joins g.stretches are.every each_alike are.begins
+    pub stretches_all : AreSwept g.joined ss default g.stretches
+    stretches_all = all_swept g.joined g.stretches are.every each_alike are.begins
 
     pub labels_won : HaveLabelsWon ss default g.stretches
     labels_won = record {

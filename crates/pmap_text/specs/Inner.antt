@@ -29,12 +29,14 @@ use Rattle.pmap_text.specs.MapModel.{Label, MapModel}
 abbrev pub folded : ℕ → ℕ → ℕ
 folded a b = bit_xor (bit_and (a * b) (2 ^ 64 - 1)) (a * b / 2 ^ 64)
 
--- the hasher after `write(bytes)`: the state is mixed with the words of eight bytes, and with the rest after a leading 1
+-- the hasher after `write(bytes)`: the state is mixed with the words of eight bytes, and with the rest after a leading
+-- 1
 abbrev pub written : KeyHasher → List ℕ → KeyHasher
 written hasher bytes =
     let multiplier = hasher.hashing.multiplier in
     let count = length bytes / 8 in
-    let mixed = fold (λ state word. folded (bit_xor state (from_le_bytes w64 word)) multiplier) hasher.state (first_chunks 8 count bytes) in
+    let mixed = fold (λ state word. folded (bit_xor state (from_le_bytes w64 word)) multiplier) hasher.state
+        (first_chunks 8 count bytes) in
     let rest = fold (λ word byte. bit_or (word * 2 ^ 8 % 2 ^ 64) byte) 1 (drop (count * 8) bytes) in
     record hasher { state = folded (bit_xor mixed rest) multiplier }
 
@@ -104,7 +106,8 @@ abbrev pub top_of : Bool → Option ℕ → Option LabelId → Option ℕ
 top_of joins won label = if joins then option_map (λ id. id.0) label else won
 
 -- the address has this label, and the number that the stretch of the address shares
-pub record HasTop (ss : List Statement) (default : Option LabelId) (joins : Bool) (top : Option ℕ) (label : Option LabelId) (a : ℕ) : Type 0 where
+pub record HasTop (ss : List Statement) (default : Option LabelId) (joins : Bool) (top : Option ℕ)
+    (label : Option LabelId) (a : ℕ) : Type 0 where
   pub won : Option ℕ
   pub wins : IsWinner ss a won
   pub label_is : label ≡ label_seen default (statement_won ss won)
@@ -126,14 +129,14 @@ AreAlike ss default joins label first last =
     (top : Option ℕ) × ((a : ℕ) → first ≤ a → a ≤ last → HasTop ss default joins top label a)
 
 -- The stretches before the last one are there, and the last one extends to `last` at least.
-pub record AreStretchesTo (joins : Bool) (ss : List Statement) (default : Option LabelId) (g : Growing) : Type 0 where
+pub record AreStretchesTo (ss : List Statement) (default : Option LabelId) (g : Growing) : Type 0 where
   pub every : HasEveryAddress g.stretches
   pub each : (i : ℕ) → i + 1 < length g.stretches.firsts
-      → AreAlike ss default joins (label_at g.stretches i) (first_at g.stretches i) (last_at g.stretches i)
-  pub begins : (i : ℕ) → 0 < i → i < length g.stretches.firsts → IsBegin ss default joins (first_at g.stretches i)
+      → AreAlike ss default g.joined (label_at g.stretches i) (first_at g.stretches i) (last_at g.stretches i)
+  pub begins : (i : ℕ) → 0 < i → i < length g.stretches.firsts → IsBegin ss default g.joined (first_at g.stretches i)
   pub from : last_first g.stretches ≤ g.last
   pub last_each : (a : ℕ) → last_first g.stretches ≤ a → a ≤ g.last
-      → HasTop ss default joins g.top (label_at g.stretches (length g.stretches.firsts - 1)) a
+      → HasTop ss default g.joined g.top (label_at g.stretches (length g.stretches.firsts - 1)) a
 
 -- each address has the label of the statement that wins there, or the default
 pub record HaveLabelsWon (ss : List Statement) (default : Option LabelId) (s : StretchesModel) : Type 0 where
@@ -150,12 +153,14 @@ AreSwept false ss default s = AreStretches ss default s
 -- begun.
 pub record AreOpen (ss : List Statement) (starts : List Start) (next first : ℕ) (opened : List ℕ) : Type 0 where
   pub begun : (j : ℕ) → Contains opened j → (s : Statement) × (slice_get ss j ≡ Some s) × (s.span.low.value ≤ first)
-  pub every : (i : ℕ) (s : Statement) → i < next → slice_get ss (number_at starts i) ≡ Some s → first ≤ s.span.high.value
+  pub every : (i : ℕ) (s : Statement) → i < next → slice_get ss (number_at starts i) ≡ Some s
+      → first ≤ s.span.high.value
       → Contains opened (number_at starts i)
 
 -- all statements but those that come first in an order begin after the address
 abbrev pub BeginAfter : List Statement → List Start → ℕ → ℕ → Type 0
-BeginAfter ss starts next last = (i : ℕ) (s : Statement) → next ≤ i → i < length ss → slice_get ss (number_at starts i) ≡ Some s
+BeginAfter ss starts next last = (i : ℕ) (s : Statement) → next ≤ i → i < length ss
+    → slice_get ss (number_at starts i) ≡ Some s
     → last < s.span.low.value
 
 -- the labels have numbers below the one that is stored for a missing label
@@ -164,15 +169,16 @@ pub record HaveNumbers (ss : List Statement) (default : Option LabelId) : Type 0
   pub fallback : ForSome default (λ id. id.0 < 2 ^ 32 - 1)
 
 -- the stretches of statements are there up to an address, and the open statements known
-pub record IsAscent (joins : Bool) (ss : List Statement) (a : Ascent) : Type 0 where
-  pub are : AreStretchesTo joins ss a.default a.growing
+pub record IsAscent (ss : List Statement) (a : Ascent) : Type 0 where
+  pub are : AreStretchesTo ss a.default a.growing
   pub order : IsOrder ss a.starts
   pub opened : AreOpen ss a.starts a.next (a.growing.last + 1) a.opened
 
 -- the stretches may have been extended, and no other statement was opened
-pub record Continues (joins : Bool) (ss : List Statement) (old new : Ascent) : Type 0 where
-  pub ascent : IsAscent joins ss new
+pub record Continues (ss : List Statement) (old new : Ascent) : Type 0 where
+  pub ascent : IsAscent ss new
   pub version : new.growing.stretches.version ≡ old.growing.stretches.version
+  pub joined : new.growing.joined ≡ old.growing.joined
   pub default : new.default ≡ old.default
   pub starts : new.starts ≡ old.starts
   pub next : new.next ≡ old.next
@@ -218,7 +224,8 @@ has_key keys k = list_any (λ q. is_eq (key_cmp k q)) keys
 abbrev pub IsFirstRepeat : List Prefix → Option ℕ → Type 0
 IsFirstRepeat ps None = HasDistinctKeys ps
 IsFirstRepeat ps (Some i) =
-    (p : Prefix) × (slice_get ps i ≡ Some p) × HasDistinctKeys (take i ps) × (has_prefix (take i ps) p.start p.bits ≡ true)
+    (p : Prefix) × (slice_get ps i ≡ Some p) × HasDistinctKeys (take i ps)
+        × (has_prefix (take i ps) p.start p.bits ≡ true)
 
 -- the line added no entry, or one, which is refused if its block has one already
 abbrev pub TakesLine : Earlier → Earlier → Result Earlier MapFaultKind → Type 0
@@ -233,7 +240,8 @@ refusal_of (Ok new) = NoMemory
 refusal_of (Err kind) = kind
 
 -- the result of reading a line: it is taken, or refused, and then no entry is added
-pub record ReadsLine (old new : Earlier) (line : Result Earlier MapFaultKind) (result : Result (Unit {0}) MapFaultKind) : Type 0 where
+pub record ReadsLine (old new : Earlier) (line : Result Earlier MapFaultKind)
+    (result : Result (Unit {0}) MapFaultKind) : Type 0 where
   pub ok : OnOk result (TakesLine old new line)
   pub err : IfErr result (λ kind. kind ≡ refusal_of line)
   pub kept : OnErr result (new.prefixes ≡ old.prefixes)
@@ -243,9 +251,12 @@ has_label_room earlier room label = room && has_room earlier.table (meant_text e
 
 -- the lines of a text were read up to a fault, except for repeated blocks, or until there were more entries than the
 -- limit; if the last entry of these lines is then the first with the block of an earlier one, it is the first fault
-pub record HasRead (form : Form) (text : List ℕ) (limit : ℕ) (reading : Earlier) (result : Result ℕ MapFault) : Type 0 where
-  pub ok : OnOk result (limit ≡ 18446744073709551615 → HasDistinctKeys reading.prefixes → text_read form text ≡ Ok reading)
+pub record HasRead (form : Form) (text : List ℕ) (limit : ℕ) (reading : Earlier)
+    (result : Result ℕ MapFault) : Type 0 where
+  pub ok : OnOk result (limit ≡ 18446744073709551615 → HasDistinctKeys reading.prefixes
+      → text_read form text ≡ Ok reading)
   pub repeat : IfOk result (λ number. IsFirstRepeat reading.prefixes (Some limit)
       → text_read form text ≡ Err (record { kind = DuplicateBlock; line = number }))
-  pub err : IfErr result (λ fault. HasDistinctKeys reading.prefixes → fault.kind ≢ NoMemory → text_read form text ≡ Err fault)
+  pub err : IfErr result (λ fault. HasDistinctKeys reading.prefixes → fault.kind ≢ NoMemory
+      → text_read form text ≡ Err fault)
   pub memory : IfErr result (λ fault. fault.kind ≡ NoMemory → fault.line ≡ 0)

@@ -13,7 +13,8 @@ statement_of e = record {
     high = record {
       version = e.block.version;
       value = e.block.value + (2 ^ (width_of e.block.version - e.block.len) - 1);
-      in_range = last-fits (width_of e.block.version) e.block.len e.block.value e.block.len_in_range e.block.in_range e.block.no_host_bit;
+      in_range = last-fits (width_of e.block.version) e.block.len e.block.value e.block.len_in_range e.block.in_range
+          e.block.no_host_bit;
     };
     one_version = refl;
     ordered = last-above e.block.value (2 ^ (width_of e.block.version - e.block.len) - 1);

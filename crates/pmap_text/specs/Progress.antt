@@ -9,7 +9,8 @@ use Rattle.pmap_text.specs.declared.label.LabelId.{LabelId}
 
 -- The state of reading the lines so far: label numbers in place of texts.
 
-abbrev pub progress_of : Option Version → Option Label → List (ℕ × Label) → Option LabelId → List Statement → List Entry → List Label → Earlier
+abbrev pub progress_of : Option Version → Option Label → List (ℕ × Label) → Option LabelId → List Statement
+    → List Entry → List Label → Earlier
 progress_of version name declared default statements entries table = record {
   version = version;
   name = name;
@@ -21,7 +22,8 @@ progress_of version name declared default statements entries table = record {
 }
 
 -- the addresses are of the version that is decided, the numbers are in the table, and the limits are observed
-pub record IsProgress (version : Option Version) (default : Option LabelId) (statements : List Statement) (entries : List Entry) (table : List Label) : Type 0 where
+pub record IsProgress (version : Option Version) (default : Option LabelId) (statements : List Statement)
+    (entries : List Entry) (table : List Label) : Type 0 where
   pub spans : All (λ s. Some s.span.low.version ≡ version) statements
   pub blocks : All (λ e. Some e.block.version ≡ version) entries
   pub numbers : All (λ s. s.label.0 < length table) statements

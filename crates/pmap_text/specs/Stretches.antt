@@ -37,7 +37,8 @@ label_seen default (Some s) = Some s.label
 
 -- Among addresses of W bits, those from `first` to `last` are a stretch of each map of these statements, whatever the
 -- texts of its labels. They have the label of the statement that wins there, or the default if none does.
-pub record HasStretch (W : ℕ) (ss : List Statement) (default : Option LabelId) (first last : ℕ) (label : Option LabelId) : Type 0 where
+pub record HasStretch (W : ℕ) (ss : List Statement) (default : Option LabelId) (first last : ℕ)
+    (label : Option LabelId) : Type 0 where
   pub ordered : first ≤ last
   pub within : last < 2 ^ W
   pub top : Option Statement

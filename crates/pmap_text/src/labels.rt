@@ -18,7 +18,6 @@ struct Sought<'a> {
 }
 
 impl Equivalent<Text> for Sought<'_> {
-    ghost use Rattle.std.specs.Prelude.{ℕ, List};
     ghost use Rattle.std.specs.Cmp.Lexicographic.{bytes_decides, nat_list_eq_equiv};
     ghost use Rattle.std.specs.Hash.{slice, u8};
     ghost use Rattle.std.specs.Str.{bytes_eq};
@@ -149,7 +148,8 @@ impl Labels {
         }
     }
 
-    /// Adds a text like [`add`](Self::add), by one look-up in place of two. Memory may be allocated for a known text too.
+    /// Adds a text like [`add`](Self::add), by one look-up in place of two. Memory may be allocated for a known text
+    /// too.
     pub fn add_new(&mut self, text: &[u8]) -> Result<LabelId, AllocError>
         requires label { IsTrue (is_label text.now) }
         requires room { length self.old < 65536 }

@@ -9,10 +9,10 @@
 //! ```
 //!
 //! The folder `reading` has the modules that read texts, and `stretches` those that find stretches. This crate uses
-//! `prefix_keys` (addresses and blocks), `indexmap` for the tables of labels and of declared numbers, `smallvec` for the
-//! texts of labels, and `memchr` to find the end of a line. Callers may rely on this: `read_map` and `read_list` return
-//! exactly the map or the list of the text, or the text's first fault with its line, counted from 1. A failed allocation
-//! has line 0.
+//! `prefix_keys` (addresses and blocks), `indexmap` for the tables of labels and of declared numbers, `smallvec` for
+//! the texts of labels, and `memchr` to find the end of a line. Callers may rely on this: `read_map` and `read_list`
+//! return exactly the map or the list of the text, or the text's first fault with its line, counted from 1. A failed
+//! allocation has line 0.
 //! The number of a label is its index in the order in which label texts first occur, so the number and the text
 //! determine each other. The type of a `MapText` guarantees that its statements are of its version and at most
 //! 1,000,000, and that their labels are in its table. The type of a `PrefixList` guarantees that its entries are of its

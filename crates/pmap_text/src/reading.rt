@@ -1,5 +1,5 @@
-ghost use Rattle.std.specs.Prelude.{◌≡◌, ◌<◌, ◌≤◌, ◌++◌, ◌∷◌, [], Some, true, false, ◌⊎◌, length, option_map, slice_get, unwrap_or, IsTrue, IfOk, IfErr, IfSome, OnOk, OnErr};
-ghost use Rattle.pmap_text.specs.Label.{meant_text, has_label, is_label as is_label_text, number_of, with_label};
+ghost use Rattle.std.specs.Prelude.{◌≡◌, ◌<◌, ◌≤◌, ◌++◌, ◌∷◌, [], Some, true, false, ◌⊎◌, length, slice_get, unwrap_or, IsTrue, IfOk, IfErr, IfSome, OnOk, OnErr};
+ghost use Rattle.pmap_text.specs.Label.{has_label, is_label as is_label_text, with_label};
 ghost use Rattle.pmap_text.specs.Inner.{HasDistinctKeys, IsFirstRepeat, list_from, map_from};
 ghost use Rattle.pmap_text.specs.MapText.{map_of, text_at};
 ghost use Rattle.pmap_text.specs.PrefixList.{list_of};

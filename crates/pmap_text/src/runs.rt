@@ -9,7 +9,6 @@ ghost use Rattle.pmap_text.specs.Stretches.{AreJoined, AreLabelsBelow, AreRunsOf
 use crate::map_text::MapText;
 use crate::prefix_list::PrefixList;
 use crate::stretches::Stretches;
-use crate::stretches::joining::Joined;
 use std::alloc::{AllocError, Global};
 
 /// The runs of a map or a list: its stretches, with neighbours with the same label or none joined.
@@ -28,7 +27,7 @@ impl Runs {
         ensures labels { IfOk result (λ r. (a : ℕ) → a < 2 ^ width_of map.now.version →
             text_held map.now.labels r.stretches a ≡ Some (map_label (map_of map.now) a)) }
     {
-        let stretches = Stretches::swept_of_map::<Joined>(alloc, map)?;
+        let stretches = Stretches::swept_of_map(alloc, map, true)?;
         Ok(Runs { stretches })
     }
 
@@ -39,7 +38,7 @@ impl Runs {
         ensures labels { IfOk result (λ r. (a : ℕ) → a < 2 ^ width_of list.now.version →
             text_held list.now.labels r.stretches a ≡ list_label (list_of list.now) a) }
     {
-        let stretches = Stretches::swept_of_list::<Joined>(alloc, list)?;
+        let stretches = Stretches::swept_of_list(alloc, list, true)?;
         Ok(Runs { stretches })
     }
 }

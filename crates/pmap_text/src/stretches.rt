@@ -2,7 +2,7 @@ ghost use Rattle.std.specs.Prelude.{◌≡◌, ◌↔◌, ℕ, IsTrue, ◌+◌, 
 ghost use Rattle.std.specs.Option.{ForSome};
 ghost use Rattle.prefix_keys.specs.Block.{width_of};
 ghost use Rattle.pmap_text.specs.Inner.{AreSwept};
-ghost use Rattle.pmap_text.specs.Stretches.{label_kept, AreJoined, AreLabelsBelow, AreRunsOf, AreStretches, HasEveryAddress, HoldsAddress, count_begun, first_at, label_at, last_at, text_held};
+ghost use Rattle.pmap_text.specs.Stretches.{label_kept, AreLabelsBelow, AreStretches, HasEveryAddress, HoldsAddress, count_begun, first_at, label_at, last_at, text_held};
 ghost use Rattle.pmap_text.specs.ListModel.{list_label};
 ghost use Rattle.pmap_text.specs.MapModel.{map_label};
 ghost use Rattle.pmap_text.specs.MapText.{map_of};
@@ -11,21 +11,17 @@ ghost use Rattle.pmap_text.specs.declared.statement.Statement.{Statement};
 
 pub mod ascent;
 pub mod growing;
-pub mod joining;
 pub mod mappings;
 pub mod opened;
 pub mod start;
 pub mod starts;
 pub mod window;
 
-use crate::entries::Entries;
 use crate::label::LabelId;
 use crate::map_text::MapText;
 use crate::order::{in_order, sorted_or};
 use crate::prefix_list::PrefixList;
-use crate::statements::Statements;
 use crate::stretches::ascent::of_mappings;
-use crate::stretches::joining::{Apart, Joined, Joining};
 use crate::stretches::starts::Starts;
 use prefix_keys::Version;
 use std::alloc::{AllocError, Global};
@@ -99,13 +95,14 @@ fn vec_with<T: Drop>(alloc: Global, value: T, most: usize) -> Result<Vec<T>, All
 }
 
 impl Stretches {
-    /// Returns the stretches of a map, with neighbours joined as `J` says.
-    pub(crate) fn swept_of_map<J: Joining>(
+    /// Returns the stretches of a map, with neighbours with the same label joined if `joined` says so.
+    pub(crate) fn swept_of_map(
         alloc: Global,
         map: &MapText,
+        joined: bool,
     ) -> Result<Stretches, AllocError>
         ensures version { IfOk result (λ s. s.version ≡ map.now.version) }
-        ensures stretches { IfOk result (AreSwept J.joins map.now.statements (Some map.now.default)) }
+        ensures stretches { IfOk result (AreSwept joined map.now.statements (Some map.now.default)) }
         ensures known { IfOk result (AreLabelsBelow (length map.now.labels)) }
         ensures labels { IfOk result (λ s. (a : ℕ) → a < 2 ^ width_of map.now.version →
             text_held map.now.labels s a ≡ Some (map_label (map_of map.now) a)) }
@@ -113,12 +110,13 @@ impl Stretches {
         map.labels.laws();
         let starts = Starts::new(alloc, &map.statements)?;
         let default = Some(map.default);
-        let stretches = of_mappings::<Statements, J>(
+        let stretches = of_mappings(
             alloc,
             map.version,
             default,
             &map.statements,
             starts,
+            joined,
         )?;
         Ok(stretches)
     }
@@ -131,17 +129,18 @@ impl Stretches {
         ensures labels { IfOk result (λ s. (a : ℕ) → a < 2 ^ width_of map.now.version →
             text_held map.now.labels s a ≡ Some (map_label (map_of map.now) a)) }
     {
-        Stretches::swept_of_map::<Apart>(alloc, map)
+        Stretches::swept_of_map(alloc, map, false)
     }
 
-    /// Returns the stretches of a prefix list, with neighbours joined as `J` says.
-    pub(crate) fn swept_of_list<J: Joining>(
+    /// Returns the stretches of a prefix list, with neighbours with the same label joined if `joined` says so.
+    pub(crate) fn swept_of_list(
         alloc: Global,
         list: &PrefixList,
+        joined: bool,
     ) -> Result<Stretches, AllocError>
         ensures version { IfOk result (λ s. s.version ≡ list.now.version) }
         ensures stretches { IfOk result (λ s. (ss : List Statement) ×
-            AreShortestFirst list.now.entries ss × AreSwept J.joins ss None s) }
+            AreShortestFirst list.now.entries ss × AreSwept joined ss None s) }
         ensures known { IfOk result (AreLabelsBelow (length list.now.labels)) }
         ensures labels { IfOk result (λ s. (a : ℕ) → a < 2 ^ width_of list.now.version →
             text_held list.now.labels s a ≡ list_label (list_of list.now) a) }
@@ -150,7 +149,7 @@ impl Stretches {
         let sorted = in_order(alloc, &list.entries)?;
         let entries = sorted_or(&sorted, &list.entries);
         let starts = Starts::none(alloc);
-        let stretches = of_mappings::<Entries, J>(alloc, list.version, None, entries, starts)?;
+        let stretches = of_mappings(alloc, list.version, None, entries, starts, joined)?;
         Ok(stretches)
     }
 
@@ -163,7 +162,7 @@ impl Stretches {
         ensures labels { IfOk result (λ s. (a : ℕ) → a < 2 ^ width_of list.now.version →
             text_held list.now.labels s a ≡ list_label (list_of list.now) a) }
     {
-        Stretches::swept_of_list::<Apart>(alloc, list)
+        Stretches::swept_of_list(alloc, list, false)
     }
 
     /// Returns one stretch that has all addresses of the version, with memory for `most` stretches.

@@ -8,7 +8,7 @@ use Rattle.prefix_keys.specs.Block.{width_of, Version, V4, V6}
 -- The groups of an address.
 
 -- each part fits its number of bits
-parts-below : (bits : ℕ) (places : List ℕ) (number : ℕ) → 0 < 2 ^ bits → All (λ part. part < 2 ^ bits) (parts_at bits places number)
+pub parts-below : (bits : ℕ) (places : List ℕ) (number : ℕ) → 0 < 2 ^ bits → All (λ part. part < 2 ^ bits) (parts_at bits places number)
 parts-below bits [] number some k d h = absurd (omega arith)
 parts-below bits (place ∷ places) number some zero d h = mod-lt (number / 2 ^ (bits * place)) some
 parts-below bits (place ∷ places) number some (suc k) d h = parts-below bits places number some k d (omega arith)

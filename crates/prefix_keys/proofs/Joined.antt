@@ -1,7 +1,7 @@
-use Rattle.std.proofs.Common.{ℕ, ◌≡◌, ◌+◌, ◌<◌, ◌∙◌, false, List, [], ◌∷◌, ◌++◌, length, map, drop, get_or, ap, sym, refl, arith}
+use Rattle.std.proofs.Common.{ℕ, ◌≡◌, ◌+◌, ◌<◌, ◌∙◌, false, List, [], ◌∷◌, ◌++◌, length, map, drop, get_or, ap, refl, arith}
 use Rattle.std.specs.List.{join_with_byte}
 use Rattle.std.specs.Fmt.{digits}
-use Rattle.std.proofs.lemmas.List.{append_assoc, drop_more, drop_all, length-drop, length-map}
+use Rattle.std.proofs.lemmas.List.{drop_more, drop_all, length-drop, length-map}
 use Rattle.prefix_keys.specs.Print.{joined_text}
 
 -- Numbers separated by a separator.

@@ -15,3 +15,4 @@ pub mod Gaps
 pub mod Room
 pub mod Bytes
 pub mod LeadingGroups
+pub mod Displayed

@@ -1,4 +1,4 @@
-use Rattle.std.specs.Prelude.{ℕ, ◌+◌, ◌*◌, List, [], Option, Some, None, fold, length, nat_le, if◌then◌else◌, ◌≡◌, ◌||◌, ◌==◌, Bool, true, ◌++◌, option_map}
+use Rattle.std.specs.Prelude.{ℕ, ◌+◌, ◌*◌, List, Option, Some, None, fold, length, nat_le, if◌then◌else◌, ◌≡◌, ◌||◌, ◌==◌, Bool, true, ◌++◌, option_map}
 use Rattle.std.specs.List.{list_all}
 use Rattle.std.specs.Char.{is_ascii_hexdigit}
 use Rattle.prefix_keys.specs.Text.{around_gap, side_groups}
@@ -15,7 +15,8 @@ more_groups count number (Some groups) =
 more_groups count number None = None
 
 -- the text begins with bytes of this kind, which are read as the value, followed by the rest
-pub record BeginsWith {A : Type 0} (byte : ℕ → Bool) (read : List ℕ → Option A) (text rest : List ℕ) (value : A) : Type 0 where
+pub record BeginsWith {A : Type 0} (byte : ℕ → Bool) (read : List ℕ → Option A) (text rest : List ℕ)
+    (value : A) : Type 0 where
   pub front : List ℕ
   pub whole : text ≡ front ++ rest
   pub bytes : list_all byte front ≡ true

@@ -4,3 +4,4 @@ pub mod Text
 pub mod Inner
 pub mod Conversion
 pub mod Print
+pub mod Displayed

@@ -9,7 +9,7 @@ ghost use Rattle.flowlabel.specs.Request.{Label};
 use crate::run::made::Made;
 use flow_files::{Files, LabelFile, LabelsRead, RunFault};
 use flow_io::Input;
-use label_lookup::{Labeller, ListIndex, Scan};
+use label_lookup::{Labeller, Scan};
 use pmap_text::KeyHashing;
 use prefix_keys::{Addr, convert};
 use std::alloc::{AllocError, Global};
@@ -35,13 +35,14 @@ fn line_by<L: Labeller>(alloc: Global, labels: &L, addr: Addr) -> Result<Vec<u8>
     }
 }
 
-// Returns the line of an address's label. It searches all statements of a map once, and builds an index of a list.
+// Returns the line of an address's label. All statements of a map, or all entries of a list, are
+// searched once.
 fn line_of(alloc: Global, read: &LabelsRead, addr: Addr) -> Result<Vec<u8>, AllocError>
     ensures { IfOk result (λ out. out.items ≡ label_text (addr.version, addr.value) (labelling_read read.now)) }
 {
     match read {
         LabelsRead::Map(map) => line_by(alloc, &Scan::new(map), addr),
-        LabelsRead::List(list) => line_by(alloc, &ListIndex::build(alloc, list)?, addr),
+        LabelsRead::List(list) => line_by(alloc, list, addr),
     }
 }
 

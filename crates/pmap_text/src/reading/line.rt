@@ -1,5 +1,5 @@
 //! The reading of one line of a text.
-ghost use Rattle.std.specs.Prelude.{◌≡◌, ◌<◌, ◌≤◌, ◌==◌, ◌||◌, ◌⊎◌, if◌then◌else◌, Some, None, Ok, Err, true, false, length, slice_get, slice_index, unwrap_or, IsTrue, IfOk, IfErr, OnOk, OnErr};
+ghost use Rattle.std.specs.Prelude.{◌≡◌, ◌<◌, ◌==◌, ◌||◌, ◌⊎◌, if◌then◌else◌, Some, None, Ok, Err, true, false, slice_get, slice_index, unwrap_or, IsTrue, IfOk, IfErr, OnOk, OnErr};
 ghost use Rattle.std.specs.List.{list_any};
 ghost use Rattle.prefix_keys.specs.Text.{address_of, block_of_text, is_digit};
 ghost use Rattle.pmap_text.specs.Label.{label_number as number_of_label, meant_text, is_label as is_label_text, with_label};

@@ -9,7 +9,6 @@ ghost use Rattle.pmap_text.specs.Stretches.{label_seen};
 use crate::label::LabelId;
 use crate::stretches::Stretches;
 use crate::stretches::growing::Growing;
-use crate::stretches::joining::Joining;
 use crate::stretches::mappings::Mappings;
 use crate::stretches::opened::Opened;
 use crate::stretches::starts::Starts;
@@ -66,18 +65,20 @@ fn open_at_zero<M: Mappings>(
 
 impl Ascent {
     // Returns the stretches up to address 0.
-    fn new<M: Mappings, J: Joining>(
+    fn new<M: Mappings>(
         alloc: Global,
         version: Version,
         default: Option<LabelId>,
         mappings: &M,
         starts: Starts,
+        joined: bool,
     ) -> Result<Ascent, AllocError>
         requires known { HaveNumbers (M.all mappings.now) default }
         requires order { IsOrder (M.all mappings.now) starts }
-        ensures ascent { IfOk result (IsAscent J.joins (M.all mappings.now)) }
+        ensures ascent { IfOk result (IsAscent (M.all mappings.now)) }
         ensures version { IfOk result (λ a. a.growing.stretches.version ≡ version) }
         ensures default { IfOk result (λ a. a.default ≡ default) }
+        ensures joined { IfOk result (λ a. a.growing.joined ≡ joined) }
         ensures last { IfOk result (λ a. a.growing.last ≡ 0) }
         ensures later { IfOk result (λ a. BeginAfter (M.all mappings.now) a.starts a.next a.growing.last) }
     {
@@ -87,7 +88,7 @@ impl Ascent {
         let label = label_won(mappings, won, default);
         // A stretch begins at the first address of a mapping, or after the last one.
         let most = mappings.count().saturating_mul(2).saturating_add(1);
-        let growing = Growing::new::<J>(alloc, version, won, label, 0, most)?;
+        let growing = Growing::new(alloc, version, won, label, 0, most, joined)?;
         Ok(Ascent {
             growing,
             default,
@@ -97,51 +98,54 @@ impl Ascent {
         })
     }
 
-    // Extends the stretches to an address before the next mapping begins, and closes open mappings that end up to there.
+    // Extends the stretches to an address before the next mapping begins, and closes open mappings that end up to
+    // there.
     #[inline(always)]
-    fn reach<M: Mappings, J: Joining>(&mut self, mappings: &M, last: u128) -> Result<(), AllocError>
+    fn reach<M: Mappings>(&mut self, mappings: &M, last: u128) -> Result<(), AllocError>
         requires known { HaveNumbers (M.all mappings.now) self.old.default }
-        requires ascent { IsAscent J.joins (M.all mappings.now) self.old }
+        requires ascent { IsAscent (M.all mappings.now) self.old }
         requires later { BeginAfter (M.all mappings.now) self.old.starts self.old.next last }
         requires from { self.old.growing.last ≤ last }
         requires within { last < 2 ^ width_of self.old.growing.stretches.version }
-        ensures continues { OnOk result (Continues J.joins (M.all mappings.now) self.old self.new) }
+        ensures continues { OnOk result (Continues (M.all mappings.now) self.old self.new) }
         ensures last { OnOk result (self.new.growing.last ≡ last) }
     {
         while self.growing.last < last {
             let Some(number) = self.opened.greatest() else {
-                self.growing.extend::<J>(None, self.default, last)?;
+                self.growing.extend(None, self.default, last)?;
                 return Ok(());
             };
             let mapping = mappings.mapping(number);
             let high = mapping.span.high.value;
             if last < high {
                 self.growing
-                    .extend::<J>(Some(number), Some(mapping.label), last)?;
+                    .extend(Some(number), Some(mapping.label), last)?;
                 return Ok(());
             }
             self.growing
-                .extend::<J>(Some(number), Some(mapping.label), high)?;
+                .extend(Some(number), Some(mapping.label), high)?;
             self.opened.remove(number);
         }
         Ok(())
     }
 
-    // Opens the mappings that begin up to `end`, and extends the stretches to the address before the last of them begins.
-    fn open_all<M: Mappings, J: Joining>(
+    // Opens the mappings that begin up to `end`, and extends the stretches to the address before the last of them
+    // begins.
+    fn open_all<M: Mappings>(
         &mut self,
         mappings: &M,
         end: u128,
     ) -> Result<(), AllocError>
         requires known { HaveNumbers (M.all mappings.now) self.old.default }
-        requires ascent { IsAscent J.joins (M.all mappings.now) self.old }
+        requires ascent { IsAscent (M.all mappings.now) self.old }
         requires later { BeginAfter (M.all mappings.now) self.old.starts self.old.next self.old.growing.last }
         requires from { self.old.growing.last ≤ end }
         requires within { end < 2 ^ width_of self.old.growing.stretches.version }
-        ensures ascent { OnOk result (IsAscent J.joins (M.all mappings.now) self.new) }
+        ensures ascent { OnOk result (IsAscent (M.all mappings.now) self.new) }
         ensures version { OnOk result
             (self.new.growing.stretches.version ≡ self.old.growing.stretches.version) }
         ensures default { OnOk result (self.new.default ≡ self.old.default) }
+        ensures joined { OnOk result (self.new.growing.joined ≡ self.old.growing.joined) }
         ensures later { OnOk result (BeginAfter (M.all mappings.now) self.new.starts self.new.next end) }
         ensures last { OnOk result (self.new.growing.last ≤ end) }
     {
@@ -151,7 +155,7 @@ impl Ascent {
             if end < low {
                 return Ok(());
             }
-            self.reach::<M, J>(mappings, low - 1)?;
+            self.reach(mappings, low - 1)?;
             self.opened.push(number)?;
             self.next += 1;
         }
@@ -160,22 +164,23 @@ impl Ascent {
 }
 
 /// Returns the stretches of mappings with these starts. `default` is the label of the addresses that no mapping covers.
-pub fn of_mappings<M: Mappings, J: Joining>(
+pub fn of_mappings<M: Mappings>(
     alloc: Global,
     version: Version,
     default: Option<LabelId>,
     mappings: &M,
     starts: Starts,
+    joined: bool,
 ) -> Result<Stretches, AllocError>
     requires known { HaveNumbers (M.all mappings.now) default }
     requires order { IsOrder (M.all mappings.now) starts }
     ensures version { IfOk result (λ s. s.version ≡ version) }
-    ensures stretches { IfOk result (AreSwept J.joins (M.all mappings.now) default) }
+    ensures stretches { IfOk result (AreSwept joined (M.all mappings.now) default) }
     ensures labels { IfOk result (HaveLabelsWon (M.all mappings.now) default) }
 {
     let end = version.last_address();
-    let mut ascent = Ascent::new::<M, J>(alloc, version, default, mappings, starts)?;
-    ascent.open_all::<M, J>(mappings, end)?;
-    ascent.reach::<M, J>(mappings, end)?;
+    let mut ascent = Ascent::new(alloc, version, default, mappings, starts, joined)?;
+    ascent.open_all(mappings, end)?;
+    ascent.reach(mappings, end)?;
     Ok(ascent.growing.stretches)
 }

@@ -1,5 +1,5 @@
 //! Blocks with the stretches at their ends.
-ghost use Rattle.std.specs.Prelude.{◌≡◌, ◌+◌, ◌^◌, ◌<◌, ◌≤◌, length};
+ghost use Rattle.std.specs.Prelude.{◌≡◌, ◌+◌, ◌^◌, ◌<◌, ◌≤◌};
 ghost use Rattle.prefix_keys.specs.Block.{width_of};
 ghost use Rattle.pmap_text.specs.Stretches.{HoldsAddress};
 ghost use Rattle.pmap_text.specs.Windows.{AreHalvesOf, IsWindow};

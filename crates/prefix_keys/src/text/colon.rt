@@ -1,4 +1,4 @@
-ghost use Rattle.std.specs.Prelude.{◌≡◌, ◌≤◌, ◌<◌, ◌+◌, ◌*◌, ◌-◌, ◌^◌, IfSome, Some, None, List, [], ◌∷◌, option_map, nat_le, if◌then◌else◌};
+ghost use Rattle.std.specs.Prelude.{◌≡◌, ◌≤◌, ◌<◌, ◌+◌, ◌*◌, ◌-◌, ◌^◌, IfSome, Some, None, [], ◌∷◌, option_map, nat_le, if◌then◌else◌};
 ghost use Rattle.std.specs.Char.{is_ascii_hexdigit};
 ghost use Rattle.prefix_keys.specs.Text.{hex_digit_value, hex_group, side_groups, around_gap, last_groups, text_groups, colon_address};
 ghost use Rattle.prefix_keys.specs.Inner.{BeginsWith, BeginsWithSide, is_colon_byte, more_groups};

@@ -1,4 +1,4 @@
-use Rattle.std.proofs.Common.{◌≡◌, ◌∙◌, ◌^◌, ◌<◌, ap, option_and_then, option_map, slice_get, subst, sym}
+use Rattle.std.proofs.Common.{◌∙◌, ◌^◌, ◌<◌, ap, option_and_then, option_map, slice_get, subst, sym}
 use Rattle.prefix_keys.specs.Block.{width_of}
 use Rattle.prefix_keys.specs.declared.version.Version.{Version}
 use Rattle.pmap_text.specs.ListModel.{ListModel, list_label}

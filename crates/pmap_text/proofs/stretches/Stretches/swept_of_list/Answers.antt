@@ -17,7 +17,7 @@ no_default : (count : ℕ) → ForSome None (λ (id : LabelId). id.0 < count)
 no_default count id is = absurd (let h : None ≡ Some id = is in cc)
 
 pub of_mappings-requires-clause-known : goal.of_mappings-requires-clause-known
-of_mappings-requires-clause-known g c =
+of_mappings-requires-clause-known c =
     let ss = map statement_of c.sorted_or-entries.result.now in
     let order = shortest_first c.args.list.now.entries _ _ c.sorted_or-entries.ensures c.in_ok-sorted.ensures.same c.in_ok-sorted.ensures.ascending in
     record {
@@ -27,12 +27,12 @@ of_mappings-requires-clause-known g c =
     }
 
 pub of_mappings-requires-clause-order : goal.of_mappings-requires-clause-order
-of_mappings-requires-clause-order g c =
+of_mappings-requires-clause-order c =
     rw c.none-starts.ensures (given_order (map statement_of c.sorted_or-entries.result.now) (lows_ascend c.sorted_or-entries.result.now
     (subst (IsNonDecreasingBy (λ e. rank_of e.block)) (sym c.sorted_or-entries.ensures) c.in_ok-sorted.ensures.ascending)))
 
 pub returns : goal.returns
-returns g c =
+returns c =
     let l = c.args.list.now in
     let ss = map statement_of c.sorted_or-entries.result.now in
     let order = shortest_first l.entries _ _ c.sorted_or-entries.ensures c.in_ok-sorted.ensures.same c.in_ok-sorted.ensures.ascending in

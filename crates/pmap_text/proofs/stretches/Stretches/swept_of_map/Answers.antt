@@ -15,14 +15,14 @@ won_label None x = refl
 won_label (Some p) x = refl
 
 pub of_mappings-requires-clause-known : goal.of_mappings-requires-clause-known
-of_mappings-requires-clause-known g c = record {
+of_mappings-requires-clause-known c = record {
   labels = All-weaker (λ s. s.label.0 < length c.args.map.now.labels) (λ s. s.label.0 < 2 ^ 32 - 1)
       (λ s less. omega (arith, less, c.laws.ensures.few)) c.args.map.now.statements c.args.map.now.numbers_known;
   fallback = λ id is. omega (arith, ap (λ (x : LabelId). x.0) (same_Some c.args.map.now.default id is), c.args.map.now.default_known, c.laws.ensures.few);
 }
 
 pub returns : goal.returns
-returns g c =
+returns c =
     let m = c.args.map.now in
     let made = c.in_ok-stretches.ensures in
     let s = c.in_ok-stretches.stretches in

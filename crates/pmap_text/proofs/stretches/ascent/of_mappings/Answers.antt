@@ -12,12 +12,13 @@ returns g c =
     let opened = c.in_ok-open_all.ensures in
     let begun = c.in_ok-ascent.ensures in
     let version = reached.continues.version ∙ opened.version ∙ begun.version in
-    let joins = g.J.Joining.joins in
+    let joined = reached.continues.joined ∙ opened.joined ∙ begun.joined in
     let default = reached.continues.default ∙ opened.default ∙ begun.default in
     let are = reached.continues.ascent.are in
     let end : self.growing.last + 1 ≡ 2 ^ width_of self.growing.stretches.version = rw version (omega (arith, c.last_address-end.ensures, reached.last)) in
     record {
       version = version;
-      stretches = subst (λ d. AreSwept joins ss d self.growing.stretches) default (stretches_all ss self.default joins self.growing are end);
-      labels = subst (λ d. HaveLabelsWon ss d self.growing.stretches) default (labels_won ss self.default joins self.growing are end);
+      stretches = subst (λ d. AreSwept c.args.joined ss d self.growing.stretches) default
+          (subst (λ j. AreSwept j ss self.default self.growing.stretches) joined (stretches_all ss self.default self.growing are end));
+      labels = subst (λ d. HaveLabelsWon ss d self.growing.stretches) default (labels_won ss self.default self.growing are end);
     }

@@ -45,6 +45,7 @@ loop-self-preserved g c =
             listed (omega (arith, reached.last, above));
       };
       version = reached.continues.version ∙ before.version;
+      joined = reached.continues.joined ∙ before.joined;
       default = reached.continues.default ∙ before.default;
       later = λ i s le. later i s (omega (arith, le));
       to = omega (arith, reached.last, c.if-end-low.false);

@@ -57,6 +57,7 @@ returns-in_default-clause-continues g c =
         opened = open_on ss self.starts order self.next first self.opened before.ascent.opened (c.extend.new.self.last + 1) (omega (arith, extended.last));
       };
       version = extended.version ∙ before.version;
+      joined = extended.joined ∙ before.joined;
       default = before.default;
       starts = before.starts;
       next = before.next;
@@ -86,6 +87,7 @@ returns-then-last-high-clause-continues g c =
             (omega (arith, extended.last));
       };
       version = extended.version ∙ before.version;
+      joined = extended.joined ∙ before.joined;
       default = before.default;
       starts = before.starts;
       next = before.next;
@@ -120,6 +122,7 @@ loop-self-preserved g c =
               c.remove.new.self number mapping c.remove.ensures c.mapping-mapping.ensures (omega (arith, extended.last));
         };
         version = extended.version ∙ before.version;
+        joined = extended.joined ∙ before.joined;
         default = before.default;
         starts = before.starts;
         next = before.next;

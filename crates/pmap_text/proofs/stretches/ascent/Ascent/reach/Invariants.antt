@@ -4,7 +4,7 @@ use Rattle.pmap_text.proofs.stretches.ascent.Ascent.reach.Given as goal
 
 abbrev pub invariant-loop-self : goal.invariant-loop-self
 invariant-loop-self g l = record {
-  continues : Continues g.J.Joining.joins (g.M.Mappings.all l.mappings) l.initial.self l.self;
+  continues : Continues (g.M.Mappings.all l.mappings) l.initial.self l.self;
   to : l.self.growing.last ≤ l.last;
 }
 
