@@ -1,18 +1,21 @@
 #!/usr/bin/env python3
 """Runs the tests: tests/run.py [NAME..], or make check [T=NAME]
 
-Each module `test_*.py` below tests/ has unittest's classes. A class is run in a process of its own, JOBS of them at a
-time (as many as there are processors), and all of them also after a failure. With NAMEs only the tests are run whose
-names contain one of them, such as `report`, `report.Tables` or `by_minute`. The names are those of the lines below.
+Each module `test_*.py` below tests/ has unittest's classes. A class is run in a process of its own, JOBS of them at
+a time (as many as there are processors), and all of them also after a failure. With NAMEs only the tests are run
+whose names contain one of them, such as `report`, `report.Tables` or `by_minute`. The names are those of the lines
+below.
 
-The program is the one that FLOWLABEL names, or the younger of what `make` and `make trial` have built. If there is none,
-one line says so, and the status is 125. Otherwise a line comes for each class, followed by the whole of what failed.
-Last come what was skipped and why, what failed, and 'N passed, N failed, N skipped'. The status is 1 if a test failed or
-if none was run.
+The program is the one that FLOWLABEL names, or the younger of what `make` and `make trial` have built. If there is
+none, one line says so, and the status is 125. Otherwise a line comes for each class, followed by the whole of what
+failed. A class that takes more than LIMIT seconds (2,400) is ended with all that it has started, and has failed: what
+it waited for is then printed. Last come what was skipped and why, what failed, and 'N passed, N failed, N skipped'. The
+status is 1 if a test failed or if none was run.
 """
 
 import collections
 import contextlib
+import faulthandler
 import json
 import os
 import re
@@ -28,22 +31,25 @@ sys.path.insert(0, TESTS)
 # Signals that end a run, and all that it has started.
 ENDS = (signal.SIGINT, signal.SIGTERM, signal.SIGHUP)
 JOBS = int(os.environ.get("JOBS") or len(os.sched_getaffinity(0)))
+LIMIT = int(os.environ.get("LIMIT") or 2400)
 import support
 
 
 class Result(unittest.TestResult):
-    """What became of the tests of a class: of each its name, `passed`, `failed` or `skipped`, and why."""
+    """Writes to a file what became of each test when it has ended: its name, `passed`, `failed` or `skipped`, and
+    why."""
 
-    def __init__(self):
+    def __init__(self, file):
         super().__init__()
-        self.ended, self.inner = [], {}
+        self.file, self.inner = file, {}
 
     def end(self, test, what, why=""):
-        self.ended.append((name_of(test), what, why))
+        print(json.dumps((name_of(test), what, why)), file=self.file, flush=True)
 
     def addSubTest(self, test, subtest, error):
         if error:
-            self.inner.setdefault(test, []).append(f"{subtest._subDescription()}\n{self._exc_info_to_string(error, test)}")
+            self.inner.setdefault(test, []).append(
+                f"{subtest._subDescription()}\n{self._exc_info_to_string(error, test)}")
 
     def stopTest(self, test):
         super().stopTest(test)
@@ -120,16 +126,25 @@ def start(tests, report):
         for stream in (1, 2):
             os.dup2(output, stream)
         os.dup2(os.open(os.devnull, os.O_RDONLY), 0)
-        result = Result()
-        unittest.TestSuite(tests).run(result)
+        # The signal prints where the process is, and then ends it.
+        signal.signal(signal.SIGALRM, signal.SIG_DFL)
+        faulthandler.register(signal.SIGALRM, chain=True)
+        signal.alarm(LIMIT)
         with open(report, "w", encoding="utf-8") as file:
-            json.dump(result.ended, file)
+            unittest.TestSuite(tests).run(Result(file))
         status = 0
     except BaseException:
         traceback.print_exc()
     finally:
         sys.stdout.flush()
         os._exit(status)
+
+
+def why_ended(status):
+    """Returns why the process of a class ended before its tests had."""
+    if os.WIFSIGNALED(status) and os.WTERMSIG(status) == signal.SIGALRM:
+        return f"the class took more than {LIMIT} s"
+    return f"its process ended with {status}"
 
 
 def kill_group(process):
@@ -170,9 +185,11 @@ class Runs:
             return
         case, tests, report, began = self.running.pop(process)
         kill_group(process)
-        found = [tuple(each) for each in json.loads(read_if_there(report) or "[]")]
+        found = [tuple(json.loads(line)) for line in read_if_there(report).splitlines()]
         if status or not found:
-            found.append((name_of(tests[0]), "failed", f"the process of its class ended with {status}"))
+            ended = {name for name, _, _ in found}
+            left = next((test for test in tests if name_of(test) not in ended), tests[-1])
+            found.append((name_of(left), "failed", why_ended(status)))
         self.ended += found
         count = collections.Counter(what for _, what, _ in found)
         name, seconds = class_name(case), time.monotonic() - began
@@ -206,9 +223,11 @@ def main():
     chosen = classes(sys.argv[1:])
     for number in ENDS:
         signal.signal(number, lambda number, _: sys.exit(128 + number))
-    print(f"tests/run.py: {sum(map(len, chosen.values()))} tests over {support.PROGRAM}, {JOBS} classes at a time", flush=True)
+    print(f"tests/run.py: {sum(map(len, chosen.values()))} tests over {support.PROGRAM}, {JOBS} classes at a time",
+          flush=True)
     # Classes that take long begin first, then those with many tests. Those that run alone come last.
-    waiting = sorted(chosen.items(), key=lambda item: (not is_marked(item[0], "alone"), is_marked(item[0], "long"), len(item[1])))
+    waiting = sorted(chosen.items(), key=lambda item: (not is_marked(item[0], "alone"), is_marked(item[0], "long"),
+                                                       len(item[1])))
     with tempfile.TemporaryDirectory(prefix="flowlabel-tests-") as folder:
         runs = Runs(folder)
         try:

@@ -24,7 +24,7 @@ SAMPLE = ROOT / "examples/softflowd.ipfix"
 ODD, SHOWN = "a b\nc", "a b\\x0ac"
 # Sends the records of a sample like softflowd, or sleeps.
 STAND_IN = """#!/bin/sh
-[ -z "$SLEEPS" ] || { echo begun >begun; exec sleep 60; }
+[ -z "$SLEEPS" ] || { echo begun >begun; exec sleep 3600; }
 exec python3 - "$@" <<'END'
 import os, socket, sys
 host, _, port = sys.argv[sys.argv.index("-n") + 1].rpartition(":")
@@ -34,7 +34,7 @@ print("Flows exported: 210 (210 records) in 10 packets (0 failures)")
 END
 """
 # A program that sleeps, and the real one otherwise.
-SLEEPER = '#!/bin/sh\n[ -z "$SLEEPS" ] || { echo begun >"$BEGUN"; exec sleep 60; }\nexec "$PROGRAM" "$@"\n'
+SLEEPER = '#!/bin/sh\n[ -z "$SLEEPS" ] || { echo begun >"$BEGUN"; exec sleep 3600; }\nexec "$PROGRAM" "$@"\n'
 # The words of each script over files that are right, with the number of its lines if it prints any. `{}` is the odd
 # name.
 WORKS = (

@@ -417,6 +417,8 @@ class Routed(Isolated, Fib):
 
 def make_links():
     """Makes the links of the examples, with their addresses."""
+    # Nobody else has them, so the kernel needn't take a second to look.
+    output("sysctl", "-qw", "net.ipv6.conf.default.accept_dad=0")
     for name, address, address_of_6 in INTERFACES:
         ip(f"link add {name} type veth peer name {name}p\nlink set {name}p up\nlink set {name} up\n"
            f"address add {address} dev {name}")

@@ -20,8 +20,8 @@ import re
 import sys
 
 from support import PROGRAM, ROOT, Case, command, load, made, outcome, rows, write
-from support.texts import EMPTY, ENDS, HALVES, LAST, WORDS, damaged_bytes, damaged_certificate, damaged_table
-from support.texts import faulty_line, made_map, renumbered
+from support.maps import EMPTY, ENDS, HALVES, LAST, WORDS, damaged_bytes, damaged_certificate, damaged_table
+from support.maps import faulty_line, made_map, renumbered
 
 VERIFIER = command("verify")
 SEED = 20260101

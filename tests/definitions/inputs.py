@@ -11,7 +11,7 @@ import tempfile
 from typing import NamedTuple
 
 from support import PROGRAM, ROOT, read, run
-from support.texts import (EMPTY, HALVES, LABELS, LAST, damaged_bytes, damaged_certificate, damaged_table, faulty_line,
+from support.maps import (EMPTY, HALVES, LABELS, LAST, damaged_bytes, damaged_certificate, damaged_table, faulty_line,
                            made_map, renumbered)
 
 NAMES = b"map.txt", b"list.txt", b"cert.txt", b"day.ipfix"

@@ -17,7 +17,7 @@ import sys
 import time
 import unittest
 
-from support import FOREVER, ROOT, Case, read, rows, write
+from support import FOREVER, ROOT, Case, outcome, read, rows, write
 from support.trees import BUILT, KIT, LOGIC, RECORD, Held, Tree, digest
 
 # An installed program. It records each call, prints its words and fails.
@@ -27,7 +27,8 @@ echo "installed $*"
 exit 7
 """
 # A number of seconds after which a script gives up.
-LIMIT = re.compile(r"(?:timeout(?:=| |\()|--seconds |(?:SECONDS|FOREVER) = |(?:monotonic\(\) \+|wait\() ?)(\d+)")
+LIMIT = re.compile(r"(?:timeout(?:=| |\()|--seconds |(?:SECONDS|FOREVER) = |\b(?:sleep|alarm\()|"
+                   r"(?:monotonic\(\) \+|wait\()) ?(\d+)")
 CHOICE = "lib/flowlabel/program"
 NOTHING_TO_DO = "dev/build: bin/flowlabel is built, and no source is younger\n"
 WAITS = "dev/build: another build or a gate of this tree is running, and this build waits for it\n"
@@ -494,8 +495,26 @@ class Trials(TreeCase):
         self.assertIn("rt is not found: install Rattle's toolchain", messages)
 
 
+# A class of tests that hangs.
+HANGING = """import subprocess
+from support import Case
+
+class Hanging(Case):
+    def test_it(self):
+        subprocess.run(["sleep", "3600"])
+"""
+
+
 class Limits(Case):
-    """No script gives up on a slow machine."""
+    """No script gives up on a slow machine, but a class of tests that hangs is ended."""
+
+    def test_hanging(self):
+        shutil.copytree(ROOT / "tests/support", "tests/support")
+        shutil.copy(ROOT / "tests/run.py", "tests")
+        write("tests/test_hanging.py", HANGING)
+        status, output, said = outcome("tests/run.py", variables={"FLOWLABEL": "true", "LIMIT": "1"})
+        self.assertEqual((status, output.splitlines()[-1], said), (1, b"0 passed, 1 failed, 0 skipped", b""))
+        self.assertIn(b"\nfailed: hanging.Hanging.it\nthe class took more than 1 s\nCurrent thread ", output)
 
     def test_waits(self):
         """No wait of a script ends after less than ten minutes."""

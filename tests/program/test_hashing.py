@@ -8,9 +8,10 @@ lines are run with the public numbers in place of drawn ones (tests/support/syst
 
 import functools
 import itertools
+import os
 import re
 
-from support import PROGRAM, Case, instructions, made, needs, rows, run, system, write
+from support import PROGRAM, Case, instructions, made, needs, read, rows, run, system, write
 
 # The number of keys.
 KEYS = 4_000
@@ -38,8 +39,9 @@ CHOSEN = {"labels": ("fold_labels", "known_labels"), "numbers": ("known_numbers"
 
 
 def pairs(usual, *lines):
-    """Returns each line with chosen keys, and the same line with usual ones, for a test of each."""
-    return rows(*((line.format(chosen), line.format(usual)) for line in lines for chosen in CHOSEN[usual]))
+    """Returns each line with chosen keys, and the same line with usual ones, for a test of each, with their names."""
+    return rows(*((line.format(chosen), line.format(usual), chosen, usual)
+                  for line in lines for chosen in CHOSEN[usual]))
 
 
 def folded(one, other):
@@ -56,11 +58,22 @@ def near_numbers():
             yield number
 
 
-def labels_of(order):
-    """Makes a map of KEYS labels in this order, and returns the labels."""
-    made("maps.py", KEYS, order, order)
-    with open(order, encoding="ascii") as text:
-        return [line.split()[1] for line in text]
+def make_keys(name):
+    """Makes the files of keys with a name of CHOSEN."""
+    if name in ("sources", *CHOSEN["sources"]):
+        made("flows.py", name, KEYS, name)
+        return
+    numbers = near_numbers() if name == "known_numbers" else range(KEYS)
+    made("maps.py", KEYS, "labels" if "numbers" in name else name, name)
+    labels = [line.split()[1] for line in read(name).splitlines()]
+    texts = "".join(f"label {number} {label}\n" for number, label in zip(numbers, labels))
+    if "numbers" in name:
+        write(name, texts)
+        return
+    lines = "".join(f"10.{number >> 8}.{number & 255}.0/32 {label}\n" for number, label in enumerate(labels))
+    write(f"{name}.twice", f"{lines}10.0.0.0/32 a\n")
+    write(f"{name}.cert", "\n".join([f"flowlabel-cert 1 ipv4 {KEYS}", *labels, "l 0\n"]))
+    write(f"{name}.texts", texts)
 
 
 @needs("valgrind", "rt", in_ci=True)
@@ -69,7 +82,15 @@ class Keys(Case):
     # The same command line with the same numbers is counted once.
     cost = staticmethod(functools.cache(instructions))
 
-    def check(self, chosen, usual):
+    @classmethod
+    def prepare(cls):
+        write("one", "0.0.0.0/0 A\n")
+        write("one.cert", "flowlabel-cert 1 ipv4 1\nA\nl 0\n")
+
+    def check(self, chosen, usual, *names):
+        for name in names:
+            if not os.path.exists(name):
+                make_keys(name)
         cost, limit = self.cost(chosen, DRAWN), 1.5 * self.cost(usual, DRAWN)
         self.assertLessEqual(cost, limit, f"{chosen}: {cost} instructions, and for random keys {limit / 1.5:.0f}")
         if "known" in chosen:
@@ -78,61 +99,37 @@ class Keys(Case):
                                             "collide, so make others in bench/")
 
 
-class Labels(Keys):
-    """The texts with labels."""
-
-    @classmethod
-    def prepare(cls):
-        for order in ("labels", *CHOSEN["labels"]):
-            labels = labels_of(order)
-            lines = "".join(f"10.{number >> 8}.{number & 255}.0/32 {label}\n" for number, label in enumerate(labels))
-            write(f"{order}.twice", f"{lines}10.0.0.0/32 a\n")
-            write(f"{order}.cert", "\n".join([f"flowlabel-cert 1 ipv4 {KEYS}", *labels, "l 0\n"]))
-            write(f"{order}.texts", "".join(f"label {number} {label}\n" for number, label in enumerate(labels)))
-        write("one", "0.0.0.0/0 A\n")
-        write("one.cert", "flowlabel-cert 1 ipv4 1\nA\nl 0\n")
-
-
-class LabelsOfMaps(Labels):
+class LabelsOfMaps(Keys):
     """Tables that a map fills."""
     is_long = True
 
     @pairs("labels", *OF_MAPS)
-    def test_keys(self, chosen, usual):
-        self.check(chosen, usual)
+    def test_keys(self, *row):
+        self.check(*row)
 
 
-class LabelsOfLists(Labels):
+class LabelsOfLists(Keys):
     """Tables that a list fills."""
 
     @pairs("labels", *OF_LISTS)
-    def test_keys(self, chosen, usual):
-        self.check(chosen, usual)
+    def test_keys(self, *row):
+        self.check(*row)
 
 
-class OtherKeys(Labels):
+class OtherKeys(Keys):
     """Tables that a certificate, declared numbers, or the addresses of flows fill."""
 
-    @classmethod
-    def prepare(cls):
-        super().prepare()
-        labels = labels_of("labels")
-        for name, numbers in (("numbers", range(KEYS)), ("known_numbers", near_numbers())):
-            write(name, "".join(f"label {number} {label}\n" for number, label in zip(numbers, labels)))
-        for kind in ("sources", *CHOSEN["sources"]):
-            made("flows.py", kind, KEYS, kind)
-
     @pairs("labels", *OF_CERTIFICATES)
-    def test_certificate(self, chosen, usual):
-        self.check(chosen, usual)
+    def test_certificate(self, *row):
+        self.check(*row)
 
     @pairs("numbers", "cat --pmap {}", "cat --list {}")
-    def test_numbers(self, chosen, usual):
-        self.check(chosen, usual)
+    def test_numbers(self, *row):
+        self.check(*row)
 
     @pairs("sources", "uniq --fields sip {}")
-    def test_addresses(self, chosen, usual):
-        self.check(chosen, usual)
+    def test_addresses(self, *row):
+        self.check(*row)
 
 
 @needs("valgrind", "rt", in_ci=True)

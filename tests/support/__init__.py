@@ -47,7 +47,8 @@ def begin():
     signal.signal(signal.SIGINT, signal.default_int_handler)
     signal.pthread_sigmask(signal.SIG_SETMASK, ())
     os.umask(0o022)
-    for name in ("MAKEFLAGS", "MFLAGS", "MAKELEVEL", "MAKEOVERRIDES", "PYTHONUNBUFFERED", "COLUMNS", "T", "JOBS"):
+    for name in ("MAKEFLAGS", "MFLAGS", "MAKELEVEL", "MAKEOVERRIDES", "PYTHONUNBUFFERED", "COLUMNS", "T", "JOBS",
+                 "LIMIT"):
         os.environ.pop(name, None)
     os.environ["LC_ALL"] = "C"
     # Nothing is written beside the sources.
@@ -133,8 +134,8 @@ class Case(unittest.TestCase):
     def assert_text(self, found, wanted):
         """Checks that bytes are those of a text, or match a pattern."""
         if isinstance(wanted, re.Pattern):
-            pattern = wanted if isinstance(wanted.pattern, bytes) else re.compile(wanted.pattern.encode(), wanted.flags & ~re.U)
-            self.assertTrue(pattern.fullmatch(found), f"{found[:2000]!r} doesn't match {wanted.pattern!r}")
+            text = found if isinstance(wanted.pattern, bytes) else found.decode("utf-8", "surrogateescape")
+            self.assertTrue(wanted.fullmatch(text), f"{found[:2000]!r} doesn't match {wanted.pattern!r}")
         else:
             wanted = wanted if isinstance(wanted, bytes) else wanted.encode()
             if found != wanted:
@@ -245,8 +246,8 @@ def system():
 
 
 def instructions(line, numbers):
-    """Returns the instructions that a run executes, by valgrind. `numbers` are the hash numbers that the system gives it."""
-    words = ["valgrind", "--tool=cachegrind", "--cache-sim=no", "--cachegrind-out-file=/dev/null", PROGRAM, *line.split()]
-    ended = run(*words, env={"PATH": os.environ["PATH"], "LD_PRELOAD": system(), "RANDOM": numbers},
+    """Returns the instructions that a run executes, by valgrind. `numbers` are the hash numbers that it gets."""
+    ended = run("valgrind", "--tool=cachegrind", "--cache-sim=no", "--cachegrind-out-file=/dev/null", PROGRAM,
+                *line.split(), env={"PATH": os.environ["PATH"], "LD_PRELOAD": system(), "RANDOM": numbers},
                 stdout=subprocess.DEVNULL)
     return int(re.findall(rb"I\s+refs:\s+([\d,]+)", ended.stderr)[-1].replace(b",", b""))

@@ -10,8 +10,9 @@ any text of its line; a line of it alone represents any lines. The status must b
 be 0 if one is. A line that ends in '; echo $?' shows the status.
 
 A command that ends in '# needs NAME ..' needs these programs, or files if a name has a '/'. If one is missing, the
-command is skipped, and so is each later command of its block that names a file of out/ which a skipped one names. In CI
-every command that needs programs is skipped: the behaviour of other programs is not part of `make test`.
+command is skipped, and so is each later command of its block that names a file of out/ which a skipped one names, or
+any such file by a variable (out/$). In CI every command that needs programs is skipped: the behaviour of other programs
+is not part of `make test`.
 """
 
 import collections
@@ -27,8 +28,8 @@ INDENT = "    "
 FAULT = re.compile(r"(flowlabel(?:-\w+)?|packets): ")
 OWN = re.compile(r"(?<![\w./])bin/flowlabel(?![\w-])")
 NEEDS = re.compile(r"\s+# needs (.+)$")
-# A file that one command makes and a later one may read.
-MADE = re.compile(r"\bout/[\w.-]+")
+# A file that one command makes and a later one may read. A variable may be any of them.
+MADE, VARIABLE = re.compile(r"\bout/[\w.-]+"), "out/$"
 ANY = "..."
 # An example: the number of its block, its command, and the lines that it shows.
 Example = collections.namedtuple("Example", "block command shown")
@@ -110,7 +111,9 @@ class Page:
             example, names = self.examples[number], set(MADE.findall(self.examples[number].command))
             reasons = list(lacks(example.command))
             for earlier, other in enumerate(self.examples[:number]):
-                made = names.intersection(MADE.findall(other.command))
+                made = set(MADE.findall(other.command))
+                if VARIABLE not in example.command:
+                    made &= names
                 is_beside = other.block == example.block
                 if is_beside or made:
                     skipped, _ = self.outcome(earlier)
