@@ -12,6 +12,8 @@ _flowlabel_options() {
     shrink) echo --pmap --certificate --compact --help ;;
     check) echo --pmap --list --cert --help ;;
     recert) echo --cert --help ;;
+    sum) echo --by --fields --pmap --list "$filters" --allow-skipped --columns --help ;;
+    messages) echo --help ;;
     esac
 }
 
@@ -42,7 +44,8 @@ _flowlabel_labels() {
             ;;
         esac
     done
-    [[ -z $option ]] || "$(_flowlabel_plain "${COMP_WORDS[0]}")" cat "$option" "$(_flowlabel_plain "$file")" 2>/dev/null |
+    local program=${COMP_WORDS[0]%-many}
+    [[ -z $option ]] || "$(_flowlabel_plain "$program")" cat "$option" "$(_flowlabel_plain "$file")" 2>/dev/null |
         sed 1d | cut -d '|' -f 3- | LC_ALL=C sort -u | grep .
 }
 
@@ -62,10 +65,14 @@ _flowlabel() {
     [[ $before != = ]] || before=${COMP_WORDS[COMP_CWORD - 2]}
     [[ $word != = ]] || word=
     if ((COMP_CWORD == 1)); then
-        mapfile -t COMPREPLY < <(compgen -W 'label info rows uniq cat shrink check recert --help --version' -- "$word")
+        case ${COMP_WORDS[0]} in
+        *-many) mapfile -t COMPREPLY < <(compgen -W 'sum messages --help --version' -- "$word") ;;
+        *) mapfile -t COMPREPLY < <(compgen -W 'label info rows uniq cat shrink check recert --help --version' -- "$word") ;;
+        esac
         return
     fi
     case $before in
+    --by) mapfile -t COMPREPLY < <(compgen -W 'day hour minute 15m 5m' -- "$word") ;;
     --fields) mapfile -t COMPREPLY < <(compgen -W "$(_flowlabel_fields "$word")" -- "$word") ;;
     --pmap | --list | --cert) mapfile -t COMPREPLY < <(compgen -f -- "$word") ;;
     --protocol | --sport | --dport | --saddress | --daddress | --packets | --bytes) ;;
@@ -79,4 +86,4 @@ _flowlabel() {
     esac
 }
 
-complete -o filenames -F _flowlabel flowlabel
+complete -o filenames -F _flowlabel flowlabel flowlabel-many

@@ -3,6 +3,7 @@
 # The labels of the map or the list that is on the line.
 function __flowlabel_labels
     set -l words (commandline -op)
+    set words[1] (string replace -r -- '-many$' '' $words[1])
     for number in (seq (count $words))
         switch $words[$number]
             case --pmap --list
@@ -61,3 +62,34 @@ complete -c flowlabel -n "$of rows uniq" -l columns -d 'Pad the fields to column
 complete -c flowlabel -n "$of uniq" -l sort-output -d 'Print the sums in the order of their keys'
 complete -c flowlabel -n "$of uniq" -l fields -x -d 'The fields to sum by' \
     -a '(__flowlabel_fields)'
+
+# Those of flowlabel-many.
+set -l commands sum messages
+
+complete -c flowlabel-many -n "not $of $commands" -f
+complete -c flowlabel-many -s h -l help -d 'Print help'
+complete -c flowlabel-many -n "not $of $commands" -s V -l version -d 'Print the version'
+complete -c flowlabel-many -n "not $of $commands" -a sum -d 'Print the sums of the flows of IPFIX Files'
+complete -c flowlabel-many -n "not $of $commands" -a messages -d 'Print what each message of IPFIX Files has'
+
+complete -c flowlabel-many -n "$of sum" -l by -x -d 'The unit of time to sum by' -a 'day hour minute 15m 5m'
+complete -c flowlabel-many -n "$of sum" -l fields -x -d 'The fields to sum by' \
+    -a '(__flowlabel_fields)'
+complete -c flowlabel-many -n "$of sum" -l pmap -r -F -d 'The prefix map'
+complete -c flowlabel-many -n "$of sum" -l list -r -F -d 'The prefix list'
+complete -c flowlabel-many -n "$of sum" -l allow-skipped -d 'Take Files with data sets that have no template'
+
+complete -c flowlabel-many -n "$of sum" -l protocol -x -d 'Flows of these protocols, such as 6,17 or 1-16'
+complete -c flowlabel-many -n "$of sum" -l sport -x -d 'Flows from these ports'
+complete -c flowlabel-many -n "$of sum" -l dport -x -d 'Flows to these ports'
+complete -c flowlabel-many -n "$of sum" -l saddress -x -d 'Flows from these addresses'
+complete -c flowlabel-many -n "$of sum" -l daddress -x -d 'Flows to these addresses'
+complete -c flowlabel-many -n "$of sum" -l packets -x -d 'Flows with this many packets, such as 5, 5- or 5-9'
+complete -c flowlabel-many -n "$of sum" -l bytes -x -d 'Flows with this many bytes'
+complete -c flowlabel-many -n "$of sum" -l src-label -x -d 'Flows whose source has this label' \
+    -a '(__flowlabel_labels)'
+complete -c flowlabel-many -n "$of sum" -l dst-label -x -d 'Flows whose destination has this label' \
+    -a '(__flowlabel_labels)'
+complete -c flowlabel-many -n "$of sum" -l any-label -x -d 'Flows whose source or destination has this label' \
+    -a '(__flowlabel_labels)'
+complete -c flowlabel-many -n "$of sum" -l columns -d 'Pad the fields to columns'

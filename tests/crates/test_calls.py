@@ -2,8 +2,8 @@
 
 A test inside a crate has the crate proved once more, which takes minutes and promises no more to a user. So the tests
 are in tests/crates/calls, and `rt try` runs them without proof over copies of the crates: those of the libraries as a
-crate of its own, with the examples of their lib.rt, and those of flow_io and flowlabel, which need private fields and
-calls, as modules of them. The texts of tests/program/worked.py are a module of constants for them.
+crate of its own, with the examples of their lib.rt, and those of flow_io, flowlabel and flow_many, which need private
+fields and calls, as modules of them. The texts of tests/program/worked.py are a module of constants for them.
 
 All tests of a crate are compiled at once, which takes a minute or two. So the log of a run in which all passed is kept
 in a folder for temporary files, and read again until a source, a test or the toolchain changes.
@@ -36,7 +36,7 @@ def crates():
 
 def libraries():
     """Returns the names of the crates whose public calls are tested."""
-    return [name for name in crates() if name not in ("definition_examples", "flowlabel_main")]
+    return [name for name in crates() if name != "definition_examples" and not name.endswith("_main")]
 
 
 def tests_below(folder):
@@ -166,15 +166,24 @@ class OfFlowIo(Modules):
     crate, names = "flow_io", tests_below(CALLS / "flow_io")
 
 
-class OfFlowlabel(Modules):
-    """`parse`, `run` over memory, and the texts of faults."""
-    crate, names = "flowlabel", tests_below(CALLS / "flowlabel")
+class OverMemory(Modules):
+    """Tests of a crate with the commands of a program, which share the texts of tests/program/worked.py."""
 
     @classmethod
     def add_tests(cls, source):
         super().add_tests(source)
         write(source / "tests/worked.rt", constants())
         shutil.copyfile(HEXADECIMAL, source / "tests/hexadecimal.rt")
+
+
+class OfFlowlabel(OverMemory):
+    """`parse`, `run` over memory, and the texts of faults."""
+    crate, names = "flowlabel", tests_below(CALLS / "flowlabel")
+
+
+class OfFlowMany(OverMemory):
+    """`execute` over memory."""
+    crate, names = "flow_many", tests_below(CALLS / "flow_many")
 
 
 class OfLibraries(Calls):

@@ -12,6 +12,7 @@
 - Options: each option and command of the help is in the manual and in the completions of bash, zsh and fish, with the
   words of the help, and they have no other. Options that FORMATS.md names are those of the program or of a command.
 - Completions: files complete each option and argument that is a file. bash is asked, and fish if it is installed.
+- All of this holds for flowlabel-many too. If it isn't built, a test that needs it is skipped.
 - Links: each link of a page leads to a file and a heading, and each path that a page names is there. Lines are not too
   wide.
 """
@@ -22,20 +23,27 @@ import re
 import resource
 import shutil
 import sys
+import unittest
 from pathlib import Path
 
 sys.path.insert(0, str(Path(__file__).resolve().parents[1]))
-from support import PROGRAM, ROOT, Case, needs, rows, run, write
+from support import BY_NAME, PROGRAM, ROOT, Case, needs, program_of, rows, run, write
 import support
 
 HELP = ROOT / "tests/pages/help.txt"
-COMMANDS = ("label", "info", "rows", "uniq", "cat", "shrink", "check", "recert")
+# The commands of each program, and all of them: no two programs have one of the same name.
+COMMANDS_OF = {"flowlabel": ("label", "info", "rows", "uniq", "cat", "shrink", "check", "recert"),
+               "flowlabel-many": ("sum", "messages")}
+COMMANDS = tuple(command for commands in COMMANDS_OF.values() for command in commands)
+# What help is asked of: a program, named alone, or a command.
+HELPED = (*COMMANDS_OF, *COMMANDS)
 PAGES = ("README.md", "examples/README.md", "docs/FORMATS.md", "docs/GUIDE.md", "docs/TABLES.md", "docs/DECISIONS.md",
-         "docs/DEFINITIONS.md", "docs/ARCHITECTURE.md", "man/flowlabel.1", "man/flowlabel-formats.5",
-         "man/flowlabel-scripts.1")
-REFERENCE = ("docs/FORMATS.md", "man/flowlabel.1", "man/flowlabel-formats.5")
+         "docs/DEFINITIONS.md", "docs/ARCHITECTURE.md", "man/flowlabel.1", "man/flowlabel-many.1",
+         "man/flowlabel-formats.5", "man/flowlabel-scripts.1")
+REFERENCE = ("docs/FORMATS.md", "man/flowlabel.1", "man/flowlabel-many.1", "man/flowlabel-formats.5")
 FILES = {"customers.txt": "examples/customers.txt", "flows.ipfix": "examples/softflowd-milli.ipfix",
-         "map.txt": "examples/customers.txt"}
+         "map.txt": "examples/customers.txt", "month/1.ipfix": "examples/softflowd-milli.ipfix",
+         "month/2.ipfix": "examples/softflowd-milli.ipfix"}
 BASH, ZSH, FISH = (f"completions/{name}" for name in ("flowlabel.bash", "_flowlabel", "flowlabel.fish"))
 # A limit: how the pages say it, and where the definitions have it.
 LIMITS = (
@@ -59,9 +67,10 @@ LIMITS = (
 OTHER_NUMBERS = {
     "1970": "the year from which times count", "10000": "an example of a count", "1500": "an example of a count",
     "1000000": "an example of a limit in kB", "1024": "the bytes of a kB", "2001": "a group of an address",
-    "1000": "an example of a number", "29305": "the enterprise number of RFC 5103, a constant of the code",
+    "1000": "an example of a number", "9999": "the last year that has four digits", "2023": "the year of an example",
+    "29305": "the enterprise number of RFC 5103, a constant of the code",
 }
-STANDARDS = re.compile(r"RFC \d+|https?://\S+|[A-Z][a-z]+ \d+, \d{4}")
+STANDARDS = re.compile(r"(?:RFC|ISO) \d+|https?://\S+|[A-Z][a-z]+ \d+, \d{4}")
 # A line that ends with each status, and words of its meaning, which each list of statuses has.
 STATUSES = (
     (0, ("cat", "--pmap", "map.txt"), r"succe"),
@@ -93,25 +102,42 @@ def read(name):
 
 
 def flowlabel(*words, **options):
-    """Runs the program in the folder of the files."""
-    return run(PROGRAM, *words, **options)
+    """Runs a program in the folder of the files. Only flowlabel-many is named, as the first word."""
+    program, words = program_of(words)
+    if not BY_NAME[program] and os.environ.get("CI", "local") == "local":
+        raise unittest.SkipTest(f"there is no {program} that is built")
+    return run(BY_NAME[program], *words, **options)
 
 
 @functools.cache
 def printed(*words):
-    """Returns what the program prints, without the mark of a trial."""
+    """Returns what a program prints, without the mark of a trial."""
     return flowlabel(*words).stdout.decode().replace(TRIAL, "", 1)
 
 
-def help_of(*words):
-    """Returns the help of a command, as the proved program prints it."""
-    return printed(*words, "--help")
+def words_of(name):
+    """Returns the words of a line for one of HELPED: those of flowlabel don't name it."""
+    program = next(program for program, commands in COMMANDS_OF.items() if name == program or name in commands)
+    return ("flowlabel-many",) * (program == "flowlabel-many") + (name,) * (name != program)
 
 
-def help_texts():
-    """Returns all help texts, each with its line."""
-    lines = [("--help",), *((command, "--help") for command in COMMANDS), ("--version",)]
-    return {f"$ flowlabel {' '.join(words)}": printed(*words) for words in lines}
+def help_of(name="flowlabel"):
+    """Returns the help of a program or a command, as a proved program prints it."""
+    return printed(*words_of(name), "--help")
+
+
+def help_texts(*programs):
+    """Returns all help texts of these programs, each with its line."""
+    lines = [(*words_of(name), option) for program in programs
+             for name, option in ((program, "--help"), *((command, "--help") for command in COMMANDS_OF[program]),
+                                  (program, "--version"))]
+    return {f"$ {shown(words)}": printed(*words) for words in lines}
+
+
+def shown(words):
+    """Returns a command line with the name of its program."""
+    program, words = program_of(words)
+    return " ".join((program, *words))
 
 
 def options_of(text):
@@ -122,8 +148,9 @@ def options_of(text):
 
 def codes_of_program():
     """Returns the name of each code of a fault, as the program prints it."""
-    sources = "".join(read(f"crates/flow_files/src/{name}.rt") for name in ("fault", "bytes_fault"))
-    return dict(re.findall(r"\b([MFCKPLU]\d+) ([A-Z]\w+)", "\n".join(re.findall(r'"[^"]*"', sources))))
+    names = [path for name in ("fault", "bytes_fault") for path in ROOT.glob(f"crates/flow*/src/{name}.rt")]
+    sources = "".join(map(support.read, names))
+    return dict(re.findall(r"\b([MFCKPLUS]\d+) ([A-Z]\w+)", "\n".join(re.findall(r'"[^"]*"', sources))))
 
 
 def plain(number):
@@ -138,8 +165,9 @@ class Beside(Case):
     @classmethod
     def prepare(cls):
         for name, source in FILES.items():
-            shutil.copyfile(ROOT / source, name)
-        os.symlink(PROGRAM, "flowlabel")
+            write(name, (ROOT / source).read_bytes())
+        for name, program in BY_NAME.items():
+            os.symlink(program or "missing", name)
         write("faulty.txt", "10.0.0.0/33 A\n")
         write("cert.txt", flowlabel("shrink", "--certificate", "--pmap", "map.txt").stdout)
         write("list.txt", flowlabel("shrink", "--pmap", "map.txt").stdout)
@@ -148,15 +176,15 @@ class Beside(Case):
 class Help(Beside):
     """The help texts, and the values and examples of help and manual."""
 
-    @rows(*((command,) for command in ("", *COMMANDS)))
-    def test_text(self, command):
-        line = f"$ flowlabel {f'{command} --help'.strip()}"
+    @rows(*((name,) for name in HELPED))
+    def test_text(self, name):
+        line = f"$ {shown((*words_of(name), '--help'))}"
         stored = re.search(rf"(?ms)^{re.escape(line)}\n(.*?)\n(?=\$ |\Z)", read("tests/pages/help.txt"))
-        self.assertEqual(stored and stored[1], help_of(*command.split()),
+        self.assertEqual(stored and stored[1], help_of(name),
                          "another than in tests/pages/help.txt: read it, then run tests/pages/test_pages.py --write")
 
     def test_there_is_no_other_text(self):
-        texts = help_texts().items()
+        texts = help_texts(*COMMANDS_OF).items()
         self.assertEqual(read("tests/pages/help.txt"), "".join(f"{line}\n{text}\n" for line, text in texts))
 
     def assert_accepted(self, found):
@@ -165,16 +193,19 @@ class Help(Beside):
         for option, value in found:
             with self.subTest(f"--{option} {value}"):
                 words = ("uniq", "--fields", value) if option == "fields" else ("rows", f"--{option}", value)
+                words = ("flowlabel-many", "sum", "--by", value) if option == "by" else words
                 self.assertEqual((flowlabel(*words, "flows.ipfix").returncode), 0)
 
-    def test_values_of_help(self):
-        self.assert_accepted([(option, value) for command in ("rows", "uniq")
+    @rows(("flowlabel", "rows", "uniq"), ("flowlabel-many", "sum"))
+    def test_values_of_help(self, _, *commands):
+        self.assert_accepted([(option, value) for command in commands
                               for option, said in options_of(help_of(command)).items()
                               for values in re.findall(r"such as ([^:\n]*)|: (\d\S*)$", said)
                               for value in re.split(r", (?=\S)| or ", values[0] or values[1])])
 
-    def test_values_of_manual(self):
-        manual = read("man/flowlabel.1").split(".Ss Filters")[1].split(".Sh ENVIRONMENT")[0]
+    @rows(*((program,) for program in COMMANDS_OF))
+    def test_values_of_manual(self, program):
+        manual = read(f"man/{program}.1").split(".Ss Filters")[1].split(".Sh ENVIRONMENT")[0]
         options = re.findall(r"(?m)^\.It Fl -([a-z-]+) .*\n((?:(?!\.It|\.El).*\n)*)", manual)
         self.assert_accepted([(option, value) for option, said in options
                               for value in re.findall(r"(?m)^\.Ql (\S+)", said)])
@@ -185,9 +216,9 @@ class Help(Beside):
                               for option in re.findall(r"(?<=-)([a-z]+)\b(?= [,:])", part.split("\n")[1])
                               for value in re.findall(r"(?m)^\.Ql (\S+)", part) if value != "10k"])
 
-    @rows(*((command,) for command in ("", *COMMANDS)))
-    def test_example(self, command):
-        found = re.findall(r"(?m)^  (flowlabel .*)$", help_of(*command.split()).split("\nExample, ")[1])
+    @rows(*((name,) for name in HELPED))
+    def test_example(self, name):
+        found = re.findall(r"(?m)^  (flowlabel(?:-many)? .*)$", help_of(name).split("\nExample, ")[1])
         self.assertEqual(len(found), 1)
         ended = run("bash", "-c", found[0], env={**os.environ, "PATH": f"{os.getcwd()}:{os.environ['PATH']}"})
         self.assertEqual((ended.returncode, ended.stderr), (0, b""))
@@ -196,6 +227,7 @@ class Help(Beside):
 
     @rows(("rows", r"the flows from the customer (\w+) to port (\d+):\n  (.*)", "--src-label {} --dport {} "),
           ("uniq", r"the sums by the customer that receives:\n  ((.*))", "--fields dst-label "),
+          ("sum", r"the sums by day and customer:\n  ((.*))", "--by day --fields dst-label "),
           ("manual", r"The flows from the customer (\w+) to port (\d+)[^$]*\$(.*(?:\\e\n.*)*)",
            "--src-label {} --dport {} "))
     def test_example_does_what_its_text_says(self, command, said, options):
@@ -208,7 +240,8 @@ class Numbers(Case):
 
     @rows(*LIMITS)
     def test_limit(self, _, said, file, form):
-        number = plain(re.search(form, read(f"crates/{file}"), re.M)[1])
+        text = "".join(map(support.read, ROOT.glob(f"crates/{file}")))
+        number = plain(re.search(form, text, re.M)[1])
         found = [(page, next(filter(None, each.groups()))) for page in PAGES for each in re.finditer(said, read(page))]
         self.assertTrue(any(page in REFERENCE for page, _ in found), "no page has this limit")
         self.assertEqual([(page, each) for page, each in found if plain(each) != number], [],
@@ -255,10 +288,10 @@ class Faults(Case):
     @rows(*((page,) for page in PAGES))
     def test_names(self, page):
         text = re.sub(r"\n\.Ql |[`|]", " ", read(page))
-        found = re.findall(r"\b([MFCKPLU]\d{1,2})\s+([A-Z][a-z]+[A-Z]\w*|NotAList)\b", text)
+        found = re.findall(r"\b([MFCKPLUS]\d{1,2})\s+([A-Z][a-z]+[A-Z]\w*|NotAList)\b", text)
         self.assertEqual(found, [(code, codes_of_program().get(code)) for code, _ in found])
 
-    @rows(("docs/FORMATS.md",), ("man/flowlabel.1", "man/flowlabel-formats.5"))
+    @rows(("docs/FORMATS.md",), ("man/flowlabel.1", "man/flowlabel-many.1", "man/flowlabel-formats.5"))
     def test_all(self, *pages):
         text, codes = re.sub(r"\n\.Ql |[`|]", " ", "".join(map(read, pages))), codes_of_program()
         self.assertGreater(len(codes), 45)
@@ -283,6 +316,7 @@ class Fields(Beside):
 
     @rows(("docs/FORMATS.md", r"(?s)NAMES are some of(.*?)separated by", r"`([a-z-]+)`"),
           ("man/flowlabel.1", r"(?s)\.It Fl -fields Ar names\n(.*?)\.It ", r"(?m)^\.Cm ([a-z-]+)"),
+          ("man/flowlabel-many.1", r"(?s)\.It Fl -fields Ar names\n(.*?)\.It ", r"(?m)^\.Cm ([a-z-]+)"),
           (BASH, r"for field in (.*); do", r"\S+"), (ZSH, r"-s , field (.*)", r"\S+"),
           (FISH, r"for field in (.*)", r"\S+"))
     def test_list(self, name, part, field):
@@ -302,42 +336,48 @@ class Fields(Beside):
                          [line.split()[0] for line in flowlabel("info", "flows.ipfix").stdout.decode().splitlines()])
 
 
-def options_of_manual():
-    """Returns the options of each command in the synopsis of the manual."""
+def options_of_manual(program):
+    """Returns the options of each command in the synopsis of a program's manual."""
     commands, filters = {}, set(options_of(help_of("rows"))) - {"pmap", "list", "columns", "help"}
-    for part in read("man/flowlabel.1").split(".Sh SYNOPSIS")[1].split(".Sh")[0].split(".Nm\n")[1:]:
+    for part in read(f"man/{program}.1").split(".Sh SYNOPSIS")[1].split(".Sh")[0].split(".Nm\n")[1:]:
         if found := re.match(r"\.Cm ([a-z]+)", part):
             options = set(re.findall(r"Fl -([a-z-]+)", part)) | {"help"}
             commands[found[1]] = options | (filters if "Ar filter" in part else set())
     return commands
 
 
-def options_of_bash():
-    """Returns the options of each command that bash completes."""
+def options_of_bash(program):
+    """Returns the options of each command of a program that bash completes."""
     text, commands = read(BASH), {}
     filters = set(re.findall(r"--([a-z-]+)", "".join(re.findall(r"filters\+?='(.*)'", text))))
     for names, words in re.findall(r"(?m)^    ([a-z| ]+)\) echo (.*) ;;", text):
         options = set(re.findall(r"--([a-z-]+)", words)) | (filters if "$filters" in words else set())
-        commands.update({name: options for name in names.split(" | ")})
+        commands.update({name: options for name in names.split(" | ") if name in COMMANDS_OF[program]})
     return commands
 
 
-def options_of_zsh():
-    """Returns the options of each command that zsh completes."""
+def options_of_zsh(program):
+    """Returns the options of each command of a program that zsh completes."""
     lists = {name: set(re.findall(r"--([a-z-]+)", re.sub(r"\[[^]]*\]|\(-[^)]*\)", "", body)))
              for name, body in re.findall(r"(?m)^    (\w+)=\(\n((?:        .*\n)*)    \)", read(ZSH))}
     commands = {}
     for name, body in re.findall(r"(?ms)^        ([a-z]+)\)(.*?);;", read(ZSH)):
         options = set(re.findall(r"'--([a-z-]+)", body)) | ({"help"} if '"$help[@]"' in body else set())
         commands[name] = options.union(*(lists.get(found, set()) for found in re.findall(r'"\$(\w+)\[@\]"', body)))
-    return commands
+    return {name: options for name, options in commands.items() if name in COMMANDS_OF[program]}
 
 
-def options_of_fish():
-    """Returns the options of each command that fish completes."""
-    general = set(re.findall(r"(?m)^complete -c flowlabel -s \w -l ([a-z-]+)", read(FISH)))
-    commands = {name: set(general) for name in re.findall(r"-a ([a-z]+) -d", read(FISH))}
-    for names, option in re.findall(r'-n "\$of ([a-z ]+)" -l ([a-z-]+)', read(FISH)):
+def fish_of(program):
+    """Returns what completes a program in fish."""
+    return "".join(re.findall(rf"(?m)^complete -c {program} (?:.*\\\n)*.*\n", read(FISH)))
+
+
+def options_of_fish(program):
+    """Returns the options of each command of a program that fish completes."""
+    text = fish_of(program)
+    general = set(re.findall(r"(?m)^complete -c [a-z-]+ -s \w -l ([a-z-]+)", text))
+    commands = {name: set(general) for name in re.findall(r"-a ([a-z]+) -d", text)}
+    for names, option in re.findall(r'-n "\$of ([a-z ]+)" -l ([a-z-]+)', text):
         for name in names.split():
             commands.setdefault(name, set()).add(option)
     return commands
@@ -346,32 +386,42 @@ def options_of_fish():
 class Options(Case):
     """The manual and the completions have the commands and options of the help, with its words, and no others."""
 
-    @rows(("manual", options_of_manual), ("bash", options_of_bash), ("zsh", options_of_zsh), ("fish", options_of_fish))
-    def test_of_commands(self, _, source):
-        self.assertEqual(source(), {command: set(options_of(help_of(command))) for command in COMMANDS})
+    @rows(*((name, source, program) for program in COMMANDS_OF for name, source in (
+        ("manual", options_of_manual), ("bash", options_of_bash), ("zsh", options_of_zsh), ("fish", options_of_fish))))
+    def test_of_commands(self, _, source, program):
+        self.assertEqual(source(program),
+                         {command: set(options_of(help_of(command))) for command in COMMANDS_OF[program]})
 
-    @rows(("help", r"\A", r"(?m)^  ([a-z]+)  +[A-Z]"), ("man/flowlabel.1", r"\A", r"(?m)^\.It Cm ([a-z]+)$"),
-          (ZSH, r"\A", r"(?m)^        ['\"]([a-z]+):"), (FISH, r"set -l commands (?=(.*))", r"\b[a-z]+\b"),
-          (BASH, r"compgen -W '(?=([^']*))", r"(?<!-)\b[a-z]+\b"))
-    def test_commands(self, name, begins, command):
-        text = help_of() if name == "help" else read(name)
+    @rows(*((name, begins, command, program) for program, other in (("flowlabel", "label"), ("flowlabel-many", "sum"))
+            for name, begins, command in (
+                ("help", r"\A", r"(?m)^  ([a-z]+)  +[A-Z]"), (f"man/{program}.1", r"\A", r"(?m)^\.It Cm ([a-z]+)$"),
+                (ZSH, rf"commands=\((?=\s+'{other}:((?:[^)])*)\n    \))", r"(?m)(?:^        ['\"]|\A)([a-z]+):"),
+                (FISH, rf"set -l commands (?=({other}.*))", r"\b[a-z]+\b"),
+                (BASH, rf"compgen -W '(?=({other}[^']*))", r"(?<!-)\b[a-z]+\b"))))
+    def test_commands(self, name, begins, command, program):
+        text = help_of(program) if name == "help" else read(name)
         text = (found := re.search(begins, text)) and (found[1] if found.re.groups else text)
-        self.assertEqual(sorted(re.findall(command, text)), sorted(COMMANDS))
+        found = re.findall(command, text)
+        self.assertEqual(sorted({*found, COMMANDS_OF[program][0]} if name == ZSH else found),
+                         sorted(COMMANDS_OF[program]))
 
-    def test_explained_in_manual(self):
-        lines = re.findall(r"(?m)^\.It Fl .*", read("man/flowlabel.1"))
+    @rows(*((program,) for program in COMMANDS_OF))
+    def test_explained_in_manual(self, program):
+        lines = re.findall(r"(?m)^\.It Fl .*", read(f"man/{program}.1"))
         self.assertEqual(set(re.findall(r"Fl -([a-z-]+)", "\n".join(lines))),
-                         {"version"}.union(*(options_of(help_of(command)) for command in COMMANDS)))
+                         {"version"}.union(*(options_of(help_of(command)) for command in COMMANDS_OF[program])))
 
-    def test_of_the_program(self):
-        self.assertEqual(set(options_of(help_of())), {"help", "version"})
-        offered = re.search(r"compgen -W '(label [^']*)'", read(BASH))[1].split()
+    @rows(*((program, commands[0]) for program, commands in COMMANDS_OF.items()))
+    def test_of_the_program(self, program, first):
+        self.assertEqual(set(options_of(help_of(program))), {"help", "version"})
+        offered = re.search(rf"compgen -W '({first} [^']*)'", read(BASH))[1].split()
         self.assertEqual({word for word in offered if word.startswith("-")}, {"--help", "--version"})
 
     @rows((ZSH, r"(?m)(--[a-z-]+)(?:\}')?\[([^]]*)\]|^ +['\"]([a-z]+):(.*)['\"]$"),
-          (FISH, r"""(?m)-l ([a-z-]+) .*?-d ['"](.*?)['"](?=$| \\)|-a ([a-z]+) -d ['"](.*?)['"]$"""))
+          (FISH, r"""(?m)-l ([a-z-]+) .*?-d ['"](.*?)['"](?=$| \\| -a)|-a ([a-z]+) -d ['"](.*?)['"]$"""))
     def test_words(self, name, described):
-        wanted = {command: {said} for command, said in re.findall(r"(?m)^  ([a-z]+)  +([A-Z].*)", help_of())}
+        wanted = {command: {said} for program in COMMANDS_OF
+                  for command, said in re.findall(r"(?m)^  ([a-z]+)  +([A-Z].*)", help_of(program))}
         for command in COMMANDS:
             for option, said in options_of(help_of(command)).items():
                 wanted.setdefault(f"--{option}", set()).add(re.split(r", such as|:", said)[0])
@@ -384,7 +434,7 @@ class Options(Case):
 
     @rows(("docs/FORMATS.md",), ("man/flowlabel-formats.5",))
     def test_of_formats(self, page):
-        known = "".join(help_texts().values()) + "".join(map(support.read, ROOT.glob("bin/flowlabel-*")))
+        known = "".join(help_texts(*COMMANDS_OF).values()) + "".join(map(support.read, ROOT.glob("bin/flowlabel-*")))
         found = set(re.findall(r"(?<![\w-])--[a-z][a-z-]*", read(page)))
         self.assertLessEqual(found, set(re.findall(r"--[a-z][a-z-]*", known)))
 
@@ -402,16 +452,23 @@ class Completions(Beside):
         """Returns the words of each line that a file completes, and the options before it."""
         options = sorted(set(re.findall(r"--([a-z]+) <?FILE", help_of(command))))
         lines = [(command, f"--{option}", "custom") for option in options]
-        return lines + ([(command, "custom")] if re.search(r"(?m)^ +<?FILE>?\b", help_of(command)) else []), options
+        takes_file = re.search(r"(?m)^ +<?FILE>?(?:\.\.\.)?", help_of(command))
+        return lines + ([(command, "custom")] if takes_file else []), options
+
+    @staticmethod
+    def program(command):
+        """Returns the name of the program of a command."""
+        return program_of(words_of(command))[0]
 
     @rows(*((command,) for command in COMMANDS))
     def test_bash(self, command):
         script = ('. "$0"; COMP_WORDS=("$@"); COMP_CWORD=$(($# - 1)); _flowlabel; printf "%s\\n" "${COMPREPLY[@]}"; '
-                  'complete -p flowlabel')
+                  'complete -p "$1"')
         self.assertTrue(self.lines(command)[0])
         for words in self.lines(command)[0]:
             with self.subTest(words):
-                offered = run("bash", "-c", script, ROOT / BASH, "flowlabel", *words).stdout.decode().split("\n")
+                ended = run("bash", "-c", script, ROOT / BASH, self.program(command), *words)
+                offered = ended.stdout.decode().split("\n")
                 self.assertIn("customers.txt", offered)
                 self.assertIn("-o filenames", offered[-2])
 
@@ -420,7 +477,8 @@ class Completions(Beside):
     def test_fish(self, command):
         for words in self.lines(command)[0]:
             with self.subTest(words):
-                asked = run("fish", "-c", f'source "{ROOT / FISH}"; complete -C "flowlabel {" ".join(words)}"').stdout
+                line = " ".join((self.program(command), *words))
+                asked = run("fish", "-c", f'source "{ROOT / FISH}"; complete -C "{line}"').stdout
                 self.assertIn(b"customers.txt", asked)
 
     @rows(("--fields sip,", ["sip,dip", "sip,proto"], "sip,sip"),
@@ -438,17 +496,17 @@ class Completions(Beside):
             with self.subTest(option):
                 in_zsh = re.findall(rf"'(?:\([^)]*\))?--{option}\[[^]]*\]:[a-z ]+:([^']*)'", read(ZSH))
                 self.assertEqual(set(in_zsh), {"_files"})
-                in_fish = re.findall(rf"(?m)^complete .* -l {option} (.*)$", read(FISH))
+                in_fish = re.findall(rf"(?m)^complete .* -l {option} (.*)$", fish_of(self.program(command)))
                 self.assertTrue(in_fish)
                 self.assertEqual([line for line in in_fish if " -F " not in f" {line}"], [])
 
-    @rows(("info",), ("rows",), ("uniq",))
-    def test_zsh(self, command):
+    @rows(("info", "1"), ("rows", "1"), ("uniq", "1"), ("sum", "*"), ("messages", "*"))
+    def test_zsh(self, command, which):
         part = re.search(rf"(?ms)^        {command}\).*?(?=^        [a-z]+\)|^        esac)", read(ZSH))[0]
-        self.assertIn("'1:IPFIX File:_files'", part)
+        self.assertIn(f"'{which}:IPFIX File:_files'", part)
 
     def test_fish_completes_files(self):
-        self.assertNotRegex(read(FISH), r"(?m)^complete -c flowlabel (?!-n \"not).*-f\b")
+        self.assertNotRegex(read(FISH), r"(?m)^complete -c flowlabel(?:-many)? (?!-n \"not).*-f\b")
 
 
 def prose(text):
@@ -502,4 +560,4 @@ class Links(Case):
 if __name__ == "__main__":
     if sys.argv[1:] != ["--write"]:
         sys.exit("tests/pages/test_pages.py: the only word is --write; run the tests by `make check T=pages`")
-    write(HELP, "".join(f"{line}\n{text}\n" for line, text in help_texts().items()))
+    write(HELP, "".join(f"{line}\n{text}\n" for line, text in help_texts(*COMMANDS_OF).items()))

@@ -6,18 +6,22 @@ be sorted again, and a table of recent groups could confirm nothing, and all wou
 in docs/ARCHITECTURE.md, under 'What a run costs', is run over generated inputs, and may take at most a tenth more than
 the table says: of the instructions that valgrind counts with fixed hash numbers, and of the peak memory, of which the
 system counts some pages late. A line of less than eight tenths of the instructions fails too, since the table should
-say so. No clock is read. `tests/program/test_instructions.py --write` measures the lines anew and writes the table.
+say so. `hours/*` in a line is 24 Files. No clock is read. `tests/program/test_instructions.py --write` measures the
+lines anew and writes the table.
 """
 
 import concurrent.futures
+import glob
 import os
 import re
+import shutil
 import sys
 import tempfile
 
 if __name__ == "__main__":
     sys.path.insert(0, os.path.dirname(os.path.dirname(os.path.realpath(__file__))))
-from support import PROGRAM, ROOT, Case, instructions, made, needs, read, rows, run, system, write
+from support import BY_NAME, PROGRAM, ROOT, Case, instructions, made, needs, needs_many, program_of, read, rows, run, \
+    system, write
 
 PAGE = ROOT / "docs/ARCHITECTURE.md"
 SECTION = re.compile(r"(?ms)^### What a run costs\n.*?(?=^##)")
@@ -41,7 +45,12 @@ OF_FLOWS = (
     "uniq --fields proto usual", "uniq --fields sip,dip,sport,dport,proto usual", "uniq --fields sip biflow",
     "uniq --fields src-label,dst-label --pmap routes usual",
 )
-LINES = OF_MAPS + OF_FLOWS
+OF_MANY = (
+    "flowlabel-many sum --fields dst-label --pmap countries hours/*", "flowlabel-many sum --by day hours/*",
+    "flowlabel-many sum --by 5m --fields dst-label --pmap countries hours/*", "flowlabel-many messages hours/*",
+)
+LINES = OF_MAPS + OF_FLOWS + OF_MANY
+HOURS, RECORDS = 24, 5_000
 
 
 def make_inputs(line):
@@ -49,16 +58,27 @@ def make_inputs(line):
     for name in {word.partition("-")[0] for word in line.split()}:
         if name in FLOWS and not os.path.exists(name):
             made("flows.py", name, FLOWS[name], name)
+        elif name == "hours/*" and not os.path.exists("hours"):
+            os.mkdir("hours")
+            made("flows.py", "usual", RECORDS, "hours/00")
+            for number in range(1, HOURS):
+                shutil.copyfile("hours/00", f"hours/{number:02}")
         elif name in MAPS and not os.path.exists(name):
             made("maps.py", MAPS[name], name, name)
             for suffix, words in (("list", ()), ("cert", ("--certificate",))):
                 write(f"{name}-{suffix}", run(PROGRAM, "shrink", "--pmap", name, *words, check=True).stdout)
 
 
+def with_files(line):
+    """Returns a line with the names of the Files that it has a pattern for."""
+    return " ".join(name for word in line.split() for name in sorted(glob.glob(word)) or [word])
+
+
 def peak_of(line):
     """Returns the peak memory of a run in kB, as the system counts it for the program alone."""
+    program, words = program_of(line.split())
     with tempfile.TemporaryFile() as file:
-        run(PROGRAM, *line.split(), env={"LD_PRELOAD": system(), "RANDOM": NUMBERS, "STATUS": str(file.fileno())},
+        run(BY_NAME[program], *words, env={"LD_PRELOAD": system(), "RANDOM": NUMBERS, "STATUS": str(file.fileno())},
             pass_fds=[file.fileno()], check=True)
         file.seek(0)
         return int(re.search(rb"VmHWM:\s+(\d+) kB", file.read())[1])
@@ -66,6 +86,7 @@ def peak_of(line):
 
 def measured(line):
     """Returns the thousands of instructions and the kB of a line."""
+    line = with_files(line)
     return instructions(line, NUMBERS) // 1000, peak_of(line)
 
 
@@ -91,9 +112,9 @@ class Costs(Case):
         (count, memory), (figure, peak) = measured(line), table().get(line, (0, 0))
         with self.subTest("instructions"):
             self.assertTrue(LOW * figure <= count <= ROOM * figure,
-                            f"flowlabel {line}: {count} thousand instructions, and the table has {figure}")
+                            f"{line}: {count} thousand instructions, and the table has {figure}")
         with self.subTest("memory"):
-            self.assertLessEqual(memory, ROOM * peak + LATE, f"flowlabel {line}: {memory} kB, and the table has {peak}")
+            self.assertLessEqual(memory, ROOM * peak + LATE, f"{line}: {memory} kB, and the table has {peak}")
 
 
 class CostsOfMaps(Costs):
@@ -108,6 +129,15 @@ class CostsOfFlows(Costs):
     """The costs of lines over Files."""
 
     @rows(*zip(OF_FLOWS))
+    def test_line(self, line):
+        self.check(line)
+
+
+@needs_many
+class CostsOfMany(Costs):
+    """The costs of lines of flowlabel-many."""
+
+    @rows(*zip(OF_MANY))
     def test_line(self, line):
         self.check(line)
 

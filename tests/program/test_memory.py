@@ -9,7 +9,7 @@ makes over 60,000 allocations, so each of them fails in a copy of the process th
 CALLS are calls of the crates. A value that a call changes must be unchanged if an allocation failed, and the same call,
 made once more, must succeed. The small program in tests/crates/memory makes them. It is built if it is missing or old.
 
-The lines are those of tests/program/worked.py. The status must be 3, with nothing on standard output and the line of
+The lines are those of tests/program/worked.py and worked_many.py. The status must be 3, with nothing on standard output and the line of
 the fault on standard error. If the line itself is invalid, the last allocations are for the line of its fault. If one
 of them fails, no line is written, and the line's own status is kept. The text of clap for a line that it refuses, and
 its help, may be printed although an allocation failed: its suggestions do without. For the lines of LOOKED_THROUGH the
@@ -31,12 +31,12 @@ from program.worked import BY_LABEL, BY_LABEL_COLUMNS, CLAPS, COLUMNS, COUNTS, H
     HALVES_COMPACT, LARGE, LAST, LAST_CERT, LAST_COMPACT, LAST_LIST, LINES, LONE, LONE_COMPACT, NESTED, ONE_FLOW, \
     SPAN, SPAN_CERT, SPAN_COMPACT, SPAN_LIST, TCP_ROW, TEMPLATE, TITLE, TWO_DOMAINS, TWO_FLOWS, lines_of, make, \
     text_of
-from support import PROGRAM, ROOT, Case, needs, preloaded, rows, run
+from program.worked_many import LINES as LINES_OF_MANY
+from support import ROOT, Case, needs, needs_many, preloaded, rows, run
 
-OUT_OF_MEMORY = b"flowlabel: out of memory\n"
 REFUSED = b"refused\n"
 # What a copy of a process writes to standard error, and then its status.
-COPY = REFUSED + OUT_OF_MEMORY + b"status 003\n"
+COPY = REFUSED + b"flowlabel: out of memory\nstatus 003\n"
 # The number of runs that share the allocations of LARGE.
 RUNS = 16
 # Lines for which the fault is searched for after a failed allocation: in the list, or in the text of a line.
@@ -185,7 +185,7 @@ def is_out_of_memory(line, answer):
     It also is if the line of another fault could not be allocated, or if clap printed its own text nevertheless.
     """
     if answer.status == 3:
-        return not answer.out and answer.err == OUT_OF_MEMORY
+        return not answer.out and answer.err == f"{line.program}: out of memory\n".encode()
     looks_through = line.status != 0 and line.words in LOOKED_THROUGH
     if (looks_through or CLAPS in (line.out, line.err)) and is_answer_of(line, answer):
         return True
@@ -211,7 +211,7 @@ class Sweeps(Case):
 
     def sweep_line(self, line):
         """Checks a line of the program."""
-        answers = self.sweep([PROGRAM, *line.words.split()], make(line), lambda answer: is_out_of_memory(line, answer),
+        answers = self.sweep(line.call, make(line), lambda answer: is_out_of_memory(line, answer),
                              lambda answer: is_answer_of(line, answer))
         # The last allocations are for the line of the fault, as it grows. If one of them fails, no line is written.
         silent = [number for number, answer in enumerate(answers, 1) if not answer.out and not answer.err]
@@ -242,6 +242,15 @@ class OtherLines(Sweeps):
         self.sweep_line(line)
 
 
+@needs_many
+class LinesOfMany(Sweeps):
+    """Command lines of flowlabel-many."""
+
+    @rows(*((line.words, line) for line in lines_of(LINES_OF_MANY)))
+    def test_line(self, _, line):
+        self.sweep_line(line)
+
+
 @needs("rt", in_ci=True)
 class LargeLine(Case):
     """The line under the maximum number of labels."""
@@ -251,7 +260,7 @@ class LargeLine(Case):
     def test_run(self, number):
         """Each RUNS-th allocation fails, in a copy of the process."""
         line, = lines_of(LARGE)
-        answer = answer_of([PROGRAM, *line.words.split()], make(line), EACH=f"{number}/{RUNS}")
+        answer = answer_of(line.call, make(line), EACH=f"{number}/{RUNS}")
         found, count = REFUSED + answer.err, answer.err.count(b"status ")
         at = len(os.path.commonprefix([found, COPY * count]))
         self.assertTrue(found == COPY * count, f"allocation {at // len(COPY) + 1} of {count}: {found[at:at + 120]}")

@@ -5,7 +5,8 @@ import os
 
 from program.worked import CHECK, HALF, LARGE, LAST, LAST_COMPACT, LAST_LIST, LINES, NESTED, ONE_FLOW, QUARTERS, \
     QUARTERS_CERT, QUARTERS_LIST, TWO_DOMAINS, line_of, lines_of, make
-from support import PROGRAM, Case, needs, rows, run, system
+from program.worked_many import FRONTS as FRONTS_OF_MANY, LINES as LINES_OF_MANY
+from support import Case, needs, needs_many, rows, run, system
 
 COUNTS = ("messages {};templates {};options-templates 0;withdrawals 0;data-sets {};skipped-sets {};records {};"
           "options-records 0;rows {};")
@@ -46,23 +47,20 @@ SET_LENGTHS = ((0, "F5 BadSetLength at 16"), (1, "F5 BadSetLength at 16"), (2, "
 
 
 @needs("rt", in_ci=True)
-class Lines(Case):
-    """Each line ends as the row says, and so does the program over cut and changed files."""
+class Checked(Case):
+    """What is checked of a line and of cut files."""
 
     def check(self, line, folder):
         """Checks how a line ends over the files of a folder."""
-        ended = run(PROGRAM, *line.words.split(), cwd=folder, env={"LD_PRELOAD": system(), "MOST": "1"})
-        with self.subTest(line=f"flowlabel {line.words}"):
+        ended = run(*line.call, cwd=folder, env={"LD_PRELOAD": system(), "MOST": "1"})
+        with self.subTest(line=line.words):
             self.assert_text(ended.stderr, line.err)
             self.assert_text(ended.stdout, line.out)
             self.assertEqual(ended.returncode, line.status, "the exit status")
 
-    @rows(*((line.words, line) for line in lines_of(LINES + LARGE)))
-    def test_line(self, _, line):
-        self.check(line, make(line))
-
-    @rows(*FRONTS)
-    def test_front(self, words, files, cut, fronts):
+    def check_fronts(self, words, files, cut, fronts):
+        """Checks how a line ends over each front of one of its files."""
+        program = line_of(files, words, 0, "").program
         folder = make(line_of(files, words, 0, ""))
         path = os.path.join(folder, cut)
         with open(path, "rb") as file:
@@ -70,9 +68,21 @@ class Lines(Case):
         for length in range(len(whole), -1, -1):
             os.truncate(path, length)
             text = [text for least, text in fronts if least <= length][-1]
-            end = (0, text) if text.endswith(";") else (1, f"flowlabel: {cut}: {text}")
+            end = (0, text) if text.endswith(";") else (1, f"{program}: {cut}: {text}")
             with self.subTest(front=whole[:length]):
                 self.check(line_of({}, words, *end), folder)
+
+
+class Lines(Checked):
+    """Each line ends as the row says, and so does the program over cut and changed files."""
+
+    @rows(*((line.words, line) for line in lines_of(LINES + LARGE)))
+    def test_line(self, _, line):
+        self.check(line, make(line))
+
+    @rows(*FRONTS)
+    def test_front(self, words, files, cut, fronts):
+        self.check_fronts(words, files, cut, fronts)
 
     @rows(*SET_LENGTHS)
     def test_set_length(self, length, fault):
@@ -80,3 +90,16 @@ class Lines(Case):
         self.assertNotEqual(flows, ONE_FLOW)
         line = line_of({"flows": flows}, "info flows", 1, f"flowlabel: flows: {fault}")
         self.check(line, make(line))
+
+
+@needs_many
+class LinesOfMany(Checked):
+    """The lines of flowlabel-many, and those over a cut File."""
+
+    @rows(*((line.words, line) for line in lines_of(LINES_OF_MANY)))
+    def test_line(self, _, line):
+        self.check(line, make(line))
+
+    @rows(*FRONTS_OF_MANY)
+    def test_front(self, words, files, cut, fronts):
+        self.check_fronts(words, files, cut, fronts)

@@ -2,13 +2,16 @@
 
 The values are those of docs/FORMATS.md, never what the program printed. tests/program/test_worked.py runs each line,
 tests/program/test_memory.py fails each of its allocations, and tests/crates/test_calls.py passes the texts on to the
-tests of the crates.
+tests of the crates. The lines of flowlabel-many are in tests/program/worked_many.py.
 """
 
 import os
 import re
+import shlex
 import tempfile
 import typing
+
+from support import BY_NAME, program_of
 
 # In the texts of the tables ';' represents a line feed.
 QUARTERS = "0.0.0.0/2 A;64.0.0.0/2 B;128.0.0.0/2 A;192.0.0.0/2 C;"
@@ -442,6 +445,17 @@ class Line(typing.NamedTuple):
     out: object
     err: object
 
+    @property
+    def program(self):
+        """The name of the program, which lines of flowlabel don't have."""
+        return program_of(self.words.split())[0]
+
+    @property
+    def call(self):
+        """The program's file and its words. A word with a blank is quoted."""
+        program, words = program_of(shlex.split(self.words))
+        return [BY_NAME[program], *words]
+
 
 def text_of(text):
     """Returns the bytes of a text of the tables."""
@@ -454,8 +468,9 @@ def lines_of(table):
 
 
 def line_of(files, words, status, text):
-    """Returns a line, with its files as bytes."""
-    files = {name: bytes.fromhex(content) if name == "flows" else text_of(content) for name, content in files.items()}
+    """Returns a line, with its files as bytes. A map, a list or a certificate is a text, and its name says so."""
+    files = {name: text_of(content) if name.endswith(".txt") else bytes.fromhex(content)
+             for name, content in files.items()}
     said = text if isinstance(text, re.Pattern) else text_of(text if status == 0 else f"{text};")
     return Line(words, files, status, *((said, b"") if status == 0 else (b"", said)))
 

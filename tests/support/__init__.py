@@ -19,8 +19,9 @@ import types
 import unittest
 
 ROOT = pathlib.Path(__file__).resolve().parents[2]
-# The program that `make` builds, and the one that `make trial` builds without proof.
-BUILT, TRIAL = ROOT / "crates/flowlabel_main/out/flowlabel_main", ROOT / "out/trial/flowlabel"
+# The programs that `make` builds, and those that `make trial` builds without proof, by the variables that name others.
+PROGRAMS = {"FLOWLABEL": (ROOT / "crates/flowlabel_main/out/flowlabel_main", ROOT / "out/trial/flowlabel"),
+            "FLOWLABEL_MANY": (ROOT / "crates/flow_many_main/out/flow_many_main", ROOT / "out/trial/flowlabel-many")}
 # A run that takes more seconds is taken to run forever.
 FOREVER = 3600
 # A template of the elements 8, 12, 4, 2 and 1 as a set, a record under it, the header of rows, and the record's row.
@@ -30,12 +31,12 @@ TITLE = "sip|dip|sport|dport|proto|flags|packets|bytes|stime|etime\n"
 ROW = "10.0.0.1|8.8.8.8|0|0|6|0|3|180|0|0\n"
 
 
-def chosen_program():
-    """Returns the program that is tested: the one that the variable FLOWLABEL names, else the younger of `BUILT` and
-    `TRIAL`, or an empty text if there is none."""
-    if named := os.environ.get("FLOWLABEL"):
+def chosen_program(variable):
+    """Returns the program that is tested: the one that a variable names, else the younger of `PROGRAMS`, or an empty
+    text if there is none."""
+    if named := os.environ.get(variable):
         return os.path.abspath(shutil.which(named) or named)
-    there = [path for path in (BUILT, TRIAL) if path.exists()]
+    there = [path for path in PROGRAMS[variable] if path.exists()]
     return str(max(there, key=lambda path: path.stat().st_mtime)) if there else ""
 
 
@@ -57,7 +58,8 @@ def begin():
 
 
 begin()
-PROGRAM = os.environ["FLOWLABEL"] = chosen_program()
+os.environ.update({variable: chosen_program(variable) for variable in PROGRAMS})
+PROGRAM, MANY = map(os.environ.get, PROGRAMS)
 
 
 def rows(*table):
@@ -73,12 +75,26 @@ def one(test, row):
     return lambda self: test(self, *row)
 
 
+# The programs by the names that command lines have.
+BY_NAME = {"flowlabel": PROGRAM, "flowlabel-many": MANY}
+
+
+def program_of(words):
+    """Returns the name of the program of a command line, and the words after it. A line that doesn't begin with
+    `flowlabel-many` is one of flowlabel, which it doesn't name."""
+    return (words[0], words[1:]) if words and words[0] == "flowlabel-many" else ("flowlabel", words)
+
+
 def needs(*programs, in_ci=False):
     """Skips a test or a class that lacks one of these programs, but not in CI if CI must have them. Of .ci/run by hand
     CI is `local`, and anything may be missing."""
     missing = [program for program in programs if not shutil.which(program)]
     is_required = in_ci and (os.environ.get("CI") or "local") != "local"
     return unittest.skipIf(missing and not is_required, f"there is no {' and no '.join(missing)}")
+
+
+# Skips a class whose command lines are those of flowlabel-many.
+needs_many = needs(MANY or "flowlabel-many that is built", in_ci=True)
 
 
 def not_in_ci(why):
@@ -119,14 +135,14 @@ class Case(unittest.TestCase):
         """Makes the files of the tests, in the working folder."""
 
     def expect(self, line, status, out="", err="", before="", after="", stdout=subprocess.PIPE):
-        """Checks how a command line of the program ends. The line is split at its spaces if it is not a list of words.
+        """Checks how a command line of a program ends. The line is split at its spaces if it is not a list of words.
 
         A shell runs it. `before` is what the shell does first, and `after` is where the streams go. `out` and `err` are
         texts or patterns.
         """
-        words = line.split() if isinstance(line, str) else line
-        ended = run("sh", "-c", f'{before}exec "$0" "$@" {after}', PROGRAM, *words, stdout=stdout)
-        with self.subTest(line=f"{before}{shlex.join(['flowlabel', *words])} {after}".strip()):
+        program, words = program_of(line.split() if isinstance(line, str) else line)
+        ended = run("sh", "-c", f'{before}exec "$0" "$@" {after}', BY_NAME[program], *words, stdout=stdout)
+        with self.subTest(line=f"{before}{shlex.join([program, *words])} {after}".strip()):
             self.assert_text(ended.stderr, err)
             self.assert_text(ended.stdout or b"", out)
             self.assertEqual(ended.returncode, status, "the exit status")
@@ -247,7 +263,8 @@ def system():
 
 def instructions(line, numbers):
     """Returns the instructions that a run executes, by valgrind. `numbers` are the hash numbers that it gets."""
-    ended = run("valgrind", "--tool=cachegrind", "--cache-sim=no", "--cachegrind-out-file=/dev/null", PROGRAM,
-                *line.split(), env={"PATH": os.environ["PATH"], "LD_PRELOAD": system(), "RANDOM": numbers},
+    program, words = program_of(line.split())
+    ended = run("valgrind", "--tool=cachegrind", "--cache-sim=no", "--cachegrind-out-file=/dev/null", BY_NAME[program],
+                *words, env={"PATH": os.environ["PATH"], "LD_PRELOAD": system(), "RANDOM": numbers},
                 stdout=subprocess.DEVNULL)
     return int(re.findall(rb"I\s+refs:\s+([\d,]+)", ended.stderr)[-1].replace(b",", b""))

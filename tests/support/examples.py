@@ -2,7 +2,7 @@
 
 An example is a line '$ COMMAND' of a code block, with the lines below it up to the next '$' or the end of the block. A
 command that ends in a backslash or in an open quote continues in the next line. bash runs it in the locale C. Its
-`bin/flowlabel` is the program that is tested.
+`bin/flowlabel` and `bin/flowlabel-many` are the programs that are tested.
 
 Lines that begin with 'flowlabel: ' or with the name of a command, such as 'flowlabel-many: ', are those of standard
 error, and all others those of standard output. Text that differs between machines is shown as '...', which represents
@@ -22,11 +22,11 @@ import re
 import shlex
 import shutil
 
-from support import PROGRAM, read, run
+from support import MANY, PROGRAM, read, run
 
 INDENT = "    "
 FAULT = re.compile(r"(flowlabel(?:-\w+)?|packets): ")
-OWN = re.compile(r"(?<![\w./])bin/flowlabel(?![\w-])")
+OWN = re.compile(r"(?<![\w./])bin/flowlabel(-many)?(?![\w-])")
 NEEDS = re.compile(r"\s+# needs (.+)$")
 # A file that one command makes and a later one may read. A variable may be any of them.
 MADE, VARIABLE = re.compile(r"\bout/[\w.-]+"), "out/$"
@@ -67,6 +67,8 @@ def examples(text):
 def lacks(command):
     """Returns why a command can't be run here, as texts: what it needs is missing, or CI leaves it out."""
     found = NEEDS.search(command)
+    if "-many" in OWN.findall(command) and not MANY and os.environ.get("CI", "local") == "local":
+        yield "there is no flowlabel-many that is built"
     for name in found[1].split() if found else ():
         if "/" not in name and os.environ.get("CI"):
             yield f"not in CI: it needs {name}"
@@ -84,7 +86,7 @@ def faults(example, environment):
     """Runs an example, and returns how it differs from its page, or an empty text."""
     errors = [line for line in example.shown if FAULT.match(line)]
     output = [line for line in example.shown if line not in errors]
-    line = OWN.sub(lambda _: shlex.quote(PROGRAM), example.command)
+    line = OWN.sub(lambda found: shlex.quote(MANY if found[1] else PROGRAM), example.command)
     ended = run("bash", "-c", line, env={**os.environ, "LC_ALL": "C", **environment})
     differences = []
     for name, found, wanted in (("output", ended.stdout, output), ("error", ended.stderr, errors)):

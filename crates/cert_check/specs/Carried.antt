@@ -50,4 +50,4 @@ is_inside b e =
 abbrev pub entries_carried_to : Block → List Entry → List Entry
 entries_carried_to b es =
     filter (λ e. (covers_whole b e && not (list_any (λ r. covers_whole b r && nat_lt e.block.len r.block.len) es))
-        || is_inside b e) es
+    || is_inside b e) es

@@ -65,7 +65,7 @@ abbrev pub IsClear : Sources → ℕ → ℕ → Label → Type 0
 IsClear s first stop x =
     (n q : ℕ) → n ≤ width_of s.map.now.version → first ≤ first_of (width_of s.map.now.version) n q →
     last_of (width_of s.map.now.version) n q < stop
-        → leaf_fault (map_of s.map.now) (list_of s.list.now).prefixes n q x ≡ None
+    → leaf_fault (map_of s.map.now) (list_of s.list.now).prefixes n q x ≡ None
 
 -- the fault of the blocks beside the path with these bits, from the deepest up, as leaves with the label x
 abbrev pub sides_fault : MapModel → List Prefix → Label → List Bool → ℕ → ℕ → Option CheckFaultKind
@@ -172,8 +172,12 @@ IsWalkResult s read fault number old before new None = (found : CertFault) × (n
 
 -- the certificate whose root is this tree
 abbrev pub certificate_with : Format → Version → List Label → Tree → CertificateModel
-certificate_with format version table root = record { format = format_number format; version = version; table = table;
-    root = root }
+certificate_with format version table root = record {
+  format = format_number format;
+  version = version;
+  table = table;
+  root = root;
+}
 
 -- the root was read, and the walk has the first fault of its certificate
 pub record IsRootChecked (s : Sources) (place : Place) (new : Walk) : Type 0 where

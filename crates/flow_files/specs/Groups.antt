@@ -1,4 +1,4 @@
-use Rattle.std.specs.Prelude.{◌∷◌, ◌++◌, [], Bool, List, None, Option, codes, decimal, find, length, map, sum_by, unwrap_or}
+use Rattle.std.specs.Prelude.{◌∷◌, ◌++◌, [], Bool, List, Option, codes, decimal, find, length, map, sum_by, unwrap_or}
 use Rattle.std.specs.Option.{option_map_or}
 use Rattle.std.specs.Str.{bytes_eq}
 use Rattle.prefix_keys.specs.Print.{address_text}

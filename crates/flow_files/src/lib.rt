@@ -44,6 +44,6 @@ pub use printing::print_to;
 pub use reading::{read, read_certificate, read_list, read_map};
 pub use usage::UsageFault;
 pub use words::{
-    fault_of_error, filter_in, first_text, is_given, keys_in, labels_in, listed, needed_text, read_keys,
-    words_fault,
+    fault_of_error, filter_in, first_text, is_given, keys_in, labels_in, listed, needed_text,
+    read_keys, words_fault,
 };

@@ -1,5 +1,5 @@
 -- How a command ends, by what was read of its files.
-use Rattle.std.proofs.Common.{◌≡◌, ◌∙◌, ◌⊎◌, ◌∷◌, Bool, List, Option, Result, Ok, Err, ap, false, inl, inr, refl, subst, sym, true}
+use Rattle.std.proofs.Common.{◌≡◌, ◌∙◌, ◌∷◌, Bool, List, Option, Result, Ok, Err, ap, false, inl, inr, refl, subst, sym, true}
 use Rattle.std.specs.Prelude.{option_map}
 use Rattle.flow_io.specs.Devices.{InputView, OutputView, StopsWriting, WritesWhole}
 use Rattle.flow_uniq.specs.Groups.{groups_of, shown_groups}

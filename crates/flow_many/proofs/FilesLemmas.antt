@@ -3,7 +3,6 @@ use Rattle.std.proofs.Common.{◌≡◌, ◌∙◌, ℕ, ◌+◌, List, [], ◌�
 use Rattle.std.specs.List.{flat_map}
 use Rattle.std.specs.Option.{option_or}
 use Rattle.std.proofs.lemmas.Grind.{flat_map-append}
-use Rattle.std.proofs.lemmas.List.{append-nil}
 use Rattle.pmap_text.specs.Reading.{◌>>=◌}
 use Rattle.ipfix_templates.specs.Reading.{after_items}
 use Rattle.flow_files.specs.declared.bytes_fault.BytesFault.{BytesFault}
@@ -86,7 +85,7 @@ module _ (refusal : Refusal) where
       let same : before + length m + count_in later ≡ before + count_in files =
       omega (arith, length-append m (flat_map (λ (file : List Placed). file) later), ap count_in are) in
       ap (λ (x : Result (List Placed) FileFault).
-          x >>= (λ messages. after_items (messages ∷ []) (files_from refusal (number + 1) (before + length messages) (texts ++ text ∷ [])))) read
+      x >>= (λ messages. after_items (messages ∷ []) (files_from refusal (number + 1) (before + length messages) (texts ++ text ∷ [])))) read
       ∙ ap (after_items (m ∷ [])) (files_more (number + 1) (before + length m) texts later text reads)
       ∙ after_more (number + 1 + length texts) (before + length m + count_in later) m later text
       ∙ (λ i. more (first i) (same i) (are i) text)

@@ -1,22 +1,18 @@
 -- What Files are that are read without a fault.
-use Rattle.std.proofs.Common.{◌≡◌, ◌∙◌, ◌+◌, ◌||◌, ℕ, Bool, true, false, List, [], ◌∷◌, ◌++◌, Option, Some, None, Result, Ok, Err, ap, arith, length, map, refl, subst, sym}
+use Rattle.std.proofs.Common.{◌≡◌, ◌∙◌, ◌+◌, ◌||◌, ℕ, Bool, true, false, List, [], ◌∷◌, ◌++◌, Option, Some, None, Result, Ok, Err, ap, length, map, refl, subst, sym}
 use Rattle.std.specs.Prelude.{All, if◌then◌else◌, option_map}
 use Rattle.std.specs.List.{flat_map, list_any}
 use Rattle.std.specs.Option.{option_map_or, option_or}
 use Rattle.std.specs.Result.{result_map_both}
-use Rattle.std.proofs.lemmas.Bool.{or_parts}
 use Rattle.std.proofs.lemmas.List.{map-append}
-use Rattle.std.proofs.lemmas.List.Elements.{All-cons, All-head, All-map, All-nil, All-tail, All-weaker}
+use Rattle.std.proofs.lemmas.List.Elements.{All-cons, All-map, All-nil, All-weaker}
 use Rattle.std.proofs.lemmas.List.Folds.{flat_map-map, list_any-append}
-use Rattle.pmap_text.specs.Reading.{◌>>=◌}
 use Rattle.ipfix_templates.specs.InForce.{no_templates}
-use Rattle.ipfix_read.specs.Laws.{File, IsRead, PlacedAreMessages}
+use Rattle.ipfix_read.specs.Laws.{File, PlacedAreMessages}
 use Rattle.ipfix_read.specs.Message.{MessageView}
 use Rattle.ipfix_read.specs.Messages.{file_reading, messages_in, placed_messages}
 use Rattle.ipfix_read.specs.declared.fault.ReadFault.{ReadFault}
-use Rattle.ipfix_read.specs.declared.set.Set.{Set}
 use Rattle.flow_rows.specs.Counts.{is_skipped, rows_of_messages, sets_of}
-use Rattle.flow_rows.specs.Elements.{RowView}
 use Rattle.flow_rows.proofs.Adding.{messages-rows}
 use Rattle.flow_filter.specs.Condition.{Condition}
 use Rattle.label_lookup.specs.Labelling.{Labelling}
@@ -25,7 +21,7 @@ use Rattle.flow_files.specs.Sources.{Text}
 use Rattle.flow_files.specs.declared.bytes_fault.BytesFault.{BytesFault}
 use Rattle.flow_files.specs.declared.bytes_fault.BytesFault.TheVariants.{Flows as InFlows, Sum as InSum}
 use Rattle.flow_files.specs.declared.bytes_fault.SumFaultKind.TheVariants.{SkippedSet, StartTooLate, TooManyRows}
-use Rattle.flow_many.specs.Files.{FileFault, Placed, Refusal, files_from, first_refusal, in_file, one_reading}
+use Rattle.flow_many.specs.Files.{Placed, Refusal, files_from, first_refusal, in_file, one_reading}
 use Rattle.flow_many.specs.Output.{all_messages, has_skipped, refusal_by, refused}
 use Rattle.flow_many.proofs.FilesLemmas.{file_ok, first_ok, later_ok}
 

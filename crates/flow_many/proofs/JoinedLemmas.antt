@@ -22,7 +22,7 @@ messages_same law (file ∷ files) (messages ∷ read) all is =
     let here : placed_messages file.0 ≡ Ok messages = cc in
     let rest : map placed_messages (map (λ (file : File). file.0) files) ≡ map (λ file. Ok file) read = cc in
     let same = one_value (file_reading file.0) (messages_in messages) file.1 (file_is law file.0 messages here)
-        (All-head IsRead file files all) in
+    (All-head IsRead file files all) in
     λ i. same i ++ messages_same law files read (All-tail IsRead file files all) rest i
 messages_same law [] (messages ∷ read) all is = cc
 messages_same law (file ∷ files) [] all is = cc

@@ -1,9 +1,8 @@
 -- The readers of Files, with one more File.
-use Rattle.std.proofs.Common.{◌≡◌, ◌∙◌, ◌+◌, ◌<◌, ℕ, List, [], ◌∷◌, ◌++◌, Option, Some, None, Result, Ok, Err, false, true, suc, ap, append_assoc, arith, length, length-append, refl, map, subst, sym}
-use Rattle.std.specs.Prelude.{drop, is_some, ⊤}
+use Rattle.std.proofs.Common.{◌≡◌, ◌∙◌, ◌+◌, ℕ, List, [], ◌∷◌, ◌++◌, Option, Some, None, Result, Ok, Err, false, true, suc, ap, append_assoc, arith, length, length-append, refl, map, subst, sym}
+use Rattle.std.specs.Prelude.{is_some, ⊤}
 use Rattle.std.specs.Option.{option_map_or}
-use Rattle.std.specs.Borrow.{Bor}
-use Rattle.std.proofs.lemmas.List.{append-nil, drop_more}
+use Rattle.std.proofs.lemmas.List.{append-nil}
 use Rattle.pmap_text.specs.Reading.{◌>>=◌}
 use Rattle.flow_io.specs.Devices.{InputView, ReadsInput}
 use Rattle.flow_files.proofs.ReadLemmas.{may_have}
@@ -17,7 +16,7 @@ use Rattle.flow_files.specs.Sources.{Text}
 use Rattle.flow_files.specs.declared.bytes_fault.BytesFault.{BytesFault}
 use Rattle.flow_files.specs.declared.fault.RunFault.{RunFault}
 use Rattle.flow_files.specs.declared.fault.RunFault.TheVariants.{CannotOpen, CannotRead, File, NoMemory}
-use Rattle.flow_many.specs.Files.{FileFault, Placed, Refusal, files_reading, first_refusal, in_file, one_reading}
+use Rattle.flow_many.specs.Files.{Placed, Refusal, files_reading, first_refusal, in_file, one_reading}
 use Rattle.flow_many.specs.Reading.{EndsFile, count_in}
 use Rattle.flow_many.specs.Run.{AreSound, HaveTexts, IsFaultOfFiles, WasRead, WereRead}
 use Rattle.flow_many.proofs.FilesLemmas.{files_more}

@@ -1,10 +1,9 @@
 -- The rows of messages, with one more message or one more File.
-use Rattle.std.proofs.Common.{◌≡◌, ◌∙◌, ℕ, ◌+◌, ◌*◌, ◌≤◌, ◌<◌, ◌&&◌, ◌||◌, Bool, true, false, List, [], ◌∷◌, ◌++◌, Option, Some, None, ap, append_assoc, arith, length, length-append, map, refl, subst, sym}
+use Rattle.std.proofs.Common.{◌≡◌, ◌∙◌, ◌+◌, ◌≤◌, ◌<◌, ◌&&◌, ◌||◌, Bool, true, false, List, [], ◌∷◌, ◌++◌, Option, Some, None, ap, append_assoc, arith, length, length-append, map, refl, subst, sym}
 use Rattle.std.specs.Prelude.{if◌then◌else◌, is_some, nat_le, option_map}
 use Rattle.std.specs.List.{flat_map}
 use Rattle.std.proofs.lemmas.Grind.{flat_map-append}
 use Rattle.std.proofs.lemmas.List.{append-nil, map-append}
-use Rattle.ipfix_read.specs.Message.{MessageView}
 use Rattle.flow_rows.specs.Counts.{rows_of_messages, rows_of_sets}
 use Rattle.flow_rows.proofs.Adding.{messages-rows}
 use Rattle.flow_rows.specs.Elements.{RowView}
@@ -14,8 +13,8 @@ use Rattle.std.specs.Option.{option_or}
 use Rattle.std.proofs.lemmas.Bool.Decides.{nat_tests}
 use Rattle.std.proofs.lemmas.List.Elements.{filter-append}
 use Rattle.std.proofs.lemmas.List.Folds.{list_any-append}
-use Rattle.flow_filter.specs.Condition.{Condition, passing, row_passes}
-use Rattle.label_lookup.specs.Labelling.{Labelling, label_where}
+use Rattle.flow_filter.specs.Condition.{passing, row_passes}
+use Rattle.label_lookup.specs.Labelling.{label_where}
 use Rattle.flow_files.specs.Reports.{labelling_found}
 use Rattle.flow_files.specs.declared.bytes_fault.BytesFault.{BytesFault}
 use Rattle.flow_files.specs.declared.bytes_fault.BytesFault.TheVariants.{Sum as InSum}
@@ -23,8 +22,8 @@ use Rattle.flow_files.specs.declared.bytes_fault.SumFault.{SumFault}
 use Rattle.flow_files.specs.declared.bytes_fault.SumFaultKind.{SumFaultKind}
 use Rattle.flow_files.specs.declared.bytes_fault.SumFaultKind.TheVariants.{SkippedSet, StartTooLate, TooManyRows}
 use Rattle.flow_many.specs.Files.{Refusal, first_refusal}
-use Rattle.flow_many.specs.Output.{all_messages, has_skipped, is_late, message_limit, refused}
-use Rattle.flow_many.specs.Reading.{HasPassed, HasSummed, HasSummedFiles, HasTimed, IsSameSum, count_in, placed_rows, refusal_of_sums}
+use Rattle.flow_many.specs.Output.{all_messages, is_late, message_limit, refused}
+use Rattle.flow_many.specs.Reading.{HasPassed, HasSummed, HasSummedFiles, IsSameSum, count_in, placed_rows, refusal_of_sums}
 use Rattle.flow_many.specs.declared.summing.Sums.{Sums}
 use Rattle.flow_many.specs.declared.summing.TimedGroups.{TimedGroups}
 use Rattle.flow_many.proofs.FilesLemmas.{count_more, refusal_more}

@@ -1,6 +1,6 @@
 -- The command line of the program, and the keys that it asks for.
 use Rattle.std.proofs.Common.{◌≡◌, ◌∙◌, ◌||◌, ℕ, Bool, true, false, List, [], ◌∷◌, ◌++◌, Option, Some, None, Result, Ok, Err, ap, append_assoc, refl, subst, sym}
-use Rattle.std.specs.Prelude.{filter_map, find, fold, if◌then◌else◌, ok_or, option_map}
+use Rattle.std.specs.Prelude.{find, fold, if◌then◌else◌, ok_or, option_map}
 use Rattle.std.specs.List.{cons_option, list_any}
 use Rattle.std.specs.Result.{result_map_both}
 use Rattle.std.specs.Str.{bytes_eq}

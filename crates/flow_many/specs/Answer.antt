@@ -1,4 +1,4 @@
-use Rattle.std.specs.Prelude.{◌≡◌, ℕ, ◌==◌, ◌&&◌, ◌||◌, List, [], Option, Some, None, Result, Ok, Err, codes, if◌then◌else◌, is_none, length, ok_or, option_and_then, unwrap_or}
+use Rattle.std.specs.Prelude.{ℕ, ◌==◌, ◌&&◌, ◌||◌, List, [], Option, Some, None, Result, Ok, Err, codes, if◌then◌else◌, is_none, length, ok_or, option_and_then, unwrap_or}
 use Rattle.std.specs.List.{after_first, before_first, list_any}
 use Rattle.std.specs.Str.{bytes_eq}
 use Rattle.prefix_keys.specs.Text.{decimal_number}

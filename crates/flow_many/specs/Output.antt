@@ -10,7 +10,6 @@ use Rattle.flow_uniq.specs.declared.field.KeyField.TheVariants.{Start}
 use Rattle.label_lookup.specs.Labelling.{Labelling}
 use Rattle.pmap_print.specs.Messages.{messages_text}
 use Rattle.flow_files.specs.declared.by_file.ByFile.{ByFile}
-use Rattle.flow_files.specs.declared.bytes_fault.BytesFault.{BytesFault}
 use Rattle.flow_files.specs.declared.bytes_fault.BytesFault.TheVariants.{Sum as InSum}
 use Rattle.flow_files.specs.declared.bytes_fault.SumFaultKind.{SumFaultKind}
 use Rattle.flow_files.specs.declared.bytes_fault.SumFaultKind.TheVariants.{SkippedSet, StartTooLate, TooManyRows}

@@ -1,4 +1,4 @@
-use Rattle.std.specs.Prelude.{◌≡◌, ◌≤◌, ◌+◌, ◌*◌, ◌++◌, ◌∷◌, ◌&&◌, ℕ, Bool, false, true, List, [], Option, None, Some, Result, Ok, Err, decimal, length, map, option_map}
+use Rattle.std.specs.Prelude.{◌≡◌, ◌≤◌, ◌+◌, ◌*◌, ◌++◌, ◌∷◌, ◌&&◌, ℕ, false, true, List, [], Option, None, Result, Ok, Err, decimal, length, map, option_map}
 use Rattle.std.specs.List.{flat_map, list_any}
 use Rattle.flow_io.specs.Devices.{InputView}
 use Rattle.ipfix_read.specs.declared.fault.ReadFault.{ReadFault}
@@ -10,7 +10,6 @@ use Rattle.label_lookup.specs.Labelling.{Labelling}
 use Rattle.pmap_print.specs.Table.{Line}
 use Rattle.pmap_print.specs.Messages.{file_lines, lines_from, numbers_of}
 use Rattle.pmap_print.specs.declared.messages.MessageLine.{MessageLine}
-use Rattle.flow_files.specs.declared.bytes_fault.BytesFault.{BytesFault}
 use Rattle.flow_files.specs.declared.bytes_fault.BytesFault.TheVariants.{Sum as InSum}
 use Rattle.flow_files.specs.Reports.{HasGroups, labelling_found}
 use Rattle.flow_files.specs.Sources.{Text}

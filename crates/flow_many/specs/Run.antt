@@ -9,7 +9,7 @@ use Rattle.flow_files.specs.Sources.{Text}
 use Rattle.flow_files.specs.Readers.{AreTexts, IsFaultOf, MayHave, Readers, any_failed}
 use Rattle.flow_files.specs.declared.fault.RunFault.{RunFault}
 use Rattle.flow_files.specs.declared.fault.RunFault.TheVariants.{CannotOpen, CannotRead, CannotWrite, File, NoMemory}
-use Rattle.flow_many.specs.Files.{FileFault, Placed, Refusal, files_reading}
+use Rattle.flow_many.specs.Files.{Placed, Refusal, files_reading}
 use Rattle.flow_many.specs.Headline.{IsHeadline}
 use Rattle.flow_many.specs.Output.{outcome_of, refusal_of, source_of}
 use Rattle.flow_many.specs.Request.{Command, files_of, request_of}

@@ -115,7 +115,15 @@ pub fn run<'a, O: Opener, W: Output>(
                 allow_skipped: *allow_skipped,
                 columns: *columns,
             };
-            sum(alloc, asked, files.as_slice(), opener, labels, writer, hashing)
+            sum(
+                alloc,
+                asked,
+                files.as_slice(),
+                opener,
+                labels,
+                writer,
+                hashing,
+            )
         }
         Command::Messages { files } => messages(alloc, files.as_slice(), opener, writer),
     }

@@ -37,7 +37,10 @@ const KEYS: [Argument<'static>; 2] = [
 ];
 
 const OUTPUT: [Argument<'static>; 2] = [
-    Flag("allow-skipped", "Take Files with data sets that have no template"),
+    Flag(
+        "allow-skipped",
+        "Take Files with data sets that have no template",
+    ),
     Flag("columns", "Pad the fields to columns"),
 ];
 

@@ -13,7 +13,9 @@ use crate::command::Command;
 use crate::definition::definition;
 use crate::names::Names;
 use clap::ArgMatches;
-use flow_files::{UsageFault, fault_of_error, filter_in, first_text, is_given, labels_in, read_keys};
+use flow_files::{
+    UsageFault, fault_of_error, filter_in, first_text, is_given, labels_in, read_keys,
+};
 use flow_uniq::{KeyFault, KeyField, Keys, TimeUnit};
 use prefix_keys::{cut, read_decimal};
 use std::alloc::{AllocError, Global};

@@ -12,7 +12,7 @@ use Rattle.label_trie.specs.TrieModel.{LeafModel}
 abbrev pub in_one : StretchesModel → ℕ → ℕ → Bool
 in_one s n q =
     count_begun s.firsts (first_of (width_of s.version) n q) - 1 == count_begun s.firsts
-        (last_of (width_of s.version) n q) - 1
+    (last_of (width_of s.version) n q) - 1
 
 abbrev pub labelled_leaf : ℕ → ℕ → Option LabelId → LeafModel
 labelled_leaf n q label = record { bits = n; number = q; label = option_map (λ id. id.0) label }

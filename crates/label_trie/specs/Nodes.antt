@@ -39,7 +39,7 @@ leaves_from nodes zero n q k = labelled_leaf n q (stored_label (stored_at nodes 
 leaves_from nodes (suc h) n q k =
     if is_stored_leaf (stored_at nodes k) then labelled_leaf n q (stored_label (stored_at nodes k)) ∷ []
     else leaves_from nodes h (suc n) (2 * q) (k + 1)
-        ++ leaves_from nodes h (suc n) (2 * q + 1) (upper_of (stored_at nodes k))
+    ++ leaves_from nodes h (suc n) (2 * q + 1) (upper_of (stored_at nodes k))
 
 abbrev pub trie_node_from : List TrieNode → ℕ → ℕ → ℕ → ℕ → NodeModel
 trie_node_from nodes h n q k = record { bits = n; number = q; leaves = leaves_from nodes h n q k }
@@ -76,8 +76,11 @@ leaves_at nodes number = (get_or nodes number (record { bits = 0; number = 0; le
 -- the node with this number is for this block
 pub record IsPlace (t : TrieModel) (number : ℕ) (block : Block) : Type 0 where
   pub version : block.version ≡ t.version
-  pub node : IsNodeAt t number (record { bits = block.len; number = number_of block;
-      leaves = leaves_at t.nodes number })
+  pub node : IsNodeAt t number (record {
+    bits = block.len;
+    number = number_of block;
+    leaves = leaves_at t.nodes number;
+  })
 
 -- The nodes of a block as they are stored from the number k on. The block is that of n bits with the number q, which
 -- has h host bits.

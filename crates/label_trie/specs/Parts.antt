@@ -38,7 +38,7 @@ abbrev pub DescendsTo : ℕ → CursorModel → CursorModel → Type 0
 DescendsTo zero from to = to ≡ from
 DescendsTo (suc steps) from to =
     (whole : CursorModel) × (other : CursorModel) × DescendsTo steps from whole
-        × (IsDivided whole to other ⊎ IsDivided whole other to)
+    × (IsDivided whole to other ⊎ IsDivided whole other to)
 
 -- a walk from the root meets the node
 pub record IsMet (t : TrieModel) (c : CursorModel) : Type 0 where

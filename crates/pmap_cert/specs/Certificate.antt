@@ -27,5 +27,9 @@ pub record IsOpening (compact : Certificate) (c : CertificateModel) : Type 0 whe
   pub node : Node
   pub opens : Opens compact.root node
   pub form : HasChainForm (length compact.labels) node (width_of compact.version)
-  pub is : c ≡ record { format = 1; version = compact.version; table = compact.labels;
-      root = tree_of compact.labels node }
+  pub is : c ≡ record {
+    format = 1;
+    version = compact.version;
+    table = compact.labels;
+    root = tree_of compact.labels node;
+  }

@@ -97,7 +97,7 @@ HasChainForm count (LeafNode number) room = number < count
 HasChainForm count (InnerNode claim lower upper) zero = ⊥
 HasChainForm count (InnerNode claim lower upper) (suc room) =
     (claim.cost < 2 ^ 32) × IsAscending count 0 claim.labels × HasChainForm count lower room
-        × HasChainForm count upper room
+    × HasChainForm count upper room
 HasChainForm count (ChainNode claim bits side end) room =
     (claim.cost < 2 ^ 32) × IsAscending count 0 claim.labels × (side < count) × (0 < length bits)
     × HasRoomBelow (HasChainForm count end) bits room

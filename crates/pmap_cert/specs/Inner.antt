@@ -103,7 +103,7 @@ BeginsWithClaim bound count text = BeginsWithBoth (BeginsWithNumber bound text) 
 abbrev pub BeginsWithChain : ℕ → ℕ → List ℕ → ℕ × (List Bool × (ℕ × List ℕ)) → List ℕ → Type 0
 BeginsWithChain most count text =
     BeginsWithBoth (BeginsWithNumber (2 ^ 32) text)
-        (λ middle. BeginsWithBoth (BeginsWithBits most middle) (BeginsWithClaim count count))
+    (λ middle. BeginsWithBoth (BeginsWithBits most middle) (BeginsWithClaim count count))
 
 abbrev pub node_from : List DueLine → ℕ → Node
 node_from lines number = first_node (nodes_of (drop number lines))

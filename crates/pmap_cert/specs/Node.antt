@@ -122,7 +122,7 @@ abbrev pub line_code : Coded DueLine
 line_code =
     code_by (ℕ ⊎ ((ℕ × List ℕ) ⊎ ((ℕ × List Bool) × (ℕ × List ℕ))))
     (coded⊎ coded_ℕ (coded⊎ (coded× coded_ℕ (coded_list coded_ℕ))
-        (coded× (coded× coded_ℕ (coded_list coded_bool)) (coded× coded_ℕ (coded_list coded_ℕ)))))
+    (coded× (coded× coded_ℕ (coded_list coded_bool)) (coded× coded_ℕ (coded_list coded_ℕ)))))
     split_line join_line joined_line
 
 pub nodes-lines : (node : Node) (rest : List DueLine) → nodes_of (node_lines node ++ rest) ≡ node ∷ nodes_of rest

@@ -20,7 +20,7 @@ joined_halves low high = high * 2 ^ 32 + low
 abbrev pub count_at : List LabelId → ℕ → ℕ
 count_at sets place =
     joined_halves (slice_index_or sets place (record { 0 = 0 })).0
-        (slice_index_or sets (place + 1) (record { 0 = 0 })).0
+    (slice_index_or sets (place + 1) (record { 0 = 0 })).0
 
 abbrev pub set_at : List LabelId → ℕ → List ℕ
 set_at sets place = map (λ id. id.0) (slice_range sets (place + 2) (place + 2 + count_at sets place))

@@ -29,7 +29,7 @@ pub record AddsPrefixes (table : List Label) (version : Version) (added : List P
 abbrev pub AddsEntries : Node → Block → Option LabelId → List Entry → List Entry → Type 0
 AddsEntries node block inherited old new =
     (table : List Label) → IsLabelTable table → ForSome inherited (λ id. id.0 < length table)
-        → HasNumberForm (length table) node (width_of block.version - block.len)
+    → HasNumberForm (length table) node (width_of block.version - block.len)
     → AddsPrefixes table block.version (entries_of (width_of block.version) table (tree_of table node)
     (text_if_some table inherited) block.len (number_of block)) old new
 

@@ -28,7 +28,7 @@ pub record AreApart (low high : List ℕ) : Type 0 where
 abbrev pub IsExactBy : ClaimOf ℕ → ClaimOf ℕ → List ℕ → ClaimOf ℕ → Type 0
 IsExactBy low high [] claim =
     (claim.cost ≡ low.cost + high.cost + 1) × IsUnion low.labels high.labels claim.labels
-        × IsAscending (2 ^ 32) 0 claim.labels
+    × IsAscending (2 ^ 32) 0 claim.labels
 IsExactBy low high (n ∷ ns) claim = (claim.cost ≡ low.cost + high.cost) × (claim.labels ≡ n ∷ ns)
 
 abbrev pub IsExact : ClaimOf ℕ → ClaimOf ℕ → ClaimOf ℕ → Type 0

@@ -75,7 +75,7 @@ fn push_chain(nodes: &mut Nodes, path: Path, side: LabelId) -> Result<(), AllocE
     requires few { (last_claim nodes.old).cost + 1 < 2 ^ 32 }
     ensures { OnOk result (nodes.new ≡ nodes.old
         ++ ChainLine (cost_above side.0 (last_claim nodes.old)) (path_to path.value path.count) side.0 (side.0 ∷ [])
-            ∷ []) }
+        ∷ []) }
 {
     let end = nodes.claim(nodes.len() - 1);
     let claim = Claim {

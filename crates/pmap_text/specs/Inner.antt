@@ -36,7 +36,7 @@ written hasher bytes =
     let multiplier = hasher.hashing.multiplier in
     let count = length bytes / 8 in
     let mixed = fold (λ state word. folded (bit_xor state (from_le_bytes w64 word)) multiplier) hasher.state
-        (first_chunks 8 count bytes) in
+    (first_chunks 8 count bytes) in
     let rest = fold (λ word byte. bit_or (word * 2 ^ 8 % 2 ^ 64) byte) 1 (drop (count * 8) bytes) in
     record hasher { state = folded (bit_xor mixed rest) multiplier }
 
@@ -225,7 +225,7 @@ abbrev pub IsFirstRepeat : List Prefix → Option ℕ → Type 0
 IsFirstRepeat ps None = HasDistinctKeys ps
 IsFirstRepeat ps (Some i) =
     (p : Prefix) × (slice_get ps i ≡ Some p) × HasDistinctKeys (take i ps)
-        × (has_prefix (take i ps) p.start p.bits ≡ true)
+    × (has_prefix (take i ps) p.start p.bits ≡ true)
 
 -- the line added no entry, or one, which is refused if its block has one already
 abbrev pub TakesLine : Earlier → Earlier → Result Earlier MapFaultKind → Type 0

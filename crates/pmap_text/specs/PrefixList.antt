@@ -40,7 +40,7 @@ IsNoShorter b c = (a : ℕ) → b.version ≡ c.version → IsInBlock b a → Is
 abbrev pub LongerLater : List Entry → Type 0
 LongerLater es =
     (i j : ℕ) (d : Entry) → i ≤ j → j < length es
-        → IsNoShorter (slice_index_or es i d).block (slice_index_or es j d).block
+    → IsNoShorter (slice_index_or es i d).block (slice_index_or es j d).block
 
 -- the statements are those of the entries, in an order in which the longer of nested blocks comes later
 pub record AreShortestFirst (entries : List Entry) (ss : List Statement) : Type 0 where

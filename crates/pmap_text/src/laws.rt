@@ -45,7 +45,7 @@ pub fn longest_match_counts()
 pub fn order_of_entries_is_free()
     ensures order { (l r : ListModel) → l.version ≡ r.version →
         IsDistinct (is_same_prefix (width_of l.version)) l.prefixes → IsPermutation l.prefixes r.prefixes → (a : ℕ)
-            → list_label l a ≡ list_label r a }
+        → list_label l a ≡ list_label r a }
     ensures entries { (l r : ListModel) → l.version ≡ r.version → LabelsBlocksOnce (width_of l.version) l.prefixes →
         HasSamePrefixes l.prefixes r.prefixes → (a : ℕ) → list_label l a ≡ list_label r a }
     ensures distinct { (l : PrefixList) → IsDistinct (is_same_prefix (width_of l.version)) (list_of l).prefixes }
@@ -71,7 +71,7 @@ pub fn labelling_has_its_runs()
         AreRuns f 0 (2 ^ width_of v) runs → AreRuns f 0 (2 ^ width_of v) other → runs ≡ other }
     ensures alike { (v : Version) (f g : ℕ → Option Label) (runs : List Run) →
         ((a : ℕ) → a < 2 ^ width_of v → f a ≡ g a) → AreRuns f 0 (2 ^ width_of v) runs
-            → AreRuns g 0 (2 ^ width_of v) runs }
+        → AreRuns g 0 (2 ^ width_of v) runs }
 {}
 
 /// Each address is in exactly one run, which has its label. The runs ascend, each begins right after the previous one,
@@ -81,8 +81,8 @@ pub fn runs_cover_each_address_once()
         (a : ℕ) → a < 2 ^ width_of v → HasOneRun f runs a }
     ensures ascend { (v : Version) (f : ℕ → Option Label) (runs : List Run) → AreRuns f 0 (2 ^ width_of v) runs →
         (i : ℕ) (d : Run) → i + 1 < length runs
-            → (slice_index_or runs (i + 1) d).low ≡ (slice_index_or runs i d).high + 1 }
+        → (slice_index_or runs (i + 1) d).low ≡ (slice_index_or runs i d).high + 1 }
     ensures differ { (v : Version) (f : ℕ → Option Label) (runs : List Run) → AreRuns f 0 (2 ^ width_of v) runs →
         (i : ℕ) (d : Run) → i + 1 < length runs
-            → (slice_index_or runs (i + 1) d).label ≢ (slice_index_or runs i d).label }
+        → (slice_index_or runs (i + 1) d).label ≢ (slice_index_or runs i d).label }
 {}

@@ -110,14 +110,7 @@ impl Stretches {
         map.labels.laws();
         let starts = Starts::new(alloc, &map.statements)?;
         let default = Some(map.default);
-        let stretches = of_mappings(
-            alloc,
-            map.version,
-            default,
-            &map.statements,
-            starts,
-            joined,
-        )?;
+        let stretches = of_mappings(alloc, map.version, default, &map.statements, starts, joined)?;
         Ok(stretches)
     }
 

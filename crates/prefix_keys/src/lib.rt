@@ -33,7 +33,9 @@ pub use block::{Block, block_of};
 pub use conversion::{MAPPED_PREFIX, convert};
 pub use cutting::{cut, find_byte};
 pub use decimal::{are_digits, read_decimal};
-pub use laws::{address_is_displayed, address_is_read_back, block_is_read_back, longest_run_is_longest};
+pub use laws::{
+    address_is_displayed, address_is_read_back, block_is_read_back, longest_run_is_longest,
+};
 pub use print::{print_addr, print_block, write_addr};
 pub use span::Span;
 pub use text::{BlockFault, leading_colon, read_addr, read_block};

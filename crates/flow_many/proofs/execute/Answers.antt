@@ -1,4 +1,4 @@
-use Rattle.std.proofs.Common.{List, map, subst}
+use Rattle.std.proofs.Common.{map, subst}
 use Rattle.flow_files.specs.Opening.{AreOpened}
 use Rattle.flow_many.proofs.CommandLemmas.{end_is}
 use Rattle.flow_many.proofs.execute.Goals as goal

@@ -131,11 +131,7 @@ impl Ascent {
 
     // Opens the mappings that begin up to `end`, and extends the stretches to the address before the last of them
     // begins.
-    fn open_all<M: Mappings>(
-        &mut self,
-        mappings: &M,
-        end: u128,
-    ) -> Result<(), AllocError>
+    fn open_all<M: Mappings>(&mut self, mappings: &M, end: u128) -> Result<(), AllocError>
         requires known { HaveNumbers (M.all mappings.now) self.old.default }
         requires ascent { IsAscent (M.all mappings.now) self.old }
         requires later { BeginAfter (M.all mappings.now) self.old.starts self.old.next self.old.growing.last }

@@ -53,7 +53,7 @@ returns c fields condition sorted columns labels messages =
       groups,
       grouped,
       ap (λ (shown : List RowView). Ok (groups_text fields (shown_groups sorted (groups_of fields (label_where labels) shown)) columns))
-      (c.options_hold_together.ensures.left condition labels (rows_of_messages messages))
-      ∙ ap (λ shown. Ok (groups_text fields shown columns)) are
-      ∙ ap (λ (lines : List Line). Ok (table_text columns (group_titles fields ∷ lines))) (lines_of_groups fields labels groups),
+          (c.options_hold_together.ensures.left condition labels (rows_of_messages messages))
+          ∙ ap (λ shown. Ok (groups_text fields shown columns)) are
+          ∙ ap (λ (lines : List Line). Ok (table_text columns (group_titles fields ∷ lines))) (lines_of_groups fields labels groups),
     )

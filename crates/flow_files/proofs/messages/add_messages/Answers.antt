@@ -1,4 +1,4 @@
-use Rattle.std.proofs.Common.{◌≡◌, ◌++◌, ◌∷◌, [], ℕ, ◌∙◌, arith, length-append, refl, subst, sym}
+use Rattle.std.proofs.Common.{◌++◌, ◌∷◌, [], ℕ, ◌∙◌, arith, length-append, refl, subst, sym}
 use Rattle.flow_files.specs.Reports.{AreReadSoFar}
 use Rattle.flow_files.proofs.TakenLemmas.{at_end, fault_next, no_memory, none_so_far}
 use Rattle.flow_files.proofs.messages.add_messages.Goals as goal

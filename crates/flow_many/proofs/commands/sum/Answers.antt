@@ -1,13 +1,12 @@
-use Rattle.std.proofs.Common.{◌≡◌, ◌∙◌, List, Ok, Option, ap, map, subst, sym, true}
+use Rattle.std.proofs.Common.{◌≡◌, ◌∙◌, Ok, ap, map, subst, sym, true}
 use Rattle.std.specs.Prelude.{option_map}
 use Rattle.pmap_text.specs.Reading.{◌>>=◌}
-use Rattle.label_lookup.specs.Labelling.{Labelling}
 use Rattle.flow_uniq.specs.Groups.{GroupsModel, shown_groups}
 use Rattle.pmap_print.specs.Reports.{groups_text}
 use Rattle.flow_files.specs.Outcomes.{uniq_text}
-use Rattle.flow_files.specs.Reports.{labelling_found, labelling_read, source_reading}
+use Rattle.flow_files.specs.Reports.{labelling_found, labelling_read}
 use Rattle.flow_files.proofs.ReadLemmas.{found_is, handed_on}
-use Rattle.flow_many.specs.Files.{Placed, Refusal, files_reading, in_file}
+use Rattle.flow_many.specs.Files.{Refusal, files_reading, in_file}
 use Rattle.flow_many.specs.Output.{all_messages, has_time, refusal_by}
 use Rattle.flow_many.specs.Request.{Sum}
 use Rattle.flow_many.specs.Run.{EndsAs, IsFaultOfFiles}

@@ -1,5 +1,4 @@
-use Rattle.std.proofs.Common.{◌≡◌, ◌∙◌, Bool, List, [], ◌∷◌, None, Ok, Option, Result, ap, false, map, refl, subst, sym, true}
-use Rattle.pmap_text.specs.Reading.{◌>>=◌}
+use Rattle.std.proofs.Common.{◌≡◌, Bool, List, [], ◌∷◌, None, Ok, Result, map, refl, subst, sym, true}
 use Rattle.std.specs.Prelude.{All}
 use Rattle.std.proofs.lemmas.List.Elements.{All-cons, All-nil}
 use Rattle.ipfix_read.specs.Message.{MessageView}

@@ -1,4 +1,4 @@
-use Rattle.std.proofs.Common.{◌≡◌, ◌∙◌, List, None, Ok, Err, Option, Result, ap, sym, subst}
+use Rattle.std.proofs.Common.{◌∙◌, List, Ok, Err, Option, Result, ap, sym, subst}
 use Rattle.std.specs.Option.{option_map_or}
 use Rattle.pmap_text.specs.Reading.{◌>>=◌}
 use Rattle.flow_io.specs.Devices.{InputView}

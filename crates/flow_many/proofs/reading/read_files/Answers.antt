@@ -1,10 +1,8 @@
-use Rattle.std.proofs.Common.{◌≡◌, ◌∙◌, ◌∷◌, ◌+◌, ◌<◌, ℕ, List, [], Ok, ap, arith, get_or, length, map, refl, subst, sym}
-use Rattle.std.specs.Prelude.{drop}
+use Rattle.std.proofs.Common.{◌≡◌, [], ap, arith, length, map, refl, subst}
 use Rattle.std.specs.Borrow.{Bor}
 use Rattle.std.proofs.lemmas.List.{drop_all, drop_more}
 use Rattle.flow_files.proofs.ReadLemmas.{handed_on}
 use Rattle.flow_files.specs.Sources.{Text}
-use Rattle.flow_many.specs.Files.{Placed}
 use Rattle.flow_many.specs.Reading.{EndsFiles}
 use Rattle.flow_many.proofs.ReaderLemmas.{AreSoFar, all_so_far, none_so_far, one_fails, one_more, some_files}
 use Rattle.flow_many.proofs.reading.read_files.Goals as goal

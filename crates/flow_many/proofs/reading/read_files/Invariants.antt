@@ -1,7 +1,6 @@
 -- The Files before this one were read and added.
-use Rattle.std.proofs.Common.{◌≡◌, List, [], length, map}
+use Rattle.std.proofs.Common.{◌≡◌, [], length, map}
 use Rattle.std.specs.Prelude.{drop}
-use Rattle.flow_many.specs.Files.{Placed}
 use Rattle.flow_many.proofs.ReaderLemmas.{AreSoFar}
 use Rattle.flow_many.proofs.reading.read_files.Given as goal
 

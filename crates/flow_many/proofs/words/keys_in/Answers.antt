@@ -1,11 +1,10 @@
-use Rattle.std.proofs.Common.{◌≡◌, ◌∙◌, ℕ, List, [], ◌∷◌, None, Ok, Option, Result, Some, ap, refl, sym}
+use Rattle.std.proofs.Common.{◌≡◌, ◌∙◌, ℕ, List, [], None, Ok, Option, Result, Some, ap, refl, sym}
 use Rattle.std.specs.Prelude.{codes, ok_or, option_map}
 use Rattle.std.specs.Borrow.{Bor}
 use Rattle.clap.specs.Words.{Text, first_of, found_of, rows_of}
 use Rattle.pmap_text.specs.Reading.{◌>>=◌}
 use Rattle.flow_uniq.specs.declared.field.KeyField.{KeyField}
-use Rattle.flow_uniq.specs.declared.field.KeyField.TheVariants.{Start}
-use Rattle.flow_files.specs.Answer.{IsUnlessMemory, fields_reading}
+use Rattle.flow_files.specs.Answer.{fields_reading}
 use Rattle.flow_uniq.specs.Key.{with_unit}
 use Rattle.flow_uniq.specs.declared.field.Precision.{Precision}
 use Rattle.flow_files.specs.declared.usage.UsageFault.{UsageFault}

@@ -1,4 +1,4 @@
-use Rattle.std.proofs.Common.{◌≡◌, ◌∙◌, None, Option, Some, sym}
+use Rattle.std.proofs.Common.{◌∙◌, sym}
 use Rattle.flow_many.proofs.SumLemmas.{added, added_late, none_is, refused_before, refused_now, room, value_is}
 use Rattle.flow_many.proofs.summing.SumsTakesMessages.take_message.Goals as goal
 

@@ -56,11 +56,11 @@ checked_of name texts out is =
 
 -- a command has the same outcome under an equivalent file of labels, since the labellings are equal
 same_under : (rest : Labelling → Outcome → Type 0) (command : LabelFile → Command) (texts : ByFile Text)
-    → ((file : LabelFile) (map list : Text) (outcome : Outcome) → LabelsThen rest file (record texts {map = map; list = list }) outcome
-    ↔ IsOutput (command file) (record texts {map = map; list = list }) outcome)
+    → ((file : LabelFile) (map list : Text) (outcome : Outcome) → LabelsThen rest file (record texts { map = map; list = list }) outcome
+    ↔ IsOutput (command file) (record texts { map = map; list = list }) outcome)
     → IsSameUnder command texts
 same_under rest command texts is name m l map list outcome reads_map reads_list equivalent =
-    let given : ByFile Text = record texts {map = map; list = list } in
+    let given : ByFile Text = record texts { map = map; list = list } in
     let same : labelling_of_list l ≡ labelling_of_map m = same_labelling l m equivalent in
     let under_map : LabelsThen rest (Map name) given outcome ↔ rest (labelling_of_map m) outcome = (λ h. rw reads_map at h, λ h. rw reads_map h) in
     let under_list : LabelsThen rest (Prefixes name) given outcome ↔ rest (labelling_of_list l) outcome = (λ h. rw reads_list at h, λ h. rw reads_list h) in (
