@@ -214,7 +214,8 @@ impl<'r, R: Input> Messages<'r, R, Progress, Buffer> {
     pub fn next_message(&mut self) -> Result<Option<Message<'_>>, ReadFault>
         ensures going { self.old.progress.state ≡ Going → (new : ProgressView) × (then : InputView)
             × ReadsInput (R.input self.old.reader.now) then
-            (AnswersNext self.old.progress result new (has_ended then)) }
+            (AnswersNext self.old.progress result new (has_ended then))
+            × ((R.input self.old.reader.now).failed ≡ false → then.failed ≡ is_read_fault result) }
         ensures ended { self.old.progress.state ≡ Ended → result ≡ Ok None }
         ensures failed { self.old.progress.state ≡ Failed → result ≡ Err failed_before }
     {
