@@ -553,3 +553,21 @@ def variants_of(text):
         names = dict.fromkeys(re.findall(rf"(?<![\w.]){match[1]}\.[A-Z]\w*", text))
         groups.append([name for name in names if not re.search(rf"\({re.escape(name)} \w", text)])
     return [[n for n in g if not re.search(rf"\({re.escape(n)} [\w(]", text)] for g in groups]
+
+
+def constant_changes(text, name):
+    """Makes the changes of a constant of src/: each number by one, each item left out, and two neighbours exchanged."""
+    found = re.search(rf"\bconst {name}: [^=]+ = ([^;]+);", text)
+    start, end = found.span(1)
+    value = re.sub(r"//[^\n]*", lambda comment: " " * len(comment[0]), found[1])
+    for number in re.finditer(r"\b\d+\b", value):
+        for other in {int(number[0]) + 1, max(int(number[0]) - 1, 0)} - {int(number[0])}:
+            made = value[:number.start()] + str(other) + value[number.end():]
+            yield f"{name}, at {number.start()}: {number[0]} → {other}", text[:start] + made + text[end:]
+    items = [item.strip() for item in re.findall(r"\((?:[^()]|\([^()]*\))*\)|\w+::\w+", value)]
+    for place, item in enumerate(items):
+        less = items[:place] + items[place + 1:]
+        yield f"{name}: without {item}", text[:start] + f"[{', '.join(less)}]" + text[end:]
+        if place + 1 < len(items):
+            turned = items[:place] + [items[place + 1], item] + items[place + 2:]
+            yield f"{name}: {item} after the next", text[:start] + f"[{', '.join(turned)}]" + text[end:]

@@ -2,49 +2,61 @@
 
   dev/evaluate COMMAND ARGUMENT..      prints what the definitions give for this command line of flowlabel: standard
                                         output, standard error and the exit status
+  dev/evaluate --headline COMMAND ARGUMENT..
+                                        also evaluates the contract of the program on this run (dev/headline.py)
   dev/evaluate --definition CRATE/MODULE.NAME ARGUMENT..
                                         prints the value of a definition. An argument is a term in the language of the
                                         definitions, such as V4, 32 or '(codes "10.0.0.1")', or @FILE, a file's bytes
 
 For example: dev/evaluate uniq --fields dst-label --pmap examples/customers.txt examples/softflowd.ipfix
 
-It reads crates/*/specs/*.antt as they are, translates each equation into Python, and calls the result. So it shares
-nothing with the prover, the compiler and the program. If you take its result for that of the definitions, you trust:
+It reads crates/*/specs/*.antt as they are, translates each equation into Python, and calls the result. It runs no code
+of the prover, of the compiler or of the program. If you take its result for that of the definitions, you trust:
 
 - the reading of the language: dev/specs.py turns texts into trees, and `Translator` trees into Python. The first
-  equation is taken whose patterns fit.
-- LIBRARY in dev/kit.py: the words of the kit's library, such as lists, numbers and options, each with its meaning.
-  The words of clap are among them: `divided` divides a command line by the rules that the definitions give. Constants
-  and enumerations of src/ are read from src/.
-- `Definitions.outcome`: which definitions are evaluated for a command line, and how a run ends by their results. The
-  definitions must confirm the command that it makes for a command line, and the first file that it can't open.
+  equation is taken whose patterns fit. An equation that ends with a call of its own definition is a loop, and a
+  definition that goes on with the rest of a list begins at the end of a long one.
+- LIBRARY in dev/kit.py: the words of the kit's library, such as lists, numbers and options, each with its meaning. A
+  test compares those that the kit defines by equations with these. The words of clap are among them: `divided` divides
+  a command line by the rules that the definitions give.
+- constants and enumerations of src/, which are read from src/. They are definitions as well as code: dev/trusted counts
+  them.
+- dev/quick.py: some definitions over long lists, by tables. A test compares these with the equations.
+- dev/runs.py: which definitions are evaluated for a command line, and how a run ends by their results. The definitions
+  must confirm the command that it makes for a command line, and the first file that it can't open. With `--headline`
+  they must also confirm the text, its stream, and the file that a fault names.
 
 Relations. If a definition says that there is a value, its parts are evaluated in turn, and a part `unknown ≡ value`
-gives the unknown its value. A part that needs the value waits. The runs that `cat` prints, and the list and
-certificate that `shrink` prints, can't be found so. For these, WITNESSES computes values, and then the relation is
-evaluated on them: with a wrong value it would be false. A statement about all numbers is evaluated once for each range
-of numbers in which all comparisons have the same results (`Number`). A statement about all values of another type can
-be evaluated if the type has finitely many values, or if its premises determine the value. Others can't be evaluated.
+gives the unknown its value. A part that needs the value waits. If a part says that an unknown is an item of a list,
+each item is tried. The runs that `cat` prints, and the list and certificate that `shrink` prints, can't be found so.
+For these, WITNESSES computes values, and then the relation is evaluated on them: with a wrong value it would be false.
+A statement about all numbers is evaluated once for each range of numbers in which all comparisons have the same results
+(`Number`). A statement about all values of another type can be evaluated if the type has finitely many values, or if
+its premises determine the value. Others can't be evaluated.
 
 The definitions leave open the words of clap's refusals, of help and of the version; a line on standard error says so.
 Faults of memory and of devices are not evaluated, except that a file can't be opened.
 
-The exit status is that of the definitions. If the input of dev/evaluate is malformed, or something can't be
-evaluated, one line on standard error says why, and the status is 2.
+A map of 1 MB or a File of 2 MB with 20,000 rows takes up to half a minute and 250 MB. `--headline` takes time with the
+square of the number of runs.
+
+The exit status is that of the definitions. If the words of dev/evaluate are malformed, or something can't be evaluated,
+one line on standard error says why, and the status is 125.
 """
 
 import functools
 import itertools
-import os
 import re
 import sys
 import threading
-from collections import deque, namedtuple
+from collections import deque
 from concurrent.futures import ThreadPoolExecutor
 from pathlib import Path
 
-from kit import LIBRARY, NONE, UNIT, Case, Record, borrowed, codes, curried, err, is_ok, is_some, less, own_name
-from kit import pair, quotient, remainder, shown, some
+# The code into which definitions are translated uses these too.
+from kit import LIBRARY, NONE, SHORT, Case, EqualTo, Long, Record, added, after, codes, curried, is_some, less, own_name
+from kit import pair, power, quotient, remainder, shown, some
+from quick import QUICK
 from specs import CannotEvaluate, Malformed, Module, Parser, cannot, lex
 
 ROOT = Path(__file__).resolve().parent.parent
@@ -105,6 +117,8 @@ def same(a, b):
     kind, other = type(a), type(b)
     if Unknown in (kind, other):
         return a.meet(known(b)) if kind is Unknown else b.meet(a)
+    if isinstance(a, Long) or isinstance(b, Long):
+        return isinstance(a, (tuple, Long)) and isinstance(b, (tuple, Long)) and same(tuple(a), tuple(b))
     if kind is not other and Number not in (kind, other) or kind is FUNCTION:
         cannot(f"{shown(a)} and {shown(b)} are compared")
     if kind is tuple:
@@ -116,6 +130,26 @@ def same(a, b):
     return a == b
 
 
+def joined(front, back):
+    """Returns front ++ back."""
+    return front + back if Unknown in (type(front), type(back)) else added(front, back)
+
+
+class Choice(Stuck):
+    """The value of an unknown is needed, and is one of these."""
+
+    def __init__(self, unknown, values):
+        super().__init__("a value is one of several")
+        self.unknown, self.values = unknown, values
+
+
+def contains(items, item):
+    """Returns whether a list has an item. If the item is unknown, it is one of the list."""
+    if type(item) is Unknown:
+        raise Choice(item, items)
+    return item in items
+
+
 def solutions(kind, count, parts):
     """Yields the values of which all parts hold. If there are infinitely many values of this type, the parts must
     determine them. A part that needs a value waits until others have determined it."""
@@ -123,18 +157,38 @@ def solutions(kind, count, parts):
         values = itertools.product(ENUMERATIONS[kind], repeat=count)
         yield from (xs for xs in values if all(part(*xs) for part in parts))
         return
-    unknowns, waiting, turns = [Unknown() for _ in range(count)], deque(parts), 0
+    yield from solved(kind, [Unknown() for _ in range(count)], deque(parts))
+
+
+def solved(kind, unknowns, waiting):
+    """Yields the values of which the parts hold that wait. Where they are known, they are those of the unknowns."""
+    turns, choice = 0, None
     while turns < len(waiting):  # not all of them have waited in turn
         part = waiting.popleft()
         try:
             if not part(*map(known, unknowns)):
                 return
-            turns = 0
-        except Stuck:
+            turns, choice = 0, None
+        except Stuck as stuck:
+            choice = choice or (stuck if isinstance(stuck, Choice) and stuck.unknown in Identical(unknowns) else None)
             waiting.append(part)
             turns += 1
+    if choice:
+        for value in choice.values:
+            copies = [Unknown() for _ in unknowns]
+            for copy, unknown in zip(copies, unknowns):
+                copy.value = value if unknown is choice.unknown else unknown.value
+            yield from solved(kind, copies, deque(waiting))
+        return
     values = tuple(map(known, unknowns))
     yield cannot(f"nothing determines a {kind}", Stuck) if waiting or Unknown in map(type, values) else values
+
+
+class Identical(list):
+    """A list of which an item is one of its own, not only an equal one."""
+
+    def __contains__(self, item):
+        return any(item is other for other in self)
 
 
 def exists(kind, count, parts):
@@ -149,9 +203,21 @@ def for_all(kind, count, premises, claim):
     return all(claim(*values) for values in solutions(kind, count, premises))
 
 
+def filling(values):
+    """Returns what makes a function of values a function of those in whose place `values` has None."""
+    def filled(part):
+        def call(*found):
+            left = iter(found)
+            return part(*(next(left) if value is None else value for value in values))
+        return call
+    return filled
+
+
 FUNCTION = type(lambda: None)
-ENUMERATIONS = {"Bool": (False, True)}  # the values of each type that has finitely many; those of src/ and specs/ are added
-INFINITE, MOST_RANGES = 1 << 300, 100_000  # more than any number with which a definition compares
+# The values of each type that has finitely many. Those of src/ and specs/ are added.
+ENUMERATIONS = {"Bool": (False, True)}
+ITSELF = lambda a: a
+INFINITE, MOST_RANGES = 1 << 300, 1_000_000  # more than any number with which a definition compares
 
 
 class Number:
@@ -166,6 +232,9 @@ class Number:
             cannot("two numbers of ranges are compared")
         sign_of = lambda a: (self.of(a) > other) - (self.of(a) < other)
         low, high = self.span
+        if self.of is ITSELF:
+            self.span[1] = min(high, other - 1) if low < other else low if low == other else high
+            return (low > other) - (low < other)
         sign = sign_of(low)
         if sign_of(high) != sign:
             while high - low > 1:
@@ -193,7 +262,7 @@ def ranges(function):
     first = 0
     for _ in range(MOST_RANGES):
         span = [first, INFINITE]
-        value = function(Number(lambda a: a, span))
+        value = function(Number(ITSELF, span))
         yield first, span[1], value
         first = span[1] + 1
         if first > INFINITE:
@@ -204,8 +273,8 @@ def ranges(function):
 # The translation into Python. A definition is a Python function, by equations, or by the fields of a record.
 
 SIGNS = {
-    ",": "pair({}, {})", "if": "{1} if {0} else {2}", "¬": "not {}", "++": "{} + {}", "+": "{} + {}",
-    "-": "less({}, {})", "*": "{} * {}", "^": "{} ** {}", "/": "quotient({}, {})", "%": "remainder({}, {})",
+    ",": "pair({}, {})", "if": "{1} if {0} else {2}", "¬": "not {}", "++": "joined({}, {})", "+": "{} + {}",
+    "-": "less({}, {})", "*": "{} * {}", "^": "power({}, {})", "/": "quotient({}, {})", "%": "remainder({}, {})",
     "==": "{} == {}", "≤": "{} <= {}", "<": "{} < {}", "&&": "{} and {}", "||": "{} or {}", "×": "{} and {}",
     "≡": "same({}, {})", "≢": "not closed(lambda: same({}, {}))",
     "⊎": "closed(lambda: {}) or closed(lambda: {})", "→": "not closed(lambda: {}) or {}",
@@ -227,7 +296,7 @@ class Translator:
     has the names of variables."""
 
     def __init__(self, definitions, module, outer=()):
-        self.all, self.module, self.outer = definitions, module, list(outer)
+        self.all, self.module, self.outer, self.loops, self.own = definitions, module, list(outer), True, None
 
     def term(self, tree, scope):
         inside = functools.partial(self.term, scope=scope)
@@ -251,13 +320,17 @@ class Translator:
                 return f"({''.join(f'lambda {variable(name)}: ' for name in names)}{self.term(body, scope | {*names})})"
             case ("operator", "∷", _, _):
                 *items, rest = map(inside, self.flat("∷", tree))
-                return f"(({', '.join(items)},) + {rest})"
+                items = f"({', '.join(items)},)"
+                return items if self.is_empty(self.flat("∷", tree)[-1]) else f"joined({items}, {rest})"
             case ("operator", sign, *operands) if sign in SIGNS:
                 return f"({SIGNS[sign].format(*map(inside, operands))})"
             case ("operator", sign, *operands):
                 return self.call(f"◌{sign}◌", list(map(inside, operands)), scope)
             case ("binder", sign, names, kind, body):
                 return self.binder(sign, names, self.kind(kind), body, scope)
+
+    def is_empty(self, tree):
+        return tree == ("name", "[]")
 
     def flat(self, sign, tree):
         """Returns the parts of a tree that this operator joins."""
@@ -281,8 +354,8 @@ class Translator:
             args = [*map(variable, self.shared(what)), *args]
             if 0 < (self.all.definition(what).arity or 0) <= len(args):
                 code, arity = self.all.translated(what), self.all.definition(what).arity
-        elif not sort:
-            code = f"cannot({f'{head} has no meaning'!r})"
+        elif not sort or sort == "type":
+            code = f"cannot({f'{head} is a type' if sort else f'{head} has no meaning'!r})"
         first = f"({', '.join(args[:arity])})" if arity else ""
         fields = "".join(f".f_{identifier(field)}" for field in fields)
         return code + first + fields + "".join(f"({arg})" for arg in args[arity:])
@@ -319,7 +392,7 @@ class Translator:
             case ("operator", "∷", first, rest):
                 conditions.append(f"len({place}) > 0")
                 self.pattern(first, place + "[0]", conditions, names)
-                self.pattern(rest, place + "[1:]", conditions, names)
+                self.pattern(rest, f"after({place}, 1)", conditions, names)
             case ("number", value):
                 conditions.append(f"{place} == {value}")
             case ("apply", ("name", "suc"), [before]):
@@ -342,18 +415,110 @@ class Translator:
                 cannot("a pattern is expected", Malformed)
 
     def function(self, definition, name):
-        """Returns the Python function of a definition."""
-        sides = definition.sides
+        """Returns the Python function of a definition. If an equation ends with a call of the definition itself, the
+        function begins again. If the definition calls itself only for the rest of a list, the function begins at the
+        end of a long list."""
+        sides, full = definition.sides, (self.module.key, definition.name)
+        self.own = full, len(sides[0][0]), True
         params = [*map(variable, self.outer), *(f"a{place}" for place, _ in enumerate(sides[0][0]))]
-        lines = [f"def {name}({', '.join(params)}):"]
+        noted = [f" noted.add({'.'.join(full)!r})"] if self.all.noted is not None else []
+        lines = [f"def {name}({', '.join(params)}):", *noted, *self.from_end(definition, name), " while True:"]
         for patterns, right in sides:
             conditions, names = [], {}
             for place, tree in enumerate(patterns):
                 self.pattern(tree, f"a{place}", conditions, names)
             lines.append(f"  if {' and '.join(conditions) or 'True'}:")
-            lines += [f"    {variable(name)} = {place}" for name, place in names.items()]
-            lines.append(f"    return {self.term(right, {*self.outer, *names})}")
-        return "\n".join([*lines, f"  cannot('no equation of {definition.name} fits')"])
+            lines += [f"   {variable(name)} = {place}" for name, place in names.items()]
+            lines += [f"   {line}" for line in self.ending(right, {*self.outer, *names})]
+        text = "\n".join([*lines, f"  cannot('no equation of {definition.name} fits')"])
+        if "lambda" in text.replace("closed(lambda", ""):  # which would have the names of a later turn
+            return text.replace("\n while True:", "\n if True:") if self.own[2] else self.without_loop(definition, name)
+        return text
+
+    def without_loop(self, definition, name):
+        self.loops = False
+        return self.function(definition, name)
+
+    def ending(self, tree, scope):
+        """Returns the lines that return the value of a term, or begin again with other arguments."""
+        full, count, _ = self.own
+        if tree[:2] == ("operator", "if"):
+            yes, no = (list(self.ending(branch, scope)) for branch in tree[3:])
+            return [f"if {self.term(tree[2], scope)}:", *(f" {line}" for line in yes), *no]
+        if tree[:2] == ("operator", "×"):
+            *parts, last = self.flat("×", tree)
+            if self.is_own(last, scope):
+                first = (f"if not {self.term(part, scope)}: return False" for part in parts)
+                return [*first, *self.ending(last, scope)]
+        if self.is_own(tree, scope):
+            self.own = full, count, False
+            args = ", ".join(self.term(arg, scope) for arg in tree[2])
+            return [f"{', '.join(f'a{place}' for place in range(count))}, = {args},", "continue"]
+        return [f"return {self.term(tree, scope)}"]
+
+    def is_own(self, tree, scope):
+        """Returns whether a term calls the definition that is translated, with all its arguments."""
+        if tree[0] != "apply" or tree[1][0] != "name" or tree[1][1] in scope or not self.loops:
+            return False
+        full, count, _ = self.own
+        return self.all.meaning(self.module, tree[1][1]) == ("definition", full) and len(tree[2]) == count
+
+    def from_end(self, definition, name):
+        """Returns the lines that evaluate a definition from the end of a long list: `f .. [] ..` first, and then
+        `f .. (x ∷ xs) ..`, which calls the definition for `xs` alone, for each item."""
+        if len(definition.sides) != 2:
+            return []
+        (empty, _), (patterns, right) = definition.sides
+        places = [place for place, tree in enumerate(patterns) if tree[:2] == ("operator", "∷")]
+        own = [tree[1] if tree[0] == "name" else None for tree in patterns]
+        if len(places) != 1 or empty[places[0]] != ("name", "[]") or own.count(None) != 1:
+            return []
+        place, = places
+        first, rest = (tree[1] if tree[0] == "name" else None for tree in patterns[place][2:])
+        if None in (first, rest) or "." in first or any(tree[0] != "name" for tree in empty) or first == rest:
+            return []
+        wanted = [("name", rest if at == place else word) for at, word in enumerate(own)]
+        calls = self.own_calls(right, definition.name)
+        if "_" in (*own, rest) or not calls or any(call != wanted for call in calls) or self.ends_so(right, definition):
+            return []
+        names = {*self.outer, *filter(None, own), first, rest}
+        called = ("apply", ("name", definition.name), wanted)
+        code = self.term(self.exchanged(right, called, ("name", "the later")), names | {"the later"})
+        given = [*map(variable, self.outer), *(f"a{at}" for at in range(len(own)) if at != place)]
+        params = [*map(variable, self.outer), *(variable(word) for word in own if word)]
+        step = ", ".join([*params, variable(first), variable(rest), variable("the later")])
+        base = ", ".join([*map(variable, self.outer), *("()" if at == place else f"a{at}" for at in range(len(own)))])
+        return [f" if type(a{place}) is not Unknown and len(a{place}) >= SHORT:",
+                f"  step = lambda {step}: {code}", f"  items, later = tuple(a{place}), {name}({base})",
+                "  for place in range(len(items) - 1, -1, -1):",
+                f"   later = step({', '.join([*given, 'items[place]', 'after(items, place + 1)', 'later'])})",
+                "  return later"]
+
+    def ends_so(self, tree, definition):
+        """Returns whether an equation ends with a call of its definition in each case where it calls it."""
+        if tree[:2] == ("operator", "if"):
+            return self.ends_so(tree[3], definition) or self.ends_so(tree[4], definition)
+        if tree[:2] == ("operator", "×"):
+            return self.ends_so(tree[3], definition)
+        return self.is_own(tree, frozenset())
+
+    def own_calls(self, tree, name):
+        """Returns the arguments of each call of a definition in a term. The name alone is a call without arguments."""
+        if tree == ("name", name):
+            return [()]
+        if not isinstance(tree, (tuple, list)):
+            return []
+        if tree[:1] == ("apply",) and tree[1] == ("name", name):
+            return [list(tree[2]), *(call for arg in tree[2] for call in self.own_calls(arg, name))]
+        return [call for part in tree for call in self.own_calls(part, name)]
+
+    def exchanged(self, tree, old, new):
+        """Returns a term with another one in the place of one that occurs in it."""
+        if tree == old:
+            return new
+        if isinstance(tree, (tuple, list)):
+            return type(tree)(self.exchanged(part, old, new) for part in tree)
+        return tree
 
 
 # Values for the relations that can't be solved. Each gets the definitions and the arguments, some of them unknown.
@@ -404,11 +569,16 @@ ILL_TYPED = (TypeError, AttributeError, LookupError, ValueError, ArithmeticError
 class Definitions:
     """The definitions of specs/, translated."""
 
+    noted = None  # the names of the definitions that were reached, if they are to be noted
+
     def __init__(self, root=ROOT):
-        self.root, self.modules, self.values = root, {}, {}
-        self.space = globals() | {f"word_{identifier(name)}": code for name, (_, _, code) in LIBRARY.items()} | {
+        self.root, self.modules, self.values, self.none = root, {}, {}, NONE
+        self.sources, self.constants = {}, set()  # other texts of files of src/, and the constants that were used
+        words = {f"word_{identifier(name)}": code for name, (_, _, code) in LIBRARY.items()}
+        self.space = globals() | {"noted": self.noted} | words | {
             "definition": self.value, "constant": self.constant, "constructor": Case,
-            "word": lambda name: curried(LIBRARY[name][2], LIBRARY[name][0])}
+            "for_all": self.for_all, "exists": self.exists, "word_Contains": contains,
+            "word": lambda name: EqualTo if name == "bytes_eq" else curried(LIBRARY[name][2], LIBRARY[name][0])}
         for path in sorted(root.glob("crates/*/specs/*.antt")):
             module = Module(f"{path.parts[-3]}/{path.stem}", path, path.read_text(encoding="utf-8"))
             self.modules[module.key] = module.read()
@@ -420,7 +590,8 @@ class Definitions:
         if name and head in module.modules:
             return self.imported(module.modules[head], name)
         if word in module.definitions:
-            return self.listed(module, word) if module.definitions[word].kind == "data" else ("definition", (module.key, word))
+            is_type = module.definitions[word].kind == "data"
+            return self.listed(module, word) if is_type else ("definition", (module.key, word))
         if word in module.constructors:
             return "constructor", module.constructors[word]
         if word in module.names:
@@ -441,11 +612,16 @@ class Definitions:
             return self.declared(f"{kind}.{path[-1]}")
         return ("word", name) if name in LIBRARY else ("constructor", name) if path[-1] == "TheVariants" else ("", "")
 
+    def source_of(self, place):
+        """Returns the path of the file of src/ that has a place."""
+        crate, *path, _ = place.split(".")
+        return self.root / "crates" / crate / "src" / ("/".join(path) + ".rt")
+
     def source(self, place, pattern):
         """Returns the match of a pattern in the file of src/ that has a place, without comments."""
-        crate, *path, _ = place.split(".")
-        path = self.root / "crates" / crate / "src" / ("/".join(path) + ".rt")
-        return re.search(pattern, re.sub(r"//.*", "", path.read_text(encoding="utf-8")) if path.is_file() else "")
+        path = self.source_of(place)
+        text = self.sources.get(path) or (path.read_text(encoding="utf-8") if path.is_file() else "")
+        return re.search(pattern, re.sub(r"//.*", "", text))
 
     def declared(self, kind):
         """Returns a type of src/, whose values are noted if it is an enumeration."""
@@ -464,6 +640,7 @@ class Definitions:
 
     def constant(self, place):
         """Returns a constant of src/: a number, or an array of pairs or of variants."""
+        self.constants.add(place)
         if place not in self.values:
             match = self.source(place, rf"\bconst {own_name(place)}: [^=]+ = ([^;]+);")
             text = match[1] if match else cannot(f"src/ has no constant {place}")
@@ -488,10 +665,60 @@ class Definitions:
                 text = Translator(self, self.modules[full[0]], definition.outer).function(definition, name)
             except Malformed as error:
                 text = f"def {name}(*args):\n  cannot({str(error)!r})"
-            exec(compile(text, name, "exec"), self.space)
+            exec(self.compiled(text, name, "exec"), self.space)
+            if full in QUICK and all(self.has_text(*there) for there in QUICK[full][1]):
+                self.space[name] = functools.partial(QUICK[full][0], self, self.space[name])
             if full in WITNESSES:
                 self.space[name] = functools.partial(self.with_witness, self.space[name], WITNESSES[full])
         return name
+
+    def samples(self, sort, kind, count):
+        """Returns values on which a statement about some (or all) values of a type is evaluated if nothing determines
+        a value: for each how many values are to be found, and what makes a function of all a function of these."""
+        return []
+
+    def for_all(self, kind, count, premises, claim):
+        """Returns whether the claim holds of all values of which the premises hold, or of all samples."""
+        try:
+            return for_all(kind, count, premises, claim)
+        except Stuck:
+            if not (found := self.samples("all", kind, count)):
+                raise
+        return self.all_samples(found, premises, claim)
+
+    @staticmethod
+    def all_samples(found, premises, claim):
+        """Returns whether the claim holds of the samples of which the premises hold."""
+        return all(for_all("", left, [*map(filled, premises)], filled(claim)) for left, filled in found)
+
+    def exists(self, kind, count, parts):
+        """Returns whether all parts hold of some values, or of a sample."""
+        try:
+            return exists(kind, count, parts)
+        except Stuck:
+            if not (found := self.samples("some", kind, count)):
+                raise
+        return any(self.has(left, [*map(filled, parts)]) for left, filled in found)
+
+    @staticmethod
+    def has(left, parts):
+        """Returns whether the parts hold of a sample, and of `left` other values that they determine."""
+        try:
+            return closed(lambda: exists("", left, parts))
+        except Stuck:
+            if not left:
+                raise
+            return False
+
+    def has_text(self, module, name, text):
+        """Returns whether a definition has these equations."""
+        lines = self.definition((module, name)).lines
+        equations = "\n".join(lines).partition(f"\n{' ' * self.definition((module, name)).depth}{name} ")
+        return " ".join((name + " " + equations[2]).split()) == text
+
+    def function(self, module, name):
+        """Returns the Python function of a definition."""
+        return self.space[self.translated((module, name))]
 
     def with_witness(self, relation, witness, *args):
         if Unknown in map(type, map(known, args)):
@@ -516,7 +743,14 @@ class Definitions:
     def term(self, text, module):
         """Returns the value of a term, with the names that a module has."""
         source = Translator(self, module).term(Parser(lex(text)).whole(), frozenset())
-        return self.evaluated(eval, compile(source, "term", "eval"), self.space)
+        return self.evaluated(eval, self.compiled(source, "term", "eval"), self.space)
+
+    @staticmethod
+    def compiled(*source):
+        try:
+            return compile(*source)
+        except (SyntaxError, RecursionError, MemoryError):
+            return cannot("a term is too deep")
 
     def call(self, name, *args):
         """Returns the value of the definition or constructor CRATE/MODULE.NAME with arguments."""
@@ -528,107 +762,16 @@ class Definitions:
     def module(self, key):
         return self.modules[key] if key in self.modules else cannot(f"there is no module {key}")
 
-    def run(self, words, content_of):
-        """Returns what is seen of a run with these words and files, whose contents a function returns, or None if a
-        file can't be opened. No device fails, and there is memory."""
-        outcome = self.evaluated(self.outcome, words, content_of)
-        status, (result,) = self.call("flow_files/Faults.exit_status_of", outcome), outcome.args
-        if is_ok(outcome):
-            return Seen(status, bytes(result), b"")
-        if shown(result) == "(Usage (Help tt))":
-            return Seen(status, None, b"")
-        is_open = shown(result) == "(Usage (Refused tt))"
-        name = self.call("flowlabel/Definition.program_name")
-        return Seen(status, b"", None if is_open else bytes(self.call("flow_files/Faults.fault_text", name, result)))
-
-    def outcome(self, words, content_of):
-        """Returns how a run ends: Ok of the text, or Err of the fault."""
-        usage = lambda fault: err(self.call("flow_files/Readers.Usage", fault))
-        try:
-            b" ".join(words).decode()
-        except UnicodeDecodeError:
-            return usage(self.call("flow_files/Answer.words_fault_of", Case("InvalidData")))
-        texts, answer = tuple(map(tuple, (b"flowlabel", *words))), Unknown()
-        if not self.call("flowlabel/Answer.Answers", texts, answer):
-            faults = [self.call(f"flow_files/Answer.{name}", UNIT) for name in ("Help", "Refused")]
-            return usage(next(fault for fault in faults if self.call("flowlabel/Answer.IsFaultAt", texts, fault)))
-        if not is_ok(answer.value):
-            return usage(*answer.value.args)
-        request, = answer.value.args
-        asked = self.call("flowlabel/Request.files_of", request)
-        names = {role: name.args[0] for role, name in vars(asked).items() if is_some(name)}
-        contents = {name: content_of(bytes(name)) for name in names.values()}
-        opens = lambda name: lambda reader: same(reader, NONE if contents[name] is None else some(UNIT))
-        for fault in (self.call("flow_files/Readers.CannotOpen", borrowed(name)) for name in contents):
-            if None in contents.values() and self.call("flow_files/Opening.CannotOpenFirst", opens, asked, fault):
-                return err(fault)
-        of_all = lambda found: Record(**{role: tuple(found.get(role, ())) for role in vars(asked)})
-        contents, end = {role: contents[name] for role, name in names.items()}, Unknown()
-        if not self.call("flowlabel/Output.IsOutput", self.command(request), of_all(contents), end):
-            cannot("the command has no output")
-        if is_ok(end.value):
-            return end.value
-        fault, = end.value.args
-        role = self.call("flow_files/BytesFault.role_of", fault)
-        return err(self.call("flow_files/Readers.File", borrowed(self.call("flow_files/ByFile.at", role, of_all(names))), fault))
-
-    def command(self, request):
-        """Returns the command that asks for a request. Its arguments are those of the request, with borrowed names."""
-        keep = lambda value: value
-        address = lambda value: Record(f_version=value.f_0, f_value=value.f_1)
-        kinds = {"FromMap": "Map", "FromList": "Prefixes"}
-        source = lambda value: self.call(f"flow_files/Outcomes.{kinds[own_name(value.tag)]}", borrowed(*value.args))
-        sources = lambda value: some(source(*value.args)) if is_some(value) else value
-        name = own_name(request.tag).capitalize()
-        made = {"Label": (source, address), "Info": (borrowed,), "Rows": (sources, keep, keep, borrowed),
-                "Cat": (source,), "Uniq": (keep, sources, keep, keep, keep, borrowed), "Shrink": (borrowed, keep),
-                "Check": 3 * (borrowed,), "Recert": (borrowed,)}[name]
-        command = self.call(f"flowlabel/Output.{name}", *(make(value) for make, value in zip(made, request.args)))
-        is_its = same(self.call("flowlabel/Request.request_of", command), request)
-        return command if is_its else cannot("no command asks for the request")
-
-
-# What is seen of a run, with None in place of a text that the definitions leave open.
-Seen = namedtuple("Seen", "status out err")
-
-
-def content(name):
-    """Returns the bytes of a file, or None if it can't be opened."""
-    return Path(os.fsdecode(name)).read_bytes() if os.access(name, os.R_OK) else None
-
 
 def with_stack(function):
-    """Returns what the function returns. Definitions that it calls may recurse deeply."""
-    sys.setrecursionlimit(1_000_000)
-    threading.stack_size(1 << 30)
-    with ThreadPoolExecutor(1) as pool:
-        return pool.submit(function).result()
-
-
-def main(words):
-    if words in ([], ["--definition"]):
-        cannot("usage: dev/evaluate COMMAND ARGUMENT.. | --definition CRATE/MODULE.NAME ARGUMENT..", Malformed)
-    definitions = Definitions()
-    if words[0] == "--definition":
-        module = definitions.module(words[1].partition(".")[0])
-        args = (tuple(Path(word[1:]).read_bytes()) if word[:1] == "@" else definitions.term(word, module)
-                for word in words[2:])
-        print(shown(definitions.call(words[1], *args)))
-        return 0
-    seen = definitions.run(list(map(os.fsencode, words)), content)
-    sys.stdout.buffer.write(seen.out or b"")
-    sys.stdout.flush()
-    sys.stderr.buffer.write(seen.err or b"")
-    if None in seen:
-        print("dev/evaluate: the program prints a text that the definitions leave open", file=sys.stderr)
-    return seen.status
-
-
-def command():
-    """Evaluates what the words of the command line ask for, and ends with its status."""
-    try:
-        sys.exit(with_stack(lambda: main(sys.argv[1:])))
-    except (CannotEvaluate, OSError) as error:
-        text = f"{error.filename}: {error.strerror}" if isinstance(error, OSError) else error
-        print(f"dev/evaluate: {text}", file=sys.stderr)
-        sys.exit(2)
+    """Returns what the function returns. Definitions that it calls may recurse deeply, as far as there is memory."""
+    for size in (1 << 30, 1 << 27, 1 << 24):
+        sys.setrecursionlimit(size >> 10)
+        threading.stack_size(size)
+        with ThreadPoolExecutor(1) as pool:
+            try:
+                made = pool.submit(function)
+            except RuntimeError:
+                continue
+            return made.result()
+    return cannot("there is no memory for a stack", MemoryError)

@@ -1,9 +1,12 @@
 """The values of the language of the definitions, and the words of the kit's library with their meanings, in Python.
 
-A number is an int, a truth value or a statement is a bool, and a list is a tuple. A function is a Python function of
-one argument, which for more arguments returns a function of the next one.
+A number is an int, a truth value or a statement is a bool, and a list is a tuple or, so that a long list needn't be
+copied, a `Long`. A function is a Python function of one argument, which for more arguments returns a function of the
+next one.
 """
 
+import abc
+import collections
 import functools
 import itertools
 from dataclasses import dataclass
@@ -18,8 +21,11 @@ class Record(SimpleNamespace):
     def updated(self, **fields):
         return Record(**(vars(self) | fields))
 
+    def __hash__(self):
+        return hash(frozenset(vars(self).items()))
 
-@dataclass(slots=True)
+
+@dataclass(slots=True, unsafe_hash=True)
 class Case:
     """A value made by a constructor: the constructor's name, and its arguments."""
 
@@ -28,6 +34,130 @@ class Case:
 
     def __call__(self, arg):
         return Case(self.tag, (*self.args, arg))
+
+
+SHORT = 64  # A list of fewer items is a tuple, which is copied.
+
+
+class Long(abc.ABC):
+    """A list that shares its items with others. All else is as for the tuple of its items."""
+
+    __slots__ = ()
+
+    def __eq__(self, other):
+        return isinstance(other, (tuple, Long)) and len(self) == len(other) and tuple(self) == tuple(other)
+
+    def __hash__(self):
+        return hash(tuple(self))
+
+    def __contains__(self, item):
+        return item in tuple(self)
+
+    def __getitem__(self, index):
+        if isinstance(index, slice) and index.step is None and index.start is None and (index.stop or 0) >= 0:
+            return tuple(itertools.islice(self, index.stop)) if len(self) else ()
+        return tuple(self)[index]
+
+    def __add__(self, other):
+        return added(self, other) if isinstance(other, (tuple, Long)) else NotImplemented
+
+    def __radd__(self, other):
+        return added(other, self) if isinstance(other, tuple) else NotImplemented
+
+
+class Part(Long):
+    """The items of a sequence from `start` to `stop`. `owned` is a Python list that only this module changes: it adds
+    items after all of them, which no other part has."""
+
+    __slots__ = ("items", "start", "stop")
+
+    def __init__(self, items, start, stop):
+        self.items, self.start, self.stop = items, start, stop
+
+    def __len__(self):
+        return self.stop - self.start
+
+    def __iter__(self):
+        return map(self.items.__getitem__, range(self.start, self.stop))
+
+    def __contains__(self, item):
+        return item in (self.items if len(self) == len(self.items) else self.items[self.start:self.stop])
+
+    def __getitem__(self, index):
+        if isinstance(index, int):
+            if not -len(self) <= index < len(self):
+                raise IndexError(index)
+            return self.items[index + (self.start if index >= 0 else self.stop)]
+        start, stop, step = index.indices(len(self))
+        if step == 1:
+            return part_of(self.items, self.start + start, self.start + max(start, stop))
+        return tuple(self)[index]
+
+
+class Before(Long):
+    """An item before a list."""
+
+    __slots__ = ("first", "rest", "size")
+
+    def __init__(self, first, rest):
+        self.first, self.rest, self.size = first, rest, len(rest) + 1
+
+    def __len__(self):
+        return self.size
+
+    def __iter__(self):
+        while type(self) is Before:
+            yield self.first
+            self = self.rest
+        yield from self
+
+    def __getitem__(self, index):
+        return self.first if index == 0 else super().__getitem__(index)
+
+
+def part_of(items, start, stop):
+    """Returns the items of a sequence from one index up to another."""
+    return Part(items, start, stop) if stop - start >= SHORT else tuple(items[start:stop])
+
+
+def after(items, count):
+    """Returns a list without its first `count` items."""
+    while type(items) is Before and count:
+        items, count = items.rest, count - 1
+    if count == 0 or len(items) - count < SHORT:
+        return items[count:] if count else items
+    return part_of(items, count, len(items)) if type(items) is tuple else items[count:]
+
+
+def cut(items, start, stop=None):
+    """Returns the items of a list from one index up to another, or up to its end."""
+    stop = len(items) if stop is None else min(stop, len(items))
+    if stop - start < SHORT:
+        return tuple(items[start:stop])
+    items = tuple(items) if type(items) is Before else items
+    return part_of(items, start, stop) if type(items) is tuple else items[start:stop]
+
+
+def added(front, back):
+    """Returns two lists joined."""
+    if len(front) + len(back) < SHORT or not back or not front:
+        return tuple(front) + tuple(back) if front and back else front or back
+    if len(front) < SHORT <= len(back):
+        return functools.reduce(lambda rest, first: Before(first, rest), reversed(tuple(front)), back)
+    if type(front) is not Part or type(front.items) is not list or front.stop != len(front.items):
+        front = Part([*front], 0, len(front))
+    front.items.extend(back)
+    return Part(front.items, front.start, len(front.items))
+
+
+class EqualTo:
+    """The function that compares with a value."""
+
+    def __init__(self, value):
+        self.value = value
+
+    def __call__(self, other):
+        return self.value == other
 
 
 def curried(code, arity, *got):
@@ -47,6 +177,7 @@ borrowed = lambda text: Record(f_now=text)  # a text as a command names it
 
 def shown(value):
     """Returns a value as a text. A list of printable bytes is `codes` of a text."""
+    value = tuple(value) if isinstance(value, Long) else value
     if isinstance(value, tuple) and value and all(type(x) is int and (32 <= x < 127 or x == 10) for x in value):
         text = "".join(map(chr, value)).replace("\\", "\\\\").replace('"', '\\"').replace("\n", "\\n")
         return f'codes "{text}"'
@@ -65,6 +196,15 @@ def shown(value):
 # The library: the words of the kit that definitions use, each with the number of its arguments and its meaning.
 
 less = lambda a, b: max(a - b, 0) if type(a) is int else a.less(b)
+MOST_BITS = 1 << 27
+
+
+def power(a, b):
+    if type(b) is int and type(a) is int and b * a.bit_length() > MOST_BITS:
+        cannot("a number is too great")
+    return a ** b
+
+
 quotient, remainder = (lambda a, b: a // b if b else 0), (lambda a, b: a % b if b else a)
 compared = lambda a, b: Case("Less" if a < b else "Equal" if a == b else "Greater")
 at = lambda items, index, default: items[index] if index < len(items) else default
@@ -107,15 +247,16 @@ LIBRARY = {
     "find": (2, "the first item that passes the test", lambda p, xs: next(map(some, filter(p, xs)), NONE)),
     "fold": (3, "the steps from a start with each item in turn", lambda f, start, xs: (
         functools.reduce(lambda x, item: f(x)(item), xs, start))),
-    "take": (2, "the first n items, or all", lambda n, xs: xs[:n]),
-    "drop": (2, "the items after them", lambda n, xs: xs[n:]),
+    "take": (2, "the first n items, or all", lambda n, xs: cut(xs, 0, n)),
+    "drop": (2, "the items after them", lambda n, xs: after(xs, n)),
     "replicate": (2, "n times x", lambda n, x: (x,) * n),
     "list_all": (2, "all items pass the test", EACH), "All": (2, "the statement holds of all items", EACH),
     "AllByRecursion": (2, "the statement holds of all items", EACH),
-    "list_any": (2, "an item passes the test", lambda p, xs: any(map(p, xs))),
+    "list_any": (2, "an item passes the test", lambda p, xs: (
+        p.value in xs if type(p) is EqualTo else any(map(p, xs)))),
     "Contains": (2, "x is an item", lambda xs, x: x in xs),
     "IsPermutation": (2, "the lists have the same items, each as often", lambda xs, ys: (
-        len(xs) == len(ys) and all(xs.count(x) == ys.count(x) for x in xs))),
+        collections.Counter(xs) == collections.Counter(ys))),
     "flat_map": (2, "f of each item, joined", lambda f, xs: tuple(itertools.chain(*map(f, xs)))),
     "filter_map": (2, "f of each item, if it is a value", lambda f, xs: (
         tuple(itertools.chain(*(o.args for o in map(f, xs)))))),
@@ -127,17 +268,19 @@ LIBRARY = {
     "prefix_len": (2, "how many items at the start pass the test", front_length),
     "suffix_len": (2, "how many items at the end pass the test", lambda p, xs: front_length(p, xs[::-1])),
     "position_or_len": (2, "the index of the first item that passes the test, or the length", first_place),
-    "before_first": (2, "the items before the first that passes the test", lambda p, xs: xs[:first_place(p, xs)]),
-    "after_first": (2, "the items after the first that passes the test", lambda p, xs: xs[first_place(p, xs) + 1:]),
+    "before_first": (2, "the items before the first that passes the test", lambda p, xs: (
+        cut(xs, 0, first_place(p, xs)))),
+    "after_first": (2, "the items after the first that passes the test", lambda p, xs: (
+        after(xs, first_place(p, xs) + 1))),
     "slice_split": (2, "the pieces between items that pass the test", split),
     "join_with_byte": (2, "the pieces, with a byte between two of them", lambda byte, pieces: (
         tuple(itertools.chain(*pieces[:1], *((byte, *piece) for piece in pieces[1:]))))),
     "onto_first": (2, "the pieces, with x before the first, or as the only one", lambda x, pieces: (
-        ((x, *pieces[0]), *pieces[1:]) if pieces else ((x,),))),
+        added((added((x,), pieces[0]),), after(pieces, 1)) if pieces else ((x,),))),
     "slice_get": (2, "the item at an index", lambda xs, i: option(i < len(xs), at(xs, i, 0))),
     "slice_index": (2, "the number at an index, or 0", lambda xs, i: at(xs, i, 0)),
     "slice_index_or": (3, "the item at an index, or a default", at),
-    "slice_range": (3, "the items from one index up to another", lambda xs, a, b: xs[a:max(a, b)]),
+    "slice_range": (3, "the items from one index up to another", lambda xs, a, b: cut(xs, a, max(a, b))),
     "bytes_eq": (2, "the lists are equal", lambda xs, ys: xs == ys),
     "pointwise": (3, "the lists are as long, and their items are related", lambda r, xs, ys: (
         len(xs) == len(ys) and all(r(x)(y) for x, y in zip(xs, ys)))),
@@ -191,11 +334,11 @@ def is_plain(word):
 
 
 def level(shape, words, subcommands, asks):
-    """Divides words by the rules of a command. Returns the values of its arguments, and the words from a subcommand
-    on."""
+    """Divides words by the rules of a command. Returns the lists of values of its arguments, and the words from a
+    subcommand on."""
     options = {codes("--") + rule.f_long.args[0]: rule for rule in reversed(shape.f_rules) if is_some(rule.f_long)}
     places = [rule for rule in shape.f_rules if not is_some(rule.f_long)]
-    is_flag = lambda rule: rule.f_action == some(Case("SetTrue"))
+    is_flag, takes_more = (lambda rule, kind=kind: rule.f_action == some(Case(kind)) for kind in ("SetTrue", "Append"))
     values, rest, has_ended = {}, list(words), False
     while rest:
         word = rest.pop(0)
@@ -206,7 +349,11 @@ def level(shape, words, subcommands, asks):
             has_ended = True
             continue
         if has_ended or is_plain(word):
-            rule, value = places.pop(0) if places else refuse(), word
+            rule, value = places[0] if places else refuse(), word
+            if takes_more(rule):
+                values.setdefault(rule.f_id, []).append(word)
+                continue
+            places.pop(0)
         elif name not in options:
             refuse(asks.get(word if word[1] == ord("-") else word[:2]))
         else:
@@ -215,12 +362,12 @@ def level(shape, words, subcommands, asks):
                 value = refuse() if equals else codes("true")
             elif not equals:
                 value = rest.pop(0) if rest and is_plain(rest[0]) else refuse()
-        values[rule.f_id] = refuse() if rule.f_id in values else value
+        values[rule.f_id] = refuse() if rule.f_id in values else [value]
     for rule in shape.f_rules:
         if rule.f_required and rule.f_id not in values:
             refuse()
         if is_flag(rule):
-            values.setdefault(rule.f_id, codes("false"))
+            values.setdefault(rule.f_id, [codes("false")])
     return values, []
 
 
@@ -236,7 +383,7 @@ def divided(app, words):
     if not rest:
         return refuse() if top.f_subcommand_required else NONE
     values, _ = level(subs[rest[0]], rest[1:], (), asks)
-    return some(pair(rest[0], tuple(Record(f_id=name, f_value=value) for name, value in values.items())))
+    return some(pair(rest[0], tuple(Record(f_id=name, f_values=tuple(found)) for name, found in values.items())))
 
 
 def fault_of(app, words):
@@ -259,6 +406,8 @@ LIBRARY |= {
         app.updated(f_subs=app.f_subs + (shape,)))),
     "fault_of": (2, "the kinds of error by which clap refuses the words", fault_of),
     "subcommand_of": (2, "the subcommand that the words name, with the rows of its arguments", divided),
-    "first_of": (2, "the value of an argument", lambda name, rows: (
-        next((some(row.f_value) for row in rows if row.f_id == name), NONE))),
+    "first_of": (2, "the first value of an argument", lambda name, rows: (
+        next((some(row.f_values[0]) for row in rows if row.f_id == name), NONE))),
+    "all_of": (2, "the values of an argument", lambda name, rows: (
+        next((some(row.f_values) for row in rows if row.f_id == name), NONE))),
 }

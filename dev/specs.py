@@ -26,7 +26,7 @@ def cannot(why, sort=CannotEvaluate):
 # A token is a text, a bracket or separator, or whatever has none of these and no blanks. Comments are no tokens. A
 # field after a closing bracket is a token that begins with a dot.
 TOKEN = re.compile(r'\s+|--(?= |\n|$)[^\n]*|("(?:[^"\\]|\\.)*"|[(){},;"]|[^\s(){},;"]+)')
-NUMBER = re.compile(r"(0x[0-9a-fA-F_]+|[0-9][0-9_]*)$")
+NUMBER = re.compile(r"(0x[0-9a-fA-F][0-9a-fA-F_]*|[0-9][0-9_]*)$")
 NAME = re.compile(r"[\w']+$")
 ESCAPED = {"n": "\n", "t": "\t", "r": "\r"}
 # How strongly each operator binds, and to which side it groups.
@@ -234,8 +234,8 @@ class Module:
     def read(self):
         """Divides the text into definitions. The parameters of a line `module _ .. where` are first arguments of those
         that are further in."""
-        current, outer = None, []
-        for line in self.text.split("\n"):
+        current, outer, text = None, [], re.sub(r"(?m)^(module [^\n]*)(?<!where)\n +", r"\1 ", self.text)
+        for line in text.split("\n"):
             depth, begins = len(line) - len(line.lstrip()), BEGINS.match(line)
             if PASSED_OVER.match(line):
                 continue

@@ -10,7 +10,9 @@ from typing import NamedTuple
 ROOT = Path(__file__).resolve().parents[2]
 sys.path.insert(0, str(ROOT / "dev"))
 import evaluator
-from evaluator import CannotEvaluate, Malformed, Module, Record, with_stack
+import runs
+from quick import QUICK
+from evaluator import CannotEvaluate, Malformed, Module, Record, filling, with_stack
 
 EXAMPLES = ("crates/definition_examples/src/**/*.rt", "tests/definitions/claims.rt.in")
 CLAUSE = re.compile(r"\bensures (\w*)\s*\{(.*?)\}\s*(?=\bensures \w*\s*\{|\Z)", re.S)
@@ -59,29 +61,19 @@ class Claim(NamedTuple):
         return f"{self.file.name.split('.')[0]}::{self.function}::{self.name or self.line}"
 
 
-def filling(values):
-    """Returns what makes a function of values a function of those in whose place `values` has None."""
-    def filled(part):
-        def call(*found):
-            left = iter(found)
-            return part(*(next(left) if value is None else value for value in values))
-        return call
-    return filled
-
-
 class Definitions(evaluator.Definitions):
     """The definitions, which may be changed, and the worked examples."""
 
     def __init__(self, root=ROOT):
+        self.noted = set()
         super().__init__(root)
         self.importing = {}
         path = ROOT / "tests/definitions/Claims.antt.in"
         self.modules["tests/Claims"] = Module("tests/Claims", path, path.read_text(encoding="utf-8")).read()
-        self.space |= {"for_all": self.for_all, "exists": self.exists}
         self.sampled = ""
 
     def samples(self, some, kind, count):
-        """Returns the samples of a type: for each, how many values are to be found, and all by these."""
+        """As dev/evaluator.py has it: those of claims.samples."""
         if not self.sampled:
             return []
         module = self.importing[ROOT / "tests/definitions/claims.rt.in"]
@@ -100,34 +92,18 @@ class Definitions(evaluator.Definitions):
                     return False
             if not (found := self.samples("all", kind, count)):
                 raise
-        return all(evaluator.for_all("", left, [*map(filled, premises)], filled(claim)) for left, filled in found)
+        return self.all_samples(found, premises, claim)
 
-    def exists(self, kind, count, parts):
-        """As dev/evaluate has it. If nothing determines a value, one of the samples of a type."""
-        try:
-            return evaluator.exists(kind, count, parts)
-        except evaluator.Stuck:
-            found = self.samples("some", kind, count)
-            if not found:
-                raise
-        return any(self.has(left, [*map(filled, parts)]) for left, filled in found)
-
-    @staticmethod
-    def has(left, parts):
-        """Returns whether the parts hold of a sample, and of `left` other values that they determine."""
-        try:
-            return evaluator.closed(lambda: evaluator.exists("", left, parts))
-        except evaluator.Stuck:
-            if not left:
-                raise
-            return False
-
-    def run(self, words, files):
+    def run(self, words, files, with_headline=False):
         """Returns what is seen of a run with these words and files, by their names."""
-        return super().run(words, files.get)
+        return runs.seen_of(self, words, files.get, with_headline=with_headline)
 
     def replace(self, key, text):
-        """Reads a module from another text instead."""
+        """Reads a module, or a file of src/, from another text instead."""
+        if "/src/" in key:
+            self.values.clear()
+            self.sources[self.root / "crates" / key] = text
+            return
         old, new = self.modules[key], evaluator.Module(key, self.modules[key].path, text).read()
         self.modules[key], new.original = new, getattr(old, "original", old.text)
         self.meaning.cache_clear()
@@ -135,6 +111,7 @@ class Definitions(evaluator.Definitions):
         arities = [{name: definition.arity for name, definition in module.definitions.items()} for module in (old, new)]
         keys = [key] if arities[0] == arities[1] else [*self.modules]
         names = [(key, name) for key in keys for name in self.modules[key].definitions]
+        names += [full for full in QUICK if full[0] not in keys]  # which may be computed by other equations now
         made = [full for full in names if self.python_name(full) in self.space]
         for full in made:
             del self.space[self.python_name(full)]
@@ -142,7 +119,11 @@ class Definitions(evaluator.Definitions):
             self.translated(full)
 
     def restore(self, key):
-        """Reads a module from its file's text again."""
+        """Reads a module, or a file of src/, from its own text again."""
+        if "/src/" in key:
+            self.values.clear()
+            del self.sources[self.root / "crates" / key]
+            return
         self.replace(key, getattr(self.modules[key], "original", self.modules[key].text))
 
     def claims(self):
@@ -180,18 +161,15 @@ class Definitions(evaluator.Definitions):
                 self.replace(key, text)
 
     def tracked(self, function):
-        """Returns the value of a function, and the names of the definitions that it reached."""
-        reached = set()
-        note = lambda frame, event, _: reached.add(frame.f_code.co_name) if event == "call" else None
+        """Returns the value of a function, and the names of the definitions and constants that it reached."""
+        self.noted.clear()
+        self.constants.clear()
         self.values.clear()
-        sys.setprofile(note)
-        try:
-            value = function()
-        finally:
-            sys.setprofile(None)
-            self.values.clear()
-        names = ((module.key, name) for module in self.modules.values() for name in module.definitions)
-        return value, frozenset(".".join(full) for full in names if self.python_name(full) in reached)
+        value = function()
+        self.values.clear()
+        constants = {f"{self.source_of(place).relative_to(self.root / 'crates')}.{place.rpartition('.')[2]}"
+                     for place in self.constants}
+        return value, frozenset(self.noted | constants)
 
     def reached(self, claim):
         """Returns the names of the definitions that the evaluation of a claim reaches."""

@@ -286,6 +286,43 @@ def made(seed, count):
         yield Input(words, {**files, b"day.ipfix": content})
 
 
+# Units of time, and texts that are none.
+UNITS = [b"day", b"hour", b"minute", b"5m", b"1m", b"15m"]
+FAULTY_UNITS = [b"7m", b"0m", b"2880m", b"25h", b"", b"x"]
+
+
+def many_words(rng):
+    """Returns the words of flowlabel-many without the names of Files."""
+    if rng.random() < 0.35:
+        return [b"messages"]
+    words = [word for word in report_words(rng, LABELS)[1:-1] if word != b"--sort-output"]
+    if b"--fields" not in words and rng.random() < 0.8:
+        words += [b"--fields", ",".join(rng.sample(FIELDS[:6], rng.randrange(1, 3))).encode()]
+    if rng.random() < 0.6:
+        words += [b"--by", rng.choice(UNITS if rng.random() < 0.9 else FAULTY_UNITS)]
+    return [b"sum", *words, *([b"--allow-skipped"] if rng.random() < 0.75 else [])]
+
+
+def made_many(seed, count):
+    """Makes this many inputs of flowlabel-many: up to four Files, some of them damaged, missing or named twice."""
+    rng, texts = random.Random(seed), None
+    files = {b"map.txt": b"x\n", b"list.txt": b"0.0.0.0/0 A\n", b"0.ipfix": b""}
+    yield Input(b"sum --fields dst-label --pmap map.txt 0.ipfix".split(), files)
+    yield Input(b"sum --fields dst-label --pmap map.txt --list list.txt 0.ipfix".split(), files)
+    for number in range(count):
+        texts = Texts(rng) if number % 25 == 0 else texts
+        damage, names = rng.random() < 0.3, []
+        files = texts.files(damage)
+        for place in range(rng.choice((0, 1, 1, 2, 2, 3, 4))):
+            names.append(b"%d.ipfix" % place)
+            content = FileMaker(rng).file()
+            if rng.random() >= 0.03:
+                files[names[-1]] = damaged_file(rng, content) if damage and rng.random() < 0.5 else content
+        names += [rng.choice(names)] if names and rng.random() < 0.1 else []
+        words = [*many_words(rng), *names]
+        yield Input(damaged_words(rng, words) if rng.random() < 0.06 else words, files)
+
+
 def examples():
     """Returns the contents of the Files, the maps and the lists of examples/ by their names."""
     return {path.name.encode(): path.read_bytes() for path in (ROOT / "examples").iterdir()

@@ -2,8 +2,9 @@
 
 dev/evaluate evaluates the definitions of specs/ for a command line and its files, and the program runs with the same
 ones. Both must end with the same output, the same standard error and the same status, for the inputs of
-tests/definitions/inputs.py. If the definitions leave a text open, such as help and clap's refusals, the program must
-print one. The inputs are the same in each run, and each fault must occur in them.
+tests/definitions/inputs.py, and the contract must be true of the run. If the definitions leave a text open, such as
+help and clap's refusals, the program must print one. The inputs are the same in each run, and each fault must occur in
+them.
 
 The worked examples are claims of crates/definition_examples, which the prover computes too, and those of
 tests/definitions/claims.rt.in.
@@ -73,11 +74,11 @@ class Evaluated(Case):
         self.assertTrue(found, "nothing was tried")
 
     def compared(self, given):
-        """Yields each input with what differs."""
-        for each in given:
+        """Yields each input with what differs. On each eighth run the contract of the program is evaluated too."""
+        for number, each in enumerate(given):
             ended = run_of(each)
             try:
-                fault = difference(self.definitions.run(*each), ended)
+                fault = difference(self.definitions.run(*each, with_headline=number % 8 == 0), ended)
             except self.claims.CannotEvaluate as error:
                 fault = f"can't be evaluated: {error}"
             files = "".join(f"\n  {os.fsdecode(name)}: {content[:400]!r}" for name, content in each.files.items()

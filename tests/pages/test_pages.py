@@ -81,8 +81,6 @@ STATUSES = (
 )
 # Codes that no page has, since the program prints them in no message of a file.
 UNPRINTED = {"M15", "C7", "K7", "F8", "F10", "F11", "L4", "U3"}
-# Codes that only flowlabel-many prints.
-OF_MANY = {"P7", "U4"}
 # All pages: a text with links, and a manual page.
 LINKED = sorted(str(path.relative_to(ROOT)) for path in (*ROOT.glob("*.md"), *ROOT.glob("*/*.md"))
                 if path.parent.name != "out")
@@ -296,7 +294,7 @@ class Faults(Case):
         text, codes = re.sub(r"\n\.Ql |[`|]", " ", "".join(map(read, pages))), codes_of_program()
         self.assertGreater(len(codes), 45)
         missing = {code for code, name in codes.items() if not re.search(rf"\b{code}\s+{name}\b", text)}
-        self.assertLessEqual(missing, UNPRINTED | OF_MANY)
+        self.assertLessEqual(missing, UNPRINTED)
 
 
 class Fields(Beside):

@@ -60,8 +60,11 @@ TWICE = 2 * (2**64 - 1)
 TRIAL = r"(?: \(trial: not proved\))?"
 # Bytes that are not UTF-8, as a word of a command line.
 NO_TEXT = os.fsdecode(b"\xff\xfe")
-# Any text of whole lines.
+# Any text of whole lines, and clap's text for words that it refuses.
 SOME_TEXT = re.compile(rb"(?s).+\n")
+REFUSAL = re.compile(rb"(?s)error: [^\n]+\n.*\nFor more information, try '--help'\.\n")
+# A name of 4,000 bytes more, of the same file.
+FAR = "./" * 2000
 
 
 def input_of(reader):
@@ -113,10 +116,11 @@ def help_of(command):
     version = rf"flowlabel [0-9]+\.[0-9]+\.[0-9]+{TRIAL}\n\n"
     usage = rf"[^\n]+\n\nUsage: {re.escape(USAGES[command])}\n\n"
     name = r"(?:(?:-[A-Za-z], )? *--[a-z-]+(?: <[A-Z]+>)?|<[A-Z]+>|[a-z]+)"
-    section = rf"[A-Z][a-z]+:\n(?:  +{name}  +\S[^\n]+\n(?: {{20,}}\S[^\n]+\n)?)+\n"
+    # No part is tried again in another way, which would take no end if the text is broken.
+    section = rf"(?>[A-Z][a-z]+:\n(?:  +{name}  +\S[^\n]++\n(?: {{20,}}+\S[^\n]++\n)?+)++\n)"
     example = rf"Example, [^\n]+:\n  flowlabel {command or '[a-z]+'} [^\n]+\n\n"
     manuals = r"Manuals: flowlabel\(1\), flowlabel-formats\(5\)\n"
-    return re.compile(f"(?s){screen}{version}{usage}(?:{section})+{example}{manuals}".encode())
+    return re.compile(f"(?s){screen}{version}{usage}(?:{section})++{example}{manuals}".encode())
 
 
 class Lines(Case):
@@ -340,6 +344,13 @@ class Faults(Lines):
     def test_a_name_that_is_not_ascii(self):
         self.expect(["label", "--pmap", FOREIGN, "10.1.1.1"], 1, "", f"flowlabel: {FOREIGN}: M3 BadLength at 1\n")
 
+    def test_long_name(self):
+        """A name of some thousand bytes is opened, and a fault has all of it."""
+        self.expect(f"info {FAR}flows", 0, run(PROGRAM, "info", "flows").stdout)
+        self.expect(f"cat --pmap {FAR}faulty.txt", 1, "", f"flowlabel: {FAR}faulty.txt: M3 BadLength at 2\n")
+        self.expect(f"info {FAR}missing", 4, "", f"flowlabel: {FAR}missing: cannot open\n")
+        self.expect(f"info {FAR}folder", 4, "", f"flowlabel: {FAR}folder: cannot read\n")
+
     def test_more_than_the_maximum_number_of_mappings(self):
         write("beyond.txt", MOST_MAPPINGS * b"10.0.0.0/8 A\n" + b"default B\n10.0.0.0/8 A\n")
         self.expect("label --pmap beyond.txt 10.1.1.1", 1, "",
@@ -369,7 +380,17 @@ class Faults(Lines):
         "uniq", "uniq flows", "uniq --fields", "uniq --fields sip", "uniq --fields sip flows flows",
         "check --pmap halves.txt --list halves.txt")))
     def test_refused_by_clap(self, line):
-        self.expect(line, 2, "", SOME_TEXT)
+        self.expect(line, 2, "", REFUSAL)
+
+    @rows(("label --pmap map.txt", "<ADDR>"), ("info", "<FILE>"), ("rows", "<FILE>"), ("shrink", "--pmap <FILE>"),
+          ("recert", "--cert <FILE>"), ("uniq flows", "--fields <NAMES>"), ("uniq --fields sip", "<FILE>"),
+          ("check --pmap halves.txt --list halves.txt", "--cert <FILE>"), ("label", "<ADDR>"))
+    def test_missing_word(self, line, name):
+        """The word that is missing is named."""
+        usage = re.escape(USAGES[line.split()[0]])
+        form = (rf"error: the following required arguments were not provided:\n  {re.escape(name)}\n\n"
+                rf"Usage: {usage}\n\nFor more information, try '--help'\.\n")
+        self.expect(line, 2, "", re.compile(form.encode()))
 
     @rows(*USAGES.items())
     def test_no_option(self, command, usage):

@@ -1,0 +1,52 @@
+"""Compares the definitions with flowlabel-many: dev/evaluate evaluates them for command lines over several Files."""
+
+import os
+import re
+import unittest
+
+from definitions import inputs
+from support import ROOT, Case, rows, run, write
+
+SPECS = ROOT / "crates/flow_many/specs"
+PLACES = (os.environ.get("FLOWLABEL_MANY", ""), ROOT / "crates/flow_many_main/out/flow_many_main",
+          ROOT / "out/trial/flowlabel-many")
+MANY = next((place for place in PLACES if place and os.access(place, os.X_OK)), None)
+SEED, PARTS, INPUTS = 20261130, 4, 250
+# Of a File's bytes, of templates, of maps and lists, of sums, and of words.
+FAULTS = {"F1", "F2", "F3", "F4", "F5", "M1", "S1", "S3", "U4", "P3", "P5", "P7", "L1", "L2", "L3", "cannot open"}
+
+
+@unittest.skipUnless(SPECS.is_dir() and MANY, "there is no flowlabel-many")
+class Many(Case):
+    @classmethod
+    def prepare(cls):
+        from definitions import claims
+        cls.claims, cls.definitions = claims, claims.with_stack(claims.Definitions)
+
+    def ended(self, given):
+        for name in [*inputs.NAMES, *(b"%d.ipfix" % place for place in range(4))]:
+            if name not in given.files and os.path.exists(name):
+                os.remove(name)
+        for name, content in given.files.items():
+            write(os.fsdecode(name), content)
+        return run(MANY, *given.words)
+
+    @rows(*((part,) for part in range(PARTS)))
+    def test_made(self, part):
+        """Both have the same output, the same standard error and the same status, and the headline is true."""
+        import runs
+        for given in inputs.made_many(f"{SEED} {part}", INPUTS):
+            ended = self.ended(given)
+            seen = self.claims.with_stack(lambda given=given: runs.seen_of(
+                self.definitions, given.words, given.files.get, "flowlabel-many", True))
+            with self.subTest(str(given)):
+                self.assertEqual(ended.returncode, seen.status)
+                for found, wanted in ((ended.stdout, seen.out), (ended.stderr, seen.err)):
+                    self.assertEqual(found, wanted) if wanted is not None else self.assertTrue(found)
+
+    def test_each_fault_occurs(self):
+        missing = set(FAULTS)
+        for part in range(PARTS):
+            for given in inputs.made_many(f"{SEED} {part}", INPUTS):
+                missing -= {code.decode() for code in re.findall(rb"cannot open|\b[A-Z]\d+\b", self.ended(given).stderr)}
+        self.assertEqual(missing, set(), "these don't occur")
