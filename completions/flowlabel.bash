@@ -1,4 +1,5 @@
-# Completion of flowlabel for bash. `make install` copies it to where bash-completion finds it.
+# Completion of flowlabel and of the commands flowlabel-NAME for bash. `make install` copies it to where bash-completion
+# finds it, for each command.
 
 # The options of a command.
 _flowlabel_options() {
@@ -86,4 +87,19 @@ _flowlabel() {
     esac
 }
 
+# Completes the options that a command's help names, and files.
+_flowlabel_command() {
+    local word=${COMP_WORDS[COMP_CWORD]} options
+    case $word in
+    -*)
+        options=$("$(_flowlabel_plain "$1")" --help 2>/dev/null | grep -oE -e '(^|[^-a-z])--[a-z-]+' |
+            grep -oE -e '--.*')
+        mapfile -t COMPREPLY < <(compgen -W "$options" -- "$word" | LC_ALL=C sort -u)
+        ;;
+    *) mapfile -t COMPREPLY < <(compgen -f -- "$word") ;;
+    esac
+}
+
 complete -o filenames -F _flowlabel flowlabel flowlabel-many
+complete -o filenames -F _flowlabel_command flowlabel-{audit,bill,capture,country,customers,fib,lint,lookup} \
+    flowlabel-{nfcapd,record,report,table,verify}

@@ -1,4 +1,5 @@
-# Completion of flowlabel for fish. `make install` copies it to where fish finds it.
+# Completion of flowlabel and of the commands flowlabel-NAME for fish. `make install` copies it to where fish finds it,
+# for each command.
 
 # The labels of the map or the list that is on the line.
 function __flowlabel_labels
@@ -93,3 +94,13 @@ complete -c flowlabel-many -n "$of sum" -l dst-label -x -d 'Flows whose destinat
 complete -c flowlabel-many -n "$of sum" -l any-label -x -d 'Flows whose source or destination has this label' \
     -a '(__flowlabel_labels)'
 complete -c flowlabel-many -n "$of sum" -l columns -d 'Pad the fields to columns'
+
+# The options that a command's help names.
+function __flowlabel_options
+    set -l words (commandline -op)
+    $words[1] --help 2>/dev/null | string match -ra '(?<![-a-z])--[a-z-]+' | sort -u
+end
+
+for name in audit bill capture country customers fib lint lookup nfcapd record report table verify
+    complete -c flowlabel-$name -n "string match -q -- '-*' (commandline -ct)" -a '(__flowlabel_options)'
+end

@@ -1,12 +1,15 @@
-# Proves the libraries, side by side when they don't depend on one another, then the program, and links it:
-#     make -f dev/build.mk -j LIBRARIES JOBS=JOBS flowlabel_main
+# Proves the libraries, side by side when they don't depend on one another, then the programs, and links them:
+#     make -f dev/build.mk -j LIBRARIES JOBS=JOBS programs
 # dev/record runs it at the top of the repository for dev/build. A line of crates.txt is a rule: a crate follows what it
 # depends on.
 include crates.txt
 
 # The examples of the definitions are no part of the program.
 crates := $(filter-out definition_examples,$(shell sed -n 's/^\([a-z_]*\):.*/\1/p' crates.txt))
-.PHONY: $(crates)
+# A program is a crate of this name.
+programs := $(filter %_main,$(crates))
+.PHONY: programs $(crates)
+programs: $(programs)
 
 # dev/build reads when a crate begins and is proved. All that rt prints has the name of the crate before it.
 SHELL = bash
@@ -26,7 +29,7 @@ room = out/rooms/$@
 leave = rm -rf crates/$@/out && mv $(room)/crates/$@/out crates/$@ && rm -rf $(room) \
 	&& rmdir --ignore-fail-on-non-empty out/rooms
 
-$(filter-out flowlabel_main,$(crates)):
+$(filter-out $(programs),$(crates)):
 	$(begins)
 	@flock crates/$@ flock crates sh -ec "if [ -d $(room)/crates/$@/out ]; then $(leave); fi; \
 		mkdir -p $(room) crates/$@/out; \
@@ -37,7 +40,7 @@ $(filter-out flowlabel_main,$(crates)):
 	$(proved)
 
 # Under rt run the program is proved, is linked and runs once, and --help needs no file.
-flowlabel_main:
+$(programs):
 	$(begins)
 	@cd crates/$@ && rt run --jobs $(JOBS) -- --help $(named)
 	$(proved)

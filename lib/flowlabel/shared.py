@@ -47,13 +47,6 @@ FAMILIES = {4: socket.AF_INET, 6: socket.AF_INET6}
 WIDTHS = {4: 32, 6: 128}
 # The first address of ::ffff:0:0/96, the block of IPv6 that has the addresses of IPv4.
 MAPPED = 0xFFFF << 32
-# The columns of tables of sums: addresses, labels, other fields, times and totals.
-ADDRESSES, LABELS = (b"sip", b"dip"), (b"src-label", b"dst-label")
-FIELDS = (*ADDRESSES, *LABELS, b"sport", b"dport", b"proto", b"flags")
-TIMES = {name: re.compile(rb"0|(\d{4,})-\d\d-\d\d" + end)
-         for name, end in ((b"minute", rb"T\d\d:\d\dZ"), (b"hour", rb"T\d\dZ"), (b"day", b""))}
-TOTALS = (b"records", b"packets", b"bytes")
-NUMBER = re.compile(rb"0|[1-9][0-9]*")
 # The cures of faults of flowlabel's command line, and of Files and maps, by the beginnings of their codes.
 CURES = {
     b"L1": "write numbers, such as 443 or 6,17 or 1-1023: names such as https or tcp aren't known",
@@ -61,7 +54,7 @@ CURES = {
     b"L3": "write addresses or blocks, such as 10.0.0.0/8,2001:db8::1",
     b"U1": "the fields are sip, dip, sport, dport, proto, flags, src-label and dst-label",
     b"P5": "name the map with --pmap or the list with --list",
-    b"F": "flowlabel-lint --flows FILE says what the file is, and the cure",
+    b"F": "flowlabel-audit FILE says what the file is, and the cure",
     b"M": "flowlabel-lint MAP, or --list LIST, prints the usual cause and the cure",
 }
 # Zeros before a number of an IPv4 address, which has at most three digits.
@@ -149,6 +142,19 @@ class Parser(argparse.ArgumentParser):
 
     def error(self, message):
         raise Failure(message, 2)
+
+
+def options(*names):
+    """Returns a parser of options that are passed on to flowlabel, which refuses those that come twice."""
+    parser = Parser("", add_help=False)
+    for name in names:
+        parser.add_argument(f"--{name}", action="append", default=[])
+    return parser
+
+
+def passed(options, *names):
+    """Returns the words of the options that are passed on to flowlabel."""
+    return [f"--{name}={value}" for name in names for value in getattr(options, name.replace("-", "_"))]
 
 
 def shown(text):
@@ -308,23 +314,29 @@ def replacing(name):
 
 
 def flowlabel(*words, **options):
-    """Runs flowlabel, and returns its output, or without words the program's name. If it fails, its line is on standard
-    error, and the script ends with its status. The options are those of subprocess.run."""
+    """Runs flowlabel, or with --many first flowlabel-many, and returns its output, or without words the program's name.
+    If it fails, its line is on standard error, and the script ends with its status. The options are those of
+    subprocess.run."""
     ended = subprocess.run([PROGRAM, *words], stdout=subprocess.PIPE, stderr=subprocess.PIPE, check=False, **options)
     explain(ended.stderr)
     ended_well(ended.returncode)
     return ended.stdout
 
 
+def say_error(said):
+    """Prints bytes on standard error."""
+    with contextlib.suppress(AttributeError, OSError):
+        sys.stderr.buffer.write(said)
+        sys.stderr.flush()
+
+
 def explain(said):
     """Prints what flowlabel has printed on standard error, and the cure of its first fault, if no script has done so
     yet."""
     if sys.stderr is not None and said:
-        with contextlib.suppress(OSError):
-            sys.stderr.buffer.write(said)
-            sys.stderr.flush()
-        code = re.search(rb"(?m)^flowlabel: .*?\b([A-Z]\d+) [A-Z]\w+(?: X\d)?(?: at \d+)?$", said)
-        if code and not re.search(rb"(?m)^flowlabel-", said):
+        say_error(said)
+        code = re.search(rb"(?m)^flowlabel(?:-many)?: .*?\b([A-Z]\d+) [A-Z]\w+(?: X\d)?(?: at \d+)?$", said)
+        if code and not re.search(rb"(?m)^flowlabel-(?!many: )", said):
             for cure in (cure for start, cure in CURES.items() if code[1].startswith(start)):
                 warn(cure)
 
@@ -386,47 +398,3 @@ def output_of(*words, package, stdin=""):
         lines = (ended.stderr.strip() or ended.stdout.strip() or f"the status is {ended.returncode}").splitlines()
         raise Failure(f"{' '.join(words[:4])}: {lines[0]}")
     return ended.stdout
-
-
-def is_sums(columns):
-    """Returns whether these may be the columns of a table of sums: fields, perhaps after a time, and the totals."""
-    fields = columns[columns[0] in TIMES:-3]
-    return len(columns) > 3 and columns[-3:] == [*TOTALS] and {*fields} <= {*FIELDS} and len({*fields}) == len(fields)
-
-
-class Groups(dict):
-    """The totals of groups, by a key of cells of some columns. A group that isn't there yet gets the totals 0."""
-
-    def __init__(self, columns):
-        super().__init__()
-        self.columns = columns
-
-    def order(self, key):
-        """Returns the order of a key, as that of its cells. Raises ValueError if the columns can't have these."""
-        return [*map(cell_order, self.columns, key)]
-
-    def __missing__(self, key):
-        self.order(key)
-        self[key] = [0, 0, 0]
-        return self[key]
-
-
-def cell_order(column, cell):
-    """Returns the order of a cell among those of its column: addresses, times and numbers by value, and labels by their
-    bytes. The number of a time is its order. Raises ValueError if the column can't have it."""
-    if column in LABELS or isinstance(cell, int):
-        return cell
-    if column in TIMES:
-        found = TIMES[column].fullmatch(cell)
-        if not found:
-            raise ValueError
-        return int(found[1] or -1), cell
-    if column in ADDRESSES:
-        is_six = b":" in cell
-        try:
-            return is_six, socket.inet_pton(FAMILIES[6 if is_six else 4], cell.decode())
-        except OSError:
-            raise ValueError from None
-    if not NUMBER.fullmatch(cell):
-        raise ValueError
-    return int(cell)

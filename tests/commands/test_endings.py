@@ -38,16 +38,16 @@ SLEEPER = '#!/bin/sh\n[ -z "$SLEEPS" ] || { echo begun >"$BEGUN"; exec sleep 360
 # The words of each script over files that are right, with the number of its lines if it prints any. `{}` is the odd
 # name.
 WORKS = (
-    ("lint {}.map", 6), ("lint --list {}.list 10.0.0.1", 1), ("lint --flows --pmap {}.map {}.d/{}.ipfix", 2),
+    ("lint {}.map", 6), ("lint --list {}.list 10.0.0.1", 1), ("audit --pmap {}.map {}.d/{}.ipfix", 2),
     ("lookup --pmap {}.map", 1), ("country {}.new {}.csv", 1), ("capture {}.pcap {}.file", 1),
     ("table tsv {}.list {}.folder", 1), ("table ranges {}.ranges {}.folder", 1),
-    ("many xargs {}.d --fields dst-label --pmap {}.map", 4), ("merge {}.sums", 4), ("packets 4 {}.made", 0),
+    ("bill --by day {}.d", 2), ("packets 4 {}.made", 0),
     ("verify {}.map {}.list {}.cert", 1),
 )
 # Words with a file that is missing, and the line.
 MISSING = (
     ("lint {}.none", "flowlabel-lint: {}.none: No such file or directory"),
-    ("lint --flows {}.none", "flowlabel-lint: {}.none: No such file or directory"),
+    ("audit {}.none", "flowlabel-audit: {}.none: No such file or directory"),
     ("country {}.new {}.none", "flowlabel-country: {}.none: No such file or directory"),
     ("country none/{}.new {}.csv", "flowlabel-country: none/{}.new: No such file or directory"),
     ("country {}.new /", "flowlabel-country: /: not one file each of Blocks-IPv4, Blocks-IPv6 and Locations-en"),
@@ -57,9 +57,7 @@ MISSING = (
     ("fib linux {}.none", "flowlabel-fib: {}.none: No such file or directory"),
     ("fib --load 100 {}.none", "flowlabel-fib: {}.none: No such file or directory"),
     ("table tsv {}.list /dev/null/x", "flowlabel-table: /dev/null: File exists"),
-    ("many xargs {}.none --fields sip", "flowlabel-many: no {}.none/*.ipfix"),
-    ("merge {}.none", "flowlabel-merge: {}.none: No such file or directory"),
-    ("merge {}.map", "flowlabel-merge: {}.map: no table of these fields at 1"),
+    ("bill {}.none --fields sip", "flowlabel-bill: {}.none: No such file or directory"),
     ("packets 4 none/{}", "packets: none/{}: No such file or directory"),
 )
 # Words without a program on the path, the names of the programs that are there, and the line.
@@ -68,19 +66,14 @@ NO_TOOL = (
     ("capture {}.pcap {}.file", "readlink dirname",
      "flowlabel-capture: {}.pcap: there is no softflowd to read it (Debian: softflowd)"),
     ("nfcapd {}.none", "", "flowlabel-nfcapd: there is no nfdump (Debian: nfdump)"),
-    ("many xargs {}.d --fields sip", "readlink dirname rm cat xargs sh env",
-     "flowlabel-many: there is no b2sum (Debian: coreutils)"),
-    ("many xargs {}.d --fields sip", "readlink dirname rm cat b2sum sh env",
-     "flowlabel-many: there is no xargs (Debian: findutils)"),
-    ("many parallel {}.d --fields sip", "readlink dirname rm cat b2sum sh env",
-     "flowlabel-many: there is no GNU parallel"),
+    ("bill --parallel {}.d --fields sip", "readlink dirname", "flowlabel-bill: there is no parallel (Debian: parallel)"),
     ("table --load linux {}.list {}.folder", "", "flowlabel-table: there is no ip (Debian: iproute2)"),
 )
 # Scripts that run flowlabel.
-RUN_FLOWLABEL = ("lint {}.map", "lint --flows {}.d/{}.ipfix", "lookup --pmap {}.map", "many xargs {}.d --fields sip")
+RUN_FLOWLABEL = ("lint {}.map", "lookup --pmap {}.map")
 # Words with a FIFO that nobody writes to, during which Ctrl-C comes.
-WAITING = ("lint {}.fifo", "lint --flows {}.fifo", "lookup --pmap {}.fifo", "country {}.new {}.fifo",
-           "table tsv {}.fifo {}.folder", "fib linux {}.fifo", "merge {}.fifo", "verify {}.fifo {}.list {}.cert")
+WAITING = ("lint {}.fifo", "lookup --pmap {}.fifo", "country {}.new {}.fifo",
+           "table tsv {}.fifo {}.folder", "fib linux {}.fifo", "verify {}.fifo {}.list {}.cert")
 
 
 def words_of(line):
@@ -102,8 +95,6 @@ class Commands(Case):
         write(f"{ODD}.pcap", "")
         os.mkdir(f"{ODD}.d")
         shutil.copy(SAMPLE, f"{ODD}.d/{ODD}.ipfix")
-        words = 'sha256sum -- "$1" && "$0" uniq --fields dst-label --pmap "$2" "$1" && "$0" info "$1"'
-        write(f"{ODD}.sums", run("sh", "-c", words, PROGRAM, SAMPLE, f"{ODD}.map", check=True).stdout)
         os.mkfifo(f"{ODD}.fifo")
         cls.variables = {**stand_in("softflowd", STAND_IN), "SENDS": os.fspath(SAMPLE), "PROGRAM": PROGRAM}
 
@@ -115,7 +106,7 @@ class Commands(Case):
 class Help(Case):
     """The page of each command, by --help."""
 
-    @rows(*((path.name,) for path in sorted((ROOT / "bin").glob("flowlabel-*"))))
+    @rows(*((path.name,) for path in sorted((ROOT / "bin").glob("flowlabel-*")) if path.name != "flowlabel-many"))
     def test_help(self, name):
         page = ast.get_docstring(ast.parse(read(ROOT / "bin" / name)), clean=False).strip()
         self.assertRegex(page, rf"(?m)(\A.*: |^    ){name}\b")
@@ -136,8 +127,8 @@ class OddNames(Commands):
     @rows(*WORKS)
     def test_closed_pipe(self, line, count):
         name = line.split()[0]
-        # The shell of flowlabel-many reports its last command, and flowlabel has a line of its own.
-        status = 0 if not count else {"many": 128 + signal.SIGPIPE, "verify": 4}.get(name, -signal.SIGPIPE)
+        # flowlabel has a line of its own.
+        status = 0 if not count else {"verify": 4}.get(name, -signal.SIGPIPE)
         with closed_pipe() as pipe:
             self.assertEqual(self.end(line, stdout=pipe)[::2],
                              (status, "flowlabel: output: cannot write\n" if name == "verify" else ""))
@@ -145,7 +136,7 @@ class OddNames(Commands):
     @rows(*(row for row in WORKS if row[1]))
     def test_full_disk(self, line, _):
         name = line.split()[0]
-        error = f"flowlabel-{name.replace('many', 'merge')}: output: No space left on device\n"
+        error = f"flowlabel-{name}: output: No space left on device\n"
         with open("/dev/full", "wb") as full:
             self.assertEqual(self.end(line, stdout=full)[::2],
                              (4, "flowlabel: output: cannot write\n" if name == "verify" else error))

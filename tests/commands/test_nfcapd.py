@@ -149,7 +149,7 @@ class Protocols(Collected):
         self.assertGreater(len(found), 400)
         self.assertEqual(len(reverse) > 150, name == "both")
         # The File lacks nothing, but softflowd doesn't count as nfcapd expects.
-        status, output, error = texts(command("lint"), "--flows", write("made", output))
+        status, output, error = texts(command("audit"), write("made", output))
         self.assertEqual((status, error, len(errors)), (0, "", int(name != "pmacctd")))
         self.assertIn(f", missing {'unknown' if errors else 0}, ", output)
 
@@ -263,7 +263,7 @@ class Files(Collected):
         self.assertEqual(rows_of(convert(self.name, self.compressed("-j"))[1]), 2 * rows_of(self.wanted))
 
     def test_named_twice(self):
-        self.assert_refused(convert(self.name, os.path.join(".", self.name)), "named twice")
+        self.assert_refused(convert(self.name, os.path.join(".", self.name)), "the same bytes as")
 
     def test_beside_one_that_is_cut(self):
         with open(self.name, "rb") as file:
@@ -280,7 +280,7 @@ class Files(Collected):
             "flowlabel-nfcapd: open/nfcapd.current.77: left out, since nfcapd is still writing it"]))
 
     def test_missing(self):
-        self.assert_refused(convert("missing"), "missing: ")
+        self.assert_refused(convert("missing"), "missing: ", 4)
 
     @rows(("",), ("--strct plain",))
     def test_usage(self, words):
@@ -297,8 +297,8 @@ class Lost(Collected):
         cls.lost = exporters.collect(cls.messages[:20] + cls.messages[23:40] + cls.messages[41:], "lost")
 
     def missing(self, data):
-        """Returns the status of lint and the number of missing records that it prints."""
-        status, output, _ = texts(command("lint"), "--flows", write("made.ipfix", data))
+        """Returns the status of flowlabel-audit and the number of missing records that it prints."""
+        status, output, _ = texts(command("audit"), write("made.ipfix", data))
         return status, re.search(", missing (.*), records", output)[1]
 
     def test_unknown(self):
@@ -309,6 +309,13 @@ class Lost(Collected):
         self.assertEqual(len(rows_of(output)), 2400 - 80)
         self.assertEqual(self.missing(output), (0, "unknown"))
         self.assertEqual(self.missing(self.wanted), (0, "0"))
+
+    def test_twice(self):
+        """A file that is in two Files is found, though the numbers of its messages differ."""
+        for name, its in (("one", (self.name, self.lost)), ("two", (self.name,))):
+            write(f"month/{name}.ipfix", convert(*its)[1])
+        status, output, error = texts(command("bill"), "--by", "day", "month")
+        self.assertEqual((status, output, error.count(" messages are in month/one.ipfix too, ")), (1, "", 1), error)
 
     def test_beside_others(self):
         _, output, _ = convert(self.lost)

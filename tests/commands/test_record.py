@@ -1,7 +1,7 @@
 """flowlabel-record, to which the tests send messages over the loopback interface.
 
 Each File must have whole messages, begin with the templates in force, and have the sequence numbers of the exporter, so
-that lint finds what is missing between two Files. Two exporters with the same template ID have Files of their own. What
+that flowlabel-audit finds what is missing between two Files. Two exporters with the same template ID have Files of their own. What
 is no IPFIX message must be in no File, and be reported. A signal, a full disk and a closed pipe must leave whole Files
 only, and no file may be replaced.
 """
@@ -19,7 +19,7 @@ from support import PROGRAM, ROOT, Case, closed_pipe, command, exporters, needs,
 from support.ipfix import FOUR, SUMS, message, sets, template
 from support.processes import PATIENCE, wait
 
-RECORD, LINT = command("record"), command("lint")
+RECORD, AUDIT = command("record"), command("audit")
 TEMPLATE = template(256, *FOUR, *SUMS)
 FLOW = sets(256, bytes.fromhex("0a000001 08080808 00000003 000000b4"))
 BEGIN = message(TEMPLATE, FLOW)
@@ -107,7 +107,7 @@ class Files(Recorded):
         begins = [flow(number, TEMPLATE, other, template(301, *FOUR)) in text for number in range(17)]
         self.assertTrue(any(begins), text)
         # 10 records were lost between two Files.
-        status, output, _ = texts(LINT, "--flows", write("joined", open(first, "rb").read() + text))
+        status, output, _ = texts(AUDIT, write("joined", open(first, "rb").read() + text))
         self.assertEqual(status, 1)
         self.assertIn("10 records of the domain 1 are missing: 10 before the message ", output)
 
@@ -151,7 +151,7 @@ class Files(Recorded):
             run(*exporters.softflowd("-v", "10", "-A", "milli")(process.port), check=True)
             status, names, error = self.end(process)
         self.assertEqual((status, error, self.counts(*names)["records"]), (0, [], 1000))
-        self.assertEqual(texts(LINT, "--flows", *names)[0], 0)
+        self.assertEqual(texts(AUDIT, *names)[0], 0)
 
 
 class Faults(Recorded):

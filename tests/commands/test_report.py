@@ -333,8 +333,8 @@ class OfCommands(Case):
     @rows((["rows", "part.ipfix"], 1, b"flowlabel: part.ipfix: F4 TruncatedMessage at "),
           (["rows", "none.ipfix"], 4, b"flowlabel: none.ipfix: cannot open"),
           (["rows", "--protocol", "x", "f"], 2, b"flowlabel: usage"),
-          (["merge", "none"], 4, b"flowlabel-merge: none: No such file or directory\n"),
-          (["many", "xargs", "none", "--fields", "sip"], 1, b"flowlabel-many: no none/*.ipfix\n"))
+          (["sum", "--fields", "sip", "none.ipfix"], 4, b"flowlabel-many: none.ipfix: cannot open"),
+          (["bill", "--fields", "sip", "none"], 4, b"flowlabel-bill: none: No such file or directory\n"))
     def test_fault(self, words, status, line):
         found = report(["--by", "day", "--", *words])
         self.assertEqual((*found[:2], found[2][:len(line)]), (status, b"", line))
@@ -364,7 +364,7 @@ class OfCommands(Case):
         name = ROOT / "examples/softflowd.nfcapd"
         self.assertEqual(texts(REPORT, "--", "rows", name), (
             1, "", f"flowlabel: {name}: F2 BadVersion at 0\n"
-            "flowlabel-report: flowlabel-lint --flows FILE says what the file is, and the cure\n"))
+            "flowlabel-report: flowlabel-audit FILE says what the file is, and the cure\n"))
 
     @rows((signal.SIGINT,), (signal.SIGTERM,), (signal.SIGHUP,))
     def test_signal(self, number):

@@ -187,21 +187,21 @@ class Replaced(Script):
 class Commands(Case):
     """How the commands begin, and the line of each if it is called without words."""
 
-    @rows(*zip(("capture", "country", "customers", "fib", "lint", "lookup", "many", "merge", "nfcapd", "record",
+    @rows(*zip(("capture", "country", "customers", "fib", "lint", "lookup", "audit", "bill", "nfcapd", "record",
                 "report", "table")))
     def test_beginning(self, name):
         self.assertIn(beginning(), read(command(name)))
 
-    @rows(("capture", "usage: {} CAPTURE FILE [OPTION..]"), ("country", "usage: {} [--column N] MAP SOURCE.."),
+    @rows(("capture", "the following arguments are required: CAPTURE, FILE"),
+          ("country", "the following arguments are required: MAP, SOURCE"),
           ("customers", "the following arguments are required: CSV"),
           ("fib", "usage: {0} [-6] linux [FILE] | {0} [-6] [--peer ADDRESS] mrt [FILE] | {0} --load TABLE [LIST] | "
                   "{0} [-6] --check TABLE"),
           ("lint",
-           "usage: {0} MAP [ADDRESS..] | {0} --list LIST [ADDRESS..] | {0} --flows [--pmap MAP | --list LIST] FILE.."),
+           "usage: {0} MAP [ADDRESS..] | {0} --list LIST [ADDRESS..]"),
           ("lookup", "usage: {} --pmap MAP <ADDRESSES, or --list LIST"),
-          ("many", "usage: {0} WAY FOLDER [--allow-skipped] OPTION.. | {0} WAY FOLDER [--allow-skipped] --by UNIT "
-                   "[--fields NAMES] OPTION.."),
-          ("merge", "usage: {} [--sort-output] [--allow-skipped] [--files=N] TEXT.."),
+          ("audit", "the following arguments are required: FILE"),
+          ("bill", "the following arguments are required: FILE"),
           ("nfcapd", "the following arguments are required: FILE"),
           ("record", "the following arguments are required: ADDRESS, PORT, FOLDER"),
           ("table", "the following arguments are required: TABLE, SOURCE, FOLDER"))

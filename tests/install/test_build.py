@@ -18,7 +18,7 @@ import time
 import unittest
 
 from support import FOREVER, ROOT, Case, outcome, read, rows, write
-from support.trees import BUILT, KIT, LOGIC, RECORD, Held, Tree, digest
+from support.trees import BUILT, FEW, KIT, LOGIC, RECORD, Held, Tree, digest
 
 # An installed program. It records each call, prints its words and fails.
 INSTALLED = """#!/bin/sh
@@ -79,14 +79,16 @@ class NotBuilt(TreeCase):
 
     @unittest.skipIf(shutil.which("flowlabel"), "there is a flowlabel on the path")
     @rows(("bin/flowlabel",), ("bin/flowlabel", "label"), (CHOICE,), (CHOICE, "label"),
-          ("bin/flowlabel-lint", MAP), ("bin/flowlabel-lint", "--flows", "examples/softflowd.ipfix"),
-          ("bin/flowlabel-lookup", "--pmap", MAP), ("bin/flowlabel-many", "xargs", "flows", "--fields", "sip"),
+          ("bin/flowlabel-lint", MAP), ("bin/flowlabel-lookup", "--pmap", MAP),
           ("bin/flowlabel-capture", "examples/export.pcap", "new"), ("bin/flowlabel-customers", "missing.csv"),
           ("bin/flowlabel-fib", "--check", "100"), ("bin/flowlabel-report", "--", "rows", "examples/softflowd.ipfix"),
-          ("bin/flowlabel-report", "--", "many", "xargs", "flows"))
+          ("bin/flowlabel-many",), (CHOICE, "--many"), ("bin/flowlabel-audit", "examples/softflowd.ipfix"),
+          ("bin/flowlabel-bill", "--by", "day", "examples/softflowd.ipfix"),
+          ("bin/flowlabel-report", "--", "bill", "--by", "day", "examples/softflowd.ipfix"))
     def test_a_line_says_make(self, *words):
-        before = self.tree.files()
-        self.assertEqual(self.tree.call(*words), (125, "", self.not_built))
+        before, is_many = self.tree.files(), re.search("many|audit|bill", " ".join(words))
+        line = self.not_built.replace("label:", "label-many:") if is_many else self.not_built
+        self.assertEqual(self.tree.call(*words), (125, "", line))
         self.assertEqual((self.tree.files(), self.tree.calls()), (before, []))
 
     @classmethod
@@ -161,7 +163,7 @@ class Chosen(TreeCase):
         self.assertEqual(self.tree.call(CHOICE), (0, f"{self.tree.stub}/flowlabel\n", ""))
         self.assertEqual(self.tree.call(CHOICE, "a", "b"), (7, "installed a b\n", ""))
 
-    @rows(("lint", MAP), ("lookup", "--pmap", MAP), ("many", "xargs", "examples"))
+    @rows(("lint", MAP), ("lookup", "--pmap", MAP))
     def test_commands(self, name, *words):
         self.tree.calls()
         self.tree.call(f"bin/flowlabel-{name}", *words)
@@ -465,6 +467,26 @@ class Refused(TreeCase):
         line = f"dev/build: the proofs were made with the logic {LOGIC}, and this toolchain has another one: {kit}"
         self.assertEqual((status, messages.splitlines().count(line)), (0, 1))
         self.assertTrue(read(self.tree.path(RECORD)).endswith(f"\nkit {kit}\n"))
+
+
+class TwoPrograms(TreeCase):
+    """Both programs are built, recorded and installed."""
+
+    @classmethod
+    def prepare(cls):
+        super().prepare(f"{FEW}flow_many_main: flow_rows\n")
+
+    def test_both(self):
+        programs = [self.tree.path(f"crates/{name}/out/{name}") for name in ("flowlabel_main", "flow_many_main")]
+        self.assertEqual(self.tree.call("make")[0], 0)
+        self.assertEqual(read(self.tree.path(RECORD)).splitlines()[:2], [f"program {digest(one)}" for one in programs])
+        self.assertEqual(self.tree.call("bin/flowlabel-many", "a"), (3, "program a\n", ""))
+        self.assertEqual(self.tree.call("make")[2], NOTHING_TO_DO)
+        self.assertEqual(self.tree.call("make", "install", f"DESTDIR={os.getcwd()}/to", "PREFIX=/usr")[0], 0)
+        self.assertEqual(digest("to/usr/bin/flowlabel-many"), digest(programs[1]))
+        self.assertFalse(os.path.exists("to/usr/share/man/man1/flowlabel-many.1"))
+        write(programs[1], "another")
+        self.assertEqual(self.tree.call("dev/record", "proved")[0], 1)
 
 
 class Trials(TreeCase):

@@ -49,12 +49,15 @@ def installed_files():
               **{f"{DOC}/{name}": 0o644 for name in DOCS}}
     # Other files that are there, such as an editor's copies, aren't installed.
     names = run("git", "ls-files", "examples", "lib", "bin", cwd=ROOT).stdout.decode().split()
-    for name in names:
+    # Of flowlabel-many the program is installed, if there is one.
+    for name in {*names} - {"bin/flowlabel-many"}:
         if name != "bin/flowlabel":
             place = f"{DOC}/{name}" if name.startswith("examples/") else name
             wanted[place] = 0o755 if os.access(ROOT / name, os.X_OK) else 0o644
         if name.startswith("bin/flowlabel-"):
-            wanted[f"share/man/man1/{os.path.basename(name)}.1"] = 0o644
+            name = os.path.basename(name)
+            wanted |= dict.fromkeys((f"share/man/man1/{name}.1", f"share/bash-completion/completions/{name}",
+                                     f"share/fish/vendor_completions.d/{name}.fish"), 0o644)
     return {f"{PREFIX[1:]}/{name}": mode for name, mode in wanted.items()}
 
 

@@ -38,10 +38,13 @@ from support import Case
 
 CRATES, STORED = ROOT / "crates", Path(__file__).with_name("reviewed.txt")
 OUTERMOST = {"flowlabel_main/src/main.rt main", "flowlabel/src/lib.rt program", "flowlabel/src/lib.rt execute",
-             "flowlabel/src/ending.rt end", "flowlabel/src/words.rt parse", "flowlabel/src/run.rt run"}
+             "flowlabel/src/ending.rt end", "flowlabel/src/words.rt parse", "flowlabel/src/run.rt run",
+             "flow_many_main/src/main.rt main", "flow_many/src/lib.rt program", "flow_many/src/lib.rt execute",
+             "flow_many/src/words.rt parse", "flow_many/src/commands.rt run"}
 # Files whose definitions are stored up to DIVIDER, and those of other files.
 HEADLINE = ("flowlabel/specs/Ending", "flowlabel/specs/Headline", "flowlabel/specs/Run", "flow_files/specs/Ending",
-            "flow_files/specs/Opening", "flow_files/specs/Readers",
+            "flow_files/specs/Groups", "flow_files/specs/Opening", "flow_files/specs/Readers", "flow_many/specs/Ending",
+            "flow_many/specs/Headline", "flow_many/specs/Joined", "flow_many/specs/Run",
             "flow_io/specs/Ahead", "flow_io/specs/Devices", "flow_io/specs/Watched", "flow_uniq/specs/Grouped",
             "pmap_text/specs/Runs")
 DEFINITIONS = {"pmap_cert/specs/Acceptance": ("HasBlock", "IsInOrder", "IsLeast", "begins_before"),

@@ -96,6 +96,7 @@ class Tree:
     def start(self, *words, **variables):
         """Starts a command in the tree, in a session of its own, as from another terminal."""
         environment = {**os.environ, "STUB": self.stub, "PATH": f"{self.stub}:{os.environ['PATH']}", "FLOWLABEL": "",
+                       "FLOWLABEL_MANY": "",
                        **variables}
         return subprocess.Popen(words, cwd=self.root, env=environment, text=True, start_new_session=True,
                                 stdin=subprocess.DEVNULL, stdout=subprocess.PIPE, stderr=subprocess.PIPE)

@@ -23,7 +23,7 @@ use Rattle.flow_many.specs.Answer.{Answers}
 use Rattle.flow_many.specs.Ending.{IsEndOf}
 use Rattle.flow_many.specs.Files.{Placed}
 use Rattle.flow_many.specs.Headline.{IsHeadline}
-use Rattle.flow_many.specs.Output.{all_messages, outcome_of, refusal_of, source_of}
+use Rattle.flow_many.specs.Output.{all_messages, outcome_of, refusal_of, labels_from}
 use Rattle.flow_many.specs.Reading.{HasListedFiles, HasSummedFiles}
 use Rattle.flow_many.specs.Request.{Command, files_of, labels_named, request_of}
 use Rattle.flow_many.specs.Run.{EndsAs, HaveTexts, IsFaultOfFiles, WereRead}
@@ -79,7 +79,7 @@ module _ {R W : Type 0} (answers : Text → Option R → Type 0) (input : R → 
 
   -- the command ends with the fault of its Files
   pub ends_faulty : (command : Command) (old new : Readers R) (writer : W) → any_failed input new ≡ false → (labels : Option Labelling)
-      → ((labels_text : ByFile Text) → AreTexts input new labels_text → source_reading (source_of command) labels_text ≡ Ok labels)
+      → ((labels_text : ByFile Text) → AreTexts input new labels_text → source_reading (labels_from command) labels_text ≡ Ok labels)
       → (fault : RunFault) → IsFaultOfFiles answers input (refusal_of command labels) (files_of (request_of command)) fault
       → EndsAs answers input output command old new writer writer (Err fault)
   ends_faulty command old new writer works labels found NoMemory is = (refl, inr (works, labels, found, is))

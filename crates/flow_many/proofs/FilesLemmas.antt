@@ -7,7 +7,7 @@ use Rattle.pmap_text.specs.Reading.{◌>>=◌}
 use Rattle.ipfix_templates.specs.Reading.{after_items}
 use Rattle.flow_files.specs.declared.bytes_fault.BytesFault.{BytesFault}
 use Rattle.flow_files.specs.Sources.{Text}
-use Rattle.flow_many.specs.Files.{FileFault, Placed, Refusal, files_from, first_refusal, in_file, one_reading}
+use Rattle.flow_many.specs.Files.{FileFault, Placed, Refusal, files_from, first_refusal, of_file, one_reading}
 use Rattle.flow_many.specs.Reading.{count_in}
 
 pub count_more : (files : List (List Placed)) (messages : List Placed) → count_in (files ++ messages ∷ []) ≡ count_in files + length messages
@@ -44,7 +44,7 @@ pub first_ok : {A B F : Type 0} (x : Result A F) (f : A → Result B F) (b : B) 
 first_ok (Ok a) f b is = (a, refl, is)
 first_ok (Err fault) f b is = cc
 
-pub file_ok : {A : Type 0} (number : ℕ) (x : Result A BytesFault) (a : A) → in_file number x ≡ Ok a → x ≡ Ok a
+pub file_ok : {A : Type 0} (number : ℕ) (x : Result A BytesFault) (a : A) → of_file number x ≡ Ok a → x ≡ Ok a
 file_ok number (Ok b) a is = cc
 file_ok number (Err fault) a is = cc
 
@@ -61,11 +61,11 @@ after_both first second (Err fault) = refl
 -- the reading of Files and one more, by the reading of those before it
 module _ (refusal : Refusal) where
   abbrev pub more : ℕ → ℕ → List (List Placed) → Text → Result (List (List Placed)) FileFault
-  more number before files text = in_file number (one_reading refusal before text) >>= (λ messages. Ok (files ++ messages ∷ []))
+  more number before files text = of_file number (one_reading refusal before text) >>= (λ messages. Ok (files ++ messages ∷ []))
 
   after_more : (number before : ℕ) (messages : List Placed) (files : List (List Placed)) (text : Text)
       → after_items (messages ∷ []) (more number before files text) ≡ more number before (messages ∷ files) text
-  after_more number before messages files text = go (in_file number (one_reading refusal before text))
+  after_more number before messages files text = go (of_file number (one_reading refusal before text))
     where
       go : (x : Result (List Placed) FileFault) → after_items (messages ∷ []) (x >>= (λ last. Ok (files ++ last ∷ []))) ≡ (x >>= (λ last. Ok (messages ∷ files ++ last ∷ [])))
       go (Ok last) = refl
@@ -79,7 +79,7 @@ module _ (refusal : Refusal) where
       let same : before ≡ before + count_in [] = omega arith in
       (λ i. more (first i) (same i) [] text) ∙ ap (λ (fs : List (List Placed)). more (number + length {A = Text} []) (before + count_in fs) fs text) none
   files_more number before (t ∷ texts) files text is =
-      let (m, read, rest) = first_ok (in_file number (one_reading refusal before t)) _ files is in
+      let (m, read, rest) = first_ok (of_file number (one_reading refusal before t)) _ files is in
       let (later, reads, are) = later_ok (m ∷ []) (files_from refusal (number + 1) (before + length m) texts) files rest in
       let first : number + 1 + length texts ≡ number + length (t ∷ texts) = omega arith in
       let same : before + length m + count_in later ≡ before + count_in files =

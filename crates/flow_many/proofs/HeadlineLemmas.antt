@@ -21,7 +21,7 @@ use Rattle.flow_files.specs.Sources.{Text}
 use Rattle.flow_files.specs.declared.bytes_fault.BytesFault.{BytesFault}
 use Rattle.flow_files.specs.declared.bytes_fault.BytesFault.TheVariants.{Flows as InFlows, Sum as InSum}
 use Rattle.flow_files.specs.declared.bytes_fault.SumFaultKind.TheVariants.{SkippedSet, StartTooLate, TooManyRows}
-use Rattle.flow_many.specs.Files.{Placed, Refusal, files_from, first_refusal, in_file, one_reading}
+use Rattle.flow_many.specs.Files.{Placed, Refusal, files_from, first_refusal, of_file, one_reading}
 use Rattle.flow_many.specs.Output.{all_messages, has_skipped, refusal_by, refused}
 use Rattle.flow_many.proofs.FilesLemmas.{file_ok, first_ok, later_ok}
 
@@ -58,7 +58,7 @@ pub are_read : (refusal : Refusal) (number before : ℕ) (texts : List Text) (fi
 are_read refusal number before [] files is =
     let none : [] ≡ files = cc in subst (AreRead refusal []) none (record { placed = refl; allowed = All-nil (IsAllowed refusal) })
 are_read refusal number before (text ∷ texts) files is =
-    let (m, read, rest) = first_ok (in_file number (one_reading refusal before text)) _ files is in
+    let (m, read, rest) = first_ok (of_file number (one_reading refusal before text)) _ files is in
     let (later, reads, are) = later_ok (m ∷ []) (files_from refusal (number + 1) (before + length m) texts) files rest in
     let (placed, none) = one_ok refusal before text m (file_ok number (one_reading refusal before text) m read) in
     let tail = are_read refusal (number + 1) (before + length m) texts later reads in

@@ -16,7 +16,7 @@ use Rattle.flow_files.specs.Sources.{Text}
 use Rattle.flow_files.specs.declared.bytes_fault.BytesFault.{BytesFault}
 use Rattle.flow_files.specs.declared.fault.RunFault.{RunFault}
 use Rattle.flow_files.specs.declared.fault.RunFault.TheVariants.{CannotOpen, CannotRead, File, NoMemory}
-use Rattle.flow_many.specs.Files.{Placed, Refusal, files_reading, first_refusal, in_file, one_reading}
+use Rattle.flow_many.specs.Files.{Placed, Refusal, files_reading, first_refusal, of_file, one_reading}
 use Rattle.flow_many.specs.Reading.{EndsFile, count_in}
 use Rattle.flow_many.specs.Run.{AreSound, HaveTexts, IsFaultOfFiles, WasRead, WereRead}
 use Rattle.flow_many.proofs.FilesLemmas.{files_more}
@@ -184,7 +184,7 @@ module _ {R : Type 0} (answers : Text → Option R → Type 0) (input : R → In
           let (messages, one, has', ready) = adds first files has.0 parts.text parts.has in (
             files ++ messages ∷ [],
             ap (files_reading (refusal first)) parts.are ∙ files_more (refusal first) 1 0 parts.earlier files parts.text reads
-                ∙ ap (λ (r : Result (List Placed) BytesFault). in_file (1 + length parts.earlier) r >>= (λ last. Ok (files ++ last ∷ [])))
+                ∙ ap (λ (r : Result (List Placed) BytesFault). of_file (1 + length parts.earlier) r >>= (λ last. Ok (files ++ last ∷ [])))
                 (ap (λ n. one_reading (refusal first) n parts.text) (omega arith) ∙ one),
             (has', ready, omega (arith, length-append files (messages ∷ []), has.2)),
           );
@@ -223,7 +223,7 @@ module _ {R : Type 0} (answers : Text → Option R → Type 0) (input : R → In
           λ texts text have may.
               let (files, reads, has) = so_far.sound texts have in
               files_more (refusal first) 1 0 texts files text reads
-              ∙ ap (λ (r : Result (List Placed) BytesFault). in_file (1 + length texts) r >>= (λ last. Ok (files ++ last ∷ [])))
+              ∙ ap (λ (r : Result (List Placed) BytesFault). of_file (1 + length texts) r >>= (λ last. Ok (files ++ last ∷ [])))
               (ap (λ n. one_reading (refusal first) n text) (omega arith) ∙ faulty first files has.0 text may)
               ∙ ap (λ n. Err (record { file = n; fault = fault })) (omega (arith, same_number so_far.readers texts have)),
         )

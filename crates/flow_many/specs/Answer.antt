@@ -58,7 +58,8 @@ answer_of_sum entries =
     sources_in_rows entries >>= (λ source. condition_in_rows entries >>= (λ condition.
     keys_in_rows entries >>= (λ keys.
     if (condition_needs_labels condition || fields_need_labels keys.1) && is_none source
-    then Err LabelNeedsMap else Ok (sum keys.0 keys.1 source condition (is_given (codes "allow-skipped") entries)
+    then Err LabelNeedsMap else Ok (sum keys.0 keys.1 source condition
+    (is_given (codes "allow-skipped") entries)
     (is_given (codes "columns") entries) (files_in_rows entries)))))
 
 -- the answer for a subcommand, by its name and its entries

@@ -8,5 +8,6 @@ use Rattle.flow_files.specs.Definition.{as_program, flag_rule, leaf, option_rule
 unfoldable pub many_app : App
 many_app = with_leaves (as_program (new_app (codes "flowlabel-many"))) (
     leaf (codes "sum") (option_rule (codes "by") ∷ option_rule (codes "fields") ∷ report_rules
-    ++ flag_rule (codes "allow-skipped") ∷ flag_rule (codes "columns") ∷ words_rule (codes "files") ∷ [])
+    ++ flag_rule (codes "allow-skipped") ∷ flag_rule (codes "columns")
+    ∷ words_rule (codes "files") ∷ [])
     ∷ leaf (codes "messages") (words_rule (codes "files") ∷ []) ∷ [])

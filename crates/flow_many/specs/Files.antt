@@ -26,8 +26,8 @@ abbrev pub Refusal : Type 0
 Refusal = ℕ → Placed → Option BytesFault
 
 -- a reading, with its faults as those of the File with this number
-abbrev pub in_file : {A : Type 0} → ℕ → Result A BytesFault → Result A FileFault
-in_file number = result_map_both (λ value. value) (λ fault. record { file = number; fault = fault })
+abbrev pub of_file : {A : Type 0} → ℕ → Result A BytesFault → Result A FileFault
+of_file number = result_map_both (λ value. value) (λ fault. record { file = number; fault = fault })
 
 module _ (refusal : Refusal) where
   -- the first fault of a File's messages, which `before` messages of other Files precede
@@ -46,7 +46,7 @@ module _ (refusal : Refusal) where
   abbrev pub files_from : ℕ → ℕ → List Text → Result (List (List Placed)) FileFault
   files_from number before [] = Ok []
   files_from number before (text ∷ texts) =
-      in_file number (one_reading before text) >>= (λ messages.
+      of_file number (one_reading before text) >>= (λ messages.
       after_items (messages ∷ []) (files_from (number + 1) (before + length messages) texts))
 
   abbrev pub files_reading : List Text → Result (List (List Placed)) FileFault

@@ -17,7 +17,7 @@ use Rattle.flow_files.specs.declared.label_file.LabelFile.{LabelFile}
 use Rattle.flow_files.specs.Outcomes.{uniq_text}
 use Rattle.flow_files.specs.Reports.{source_reading}
 use Rattle.flow_files.specs.Sources.{Text}
-use Rattle.flow_many.specs.Files.{FileFault, Placed, Refusal, files_reading, in_file}
+use Rattle.flow_many.specs.Files.{FileFault, Placed, Refusal, files_reading, of_file}
 use Rattle.flow_many.specs.Request.{Command, Messages, Sum}
 
 -- The output of a command for the texts of its files: the text that it prints, or the first fault.
@@ -67,13 +67,10 @@ refusal_by timed condition allowed labels before message =
 abbrev pub all_messages : List (List Placed) → List MessageView
 all_messages files = map (λ m. m.1) (flat_map (λ file. file) files)
 
-abbrev pub Outcome : Type 0
-Outcome = Result Text FileFault
-
 -- the map or the list that a command takes labels from, if it has one
-abbrev pub source_of : Command → Option LabelFile
-source_of (Sum fields source condition allowed columns names) = source
-source_of (Messages names) = None
+abbrev pub labels_from : Command → Option LabelFile
+labels_from (Sum fields source condition allowed columns names) = source
+labels_from (Messages names) = None
 
 -- what a command refuses, and the text that it prints for the messages of each File, under the labelling or without one: the
 -- groups of the rows of all Files, sorted, or a line for each message
@@ -89,8 +86,8 @@ text_for (Messages names) labels files = messages_text files
 
 -- The outcome of a command for the text of its map or list, if it has one, and those of its Files: the first fault, of the
 -- map or the list and then of the Files in order, or the text.
-abbrev pub outcome_of : Command → ByFile Text → List Text → Outcome
+abbrev pub outcome_of : Command → ByFile Text → List Text → Result Text FileFault
 outcome_of command labels_text texts =
-    in_file 0 (source_reading (source_of command) labels_text) >>= (λ labels.
+    of_file 0 (source_reading (labels_from command) labels_text) >>= (λ labels.
     files_reading (refusal_of command labels) texts >>= (λ files.
     Ok (text_for command labels files)))

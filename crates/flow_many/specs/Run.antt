@@ -11,7 +11,7 @@ use Rattle.flow_files.specs.declared.fault.RunFault.{RunFault}
 use Rattle.flow_files.specs.declared.fault.RunFault.TheVariants.{CannotOpen, CannotRead, CannotWrite, File, NoMemory}
 use Rattle.flow_many.specs.Files.{Placed, Refusal, files_reading}
 use Rattle.flow_many.specs.Headline.{IsHeadline}
-use Rattle.flow_many.specs.Output.{outcome_of, refusal_of, source_of}
+use Rattle.flow_many.specs.Output.{outcome_of, refusal_of, labels_from}
 use Rattle.flow_many.specs.Request.{Command, files_of, request_of}
 
 -- What a run of a command does with the readers of its files and the writer of its output.
@@ -60,7 +60,8 @@ module _ {R : Type 0} (answers : Text → Option R → Type 0) (input : R → In
       × (stop : ReadFault) × StopsReading (input last).returned stop
   IsFaultOfFiles refusal names (File file fault) = (before : AreSound refusal names file.now)
       × (opened last : R) × WasRead file.now opened last × ((input last).failed ≡ false)
-      × ((texts : List Text) (text : Text) → HaveTexts before.readers texts → MayHave (input last) text
+      × ((texts : List Text) (text : Text)
+      → HaveTexts before.readers texts → MayHave (input last) text
       → files_reading refusal (texts ++ text ∷ [])
       ≡ Err (record { file = length before.readers + 1; fault = fault }))
   IsFaultOfFiles refusal names fault = ⊥
@@ -89,8 +90,9 @@ module _ {R W : Type 0} (answers : Text → Option R → Type 0) (input : R → 
       × StopsWriting (output writer) (output writer') out
   EndsAs command old new writer writer' (Err fault) = (writer' ≡ writer)
       × (IsFaultOf input (λ labels_text outcome. faults_of (λ read.
-      source_reading (source_of command) labels_text ≡ read) outcome) old new fault
+      source_reading (labels_from command) labels_text ≡ read) outcome) old new fault
       ⊎ ((any_failed input new ≡ false) × (labels : Option Labelling)
       × ((labels_text : ByFile Text) → AreTexts input new labels_text
-      → source_reading (source_of command) labels_text ≡ Ok labels)
-      × IsFaultOfFiles answers input (refusal_of command labels) (files_of (request_of command)) fault))
+      → source_reading (labels_from command) labels_text ≡ Ok labels)
+      × IsFaultOfFiles answers input (refusal_of command labels)
+      (files_of (request_of command)) fault))

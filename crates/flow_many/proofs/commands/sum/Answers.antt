@@ -6,7 +6,7 @@ use Rattle.pmap_print.specs.Reports.{groups_text}
 use Rattle.flow_files.specs.Outcomes.{uniq_text}
 use Rattle.flow_files.specs.Reports.{labelling_found, labelling_read}
 use Rattle.flow_files.proofs.ReadLemmas.{found_is, handed_on}
-use Rattle.flow_many.specs.Files.{Refusal, files_reading, in_file}
+use Rattle.flow_many.specs.Files.{Refusal, files_reading, of_file}
 use Rattle.flow_many.specs.Output.{all_messages, has_time, refusal_by}
 use Rattle.flow_many.specs.Request.{Sum}
 use Rattle.flow_many.specs.Run.{EndsAs, IsFaultOfFiles}
@@ -41,7 +41,7 @@ returns g c =
     (Sum asked.keys.now asked.labels asked.filter.now asked.allow_skipped asked.columns names) c.args.labels.now c.read_labels.new.files c.args.writer.now c.print_to.new.writer readers
     (groups_text sums.rows.groups.fields (shown_groups true sums.rows.groups.groups) asked.columns) were c.in_ok-read.ensures.read.gives.0
     (λ labels_text texts are given. let (files, reads, has) = have texts given in
-    ap (λ found. in_file 0 found >>= (λ labels.
+    ap (λ found. of_file 0 found >>= (λ labels.
     files_reading (refusal_by (has_time asked.keys.now) asked.filter.now asked.allow_skipped labels) texts >>= (λ files.
     Ok (uniq_text asked.keys.now asked.filter.now true asked.columns labels (all_messages files)))))
     (labels_found asked.labels c.in_ok-read.read c.in_ok-read.ensures.read labels_text are)

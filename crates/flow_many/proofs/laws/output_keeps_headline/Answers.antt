@@ -11,7 +11,7 @@ use Rattle.flow_files.specs.Groups.{PrintsGroups}
 use Rattle.flow_files.specs.Outcomes.{uniq_text}
 use Rattle.flow_files.specs.Reports.{source_reading}
 use Rattle.flow_files.specs.Sources.{Text}
-use Rattle.flow_many.specs.Files.{FileFault, Placed, files_reading, in_file}
+use Rattle.flow_many.specs.Files.{FileFault, Placed, files_reading, of_file}
 use Rattle.flow_many.specs.Output.{all_messages, has_time, refusal_by}
 use Rattle.flow_many.specs.Headline.{AddsUp}
 use Rattle.flow_many.specs.Request.{Messages, Sum}
@@ -30,7 +30,7 @@ adds_up law (file ∷ files) = All-cons (λ (file : List Placed). AddsUp (messag
 
 pub returns : goal.returns
 returns c (Sum fields source condition allowed columns names) labels_text texts out is =
-    let (labels, found, rest) = first_ok (in_file 0 (source_reading source labels_text)) _ out is in
+    let (labels, found, rest) = first_ok (of_file 0 (source_reading source labels_text)) _ out is in
     let refusal = refusal_by (has_time fields) condition allowed labels in
     let (files, reads, prints) = first_ok (files_reading refusal texts) _ out rest in
     let read = are_read refusal 1 0 texts files reads in
