@@ -4,6 +4,8 @@
                                         output, standard error and the exit status
   dev/evaluate --headline COMMAND ARGUMENT..
                                         also evaluates the contract of the program on this run (dev/headline.py)
+  dev/evaluate [--headline] --many COMMAND ARGUMENT..
+                                        the same for a command line of flowlabel-many
   dev/evaluate --definition CRATE/MODULE.NAME ARGUMENT..
                                         prints the value of a definition. An argument is a term in the language of the
                                         definitions, such as V4, 32 or '(codes "10.0.0.1")', or @FILE, a file's bytes
