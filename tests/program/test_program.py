@@ -225,7 +225,8 @@ class Help(Lines):
 
     def test_commands(self):
         """The text of each command in the help is that of the completions."""
-        wanted = {name: text for name, _, text in re.findall(r"""-a ([a-z]+) -d (['"])(.*?)\2""", read(FISH))}
+        wanted = {name: text for name, _, text in re.findall(
+            r"""(?m)^complete -c flowlabel .*-a ([a-z]+) -d (['"])(.*?)\2""", read(FISH))}
         shown = run(PROGRAM, "--help").stdout.decode().split("Commands:\n")[1].split("\n\n")[0]
         commands = dict(line.split(maxsplit=1) for line in shown.splitlines())
         self.assertEqual(commands, wanted, "the commands in the help and for fish")
