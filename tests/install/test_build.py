@@ -68,7 +68,9 @@ class TreeCase(Case):
         self.assertEqual((calls.count("flowlabel_main ends"), len(calls)), (1, 2 * len(self.tree.crates)))
         self.assertEqual(self.left(), ["build.log", "built"])
         sources = "changed" if self.tree.git("status", "--porcelain", "crates") else "unchanged"
-        self.assertEqual(read(self.tree.path(RECORD)), f"program {digest(self.tree.path(BUILT))}\n"
+        programs = [self.tree.path(f"crates/{name}/out/{name}") for name in self.tree.crates if name.endswith("_main")]
+        sums = "".join(f"program {digest(program)}\n" for program in programs)
+        self.assertEqual(read(self.tree.path(RECORD)), f"{sums}"
                          f"commit {self.tree.git('rev-parse', 'HEAD')}sources {sources}\nkit {KIT}\n")
         self.assertEqual(self.tree.call("bin/flowlabel", "a", "b"), (3, "program a b\n", ""))
         return messages, calls
@@ -197,8 +199,8 @@ class FirstBuild(TreeCase):
         self.assertEqual(lines[0], "dev/build: each crate is proved from nothing, in half an hour of CPU time")
         progress = [line[:11] + line[17:] for line in lines if " begins; " in line or " is proved; " in line]
         self.assertEqual(len(progress), 2 * len(self.tree.crates))
-        self.assertEqual(progress[-1],
-                         f"dev/build: flowlabel_main is proved; 0 of {len(self.tree.crates)} crates are left")
+        self.assertRegex(progress[-1], rf"\Adev/build: flow(label|_many)_main is proved; "
+                         rf"0 of {len(self.tree.crates)} crates are left\Z")
 
     def test_crates_wait_for_those_below(self):
         when = {line: place for place, line in enumerate(self.calls)}
@@ -484,7 +486,7 @@ class TwoPrograms(TreeCase):
         self.assertEqual(self.tree.call("make")[2], NOTHING_TO_DO)
         self.assertEqual(self.tree.call("make", "install", f"DESTDIR={os.getcwd()}/to", "PREFIX=/usr")[0], 0)
         self.assertEqual(digest("to/usr/bin/flowlabel-many"), digest(programs[1]))
-        self.assertFalse(os.path.exists("to/usr/share/man/man1/flowlabel-many.1"))
+        self.assertFalse(os.path.islink("to/usr/share/man/man1/flowlabel-many.1"))
         write(programs[1], "another")
         self.assertEqual(self.tree.call("dev/record", "proved")[0], 1)
 

@@ -50,8 +50,8 @@ def installed_files():
     # Other files that are there, such as an editor's copies, aren't installed.
     names = run("git", "ls-files", "examples", "lib", "bin", cwd=ROOT).stdout.decode().split()
     # Of flowlabel-many the program is installed, if there is one.
-    for name in {*names} - {"bin/flowlabel-many"}:
-        if name != "bin/flowlabel":
+    for name in names:
+        if name not in ("bin/flowlabel", "bin/flowlabel-many"):
             place = f"{DOC}/{name}" if name.startswith("examples/") else name
             wanted[place] = 0o755 if os.access(ROOT / name, os.X_OK) else 0o644
         if name.startswith("bin/flowlabel-"):

@@ -16,7 +16,7 @@ import sys
 import unittest
 from unittest import mock
 
-from support import PROGRAM, ROOT, Case, needs, not_in_ci, read, rows, run
+from support import MANY, PROGRAM, ROOT, Case, needs, not_in_ci, read, rows, run
 from support.trees import BUILT, RECORD, Tree, digest
 
 READERS = "man-db,bash-completion,zsh,fish,python3"
@@ -73,7 +73,7 @@ class PackageCase(Case):
         if not re.fullmatch(r"[\d.]+", cls.version):
             raise unittest.SkipTest(f"the program is no release: {cls.version}")
         cls.tree = Tree(read(ROOT / "crates.txt"))
-        cls.tree.record(PROGRAM)
+        cls.tree.record(PROGRAM, MANY)
         # What is packed has the licences of the kit.
         os.remove(f"{cls.tree.stub}/rt")
         cls.archive, cls.package = cls.pack()
@@ -126,7 +126,8 @@ class Packages(PackageCase):
         self.assertNotIn("](docs", changes)
 
     def test_interpreters(self):
-        scripts = [path for path in files_below("deb") if os.access(path, os.X_OK) and path != "deb/usr/bin/flowlabel"]
+        programs = ("deb/usr/bin/flowlabel", "deb/usr/bin/flowlabel-many")
+        scripts = [path for path in files_below("deb") if os.access(path, os.X_OK) and path not in programs]
         self.assertEqual({read(path).split("\n")[0] for path in scripts}, {"#!/bin/sh", "#!/usr/bin/python3"})
 
     def test_same_files(self):
@@ -181,7 +182,7 @@ class Unpacked(ArchiveCase):
         self.assertEqual([line for line in record.splitlines() if f"    {line}\n" not in note], [])
         self.assertEqual(record.split()[1], digest(self.tree.path(BUILT)))
         self.assertIn(f"    {digest(f'{self.top}/bin/flowlabel')}\n", note)
-        self.assertIn("Every function of the program's own code was proved", note)
+        self.assertIn("Every function of the programs' own code was proved", note)
 
     def test_licences(self):
         text = read(f"{self.doc}/copyright")

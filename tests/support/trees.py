@@ -15,8 +15,9 @@ from support import FOREVER, ROOT, read, run, write
 LEFT_OUT = shutil.ignore_patterns(".git", "out", "crates", "bench", "__pycache__")
 LOGIC = re.search(r"(?m)^logic=(\w+)$", read(ROOT / "dev/record"))[1]
 KIT = f"rattle-kit-1 logic {LOGIC}"
-# The program of the tree, and what a build writes when it has ended.
-BUILT, RECORD = "crates/flowlabel_main/out/flowlabel_main", "out/built"
+# The programs of the tree, and what a build writes when it has ended.
+BUILT, BUILT_MANY = "crates/flowlabel_main/out/flowlabel_main", "crates/flow_many_main/out/flow_many_main"
+RECORD = "out/built"
 # It records when it begins and ends, builds a program that prints its words and, like rt run, runs it. If there is a
 # pipe `held`, it holds that pipe, and so does a process that it starts. Both wait until the pipe `free` has a line for
 # them. If there is a file `fails`, it fails, and if there is a file `idle`, it builds nothing.
@@ -86,12 +87,13 @@ class Tree:
         """Returns the output of git."""
         return run("git", "-C", self.root, *words, check=True).stdout.decode()
 
-    def record(self, program):
-        """Puts a program into the tree, and records it as one that was proved."""
-        os.makedirs(os.path.dirname(self.path(BUILT)), exist_ok=True)
-        shutil.copy(program, self.path(BUILT))
-        self.put(RECORD, f"program {digest(program)}\ncommit {self.git('rev-parse', 'HEAD')}sources unchanged\n"
-                 f"kit {KIT}\n")
+    def record(self, *programs):
+        """Puts flowlabel, or both programs, into the tree, and records them as proved."""
+        for program, place in zip(programs, (BUILT, BUILT_MANY)):
+            os.makedirs(os.path.dirname(self.path(place)), exist_ok=True)
+            shutil.copy(program, self.path(place))
+        sums = "".join(f"program {digest(program)}\n" for program in programs)
+        self.put(RECORD, f"{sums}commit {self.git('rev-parse', 'HEAD')}sources unchanged\nkit {KIT}\n")
 
     def start(self, *words, **variables):
         """Starts a command in the tree, in a session of its own, as from another terminal."""
