@@ -6,7 +6,7 @@ import re
 import subprocess
 import sys
 
-from support import PROGRAM, ROOT, Case, rows, run, write
+from support import PROGRAM, ROOT, Case, needs, rows, run, write
 from support.ipfix import message, sets, template
 
 EVALUATE = ROOT / "dev/evaluate"
@@ -16,6 +16,7 @@ NOT_COMPUTED = {"All", "Contains"}
 ARROW = re.compile(r"→(?![^(]*\))")  # outside of brackets
 
 
+@needs("rt")
 class Words(Case):
     """The words of dev/kit.py that the kit defines, by its own texts."""
 
