@@ -232,7 +232,8 @@ def first_difference(order, xs, ys):
 EACH = lambda p, xs: all(map(p, xs))
 LIBRARY = {
     "true": (0, "true", True), "false": (0, "false", False), "zero": (0, "0", 0), "[]": (0, "a list without items", ()),
-    "Unit": (0, "a statement that holds", True), "⊥": (0, "a statement that doesn't hold", False),
+    "Unit": (0, "a statement that holds", True), "⊤": (0, "the same", True),
+    "⊥": (0, "a statement that doesn't hold", False),
     "tt": (0, "the value of the type with one value", UNIT),
     "None": (0, "no value", NONE), "Some": (1, "a value", some), "Ok": (1, "a result", ok), "Err": (1, "a fault", err),
     "not": (1, "not b", lambda b: not b), "IsTrue": (1, "b is true", lambda b: b), "suc": (1, "n + 1", lambda n: n + 1),
@@ -309,6 +310,8 @@ LIBRARY = {
         p(r.args[0]) if is_ok(r) else q(r.args[0]))),
     "Appends": (3, "if the bytes before are known, those after are, and are these bytes more", (
         lambda old, new, items: not is_some(old) or is_some(new) and new.args[0] == old.args[0] + items)),
+    "Consumes": (3, "if the bytes before are known, those after are, and these bytes come before them", (
+        lambda old, new, items: not is_some(old) or is_some(new) and old.args[0] == items + new.args[0])),
     "codes": (1, "the bytes of a text", lambda text: text),
     "string_bytes": (1, "the same", lambda s: s.f_bytes.f_items),
     "decimal": (1, "the decimal digits of a number", lambda n: codes(str(n))),
