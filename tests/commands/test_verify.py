@@ -19,7 +19,7 @@ import random
 import re
 import sys
 
-from support import PROGRAM, ROOT, Case, command, load, made, outcome, rows, write
+from support import PROGRAM, ROOT, Case, command, load, made, outcome, read, rows, write
 from support.maps import EMPTY, ENDS, HALVES, LAST, WORDS, damaged_bytes, damaged_certificate, damaged_table
 from support.maps import faulty_line, made_map, renumbered
 
@@ -30,6 +30,8 @@ NAMES = ["map.txt", "list.txt", "cert.txt"]
 # The made maps of each version, the damaged copies of each, and the least number of those that differ from it.
 MADE_MAPS, DAMAGED, LEAST_DAMAGED = 20, 60, 25
 FAULTY_LINES = 100
+# The maximum number of mappings in place of that of the definitions.
+MAPPINGS = 1000
 # Of this many runs of flowlabel-verify one is a process.
 ONE_IN = 50
 
@@ -293,17 +295,24 @@ class Labels(Comparison):
 
 
 class Entries(Comparison):
-    """Texts with as many mappings and entries as they may have, and with one more."""
-    is_long = True
+    """Texts with as many mappings and entries as they may have, and with one more. In flowlabel-verify the number of the
+    definitions is replaced by a smaller one, since it takes ten seconds for a million lines."""
 
-    @rows((1_000_000, "minimal"), (1_000_001, "M12"))
-    def test_mappings(self, count, code):
-        self.compare_texts(((count - 1) * b"1.0.0.0/8 UNKNOWN\n" + EVERYTHING, *EMPTY[1:]), code)
+    @classmethod
+    def prepare(cls):
+        super().prepare()
+        limit = int(re.search(r"(?m)^mapping_limit = (\d+)$", read(ROOT / "crates/pmap_text/specs/Reading.antt"))[1])
+        text, count = re.subn(rf"\b{limit:_}\b", str(MAPPINGS), read(VERIFIER))
+        assert count == 1
+        cls.verify = staticmethod(load(write("verify", text)).verify)
 
-    def test_entries(self):
-        entries = b"".join(b"10.%d.%d.%d A\n" % (number >> 16, number >> 8 & 255, number & 255)
-                           for number in range(1_000_001))
-        self.compare_texts((b"", entries, EMPTY[2]), "M12")
+    @rows((0, MAPPINGS - 1, "minimal 1"), (0, MAPPINGS, f"flowlabel: map.txt: M12 TooMany at {MAPPINGS + 1}"),
+          (1, MAPPINGS, f"flowlabel: list.txt: M12 TooMany at {MAPPINGS + 1}"))
+    def test_entries(self, place, count, wanted):
+        # A list may not have a block twice.
+        more = b"".join(b"10.0.%d.%d UNKNOWN\n" % divmod(number * place, 256) for number in range(count))
+        texts = [more + EVERYTHING if number == place else text for number, text in enumerate(EMPTY)]
+        self.assertEqual(self.verify([write(name, text) for name, text in zip(NAMES, texts)])[1], wanted)
 
 
 class LargerMaps(Comparison):
