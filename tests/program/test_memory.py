@@ -38,7 +38,7 @@ REFUSED = b"refused\n"
 # What a copy of a process writes to standard error, and then its status.
 COPY = REFUSED + b"flowlabel: out of memory\nstatus 003\n"
 # The number of runs that share the allocations of LARGE.
-RUNS = 16
+RUNS = 48
 # Lines for which the fault is searched for after a failed allocation: in the list, or in the text of a line.
 LOOKED_THROUGH = ("rows --protocol 6,256 flows", "cat --list list.txt")
 

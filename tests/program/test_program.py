@@ -6,6 +6,7 @@ Each check is a command line with its status, its standard output and its standa
 import ipaddress
 import os
 import re
+import struct
 import threading
 import unittest
 
@@ -447,7 +448,7 @@ class OutOfMemory(Lines):
 
 def first_sources():
     """Returns the addresses of MILLIONS flows, one in each block of four."""
-    return [f"10.{number >> 14}.{number >> 6 & 255}.{number << 2 & 255}" for number in range(MILLIONS)]
+    return [f"10.{high >> 8}.{high & 255}.{low}" for high in range(MILLIONS // 64) for low in range(0, 256, 4)]
 
 
 def first_addresses():
@@ -543,9 +544,13 @@ class CountsOfMillions(Lines):
 
     def test_flows(self):
         sources = first_sources()
-        front, end = message(data_set(256, RECORD))[:20], bytes.fromhex(RECORD)[4:]
-        write("millions", message(TEMPLATE_SET) + b"".join(
-            front + (0xa00_0000 + 4 * number).to_bytes(4, "big") + end for number in range(MILLIONS)))
+        # The four bytes of the address follow the 20 of the headers.
+        one = message(data_set(256, RECORD))
+        numbers = struct.pack(f">{MILLIONS}I", *range(0xa00_0000, 0xa00_0000 + 4 * MILLIONS, 4))
+        messages = bytearray(one * MILLIONS)
+        for place in range(4):
+            messages[20 + place::len(one)] = numbers[place::4]
+        write("millions", message(TEMPLATE_SET) + messages)
         rest = ROW.removeprefix("10.0.0.1")
         sums = "".join(f"{source}|1|3|180\n" for source in sources)
         info = {"messages": MILLIONS + 1, "templates": 1, "options-templates": 0, "withdrawals": 0,
@@ -556,8 +561,9 @@ class CountsOfMillions(Lines):
         self.within(500, "uniq --fields dip,sip --sort-output millions",
                     f"dip|sip|{SUMS}8.8.8.8|" + sums.replace("\n", "\n8.8.8.8|").removesuffix("8.8.8.8|"))
 
-    @rows((4,), (6,))
-    def test_maps(self, version):
+    @staticmethod
+    def write_map(version):
+        """Writes a map and its list, and returns the addresses that have a label of their own."""
         if version == 4:
             names, head, block, length = first_sources()[:MOST_MAPPINGS - 1], "mode ipv4\n", "0.0.0.0/0", 32
         else:
@@ -566,10 +572,19 @@ class CountsOfMillions(Lines):
         # No list is shorter: each block of four has one exceptional address.
         write("map", f"{head}{names[0]} B\n" + "".join(f"{name} A\n" for name in names))
         write("list", f"{head}{block} UNKNOWN\n" + "".join(f"{name}/{length} A\n" for name in names))
+        return names
+
+    @rows((4,), (6,))
+    def test_maps(self, version):
+        last = self.write_map(version)[-1]
         for source in ("--pmap map", "--list list"):
-            self.within(150, f"label {source} {names[-1]}", "A\n")
+            self.within(150, f"label {source} {last}", "A\n")
             self.within(400, f"cat {source}", after=f">{source[-4:].strip()}.ranges")
         self.assertTrue(read("map.ranges") == read("list.ranges"), "cat prints the same of a map and of its list")
+
+    @rows((4,), (6,))
+    def test_certificates(self, version):
+        count = len(self.write_map(version)) + 1
         self.within(500, "shrink --pmap map", read("list"))
         self.within(500, "shrink --pmap map --certificate", after=">plain")
         self.within(500, "shrink --pmap map --certificate --compact", after=">compact")
