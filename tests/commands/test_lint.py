@@ -14,7 +14,8 @@ import random
 import resource
 import unittest
 
-from support import PROGRAM, ROOT, Case, command, not_in_ci, outcome, read, rows, run, texts, write, write_program
+from support import PROGRAM, ROOT, Case, command, not_in_ci, outcome, read, read_bytes, rows, run, texts, write, \
+    write_program
 
 LINT, LOOKUP = command("lint"), command("lookup")
 # Maps, with the warnings: the number of a line, and a part of what is printed of it.
@@ -330,12 +331,11 @@ class LookedUp(Case):
 class Binaries(Lint):
     """Binary files and random bytes: a line of the program, and one that explains it."""
 
-    @rows(*zip(range(8)))
+    @rows(*zip(range(20)))
     def test_noise(self, seed):
         rng = random.Random(f"20261129 {seed}")
-        with open(ROOT / "examples/export.pcap", "rb") as file:
-            capture = file.read()
-        for _ in range(5):
+        capture = read_bytes(ROOT / "examples/export.pcap")
+        for _ in range(2):
             noise = rng.randbytes(rng.randrange(10, 3000))
             blanks = bytes(rng.choices(b"\x0b\x0c\x1c\x85\t \r\n:/.10a#", k=300))
             for data in (gzip.compress(noise), noise, capture[:rng.randrange(24, 5000)], blanks):

@@ -19,7 +19,7 @@ import struct
 import subprocess
 
 from support import PROGRAM, ROOT, Case, closed_pipe, command, exporters, needs, outcome, processes, rows, run
-from support import read, stand_in, texts, write, write_program
+from support import read, read_bytes, stand_in, texts, write, write_program
 from support.ipfix import message, sets, template
 
 SCRIPT = command("nfcapd")
@@ -242,16 +242,14 @@ class Files(Collected):
 
     @rows(("-z",), ("-y",), ("-j",))
     def test_cut(self, option):
-        with open(self.compressed(option), "rb") as file:
-            data = file.read()
+        data = read_bytes(self.compressed(option))
         for length in (0, 1, 100, len(data) // 2, len(data) - 200, len(data) - 1):
             with self.subTest(length=length):
                 self.assert_refused(convert(write("cut", data[:length])), "cut: no file that nfcapd has finished")
 
     @rows(("-z",), ("-y",), ("-j",))
     def test_damaged(self, option):
-        with open(self.compressed(option), "rb") as file:
-            data = file.read()
+        data = read_bytes(self.compressed(option))
         for place in range(300, len(data) - 300, (len(data) - 600) // 10):
             found = convert(write("damaged", data[:place] + bytes([data[place] ^ 0xFF]) + data[place + 1:]))
             # Damage may also be in bytes that mean nothing, or in a flow, which only its sums show.
@@ -266,16 +264,14 @@ class Files(Collected):
         self.assert_refused(convert(self.name, os.path.join(".", self.name)), "the same bytes as")
 
     def test_beside_one_that_is_cut(self):
-        with open(self.name, "rb") as file:
-            self.assert_refused(convert(self.name, write("cut", file.read()[:-1])), "cut: ")
+        self.assert_refused(convert(self.name, write("cut", read_bytes(self.name)[:-1])), "cut: ")
 
     def test_not_finished(self):
         killed = exporters.collect(self.messages, "killed", ending=signal.SIGKILL)
         self.assert_refused(convert(killed), f"{killed}: no file that nfcapd has finished")
 
     def test_one_that_is_still_written(self):
-        with open(self.name, "rb") as file:
-            write("open/nfcapd.current.77", file.read()[:-1])
+        write("open/nfcapd.current.77", read_bytes(self.name)[:-1])
         self.assertEqual(convert("open/nfcapd.current.77", self.name), (0, self.wanted, [
             "flowlabel-nfcapd: open/nfcapd.current.77: left out, since nfcapd is still writing it"]))
 

@@ -15,7 +15,8 @@ import struct
 import subprocess
 import time
 
-from support import PROGRAM, ROOT, Case, closed_pipe, command, exporters, needs, rows, run, texts, write
+from support import PROGRAM, ROOT, Case, closed_pipe, command, exporters, needs, read, read_bytes, rows, run, texts, \
+    write
 from support.ipfix import FOUR, SUMS, message, sets, template
 from support.processes import PATIENCE, wait
 
@@ -58,7 +59,7 @@ class Recorded(Case):
 
     def counts(self, *names):
         """Returns what `info` counts in joined Files."""
-        text = b"".join(open(name, "rb").read() for name in names)
+        text = b"".join(map(read_bytes, names))
         found = run(PROGRAM, "info", "/dev/stdin", input=text)
         self.assertEqual((found.returncode, found.stderr), (0, b""))
         return {what: int(number) for what, number in map(str.split, found.stdout.decode().splitlines())}
@@ -78,8 +79,7 @@ class Files(Recorded):
         self.assertEqual((status, error), (0, []))
         self.assertEqual(os.listdir(str(number)), [os.path.basename(name) for name in names])
         self.assertRegex(names[0], rf"\A{number:d}/\d{{8}}T\d{{6}}Z-127\.0\.0\.1-{port}\.ipfix\Z")
-        with open(names[0], "rb") as file:
-            self.assertEqual(file.read(), b"".join(messages))
+        self.assertEqual(read_bytes(names[0]), b"".join(messages))
 
     def test_nothing(self):
         with self.recorder(folder="nothing") as (process, _):
@@ -103,11 +103,11 @@ class Files(Recorded):
             self.assertEqual(self.counts(name)["skipped-sets"], 0)
         self.assertEqual(self.counts(first, *names)["records"], 8)
         # The three templates in force come with a first message, which keeps its number.
-        text = b"".join(open(name, "rb").read() for name in names)
+        text = b"".join(map(read_bytes, names))
         begins = [flow(number, TEMPLATE, other, template(301, *FOUR)) in text for number in range(17)]
         self.assertTrue(any(begins), text)
         # 10 records were lost between two Files.
-        status, output, _ = texts(AUDIT, write("joined", open(first, "rb").read() + text))
+        status, output, _ = texts(AUDIT, write("joined", read_bytes(first) + text))
         self.assertEqual(status, 1)
         self.assertIn("10 records of the domain 1 are missing: 10 before the message ", output)
 
@@ -142,7 +142,7 @@ class Files(Recorded):
             write(f"taken/{name}", "another")
             status, names, _ = self.end(process)
         self.assertEqual((status, names), (0, [f"taken/{name.removesuffix('.ipfix')}-2.ipfix"]))
-        self.assertEqual((open(f"taken/{name}").read(), len(os.listdir("taken"))), ("another", 2))
+        self.assertEqual((read(f"taken/{name}"), len(os.listdir("taken"))), ("another", 2))
 
     @needs("softflowd")
     def test_softflowd(self):
@@ -173,8 +173,7 @@ class Faults(Recorded):
             status, names, error = self.end(process)
         self.assertEqual((status, error), (1, [
             f"flowlabel-record: 1 messages are in no File. Each {why}. The first is from 127.0.0.1"]))
-        with open(names[0], "rb") as file:
-            self.assertEqual(file.read(), BEGIN + flow(1))
+        self.assertEqual(read_bytes(names[0]), BEGIN + flow(1))
 
     @rows(("127.0.0.1", "127.0.0.1", 1), ("192.0.2.1", "127.0.0.1", 0), ("127.0.0.1", "::", 1), ("127.0.0.2", "::", 0))
     def test_from(self, exporter, address, count):

@@ -17,7 +17,7 @@ import sys
 import unittest
 
 from support import PROGRAM, ROOT, Case, closed_pipe, command, made, not_in_ci, outcome, processes, rows, run
-from support import texts, write, write_program
+from support import read_bytes, texts, write, write_program
 
 REPORT = command("report")
 MAP = ROOT / "examples/customers.txt"
@@ -315,8 +315,7 @@ class OfCommands(Case):
     @classmethod
     def prepare(cls):
         made("flows.py", "usual", 20000, "usual.ipfix")
-        with open("usual.ipfix", "rb") as whole:
-            write("part.ipfix", whole.read()[:-1])
+        write("part.ipfix", read_bytes("usual.ipfix")[:-1])
         write("table", DAYS)
 
     @rows((["--by", "day"],), (["--both", "--csv"],), (["--rows", "--label", "elsewhere", "--side", "dst"],))

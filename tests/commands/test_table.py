@@ -70,7 +70,6 @@ RANGES = b"""low|high|label
 ::ffff:a00:0|::ffff:aff:ffff|A
 ::ffff:b00:0|ffff:ffff:ffff:ffff:ffff:ffff:ffff:ffff|a|b
 """
-KEY6 = "pinned /sys/fs/bpf/t6_new key hex"
 KEY4 = "pinned /sys/fs/bpf/t4_new key hex"
 INPUTS = (
     ("linux", BOTH, {"t.routes": """route add 0.0.0.0/0 dev lo table 1001 metric 2 realms 2

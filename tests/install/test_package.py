@@ -16,7 +16,7 @@ import sys
 import unittest
 from unittest import mock
 
-from support import MANY, PROGRAM, ROOT, Case, needs, not_in_ci, read, rows, run
+from support import MANY, PROGRAM, ROOT, Case, needs, not_in_ci, read, read_bytes, rows, run
 from support.trees import BUILT, RECORD, Tree, digest
 
 READERS = "man-db,bash-completion,zsh,fish,python3"
@@ -139,8 +139,7 @@ class Packages(PackageCase):
 
     def test_oldest_library(self):
         """The program needs no newer C library than the package requires."""
-        with open(self.tree.path(BUILT), "rb") as program:
-            versions = re.findall(rb"GLIBC_2\.(\d+)", program.read())
+        versions = re.findall(rb"GLIBC_2\.(\d+)", read_bytes(self.tree.path(BUILT)))
         depends = output("dpkg-deb", "-f", self.tree.path(self.package), "Depends")
         self.assertEqual(depends, f"libc6 (>= 2.{max(map(int, versions))})\n")
 

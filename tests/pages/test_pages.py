@@ -21,13 +21,12 @@ import functools
 import os
 import re
 import resource
-import shutil
 import sys
 import unittest
 from pathlib import Path
 
 sys.path.insert(0, str(Path(__file__).resolve().parents[1]))
-from support import BY_NAME, PROGRAM, ROOT, Case, needs, program_of, rows, run, write
+from support import BY_NAME, ROOT, Case, needs, program_of, rows, run, write
 import support
 
 HELP = ROOT / "tests/pages/help.txt"

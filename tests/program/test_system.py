@@ -12,7 +12,7 @@ import os
 import threading
 
 from support import RECORD, ROW, TEMPLATE_SET, TITLE, Case, data_set, message, needs, needs_many, program_of, read, \
-    rows, system, write
+    read_bytes, rows, system, write
 
 # Rattle's `File::open` makes an interrupted call again.
 ERRORS = (errno.EIO, errno.EAGAIN, errno.EINTR)
@@ -108,8 +108,7 @@ def ends_with(calls, kind, number, output):
 
 def write_to_pipe(name):
     """Writes the bytes of a file to the pipe, as soon as it is opened."""
-    with open(name, "rb") as file:
-        write("pipe", file.read())
+    write("pipe", read_bytes(name))
 
 
 @needs("rt", in_ci=True)

@@ -221,6 +221,12 @@ def read(name):
         return file.read()
 
 
+def read_bytes(name):
+    """Returns the bytes of a file."""
+    with open(name, "rb") as file:
+        return file.read()
+
+
 def load(path):
     """Returns a script as a module, whatever its suffix. Its name isn't `__main__`, so it only defines things."""
     module = types.ModuleType(os.path.basename(path))

@@ -9,7 +9,7 @@ import shutil
 import signal
 import subprocess
 
-from support import FOREVER, ROOT, read, run, write
+from support import FOREVER, ROOT, read, read_bytes, run, write
 
 # What isn't copied. The crates have made-up sources.
 LEFT_OUT = shutil.ignore_patterns(".git", "out", "crates", "bench", "__pycache__")
@@ -165,5 +165,4 @@ class Held:
 
 def digest(name):
     """Returns the SHA-256 of a file."""
-    with open(name, "rb") as file:
-        return hashlib.sha256(file.read()).hexdigest()
+    return hashlib.sha256(read_bytes(name)).hexdigest()
