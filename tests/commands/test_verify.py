@@ -19,7 +19,7 @@ import random
 import re
 import sys
 
-from support import PROGRAM, ROOT, Case, command, load, made, outcome, read, rows, write
+from support import PROGRAM, ROOT, Case, command, load, made, outcome, read, read_bytes, rows, write
 from support.maps import EMPTY, ENDS, HALVES, LAST, WORDS, damaged_bytes, damaged_certificate, damaged_table
 from support.maps import faulty_line, made_map, renumbered
 
@@ -53,19 +53,22 @@ class Comparison(Case):
         text = f"{line}\n".encode()
         return status, b"" if status else text, text if status else b""
 
-    def compare(self, names, code=None, texts=()):
-        """Compares the results for files. `code` is that of the fault, or `minimal`, if it is known."""
+    def compare(self, names, code=None, texts=(), line=None):
+        """Compares the results for files. `code` is that of the fault, or `minimal`, and `line` its line, if they are
+        known."""
         map_, list_, cert = names
         with self.subTest(names=names, texts=[text[:300] for text in texts]):
             wanted = outcome(PROGRAM, "check", "--pmap", map_, "--list", list_, "--cert", cert)
             self.assertEqual(self.result(names), wanted)
-            happened = re.search(rb"(?:: |\A)([MCK]\d+|minimal) ", wanted[1] + wanted[2])
+            happened = re.search(rb"(?:: |\A)([MCK]\d+|minimal) .*?(\d+)$", wanted[1] + wanted[2])
             if code:
                 self.assertEqual(happened and happened[1].decode(), code)
+            if line:
+                self.assertEqual(int(happened[2]), line, "the line of the fault")
 
-    def compare_texts(self, texts, code=None):
+    def compare_texts(self, texts, code=None, line=None):
         """Compares the results for a map, a list and a certificate."""
-        self.compare([write(name, text) for name, text in zip(NAMES, texts)], code, texts)
+        self.compare([write(name, text) for name, text in zip(NAMES, texts)], code, texts, line)
 
     def shrunk(self, map_, *words):
         """Returns the list of a map, or with `--certificate` its certificate, or None if there is none."""
@@ -155,26 +158,46 @@ def lines_of(*lines):
     return "".join(f"{line}\n" for line in lines).encode()
 
 
-# Codes, and the lines of maps and lists with this fault; of maps alone, and of lists alone. Without a fault of the text
-# there is one of the kind K.
+# Codes, and the lines of maps and lists with this fault; of maps alone, and of lists alone. It is a fault of the last
+# of these lines. Without a fault of the text there is one of the kind K.
 BOTH = (
-    *(("M1", line)
-      for line in ("colour red", "Default A", "label x red", "label 2147483648 red", "label", "\ufeff# text")),
-    *(("M2", line) for line in ("10.0.0/8 A", "10.0.0 A", "7up A", "1::2::3 A", "x/8", "10.0.0.0-10.0.0.255 A",
-                                "fe80::1%eth0 A", "\ufeff::/0 A")),
-    *(("M3", line)
-      for line in ("10.0.0.0/33 A", "10.0.0.0/ A", "::/129 A", "10.0.0.0/255.0.0.0 A", "10.0.0.0/8,Alder")),
-    ("M3", "mode ipv6", "10.0.0.0/104 A"), ("M5", "mode ipv4", "2001:db8::/32 A"),
-    *(("M6", line) for line in ("10.0.0.0/8", "10.0.0.0/8 # A", "label 5", "map-name")),
-    *(("M7", line) for line in ("10.0.0.0/8 \x01", f"10.0.0.0/8 {256 * 'x'}", "label 5 7", "map-name a\rb")),
+    *(("M1", line) for line in ("colour red", "Default A", "label x red", "label x", "label 2147483648 red",
+                                "label 00000000005 red", "label", "\ufeff# text")),
+    *(("M2", line) for line in ("10.0.0/8 A", "10.0.0/33", "10.0.0.256/8 A", "10.0.0 A", "7up A", "1::2::3 A", "x/8",
+                                "/8 A", ":/0 A", "x:y z", "10.0.0.0-10.0.0.255 A", "2001:db8::g/32 A",
+                                # A group of zero at the end can't be omitted (RFC 4291, section 2.3).
+                                "2001:0DB8:0:CD3/60 A", "fe80::1%eth0 A", "\ufeff::/0 A")),
+    *(("M3", line) for line in ("10.0.0.0/33 A", "10.0.0.0/33", "10.0.0.0/ A", "10.0.0.0/0008 A", "10.0.0.0/8/8 A",
+                                "2001:db8::/129 A", "10.0.0.0/255.0.0.0 A", "10.0.0.0/8,Alder")),
+    *(("M3", f"mode {mode}", line) for mode, line in (
+        ("ipv6", "10.0.0.0/104 A"), ("ipv6", "10.0.0.0/33 A"), ("ipv4", "::/129"))),
+    ("M5", "mode ipv4", "2001:db8::/32 A"), ("M5", "mode ipv4", "::/0"), ("M5", "10.0.0.0/8 A", "::1 A"),
+    *(("M6", line) for line in ("10.0.0.0/8", "10.0.0.0/8 # A", "10.0.0.1", "label 5", "map-name")),
+    *(("M7", line) for line in ("10.0.0.0/8 a\x01b", "10.0.0.0/8 a\x7f", f"10.0.0.0/8 {256 * 'x'}", "label 5 7",
+                                "map-name a\x01b", "map-name a\rb")),
+    ("M6", "label 5 red", "label 5"), ("M7", "label 5 red", "label 5 6"),
     ("M8", "label 5 red", "label 6 red"), ("M8", "label 5 red", "label 05 blue"),
-    *(("M9", line) for line in ("mode", "mode ipv4 x", "mode proto-port", "mode IPv4")),
-    ("M10", "10.0.0.0/8 A", "mode ipv4"), ("M11", "mode ipv4", "mode ip"),
+    ("M8", "label 5 red", "1.0.0.0/8 5", "2.0.0.0/8 6", "label 5 blue"),
+    *(("M9", line) for line in ("mode", "mode ipv4 x", "mode proto-port", "mode IPv4")), ("M9", "10.0.0.0/8 A", "mode"),
+    ("M10", "10.0.0.0/8 A", "mode ipv4"), ("M10", "mode ipv4", "1.0.0.0/8 A", "mode ip"),
+    ("M11", "mode ipv4", "mode ip"),
+    # Blank lines and comments count. Lines after the first fault are not read, and a block that comes again is one.
+    ("M1", "10.0.0.0/8 A", "#", "colour A"), ("M6", "", "\r", "1.0.0.0/8"),
+    ("M1", "1.0.0.0/8 A", "nonsense\n1.0.0.0/8 B"), ("M2", "1.0.0.0/8 A", "1.0.0/8 B\ncolour"),
+    ("M6", "1.0.0.0/8 A", "1.0.0.0/8"), ("M7", "1.0.0.0/8 A", "1.0.0.0/8 a\x01b"),
 )
-OF_MAPS = (("M4", "10.0.0.9 10.0.0.2 A"), ("M6", "default # none"), ("M6", "10.0.0.1 10.0.0.2"),
-           ("K2", "label 5 red", "label 05 red"))
-OF_LISTS = (("M13", "10.0.0.1 10.0.0.2 A"), ("M13", "default A"), ("M14", "1.0.0.0/8 A", "1.2.3.4/8 B"),
-            ("M14", "10.0.0.1 A", "10.0.0.1/32 A"), ("M14", "mode ipv6", "10.0.0.0/8 A", "::ffff:10.0.0.0/104 B"))
+OF_MAPS = (*(("M4", line) for line in ("10.0.0.9 10.0.0.2 A", "10.0.0.9 10.0.0.2", "2001:db8::1 10.0.0.1 A")),
+           ("M5", "10.0.0.1 2001:db8::1 A"), ("M5", "mode ipv4", "10.0.0.9 2001:db8::1 A"),
+           ("M5", "mode ipv4", "10.0.0.9 ::1"), ("M6", "default"), ("M6", "default # none"),
+           ("M6", "10.0.0.1 10.0.0.2"), ("M7", "default a\x00"), ("K2", "label 5 red", "label 05 red"))
+OF_LISTS = (*(("M13", line) for line in ("10.0.0.1 10.0.0.2 A", "10.0.0.1 10.0.0.2", "default A", "default")),
+            ("M13", "mode ipv4", "::2 ::1"), ("M13", "label 5 red", "1.0.0.0/8 5", "2.0.0.0/8 6", "default x"),
+            ("M14", "1.0.0.0/8 A", "1.2.3.4/8 B"), ("M14", "10.0.0.1 A", "10.0.0.1/32 A"),
+            ("M14", "mode ipv6", "10.0.0.0/8 A", "::ffff:10.0.0.0/104 B"),
+            ("M14", "::ffff:a00:0/104 A", "10.0.0.0/8 B"),
+            ("M14", "label 5 red", "1.0.0.0/8 5", "2.0.0.0/8 6", "1.0.0.0/8 A"),
+            ("M14", "1.0.0.0/8 A", "1.0.0.0/8 B\nnonsense"), ("M14", "::/0 A", "", "# nothing", "::/0 B"),
+            ("M14", "2.0.0.0/8 A", "1.0.0.0/8 B", "2.1.2.3/8 C\n1.0.0.0/8 D"))
 # Codes, texts, and what changes in one of them.
 CHANGED = (
     *(("C1", HALVES, 2, "flowlabel-cert 1 ipv4 4", header) for header in (
@@ -217,7 +240,7 @@ class Examples(Comparison):
         for place in places:
             texts = list(HALVES)
             texts[place] = lines_of(*lines)
-            self.compare_texts(texts, code)
+            self.compare_texts(texts, code, len(lines) if code.startswith("M") else None)
 
     @rows(*CHANGED)
     def test_changed(self, code, texts, place, old, new):
@@ -287,7 +310,7 @@ class Labels(Comparison):
         self.compare_texts((*EMPTY[:2],
                             b"flowlabel-cert 1 ipv4 65536\nUNKNOWN\n%sn 0 %s\nl 0\nl 0\n" % (labels, numbers)), code)
 
-    @rows(("ipv4", 32, "C5"), ("ipv4", 33, "C4"), ("ipv6", 128, "C5"), ("ipv6", 129, "C4"))
+    @rows(("ipv4", 32, "C5"), ("ipv4", 33, "C4"), ("ipv4", 100_000, "C4"), ("ipv6", 128, "C5"), ("ipv6", 129, "C4"))
     def test_nested(self, version, count, code):
         for number, labels, node in ((1, b"0\n", b"n 0\n"), (2, b"1\nA\n", b"c 0 1 0\n")):
             self.compare_texts((*EMPTY[:2],
@@ -295,8 +318,8 @@ class Labels(Comparison):
 
 
 class Entries(Comparison):
-    """Texts with as many mappings and entries as they may have, and with one more. In flowlabel-verify the number of the
-    definitions is replaced by a smaller one, since it takes ten seconds for a million lines."""
+    """Texts with as many mappings and entries as they may have, and with one more. A smaller number is in place of that
+    of the definitions, since flowlabel-verify takes ten seconds for a million lines."""
 
     @classmethod
     def prepare(cls):
@@ -320,8 +343,7 @@ class LargerMaps(Comparison):
 
     def compare_map(self, name):
         """Compares the results for a map and both certificates. Texts that are no maps are refused."""
-        with open(name, "rb") as file:
-            map_ = file.read()
+        map_ = read_bytes(name)
         list_ = self.shrunk(map_)
         if list_ is None:
             self.compare_texts((map_, *HALVES[1:]))

@@ -21,8 +21,8 @@ from program import worked
 from support import ROOT, Case, needs, read, run, write
 
 CALLS = ROOT / "tests/crates/calls"
-# A module that the programs of tests share.
-HEXADECIMAL = ROOT / "tests/crates/hexadecimal.rt.in"
+# Modules that several of these have.
+SHARED = ROOT / "tests/crates/shared"
 # A test has an hour: some take half a minute on an idle machine.
 LIMIT = 3600
 RESULT = re.compile(r"(?m)^test (\S+) \.\.\. (.*)$")
@@ -173,7 +173,8 @@ class OverMemory(Modules):
     def add_tests(cls, source):
         super().add_tests(source)
         write(source / "tests/worked.rt", constants())
-        shutil.copyfile(HEXADECIMAL, source / "tests/hexadecimal.rt")
+        for name in ("hexadecimal", "memory_files"):
+            shutil.copyfile(SHARED / f"{name}.rt.in", source / f"tests/{name}.rt")
 
 
 class OfFlowlabel(OverMemory):
@@ -196,7 +197,8 @@ class OfLibraries(Calls):
         with open(source.parents[2] / "crates.txt", "a", encoding="utf-8") as file:
             file.write(f"calls: {' '.join(libraries())} byteorder\n")
         copy_tests(CALLS / "libraries", source)
-        shutil.copyfile(HEXADECIMAL, source / "hexadecimal.rt")
+        for name in ("hexadecimal", "rows"):
+            shutil.copyfile(SHARED / f"{name}.rt.in", source / f"{name}.rt")
         for name, text in {**examples(), "worked": constants()}.items():
             write(source / f"{name}.rt", text)
             with open(source / "lib.rt", "a", encoding="utf-8") as file:

@@ -83,6 +83,29 @@ def bill():
             + message(WIDE_SET, data_set(257, *wide)))
 
 
+# An address as it is printed, and other texts of it: the examples of RFC 4291, section 2.2, and of RFC 5952, and the
+# shortest gaps.
+ADDRESSES = (
+    ("0.0.0.0", ""), ("255.255.255.255", ""), ("10.0.0.1", "010.0.0.1"), ("1.2.3.4", "1.02.003.4"),
+    ("abcd:ef01:2345:6789:abcd:ef01:2345:6789", "ABCD:EF01:2345:6789:ABCD:EF01:2345:6789"),
+    ("2001:db8::8:800:200c:417a", "2001:DB8:0:0:8:800:200C:417A 2001:DB8::8:800:200C:417A"),
+    ("ff01::101", "FF01:0:0:0:0:0:0:101 FF01::101"), ("::1", "0:0:0:0:0:0:0:1"), ("::", "0:0:0:0:0:0:0:0"),
+    ("::d01:4403", "0:0:0:0:0:0:13.1.68.3 ::13.1.68.3"),
+    ("::ffff:8190:3426", "0:0:0:0:0:FFFF:129.144.52.38 ::FFFF:129.144.52.38"),
+    ("2001:db8::1:0:0:1", "2001:0db8:0:0:1:0:0:1 2001:db8::0:1:0:0:1 2001:DB8:0:0:1::1"),
+    ("2001:db8:aaaa:bbbb:cccc:dddd:0:1", "2001:db8:aaaa:bbbb:cccc:dddd::1"),
+    ("2001:db8:aaaa:bbbb:cccc:dddd:eeee:aaaa", "2001:db8:aaaa:bbbb:cccc:dddd:eeee:aAaA"),
+    ("1:2:3:4:5:6:102:304", "1:2:3:4:5:6:1.2.3.4"), ("1:2:3:4:5:6:7:0", "1:2:3:4:5:6:7::"),
+    ("0:2:3:4:5:6:7:8", "::2:3:4:5:6:7:8"), ("1:0:0:2::3", "1:0:0:2:0:0:0:3"), ("1::2:3:0:0:4", "1:0:0:2:3:0:0:4"),
+    ("2001:db8:0:1:1:1:1:1", "2001:db8::1:1:1:1:1"), ("1::", "1:0:0:0:0:0:0:0"), ("::ffff:a00:0", ""),
+    ("ffff:ffff:ffff:ffff:ffff:ffff:ffff:ffff", ""),
+)
+NO_ADDRESSES = """\
+ 1.2.3.4|.1.2.3|1..2.3|1.2.3|1.2.3.|1.2.3.0004|1.2.3.4.5|1.2.3.x|256.0.0.0|:|:::|:1|1:|1::2::3|1::2:|:1::2|1:2:3:4:5:6:7
+1:2:3:4:5:6:7:|:2:3:4:5:6:7:8|1:2:3:4:5:6:7:8:9|1:2:3:4:5:6:7:8::|::1:2:3:4:5:6:7:8|1:2:3:4::5:6:7:8|1:2:3:4:5:6:7::8:9
+1:2:3:4:5:6:7:1.2.3.4|1:2:3:4:5:6:7.8.9.10:11|::1.2.3.4::|1.2.3.4::|::1.2.3.4:5|::1.2.3|::256.0.0.1|::12345|::g|::1%1
+10.0.0.0/8""".replace("\n", "|").split("|")
+
 # A flow that passes each filter of FILTERS, and the flows that fail only one: the addresses, the ports, the protocol,
 # the packets and the bytes, and the labels that labels.txt gives.
 PASSING = "10.0.0.1 20.0.0.1 1000 443 6 4 150 A B"
@@ -163,30 +186,25 @@ class Lines(Case):
 class Answers(Lines):
     """Lines that end with status 0: the result on standard output, and nothing on standard error."""
 
+    # Lines over small files are in tests/program/worked.py. Options may come in any order, and after the file.
     @rows(
-        ("label --pmap map.txt 10.1.1.1", "B\n"),
-        ("label --pmap map.txt 2001:db8::1", "\n"),
         ("label 10.1.1.1 --pmap map.txt", "B\n"),
-        ("label --list list.txt 10.1.1.1", "B\n"),
-        ("rows flows", TITLE + ROW),
-        ("rows --pmap map.txt flows", f"{TITLE[:-1]}|src-label|dst-label\n{ROW[:-1]}|B|UNKNOWN\n"),
-        ("rows --list list.txt flows", f"{TITLE[:-1]}|src-label|dst-label\n{ROW[:-1]}|B|UNKNOWN\n"),
+        ("label --pmap=map.txt 10.1.1.1", "B\n"),
         ("rows many", TITLE + ROW * MANY),
-        ("rows --columns flows", "     sip|    dip|sport|dport|proto|flags|packets|bytes|stime|etime\n"
+        ("rows flows --columns", "     sip|    dip|sport|dport|proto|flags|packets|bytes|stime|etime\n"
                                  "10.0.0.1|8.8.8.8|    0|    0|    6|    0|      3|  180|    0|    0\n"),
-        ("info flows", "messages 1\ntemplates 1\noptions-templates 0\nwithdrawals 0\ndata-sets 1\nskipped-sets 0\n"
-                       "records 1\noptions-records 0\nrows 1\n"),
+        ("rows --pmap map.txt flows --bytes 0-", f"{TITLE[:-1]}|src-label|dst-label\n{ROW[:-1]}|B|UNKNOWN\n"),
+        ("rows -- flows", TITLE + ROW),
         ("rows /dev/null", TITLE),
-        ("cat --pmap map.txt", RANGES),
-        ("cat --list list.txt", RANGES),
+        ("cat --list=list.txt", RANGES),
         ("cat --pmap /dev/null", "low|high|label\n0.0.0.0|255.255.255.255|UNKNOWN\n"),
-        ("shrink --pmap map.txt", "mode ipv4\n0.0.0.0/0 UNKNOWN\n10.0.0.0/7 B\n"),
         ("shrink --pmap /dev/null --certificate", "flowlabel-cert 1 ipv4 1\nUNKNOWN\nl 0\n"),
         ("shrink --pmap /dev/null --certificate --compact", "flowlabel-cert 2 ipv4 1\nUNKNOWN\nl 0\n"),
-        ("shrink --compact --pmap last.txt --certificate", LAST_CERT),
-        ("recert --cert chain.txt", LAST_CERT),
-        ("recert --cert cert.txt", "flowlabel-cert 2 ipv4 3\nA\nB\nUNKNOWN\nn 1 0 1\nl 0\nl 1\n"),
-        ("recert --cert compact.txt", "flowlabel-cert 2 ipv4 3\nA\nB\nUNKNOWN\nn 1 0 1\nl 0\nl 1\n"),
+        ("shrink --compact --pmap=last.txt --certificate", LAST_CERT),
+        ("recert --cert=chain.txt", LAST_CERT),
+        ("check --cert cert.txt --list=halves.txt --pmap halves.txt", "minimal 2\n"),
+        ("uniq --sort-output --fields proto --columns flows",
+         "proto|records|packets|bytes\n    6|      1|      3|  180\n"),
     )
     def test_line(self, line, out):
         self.expect(line, 0, out)
@@ -359,11 +377,15 @@ class Faults(Lines):
                     f"flowlabel: beyond.txt: M12 TooMany at {MOST_MAPPINGS + 2}\n")
 
     @rows(
-        ("label 10.1.1.1", "P2 MapMissing"), ("label --pmap map.txt 10.1.1", "P4 BadAddress"),
-        ("rows --pmap missing --list missing flows", "P3 MapTwice"), ("cat", "P2 MapMissing"),
+        ("label 10.1.1", "P2 MapMissing"), ("label --pmap map.txt 2001:db8::1::", "P4 BadAddress"),
+        ("rows --pmap missing --list missing flows", "P3 MapTwice"),
         ("cat --list missing --pmap missing", "P3 MapTwice"), ("shrink --pmap missing --compact", "P6 CompactAlone"),
-        # A fault of the words is reported before a fault of a file.
-        ("label --pmap missing 10.1.1", "P4 BadAddress"),
+        # A fault of the words is reported before a fault of a file, and the first one of several.
+        ("label --pmap missing 10.1.1", "P4 BadAddress"), ("label --list missing 1.2.3", "P4 BadAddress"),
+        ("label --pmap missing --list missing 1.2.3", "P3 MapTwice"),
+        ("rows --pmap missing --list missing --sport x flows", "P3 MapTwice"),
+        ("rows --dst-label B --bytes x --dport x flows", "--dport L1 BadNumberList"),
+        ("uniq --fields x --bytes x --any-label B flows", "--bytes L2 BadRange"),
         *((f"uniq --fields {words} missing", fault) for words, fault in (
             ("colour", "--fields U1 BadField"), ("sip,", "--fields U1 BadField"),
             ("sip,dip,sip", "--fields U2 FieldRepeated"), ("sip,sip,colour", "--fields U1 BadField"), 
@@ -380,7 +402,13 @@ class Faults(Lines):
         "label --pmap map.txt 10.1.1.1 10.1.1.1", "cat --pmap map.txt 10.1.1.1", "shrink", "shrink --certificate",
         "shrink --list list.txt", "shrink --compact", "recert", "recert cert.txt", "recert --cert cert.txt cert.txt",
         "uniq", "uniq flows", "uniq --fields", "uniq --fields sip", "uniq --fields sip flows flows",
-        "check --pmap halves.txt --list halves.txt")))
+        "check --pmap halves.txt --list halves.txt", "check --pmap halves.txt --cert cert.txt",
+        "check --list halves.txt --cert cert.txt", f"{WORKED_CHECK} flows", "help", "label --version",
+        "label 10.1.1.1 --pmap", "label --map map.txt 10.1.1.1", "label --pmap map.txt", "info --columns flows",
+        "info --pmap map.txt flows", "info --protocol 6 flows", "rows flows flows", "rows --columns=yes flows",
+        "rows --sport 1 --sport", "shrink --pmap map.txt --list list.txt", "shrink --pmap map.txt map.txt",
+        "shrink --pmap map.txt --certificate --compact=yes", "recert --cert cert.txt --pmap map.txt",
+        "recert --cert cert.txt --compact")))
     def test_refused_by_clap(self, line):
         self.expect(line, 2, "", REFUSAL)
 
@@ -404,6 +432,7 @@ class Faults(Lines):
         for words in ([NO_TEXT], ["label", "--pmap", "map.txt", NO_TEXT], ["label", "--pmap", NO_TEXT, "10.1.1.1"],
                       ["info", NO_TEXT], ["rows", f"--{NO_TEXT}", "flows"]):
             self.expect(words, 2, "", "flowlabel: usage: P1 NotUtf8\n")
+        self.expect(["label", "--pmap", "map.txt", ""], 2, "", "flowlabel: usage: P4 BadAddress\n")
 
     @rows(
         ("halves.txt halves.txt cert.txt", "minimal 2"), ("halves.txt halves.txt compact.txt", "minimal 2"),
@@ -421,6 +450,21 @@ class Faults(Lines):
             self.expect(line, 0, f"{text}\n")
         else:
             self.expect(line, 1, "", f"flowlabel: {text}\n")
+
+
+class Addresses(Case):
+    """Texts of addresses, and texts that are none."""
+
+    @rows(*ADDRESSES)
+    def test_address(self, printed, others):
+        for text in (printed, *others.split()):
+            write("list.txt", f"{text} A\n")
+            row = re.escape(f"{printed}|{printed}|A\n")
+            self.expect("cat --list list.txt", 0, re.compile(rf"(?:.*\n)+{row}(?:.*\n)?"))
+
+    @rows(*zip(NO_ADDRESSES))
+    def test_no_address(self, text):
+        self.expect(["label", "--pmap", "/dev/null", text], 2, "", "flowlabel: usage: P4 BadAddress\n")
 
 
 class OutOfMemory(Lines):
@@ -591,7 +635,7 @@ class CountsOfMillions(Lines):
         self.within(700, "recert --cert plain", read("compact"))
         self.within(600, "recert --cert compact", read("compact"))
         for name in ("plain", "compact"):
-            self.within(300, f"check --pmap map --list list --cert {name}", f"minimal {len(names) + 1}\n")
+            self.within(300, f"check --pmap map --list list --cert {name}", f"minimal {count}\n")
 
 
 def first_bytes(number, reading):

@@ -6,7 +6,7 @@ import os
 from program.worked import CHECK, HALF, LARGE, LAST, LAST_COMPACT, LAST_LIST, LINES, NESTED, ONE_FLOW, QUARTERS, \
     QUARTERS_CERT, QUARTERS_LIST, TWO_DOMAINS, line_of, lines_of, make
 from program.worked_many import FRONTS as FRONTS_OF_MANY, LINES as LINES_OF_MANY
-from support import Case, needs, needs_many, rows, run, system
+from support import Case, needs, needs_many, read_bytes, rows, run, system
 
 COUNTS = ("messages {};templates {};options-templates 0;withdrawals 0;data-sets {};skipped-sets {};records {};"
           "options-records 0;rows {};")
@@ -63,8 +63,7 @@ class Checked(Case):
         program = line_of(files, words, 0, "").program
         folder = make(line_of(files, words, 0, ""))
         path = os.path.join(folder, cut)
-        with open(path, "rb") as file:
-            whole = file.read()
+        whole = read_bytes(path)
         for length in range(len(whole), -1, -1):
             os.truncate(path, length)
             text = [text for least, text in fronts if least <= length][-1]

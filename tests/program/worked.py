@@ -35,6 +35,8 @@ SPAN_LIST = "mode ipv4;0.0.0.0/0 D;0.0.0.0/29 X;0.0.0.0/32 D;0.0.0.7/32 D;"
 SPAN_CERT = (f"flowlabel-cert 1 ipv4 2;D;X;{28 * 'n 3 0;'}n 3 0 1;n 2 1;n 1 1;n 1 0 1;l 0;l 1;l 1;n 1 1;l 1;n 1 0 1;"
              f"l 1;l 0;{29 * 'l 0;'}")
 LEAF_COMPACT = "flowlabel-cert 2 ipv4 1;UNKNOWN;l 0;"
+# A chain of one bit, whose end is a chain, too.
+SHORT_CHAINS = "flowlabel-cert 2 ipv6 2;A;B;c 1 1 0 0 1;c 4294967295 01 1;l 0;"
 # The maximum number of labels in a text.
 LABELS = "".join(f"label {number} t{number};" for number in range(1, 65_536))
 QUARTERS_LIST = "mode ipv4;0.0.0.0/0 A;64.0.0.0/2 B;192.0.0.0/2 C;"
@@ -72,6 +74,25 @@ BIFLOW = (f"000a0059 {HEADER} 0002002c 01000007 00080004 000c0004 00040001 00020
 NO_ANSWER = BIFLOW.removesuffix("00000002 00000064") + "00000000 00000064"
 # A template that is faulty, before the second set.
 BAD_TEMPLATE = ONE_FLOW.replace("01000005", "00ff0005")
+# Ports and times; packets of another enterprise; and in the reverse direction packets since the flow began in three
+# bytes, octets in two bytes, flags, the first time, octets in nine bytes, and packets once more.
+REVERSE_TOTALS = (
+    f"000a00aa {HEADER} 0002005c 0100000e 00080004 000c0004 00070002 000b0002 00040001 00980008 00990008 "
+    "80020004 00001ad7 80560003 00007279 80550002 00007279 80060001 00007279 80980008 00007279 80010009 00007279 "
+    "80560002 00007279 0100003e 0a000001 08080808 0050 01bb 06 0000018bcfe56800 0000018bcfe56be8 00000009 010203 0102 "
+    "1b 0000018bcfe569f4 0000000000000000ff 0001")
+# Packets in the reverse direction since the last report, which are 0, and since the flow began, which are not; a field
+# of them of variable length; and one address.
+REVERSE_NONE = (f"000a0044 {HEADER} 00020020 01000004 00080004 000c0004 80020004 00007279 80560004 00007279 "
+                "01000014 0a000001 08080808 00000000 00000005")
+REVERSE_VARIABLE = (f"000a0036 {HEADER} 00020018 01000003 00080004 000c0004 8002ffff 00007279 "
+                    "0100000e 0a000001 08080808 0105")
+REVERSE_ALONE = f"000a0030 {HEADER} 00020014 01000002 00080004 80020004 00007279 0100000c 0a000001 00000005"
+# Ports in one byte and in two, flags, counts since the flow began in three bytes and in two, times, octets in nine
+# bytes, and a second source port.
+TOTALS = (f"000a0075 {HEADER} 00020034 0101000b 00080004 000c0004 00070001 000b0002 00060002 00550003 00560002 "
+          "00980008 00990008 00010009 00070002 01010031 0a000001 08080808 50 01bb 001b 010203 0102 0000018bcfe56800 "
+          "0000018bcfe56be8 0000000000000000ff 1234")
 # An options template and its record.
 OPTIONS = f"000a0032 {HEADER} 00030012 01030002 00010095 00040029 00080103 00100000 00010000 00000000 0005"
 
@@ -147,7 +168,20 @@ FILE_FAULTS = (
     (replaced(ONE_FLOW, ("000a", "0009")), "F2 BadVersion at 0"),
     (replaced(ONE_FLOW, ("0041", "000f")), "F3 BadMessageLength at 0"),
     (BAD_TEMPLATE, "F6 BadTemplate X2 at 20"),
+    # The length of the long form, too, may extend beyond the end of the set.
     (LONG_VALUE, "F7 BadRecord at 40"),
+    (replaced(LONG_VALUE, ("0541", "ff41")), "F7 BadRecord at 40"),
+    # A set that is shorter than its header, and bytes after the last set.
+    (f"000a0014 {HEADER} 01000003", "F5 BadSetLength at 16"),
+    (f"000a0013 {HEADER} 010000", "F5 BadSetLength at 16"),
+    (f"000a0014 {HEADER} 01000005", "F5 BadSetLength at 16"),
+    (f"000a001a {HEADER} 0002000a 01000001 0008", "F6 BadTemplate X1 at 20"),
+    (f"000a001a {HEADER} 0003000a 01000001 0000", "F6 BadTemplate X3 at 20"),
+    # All options templates withdrawn in a set of templates.
+    (f"000a0018 {HEADER} 00020008 00030000", "F6 BadTemplate X2 at 20"),
+    # Faults of a second message.
+    (f"000a0010 {HEADER} 00090010 {HEADER}", "F2 BadVersion at 16"),
+    (f"000a0010 {HEADER} 000a", "F1 TruncatedHeader at 16"),
 )
 # A certificate, and its compact form or its first fault, for `recert`.
 COMPACTED = (
@@ -171,13 +205,27 @@ COMPACTED = (
     # A certificate of format 2 is unchanged, also with a chain of one bit and with a run outside a chain.
     ("flowlabel-cert 2 ipv4 2;A;B;c 1 1 0 0 1;n 0 1;l 1;n 0 1;l 1;l 1;",
      "flowlabel-cert 2 ipv4 2;A;B;c 1 1 0 0 1;n 0 1;l 1;n 0 1;l 1;l 1;"),
+    (SHORT_CHAINS, SHORT_CHAINS),
+    # Runs in both halves of a node that has no leaf.
+    ("flowlabel-cert 1 ipv4 2;A;B;n 2 0;n 1 0;l 0;n 1 0 1;l 0;l 1;n 1 0;n 1 0 1;l 1;l 0;l 0;",
+     "flowlabel-cert 2 ipv4 2;A;B;n 2 0;c 1 11 0 0;l 1;c 1 00 0 0;l 1;"),
     ("", "C1 BadHeader at 1"),
     ("flowlabel-cert 3 ipv4 0;", "C1 BadHeader at 1"),
+    ("flowlabel-cert 02 ipv4 0;", "C1 BadHeader at 1"),
+    ("flowlabel-cert 2 ipv4 0;", "C5 NodesMissing at 2"),
+    # A chain in format 1; too few words, no bits and invalid digits; and invalid costs, side labels and sets.
+    ("flowlabel-cert 1 ipv4 1;A;c 0 1 0 0;l 0;", "C3 BadNode at 3"),
+    *((f"flowlabel-cert 2 ipv4 1;A;{node};l 0;", "C3 BadNode at 3") for node in (
+        "c 0 1", "c 0  0 0", "c 0 012 0 0", "c 4294967296 1 0 0", "c 0 1 1 0", "c 0 1 0 ")),
+    ("flowlabel-cert 2 ipv4 2;A;B;c 0 1 0 1 0;l 0;", "C3 BadNode at 4"),
+    ("flowlabel-cert 2 ipv4 1;A;c 0 1 0 0;l 0 ", "C3 BadNode at 4"),
     ("flowlabel-cert 2 ipv4 2;A;A;l 0;", "C2 BadLabelTable at 3"),
-    ("flowlabel-cert 2 ipv4 1;A;c 0  0 0;l 0;", "C3 BadNode at 3"),
     (f"flowlabel-cert 2 ipv4 1;A;n 0 0;c 0 {33 * '1'} 0 0;", "C3 BadNode at 4"),
     (f"flowlabel-cert 2 ipv4 1;A;n 0 0;c 0 {32 * '1'} 0 0;", "C4 TooDeep at 4"),
     (f"flowlabel-cert 2 ipv4 1;A;c 0 {31 * '1'} 0;n 0;n 0;", "C4 TooDeep at 5"),
+    (f"flowlabel-cert 2 ipv4 1;A;c 0 {32 * '1'} 0 0;n 0;", "C4 TooDeep at 4"),
+    (f"flowlabel-cert 2 ipv4 1;A;c 0 {31 * '1'} 0 0;c 0 11 0;", "C4 TooDeep at 4"),
+    (f"flowlabel-cert 2 ipv4 1;A;c 0 {31 * '1'} 0 0;c 0 1 0;", "C5 NodesMissing at 5"),
     ("flowlabel-cert 2 ipv4 1;A;c 0 0 0;", "C5 NodesMissing at 4"),
     ("flowlabel-cert 2 ipv4 1;A;c 0 0 0;l 0;l 0;", "C6 NodesLeft at 5"),
 )
@@ -321,8 +369,19 @@ LINES = (
         ("info flows", 0, "messages 0;templates 0;options-templates 0;withdrawals 0;data-sets 0;skipped-sets 0;"
                           "records 0;options-records 0;rows 0;"),
     )),
-    ({"flows": TWO_DOMAINS}, (("info flows", 0, COUNTS),)),
-    ({"flows": LONG_FORM}, (("rows flows", 0, f"{TITLE};10.0.0.1|8.8.8.8|0|0|0|0|0|0|0|0;"),)),
+    ({"flows": TWO_DOMAINS}, (("info flows", 0, COUNTS), ("rows flows", 0, ONE_ROW))),
+    *(({"flows": flows}, (("rows flows", 0, HEADER_ROW),)) for flows in (WITHDRAWN, OPTIONS, REVERSE_ALONE)),
+    *(({"flows": flows}, (("rows flows", 0, f"{TITLE};10.0.0.1|8.8.8.8|0|0|0|0|0|0|0|0;"),))
+      for flows in (LONG_FORM, REVERSE_NONE, REVERSE_VARIABLE)),
+    ({"flows": TOTALS}, (
+        ("rows flows", 0, f"{TITLE};10.0.0.1|8.8.8.8|80|443|0|27|258|66051|1700000000000|1700000001000;"),
+    )),
+    ({"flows": REVERSE_TOTALS}, (
+        ("rows flows", 0, f"{TITLE};10.0.0.1|8.8.8.8|80|443|6|0|0|0|1700000000000|1700000001000;"
+                          "8.8.8.8|10.0.0.1|443|80|6|27|66051|258|1700000000500|1700000001000;"),
+        ("info flows", 0, BIFLOW_COUNTS.format(2)),
+    )),
+    ({"flows": REVERSE_ALONE}, (("info flows", 0, BIFLOW_COUNTS.format(0)),)),
     ({"map.txt": NESTED, "list.txt": NESTED_LIST, "flows": TWO_MESSAGES}, (
         ("uniq --fields src-label --pmap map.txt flows", 0, BY_LABEL),
         ("uniq --fields src-label --list list.txt flows", 0, BY_LABEL),
@@ -348,6 +407,13 @@ LINES = (
         ("rows flows", 0, f"{TITLE};{TCP_ROW};{UDP_ROW};"),
         ("uniq --fields sip flows", 0, "sip|records|packets|bytes;10.0.0.1|1|3|180;9.0.0.1|1|1|100;"),
         ("uniq --fields sip --sort-output flows", 0, "sip|records|packets|bytes;9.0.0.1|1|1|100;10.0.0.1|1|3|180;"),
+        ("uniq --fields dip --columns flows", 0, "    dip|records|packets|bytes;8.8.8.8|      2|      4|  280;"),
+        ("uniq --fields sport,dport,proto,flags --sort-output flows", 0,
+         "sport|dport|proto|flags|records|packets|bytes;0|0|6|0|1|3|180;0|0|17|0|1|1|100;"),
+        *((f"rows {words} flows", 0, f"{TITLE};{TCP_ROW};{UDP_ROW};")
+          for words in ("--protocol 5-7,0,16-255", "--sport 00,9", "--daddress 2001:db8::1,8.8.8.8")),
+        ("rows --dport 1-65535 flows", 0, f"{TITLE};"),
+        ("rows --saddress 10.0.0.2,9.0.0.0/8 flows", 0, f"{TITLE};{UDP_ROW};"),
         ("rows --protocol 17 flows", 0, f"{TITLE};{UDP_ROW};"),
         ("rows --protocol 10-16 flows", 0, f"{TITLE};"),
         ("rows --packets 2- flows", 0, f"{TITLE};{TCP_ROW};"),
@@ -383,6 +449,12 @@ LINES = (
          "low|high|label;0.0.0.0|0.255.255.255|UNKNOWN;1.0.0.0|1.255.255.255|red;2.0.0.0|2.255.255.255|6;"
          "3.0.0.0|255.255.255.255|UNKNOWN;"),
     )),
+    ({"map.txt": "0.0.0.0/1 A;128.0.0.0/2 A;192.0.0.0/2 B;"}, (
+        ("cat --pmap map.txt", 0, "low|high|label;0.0.0.0|191.255.255.255|A;192.0.0.0|255.255.255.255|B;"),
+    )),
+    ({"list.txt": "map-name m;mode ipv6;::7/128 D;::/128 D;::/125 X;::/0 D;"}, (
+        ("cat --list list.txt", 0, "low|high|label;::|::|D;::1|::6|X;::7|ffff:ffff:ffff:ffff:ffff:ffff:ffff:ffff|D;"),
+    )),
     ({"list.txt": HALF}, (
         ("label --list list.txt 128.0.0.1", 0, ";"),
         ("cat --list list.txt", 0, "low|high|label;0.0.0.0|127.255.255.255|A;128.0.0.0|255.255.255.255|;"),
@@ -406,6 +478,11 @@ LINES = (
         ("rows --protocol 6,256 flows", 2, "flowlabel: usage: --protocol L1 BadNumberList"),
         ("rows --packets 5-4 flows", 2, "flowlabel: usage: --packets L2 BadRange"),
         ("rows --saddress 10.0.0 flows", 2, "flowlabel: usage: --saddress L3 BadBlock"),
+        ("rows --protocol 000000000000000000006 flows", 2, "flowlabel: usage: --protocol L1 BadNumberList"),
+        ("rows --dport 80, flows", 2, "flowlabel: usage: --dport L1 BadNumberList"),
+        ("rows --daddress 10.0.0.0/33 flows", 2, "flowlabel: usage: --daddress L3 BadBlock"),
+        ("rows --bytes 18446744073709551616 flows", 2, "flowlabel: usage: --bytes L2 BadRange"),
+        ("uniq --fields '' flows", 2, "flowlabel: usage: --fields U1 BadField"),
         ("uniq --fields colour flows", 2, "flowlabel: usage: --fields U1 BadField"),
         ("uniq --fields sip,sip flows", 2, "flowlabel: usage: --fields U2 FieldRepeated"),
         ("rows --src-label B flows", 2, "flowlabel: usage: P5 LabelNeedsMap"),
