@@ -9,22 +9,20 @@ makes over 60,000 allocations, so each of them fails in a copy of the process th
 CALLS are calls of the crates. A value that a call changes must be unchanged if an allocation failed, and the same call,
 made once more, must succeed. The small program in tests/crates/memory makes them. It is built if it is missing or old.
 
-The lines are those of tests/program/worked.py and worked_many.py. The status must be 3, with nothing on standard output and the line of
-the fault on standard error. If the line itself is invalid, the last allocations are for the line of its fault. If one
-of them fails, no line is written, and the line's own status is kept. The text of clap for a line that it refuses, and
-its help, may be printed although an allocation failed: its suggestions do without. For the lines of LOOKED_THROUGH the
-fault may be reported although an allocation failed before it was found.
+The lines are those of tests/program/worked.py and worked_many.py. The status must be 3, with nothing on standard output
+and the line of the fault on standard error. If the line itself is invalid, the last allocations are for the line of its
+fault. If one of them fails, no line is written, and the line's own status is kept. The text of clap for a line that it
+refuses, and its help, may be printed although an allocation failed: its suggestions do without. For the lines of
+LOOKED_THROUGH the fault may be reported although an allocation failed before it was found.
 
 `rt try --fail-alloc N` fails an allocation too, but builds the program anew for each N. So tests/crates/memory/refuse.c
 does it here.
 """
 
-import fcntl
 import os
 import re
 import shlex
 import subprocess
-import tempfile
 import typing
 
 from program.worked import BY_LABEL, BY_LABEL_COLUMNS, CLAPS, COLUMNS, COUNTS, HALF, HALVES, HALVES_CERT, \
@@ -267,23 +265,15 @@ class LargeLine(Case):
         self.assertTrue(is_answer_of(line, answer._replace(err=b"")), f"no allocation failed: {str(answer)[:2000]}")
 
 
-def built_calls():
-    """Builds the program that makes the calls if it is missing or old, and returns its path. Two runs of the tests
-    don't build it at the same time."""
-    with open(os.path.join(tempfile.gettempdir(), f"flowlabel-memory-{os.getuid()}.lock"), "wb") as lock:
-        fcntl.flock(lock, fcntl.LOCK_EX)
-        folder = subprocess.run([ROOT / "tests/crates/memory/build"], stdin=subprocess.DEVNULL, stdout=subprocess.PIPE,
-                                text=True, check=True).stdout.strip()
-    return os.path.join(folder, "memory_calls")
-
-
 class Calls(Sweeps):
     """Calls of the crates."""
     is_long = True
 
     @classmethod
     def prepare(cls):
-        cls.program = built_calls()
+        # It is built if it is missing or old.
+        cls.program = subprocess.run([ROOT / "tests/crates/memory/build"], stdin=subprocess.DEVNULL,
+                                     stdout=subprocess.PIPE, text=True, check=True).stdout.strip()
 
     @rows(*((call.name, call) for call in CALLS))
     def test_call(self, _, call):
