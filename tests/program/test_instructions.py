@@ -146,6 +146,8 @@ def main():
     """Measures the lines anew, and writes the rows of the table in the page."""
     if sys.argv[1:] != ["--write"]:
         sys.exit("tests/program/test_instructions.py: the only word is --write. tests/run.py runs the tests.")
+    if any(b"not proved" in run(program, "--version").stdout for program in BY_NAME.values()):
+        sys.exit("tests/program/test_instructions.py: the table has the costs of the proved programs: run `make`")
     with tempfile.TemporaryDirectory() as folder, concurrent.futures.ThreadPoolExecutor(os.cpu_count()) as pool:
         os.chdir(folder)
         make_inputs(" ".join(LINES))
