@@ -345,9 +345,10 @@ class Texts(Fib):
     def test_fault(self, words, given, message):
         self.assert_refused(fib(words, given), message)
 
-    def test_routes_that_are_cut_short(self):
+    @rows((0,), (23,), (46,))
+    def test_routes_that_are_cut_short(self, first):
         text = read(ROOT / "examples/routes-ip.json")
-        for size in (*range(0, len(text) - 2, 23), len(text) - 2):
+        for size in (*range(first, len(text) - 2, 69), len(text) - 2):
             with self.subTest(size=size):
                 self.assert_refused(fib("linux", text[:size]), "cut short")
 

@@ -19,7 +19,7 @@ from support import message as message_of
 
 SETS = int(os.environ.get("SETS") or 120)
 # The number of sets of one test.
-PART = 20
+PART = 12
 SEED = 20261130
 FIELDS = ("sip", "dip", "sport", "dport", "proto", "flags", "src-label", "dst-label")
 # A unit, and its minutes if flowlabel-report has no such unit.

@@ -240,9 +240,9 @@ TABLE = (
         ("sum --fields sip a b", 1, fault("b", "S1 SkippedSet at 0")),
         ("sum --fields sip a cut", 1, fault("cut", "F4 TruncatedMessage at 0")),
     )),
-    ({"many": 400 * ONE_FLOW, "cut": CUT}, (
+    ({"many": 200 * ONE_FLOW, "cut": CUT}, (
         ("messages many", 0, TITLES + "".join(f"1|{number}|{65 * number - 65}|1|0|1610612736|1|0|1|0|1|0;"
-                                              for number in range(1, 401))),
+                                              for number in range(1, 201))),
         ("messages many cut", 1, fault("cut", "F4 TruncatedMessage at 0")),
     )),
     # The command line.
