@@ -160,6 +160,18 @@ TEXT_FAULTS = (
     (f"{NUMBERED}1.0.0.0/8 x;", "cat --list list.txt", "M14 DuplicateBlock at 4"),
     (f"{NUMBERED}default x;", "cat --list list.txt", "M13 NotAList at 4"),
 )
+# Maps, and addresses with their labels: the last statement decides, whether it is wider or narrower, and ranges may be
+# no blocks.
+LABELLED = (
+    ("", "0.0.0.0 UNKNOWN 255.255.255.255 UNKNOWN"), ("mode ip;", "1.2.3.4 UNKNOWN"), ("mode ipv6", "::1 UNKNOWN"),
+    ("10.0.0.0/8 A;10.0.0.0/7 B;", "11.255.255.255 B 12.0.0.0 UNKNOWN 9.255.255.255 UNKNOWN"),
+    ("10.0.0.0/7 B;10.0.0.0/8 A;", "10.1.1.1 A 11.0.0.0 B 12.0.0.0 UNKNOWN"),
+    ("0.0.0.1 0.0.0.6 A;", "0.0.0.0 UNKNOWN 0.0.0.1 A 0.0.0.2 A 0.0.0.5 A 0.0.0.6 A 0.0.0.7 UNKNOWN"),
+    ("255.255.255.255 A;", "0.0.0.0 UNKNOWN 255.255.255.254 UNKNOWN 255.255.255.255 A"),
+    ("0.0.0.5 A;0.0.0.0 255.255.255.255 B;", "0.0.0.0 B 0.0.0.5 B 255.255.255.255 B"),
+    (f"2001:db8::/32 A;ffff{7 * ':ffff'} B;",
+     f"2001:db8{6 * ':ffff'} A ffff{6 * ':ffff'}:fffe UNKNOWN ffff{7 * ':ffff'} B"),
+)
 # A File, and its first fault. Each is a fault of `rows` and of `info`.
 FILE_FAULTS = (
     # One byte less than a message with one record, and one byte less than its header.
@@ -494,6 +506,9 @@ LINES = (
         ("--help", 0, CLAPS),
         ("rows --help", 0, CLAPS),
     )),
+    *(({"map.txt": text}, tuple((f"label --pmap map.txt {address}", 0, f"{label};")
+                                for address, label in zip(said.split()[::2], said.split()[1::2])))
+      for text, said in LABELLED),
     # The map is read first, and then the list.
     ({"map.txt": "x", "list.txt": "default x;", "cert.txt": "x"}, (
         (CHECK, 1, "flowlabel: map.txt: M1 BadStatement at 1"),
