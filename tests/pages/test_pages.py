@@ -408,6 +408,15 @@ class Options(Case):
         self.assertEqual(set(re.findall(r"Fl -([a-z-]+)", "\n".join(lines))),
                          {"version"}.union(*(options_of(help_of(command)) for command in COMMANDS_OF[program])))
 
+    @rows(*zip(COMMANDS_OF["flowlabel"]))
+    def test_words_of_manual(self, command):
+        """The text of each option in the help begins its text in the manual."""
+        manual = dict(re.findall(r"(?m)^\.It Fl -([a-z-]+).*\n((?:[^.].*\n)+)", read("man/flowlabel.1")))
+        for option, said in options_of(help_of(command)).items():
+            with self.subTest(option):
+                said = re.split(", such as|:", said)[0]
+                self.assertTrue(option == "help" or re.match(f"{said}[.,:]", " ".join(manual[option].split())))
+
     @rows(*((program, commands[0]) for program, commands in COMMANDS_OF.items()))
     def test_of_the_program(self, program, first):
         self.assertEqual(set(options_of(help_of(program))), {"help", "version"})

@@ -51,7 +51,6 @@ USAGES = {
 
 # A name that isn't ASCII.
 FOREIGN = "a name of words, \u00e4\u00f6\u00fc.txt"
-FISH = ROOT / "completions/flowlabel.fish"
 RANGES = ("low|high|label\n0.0.0.0|9.255.255.255|UNKNOWN\n10.0.0.0|11.255.255.255|B\n"
           "12.0.0.0|255.255.255.255|UNKNOWN\n")
 SUMS = "records|packets|bytes\n"
@@ -241,30 +240,6 @@ class Help(Lines):
         """The version is that of the newest release in CHANGELOG.md."""
         newest = re.search(r"(?m)^## ([0-9]\S*)", read(ROOT / "CHANGELOG.md"))[1]
         self.expect(option, 0, re.compile(rf"flowlabel {re.escape(newest)}{TRIAL}\n"))
-
-    def test_commands(self):
-        """The text of each command in the help is that of the completions."""
-        wanted = {name: text for name, _, text in re.findall(
-            r"""(?m)^complete -c flowlabel .*-a ([a-z]+) -d (['"])(.*?)\2""", read(FISH))}
-        shown = run(PROGRAM, "--help").stdout.decode().split("Commands:\n")[1].split("\n\n")[0]
-        commands = dict(line.split(maxsplit=1) for line in shown.splitlines())
-        self.assertEqual(commands, wanted, "the commands in the help and for fish")
-
-    @rows(*((command,) for command in USAGES if command))
-    def test_options(self, command):
-        """The text of each option in the help is that of the completions, and begins its text in the manual page."""
-        fish = re.findall(r"""-n "\$of ([a-z ]+)" -l ([a-z-]+) .*?-d (['"])(.*?)\3""", read(FISH))
-        zsh = set(re.findall(r"--([a-z-]+)\[([^]]*)\]", read(ROOT / "completions/_flowlabel")))
-        manual = dict(re.findall(r"(?m)^\.It Fl -([a-z-]+).*\n((?:[^.].*\n)+)", read(ROOT / "man/flowlabel.1")))
-        shown = run(PROGRAM, command, "--help").stdout.decode()
-        options = re.findall(r"(?m)^ +--([a-z-]+)(?: <[A-Z]+>)?  +(.*\n(?: {20,}.*\n)?)", shown)
-        options = {name: re.split(", such as|:", " ".join(text.split()))[0] for name, text in options}
-        wanted = {name: text.split(", such as")[0] for names, name, _, text in fish if command in names.split()}
-        self.assertEqual(options, wanted, f"the options of {command} in the help and for fish")
-        for name, text in options.items():
-            with self.subTest(option=name):
-                self.assertIn((name, f"{text[0].lower()}{text[1:]}"), zsh, f"--{name} for zsh")
-                self.assertRegex(" ".join(manual.get(name, "").split()), rf"\A{text}[.,:]", f"--{name} in the manual")
 
 
 def rows_of(flows, columns):
