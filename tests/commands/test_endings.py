@@ -56,7 +56,7 @@ MISSING = (
     ("table tsv {}.none {}.folder", "flowlabel-table: {}.none: No such file or directory"),
     ("fib linux {}.none", "flowlabel-fib: {}.none: No such file or directory"),
     ("fib --load 100 {}.none", "flowlabel-fib: {}.none: No such file or directory"),
-    ("table tsv {}.list /dev/null/x", "flowlabel-table: /dev/null: File exists"),
+    ("table tsv {}.list {}.list", "flowlabel-table: {}.list: File exists"),
     ("bill {}.none --fields sip", "flowlabel-bill: {}.none: No such file or directory"),
     ("packets 4 none/{}", "packets: none/{}: No such file or directory"),
 )

@@ -352,9 +352,10 @@ class OfCommands(Case):
           ("--saddress 10/8", "flowlabel: usage: --saddress L3 BadBlock", "write addresses or blocks, such as 10.0"),
           ("--fields dlabel", "flowlabel: usage: --fields U1 BadField", "the fields are sip, dip, "),
           ("--src-label A", "flowlabel: usage: P5 LabelNeedsMap", "name the map with --pmap"),
-          (f"--pmap {ROOT}/README.md", f"flowlabel: {ROOT}/README.md: M1 BadStatement at 3", "flowlabel-lint MAP"))
+          ("--pmap map.txt", "flowlabel: map.txt: M1 BadStatement at 3", "flowlabel-lint MAP"))
     def test_cure(self, options, fault, cure):
         word = "uniq" if "--fields" in options else "rows"
+        write("map.txt", "# A map\n\ncolour red\n")
         found = texts(REPORT, "--", word, *options.split(), ROOT / "examples/softflowd.nfcapd")
         self.assertEqual((found[1], found[2].split("\n")[0]), ("", fault))
         self.assertRegex(found[2], f"\nflowlabel-report: .*{re.escape(cure)}.*\n\\Z")
