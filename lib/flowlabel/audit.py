@@ -17,7 +17,8 @@ import templates
 # What is certainly wrong: the words by which it can be allowed, and what is said of it.
 KINDS = {
     "skipped": "the records of skipped sets are in no sum", "missing": "records are missing",
-    "twice": "records came twice", "bytes": "records without bytes or rows are in no sum", "empty": "a File is empty",
+    "twice": "records came twice", "mixed": "records of several exporters are decoded wrongly",
+    "bytes": "records without bytes or rows are in no sum", "empty": "a File is empty",
 }
 CHUNK = 1 << 20
 COLUMNS = b"file|message|offset|domain|sequence|time|definitions|skipped-sets|records|options-records|rows|zero-bytes\n"
@@ -36,9 +37,10 @@ class Counts:
 
 
 class Audit:
-    """What is found in some Files: of each its counts, and what is wrong, certainly if it has a kind."""
+    """What is found in some Files, perhaps those of a month, from its begin to its end: of each its counts, and what is
+    wrong, certainly if it has a kind."""
 
-    def __init__(self, files):
+    def __init__(self, files, month=None):
         self.files, self.counts, self.found = files, [Counts() for _ in files], []
         self.missing, self.unknown = {}, set()
         # There are no cycles of objects to find.
@@ -46,7 +48,7 @@ class Audit:
         seen, first = templates.Seen(), {}
         for number, file in enumerate(files):
             self.read(number, file, seen)
-        loss, outputs, again = losses.Loss(), [*self.outputs()], seen.elsewhere
+        loss, outputs, again = losses.Loss(month), [*self.outputs()], seen.elsewhere
         # The outputs of flowlabel-many are read twice, since they may not fit into memory.
         for columns in itertools.chain.from_iterable(map(columns_of, outputs)):
             self.count(columns)

@@ -1,7 +1,9 @@
 """Records that are missing, by the sequence numbers of messages (RFC 7011, section 3.1), also between Files."""
 
+import bisect
 import collections
 import dataclasses
+import datetime
 import itertools
 
 # Sequence numbers are modulo 2^32. A number is ahead of another if it is nearer upwards than downwards.
@@ -56,7 +58,8 @@ class Stretch:
     def __init__(self, sessions=SESSIONS):
         self.sessions, self.open, self.fitting = sessions, [{} for _ in WAYS], [0] * len(WAYS)
         self.first = self.last = None
-        self.count = self.time = self.way = 0
+        # The latest time, and the longest time without a message.
+        self.count = self.time = self.pause = self.way = 0
         # The ways that differ in the messages up to now, since none has options records, and whether one has skipped
         # sets.
         self.ways, self.is_partial = (0, 2, 4), False
@@ -87,6 +90,8 @@ class Stretch:
         self.first, self.last = self.first or message, message
         self.count += 1
         if message.time > self.time:
+            if self.time:
+                self.pause = max(self.pause, message.time - self.time)
             self.time = message.time
 
     def settle(self):
@@ -102,7 +107,8 @@ class Stretch:
         whole = Stretch(1)
         whole.ways = self.ways
         whole.open, whole.fitting = [dict([*ends.items()][-1:]) for ends in self.open], [*self.fitting]
-        whole.first, whole.last, whole.time, whole.count = self.first, self.last, self.time, self.count
+        whole.first, whole.last, whole.count = self.first, self.last, self.count
+        whole.time, whole.pause = self.time, self.pause
         return whole
 
     def begin(self):
@@ -276,9 +282,11 @@ def places(gaps):
 
 class Loss:
     """The sessions of several Files. They are read twice: first it is found how numbers are counted and which Files
-    follow each other, then what is missing."""
+    follow each other, then what is missing. The Files are those of a month, from its begin to its end, or of unknown
+    times."""
 
-    def __init__(self):
+    def __init__(self, month=None):
+        self.month, self.ends = month, []
         # Of each File its domains, and all of it if it has several. Some exporters count over all domains.
         self.domains, self.wholes = collections.defaultdict(dict), {}
         # The numbers that count for a File and a domain, or for all of the File, and messages without any before them.
@@ -307,10 +315,16 @@ class Loss:
                 stretch.settle()
                 kept[key].append(stretch)
         del self.domains, self.wholes
-        earliest = min((one.first.time for its in kept.values() for one in its), default=0)
+        stretches = [*itertools.chain.from_iterable(kept.values())]
+        earliest = min((one.first.time for one in stretches), default=0)
+        # Conversions by flowlabel-nfcapd have the time 0.
+        whole = self.month or (min((one.first.time for one in stretches if one.time), default=0),
+                               max((one.time for one in stretches), default=0))
         for key, stretches in kept.items():
             choose_ways(stretches)
-            for chain in self.chains_of(stretches, earliest):
+            chains = self.chains_of(stretches, earliest)
+            self.ends += ends_of("all domains" if key is None else f"the domain {key}", chains, whole, self.month)
+            for chain in chains:
                 fitting, count = (sum(its) for its in zip(*((one.fitting[one.way], one.count) for one in chain)))
                 is_partial = any(one.is_partial for one in chain)
                 if fitting == count - len(chain) and not is_partial and all(
@@ -356,6 +370,7 @@ class Loss:
 
     def found(self):
         """Yields what is found, each with a File, and the kind of what is certainly wrong or None."""
+        yield from self.ends
         for message, begin in self.orphans:
             yield message.file, None, (f"the sequence numbers of the domain {message.domain} begin with {begin} in "
                                        f"{message}, and not with 0, so records before it may be missing")
@@ -372,6 +387,41 @@ class Loss:
             for gap in numbers.missing(True) if numbers.is_known() else ():
                 count[gap.message.file] += gap.size()
         return count, unknown
+
+
+def ends_of(whose, chains, whole, month):
+    """Yields what may be missing before and after sessions, since they begin late or end early: by more than the
+    longest time between two of their messages, and no other session ends or begins there. The numbers can't show it."""
+    spans = [(chain[0].first.time, max(one.time for one in chain), chain) for chain in chains]
+    begins, ends = sorted(begin for begin, _, _ in spans), sorted(end for _, end, _ in spans)
+    for begin, end, chain in spans:
+        if not end:
+            if month:
+                yield chain[0].first.file, None, (f"the messages of {whose} have no times of export, so records that "
+                                                  "are missing at the begin or the end of the month aren't seen")
+            continue
+        pause = max(SLACK, *(one.pause for one in chain), *(
+            other.first.time - one.time for one, other in zip(chain, chain[1:])))
+        what = "the month" if month else "those of others"
+        if begin > whole[0] + pause and not is_any(ends, begin - pause, begin + SLACK):
+            yield chain[0].first.file, None, (
+                f"the messages of {whose} begin at {time_text(begin)}, and {what} at {time_text(whole[0])}: records "
+                "before them may be missing")
+        if end < whole[1] - pause and not is_any(begins, end - SLACK, end + pause):
+            yield chain[-1].last.file, None, (
+                f"the messages of {whose} end at {time_text(end)}, and {what} at {time_text(whole[1])}: records after "
+                "them may be missing")
+
+
+def is_any(times, low, high):
+    """Returns whether one of some sorted times is between two."""
+    place = bisect.bisect_left(times, low)
+    return place < len(times) and times[place] <= high
+
+
+def time_text(seconds):
+    """Returns a time in ISO 8601."""
+    return f"{datetime.datetime.fromtimestamp(seconds, datetime.timezone.utc):%Y-%m-%dT%H:%M:%SZ}"
 
 
 def choose_ways(stretches):

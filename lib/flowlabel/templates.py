@@ -95,6 +95,9 @@ class Templates:
         self.defined, self.skipped = {}, collections.Counter()
         # Whether the first skipped set of an ID comes after its template was withdrawn.
         self.first_skipped = {}
+        # By domain and ID, the templates that others have replaced since the last withdrawal, and how many there are in
+        # all. Where a template was replaced first, and whether a replaced one has come back.
+        self.replaced, self.layouts, self.changed = {}, 0, {}
         # The directions of flows, by their hashes, which are smaller than their keys.
         self.directions = {}
 
@@ -158,7 +161,7 @@ class Templates:
 
     def refuse_many(self):
         """Refuses a File with more domains or the like than any exporter has, for which memory might not suffice."""
-        if len(self.domains) + len(self.known) + len(self.skipped) + len(self.all) > MOST:
+        if len(self.domains) + len(self.known) + len(self.skipped) + len(self.all) + self.layouts > MOST:
             raise shared.Failure(f"{self.name}: it has more than {MOST} domains, templates and IDs of skipped sets")
 
     def define(self, domain, offset, is_options, body):
@@ -171,15 +174,29 @@ class Templates:
                 for ended in [name] if name >= 256 else self.kinds.pop((domain, is_options), ()):
                     if (domain, ended) in self.known:
                         self.known[domain, ended] = None
+                        self.replaced.pop((domain, ended), None)
                 continue
             begin = place = place + 2 * is_options
             for _ in range(count):
                 place += 8 if body[place] >> 7 else 4
-            self.known[domain, name] = domain, name, is_options, body[begin:place]
+            before, new = self.known.get((domain, name)), (domain, name, is_options, body[begin:place])
+            if before not in (None, new):
+                self.replace(before, new, offset)
+            self.known[domain, name] = new
             self.refuse_many()
             self.kinds[domain, is_options].add(name)
             self.kinds[domain, not is_options].discard(name)
             self.defined.setdefault((domain, name), offset)
+
+    def replace(self, before, new, offset):
+        """Notes that a template is replaced by another one with the same ID, which no withdrawal precedes. One exporter
+        does this at most when its configuration changes. Several that share the domain do it to and fro."""
+        key = before[:2]
+        replaced = self.replaced.setdefault(key, set())
+        self.layouts += before not in replaced
+        replaced.add(before)
+        first, is_back = self.changed.get(key, (offset, False))
+        self.changed[key] = first, is_back or new in replaced
 
     def look(self, template, body):
         """Looks how packets of a data set's records are sampled, and in which direction flows were seen."""
@@ -211,6 +228,14 @@ class Templates:
         for key, count in self.skipped.items():
             yield "skipped", (f"{count} sets with the ID {key[1]} of the domain {key[0]} are skipped, so their records "
                               f"are in no sum, and their number is unknown: {self.why_skipped(key)}")
+        used = {(template.domain, template.name) for template in self.all.values() if template.is_used}
+        for (domain, name), (offset, is_back) in self.changed.items():
+            if (domain, name) in used:
+                yield "mixed" if is_back else None, (
+                    f"the template {name} of the domain {domain} gets other fields in the message at {offset}, without "
+                    f"a withdrawal{', and later those before again' * is_back}. If several exporters send in this "
+                    "domain, records are decoded wrongly: record each exporter in a File of its own, as "
+                    "flowlabel-record and nfcapd do")
         for template in self.all.values():
             yield from template.found() if template.is_used else ()
         if count := sum(both == 3 for both in self.directions.values()):
