@@ -98,8 +98,17 @@ FLOWS = (
          f"{element}",), ("1 of 2 rows have 0 bytes",)), (0, 0, 2, 2)) for element in (231, 232, 352, 23)),
     (((1, GOOD, sets(256, FLOW)), (1, template(256, *FOUR, (2, 4), (1, 4, 9)), sets(256, FLOW)),
       (1, GOOD, sets(256, FLOW))), None, 1,
-     (("the template 256 of the domain 1 has no bytes", "8, 12, 2, 1 of the enterprise 9"),
+     (("wrong", "the template 256 of the domain 1 gets other fields in the message at 60, without a withdrawal, and",
+       "later those before again", "record each exporter in a File of its own"),
+      ("the template 256 of the domain 1 has no bytes", "8, 12, 2, 1 of the enterprise 9"),
       ("1 of 3 rows have 0 bytes",)), (0, 0, 3, 3)),
+    # A template that is replaced once, and one that is withdrawn before.
+    (((1, GOOD, sets(256, FLOW)), (1, template(256, *SUMS, *FOUR), sets(256, FLOW[8:] + FLOW[:8])),
+      (1, sets(256, FLOW[8:] + FLOW[:8]))), None, 0,
+     (("warning", "the template 256 of the domain 1 gets other fields in the message at 60, without a withdrawal. If "),),
+     (0, 0, 3, 3)),
+    (((1, GOOD, sets(256, FLOW)), (1, sets(2, WITHDRAWN), template(256, *SUMS, *FOUR), sets(256, FLOW[8:] + FLOW[:8])),
+      (1, sets(2, WITHDRAWN), GOOD, sets(256, FLOW))), None, 0, (), (0, 0, 3, 3)),
     # A template without records says nothing.
     (((1, GOOD, template(257, *FOUR), sets(256, FLOW)),), None, 0, (), (0, 0, 1, 1)),
     # Records without addresses beside records of both directions: there are more rows than records.

@@ -27,19 +27,26 @@ BILL, NFCAPD, REPORT = (command(name) for name in ("bill", "nfcapd", "report"))
 CUSTOMERS = "mode ipv6\ndefault elsewhere\n10.0.0.0/16 Alder\n10.1.0.0/16 Birch\n10.2.0.0/16 Cedar\n"
 # The element of the start of a flow in milliseconds, and those of the other direction.
 START, BACK = (152, 8), ((2, 4, 29305), (1, 4, 29305))
-RECORD = struct.Struct(">4s4sIIQ")
+# The fields of a record, and those of an exporter whose template has its sums in another place.
+FIELDS, OTHERS = ((*FOUR, *SUMS, START), (*SUMS, START, *FOUR))
 LABELS = ("Alder", "Birch", "Cedar", "elsewhere")
 # 2026-11-01T00:00Z.
 NOVEMBER = 1793491200
 
 
 class Exporter:
-    """An exporter: its domain, and how it counts."""
+    """An exporter: its domain, the fields of its template, and how it counts."""
 
-    def __init__(self, rng, domain, begin):
-        self.rng, self.domain, self.next = rng, domain, begin
-        self.is_end, self.is_biflow = rng.random() < 0.3, rng.random() < 0.3
-        self.set = template(256, *FOUR, *SUMS, START, *BACK[:2 * self.is_biflow])
+    def __init__(self, rng, domain, begin, fields=FIELDS, may_differ=True):
+        self.rng, self.domain, self.next, self.is_other = rng, domain, begin, fields is OTHERS
+        self.is_end, self.is_biflow = rng.random() < 0.3, may_differ and rng.random() < 0.3
+        self.set = template(256, *fields, *BACK[:2 * self.is_biflow])
+
+    def record(self, ends, sums, start):
+        """Returns the fields of a record, whose addresses end in other bytes."""
+        addresses = b"".join(bytes((10, end, *self.rng.randbytes(2))) for end in ends)
+        others = struct.pack(">IIQ", *sums, start)
+        return others + addresses if self.is_other else addresses + others
 
     def send(self, time, has_template):
         """Returns a message of some records, and its flows: day, label, packets and bytes."""
@@ -49,13 +56,13 @@ class Exporter:
             day = f"{datetime.datetime.fromtimestamp(start // 1000, datetime.timezone.utc):%Y-%m-%d}"
             ends = [self.rng.randrange(5) for _ in range(2)]
             sums = [self.rng.randint(1, 99), self.rng.randint(1, 9999)]
-            body += RECORD.pack(*(bytes((10, end, *self.rng.randbytes(2))) for end in ends), *sums, start)
+            body += self.record(ends, sums, start)
             flows.append((day, LABELS[min(ends[1], 3)], *sums))
             if self.is_biflow:
                 sums = [self.rng.choice((0, 7)), self.rng.randint(1, 999)]
                 body += struct.pack(">II", *sums)
                 flows += [(day, LABELS[min(ends[0], 3)], *sums)] * bool(sums[0])
-        count = len(body) // (RECORD.size + 8 * self.is_biflow)
+        count = len(body) // (24 + 8 * self.is_biflow)
         begin, self.next = self.next, (self.next + count) % 2**32
         return message(*[self.set] * has_template, sets(256, body), number=self.next if self.is_end else begin,
                        domain=self.domain, time=time), flows
@@ -176,7 +183,7 @@ class Months(Case):
     def prepare(cls):
         write("map", CUSTOMERS)
 
-    @rows(*itertools.product(CHANGES, range(36)))
+    @rows(*itertools.product(CHANGES, range(18)))
     def test_month(self, change, seed):
         month = Month(f"{change} {seed}")
         cause = getattr(month, change)()
@@ -191,6 +198,89 @@ class Months(Case):
         else:
             self.assertEqual((status, output), (1, ""), error)
             self.assertTrue(error.endswith(f"No sum is printed without --allow {cause}\n"), error)
+
+
+class Shared(Month):
+    """The Files of November, each of some days. Several exporters send into the same Files, in a domain or in several,
+    and with templates of one ID that may differ."""
+
+    def __init__(self, seed):
+        self.rng = rng = random.Random(f"20261201 {seed}")
+        days = rng.choice((3, 5, 6))
+        is_one_domain, may_differ = rng.random() < 0.7, rng.random() < 0.3
+        exporters = [Exporter(rng, 1 if is_one_domain else number, rng.choice((0, rng.randrange(2**32))),
+                              rng.choice((FIELDS, OTHERS)) if may_differ else FIELDS, may_differ)
+                     for number in range(rng.randint(1, 3))]
+        self.is_mixed = is_one_domain and len({exporter.set for exporter in exporters}) > 1
+        # All send every some hours, one after the other, and templates at the begin of each File.
+        self.files, step = {}, 3600 * rng.choice((6, 8, 12))
+        for first in range(0, 30, days):
+            self.files[f"0/{first}"] = its = []
+            for time in range(NOVEMBER + 86400 * first, NOVEMBER + 86400 * (first + days), step):
+                its += (exporter.send(time + number, time == NOVEMBER + 86400 * first)
+                        for number, exporter in enumerate(exporters) if time < NOVEMBER + 30 * 86400 - 100)
+        names = [*self.files]
+        self.name, self.next = rng.choice(list(zip(names[1:-2], names[2:])))
+        self.one = self.files[self.name]
+
+    def lost_begin(self):
+        """The first File is missing."""
+        del self.files[min(self.files, key=lambda name: int(name[2:]))]
+        return "begin"
+
+    def lost_end(self):
+        """The last messages are missing, of two days and more."""
+        its = self.files[max(self.files, key=lambda name: int(name[2:]))]
+        del its[len(its) // 3 or 1:]
+        return "end"
+
+    def table(self):
+        """Returns the sums of the month by customer."""
+        sums = {label: [0, 0, 0] for label in LABELS}
+        for _, flows in itertools.chain.from_iterable(self.files.values()):
+            for day, label, *totals in flows:
+                if day.startswith("2026-11"):
+                    sums[label] = [*map(sum, zip(sums[label], (1, *totals)))]
+        return "dst-label|records|packets|bytes\n" + "".join(
+            "|".join(map(str, (label, *sums[label]))) + "\n" for label in LABELS if sums[label][0])
+
+
+# What a line says if something may be wrong, where it can't be certain.
+PERHAPS = {"missing": "may be missing|can't be counted|begin again with|came late", "twice": "twice|came late",
+           "begin": "begin at .* records before them may be missing", "end": "end at .* records after them may be missing",
+           "mixed": "gets other fields"}
+SHARED = ("whole", "late", "lost_file", "lost_messages", "cut_end", "cut_head", "lost_begin", "lost_end",
+          "doubled_file", "doubled_message", "overlapping", "without_bytes", "without_template", "sampled")
+
+
+class SharedMonths(Case):
+    """Months of exporters that share Files, whole and not: the sums are exact, or refused with the cause, or a line
+    names what may be wrong."""
+    is_long = True
+
+    @classmethod
+    def prepare(cls):
+        write("map", CUSTOMERS)
+
+    @rows(*itertools.product(SHARED, range(18)))
+    def test_month(self, change, seed):
+        month = Shared(f"{change} {seed}")
+        cause = getattr(month, change)()
+        month.write()
+        status, output, error = texts(BILL, "--month", "2026-11", "--fields", "dst-label", "--pmap", "map", "month")
+        causes = [cause, *["mixed"] * month.is_mixed]
+        if status == 1:
+            kinds = error.splitlines()[-1].partition(" --allow ")[2].split(" --allow ")
+            self.assertTrue(output == "" and set(kinds) & {*causes, *["missing"] * (cause in ("begin", "end"))}, error)
+            return
+        self.assertEqual(status, 0, error)
+        if not month.is_mixed:
+            self.assertEqual(output, month.table(), error)
+        for one in filter(None, causes):
+            self.assertRegex(error, PERHAPS[one])
+        self.assertEqual("sampled 1 in 100" in error, change == "sampled", error)
+        if change in ("whole", "late"):
+            self.assertNotRegex(error, f"{PERHAPS['begin']}|{PERHAPS['end']}")
 
 
 GOOD = template(256, *FOUR, *SUMS, START)

@@ -378,8 +378,17 @@ class Files(Comparison):
         for names in itertools.product(*([name, "faulty.txt", "folder", "no such file"] for name in NAMES[1:])):
             self.compare([map_, *names])
 
-    @rows(((),), (NAMES[:2],), ((*NAMES, "more"),))
+    @rows(((),), (NAMES[:2],), ((*NAMES, "more"),), (("--pmap", *NAMES),), (("-x", *NAMES[:2]),))
     def test_usage(self, names):
         status, output, error = outcome(sys.executable, VERIFIER, *names)
         self.assertEqual((status, output), (2, b""))
         self.assertIn(b"MAP LIST CERT", error)
+
+    def test_words(self):
+        """Help is printed wherever it is asked for, and after -- a name may begin with a dash."""
+        for words in (["--help"], [NAMES[0], "-h"]):
+            status, output, error = outcome(sys.executable, VERIFIER, *words)
+            self.assertEqual((status, output[:36], error), (0, b"Checks a certificate without flowlab", b""))
+        os.link(NAMES[0], "-x")
+        self.assertEqual(outcome(sys.executable, VERIFIER, "--", "-x", *NAMES[1:]),
+                         outcome(sys.executable, VERIFIER, *NAMES))
