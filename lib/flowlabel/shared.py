@@ -313,12 +313,16 @@ def replacing(name):
             os.unlink(part)
 
 
-def flowlabel(*words, **options):
-    """Runs flowlabel, or with --many first flowlabel-many, and returns its output, or without words the program's name.
-    If it fails, its line is on standard error, and the script ends with its status. The options are those of
-    subprocess.run."""
-    ended = subprocess.run([PROGRAM, *words], stdout=subprocess.PIPE, stderr=subprocess.PIPE, check=False, **options)
-    explain(ended.stderr)
+def flowlabel(*words, program=PROGRAM, stdout=subprocess.PIPE, **options):
+    """Runs flowlabel, or with --many first flowlabel-many, or another command, and returns its output unless a file
+    gets it, or without words the program's name. What it says is on standard error. If it fails, the script ends with
+    its status, whatever its output looks like. The options are those of subprocess.run."""
+    with tempfile.TemporaryFile() as said:
+        try:
+            ended = subprocess.run([program, *words], stdout=stdout, stderr=said, check=False, **options)
+        finally:
+            said.seek(0)
+            explain(said.read())
     ended_well(ended.returncode)
     return ended.stdout
 
@@ -339,42 +343,6 @@ def explain(said):
         if code and not re.search(rb"(?m)^flowlabel-(?!many: )", said):
             for cure in (cure for start, cure in CURES.items() if code[1].startswith(start)):
                 warn(cure)
-
-
-@contextlib.contextmanager
-def explained(program):
-    """Yields where a program may print what `explain` prints at the end, or None for a script, which has done so."""
-    if program != PROGRAM:
-        yield None
-        return
-    with tempfile.TemporaryFile() as error:
-        try:
-            yield error
-        finally:
-            error.seek(0)
-            explain(error.read())
-
-
-@contextlib.contextmanager
-def piped(*words, **options):
-    """Yields what a command prints, while it runs. If it fails, its line is on standard error, and the script ends with
-    its status, whatever a table that it has cut short looks like. The options are those of subprocess.Popen."""
-    fault = None
-    with explained(words[0]) as error, subprocess.Popen(words, stdout=subprocess.PIPE, stderr=error,
-                                                        **options) as process:
-        try:
-            yield process.stdout
-        except Failure as found:
-            fault = found
-        except BaseException:
-            process.kill()
-            raise
-        # The rest of the output, so that the command doesn't fail for want of a reader.
-        while process.stdout.read(1 << 20):
-            pass
-    ended_well(process.returncode)
-    if fault:
-        raise fault
 
 
 def ended_well(status):
