@@ -1,4 +1,4 @@
-"""What the templates of IPFIX Files say about sums, and which messages come again."""
+"""The templates of IPFIX messages and Files: what they say about sums, and which messages come again."""
 
 import array
 import collections
@@ -16,6 +16,7 @@ BYTES, REVERSE_PACKETS, REVERSE_BYTES = {1, 85}, {-2, -86}, {-1, -85}
 COUNTS = (("packets (element 2 or 86)", {2, 86}), ("bytes (element 1 or 85)", BYTES))
 LENGTHS = {8: [4], 12: [4], 27: [16], 28: [16], **dict.fromkeys((1, 2, 85, 86, -1, -2, -85, -86), range(1, 9))}
 VARIABLE, REVERSE = 65535, 29305
+MALFORMED = "is malformed"
 # Elements that say how packets are sampled: one of N, N at random, packets taken and left out, and the size of a sample
 # and of that from which it is taken.
 SAMPLING = (34, 50, 305, 306, 309, 310)
@@ -117,32 +118,28 @@ class Templates:
                 return
             try:
                 data = self.read_sets(domain, offset, body)
-            except (IndexError, struct.error):
+            except (IndexError, ValueError):
                 return
             if data:
                 # A conversion by flowlabel-nfcapd has no times, and numbers of its own.
-                self.seen.see(self.number, number, time, hash((header[4:] if time else domain, data)))
+                self.seen.see(self.number, number, time, hash((header[4:] if time else domain, *data)))
             offset += length
 
     def read_sets(self, domain, offset, body):
         """Reads the sets of a message, and returns its data sets."""
-        place, is_data, unpack = 0, True, PAIR.unpack_from
-        while place < len(body):
-            name, size = unpack(body, place)
-            if size < PAIR.size:
-                raise IndexError
-            if name < 256:
-                is_data = False
-                if name in (2, 3):
-                    self.define(domain, offset, name == 3, body[place + PAIR.size:place + size])
-            if name not in (2, 3):
-                template = self.template(domain, name)
-                if template and not template.is_used:
-                    template.is_used = size - PAIR.size >= template.shortest > 0
-                if template and (template.sampling or template.flows):
-                    self.look(template, body[place + PAIR.size:place + size])
-            place += size
-        return body if is_data else data_of(body)
+        data = []
+        for name, content in sets_of(body):
+            if name in (2, 3):
+                self.define(domain, offset, name, content)
+                continue
+            if name >= 256:
+                data.append((name, content))
+            template = self.template(domain, name)
+            if template and not template.is_used:
+                template.is_used = len(content) >= template.shortest > 0
+            if template and (template.sampling or template.flows):
+                self.look(template, content)
+        return data
 
     def template(self, domain, name):
         """Returns the template of a data set, or None if there is none in force."""
@@ -164,22 +161,17 @@ class Templates:
         if len(self.domains) + len(self.known) + len(self.skipped) + len(self.all) + self.layouts > MOST:
             raise shared.Failure(f"{self.name}: it has more than {MOST} domains, templates and IDs of skipped sets")
 
-    def define(self, domain, offset, is_options, body):
-        """Reads the definitions and withdrawals of a template set (RFC 7011, sections 3.4 and 8.1)."""
-        place = 0
-        while len(body) - place >= 4:
-            name, count = PAIR.unpack_from(body, place)
-            place += 4
-            if not count:
+    def define(self, domain, offset, kind, body):
+        """Reads the definitions and withdrawals of a template set."""
+        is_options = kind == 3
+        for name, record in definitions(kind, body):
+            if not record:
                 for ended in [name] if name >= 256 else self.kinds.pop((domain, is_options), ()):
                     if (domain, ended) in self.known:
                         self.known[domain, ended] = None
                         self.replaced.pop((domain, ended), None)
                 continue
-            begin = place = place + 2 * is_options
-            for _ in range(count):
-                place += 8 if body[place] >> 7 else 4
-            before, new = self.known.get((domain, name)), (domain, name, is_options, body[begin:place])
+            before, new = self.known.get((domain, name)), (domain, name, is_options, record[4 + 2 * is_options:])
             if before not in (None, new):
                 self.replace(before, new, offset)
             self.known[domain, name] = new
@@ -280,15 +272,35 @@ class Seen:
         heapq.heappush(self.ended, (self.last, file, self.hashes))
 
 
-def data_of(body):
-    """Returns the data sets of a message."""
-    place, found = 0, []
+def sets_of(body):
+    """Yields the sets of a message, each as its ID and its content."""
+    place = 0
     while place < len(body):
-        name, size = PAIR.unpack_from(body, place)
-        if name >= 256:
-            found.append(body[place:place + size])
+        name, size = PAIR.unpack_from(body, place) if len(body) - place >= PAIR.size else (0, 0)
+        if size < PAIR.size or place + size > len(body):
+            raise ValueError(MALFORMED)
+        yield name, body[place + PAIR.size:place + size]
         place += size
-    return b"".join(found)
+
+
+def definitions(kind, body):
+    """Yields the templates of a set (RFC 7011, sections 3.4 and 8.1), each as its ID and its bytes, which are empty if
+    it is withdrawn. The kind of a set is its ID."""
+    place = 0
+    while len(body) - place >= PAIR.size:
+        begin, (name, count) = place, PAIR.unpack_from(body, place)
+        place += PAIR.size
+        if name < 256 and (count or name != kind):
+            raise ValueError(MALFORMED)
+        if count and kind == 3:
+            if not 0 < int.from_bytes(body[place:place + 2], "big") <= count:
+                raise ValueError(MALFORMED)
+            place += 2
+        for _ in range(count):
+            place += 8 if body[place:place + 1] >= b"\x80" else 4
+        if place > len(body):
+            raise ValueError(MALFORMED)
+        yield name, body[begin:place] if count else b""
 
 
 def fields_of(specifiers):
