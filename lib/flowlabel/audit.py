@@ -48,7 +48,7 @@ class Audit:
         seen, first = templates.Seen(), {}
         for number, file in enumerate(files):
             self.read(number, file, seen)
-        loss, outputs, again = losses.Loss(month), [*self.outputs()], seen.elsewhere
+        loss, outputs, again, equal = losses.Loss(month), [*self.outputs()], seen.elsewhere, collections.Counter()
         # The outputs of flowlabel-many are read twice, since they may not fit into memory.
         for columns in itertools.chain.from_iterable(map(columns_of, outputs)):
             self.count(columns)
@@ -58,6 +58,8 @@ class Audit:
                     first.setdefault(message.file, message)
                 else:
                     loss.see(message)
+                    if seen.again and message.flows and (message.file, message.number) in seen.again:
+                        equal[message.file] += 1
         if loss.join():
             for columns in itertools.chain.from_iterable(map(columns_of, outputs)):
                 for message in messages_of(columns):
@@ -69,6 +71,8 @@ class Audit:
                                f"{files[seen.others[number]]} too, so their records are in sums twice. The first is "
                                f"{message}"))
         self.found += loss.found()
+        self.found += ((number, None, f"{count} messages are equal to earlier ones of the File: if they came twice, "
+                        "their records are in sums twice") for number, count in (equal - loss.twice()).items())
         self.judge()
 
     def read(self, number, file, seen):

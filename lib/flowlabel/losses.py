@@ -166,6 +166,10 @@ class Numbers:
         """Returns whether the exporter counts in this way: most numbers show it."""
         return self.fitting >= FEWEST and self.fitting > self.faults() and self.looks <= LOOKS
 
+    def gives_up(self):
+        """Returns whether nothing is known of the numbers."""
+        return self.is_given_up or self.faults() + self.late and not self.is_known()
+
     def is_all(self):
         """Returns whether the number of all missing records is known."""
         return not (self.is_partial or self.is_same or self.is_given_up or self.faults() + self.late and (
@@ -245,7 +249,7 @@ class Numbers:
     def found(self):
         """Yields what is found, each with a File, and the kind of what is certainly wrong or None."""
         whose = self.whose
-        if self.is_given_up or self.faults() + self.late and not self.is_known():
+        if self.gives_up():
             yield self.last.file, None, (f"too few sequence numbers of {whose} follow each other ({self.fitting} do), "
                                          "so missing records can't be counted")
             return
@@ -315,22 +319,20 @@ class Loss:
                 stretch.settle()
                 kept[key].append(stretch)
         del self.domains, self.wholes
-        stretches = [*itertools.chain.from_iterable(kept.values())]
-        earliest = min((one.first.time for one in stretches), default=0)
-        # Conversions by flowlabel-nfcapd have the time 0.
-        whole = self.month or (min((one.first.time for one in stretches if one.time), default=0),
-                               max((one.time for one in stretches), default=0))
+        earliest = min((one.first.time for its in kept.values() for one in its), default=0)
+        found = {}
         for key, stretches in kept.items():
             choose_ways(stretches)
-            chains = self.chains_of(stretches, earliest)
-            self.ends += ends_of("all domains" if key is None else f"the domain {key}", chains, whole, self.month)
+            found[key] = self.chains_of(stretches, earliest)
+        self.ends = [*ends_of(found, self.month)]
+        for key, chains in found.items():
             for chain in chains:
                 fitting, count = (sum(its) for its in zip(*((one.fitting[one.way], one.count) for one in chain)))
                 is_partial = any(one.is_partial for one in chain)
                 if fitting == count - len(chain) and not is_partial and all(
                         one.end() == other.begin() is not None for one, other in zip(chain, chain[1:])):
                     continue
-                numbers = Numbers("all domains" if key is None else f"the domain {key}", chain[0].way)
+                numbers = Numbers(domain_text(key), chain[0].way)
                 if fitting + len(chain) - 1 < FEWEST and not is_partial:
                     numbers.give_up(fitting, chain[-1].last)
                 self.sessions.update(((one.first.file, key), numbers) for one in chain)
@@ -377,6 +379,11 @@ class Loss:
         for numbers in dict.fromkeys(self.sessions.values()):
             yield from numbers.found()
 
+    def twice(self):
+        """Returns how many messages of each File certainly came twice."""
+        return collections.Counter(message.file for numbers in dict.fromkeys(self.sessions.values())
+                                   if not numbers.gives_up() for message in numbers.twice)
+
     def missing(self):
         """Returns the number of records of each File that are certainly missing, and the Files of which this isn't
         all."""
@@ -389,34 +396,55 @@ class Loss:
         return count, unknown
 
 
-def ends_of(whose, chains, whole, month):
-    """Yields what may be missing before and after sessions, since they begin late or end early: by more than the
-    longest time between two of their messages, and no other session ends or begins there. The numbers can't show it."""
-    spans = [(chain[0].first.time, max(one.time for one in chain), chain) for chain in chains]
-    begins, ends = sorted(begin for begin, _, _ in spans), sorted(end for _, end, _ in spans)
-    for begin, end, chain in spans:
-        if not end:
-            if month:
-                yield chain[0].first.file, None, (f"the messages of {whose} have no times of export, so records that "
-                                                  "are missing at the begin or the end of the month aren't seen")
-            continue
-        pause = max(SLACK, *(one.pause for one in chain), *(
-            other.first.time - one.time for one, other in zip(chain, chain[1:])))
-        what = "the month" if month else "those of others"
-        if begin > whole[0] + pause and not is_any(ends, begin - pause, begin + SLACK):
-            yield chain[0].first.file, None, (
-                f"the messages of {whose} begin at {time_text(begin)}, and {what} at {time_text(whole[0])}: records "
-                "before them may be missing")
-        if end < whole[1] - pause and not is_any(begins, end - SLACK, end + pause):
-            yield chain[-1].last.file, None, (
-                f"the messages of {whose} end at {time_text(end)}, and {what} at {time_text(whole[1])}: records after "
-                "them may be missing")
+def ends_of(found, month):
+    """Yields what may be missing before and after sessions, which are given by their domains, since they begin late or
+    end early: by more than their longest pause, and no other session of the domain ends or begins there. That is in the
+    month or, without one, while other sessions ran. The numbers can't show it."""
+    spans = {key: [(chain[0].first.time, max(one.time for one in chain)) for chain in chains]
+             for key, chains in found.items()}
+    wholes = [month] if month else together(itertools.chain.from_iterable(spans.values()))
+    what = "the month" if month else "those of others"
+    for key, chains in found.items():
+        whose, begins, ends = domain_text(key), *map(sorted, zip(*spans[key]))
+        for chain, (begin, end) in zip(chains, spans[key]):
+            whole = wholes[bisect.bisect_right(wholes, (begin, MODULO)) - 1]
+            # Conversions by flowlabel-nfcapd have the time 0.
+            if end < whole[0] or begin > whole[1]:
+                yield chain[0].first.file, None, (f"no message of {whose} was exported in the month, so records that "
+                                                  "are missing at its begin or its end aren't seen")
+                continue
+            # Between two of its Files others may be missing.
+            pause = max(SLACK, *(one.pause for one in chain), min(
+                (other.first.time - one.time for one, other in zip(chain, chain[1:])), default=0))
+            if begin > whole[0] + pause and not is_other(end, ends, begin - pause, begin + SLACK):
+                yield chain[0].first.file, None, (
+                    f"the messages of {whose} begin at {time_text(begin)}, and {what} at {time_text(whole[0])}: "
+                    "records before them may be missing")
+            if end < whole[1] - pause and not is_other(begin, begins, end - SLACK, end + pause):
+                yield chain[-1].last.file, None, (
+                    f"the messages of {whose} end at {time_text(end)}, and {what} at {time_text(whole[1])}: records "
+                    "after them may be missing")
 
 
-def is_any(times, low, high):
-    """Returns whether one of some sorted times is between two."""
-    place = bisect.bisect_left(times, low)
-    return place < len(times) and times[place] <= high
+def together(spans):
+    """Returns the times in which always some session ran."""
+    found = []
+    for begin, end in sorted(spans):
+        if found and begin <= found[-1][1]:
+            begin, last = found.pop()
+            end = max(end, last)
+        found.append((begin, end))
+    return found
+
+
+def domain_text(key):
+    """Returns whose numbers are counted together, as a message names it."""
+    return "all domains" if key is None else f"the domain {key}"
+
+
+def is_other(one, times, low, high):
+    """Returns whether one of some sorted times beside this one is between two."""
+    return bisect.bisect_right(times, high) - bisect.bisect_left(times, low) > (low <= one <= high)
 
 
 def time_text(seconds):

@@ -98,14 +98,14 @@ FLOWS = (
          f"{element}",), ("1 of 2 rows have 0 bytes",)), (0, 0, 2, 2)) for element in (231, 232, 352, 23)),
     (((1, GOOD, sets(256, FLOW)), (1, template(256, *FOUR, (2, 4), (1, 4, 9)), sets(256, FLOW)),
       (1, GOOD, sets(256, FLOW))), None, 1,
-     (("wrong", "the template 256 of the domain 1 gets other fields in the message at 60, without a withdrawal, and",
+     (("wrong: ", "the template 256 of the domain 1 gets other fields in the message at 60, without a withdrawal, and",
        "later those before again", "record each exporter in a File of its own"),
       ("the template 256 of the domain 1 has no bytes", "8, 12, 2, 1 of the enterprise 9"),
       ("1 of 3 rows have 0 bytes",)), (0, 0, 3, 3)),
     # A template that is replaced once, and one that is withdrawn before.
     (((1, GOOD, sets(256, FLOW)), (1, template(256, *SUMS, *FOUR), sets(256, FLOW[8:] + FLOW[:8])),
       (1, sets(256, FLOW[8:] + FLOW[:8]))), None, 0,
-     (("warning", "the template 256 of the domain 1 gets other fields in the message at 60, without a withdrawal. If "),),
+     (("warning: ", "the template 256 of the domain 1 gets other fields in the message at 60, without a withdrawal. If "),),
      (0, 0, 3, 3)),
     (((1, GOOD, sets(256, FLOW)), (1, sets(2, WITHDRAWN), template(256, *SUMS, *FOUR), sets(256, FLOW[8:] + FLOW[:8])),
       (1, sets(2, WITHDRAWN), GOOD, sets(256, FLOW))), None, 0, (), (0, 0, 3, 3)),
@@ -319,11 +319,13 @@ def lost_cases():
     yield "counted by messages", by_message, 0, "0", ()
     some = without(by_message, 3)
     yield "a loss, counted by messages", some, 0, "unknown", ("1 messages of the domain 1 may be missing",)
-    for what, counts, part in (("nothing", lambda *_: 0, "too few"), ("bytes", lambda flows, *_: 16 * flows, "too few"),
-                               ("templates", lambda *parts: sum(parts), "3 records of the domain 1 may be missing")):
+    for what, counts, *parts in (
+            ("nothing", lambda *_: 0, "too few", "32 messages are equal to earlier ones of the File: if they came twice"),
+            ("bytes", lambda flows, *_: 16 * flows, "too few"),
+            ("templates", lambda *parts: sum(parts), "3 records of the domain 1 may be missing")):
         exporter = Exporter(counts=counts)
         some = [*exporter.session(), exporter.send(2, 0, 1), *exporter.session()]
-        yield f"an exporter that counts {what}", some, 0, "unknown", (part,)
+        yield f"an exporter that counts {what}", some, 0, "unknown", parts
     # Open vSwitch counts the records of all domains together.
     common = []
     exporter = Exporter(7)
@@ -352,6 +354,44 @@ class Lost(Audit):
         for part, line in zip(parts, lines):
             self.assertIn(part, line)
         self.assertIn(f", missing {missing}, ", last)
+
+
+def stream(domain, *minutes):
+    """Returns a File of messages at some minutes, each with a record."""
+    return b"".join(message(*[GOOD] * (place == 0), sets(256, FLOW), number=place, domain=domain,
+                            time=0x60000000 + 60 * minute) for place, minute in enumerate(minutes))
+
+
+HOUR = range(0, 60, 5)
+BEFORE, AFTER = "records before them may be missing", "records after them may be missing"
+# Files, and parts of each line of warnings.
+ENDS = (
+    ((stream(1, *HOUR), stream(2, *HOUR)), ()),
+    ((stream(1, *HOUR), stream(2, *range(20, 60, 5))), (("the messages of the domain 2 begin at ", BEFORE),)),
+    ((stream(1, *HOUR), stream(2, *range(0, 40, 5))), (("the messages of the domain 2 end at ", AFTER),)),
+    # It began again, and another session of its domain ran on.
+    ((stream(1, *HOUR), stream(2, *range(0, 30, 5)), stream(2, *range(30, 60, 5))), ()),
+    # No longer than its own pauses, or beside no other.
+    ((stream(1, *HOUR), stream(2, 0, 20, 40)), ()),
+    ((stream(1, *HOUR), stream(2, *range(70, 99, 5))), ()),
+    # A single message has no pauses.
+    ((stream(1, *HOUR), stream(2, 30)), (("the messages of the domain 2 begin", BEFORE),
+                                         ("the messages of the domain 2 end", AFTER))),
+)
+
+
+class Ends(Audit):
+    """What may be lost before a session or after it, by the times of others."""
+
+    @rows(*((number, *row) for number, row in enumerate(ENDS)))
+    def test_files(self, number, files, wanted):
+        names = [write(f"{number}-{place}.ipfix", data) for place, data in enumerate(files)]
+        status, output, error = self.audit(*names)
+        lines = [line for line in output.splitlines() if line.startswith(("warning", "wrong"))]
+        self.assertEqual((status, error, len(lines)), (0, "", len(wanted)), output)
+        for line, parts in zip(lines, wanted):
+            for part in parts:
+                self.assertIn(part, line)
 
 
 class Real(Audit):
