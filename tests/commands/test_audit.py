@@ -105,7 +105,7 @@ FLOWS = (
     # A template that is replaced once, and one that is withdrawn before.
     (((1, GOOD, sets(256, FLOW)), (1, template(256, *SUMS, *FOUR), sets(256, FLOW[8:] + FLOW[:8])),
       (1, sets(256, FLOW[8:] + FLOW[:8]))), None, 0,
-     (("warning: ", "the template 256 of the domain 1 gets other fields in the message at 60, without a withdrawal. If "),),
+     (("warning: ", "the template 256 of the domain 1 gets other fields in the message at 60, without a withdrawal. "),),
      (0, 0, 3, 3)),
     (((1, GOOD, sets(256, FLOW)), (1, sets(2, WITHDRAWN), template(256, *SUMS, *FOUR), sets(256, FLOW[8:] + FLOW[:8])),
       (1, sets(2, WITHDRAWN), GOOD, sets(256, FLOW))), None, 0, (), (0, 0, 3, 3)),
@@ -320,7 +320,7 @@ def lost_cases():
     some = without(by_message, 3)
     yield "a loss, counted by messages", some, 0, "unknown", ("1 messages of the domain 1 may be missing",)
     for what, counts, *parts in (
-            ("nothing", lambda *_: 0, "too few", "32 messages are equal to earlier ones of the File: if they came twice"),
+            ("nothing", lambda *_: 0, "too few", "32 messages are equal to earlier ones of the File: if they came"),
             ("bytes", lambda flows, *_: 16 * flows, "too few"),
             ("templates", lambda *parts: sum(parts), "3 records of the domain 1 may be missing")):
         exporter = Exporter(counts=counts)

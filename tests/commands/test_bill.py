@@ -261,8 +261,8 @@ class Shared(Month):
 
 # What a line says if something may be wrong, where it can't be certain.
 PERHAPS = {"missing": "may be missing|can't be counted|begin again with|came late", "twice": "twice|came late",
-           "begin": "begin at .* records before them may be missing", "end": "end at .* records after them may be missing",
-           "mixed": "gets other fields"}
+           "begin": "begin at .* records before them may be missing",
+           "end": "end at .* records after them may be missing", "mixed": "gets other fields"}
 # For what else a month may be refused: the first message that is missing has had the template of another exporter.
 OTHER_KINDS = {"lost_begin": ["missing"], "lost_end": ["missing"], "cut_head": ["skipped"], "overlapping": ["skipped"]}
 SHARED = ("whole", "late", "lost_file", "lost_messages", "cut_end", "cut_head", "lost_begin", "lost_end",
