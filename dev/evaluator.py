@@ -375,15 +375,34 @@ class Translator:
     def binder(self, sign, names, kind, body, scope):
         """Joins binders that follow one another, except for enumerations and all numbers."""
         is_single = lambda kind: kind == "ℕ" and sign == "→" or kind in ENUMERATIONS
-        kinds = [kind]
+        kinds, parts = [kind], self.proved(names, kind, scope)
         while body[:2] == ("binder", sign) and not is_single(kind) and not is_single(self.kind(body[3])):
             names, kinds, body = [*names, *body[2]], [*kinds, self.kind(body[3])], body[4]
         scope, params = scope | {*names}, ", ".join(map(variable, names))
-        parts = [f"lambda {params}: {self.term(tree, scope)}" for tree in self.flat(sign, body)]
+        parts += (self.term(tree, scope) for tree in self.flat(sign, body))
+        parts = [f"lambda {params}: {part}" for part in parts]
         kind, count = ", ".join(dict.fromkeys(kinds)), len(names)
         if sign == "×":
             return f"exists({kind!r}, {count}, [{', '.join(parts)}])"
         return f"for_all({kind!r}, {count}, [{', '.join(parts[:-1])}], {parts[-1]})"
+
+    def proved(self, names, kind, scope):
+        """Returns the statements that the values of a binder prove, if their type is a record with parameters."""
+        tree = Parser(lex(kind)).whole()
+        head = tree[1][1] if tree[0] == "apply" and tree[1][0] == "name" else ""
+        sort, what = self.all.meaning(self.module, head)
+        record = self.all.definition(what) if sort == "definition" else None
+        if not record or record.kind != "record" or not record.sides or record.sides[0][1][3:4] != ("value",):
+            return []
+        (params, (_, _, values, _, body)), = record.sides
+        for value in values:
+            body = self.exchanged(body, ("name", value), ("name", f"it.{value}"))
+        given = [*record.outer, *(name for _, name in params), "it"]
+        inside = Translator(self.all, self.all.modules[what[0]], record.outer).term(body, {*given})
+        noted = "" if self.all.noted is None else f"noted.add({'.'.join(what)!r}) or "
+        args = [*map(variable, self.shared(what)), *(self.term(arg, scope) for arg in tree[2])]
+        return [f"(lambda {', '.join(map(variable, given))}: {noted}{inside})({', '.join([*args, variable(name)])})"
+                for name in names]
 
     def pattern(self, tree, place, conditions, names):
         """Adds under which conditions the value at a place fits a pattern, and where the values of its names are."""

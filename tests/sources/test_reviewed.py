@@ -172,10 +172,13 @@ def uncalled():
     named = collections.defaultdict(list)
     for function in functions():
         named[function.name].append((function, re.compile(function.calls())))
+    own = {(function.file, function.name) for function in functions() if not function.kind}
     while waiting:
-        code = waiting.pop().body
-        for function, pattern in itertools.chain(*(named.get(word, ()) for word in {*re.findall(r"\w+", code)})):
-            if function not in known and pattern.search(code):
+        caller = waiting.pop()
+        for function, pattern in itertools.chain(*(named.get(word, ()) for word in {*re.findall(r"\w+", caller.body)})):
+            if function.kind == "" and function.file != caller.file and (caller.file, function.name) in own:
+                pattern = re.compile(rf"::{function.name}\(")  # without a path, the name is that of the caller's file
+            if function not in known and pattern.search(caller.body):
                 known.add(function)
                 waiting.append(function)
     for function in functions():
