@@ -176,6 +176,22 @@ def has_prefix(definitions, plain, prefixes, start, bits):
     return (start, bits) in kept[1]
 
 
+def column_width(definitions, plain, lines, index):
+    """The width of a column, which is kept as long as it is that of the last table.
+
+    pmap_print/Table column_width lines index =
+    fold max 0 (map (λ fields. length (slice_index_or fields index [])) lines)
+    """
+    if len(lines) < SHORT:
+        return plain(lines, index)
+    kept = definitions.values.get("columns")
+    if not kept or kept[0] is not lines:
+        kept = definitions.values["columns"] = lines, {}
+    if index not in kept[1]:
+        kept[1][index] = plain(lines, index)
+    return kept[1][index]
+
+
 def equations(function):
     """Returns the module, the name and the equations of each definition that a function computes."""
     found = []
@@ -189,4 +205,4 @@ def equations(function):
 
 
 QUICK = {equations(function)[-1][:2]: (function, equations(function)) for function in (
-    groups, in_order, map_label, settled_label, list_label, has_prefix)}
+    groups, in_order, map_label, settled_label, list_label, has_prefix, column_width)}

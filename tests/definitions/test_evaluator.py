@@ -141,7 +141,7 @@ class Quick(Evaluating):
 
     def test_all_are_compared(self):
         self.assertEqual({name for _, name in self.quick.QUICK}, {
-            "groups_of_keyed", "in_order", "map_label", "settled_label", "list_label", "has_prefix"})
+            "groups_of_keyed", "in_order", "map_label", "settled_label", "list_label", "has_prefix", "column_width"})
 
     def test_groups(self):
         rng, made = random.Random(1), self.definitions.call
@@ -180,6 +180,13 @@ class Quick(Evaluating):
         long = self.kit.added(self.kit.added(entries, (entry(),)), (entry(),))
         for each in (*entries[:9], entry()):
             self.compare(("pmap_text/Reading", "has_prefix"), long, each.f_start, each.f_bits)
+
+    def test_columns(self):
+        rng = random.Random(5)
+        line = lambda: tuple((65,) * rng.randrange(9) for _ in range(rng.randrange(1, 5)))
+        for lines in (tuple(line() for _ in range(200)) for _ in range(3)):
+            for index in (0, 3, 1, 4, 0):
+                self.compare(("pmap_print/Table", "column_width"), lines, index)
 
     def test_changed(self):
         """With other equations these are evaluated."""
