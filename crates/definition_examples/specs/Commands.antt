@@ -9,7 +9,6 @@ use Rattle.prefix_keys.specs.Text.{hex_digit_value}
 use Rattle.prefix_keys.specs.declared.addr.Addr.{Addr}
 use Rattle.prefix_keys.specs.declared.version.Version.TheVariants.{V4, V6}
 use Rattle.ipfix_templates.specs.Elements.{fits}
-use Rattle.ipfix_templates.specs.InForce.{in_force}
 use Rattle.ipfix_templates.specs.Reading.{definition_at, field_at, fields_at, template_record_at}
 use Rattle.ipfix_read.specs.Value.{value_at, values_at}
 use Rattle.pmap_cert.specs.CertificateModel.{CertificateModel}
@@ -252,5 +251,5 @@ shown_of view = view
 
 -- The examples unfold `opened`, and with it the opaque definitions that are named here after `unfolding`.
 unfoldable pub opened : List ℕ → Result CertificateModel CertFault
-unfolding compacted_in definition_at digits field_at fields_at fits format_reading in_force nodes_at template_record_at value_at values_at
+unfolding compacted_in definition_at digits field_at fields_at fits format_reading nodes_at template_record_at value_at values_at
 opened text = format_reading text

@@ -1,7 +1,6 @@
 use Rattle.std.specs.Prelude.{ℕ, Bool, List, [], ◌∷◌, Result, Ok, Err, codes}
 use Rattle.std.specs.List.{list_any}
 use Rattle.ipfix_templates.specs.Elements.{fits}
-use Rattle.ipfix_templates.specs.InForce.{in_force}
 use Rattle.ipfix_templates.specs.Reading.{definition_at, field_at, fields_at, template_record_at}
 use Rattle.ipfix_read.specs.Laws.{lacks_template}
 use Rattle.ipfix_read.specs.Message.{MessageView}
@@ -22,7 +21,7 @@ use Rattle.definition_examples.specs.Rows.{field, hex, value}
 
 -- Unfolds the opaque definitions on which the reading of Files rests.
 unfoldable pub opened : List ℕ → Result (List MessageView) ReadFault
-unfolding definition_at field_at fields_at fits in_force template_record_at value_at values_at
+unfolding definition_at field_at fields_at fits template_record_at value_at values_at
 opened bytes = file_reading bytes
 
 -- something of the messages of a File

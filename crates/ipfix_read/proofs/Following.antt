@@ -1,6 +1,6 @@
 -- A File that is read after another.
 use Rattle.std.proofs.Common.{◌≡◌, ◌∙◌, ◌==◌, ◌&&◌, ◌||◌, ℕ, zero, suc, ◌+◌, ◌-◌, ◌<◌, ◌≤◌, Bool, true, false, not, cond, true≢false, List, [], ◌∷◌, ◌++◌, length, take, drop, Option, Some, None, Result, Ok, Err, refl, sym, ap, subst, arith, length-append}
-use Rattle.std.specs.Prelude.{nat_lt, ok_or}
+use Rattle.std.specs.Prelude.{fold, nat_lt, ok_or}
 use Rattle.std.specs.List.{AllByRecursion, list_any}
 use Rattle.std.specs.Option.{option_map_or}
 use Rattle.std.specs.Result.{result_flatten, result_map_both}
@@ -13,14 +13,14 @@ use Rattle.ipfix_templates.specs.Template.{TemplateView, same_kind}
 use Rattle.ipfix_templates.specs.declared.kind.Kind.{Kind}
 use Rattle.ipfix_templates.specs.declared.event.TemplateEvent.{TemplateEvent}
 use Rattle.ipfix_templates.specs.declared.event.TemplateEvent.TheVariants.{Define, Withdraw, WithdrawAll}
-use Rattle.ipfix_templates.specs.InForce.{InForce, after_event, in_force, no_templates}
+use Rattle.ipfix_templates.specs.InForce.{InForce, after_event, no_templates}
 use Rattle.ipfix_templates.specs.Reading.{after_items, items_by, template_set_reading}
 use Rattle.ipfix_templates.proofs.Choice.{gave, ok_is}
 use Rattle.ipfix_templates.proofs.Reading.{no_items}
 use Rattle.ipfix_read.specs.Fault.{BadRecord, BadSetLength}
 use Rattle.ipfix_read.specs.Record.{Record, data_set_reading, is_padding, record_at, record_next}
-use Rattle.ipfix_read.specs.Set.{Set, Skipped, Templates, Values, content_reading, events_of_set, in_file, set_next, sets_reading, template_kind, written_length}
-use Rattle.ipfix_read.specs.Message.{MessageView, ReadFault, events_of_message, header_fault, message_next, whole_reading}
+use Rattle.ipfix_read.specs.Set.{Set, Skipped, Templates, Values, after_set, content_reading, events_in, in_file, set_next, sets_reading, template_kind, written_length}
+use Rattle.ipfix_read.specs.Message.{MessageView, ReadFault, after_message, header_fault, message_next, whole_reading}
 use Rattle.ipfix_read.specs.Messages.{messages_from}
 use Rattle.ipfix_read.specs.Laws.{File, FileAfterFile, JoinedFileIsRead, IsSelfContained, joined, lacks_template}
 use Rattle.ipfix_read.proofs.Gathering.{header_none, header_sound, own_ahead, own_none, written_ahead}
@@ -33,24 +33,31 @@ use Rattle.ipfix_read.proofs.Sets.{result_mapped}
 abbrev Extends : InForce → InForce → Type 0
 Extends few more = (d i : ℕ) (t : TemplateView) → few d i ≡ Some t → more d i ≡ Some t
 
-after_event-extends : (few more : InForce) (e : ℕ × TemplateEvent) → Extends few more → Extends (after_event few e) (after_event more e)
-after_event-extends few more (at, Define t) is d i u = by (at == d && t.id == i)
+after_event-extends : (at : ℕ) (few more : InForce) (e : TemplateEvent) → Extends few more → Extends (after_event at few e) (after_event at more e)
+after_event-extends at few more (Define t) is d i u = by (at == d && t.id == i)
   where
     by : (here : Bool) → cond here (Some t) (few d i) ≡ Some u → cond here (Some t) (more d i) ≡ Some u
     by true e = e
     by false e = is d i u e
-after_event-extends few more (at, Withdraw id) is d i u = by (at == d && id == i)
+after_event-extends at few more (Withdraw id) is d i u = by (at == d && id == i)
   where
     by : (here : Bool) → cond here None (few d i) ≡ Some u → cond here None (more d i) ≡ Some u
     by true e = e
     by false e = is d i u e
-after_event-extends few more (at, WithdrawAll kind) is d i u = λ e.
+after_event-extends at few more (WithdrawAll kind) is d i u = λ e.
     let there = gave (few d i) (λ t. cond (at == d && same_kind kind t.kind) None (Some t)) u e in rw (is d i there.0 there.1) there.2
 
-in_force-extends : (events : List (ℕ × TemplateEvent)) (few more : InForce) → Extends few more → Extends (in_force few events) (in_force more events)
-unfolding in_force
-in_force-extends [] few more is = is
-in_force-extends (e ∷ events) few more is = in_force-extends events (after_event few e) (after_event more e) (after_event-extends few more e is)
+-- after more items too, if it is so after each
+all-extend : {A : Type 0} (after : InForce → A → InForce) → ((few more : InForce) (x : A) → Extends few more → Extends (after few x) (after more x))
+    → (few more : InForce) (xs : List A) → Extends few more → Extends (fold after few xs) (fold after more xs)
+all-extend after step few more [] is = is
+all-extend after step few more (x ∷ xs) is = all-extend after step (after few x) (after more x) xs (step few more x is)
+
+after_set-extends : (domain : ℕ) (few more : InForce) (set : Set) → Extends few more → Extends (after_set domain few set) (after_set domain more set)
+after_set-extends domain few more set = all-extend (after_event domain) (after_event-extends domain) few more (events_in set)
+
+after_message-extends : (few more : InForce) (m : MessageView) → Extends few more → Extends (after_message few m) (after_message more m)
+after_message-extends few more m = all-extend (after_set m.domain) (after_set-extends m.domain) few more m.sets
 
 -- ---- the same items at another offset
 
@@ -170,11 +177,11 @@ module _ (few more : InForce) (extends : Extends few more) (domain : ℕ) where
 same_sets : (few more : InForce) (domain here there : ℕ) (bytes : List ℕ) (sets : List Set) → Extends few more → list_any lacks_template sets ≡ false
     → sets_reading few domain here bytes ≡ Ok sets → sets_reading more domain there bytes ≡ Ok sets
 same_sets few more domain here there bytes sets extends found =
-    same_items (λ rest. length rest == 0) (λ before. set_next before domain) (λ before set. in_force before (events_of_set domain set))
+    same_items (λ rest. length rest == 0) (λ before. set_next before domain) (after_set domain)
     (λ s t xs. Extends s t × (list_any lacks_template xs ≡ false))
     (λ s t here there bytes x after xs alike e.
     let each = or_parts (lacks_template x) (list_any lacks_template xs) alike.1 in
-    (same_set s t alike.0 domain here there bytes x after each.0 e, (in_force-extends (events_of_set domain x) s t alike.0, each.1)))
+    (same_set s t alike.0 domain here there bytes x after each.0 e, (after_set-extends domain s t x alike.0, each.1)))
     (length bytes) few more here there bytes sets (extends, found)
 
 -- ---- a message
@@ -234,12 +241,12 @@ same_messages : (few more : InForce) (count counted here there : ℕ) (bytes : L
     → counted + length messages ≤ 4294967295 → Alone messages
     → messages_from few count here bytes ≡ Ok messages → messages_from more counted there bytes ≡ Ok messages
 same_messages few more count counted here there bytes messages extends most alone =
-    same_items {S = InForce × ℕ} (λ rest. length rest == 0) (λ before. message_next before.0 before.1) (λ before m. (in_force before.0 (events_of_message m), before.1 + 1))
+    same_items {S = InForce × ℕ} (λ rest. length rest == 0) (λ before. message_next before.0 before.1) (λ before m. (after_message before.0 m, before.1 + 1))
     (λ s t xs. Extends s.0 t.0 × (t.1 + length xs ≤ 4294967295) × Alone xs)
     (λ s t here there bytes x after xs alike e.
     let each = or_parts (lacks x) (list_any lacks xs) alike.2 in (
       same_message s.0 s.1 here bytes x after e t.0 t.1 there alike.0 each.0 (omega (arith, alike.1)),
-      (in_force-extends (events_of_message x) s.0 t.0 alike.0, omega (arith, alike.1), each.1),
+      (after_message-extends s.0 t.0 x alike.0, omega (arith, alike.1), each.1),
     ))
     (length bytes) (few, count) (more, counted) here there bytes messages (extends, most, alone)
 
@@ -252,7 +259,7 @@ record Begin (templates : InForce) (count offset : ℕ) (bytes : List ℕ) (mess
   after : List ℕ
   rest : List MessageView
   first : message_next templates count offset bytes ≡ Ok (m, after)
-  others : messages_from (in_force templates (events_of_message m)) (count + 1) (offset + (length bytes - length after)) after ≡ Ok rest
+  others : messages_from (after_message templates m) (count + 1) (offset + (length bytes - length after)) after ≡ Ok rest
   all : m ∷ rest ≡ messages
 
 begin : (templates : InForce) (count offset : ℕ) (bytes : List ℕ) (messages : List MessageView) → 0 < length bytes
@@ -264,7 +271,7 @@ begin templates count offset bytes messages some e = by (message_next templates 
         let whole = messages_fault (messages_from templates count offset bytes) [] templates count offset bytes (no_items _) fault some is in
         let wrong : ◌≡◌ {A = Result (List MessageView) ReadFault} (Err fault) (Ok messages) = sym whole ∙ e in absurd (cc)
     by (Ok (m, after)) is =
-        let rest = result_mapped (messages_from (in_force templates (events_of_message m)) (count + 1) (offset + (length bytes - length after)) after)
+        let rest = result_mapped (messages_from (after_message templates m) (count + 1) (offset + (length bytes - length after)) after)
         (λ (later : List MessageView). (m ∷ []) ++ later) messages (sym (first_message_and_rest templates count offset bytes after m is) ∙ e) in
         record { m = m; after = after; rest = rest.0; first = is; others = rest.1; all = rest.2 }
 
@@ -285,7 +292,7 @@ module _ (those : List MessageView) (back : List ℕ) where
       let front : List ℕ = b ∷ bytes in
       let read = begin templates count offset front (m ∷ these) (omega arith) e in
       let same : (read.m ≡ m) × (read.rest ≡ these) = let whole : read.m ∷ read.rest ≡ m ∷ these = read.all in (cc, cc) in
-      let now = in_force templates (events_of_message read.m) in
+      let now = after_message templates read.m in
       let at = offset + (length front - length read.after) in
       let others : messages_from now (count + 1) at (read.after ++ back) ≡ Ok (these ++ those) =
       appended these now (count + 1) at read.after (read.others ∙ ap fine same.1) (λ now at. ap (λ (n : ℕ). messages_from now n at back) (omega arith) ∙ follow now at) in

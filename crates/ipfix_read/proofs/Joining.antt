@@ -2,17 +2,18 @@
 use Rattle.std.proofs.Common.{◌≡◌, ◌∙◌, ℕ, ◌+◌, ◌<◌, List, ◌++◌, length, Bool, Option, None, Some, Result, Ok, Err, inl, inr, refl, sym, subst, ap, append_assoc, arith, length-append, [], ◌∷◌}
 use Rattle.flow_io.specs.Devices.{InputView, ReadsInput}
 use Rattle.flow_io.proofs.Moving.{gives_more, gives_none}
+use Rattle.std.specs.Prelude.{fold}
 use Rattle.std.specs.Result.{result_map_both}
 use Rattle.std.proofs.lemmas.List.{length_push, map-append}
-use Rattle.ipfix_read.specs.Message.{ReadFault, ReadFaultKind, MessageView, HasHeader, events_of_message, message_next, whole_reading}
-use Rattle.ipfix_read.specs.Messages.{Going, Ended, Failed, ProgressView, AnswersNext, Gathers, events_of_messages, messages_from, messages_in, placed_from}
+use Rattle.ipfix_read.specs.Message.{ReadFault, ReadFaultKind, MessageView, HasHeader, after_message, message_next, whole_reading}
+use Rattle.ipfix_read.specs.Messages.{Going, Ended, Failed, ProgressView, AnswersNext, Gathers, messages_from, messages_in, placed_from}
 use Rattle.ipfix_read.specs.Set.{ReadsUnder}
 use Rattle.ipfix_templates.specs.declared.table.TemplateTable.{TemplateTable}
-use Rattle.ipfix_templates.specs.InForce.{in_force, template_at}
+use Rattle.ipfix_templates.specs.InForce.{template_at}
 use Rattle.ipfix_templates.specs.Reading.{after_items}
 use Rattle.ipfix_templates.proofs.Reading.{no_items}
 use Rattle.ipfix_read.specs.Laws.{CallsJoinFile, CallsStart}
-use Rattle.ipfix_read.proofs.Sets.{in_force_more, none_in_force}
+use Rattle.ipfix_read.proofs.Sets.{after_more}
 use Rattle.ipfix_read.proofs.Readings.{front_read, message_cut, messages_fault, placed_are_messages, placed_end, placed_more, stops_after, without_offsets}
 
 -- The results, by the parts of the state between two calls, which are the view of the old state.
@@ -45,7 +46,7 @@ module _ {view old : ProgressView} (same : view ≡ old) (o n : InputView) (ende
         ∙ front_read (template_at view.table) view.count view.offset front rest counted header
 
     -- a fault of the sets, or a failed allocation
-    pub answers_fault_of_sets : (fault : ReadFault) (table : TemplateTable) → ReadsUnder view.table table events_of_message (whole_reading (template_at view.table) view.offset front) (Err fault)
+    pub answers_fault_of_sets : (fault : ReadFault) (table : TemplateTable) → ReadsUnder view.table table after_message (whole_reading (template_at view.table) view.offset front) (Err fault)
         → ReadsInput o n (AnswersNext old (Err fault) (record view { state = Failed }) ended)
     answers_fault_of_sets fault table refused =
         by_taken (Ok (Some front)) (Err fault) (record view { state = Failed }) is (λ taken there. (
@@ -56,7 +57,7 @@ module _ {view old : ProgressView} (same : view ≡ old) (o n : InputView) (ende
           ],
         ))
 
-    pub answers_message : (new : ProgressView) (m : MessageView) → ReadsUnder view.table new.table events_of_message (whole_reading (template_at view.table) view.offset front) (Ok m)
+    pub answers_message : (new : ProgressView) (m : MessageView) → ReadsUnder view.table new.table after_message (whole_reading (template_at view.table) view.offset front) (Ok m)
         → new.offset ≡ view.offset + length front → new.count ≡ view.count + 1 → new.state ≡ Going → ReadsInput o n (AnswersNext old (Ok (Some m)) new ended)
     answers_message new m read offset count state =
         by_taken (Ok (Some front)) (Ok (Some m)) new is (λ taken there. (
@@ -74,7 +75,7 @@ calls_start templates count offset input p at = record {
   taken = [];
   consumed = gives_none input;
   read = λ rest. no_items _ ∙ (λ i. after_items [] (placed_from (sym at.0 i) (sym at.1 i) (sym at.2 i) rest));
-  table = at.0 ∙ sym (none_in_force templates);
+  table = at.0;
   counted = omega (arith, at.1);
   placed = omega (arith, at.2);
 }
@@ -87,8 +88,8 @@ calls_join_file templates count offset start now then placed old new (Ok (Some m
       ap (placed_from templates count offset) (append_assoc so_far.taken taken rest)
       ∙ placed_more _ placed _ _ old.offset (taken ++ rest) (so_far.read (taken ++ rest)) m rest _ _ new.offset (a.0 rest) a.1 a.3
       (omega (arith, a.2, length-append taken rest));
-  table = a.1 ∙ ap (λ now. in_force now (events_of_message m)) so_far.table ∙ in_force_more events_of_message templates (messages_in placed) m
-      ∙ ap (λ messages. in_force templates (events_of_messages messages)) (sym (map-append (λ (p : ℕ × MessageView). p.1) placed ((old.offset, m) ∷ [])));
+  table = a.1 ∙ ap (λ now. after_message now m) so_far.table ∙ after_more after_message templates (messages_in placed) m
+      ∙ ap (fold after_message templates) (sym (map-append (λ (p : ℕ × MessageView). p.1) placed ((old.offset, m) ∷ [])));
   counted = omega (arith, a.3, so_far.counted, length_push placed (old.offset, m));
   placed = omega (arith, a.2, so_far.placed, length-append so_far.taken taken);
 }

@@ -6,11 +6,11 @@ use Rattle.std.proofs.lemmas.Bool.Decides.{nat_tests}
 use Rattle.std.proofs.lemmas.Grind.{common_steps}
 use Rattle.std.proofs.lemmas.List.{take_at, drop_at, map-append}
 use Rattle.byteorder.specs.Endian.{big_number}
-use Rattle.ipfix_templates.specs.InForce.{InForce, in_force}
+use Rattle.ipfix_templates.specs.InForce.{InForce}
 use Rattle.ipfix_templates.specs.Reading.{after_items, items_by}
 use Rattle.ipfix_templates.proofs.Reading.{at_end, at_fault, at_item, first_and_rest}
 use Rattle.ipfix_read.specs.Set.{Set, sets_reading, written_length}
-use Rattle.ipfix_read.specs.Message.{ReadFault, ReadFaultKind, MessageView, HasHeader, events_of_message, header_fault, message_next, whole_reading}
+use Rattle.ipfix_read.specs.Message.{ReadFault, ReadFaultKind, MessageView, HasHeader, after_message, header_fault, message_next, whole_reading}
 use Rattle.ipfix_read.specs.Messages.{IsIncomplete, StopsAfter, messages_from, messages_in, placed_from}
 use Rattle.ipfix_read.specs.Fault.{is_of_calls, is_of_reader, read_fault}
 use Rattle.ipfix_read.specs.declared.fault.ReadFaultKind.TheVariants.{ReadFault as Unread}
@@ -87,7 +87,7 @@ abbrev Next : Before → ℕ → List ℕ → Result (MessageView × List ℕ) R
 Next before = message_next before.0 before.1
 
 abbrev With : Before → MessageView → Before
-With before m = (in_force before.0 (events_of_message m), before.1 + 1)
+With before m = (after_message before.0 m, before.1 + 1)
 
 smaller : (before : Before) (offset : ℕ) (bytes : List ℕ) (m : MessageView) (after : List ℕ) → eqb (length bytes) 0 ≡ false → Next before offset bytes ≡ Ok (m, after) → length after < length bytes
 smaller before offset bytes m after some e = message_smaller before.0 before.1 offset bytes m after e
@@ -108,7 +108,7 @@ abbrev NextPlaced : Before → ℕ → List ℕ → Result (Placed × List ℕ) 
 NextPlaced before at rest = result_map_both (λ read. ((at, read.0), read.1)) (λ fault. fault) (message_next before.0 before.1 at rest)
 
 abbrev WithPlaced : Before → Placed → Before
-WithPlaced before placed = (in_force before.0 (events_of_message placed.1), before.1 + 1)
+WithPlaced before placed = (after_message before.0 placed.1, before.1 + 1)
 
 smaller_placed : (before : Before) (offset : ℕ) (bytes : List ℕ) (placed : Placed) (after : List ℕ) → eqb (length bytes) 0 ≡ false → NextPlaced before offset bytes ≡ Ok (placed, after) → length after < length bytes
 smaller_placed before offset bytes placed after some e =
@@ -147,7 +147,7 @@ placed_are_messages templates count offset bytes = placed_by (length bytes) (tem
 
 -- reading has come to these bytes, after some messages of the whole, with their offsets
 module _ (whole : Result (List Placed) ReadFault) (placed : List Placed) (now : InForce) (count offset : ℕ) (rest : List ℕ) (so_far : whole ≡ after_items placed (placed_from now count offset rest)) where
-  pub placed_more : (m : MessageView) (after : List ℕ) (new : InForce) (more later : ℕ) → message_next now count offset rest ≡ Ok (m, after) → new ≡ in_force now (events_of_message m)
+  pub placed_more : (m : MessageView) (after : List ℕ) (new : InForce) (more later : ℕ) → message_next now count offset rest ≡ Ok (m, after) → new ≡ after_message now m
       → more ≡ count + 1 → later ≡ offset + (length rest - length after) → whole ≡ after_items (placed ++ (offset, m) ∷ []) (placed_from new more later after)
   placed_more m after new more later read is counted e =
       at_item (λ rest. length rest == 0) NextPlaced WithPlaced refl smaller_placed whole placed (now, count) offset rest so_far (offset, m) after later (some_left rest (omega (arith, message_smaller now count offset rest m after read)))
@@ -172,7 +172,7 @@ without_offsets whole all placed now count offset rest is so_far =
 
 -- reading has come to these bytes, after some messages of the whole
 module _ (whole : Result (List MessageView) ReadFault) (messages : List MessageView) (now : InForce) (count offset : ℕ) (rest : List ℕ) (so_far : whole ≡ after_items messages (messages_from now count offset rest)) where
-  pub messages_more : (m : MessageView) (after : List ℕ) (new : InForce) (more later : ℕ) → message_next now count offset rest ≡ Ok (m, after) → new ≡ in_force now (events_of_message m)
+  pub messages_more : (m : MessageView) (after : List ℕ) (new : InForce) (more later : ℕ) → message_next now count offset rest ≡ Ok (m, after) → new ≡ after_message now m
       → more ≡ count + 1 → later ≡ offset + (length rest - length after) → whole ≡ after_items (messages ++ m ∷ []) (messages_from new more later after)
   messages_more m after new more later read is counted e =
       at_item (λ rest. length rest == 0) Next With refl smaller whole messages (now, count) offset rest so_far m after later (some_left rest (omega (arith, message_smaller now count offset rest m after read))) read e

@@ -1,41 +1,30 @@
 -- The content of a set, and consecutive sets.
 use Rattle.std.proofs.Common.{◌≡◌, ℕ, ◌+◌, ◌<◌, List, [], ◌∷◌, ◌++◌, length, get_or, take, sym, ap, ◌∙◌, ◌-◌, ◌≤◌, true, false, eqb, drop, refl, inl, inr, arith, length-drop, Result, Ok, Err}
-use Rattle.std.specs.Prelude.{◌==◌, flat_map}
+use Rattle.std.specs.Prelude.{◌==◌, fold}
 use Rattle.std.specs.Result.{result_map_both}
 use Rattle.std.proofs.lemmas.Bool.{le-ltb}
 use Rattle.std.proofs.lemmas.Bool.Decides.{nat_tests}
 use Rattle.std.proofs.lemmas.Grind.{common_steps}
-use Rattle.std.proofs.lemmas.List.{flat_map_more, map_push, take_more, take_all, get_or-take, get_or-drop}
+use Rattle.std.proofs.lemmas.List.{take_more, take_all, get_or-take, get_or-drop}
 use Rattle.std.proofs.lemmas.List.Sums.{fold-append, sum_by-append, sum_by-cons}
 use Rattle.byteorder.specs.Endian.{big_number}
 use Rattle.ipfix_templates.specs.Reading.{after_items}
 use Rattle.ipfix_templates.specs.declared.event.TemplateEvent.{TemplateEvent}
-use Rattle.ipfix_templates.specs.InForce.{InForce, after_event, in_force}
+use Rattle.ipfix_templates.specs.InForce.{InForce, after_event}
 use Rattle.ipfix_templates.proofs.Reading.{at_end, at_fault, at_item}
 use Rattle.ipfix_read.specs.Fault.{Reads}
-use Rattle.ipfix_read.specs.Set.{Set, in_domain, events_of_set, content_reading, sets_reading, written_length, set_next}
+use Rattle.ipfix_read.specs.Set.{Set, after_set, content_reading, sets_reading, written_length, set_next}
 use Rattle.ipfix_read.specs.Message.{ReadFault, set_size, message_size}
 
--- the templates in force after more events, and after those of one more item
-in_force-append : (before : InForce) (xs ys : List (ℕ × TemplateEvent)) → in_force before (xs ++ ys) ≡ in_force (in_force before xs) ys
-unfolding in_force
-in_force-append before xs ys = fold-append after_event before xs ys
+-- the templates in force after one more item
+pub after_more : {A : Type 0} (after : InForce → A → InForce) (before : InForce) (items : List A) (item : A)
+    → after (fold after before items) item ≡ fold after before (items ++ item ∷ [])
+after_more after before items item = sym (fold-append after before items (item ∷ []))
 
-pub in_force_more : {A : Type 0} (events : A → List (ℕ × TemplateEvent)) (before : InForce) (items : List A) (item : A)
-    → in_force (in_force before (flat_map events items)) (events item) ≡ in_force before (flat_map events (items ++ item ∷ []))
-in_force_more events before items item = sym (in_force-append before (flat_map events items) (events item)) ∙ ap (in_force before) (flat_map_more events [] items item)
-
-pub none_in_force : (before : InForce) → in_force before [] ≡ before
-unfolding in_force
-none_in_force before = refl
-
-pub one_in_force : (before : InForce) (domain : ℕ) (events : List TemplateEvent) (i : ℕ) (d : TemplateEvent) → i < length events
-    → after_event (in_force before (in_domain domain (take i events))) (domain, get_or events i d) ≡ in_force before (in_domain domain (take (i + 1) events))
-unfolding in_force
-one_in_force before domain events i d lt =
-    let more : in_domain domain (take (i + 1) events) ≡ in_domain domain (take i events) ++ (domain, get_or events i d) ∷ [] =
-    ap (in_domain domain) (take_more events i d lt) ∙ map_push (λ (event : TemplateEvent). (domain, event)) (take i events) (get_or events i d) in
-    sym (ap (in_force before) more ∙ in_force-append before (in_domain domain (take i events)) ((domain, get_or events i d) ∷ []))
+pub after_taken : (before : InForce) (domain : ℕ) (events : List TemplateEvent) (i : ℕ) (d : TemplateEvent) → i < length events
+    → after_event domain (fold (after_event domain) before (take i events)) (get_or events i d) ≡ fold (after_event domain) before (take (i + 1) events)
+after_taken before domain events i d lt =
+    after_more (after_event domain) before (take i events) (get_or events i d) ∙ ap (fold (after_event domain) before) (sym (take_more events i d lt))
 
 -- a fault of a part is one of the whole
 pub fault_kept : {A B : Type 0} (part : Result A ReadFault) (whole : Result B ReadFault) (fault : ReadFault) → (part ≡ Err fault → whole ≡ Err fault)
@@ -93,13 +82,13 @@ module _ (domain : ℕ) (whole : Result (List Set) ReadFault) (sets : List Set) 
   Next before = set_next before domain
 
   abbrev With : InForce → Set → InForce
-  With before set = in_force before (events_of_set domain set)
+  With = after_set domain
 
   smaller : (before : InForce) (at : ℕ) (bytes : List ℕ) (set : Set) (after : List ℕ) → eqb (length bytes) 0 ≡ false → Next before at bytes ≡ Ok (set, after) → length after < length bytes
   smaller before at bytes set after some e = set_smaller before domain at bytes set after e
 
   pub sets_more : (set : Set) (after : List ℕ) (later : ℕ) (new : InForce) → eqb (length rest) 0 ≡ false → set_next now domain offset rest ≡ Ok (set, after) → later ≡ offset + (length rest - length after)
-      → new ≡ in_force now (events_of_set domain set) → whole ≡ after_items (sets ++ set ∷ []) (sets_reading new domain later after)
+      → new ≡ after_set domain now set → whole ≡ after_items (sets ++ set ∷ []) (sets_reading new domain later after)
   sets_more set after later new some read e is =
       at_item (λ rest. length rest == 0) Next With refl smaller whole sets now offset rest so_far set after later some read e
       ∙ ap (λ (t : InForce). after_items (sets ++ set ∷ []) (sets_reading t domain later after)) (sym is)

@@ -3,9 +3,9 @@ use Rattle.std.specs.Prelude.{◌≡◌, ℕ, ◌+◌, ◌-◌, ◌≤◌, Bool,
 use Rattle.std.specs.List.{All, flat_map, list_any}
 use Rattle.std.specs.Result.{result_map_both}
 use Rattle.flow_io.specs.Devices.{InputView, ReadsInput, has_ended}
-use Rattle.ipfix_templates.specs.InForce.{InForce, in_force}
+use Rattle.ipfix_templates.specs.InForce.{InForce}
 use Rattle.ipfix_templates.specs.Reading.{after_items}
-use Rattle.ipfix_read.specs.Message.{ReadFault, MessageView, events_of_message, message_next}
+use Rattle.ipfix_read.specs.Message.{ReadFault, MessageView, after_message, message_next}
 use Rattle.ipfix_read.specs.Set.{Set, Skipped}
 use Rattle.ipfix_read.specs.Messages.{IsAt, ProgressView, file_reading, messages_from, messages_in, placed_from, AnswersNext, IsReadTo, JoinsFile}
 
@@ -14,7 +14,7 @@ abbrev pub FirstMessageAndRest : Type 0
 FirstMessageAndRest = (templates : InForce) (count offset : ℕ) (bytes after : List ℕ) (m : MessageView)
     → message_next templates count offset bytes ≡ Ok (m, after)
     → messages_from templates count offset bytes
-    ≡ after_items (m ∷ []) (messages_from (in_force templates (events_of_message m)) (count + 1) (offset + (length bytes - length after)) after)
+    ≡ after_items (m ∷ []) (messages_from (after_message templates m) (count + 1) (offset + (length bytes - length after)) after)
 
 -- the messages with their offsets are these messages
 abbrev pub PlacedAreMessages : Type 0

@@ -1,11 +1,10 @@
 -- Messages (RFC 7011 section 3.1).
-use Rattle.std.specs.Prelude.{◌≡◌, ℕ, ◌+◌, ◌≤◌, List, length, take, drop, sum_by, Option, Some, None, Result, Err, nat_lt, not, ◌==◌, if◌then◌else◌}
+use Rattle.std.specs.Prelude.{◌≡◌, ℕ, ◌+◌, ◌≤◌, List, length, take, drop, fold, sum_by, Option, Some, None, Result, Err, nat_lt, not, ◌==◌, if◌then◌else◌}
 use Rattle.std.specs.Option.{option_map_or, option_or}
 use Rattle.std.specs.Result.{result_map_both}
 use Rattle.byteorder.specs.Endian.{big_number}
-use Rattle.ipfix_templates.specs.declared.event.TemplateEvent.{TemplateEvent}
 use Rattle.ipfix_templates.specs.InForce.{InForce}
-use Rattle.ipfix_read.specs.Set.{Set, Templates, Values, Skipped, written_length, sets_reading, events_of_sets}
+use Rattle.ipfix_read.specs.Set.{Set, Templates, Values, Skipped, written_length, sets_reading, after_set}
 pub use Rattle.ipfix_read.specs.declared.fault.ReadFault.{ReadFault}
 pub use Rattle.ipfix_read.specs.declared.fault.ReadFaultKind.{ReadFaultKind}
 use Rattle.ipfix_read.specs.declared.fault.ReadFaultKind.TheVariants.{TruncatedHeader, BadVersion, BadMessageLength, TruncatedMessage, TooManyMessages}
@@ -17,9 +16,9 @@ pub record MessageView : Type 0 where
   pub domain : ℕ
   pub sets : List Set
 
--- the template events of a message
-abbrev pub events_of_message : MessageView → List (ℕ × TemplateEvent)
-events_of_message m = events_of_sets m.domain m.sets
+-- the templates in force after a message
+abbrev pub after_message : InForce → MessageView → InForce
+after_message before m = fold (after_set m.domain) before m.sets
 
 -- the fault of a header itself, after `count` messages, whatever bytes follow it
 abbrev pub own_fault : ℕ → List ℕ → Option ReadFaultKind

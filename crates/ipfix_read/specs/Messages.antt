@@ -1,12 +1,10 @@
-use Rattle.std.specs.Prelude.{◌≡◌, ℕ, ◌+◌, ◌<◌, List, [], ◌++◌, length, None, ◌⊎◌, Bool, true, false, ◌∷◌, Option, Some, Result, Ok, Err, ◌==◌, map}
-use Rattle.std.specs.List.{flat_map}
+use Rattle.std.specs.Prelude.{◌≡◌, ℕ, ◌+◌, ◌<◌, List, [], ◌++◌, length, None, ◌⊎◌, Bool, true, false, ◌∷◌, Option, Some, Result, Ok, Err, ◌==◌, fold, map}
 use Rattle.std.specs.Result.{result_map_both}
 use Rattle.flow_io.specs.Devices.{InputView, MayFollow, ReadsInput, Gives, has_ended}
-use Rattle.ipfix_templates.specs.declared.event.TemplateEvent.{TemplateEvent}
 use Rattle.ipfix_templates.specs.Reading.{after_items, items_from}
 use Rattle.ipfix_templates.specs.declared.table.TemplateTable.{TemplateTable}
-use Rattle.ipfix_templates.specs.InForce.{InForce, in_force, no_templates, template_at}
-use Rattle.ipfix_read.specs.Message.{ReadFault, MessageView, header_fault, message_next, events_of_message, ReadFaultKind}
+use Rattle.ipfix_templates.specs.InForce.{InForce, no_templates, template_at}
+use Rattle.ipfix_read.specs.Message.{ReadFault, MessageView, header_fault, message_next, after_message, ReadFaultKind}
 use Rattle.ipfix_read.specs.declared.fault.ReadFaultKind.TheVariants.{ReadFault as Unread}
 use Rattle.ipfix_read.specs.declared.progress.State.{State}
 pub use Rattle.ipfix_read.specs.declared.progress.State.TheVariants.{Ended, Failed, Going}
@@ -20,7 +18,7 @@ abbrev pub messages_from : InForce → ℕ → ℕ → List ℕ → Result (List
 messages_from templates count offset bytes =
     items_from {S = InForce × ℕ} (λ rest. length rest == 0)
     (λ before. message_next before.0 before.1)
-    (λ before m. (in_force before.0 (events_of_message m), before.1 + 1))
+    (λ before m. (after_message before.0 m, before.1 + 1))
     (templates, count) offset bytes
 
 -- the messages of a File, or its first fault
@@ -51,7 +49,7 @@ placed_from templates count offset bytes =
     items_from {S = InForce × ℕ} (λ rest. length rest == 0)
     (λ before at rest. result_map_both (λ read. ((at, read.0), read.1)) (λ fault. fault)
     (message_next before.0 before.1 at rest))
-    (λ before placed. (in_force before.0 (events_of_message placed.1), before.1 + 1))
+    (λ before placed. (after_message before.0 placed.1, before.1 + 1))
     (templates, count) offset bytes
 
 abbrev pub placed_messages : List ℕ → Result (List (ℕ × MessageView)) ReadFault
@@ -60,10 +58,6 @@ placed_messages bytes = placed_from no_templates 0 0 bytes
 -- messages without their offsets
 abbrev pub messages_in : List (ℕ × MessageView) → List MessageView
 messages_in = map (λ placed. placed.1)
-
--- the template events of messages
-abbrev pub events_of_messages : List MessageView → List (ℕ × TemplateEvent)
-events_of_messages messages = flat_map events_of_message messages
 
 -- the bytes are the beginning of a message that isn't complete, and have no fault so far: if they ended here, the
 -- message would be truncated
@@ -93,7 +87,7 @@ IsAt templates count offset p = (template_at p.table ≡ templates) × (p.count 
 abbrev pub AnswersNext : ProgressView → Result (Option MessageView) ReadFault → ProgressView → Bool → List ℕ → Type 0
 AnswersNext old (Ok (Some m)) new ended taken =
     ((rest : List ℕ) → message_next (template_at old.table) old.count old.offset (taken ++ rest) ≡ Ok (m, rest))
-    × (template_at new.table ≡ in_force (template_at old.table) (events_of_message m)) × (new.offset ≡ old.offset + length taken) × (new.count ≡ old.count + 1) × (new.state ≡ Going)
+    × (template_at new.table ≡ after_message (template_at old.table) m) × (new.offset ≡ old.offset + length taken) × (new.count ≡ old.count + 1) × (new.state ≡ Going)
 AnswersNext old (Ok None) new ended taken = (taken ≡ []) × (ended ≡ true) × (new.state ≡ Ended)
 AnswersNext old (Err fault) new ended taken =
     (new.state ≡ Failed)
@@ -124,7 +118,7 @@ module _ (templates : InForce) (count offset : ℕ) where
     pub taken : List ℕ
     pub consumed : Gives start now taken
     pub read : (rest : List ℕ) → placed_from templates count offset (taken ++ rest) ≡ after_items messages (placed_from (template_at p.table) p.count p.offset rest)
-    pub table : template_at p.table ≡ in_force templates (events_of_messages (messages_in messages))
+    pub table : template_at p.table ≡ fold after_message templates (messages_in messages)
     pub counted : p.count ≡ count + length messages
     pub placed : p.offset ≡ offset + length taken
 

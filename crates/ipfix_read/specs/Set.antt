@@ -1,6 +1,5 @@
 -- The sets of a message (RFC 7011 section 3.3).
-use Rattle.std.specs.Prelude.{◌≡◌, ℕ, ◌+◌, List, [], length, take, drop, map, Option, Some, None, Result, Ok, Err, nat_lt, ◌==◌, ◌||◌, if◌then◌else◌}
-use Rattle.std.specs.List.{flat_map}
+use Rattle.std.specs.Prelude.{◌≡◌, ℕ, ◌+◌, List, [], length, take, drop, fold, Option, Some, None, Result, Ok, Err, nat_lt, ◌==◌, ◌||◌, if◌then◌else◌}
 use Rattle.std.specs.Option.{option_map_or}
 use Rattle.std.specs.Result.{result_map_both}
 use Rattle.byteorder.specs.Endian.{big_number}
@@ -11,28 +10,21 @@ use Rattle.ipfix_templates.specs.declared.kind.Kind.TheVariants.{Flow, Options}
 use Rattle.ipfix_templates.specs.Template.{set_id}
 use Rattle.ipfix_templates.specs.Reading.{items_from, template_set_reading}
 use Rattle.ipfix_templates.specs.declared.table.TemplateTable.{TemplateTable}
-use Rattle.ipfix_templates.specs.InForce.{InForce, in_force, template_at}
+use Rattle.ipfix_templates.specs.InForce.{InForce, after_event, template_at}
 pub use Rattle.ipfix_read.specs.declared.set.Set.{Set}
 pub use Rattle.ipfix_read.specs.declared.set.Set.TheVariants.{Skipped, Templates, Values}
 use Rattle.ipfix_read.specs.declared.fault.ReadFault.{ReadFault}
 use Rattle.ipfix_read.specs.Fault.{BadSetLength, BadTemplate, Reads}
 use Rattle.ipfix_read.specs.Record.{data_set_reading}
 
--- template events, each with its domain
-abbrev pub in_domain : ℕ → List TemplateEvent → List (ℕ × TemplateEvent)
-in_domain domain events = map (λ event. (domain, event)) events
-
 -- the template events of a set
 abbrev pub events_in : Set → List TemplateEvent
 events_in (Templates kind events) = events
 events_in _ = []
 
--- the template events of a set, and of sets in order, each with its domain
-abbrev pub events_of_set : ℕ → Set → List (ℕ × TemplateEvent)
-events_of_set domain set = in_domain domain (events_in set)
-
-abbrev pub events_of_sets : ℕ → List Set → List (ℕ × TemplateEvent)
-events_of_sets domain sets = flat_map (events_of_set domain) sets
+-- the templates in force after a set of this domain
+abbrev pub after_set : ℕ → InForce → Set → InForce
+after_set domain before set = fold (after_event domain) before (events_in set)
 
 -- the kind of the templates that a set with this ID holds, if it holds templates
 abbrev pub template_kind : ℕ → Option Kind
@@ -71,12 +63,12 @@ set_next templates domain offset bytes =
 -- the sets of a message, given the bytes after its header, which begin at this offset; or the first fault
 abbrev pub sets_reading : InForce → ℕ → ℕ → List ℕ → Result (List Set) ReadFault
 sets_reading templates domain offset bytes =
-    items_from (λ rest. length rest == 0) (λ before. set_next before domain)
-    (λ before set. in_force before (events_of_set domain set)) templates offset bytes
+    items_from (λ rest. length rest == 0) (λ before. set_next before domain) (after_set domain)
+    templates offset bytes
 
 -- Below: only contracts of parts and proofs use these; no promise of the program rests on them.
 
--- the result of reading under a table, and the table after it, which the events of an item change
-abbrev pub ReadsUnder : {A : Type 0} → TemplateTable → TemplateTable → (A → List (ℕ × TemplateEvent)) → Result A ReadFault → Result A ReadFault → Type 0
-ReadsUnder old new events reading (Ok item) = Reads reading (Ok item) × (template_at new ≡ in_force (template_at old) (events item))
-ReadsUnder old new events reading (Err fault) = Reads reading (Err fault)
+-- the result of reading an item under a table, and the table after the item
+abbrev pub ReadsUnder : {A : Type 0} → TemplateTable → TemplateTable → (InForce → A → InForce) → Result A ReadFault → Result A ReadFault → Type 0
+ReadsUnder old new after reading (Ok item) = Reads reading (Ok item) × (template_at new ≡ after (template_at old) item)
+ReadsUnder old new after reading (Err fault) = Reads reading (Err fault)

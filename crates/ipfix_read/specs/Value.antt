@@ -1,5 +1,5 @@
 -- The values of a data record (RFC 7011 sections 3.4.3 and 7).
-use Rattle.std.specs.Prelude.{◌≡◌, false, ℕ, List, [], ◌∷◌, length, take, drop, Option, Some, None, option_and_then, nat_lt, if◌then◌else◌}
+use Rattle.std.specs.Prelude.{◌≡◌, false, ℕ, List, [], ◌∷◌, length, take, drop, Option, Some, None, option_and_then, option_map, nat_lt, if◌then◌else◌}
 use Rattle.std.specs.Option.{option_map_or}
 use Rattle.byteorder.specs.Endian.{big_number}
 use Rattle.ipfix_templates.specs.declared.field.Field.{Field}
@@ -30,10 +30,8 @@ value_at field bytes = if is_variable field then variable_at bytes else bytes_at
 unfoldable pub values_at : List Field → List ℕ → Option (List FieldValueView × List ℕ)
 values_at [] bytes = Some ([], bytes)
 values_at (field ∷ fields) bytes =
-    option_and_then
-    (λ v. option_and_then (λ vs. Some (record { field = field; value = v.0 } ∷ vs.0, vs.1))
-    (values_at fields v.1))
-    (value_at field bytes)
+    option_and_then (λ v. option_map (λ vs. (record { field = field; value = v.0 } ∷ vs.0, vs.1))
+    (values_at fields v.1)) (value_at field bytes)
 
 -- Below: only contracts of parts and proofs use these; no promise of the program rests on them.
 

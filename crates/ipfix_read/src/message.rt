@@ -4,7 +4,7 @@ ghost use Rattle.std.specs.Result.{result_map_both};
 ghost use Rattle.ipfix_templates.specs.InForce.{template_at};
 ghost use Rattle.ipfix_read.specs.Fault.{Reads, is_of_calls};
 ghost use Rattle.ipfix_read.specs.Messages.{file_reading};
-ghost use Rattle.ipfix_read.specs.Message.{own_fault, events_of_message, message_next, message_size, whole_reading, HasHeader};
+ghost use Rattle.ipfix_read.specs.Message.{own_fault, after_message, message_next, message_size, whole_reading, HasHeader};
 ghost use Rattle.ipfix_read.specs.Set.{written_length, ReadsUnder};
 
 use crate::fault::{ReadFault, ReadFaultKind};
@@ -88,7 +88,7 @@ pub fn whole_message<'a>(
 ) -> Result<Message<'a>, ReadFault>
     requires header { HasHeader bytes.now }
     requires room { base + length bytes.now < 2 ^ 64 }
-    ensures { ReadsUnder table.old table.new events_of_message
+    ensures { ReadsUnder table.old table.new after_message
         (whole_reading (template_at table.old) base bytes.now) result }
 {
     let domain = BigEndian::read_u32(&bytes[12..]);
@@ -112,7 +112,7 @@ fn read_message<'a>(
     base: u64,
 ) -> Result<(Message<'a>, &'a [u8]), ReadFault>
     requires { base + length bytes.now < 2 ^ 64 }
-    ensures read { ReadsUnder table.old table.new (λ read. events_of_message read.0)
+    ensures read { ReadsUnder table.old table.new (λ before read. after_message before read.0)
         (message_next (template_at table.old) count base bytes.now)
         (result_map_both (λ read. (read.0, read.1.now)) (λ fault. fault) result) }
     ensures counted { OnOk result (count < 4294967295) }

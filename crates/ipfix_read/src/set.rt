@@ -1,7 +1,7 @@
-ghost use Rattle.std.specs.Prelude.{◌≡◌, ◌^◌, ◌+◌, ◌<◌, ◌≤◌, length, IfOk, OnOk};
+ghost use Rattle.std.specs.Prelude.{◌≡◌, ◌^◌, ◌+◌, ◌<◌, ◌≤◌, fold, length, IfOk, OnOk};
 ghost use Rattle.std.specs.Result.{result_map_both};
-ghost use Rattle.ipfix_templates.specs.InForce.{in_force, template_at};
-ghost use Rattle.ipfix_read.specs.Set.{in_domain, events_of_set, events_of_sets, content_reading, set_next, sets_reading, template_kind, ReadsUnder};
+ghost use Rattle.ipfix_templates.specs.InForce.{after_event, template_at};
+ghost use Rattle.ipfix_read.specs.Set.{after_set, content_reading, set_next, sets_reading, template_kind, ReadsUnder};
 ghost use Rattle.ipfix_read.specs.Message.{set_size, message_size};
 
 use crate::fault::{ReadFault, ReadFaultKind};
@@ -37,7 +37,7 @@ fn apply_events(
     events: &TemplateEvents,
 ) -> Result<(), AllocError>
     ensures { OnOk result (template_at table.new
-        ≡ in_force (template_at table.old) (in_domain domain events.now)) }
+        ≡ fold (after_event domain) (template_at table.old) events.now) }
 {
     for event in events.as_slice() {
         match event {
@@ -62,7 +62,6 @@ fn template_kind(id: u16) -> Option<Kind>
 
 // Reads the content of a set with this ID. The events of a template set change the table, even if an allocation fails
 // after some of them.
-#[tactic(auto, using(crate::proofs::Sets::none_in_force))]
 fn read_content<'a>(
     alloc: Global,
     table: &mut TemplateTable,
@@ -72,7 +71,7 @@ fn read_content<'a>(
     base: u64,
 ) -> Result<Set<'a>, ReadFault>
     requires { base + length bytes.now < 2 ^ 64 }
-    ensures read { ReadsUnder table.old table.new (events_of_set domain)
+    ensures read { ReadsUnder table.old table.new (after_set domain)
         (content_reading (template_at table.old) domain id base bytes.now) result }
     ensures size { IfOk result (λ set. set_size set ≤ 1 + length bytes.now) }
 {
@@ -107,7 +106,7 @@ fn read_set<'a>(
     base: u64,
 ) -> Result<(Set<'a>, &'a [u8]), ReadFault>
     requires { base + length bytes.now < 2 ^ 64 }
-    ensures read { ReadsUnder table.old table.new (λ read. events_of_set domain read.0)
+    ensures read { ReadsUnder table.old table.new (λ before read. after_set domain before read.0)
         (set_next (template_at table.old) domain base bytes.now)
         (result_map_both (λ read. (read.0, read.1.now)) (λ fault. fault) result) }
     ensures size { IfOk result (λ read. set_size read.0 + length read.1.now < length bytes.now) }
@@ -136,7 +135,7 @@ pub fn read_sets<'a>(
     base: u64,
 ) -> Result<Items<Set<'a>>, ReadFault>
     requires { base + length bytes.now < 2 ^ 64 }
-    ensures read { ReadsUnder table.old table.new (events_of_sets domain)
+    ensures read { ReadsUnder table.old table.new (λ before sets. fold (after_set domain) before sets)
         (sets_reading (template_at table.old) domain base bytes.now) result }
     ensures size { IfOk result (λ sets. message_size sets ≤ length bytes.now) }
 {

@@ -4,8 +4,8 @@ use Rattle.std.specs.Prelude.{option_and_then, option_map}
 use Rattle.std.specs.List.{list_any}
 use Rattle.std.specs.Option.{option_or}
 use Rattle.ipfix_templates.specs.Template.{TemplateView, same_kind}
-use Rattle.ipfix_templates.specs.InForce.{Define, InForce, TemplateEvent, Withdraw, WithdrawAll, after_event, in_force, no_templates}
-use Rattle.ipfix_templates.specs.Laws.{definition, last_definition, last_in_force, withdraws}
+use Rattle.ipfix_templates.specs.InForce.{Define, InForce, TemplateEvent, Withdraw, WithdrawAll, after_event, no_templates}
+use Rattle.ipfix_templates.specs.Laws.{definition, in_force, last_definition, last_in_force, withdraws}
 
 module _ (domain id : ℕ) where
   -- the template, or none if one of the events withdraws it
@@ -18,7 +18,7 @@ module _ (domain id : ℕ) where
   by_last (Some d) events before = kept d.1 d.0
 
   first_event : (e : ℕ × TemplateEvent) (events : List (ℕ × TemplateEvent)) (before : InForce)
-      → option_and_then (kept events) (after_event before e domain id)
+      → option_and_then (kept events) (after_event e.0 before e.1 domain id)
       ≡ by_last (option_map (λ t. (t, events)) (definition domain id e)) (e ∷ events) (before domain id)
   first_event (at, Define t) events before = by (at == domain && t.id == id)
     where
@@ -47,15 +47,14 @@ module _ (domain id : ℕ) where
 
   all_events : (events : List (ℕ × TemplateEvent)) (before : InForce)
       → in_force before events domain id ≡ by_last (last_definition domain id events) events (before domain id)
-  unfolding in_force
   all_events [] before = by (before domain id)
     where
       by : (o : Option TemplateView) → o ≡ option_and_then (kept []) o
       by None = refl
       by (Some t) = refl
-  all_events (e ∷ events) before = all_events events (after_event before e) ∙ by (last_definition domain id events)
+  all_events (e ∷ events) before = all_events events (after_event e.0 before e.1) ∙ by (last_definition domain id events)
     where
-      by : (last : Option (TemplateView × List (ℕ × TemplateEvent))) → by_last last events (after_event before e domain id)
+      by : (last : Option (TemplateView × List (ℕ × TemplateEvent))) → by_last last events (after_event e.0 before e.1 domain id)
           ≡ by_last (option_or last (option_map (λ t. (t, events)) (definition domain id e))) (e ∷ events) (before domain id)
       by None = first_event e events before
       by (Some d) = refl

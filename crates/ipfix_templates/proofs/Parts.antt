@@ -117,10 +117,10 @@ drops true (Some t) None p = rw (flow_is t.kind p) (refl, refl)
 drops true (Some t) (Some u) p = absurd (cc)
 
 module _ (f o new : InForce) (domain : ℕ) (p : Parted f o) where
-  pub flow_dropped : new ≡ emptied f domain → both new o ≡ after_event (both f o) (domain, WithdrawAll Flow)
+  pub flow_dropped : new ≡ emptied f domain → both new o ≡ after_event domain (both f o) (WithdrawAll Flow)
   flow_dropped first = alike (λ d i. rw (here first d i) (drops (domain == d) (f d i) (o d i) (p d i)).0)
 
-  pub options_dropped : new ≡ emptied o domain → both f new ≡ after_event (both f o) (domain, WithdrawAll Options)
+  pub options_dropped : new ≡ emptied o domain → both f new ≡ after_event domain (both f o) (WithdrawAll Options)
   options_dropped second = alike (λ d i. rw (here second d i) (drops (domain == d) (f d i) (o d i) (p d i)).1)
 
 pub on_err : {A E : Type 0} (P : Type 0) (r : Result A E) → P → OnErr r P

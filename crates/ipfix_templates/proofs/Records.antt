@@ -1,26 +1,26 @@
 -- Reading one item after another, as a loop does.
 use Rattle.std.proofs.Common.{◌≡◌, false, ℕ, suc, ◌+◌, ◌-◌, ◌<◌, ◌≤◌, List, [], ◌∷◌, ◌++◌, length, Option, Some, None, refl, ap, append_assoc, arith, zero, drop, Result, Ok, Err, length-drop}
-use Rattle.std.specs.Prelude.{nat_lt, option_and_then}
+use Rattle.std.specs.Prelude.{nat_lt, option_map}
 use Rattle.ipfix_templates.specs.Template.{Field, Kind, Flow, Options}
 use Rattle.ipfix_templates.specs.Reading.{field_at, fields_at, defined_by, definition_at, template_record_at, template_next, after_items, with_offset, items_from, TemplateFaultKind}
 use Rattle.std.proofs.lemmas.Grind.{common_steps}
 use Rattle.std.proofs.lemmas.Bool.{ltb-false, lt-ltb, le-ltb}
 use Rattle.byteorder.specs.Endian.{big_number}
 use Rattle.ipfix_templates.specs.declared.event.TemplateEvent.{TemplateEvent}
-use Rattle.ipfix_templates.proofs.Choice.{gave, some_is, ok_is}
+use Rattle.ipfix_templates.proofs.Choice.{gave, mapped, some_is, ok_is}
 use Rattle.ipfix_templates.proofs.Reading.{at_end, at_item}
 
 -- the fields that were read before, and those that are still to be read
 abbrev pub with_front : List Field → Option (List Field × List ℕ) → Option (List Field × List ℕ)
-with_front front read = option_and_then (λ x. Some (front ++ x.0, x.1)) read
+with_front front read = option_map (λ x. (front ++ x.0, x.1)) read
 
-pub regroup : (front : List Field) (f : Field) (read : Option (List Field × List ℕ)) → with_front front (option_and_then (λ x. Some (f ∷ x.0, x.1)) read) ≡ with_front (front ++ f ∷ []) read
+pub regroup : (front : List Field) (f : Field) (read : Option (List Field × List ℕ)) → with_front front (option_map (λ x. (f ∷ x.0, x.1)) read) ≡ with_front (front ++ f ∷ []) read
 regroup front f None = refl
 regroup front f (Some x) = ap (λ (fs : List Field). Some (fs, x.1)) (simp append_assoc)
 
 -- the fields at the start, from the field there
 pub next_field : (count i : ℕ) (bytes : List ℕ) (f : Field) (after : List ℕ) → i < count → field_at bytes ≡ Some (f, after)
-    → fields_at (count - i) bytes ≡ option_and_then (λ fs. Some (f ∷ fs.0, fs.1)) (fields_at (count - (i + 1)) after)
+    → fields_at (count - i) bytes ≡ option_map (λ fs. (f ∷ fs.0, fs.1)) (fields_at (count - (i + 1)) after)
 unfolding fields_at
 next_field count i bytes f after lt h = let k : count - i ≡ suc (count - (i + 1)) = omega arith in rw (k, h) refl
 
@@ -42,9 +42,9 @@ pub fields_shorter : (n : ℕ) (bytes : List ℕ) (x : List Field × List ℕ) �
 unfolding fields_at
 fields_shorter zero bytes x e = omega (arith, ap (λ (y : List Field × List ℕ). length y.1) (some_is ([], bytes) x e))
 fields_shorter (suc n) bytes x e =
-    let a = gave (field_at bytes) (λ f. option_and_then (λ fs. Some (f.0 ∷ fs.0, fs.1)) (fields_at n f.1)) x e in
-    let b = gave (fields_at n a.0.1) (λ fs. Some (a.0.0 ∷ fs.0, fs.1)) x a.2 in
-    omega (arith, field_shorter bytes a.0 a.1, fields_shorter n a.0.1 b.0 b.1, ap (λ (y : List Field × List ℕ). length y.1) (some_is _ _ b.2))
+    let a = gave (field_at bytes) (λ f. option_map (λ fs. (f.0 ∷ fs.0, fs.1)) (fields_at n f.1)) x e in
+    let b = mapped (fields_at n a.0.1) (λ fs. (a.0.0 ∷ fs.0, fs.1)) x a.2 in
+    omega (arith, field_shorter bytes a.0 a.1, fields_shorter n a.0.1 b.0 b.1, ap (λ (y : List Field × List ℕ). length y.1) b.2)
 
 defined_shorter : (kind : Kind) (id scopes n : ℕ) (bytes : List ℕ) (x : TemplateEvent × List ℕ) → defined_by kind id scopes (fields_at n bytes) ≡ Ok x → length x.1 ≤ length bytes
 defined_shorter kind id scopes n bytes x e =

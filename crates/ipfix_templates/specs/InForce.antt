@@ -1,4 +1,4 @@
-use Rattle.std.specs.Prelude.{ℕ, List, Option, Some, None, fold, option_and_then, ◌==◌, ◌&&◌, if◌then◌else◌}
+use Rattle.std.specs.Prelude.{ℕ, Option, Some, None, option_and_then, ◌==◌, ◌&&◌, if◌then◌else◌}
 use Rattle.std.specs.Option.{option_or}
 use Rattle.ipfix_templates.specs.Template.{same_kind, TemplateView}
 use Rattle.ipfix_templates.specs.Table.{stored}
@@ -20,16 +20,12 @@ changed_at before at number value domain id =
 
 -- the templates in force after one more event in a domain: it puts a template at its ID, removes the one at an ID, or
 -- removes all of a kind
-abbrev pub after_event : InForce → ℕ × TemplateEvent → InForce
-after_event before (at, Define t) = changed_at before at t.id (Some t)
-after_event before (at, Withdraw id) = changed_at before at id None
-after_event before (at, WithdrawAll kind) = λ domain id.
+abbrev pub after_event : ℕ → InForce → TemplateEvent → InForce
+after_event at before (Define t) = changed_at before at t.id (Some t)
+after_event at before (Withdraw id) = changed_at before at id None
+after_event at before (WithdrawAll kind) = λ domain id.
     option_and_then (λ t. if at == domain && same_kind kind t.kind then None else Some t)
     (before domain id)
-
--- the templates in force after these events, given those before them
-unfoldable pub in_force : InForce → List (ℕ × TemplateEvent) → InForce
-in_force before events = fold after_event before events
 
 -- Below: only contracts of parts and proofs use these; no promise of the program rests on them.
 

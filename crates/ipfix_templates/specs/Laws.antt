@@ -1,10 +1,14 @@
-use Rattle.std.specs.Prelude.{ℕ, List, [], ◌∷◌, Bool, false, Option, Some, None, option_and_then, option_map, ◌==◌, ◌&&◌, if◌then◌else◌}
+use Rattle.std.specs.Prelude.{ℕ, List, [], ◌∷◌, Bool, false, Option, Some, None, fold, option_and_then, option_map, ◌==◌, ◌&&◌, if◌then◌else◌}
 use Rattle.std.specs.List.{list_any}
 use Rattle.std.specs.Option.{option_or}
 use Rattle.ipfix_templates.specs.Template.{TemplateView, same_kind}
-use Rattle.ipfix_templates.specs.InForce.{Define, TemplateEvent, Withdraw, WithdrawAll}
+use Rattle.ipfix_templates.specs.InForce.{Define, InForce, TemplateEvent, Withdraw, WithdrawAll, after_event}
 
 -- The template in force as RFC 7011 section 8 describes it. Each event is paired with its domain.
+
+-- the templates in force after these events, given those before them
+abbrev pub in_force : InForce → List (ℕ × TemplateEvent) → InForce
+in_force before events = fold (λ templates event. after_event event.0 templates event.1) before events
 
 -- the template, if the event defines it for this ID in this domain
 abbrev pub definition : ℕ → ℕ → ℕ × TemplateEvent → Option TemplateView

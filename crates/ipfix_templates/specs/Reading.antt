@@ -56,8 +56,7 @@ field_at bytes =
 unfoldable pub fields_at : ℕ → List ℕ → Option (List Field × List ℕ)
 fields_at zero bytes = Some ([], bytes)
 fields_at (suc n) bytes =
-    option_and_then (λ f. option_and_then (λ fs. Some (f.0 ∷ fs.0, fs.1)) (fields_at n f.1))
-    (field_at bytes)
+    option_and_then (λ f. option_map (λ fs. (f.0 ∷ fs.0, fs.1)) (fields_at n f.1)) (field_at bytes)
 
 -- the definition that ends with these specifiers, and the bytes after it
 abbrev pub defined_by : Kind → ℕ → ℕ → Option (List Field × List ℕ)
@@ -89,15 +88,11 @@ template_record_at kind bytes =
     else (if count == 0 then Ok (Withdraw id, drop 4 bytes)
     else definition_at kind id count (drop 4 bytes)))
 
--- the result of reading the template record at this offset
-abbrev pub with_offset : {A : Type 0} → ℕ → Result A TemplateFaultKind
-    → Result A (TemplateFaultKind × ℕ)
-with_offset offset read = result_map_both (λ item. item) (λ kind. (kind, offset)) read
-
 -- the template record at the start of bytes at this offset, and the bytes after it, or its fault
 abbrev pub template_next : Kind → ℕ → List ℕ
     → Result (TemplateEvent × List ℕ) (TemplateFaultKind × ℕ)
-template_next kind offset bytes = with_offset offset (template_record_at kind bytes)
+template_next kind offset bytes =
+    result_map_both (λ item. item) (λ fault. (fault, offset)) (template_record_at kind bytes)
 
 -- the records of a template set, given the bytes after its header, or the first fault with its offset; fewer bytes than a
 -- record has are padding
@@ -108,6 +103,11 @@ template_set_reading kind bytes =
     (tt {0}) 0 bytes
 
 -- Below: only contracts of parts and proofs use these; no promise of the program rests on them.
+
+-- what was read of the template record at this offset, or its fault
+abbrev pub with_offset : {A : Type 0} → ℕ → Result A TemplateFaultKind
+    → Result A (TemplateFaultKind × ℕ)
+with_offset offset read = result_map_both (λ item. item) (λ fault. (fault, offset)) read
 
 -- the fault is that of the reading, at most at the limit, or that an allocation failed
 abbrev pub IsFaultWithin : {A : Type 0} → ℕ → Result A (TemplateFaultKind × ℕ) → TemplateFault → Type 0

@@ -1,7 +1,7 @@
 //! A law about the templates in force.
 ghost use Rattle.std.specs.Prelude.{◌≡◌, ℕ, List};
-ghost use Rattle.ipfix_templates.specs.InForce.{TemplateEvent, in_force, no_templates};
-ghost use Rattle.ipfix_templates.specs.Laws.{last_in_force};
+ghost use Rattle.ipfix_templates.specs.InForce.{TemplateEvent, no_templates};
+ghost use Rattle.ipfix_templates.specs.Laws.{in_force, last_in_force};
 
 /// The template in force for an ID in a domain is the last definition of this ID there, or none if a later event there
 /// withdraws it (RFC 7011 section 8).

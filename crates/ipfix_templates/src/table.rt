@@ -79,7 +79,7 @@ impl TemplateTable {
 
     /// Defines a template in the domain, replacing the one with its ID. If an allocation fails, no template changes.
     pub fn set(&mut self, domain: u32, template: Template) -> Result<(), AllocError>
-        ensures ok { OnOk result (template_at self.new ≡ after_event (template_at self.old) (domain, Define template)) }
+        ensures ok { OnOk result (template_at self.new ≡ after_event domain (template_at self.old) (Define template)) }
         ensures err { OnErr result (template_at self.new ≡ template_at self.old) }
     {
         let id = template.id;
@@ -98,7 +98,7 @@ impl TemplateTable {
 
     /// Withdraws the template with this ID in the domain, if there is one.
     pub fn withdraw(&mut self, domain: u32, id: u16)
-        ensures { template_at self.new ≡ after_event (template_at self.old) (domain, Withdraw id) }
+        ensures { template_at self.new ≡ after_event domain (template_at self.old) (Withdraw id) }
     {
         TemplateTable::remove(&mut self.flow, domain, id);
         TemplateTable::remove(&mut self.options, domain, id);
@@ -106,7 +106,7 @@ impl TemplateTable {
 
     /// Withdraws all templates of the kind in the domain.
     pub fn withdraw_all(&mut self, domain: u32, kind: Kind)
-        ensures { template_at self.new ≡ after_event (template_at self.old) (domain, WithdrawAll kind) }
+        ensures { template_at self.new ≡ after_event domain (template_at self.old) (WithdrawAll kind) }
     {
         match kind {
             Kind::Flow => self.flow.remove(&domain),

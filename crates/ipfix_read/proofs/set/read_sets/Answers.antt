@@ -1,17 +1,17 @@
-use Rattle.std.proofs.Common.{ℕ, [], ap, sym, ◌∙◌, arith}
+use Rattle.std.proofs.Common.{ℕ, [], ap, refl, sym, ◌∙◌, arith}
 use Rattle.std.proofs.lemmas.Result.{err_from_is_err_and}
-use Rattle.ipfix_templates.specs.InForce.{in_force, template_at}
+use Rattle.ipfix_templates.specs.InForce.{template_at}
 use Rattle.ipfix_templates.specs.Reading.{after_items}
 use Rattle.ipfix_templates.proofs.Reading.{no_items}
-use Rattle.ipfix_read.specs.Set.{events_of_set, sets_reading}
-use Rattle.ipfix_read.proofs.Sets.{fault_kept, in_force_more, none_in_force, sets_end, sets_fault, sets_more, message_size_push}
+use Rattle.ipfix_read.specs.Set.{after_set, sets_reading}
+use Rattle.ipfix_read.proofs.Sets.{after_more, fault_kept, sets_end, sets_fault, sets_more, message_size_push}
 use Rattle.ipfix_read.proofs.set.read_sets.Goals as goal
 
 pub loop-rest-init : goal.loop-rest-init
 loop-rest-init c = rw c.new-sets.ensures (record {
   within = omega arith;
   read = no_items _ ∙ ap (λ (n : ℕ). after_items [] (sets_reading (template_at c.args.table.now) c.args.domain n c.args.bytes.now)) (omega arith);
-  table = sym (none_in_force (template_at c.args.table.now));
+  table = refl;
 })
 
 pub returns-in_err-set-clause-read : goal.returns-in_err-set-clause-read
@@ -28,8 +28,8 @@ loop-rest-preserved c =
       within = omega (arith, message_size_push c.loop-rest.sets c.in_ok-set.set, c.in_ok-set.ensures.size, c.loop-rest.invariant.within);
       read = sets_more c.args.domain _ c.loop-rest.sets _ _ c.loop-rest.rest.now c.loop-rest.invariant.read c.in_ok-set.set c.in_ok-set.after.now _ _ (sym c.loop-rest-test.ensures) is.0
           (omega (arith, c.in_ok-set.ensures.size, c.loop-rest.invariant.within)) is.1;
-      table = is.1 ∙ ap (λ templates. in_force templates (events_of_set c.args.domain c.in_ok-set.set)) c.loop-rest.invariant.table
-          ∙ in_force_more (events_of_set c.args.domain) (template_at c.args.table.now) c.loop-rest.sets c.in_ok-set.set;
+      table = is.1 ∙ ap (λ templates. after_set c.args.domain templates c.in_ok-set.set) c.loop-rest.invariant.table
+          ∙ after_more (after_set c.args.domain) (template_at c.args.table.now) c.loop-rest.sets c.in_ok-set.set;
     })
 
 pub returns-clause-read : goal.returns-clause-read
