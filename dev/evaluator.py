@@ -30,8 +30,9 @@ of the prover, of the compiler or of the program. If you take its result for tha
 
 Relations. If a definition says that there is a value, its parts are evaluated in turn, and a part `unknown ≡ value`
 gives the unknown its value. A part that needs the value waits. If a part says that an unknown is an item of a list,
-each item is tried. The runs that `cat` prints, and the list and certificate that `shrink` prints, can't be found so.
-For these, WITNESSES computes values, and then the relation is evaluated on them: with a wrong value it would be false.
+each item is tried. A value whose type is a record with parameters must have what the record says. The runs that `cat`
+prints, and the list and certificate that `shrink` prints, can't be found so. For these, WITNESSES computes values, and
+then the relation is evaluated on them: with a wrong value it would be false.
 A statement about all numbers is evaluated once for each range of numbers in which all comparisons have the same results
 (`Number`). A statement about all values of another type can be evaluated if the type has finitely many values, or if
 its premises determine the value. Others can't be evaluated.

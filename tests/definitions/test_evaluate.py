@@ -18,7 +18,7 @@ from definitions import inputs
 from support import PROGRAM, ROOT, Case, rows, run, write
 
 # The made inputs: a number of parts, each with inputs of its own seed.
-SEED, PARTS, INPUTS = 20261129, 36, 250
+SEED, PARTS, INPUTS = 20261129, 72, 125
 # The faults that must occur. P1, a word that isn't UTF-8, has its own input. M12, more than 65,535 labels or a million
 # mappings, takes too long to evaluate.
 FAULTS = {*(f"M{number}" for number in range(1, 15) if number != 12), *(f"F{number}" for number in range(1, 8)),
@@ -133,25 +133,25 @@ class Made(Evaluated):
 
 
 class Made1(Made):
-    @parts(0, 9)
+    @parts(0, 18)
     def test_made(self, part):
         self.compare(part)
 
 
 class Made2(Made):
-    @parts(9, 18)
+    @parts(18, 36)
     def test_made(self, part):
         self.compare(part)
 
 
 class Made3(Made):
-    @parts(18, 27)
+    @parts(36, 54)
     def test_made(self, part):
         self.compare(part)
 
 
 class Made4(Made):
-    @parts(27, PARTS)
+    @parts(54, PARTS)
     def test_made(self, part):
         self.compare(part)
 
