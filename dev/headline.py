@@ -21,10 +21,10 @@ def tried(items, most=MOST):
 
 
 class Headline:
-    """Evaluates the contract on a run of flowlabel.
+    """Evaluates the contract on a run of a program.
 
     `IsRunOf` says that the writer took the output, for which `IsHeadline` holds, or that the fault is one
-    (`IsFaultOf`). `IsReported` says which text goes to which stream. SKIPPED are taken for true. A statement about all
+    (`IsFaultOf`), and `EndsAs` says so of flowlabel-many and its Files. `IsReported` says which text goes to which stream. SKIPPED are taken for true. A statement about all
     items of a list is evaluated for some if they are many, and one about all texts that a file may have for a few."""
 
     def __init__(self, definitions, run):

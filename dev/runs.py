@@ -8,7 +8,7 @@ from pathlib import Path
 
 from evaluator import CannotEvaluate, Definitions, Malformed, Unknown, cannot, same, with_stack
 from headline import Headline
-from kit import NONE, UNIT, Case, Record, borrowed, codes, err, is_ok, is_some, ok, own_name, shown, some
+from kit import NONE, UNIT, Case, Record, borrowed, codes, err, is_ok, is_some, ok, own_name, pair, shown, some
 
 USAGE = ("usage: dev/evaluate [--headline] [--many] COMMAND ARGUMENT.. | "
          "--definition CRATE/MODULE.NAME ARGUMENT..")
@@ -175,22 +175,49 @@ class FlowlabelMany(Run):
         names = self.call("Request.files_of", self.call("Request.request_of", self.command))
         read = [self.content_of(bytes(name)) for name in names]
         count = next((place for place, content in enumerate(read) if content is None), len(names))
-        self.files = tuple(map(tuple, read[:count]))
+        self.files, self.named_files, self.fault_at = tuple(map(tuple, read[:count])), names, None
         outcome = self.call("Output.outcome_of", self.command, self.of_all(self.contents), self.files)
         if is_ok(outcome):
             return outcome if count == len(names) else err(self.fault("CannotOpen", names[count]))
         found, = outcome.args
+        self.fault_at = found.f_file
         name = names[found.f_file - 1] if found.f_file else self.role_name(found.f_fault)
         return err(self.fault("File", name, found.f_fault))
 
     def wrong(self, headline, outcome):
-        """Returns the definition that isn't true of an output, or nothing. Of a fault nothing is said."""
+        """Returns the definition that isn't true of the run and its Files, or nothing."""
         for kind, name in (("MessageView", "file_reading"), ("Placed", "placed_messages")):
             read = [self.all.call(f"ipfix_read/Messages.{name}", text) for text in self.files] if is_ok(outcome) else ()
             headline.found["some", f"List List {kind}"] = [(tuple(found.args[0] for found in read),)]
-        is_true = not is_ok(outcome) or self.call("Headline.IsHeadline", self.command, self.of_all(self.contents),
-                                                  self.files, *outcome.args)
-        return "" if is_true else "IsHeadline"
+        view, result = lambda view: view, ok(UNIT) if is_ok(outcome) else outcome
+        out, old = headline.written(outcome.args[0] if is_ok(outcome) else b""), headline.written(b"")
+        labels = headline.files(outcome if self.fault_at == 0 else ok(UNIT))
+        self.note_files(headline.found)
+        is_true = self.call("Run.EndsAs", self.opens_file, view, view, self.command, *labels, old, out, result)
+        return "" if is_true else "EndsAs"
+
+    def note_files(self, found):
+        """Notes the readers of the Files, with the texts and names of those before one with a fault."""
+        reader = lambda text, is_read: Record(
+            f_failed=False, f_returned=text if is_read else (), f_stopped=is_read, f_left=some(() if is_read else text))
+        readers = tuple(pair(reader(text, False), reader(text, True)) for text in self.files)
+        names, count = tuple(self.named_files), len(self.files) if self.fault_at is None else self.fault_at - 1
+        before = Record(f_earlier=names[:count], f_later=names[count + 1:], f_readers=readers[:count])
+        found["some", "List R × R"] = [(readers,)]
+        found["some", "value"] = [(before.f_earlier, before.f_later, before.f_readers)]
+        found["all", "ByFile Text, List Text"] = [(self.of_all(self.contents), self.files)]
+        found["all", "List Text"] = [(self.files[:count],)]
+        if self.fault_at:
+            last = readers[count]
+            found["some", "AreSound refusal names file.now, R"] = [(before, last.f_0, last.f_1)]
+            found["all", "List Text, Text"] = [(self.files[:count], self.files[count])]
+
+    def opens_file(self, name):
+        """The possible results of opening a File: a reader that reports its bytes, or none."""
+        content = self.content_of(bytes(name))
+        opened = NONE if content is None else some(Record(
+            f_failed=False, f_returned=(), f_stopped=False, f_left=some(tuple(content))))
+        return lambda reader: same(reader, opened)
 
     def arguments(self, name, args, keep):
         if name == "Messages":

@@ -219,8 +219,34 @@ class Headlines(Evaluating):
         self.assertEqual(found[0], "")
         self.assertNotIn("", found[1:])
 
+    @rows(("messages {}softflowd.ipfix {}softflowd-biflow.ipfix",), ("sum --by day --columns {}softflowd.ipfix",),
+          ("sum --fields dst-label --pmap {}customers.txt {}softflowd.ipfix {}softflowd.ipfix",),
+          ("sum --fields proto --pmap {}broken.txt {}softflowd.ipfix",), ("messages {}softflowd.ipfix nothing",),
+          ("messages {}softflowd.ipfix {}broken.txt {}softflowd.ipfix",), ("sum --fields proto {}broken.txt",))
+    def test_holds_of_many(self, line):
+        """It is true of a run of flowlabel-many, and false if the run has another text or another fault."""
+        import runs
+        words = [word.encode() for word in line.replace("{}", f"{ROOT}/examples/").split()]
+        found = self.claims.with_stack(lambda: self.wrong_of_many(runs, words))
+        self.assertEqual(found[0], "")
+        self.assertNotIn("", found[1:])
+
     def evaluated(self, *words):
         return run(EVALUATE, *words).stdout
+
+    def wrong_of_many(self, runs, words):
+        """Returns what is wrong with a run of flowlabel-many, and with runs that end otherwise."""
+        made = runs.FlowlabelMany(self.definitions, words, runs.content)
+        outcome = made.outcome()
+        ends = [outcome]
+        if self.kit.is_ok(outcome):
+            text = tuple(outcome.args[0])
+            ends += map(self.kit.ok, (text[:-1], text + text[-1:], text[:-2] + (text[-2] ^ 1,) + text[-1:]))
+        else:
+            fault, = outcome.args
+            ends += [self.kit.err(made.fault(self.kit.own_name(fault.tag), name, *fault.args[1:]))
+                     for name in ((120,), made.named_files[-1] + (120,))]
+        return [self.headline.Headline(self.definitions, made).wrong(end) for end in ends]
 
     def wrong(self, runs, words):
         """Returns what is wrong with a run, and with runs that end otherwise."""
