@@ -5,8 +5,8 @@ import contextlib
 from evaluator import Choice, Unknown, filling, minimal_pair, runs_of
 from kit import NONE, UNIT, Record, borrowed, is_ok, ok, own_name, pair, some
 
-# What is not evaluated: statements about all lists, and about all texts of maps and lists.
-SKIPPED = "IsLeast", "IsSameUnder"
+# What is not evaluated: statements about all lists.
+SKIPPED = "IsLeast",
 MOST = 16  # how many items of a long list are tried for all
 
 

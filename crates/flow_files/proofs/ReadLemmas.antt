@@ -18,22 +18,45 @@ use Rattle.ipfix_read.proofs.Readings.{placed_are_messages}
 use Rattle.ipfix_read.specs.Messages.{StopsReading, file_reading, messages_in, placed_messages}
 use Rattle.ipfix_read.specs.declared.fault.ReadFault.{ReadFault}
 use Rattle.label_lookup.specs.Labelling.{Labelling, StretchModel, labelling_of_list, labelling_of_map, labelling_of_stretches}
+use Rattle.pmap_text.specs.ListModel.{ListModel}
+use Rattle.pmap_text.specs.MapModel.{MapModel}
 use Rattle.pmap_text.specs.MapText.{map_of}
 use Rattle.pmap_text.specs.PrefixList.{list_of}
 use Rattle.pmap_text.specs.Reading.{◌>>=◌, list_reading, map_reading}
 use Rattle.pmap_text.specs.declared.map_text.MapText.{MapText}
 use Rattle.pmap_text.specs.declared.prefix_list.PrefixList.{PrefixList}
+use Rattle.pmap_cert.specs.CertificateModel.{CertificateModel}
+use Rattle.pmap_cert.specs.FormatReading.{format_reading}
 use Rattle.flow_files.specs.BytesFault.{is_out_of_memory, role_of}
 use Rattle.flow_files.specs.ByFile.{ByFile, Role, at, each, turn, with_at}
 use Rattle.flow_files.specs.ByFile as role
-use Rattle.flow_files.specs.declared.bytes_fault.BytesFault.TheVariants.{Map as InMap, List as InList, Flows as InFlows}
-use Rattle.flow_files.specs.Outcomes.{BytesFault, FlowsThen, LabelsThen, Outcome, Then}
-use Rattle.flow_files.specs.Reports.{AreFresh, AreLabelsOf, AreRead, AreTextsBefore, Decodes, Gives, GivesAll, IsRead, IsReading, IsText, ReadsInto, faults_of, with_bytes_fault, labelling_found, labelling_read, labels_reading, report_reading, source_reading}
+use Rattle.flow_files.specs.declared.bytes_fault.BytesFault.TheVariants.{Map as InMap, List as InList, Certificate as InCertificate, Flows as InFlows}
+use Rattle.flow_files.specs.Outcomes.{BytesFault, Outcome, Then, labels_reading, report_reading, source_reading, with_bytes_fault}
+use Rattle.flow_files.specs.Reports.{AreFresh, AreLabelsOf, AreRead, AreTextsBefore, Decodes, Gives, GivesAll, IsRead, IsReading, IsText, ReadsInto, faults_of, labelling_found, labelling_read}
 use Rattle.flow_files.specs.declared.labels.LabelsRead.{LabelsRead}
 use Rattle.flow_files.specs.declared.label_file.LabelFile.{LabelFile}
 use Rattle.flow_files.specs.declared.label_file.LabelFile.TheVariants.{Map, List as Prefixes}
 use Rattle.flow_files.specs.Sources.{Text}
 use Rattle.flow_files.specs.Readers.{AreReadOn, AreTexts, AreUnread, IsFaultFor, IsFaultOf, MayHave, CannotRead, File, NoMemory, Readers, RunFault, Source, any_failed, name_in, view_of}
+
+-- what the map, the list, the certificate and the File are read as
+abbrev pub map_in : ByFile Text → Result MapModel BytesFault
+map_in texts = with_bytes_fault InMap (map_reading texts.map)
+
+abbrev pub list_in : ByFile Text → Result ListModel BytesFault
+list_in texts = with_bytes_fault InList (list_reading texts.list)
+
+abbrev pub certificate_in : ByFile Text → Result CertificateModel BytesFault
+certificate_in texts = with_bytes_fault InCertificate (format_reading texts.certificate)
+
+abbrev pub flows_in : ByFile Text → Result (List MessageView) BytesFault
+flows_in texts = with_bytes_fault InFlows (file_reading texts.flows)
+
+-- a function of what is read, step by step
+pub mapped : {F A B : Type 0} (f : A → B) (wrap : F → BytesFault) (reading : Result A F)
+    → result_map_both f wrap reading ≡ (with_bytes_fault wrap reading >>= (λ a. Ok (f a)))
+mapped f wrap (Ok value) = refl
+mapped f wrap (Err fault) = refl
 
 -- a result that passes on a fault has the properties of one with this fault
 pub handed_on : {A F : Type 0} (P : Result A F → Type 0) (r : Result A F) (fault : F) → IsErrAnd r (λ y. y ≡ fault) → P (Err fault) → P r
@@ -210,7 +233,7 @@ more_follows is is' n rest later (Err g) = (λ f fails. let same : g ≡ f = cc 
 
 pub then_follows : {A V : Type 0} (is : A → V → Type 0) (n : ℕ) (rest : A → Outcome → Type 0)
     → ((a : A) (f : BytesFault) → rest a (Err f) → n ≤ turn (role_of f) + 1) → (reading : Result A BytesFault)
-    → Follows n (IsReading reading is) (Then (λ f. f) rest reading)
+    → Follows n (IsReading reading is) (Then rest reading)
 then_follows is n rest later (Ok a) = (λ f wrong. absurd (cc), λ f fails. inr (later a f fails))
 then_follows is n rest later (Err g) = (λ f fails. let same : f ≡ g = cc in ap Err same, λ f fails. let same : g ≡ f = cc in inl (ap Err same))
 
@@ -285,17 +308,17 @@ module _ {R : Type 0} {input : R → InputView} where
 
     pub flows_read : {W : Type 0} {is : List MessageView → W → Type 0} {file : Option (Source R)} {result : Result W RunFault}
         → n ≤ 3 → ReadsInto input (λ placed. is (messages_in placed)) mid.flows file result
-        → AreRead input 4 (λ texts. IsReading (with_bytes_fault InFlows (file_reading texts.flows)) is) old (with_at role.Flows file mid) result
+        → AreRead input 4 (λ texts. IsReading (flows_in texts) is) old (with_at role.Flows file mid) result
     flows_read {is = is} {result = result} early read =
         next had role.Flows early (λ bytes. named_in InFlows (λ own. refl) (file_reading bytes)) (λ _ bytes stops. stops) (omega arith) (messages_read is result read)
 
     pub list_read : {file : Option (Source R)} {result : Result PrefixList RunFault} → n ≤ 1 → Decodes input InList list_reading list_of mid.list file result
-        → AreRead input 2 (λ texts. IsReading (with_bytes_fault InList (list_reading texts.list)) (λ l list. l ≡ list_of list)) old (with_at role.List file mid) result
+        → AreRead input 2 (λ texts. IsReading (list_in texts) (λ l list. l ≡ list_of list)) old (with_at role.List file mid) result
     list_read early = text_read role.List early (omega arith) (λ bytes. named_in InList (λ own. refl) (list_reading bytes))
 
   pub map_read : (files : Readers R) → AreFresh input files → {file : Option (Source R)} {result : Result MapText RunFault}
       → Decodes input InMap map_reading map_of files.map file result
-      → AreRead input 1 (λ texts. IsReading (with_bytes_fault InMap (map_reading texts.map)) (λ m map. m ≡ map_of map)) files (with_at role.Map file files) result
+      → AreRead input 1 (λ texts. IsReading (map_in texts) (λ m map. m ≡ map_of map)) files (with_at role.Map file files) result
   map_read files fresh =
       text_read (none_read 0 files fresh) role.Map (omega arith) (omega arith) (λ bytes. named_in InMap (λ own. refl) (map_reading bytes))
 
@@ -364,53 +387,9 @@ module _ {R : Type 0} {input : R → InputView} where
           subst (λ (r : Result B BytesFault). Follows n (IsReading (reading texts) is) (IsReading r is')) (sym (same texts given))
           (more_follows is is' n (rest texts) (later texts) (reading texts)))
 
--- The outcomes of commands, by what their texts are read as.
-
-pub then_in : {F A : Type 0} (wrap : F → BytesFault) (rest : A → Outcome → Type 0) (reading : Result A F)
-    → Then wrap rest reading ≡ Then (λ f. f) rest (with_bytes_fault wrap reading)
-then_in wrap rest (Ok value) = refl
-then_in wrap rest (Err fault) = refl
-
-pub then_is : {F A : Type 0} (wrap : F → BytesFault) (rest : A → Outcome → Type 0) (reading : Result A F) {a : A}
-    → with_bytes_fault wrap reading ≡ Ok a → Then wrap rest reading ≡ rest a
-then_is wrap rest reading reads = then_in wrap rest reading ∙ ap (Then (λ f. f) rest) reads
-
-then_more : {A B : Type 0} (f : A → B) (rest : B → Outcome → Type 0) (reading : Result A BytesFault)
-    → Then (λ f. f) (λ a. rest (f a)) reading ≡ Then (λ f. f) rest (reading >>= (λ a. Ok (f a)))
-then_more f rest (Ok value) = refl
-then_more f rest (Err fault) = refl
-
-pub labels_then : (rest : Labelling → Outcome → Type 0) (file : LabelFile) (texts : ByFile Text)
-    → LabelsThen rest file texts ≡ Then (λ f. f) rest (labels_reading file texts)
-labels_then rest (Map file) texts =
-    then_in InMap (λ m. rest (labelling_of_map m)) (map_reading texts.map) ∙ then_more labelling_of_map rest (with_bytes_fault InMap (map_reading texts.map))
-labels_then rest (Prefixes file) texts =
-    then_in InList (λ l. rest (labelling_of_list l)) (list_reading texts.list) ∙ then_more labelling_of_list rest (with_bytes_fault InList (list_reading texts.list))
-
 -- what a report is on, once its labels are read
 abbrev pub report_after : Option Labelling → ByFile Text → Result (Option Labelling × List MessageView) BytesFault
-report_after labels texts = with_bytes_fault InFlows (file_reading texts.flows) >>= (λ messages. Ok (labels, messages))
-
-abbrev pub both : (Option Labelling → List MessageView → Outcome → Type 0) → Option Labelling × List MessageView → Outcome → Type 0
-both rest read = rest read.0 read.1
-
-pub report_then : (rest : Option Labelling → List MessageView → Outcome → Type 0) (source : Option LabelFile) (texts : ByFile Text)
-    → FlowsThen rest source texts ≡ Then (λ f. f) (both rest) (report_reading source texts)
-report_then rest source texts = by source
-  where
-    flows : (l : Option Labelling) → Then InFlows (rest l) (file_reading texts.flows) ≡ Then (λ f. f) (both rest) (report_after l texts)
-    flows l =
-        then_in InFlows (rest l) (file_reading texts.flows)
-        ∙ then_more (λ messages. (l, messages)) (both rest) (with_bytes_fault InFlows (file_reading texts.flows))
-
-    over : (labels : Result Labelling BytesFault) → Then (λ f. f) (λ l. Then InFlows (rest (Some l)) (file_reading texts.flows)) labels
-        ≡ Then (λ f. f) (both rest) ((labels >>= (λ l. Ok (Some l))) >>= (λ l. report_after l texts))
-    over (Ok l) = flows (Some l)
-    over (Err fault) = refl
-
-    by : (source : Option LabelFile) → FlowsThen rest source texts ≡ Then (λ f. f) (both rest) (report_reading source texts)
-    by None = flows None
-    by (Some file) = labels_then (λ l. Then InFlows (rest (Some l)) (file_reading texts.flows)) file texts ∙ over (labels_reading file texts)
+report_after labels texts = flows_in texts >>= (λ messages. Ok (labels, messages))
 
 pub flows_last : (labels : Option Labelling) (reading : Result (List MessageView) ReadFault) (fault : BytesFault)
     → ◌>>=◌ {B = Option Labelling × List MessageView} (with_bytes_fault InFlows reading) (λ messages. Ok (labels, messages)) ≡ Err fault → role_of fault ≡ role.Flows

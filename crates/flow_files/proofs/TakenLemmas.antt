@@ -14,7 +14,8 @@ use Rattle.ipfix_read.proofs.Joining.{calls_start}
 use Rattle.ipfix_read.proofs.Readings.{not_of_reader, placed_are_messages}
 use Rattle.flow_files.specs.declared.bytes_fault.BytesFault.TheVariants.{Flows as InFlows}
 use Rattle.flow_files.specs.BytesFault.{is_out_of_memory}
-use Rattle.flow_files.specs.Reports.{AreReadSoFar, IsFaultOfCall, IsFresh, ReadsInto, ReadsNext, with_bytes_fault}
+use Rattle.flow_files.specs.Reports.{AreReadSoFar, IsFaultOfCall, IsFresh, ReadsInto, ReadsNext}
+use Rattle.flow_files.specs.Outcomes.{with_bytes_fault}
 use Rattle.flow_files.specs.Sources.{Text}
 use Rattle.flow_files.specs.Readers.{CannotRead, File, NoMemory, RunFault, Source, name_in, view_of}
 use Rattle.flow_files.proofs.ReadLemmas.{all_read, handed_on, text_is, with_fault_of}

@@ -1,5 +1,6 @@
 use Rattle.std.specs.Prelude.{◌≡◌, ℕ, Bool, List, Option, Some, None, Result, Ok, Err}
-use Rattle.pmap_text.specs.Reading.{list_reading, map_reading}
+use Rattle.std.specs.Result.{result_map_both}
+use Rattle.pmap_text.specs.Reading.{◌>>=◌, list_reading, map_reading}
 use Rattle.ipfix_read.specs.Messages.{file_reading}
 use Rattle.ipfix_read.specs.Message.{MessageView}
 use Rattle.flow_rows.specs.Counts.{rows_of_messages}
@@ -15,7 +16,28 @@ use Rattle.flow_files.specs.Sources.{Text}
 use Rattle.flow_files.specs.declared.label_file.LabelFile.{LabelFile}
 use Rattle.flow_files.specs.declared.label_file.LabelFile.TheVariants.{Map, List as Prefixes}
 
--- The outcome of a command for the texts of its files: the text that it prints, or the first fault of these texts.
+-- What the texts of a command's files are read as, and the outcome of the command: the text that it prints, or the first fault
+-- of these texts.
+
+-- a reading, with its faults as those of a file
+abbrev pub with_bytes_fault : {F A : Type 0} → (F → BytesFault) → Result A F → Result A BytesFault
+with_bytes_fault = result_map_both (λ value. value)
+
+-- the labelling of the map or the list that labels come from, and the same if there is one
+abbrev pub labels_reading : LabelFile → ByFile Text → Result Labelling BytesFault
+labels_reading (Map file) texts = result_map_both labelling_of_map InMap (map_reading texts.map)
+labels_reading (Prefixes file) texts =
+    result_map_both labelling_of_list InList (list_reading texts.list)
+
+abbrev pub source_reading : Option LabelFile → ByFile Text → Result (Option Labelling) BytesFault
+source_reading None texts = Ok None
+source_reading (Some file) texts = labels_reading file texts >>= (λ l. Ok (Some l))
+
+-- what a report is on: the labelling, if there is one, and the messages of the File
+abbrev pub report_reading : Option LabelFile → ByFile Text
+    → Result (Option Labelling × List MessageView) BytesFault
+report_reading source texts = source_reading source texts >>= (λ labels.
+    with_bytes_fault InFlows (file_reading texts.flows) >>= (λ messages. Ok (labels, messages)))
 
 -- a text, or the first fault
 abbrev pub Outcome : Type 0
@@ -25,27 +47,10 @@ Outcome = Result (List ℕ) BytesFault
 abbrev pub Prints : List ℕ → Outcome → Type 0
 Prints text outcome = outcome ≡ Ok text
 
--- the outcome over a file's text, by its reading: the text's first fault, or the outcome for the value that the text is read as
-abbrev pub Then : {F A : Type 0} → (F → BytesFault) → (A → Outcome → Type 0) → Result A F → Outcome
-    → Type 0
-Then in_file rest (Ok value) outcome = rest value outcome
-Then in_file rest (Err fault) outcome = outcome ≡ Err (in_file fault)
-
--- the outcome over the text of the map or the list that labels come from: its first fault, or the outcome for its
--- labelling
-abbrev pub LabelsThen : (Labelling → Outcome → Type 0) → LabelFile → ByFile Text → Outcome → Type 0
-LabelsThen rest (Map file) texts =
-    Then InMap (λ m. rest (labelling_of_map m)) (map_reading texts.map)
-LabelsThen rest (Prefixes file) texts =
-    Then InList (λ l. rest (labelling_of_list l)) (list_reading texts.list)
-
--- the outcome over the bytes of an IPFIX File and the text that labels come from, if there is one: the first fault, or
--- the outcome for the labelling, if there is one, and the messages
-abbrev pub FlowsThen : (Option Labelling → List MessageView → Outcome → Type 0) → Option LabelFile
-    → ByFile Text → Outcome → Type 0
-FlowsThen rest None texts = Then InFlows (rest None) (file_reading texts.flows)
-FlowsThen rest (Some file) texts =
-    LabelsThen (λ l. Then InFlows (rest (Some l)) (file_reading texts.flows)) file texts
+-- the outcome by what texts are read as: their first fault, or the outcome for the value
+abbrev pub Then : {A : Type 0} → (A → Outcome → Type 0) → Result A BytesFault → Outcome → Type 0
+Then rest (Ok value) outcome = rest value outcome
+Then rest (Err fault) outcome = outcome ≡ Err fault
 
 -- what `uniq` prints: the groups, by fields, of the rows of messages that meet a condition, with their totals
 abbrev pub uniq_text : List KeyField → Condition → (sorted columns : Bool) → Option Labelling

@@ -20,7 +20,7 @@ use Rattle.flow_filter.specs.Condition.{Condition, passing}
 use Rattle.flow_uniq.specs.Groups.{GroupsModel, groups_of, record_count}
 use Rattle.flow_files.specs.ByFile.{ByFile, Role, at, turn}
 use Rattle.flow_files.specs.declared.bytes_fault.BytesFault.TheVariants.{Flows as InFlows, List as InList, Map as InMap}
-use Rattle.flow_files.specs.Outcomes.{BytesFault, Outcome}
+use Rattle.flow_files.specs.Outcomes.{BytesFault, Outcome, labels_reading, report_reading, source_reading, with_bytes_fault}
 use Rattle.flow_files.specs.declared.label_file.LabelFile.{LabelFile}
 use Rattle.flow_files.specs.declared.label_file.LabelFile.TheVariants.{Map, List as Prefixes}
 use Rattle.flow_files.specs.Sources.{Text}
@@ -38,25 +38,6 @@ labelling_read (read.List list) = labelling_of_list (list_of list)
 
 abbrev pub labelling_found : Option (Bor StretchModel) → Option Labelling
 labelling_found = option_map (λ index. labelling_of_stretches index.now)
-
--- a reading, with its faults as those of a file
-abbrev pub with_bytes_fault : {F A : Type 0} → (F → BytesFault) → Result A F → Result A BytesFault
-with_bytes_fault = result_map_both (λ value. value)
-
--- what the text that labels come from is read as: the labelling, or the first fault
-abbrev pub labels_reading : LabelFile → ByFile Text → Result Labelling BytesFault
-labels_reading (Map file) texts = with_bytes_fault InMap (map_reading texts.map) >>= (λ m. Ok (labelling_of_map m))
-labels_reading (Prefixes file) texts = with_bytes_fault InList (list_reading texts.list) >>= (λ l. Ok (labelling_of_list l))
-
--- the same, if there is such a text
-abbrev pub source_reading : Option LabelFile → ByFile Text → Result (Option Labelling) BytesFault
-source_reading None texts = Ok None
-source_reading (Some file) texts = labels_reading file texts >>= (λ labels. Ok (Some labels))
-
--- what a report is on: the labelling, if there is one, and the messages of a File
-abbrev pub report_reading : Option LabelFile → ByFile Text → Result (Option Labelling × List MessageView) BytesFault
-report_reading source texts = source_reading source texts >>= (λ labels.
-    with_bytes_fault InFlows (file_reading texts.flows) >>= (λ messages. Ok (labels, messages)))
 
 -- the rows of messages that meet a condition
 abbrev pub passing_rows : Condition → Option Labelling → List MessageView → List RowView

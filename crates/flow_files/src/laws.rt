@@ -8,17 +8,11 @@ ghost use Rattle.flow_filter.specs.Laws.{rows_left};
 ghost use Rattle.flow_uniq.specs.declared.field.KeyField.{KeyField};
 ghost use Rattle.flow_files.specs.Groups.{PrintsGroups};
 ghost use Rattle.flow_files.specs.Outcomes.{uniq_text};
-ghost use Rattle.flow_files.specs.Laws.{AnsweredWordsAreTaken, AreShared, OutcomesFollowReadings, SubcommandsAreAdded};
+ghost use Rattle.flow_files.specs.Laws.{AnsweredWordsAreTaken, AreShared, SubcommandsAreAdded};
 
 use crate::definition::{Argument, FILTERS, SOURCES};
 use flow_filter::options_hold_together;
 use flow_uniq::rows_are_grouped_by_fields;
-
-/// The outcome of a command follows from what the texts of its files are read as: the text that is printed for it, or
-/// the first fault.
-pub fn outcomes_follow_readings()
-    ensures { OutcomesFollowReadings }
-{}
 
 /// A program has its subcommands one by one.
 pub fn subcommands_are_added()

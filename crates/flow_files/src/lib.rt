@@ -35,8 +35,7 @@ pub use inputs::{Files, Source};
 pub use label_file::{LabelFile, files_named};
 pub use labels::{LabelsRead, index_of, read_labels};
 pub use laws::{
-    answered_words_are_taken, outcomes_follow_readings, shared_arguments, subcommands_are_added,
-    uniq_prints_groups,
+    answered_words_are_taken, shared_arguments, subcommands_are_added, uniq_prints_groups,
 };
 pub use messages::{TakesMessages, add_messages};
 pub use opening::{Opener, open_all, open_source};

@@ -15,9 +15,9 @@ use Rattle.flow_files.specs.declared.fault.RunFault.TheVariants.{CannotOpen, Can
 use Rattle.flow_files.specs.declared.label_file.LabelFile.{LabelFile}
 use Rattle.flow_files.specs.declared.labels.LabelsRead.{LabelsRead}
 use Rattle.flow_files.specs.Opening.{AreOpened}
-use Rattle.flow_files.specs.Outcomes.{uniq_text}
+use Rattle.flow_files.specs.Outcomes.{uniq_text, source_reading}
 use Rattle.flow_files.specs.Readers.{AreTexts, AreUnread, Readers, any_failed}
-use Rattle.flow_files.specs.Reports.{AreLabelsOf, IsTextWritten, labelling_found, labelling_read, passing_rows, source_reading}
+use Rattle.flow_files.specs.Reports.{AreLabelsOf, IsTextWritten, labelling_found, labelling_read, passing_rows}
 use Rattle.flow_files.specs.Sources.{Text}
 use Rattle.flow_many.specs.Answer.{Answers}
 use Rattle.flow_many.specs.Ending.{IsEndOf}

@@ -16,7 +16,7 @@ use Rattle.flow_rows.specs.Counts.{is_skipped, rows_of_messages, sets_of}
 use Rattle.flow_rows.proofs.Adding.{messages-rows}
 use Rattle.flow_filter.specs.Condition.{Condition}
 use Rattle.label_lookup.specs.Labelling.{Labelling}
-use Rattle.flow_files.specs.Reports.{with_bytes_fault}
+use Rattle.flow_files.specs.Outcomes.{with_bytes_fault}
 use Rattle.flow_files.specs.Sources.{Text}
 use Rattle.flow_files.specs.declared.bytes_fault.BytesFault.{BytesFault}
 use Rattle.flow_files.specs.declared.bytes_fault.BytesFault.TheVariants.{Flows as InFlows, Sum as InSum}

@@ -17,9 +17,9 @@ use Rattle.flow_many.specs.Run.{EndsAs}
 -- What the program does: how it ends for its words, which text it writes to which stream, and its exit status.
 
 module _ {R W : Type 0} (answers : Text → Option R → Type 0) (input : R → InputView) (output : W → OutputView) where
-  -- A usage fault is a fault of the words. With any other result the words ask for a request. Either its map or its list
-  -- can't be opened, and the result says so, or the request is run over the opened map or list, of which nothing was read
-  -- before.
+  -- A usage fault is a fault of the words. With any other result the words ask for a request. Either its map or its
+  -- list can't be opened, and the result says so, or the request is run over the opened map or list, of which nothing
+  -- was read before.
   abbrev pub IsEndOf : List Text → W → W → Result (Unit {0}) RunFault → Type 0
   IsEndOf words old new (Err (Usage fault)) = IsFaultAt words fault × (new ≡ old)
   IsEndOf words old new result =

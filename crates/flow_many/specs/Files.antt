@@ -7,7 +7,7 @@ use Rattle.ipfix_read.specs.Message.{MessageView}
 use Rattle.ipfix_read.specs.Messages.{placed_messages}
 use Rattle.flow_files.specs.declared.bytes_fault.BytesFault.{BytesFault}
 use Rattle.flow_files.specs.declared.bytes_fault.BytesFault.TheVariants.{Flows as InFlows}
-use Rattle.flow_files.specs.Reports.{with_bytes_fault}
+use Rattle.flow_files.specs.Outcomes.{with_bytes_fault}
 use Rattle.flow_files.specs.Sources.{Text}
 
 -- What several Files are read as. Each is a File of its own: no template of one is in force in another.

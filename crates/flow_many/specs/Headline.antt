@@ -9,7 +9,7 @@ use Rattle.label_lookup.specs.Labelling.{Labelling}
 use Rattle.pmap_print.specs.Messages.{messages_text}
 use Rattle.flow_files.specs.declared.by_file.ByFile.{ByFile}
 use Rattle.flow_files.specs.Groups.{PrintsGroups}
-use Rattle.flow_files.specs.Reports.{source_reading}
+use Rattle.flow_files.specs.Outcomes.{source_reading}
 use Rattle.flow_files.specs.Sources.{Text}
 use Rattle.flow_many.specs.Files.{Placed}
 use Rattle.flow_many.specs.Request.{Command, Messages, Sum}
@@ -21,10 +21,10 @@ AddsUp messages = summed_message_counts messages
 
 -- The headline: what a command that ends without a fault has written.
 
--- `sum`: each File is read by itself, and has no skipped sets, unless such are allowed. The text is a table of groups of
--- the rows of all Files that each option leaves, by the labels of the map or the list. Each of these rows is in exactly
--- one group, once, and no other row is. `messages`: each File is read by itself, and the text has a line for each message.
--- The counts of a File's lines add up to those that `info` prints for it.
+-- `sum`: each File is read by itself, and has no skipped sets, unless such are allowed. The text is a table of groups
+-- of the rows of all Files that each option leaves, by the labels of the map or the list. Each of these rows is in
+-- exactly one group, once, and no other row is. `messages`: each File is read by itself, and the text has a line for
+-- each message. The counts of a File's lines add up to those that `info` prints for it.
 abbrev pub IsHeadline : Command → ByFile Text → List Text → Text → Type 0
 IsHeadline (Sum fields source condition allowed columns names) labels_text texts out =
     (labels : Option Labelling) × (source_reading source labels_text ≡ Ok labels)

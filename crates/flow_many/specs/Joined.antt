@@ -9,8 +9,8 @@ use Rattle.flow_files.specs.Outcomes.{uniq_text}
 use Rattle.flow_many.specs.Files.{Placed, Refusal, files_reading}
 use Rattle.flow_many.specs.Output.{all_messages}
 
--- If Files can be joined, and none of their messages is refused, then the sum over them is what `uniq` prints, sorted, for
--- the joined File.
+-- If Files can be joined, and none of their messages is refused, then the sum over them is what `uniq` prints, sorted,
+-- for the joined File.
 abbrev pub SumOfJoinedFile : Type 0
 SumOfJoinedFile = (first : File) (later : List File) → CanFollow first later
     → (refusal : Refusal) (read : List (List Placed))

@@ -14,8 +14,7 @@ use Rattle.flow_files.specs.declared.bytes_fault.BytesFault.TheVariants.{Sum as 
 use Rattle.flow_files.specs.declared.bytes_fault.SumFaultKind.{SumFaultKind}
 use Rattle.flow_files.specs.declared.bytes_fault.SumFaultKind.TheVariants.{SkippedSet, StartTooLate, TooManyRows}
 use Rattle.flow_files.specs.declared.label_file.LabelFile.{LabelFile}
-use Rattle.flow_files.specs.Outcomes.{uniq_text}
-use Rattle.flow_files.specs.Reports.{source_reading}
+use Rattle.flow_files.specs.Outcomes.{uniq_text, source_reading}
 use Rattle.flow_files.specs.Sources.{Text}
 use Rattle.flow_many.specs.Files.{FileFault, Placed, Refusal, files_reading, of_file}
 use Rattle.flow_many.specs.Request.{Command, Messages, Sum}
@@ -45,16 +44,16 @@ abbrev pub has_time : List KeyField → Bool
 has_time (Start unit ∷ fields) = true
 has_time fields = false
 
--- Why a message is refused: it has a skipped set, unless such are allowed; there are too many messages before it; or a row
--- of it starts too late.
+-- Why a message is refused: it has a skipped set, unless such are allowed; there are too many messages before it; or a
+-- row of it starts too late.
 abbrev pub refused : (allowed : Bool) → ℕ → MessageView → (late : Bool) → Option SumFaultKind
 refused allowed before message late =
     if not allowed && has_skipped message then Some SkippedSet
     else if nat_le message_limit before then Some TooManyRows
     else if late then Some StartTooLate else None
 
--- the fault of a message in a sum by time or in another one, at the offset of the message; only rows that meet the condition
--- can start too late
+-- the fault of a message in a sum by time or in another one, at the offset of the message; only rows that meet the
+-- condition can start too late
 abbrev pub refusal_by : (timed : Bool) → Condition → (allowed : Bool) → Option Labelling → Refusal
 refusal_by timed condition allowed labels before message =
     let shown = passing condition labels (rows_of_sets message.1.sets) in
@@ -72,8 +71,8 @@ abbrev pub labels_from : Command → Option LabelFile
 labels_from (Sum fields source condition allowed columns names) = source
 labels_from (Messages names) = None
 
--- what a command refuses, and the text that it prints for the messages of each File, under the labelling or without one: the
--- groups of the rows of all Files, sorted, or a line for each message
+-- what a command refuses, and the text that it prints for the messages of each File, under the labelling or without
+-- one: the groups of the rows of all Files, sorted, or a line for each message
 abbrev pub refusal_of : Command → Option Labelling → Refusal
 refusal_of (Sum fields source condition allowed columns names) labels =
     refusal_by (has_time fields) condition allowed labels
@@ -84,8 +83,8 @@ text_for (Sum fields source condition allowed columns names) labels files =
     uniq_text fields condition true columns labels (all_messages files)
 text_for (Messages names) labels files = messages_text files
 
--- The outcome of a command for the text of its map or list, if it has one, and those of its Files: the first fault, of the
--- map or the list and then of the Files in order, or the text.
+-- The outcome of a command for the text of its map or list, if it has one, and those of its Files: the first fault, of
+-- the map or the list and then of the Files in order, or the text.
 abbrev pub outcome_of : Command → ByFile Text → List Text → Result Text FileFault
 outcome_of command labels_text texts =
     of_file 0 (source_reading (labels_from command) labels_text) >>= (λ labels.

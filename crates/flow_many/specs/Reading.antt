@@ -32,11 +32,13 @@ count_in files = length (flat_map (λ file. file) files)
 module _ {R : Type 0} (answers : Text → Option R → Type 0) (input : R → InputView) where
   -- What opening and reading one File returns, after others. The functions say what is refused, and what Files and what
   -- messages a value has.
-  abbrev pub EndsFile : {T : Type 0} → (T → Refusal) → (T → List (List Placed) → T → Type 0) → (T → List Placed → T → Type 0)
+  abbrev pub EndsFile : {T : Type 0} → (T → Refusal) → (T → List (List Placed) → T → Type 0) → (T → List Placed
+      → T → Type 0)
       → Text → T → T → Result (Unit {0}) RunFault → Type 0
   EndsFile {T} refusal has_files has_messages name old new (Ok done) = (opened last : R)
       × WasRead answers input name opened last × ((input last).failed ≡ false)
-      × ((first : T) (files : List (List Placed)) → has_files first files old → (text : Text) → MayHave (input last) text
+      × ((first : T) (files : List (List Placed)) → has_files first files old → (text : Text)
+      → MayHave (input last) text
       → (messages : List Placed) × (one_reading (refusal first) (count_in files) text ≡ Ok messages)
       × has_files first (files ++ messages ∷ []) new × has_messages new [] new)
   EndsFile refusal has_files has_messages name old new (Err NoMemory) = Unit {0}
@@ -44,9 +46,11 @@ module _ {R : Type 0} (answers : Text → Option R → Type 0) (input : R → In
   EndsFile refusal has_files has_messages name old new (Err (CannotRead file)) = (file.now ≡ name) × (opened last : R)
       × WasRead answers input name opened last × ((input last).failed ≡ true)
       × (stop : ReadFault) × StopsReading (input last).returned stop
-  EndsFile {T} refusal has_files has_messages name old new (Err (File file fault)) = (file.now ≡ name) × (opened last : R)
+  EndsFile {T} refusal has_files has_messages name old new (Err (File file fault)) = (file.now ≡ name)
+      × (opened last : R)
       × WasRead answers input name opened last × ((input last).failed ≡ false)
-      × ((first : T) (files : List (List Placed)) → has_files first files old → (text : Text) → MayHave (input last) text
+      × ((first : T) (files : List (List Placed)) → has_files first files old → (text : Text)
+      → MayHave (input last) text
       → one_reading (refusal first) (count_in files) text ≡ Err fault)
   EndsFile refusal has_files has_messages name old new (Err fault) = ⊥
 
@@ -87,7 +91,8 @@ pub record IsSameSum (first now : Sums) : Type 0 where
 -- the messages of a File were added to sums, up to the first one that is refused
 pub record HasSummed (start : Sums) (messages : List Placed) (now : Sums) : Type 0 where
   pub same : IsSameSum start now
-  pub fault : option_map (λ fault. InSum fault) now.fault ≡ first_refusal (refusal_of_sums start) start.messages messages
+  pub fault : option_map (λ fault. InSum fault) now.fault ≡ first_refusal
+      (refusal_of_sums start) start.messages messages
   pub count : now.fault ≡ None → now.messages ≡ start.messages + length messages
   pub limit : now.messages ≤ message_limit
   pub some : (first : TimedGroups) × (rows : List RowView) × HasPassed start first rows start.rows

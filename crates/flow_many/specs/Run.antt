@@ -4,7 +4,8 @@ use Rattle.ipfix_read.specs.declared.fault.ReadFault.{ReadFault}
 use Rattle.ipfix_read.specs.Messages.{StopsReading}
 use Rattle.label_lookup.specs.Labelling.{Labelling}
 use Rattle.flow_files.specs.declared.by_file.ByFile.{ByFile}
-use Rattle.flow_files.specs.Reports.{faults_of, source_reading}
+use Rattle.flow_files.specs.Reports.{faults_of}
+use Rattle.flow_files.specs.Outcomes.{source_reading}
 use Rattle.flow_files.specs.Sources.{Text}
 use Rattle.flow_files.specs.Readers.{AreTexts, IsFaultOf, MayHave, Readers, any_failed}
 use Rattle.flow_files.specs.declared.fault.RunFault.{RunFault}
@@ -16,8 +17,8 @@ use Rattle.flow_many.specs.Request.{Command, files_of, request_of}
 
 -- What a run of a command does with the readers of its files and the writer of its output.
 
--- `answers` has the possible results of opening a name: a reader, or `None`. The other function is what contracts see of
--- a reader.
+-- `answers` has the possible results of opening a name: a reader, or `None`. The other function is what contracts see
+-- of a reader.
 module _ {R : Type 0} (answers : Text → Option R → Type 0) (input : R → InputView) where
   -- A File was opened by its name, and read, with no byte lost: the reader that was opened, and after its last read.
   pub record WasRead (name : Text) (opened last : R) : Type 0 where
@@ -49,8 +50,8 @@ module _ {R : Type 0} (answers : Text → Option R → Type 0) (input : R → In
         → (files : List (List Placed)) × (files_reading refusal texts ≡ Ok files)
 
   -- Reading Files ended with this fault. Each File before the faulty one was read without a fault, and no later one was
-  -- opened. A fault of a File's bytes or messages is the first one of all texts that the Files may have. It is a fault of
-  -- a reader only if one failed, which returned whole messages and the beginning of one that isn't complete.
+  -- opened. A fault of a File's bytes or messages is the first one of all texts that the Files may have. It is a fault
+  -- of a reader only if one failed, which returned whole messages and the beginning of one that isn't complete.
   abbrev pub IsFaultOfFiles : Refusal → List Text → RunFault → Type 0
   IsFaultOfFiles refusal names NoMemory = Unit {0}
   IsFaultOfFiles refusal names (CannotOpen file) =
@@ -69,10 +70,10 @@ module _ {R : Type 0} (answers : Text → Option R → Type 0) (input : R → In
 -- What a run of a command does, if nothing of the map or the list is read before, and neither its reader
 -- nor the writer has failed. The last function is what contracts see of a writer.
 module _ {R W : Type 0} (answers : Text → Option R → Type 0) (input : R → InputView) (output : W → OutputView) where
-  -- The Files were read in order, and the writer took exactly the output over each text that the files may have, for which
-  -- the headline holds, and was then flushed once. After a write fault it has a prefix of the output, or all of it if the
-  -- flush failed. Any other fault comes before it is called: one of the map or the list, or of the Files. A fault of a
-  -- device comes exactly from a device that failed.
+  -- The Files were read in order, and the writer took exactly the output over each text that the files may have, for
+  -- which the headline holds, and was then flushed once. After a write fault it has a prefix of the output, or all of
+  -- it if the flush failed. Any other fault comes before it is called: one of the map or the list, or of the Files. A
+  -- fault of a device comes exactly from a device that failed.
   abbrev pub EndsAs : Command → Readers R → Readers R → W → W
       → Result (Unit {0}) RunFault → Type 0
   EndsAs command old new writer writer' (Ok done) =

@@ -40,7 +40,8 @@ fn sum<'a, O: Opener, W: Output>(
     requires fresh { AreFresh O.Reader.input labels.old }
     requires writer { (W.output writer.old).failed ≡ false }
     ensures { EndsAs (O.answers opener.now) O.Reader.input W.output
-        (Sum asked.entry.keys.now asked.entry.labels asked.entry.filter.now asked.entry.allow_skipped asked.entry.columns (map (λ name. name.now) names.entry.now))
+        (Sum asked.entry.keys.now asked.entry.labels asked.entry.filter.now asked.entry.allow_skipped
+        asked.entry.columns (map (λ name. name.now) names.entry.now))
         labels.old labels.new writer.old writer.new result }
 {
     // Provides the law that each output keeps the headline.
@@ -97,7 +98,8 @@ pub fn run<'a, O: Opener, W: Output>(
     requires unread { AreUnread O.Reader.input labels.old }
     requires readers { any_failed O.Reader.input labels.old ≡ false }
     requires writer { (W.output writer.old).failed ≡ false }
-    ensures { EndsAs (O.answers opener.now) O.Reader.input W.output command.now labels.old labels.new writer.old writer.new result }
+    ensures { EndsAs (O.answers opener.now) O.Reader.input W.output command.now labels.old labels.new writer.old
+        writer.new result }
 {
     match command {
         Command::Sum {

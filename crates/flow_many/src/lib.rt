@@ -1,11 +1,11 @@
-//! The commands of the program `flowlabel-many` as calls: the sums of the flows of many IPFIX Files, by units of time and
-//! by fields, and what each of their messages has.
+//! The commands of the program `flowlabel-many` as calls: the sums of the flows of many IPFIX Files, by units of time
+//! and by fields, and what each of their messages has.
 //!
-//! Files are opened and read one after the other, each by itself: no template of one is used in another. `parse` reads the
-//! words of a command line. `run` reads the map or the list and the Files, and writes the output once nothing but the
-//! writer can fail. Rely on its contract: the bytes written are a stated function of the bytes that the reads of each
-//! File returned, and a fault is the first one. `program` is the whole program: it also opens the map or the list, writes
-//! help or the line of a fault, and returns the exit status.
+//! Files are opened and read one after the other, each by itself: no template of one is used in another. `parse` reads
+//! the words of a command line. `run` reads the map or the list and the Files, and writes the output once nothing but
+//! the writer can fail. Rely on its contract: the bytes written are a stated function of the bytes that the reads of
+//! each File returned, and a fault is the first one. `program` is the whole program: it also opens the map or the list,
+//! writes help or the line of a fault, and returns the exit status.
 #![tactic(auto)]
 
 ghost use Rattle.std.specs.Prelude.{◌≡◌, false, map};
@@ -58,8 +58,8 @@ pub fn execute<'a, S: AsStr, O: Opener, W: Output>(
     run(alloc, &command, opener, &mut labels, output, hashing)
 }
 
-/// The program: executes the words, or reports the error of getting them, and returns the exit status. Labels and groups
-/// are hashed by `hashing`.
+/// The program: executes the words, or reports the error of getting them, and returns the exit status. Labels and
+/// groups are hashed by `hashing`.
 pub fn program<O: Opener, W: Output, E: Output>(
     alloc: Global,
     words: Result<env::Args, ErrorKind>,
@@ -71,7 +71,8 @@ pub fn program<O: Opener, W: Output, E: Output>(
     requires output { (W.output output.old).failed ≡ false }
     requires error { (E.output error.old).failed ≡ false }
     ensures { IsProgram (O.answers opener.now) O.Reader.input W.output E.output
-        (result_map_both (λ args. map string_bytes (into_iter_items args)) (λ kind. kind) words) output.old output.new error.old error.new result }
+        (result_map_both (λ args. map string_bytes (into_iter_items args))
+        (λ kind. kind) words) output.old output.new error.old error.new result }
 {
     let list;
     let outcome = match words {

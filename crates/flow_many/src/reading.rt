@@ -23,7 +23,8 @@ pub trait TakesFiles: TakesMessages {
         ensures { (first start : Self) (files : List (List Placed)) (messages : List Placed)
             → has_files first files start → Self.has_messages start messages self.old
             → (result ≡ first_refusal (refusal first) (count_in files) messages)
-            × (result ≡ None → has_files first (files ++ messages ∷ []) self.new × Self.has_messages self.new [] self.new) };
+            × (result ≡ None → has_files first (files ++ messages ∷ []) self.new
+            × Self.has_messages self.new [] self.new) };
 }
 
 // Opens a File, and adds its messages.
@@ -36,7 +37,8 @@ fn read_file<'a, O: Opener, T: TakesFiles>(
 ) -> Result<(), RunFault<'a>>
     requires { (first : T) × (files : List (List Placed)) × T.has_files first files taker.old
         × T.has_messages taker.old [] taker.old × (length files < 2 ^ 63) }
-    ensures { EndsFile (O.answers opener.now) O.Reader.input T.refusal T.has_files T.has_messages name.entry.now taker.old taker.new result }
+    ensures { EndsFile (O.answers opener.now) O.Reader.input T.refusal T.has_files T.has_messages name.entry.now
+        taker.old taker.new result }
 {
     let mut source = open_source(alloc, opener, Some(name))?;
     add_messages(alloc, &mut source, buffer, taker)?;
@@ -46,8 +48,8 @@ fn read_file<'a, O: Opener, T: TakesFiles>(
     }
 }
 
-/// Opens and reads the Files with these names, one after the other, and adds their messages. Each is closed before the next
-/// is opened.
+/// Opens and reads the Files with these names, one after the other, and adds their messages. Each is closed before the
+/// next is opened.
 ///
 /// # Errors
 ///
@@ -61,7 +63,8 @@ pub fn read_files<'a, O: Opener, T: TakesFiles>(
 ) -> Result<(), RunFault<'a>>
     requires ready { T.has_messages taker.old [] taker.old }
     requires none { T.has_files taker.old [] taker.old }
-    ensures { EndsFiles (O.answers opener.now) O.Reader.input (T.refusal taker.old) (λ files. T.has_files taker.old files taker.new) (map (λ name. name.now) names.entry.now) result }
+    ensures { EndsFiles (O.answers opener.now) O.Reader.input (T.refusal taker.old)
+        (λ files. T.has_files taker.old files taker.new) (map (λ name. name.now) names.entry.now) result }
 {
     let mut buffer = Buffer::new(alloc)?;
     for name in names {

@@ -57,7 +57,8 @@ fn with_time(unit: TimeUnit, fields: &[KeyField]) -> Result<Keys, UsageFault>
 
 // Reads the keys of a sum: the unit of time and the fields.
 fn keys_in(entries: &ArgMatches<'_>) -> Result<Keys, UsageFault>
-    ensures { IsUnlessMemory (λ keys. (unit_in keys, fields_in keys)) (keys_in_rows (rows_of (found_of entries.now))) result }
+    ensures { IsUnlessMemory (λ keys. (unit_in keys, fields_in keys))
+        (keys_in_rows (rows_of (found_of entries.now))) result }
 {
     let names = first_text(entries, "fields");
     let Some(by) = first_text(entries, "by") else {
@@ -115,8 +116,8 @@ fn command_of<'a>(
 ///
 /// # Errors
 ///
-/// `Refused` if clap refuses the line, `Help` if the line asks for help or the version. If clap takes the line, the first
-/// of these that applies: `MapTwice`, `Filter` for the first malformed filter, `KeysMissing`, `Unit`, `Key`,
+/// `Refused` if clap refuses the line, `Help` if the line asks for help or the version. If clap takes the line, the
+/// first of these that applies: `MapTwice`, `Filter` for the first malformed filter, `KeysMissing`, `Unit`, `Key`,
 /// `LabelNeedsMap`. `NoMemory` instead of any other result if an allocation fails.
 pub fn parse<'a, S: AsStr>(alloc: Global, words: &'a [S]) -> Result<Command<'a>, UsageFault>
     ensures answer { IsAnswer (map S.text words.entry.now) result }

@@ -1,15 +1,14 @@
 -- How what a command reads of its files makes its output.
-use Rattle.std.proofs.Common.{◌≡◌, ◌∙◌, ◌≤◌, ◌+◌, ℕ, Result, Ok, Err, sym, ap, subst}
+use Rattle.std.proofs.Common.{◌≡◌, ◌≤◌, ℕ, Result, Ok, Err, sym, subst}
 use Rattle.std.specs.Result.{IsErrAnd}
 use Rattle.flow_io.specs.Devices.{InputView, OutputView}
-use Rattle.flow_files.specs.BytesFault.{role_of}
 use Rattle.flow_files.specs.declared.by_file.ByFile.{ByFile}
-use Rattle.flow_files.specs.ByFile.{each, turn}
+use Rattle.flow_files.specs.ByFile.{each}
 use Rattle.flowlabel.specs.Headline.{IsHeadline}
 use Rattle.flow_files.specs.declared.bytes_fault.BytesFault.{BytesFault}
 use Rattle.flow_files.specs.Outcomes.{Outcome, Then}
 use Rattle.flowlabel.specs.Output.{IsOutput}
-use Rattle.flow_files.specs.Reports.{AreRead, AreTextsBefore, IsTextWritten, IsReading}
+use Rattle.flow_files.specs.Reports.{AreRead, IsTextWritten, IsReading}
 use Rattle.flowlabel.specs.Reports.{IsMade, IsTextOf, IsWhole}
 use Rattle.flowlabel.specs.declared.run.made.Made.{Made}
 use Rattle.flowlabel.specs.Request.{Command}
@@ -18,27 +17,23 @@ use Rattle.flow_files.specs.declared.fault.RunFault.TheVariants.{CannotRead, Can
 use Rattle.flow_files.specs.Readers.{Readers, view_of}
 use Rattle.flow_files.specs.declared.fault.RunFault.{RunFault}
 use Rattle.flowlabel.specs.Run.{EndsAs}
-use Rattle.flow_files.proofs.ReadLemmas.{Follows, are_texts, as_err, as_ok, then_follows}
+use Rattle.flow_files.proofs.ReadLemmas.{are_texts, as_err, as_ok, then_follows}
 
 -- The outcomes of a command follow from what is read.
 module _ {R A V : Type 0} {input : R → InputView} {n : ℕ} {reading : ByFile Text → Result A BytesFault} {is : A → V → Type 0} {old new : Readers R}
-    {Is : ByFile Text → Outcome → Type 0} (rest : ByFile Text → A → Outcome → Type 0)
-    (same : (texts : ByFile Text) → AreTextsBefore input 4 new texts → Is texts ≡ Then (λ f. f) (rest texts) (reading texts)) where
+    (rest : A → Outcome → Type 0) where
   pub makes : {v : V} {made : Made} → AreRead input n (λ texts. IsReading (reading texts) is) old new (Ok v) → n ≤ 4
-      → ((texts : ByFile Text) (a : A) → is a v → IsWhole made × ((out : Text) → IsTextOf made out → rest texts a (Ok out)))
-      → IsMade input Is old new (Ok made)
+      → ((a : A) → is a v → IsWhole made × ((out : Text) → IsTextOf made out → rest a (Ok out)))
+      → IsMade input (λ texts. Then rest (reading texts)) old new (Ok made)
   makes had more says = as_ok had more (λ texts given (a, reads, own). (
-    (says texts a own).0,
-    λ out is_text.
-        subst (λ (P : Outcome → Type 0). P (Ok out)) (sym (same texts given ∙ ap (Then (λ f. f) (rest texts)) reads)) ((says texts a own).1 out is_text),
+    (says a own).0,
+    λ out is_text. subst (λ (r : Result A BytesFault). Then rest r (Ok out)) (sym reads) ((says a own).1 out is_text),
   ))
 
   pub faulty : {fault : RunFault} {result : Result Made RunFault} → AreRead input n (λ texts. IsReading (reading texts) is) old new (Err fault) → n ≤ 4
-      → ((texts : ByFile Text) (a : A) (f : BytesFault) → rest texts a (Err f) → n ≤ turn (role_of f) + 1)
-      → IsErrAnd result (λ other. other ≡ fault) → IsMade input Is old new result
-  faulty had more later = as_err had more (λ texts given.
-      subst (λ (P : Outcome → Type 0). Follows n (IsReading (reading texts) is) P) (sym (same texts (λ o low. given o)))
-      (then_follows is n (rest texts) (later texts) (reading texts)))
+      → ((a : A) (f : BytesFault) → rest a (Err f) → ⊥)
+      → IsErrAnd result (λ other. other ≡ fault) → IsMade input (λ texts. Then rest (reading texts)) old new result
+  faulty had more prints = as_err had more (λ texts given. then_follows is n rest (λ a f wrong. absurd (prints a f wrong)) (reading texts))
 
 -- what a command made can be printed
 pub is_whole : {R : Type 0} {input : R → InputView} (Is : ByFile Text → Outcome → Type 0) {old new : Readers R} {made : Made}

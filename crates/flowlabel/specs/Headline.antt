@@ -1,4 +1,4 @@
-use Rattle.std.specs.Prelude.{◌≡◌, ◌≢◌, ◌≤◌, ◌<◌, ◌+◌, ◌^◌, ◌↔◌, ◌⊎◌, ◌&&◌, ◌∷◌, ◌++◌, [], ℕ, All, Contains, IsTrue, List, Bool, Option, None, Some, Ok, filter, is_some, length, map, nat_le, nat_lt, option_map, slice_get, unwrap_or}
+use Rattle.std.specs.Prelude.{◌≡◌, ◌≢◌, ◌≤◌, ◌<◌, ◌+◌, ◌^◌, ◌⊎◌, ◌&&◌, ◌∷◌, ◌++◌, [], ℕ, All, Contains, IsTrue, List, Bool, Option, None, Some, Ok, filter, is_some, length, map, nat_le, nat_lt, option_map, slice_get, unwrap_or}
 use Rattle.std.specs.Borrow.{Bor}
 use Rattle.std.specs.List.{last_or}
 use Rattle.prefix_keys.specs.Block.{width_of}
@@ -14,6 +14,7 @@ use Rattle.pmap_cert.specs.FormatReading.{format_reading}
 use Rattle.cert_check.specs.Checking.{first_fault}
 use Rattle.pmap_text.specs.Runs.{HasOneRun, Run}
 use Rattle.label_lookup.specs.Labelling.{Labelling, label_by, labelling}
+use Rattle.ipfix_read.specs.Messages.{file_reading}
 use Rattle.flow_rows.specs.Counts.{rows_of_messages}
 use Rattle.flow_rows.specs.Elements.{RowView}
 use Rattle.flow_rows.specs.Laws.{summed_counts}
@@ -23,8 +24,9 @@ use Rattle.pmap_print.specs.Reports.{info_text, title_line}
 use Rattle.pmap_text.specs.RunsText.{runs_text}
 use Rattle.pmap_print.specs.Table.{table_text}
 use Rattle.flow_files.specs.Groups.{PrintsGroups, row_columns}
-use Rattle.flow_files.specs.Outcomes.{FlowsThen, LabelsThen, Outcome, Prints}
-use Rattle.flowlabel.specs.Output.{IsOutput, minimal_text}
+use Rattle.flow_files.specs.Outcomes.{Outcome, Prints, Then, labels_reading, report_reading, with_bytes_fault}
+use Rattle.flow_files.specs.declared.bytes_fault.BytesFault.TheVariants.{Flows as InFlows}
+use Rattle.flowlabel.specs.Output.{IsOutput, labelled_row_lines, minimal_text}
 use Rattle.flow_files.specs.declared.by_file.ByFile.{ByFile}
 use Rattle.flowlabel.specs.Request.{Cat, Check, Command, Info, Label, Recert, Rows, Shrink, Uniq}
 use Rattle.flow_files.specs.Sources.{Text}
@@ -57,16 +59,8 @@ PrintsList l text = (text ≡ list_text l)
     × (length l.prefixes ≤ mapping_limit → length (labels_of l.prefixes) ≤ label_limit
     → IsReadAgain l text)
 
--- With equivalent texts of a map and a list, and the same other texts, the command has the same outcome under the map and
--- under the list. The command takes its labels from a map or a list, of any name.
-abbrev pub IsSameUnder : (LabelFile → Command) → ByFile Text → Type 0
-IsSameUnder command texts = (name : Bor Text) (m : MapModel) (l : ListModel) (map list : Text)
-    (out : Outcome) → map_reading map ≡ Ok m → list_reading list ≡ Ok l → IsEquivalent l m
-    → let given = record texts { map = map; list = list } in
-    IsOutput (command (Map name)) given out ↔ IsOutput (command (Prefixes name)) given out
-
--- A certificate that `recert` prints has no more node lines than the one that it read, `recert` prints it unchanged, and
--- it has no fault for a map and a list for which the one that was read has none.
+-- A certificate that `recert` prints has no more node lines than the one that it read, `recert` prints it unchanged,
+-- and it has no fault for a map and a list for which the one that was read has none.
 pub record IsAsGood (command : Command) (texts : ByFile Text) (out : Text) : Type 0 where
   pub old : CertificateModel
   pub reads_old : format_reading texts.certificate ≡ Ok old
@@ -77,8 +71,8 @@ pub record IsAsGood (command : Command) (texts : ByFile Text) (out : Text) : Typ
       → first_fault m l old ≡ None → first_fault m l (compact old) ≡ None
 
 -- The labels of addresses in the text of a map or a list. Under a map, the label of an address is that of the last
--- statement that covers it, or the default if none does. Under a list, it is that of the first of the entries that cover it,
--- with the longest blocks first.
+-- statement that covers it, or the default if none does. Under a list, it is that of the first of the entries that
+-- cover it, with the longest blocks first.
 abbrev pub GivesLabels : LabelFile → ByFile Text → Labelling → Type 0
 GivesLabels (Map file) texts labels = (m : MapModel) × (map_reading texts.map ≡ Ok m)
     × (labels ≡ labelling m.version (λ a.
@@ -88,16 +82,15 @@ GivesLabels (Prefixes file) texts labels = (l : ListModel) × (list_reading text
     (slice_get (in_order (λ p q. nat_lt q.bits p.bits)
     (filter (λ p. nat_le p.bits W && covers W p.bits a p) l.prefixes)) 0)))
 
--- The outcome is a table of a header and a line for each row, in order. The header has the titles of each row's columns,
--- and the row's line has the fields.
+-- The outcome is a table of a header and a line for each row, in order. The header has the titles of each row's
+-- columns, and the row's line has the fields.
 abbrev pub PrintsRows : Bool → Option Labelling → List RowView → Outcome → Type 0
-PrintsRows columns labels shown outcome = let titles = title_line (is_some labels) in
-    All (λ row. map (λ c. c.0) (row_columns labels row) ≡ titles) shown
-    × Prints (table_text columns
-    (titles ∷ map (λ row. map (λ c. c.1) (row_columns labels row)) shown)) outcome
+PrintsRows columns labels shown outcome =
+    All (λ row. map (λ c. c.0) (row_columns labels row) ≡ title_line (is_some labels)) shown
+    × Prints (table_text columns (labelled_row_lines labels shown)) outcome
 
--- The outcome is the text of runs. Exactly one run has each address. If a run begins right after another one, their labels
--- differ. No run is empty.
+-- The outcome is the text of runs. Exactly one run has each address. If a run begins right after another one, their
+-- labels differ. No run is empty.
 abbrev pub PrintsEachOnce : Labelling → Outcome → Type 0
 PrintsEachOnce labels outcome = (runs : List Run)
     × ((a : ℕ) → a < 2 ^ width_of labels.version → HasOneRun labels.label runs a)
@@ -105,9 +98,9 @@ PrintsEachOnce labels outcome = (runs : List Run)
     → (r.low ≤ r.high) × (s.low ≡ r.high + 1 → s.label ≢ r.label))
     × Prints (runs_text labels.version runs) outcome
 
--- What `shrink` prints for a map text, each way, is one list and its certificate. The certificate, compacted or not, has no
--- fault for the map and the list. If the list is within the limits of a text, `check` over the map's text, the list's text
--- and the certificate's text prints the number of the list's entries. The files have any name.
+-- What `shrink` prints for a map text, each way, is one list and its certificate. The certificate, compacted or not,
+-- has no fault for the map and the list. If the list is within the limits of a text, `check` over the map's text, the
+-- list's text and the certificate's text prints the number of the list's entries. The files have any name.
 pub record AreShrunk (name : Bor Text) (texts : ByFile Text)
     (m : MapModel) (l : ListModel) (c : CertificateModel) : Type 0 where
   pub shortest : IsShortest m l
@@ -125,28 +118,23 @@ pub record AreShrunk (name : Bor Text) (texts : ByFile Text)
       (Ok (minimal_text (length l.prefixes)))
 
 -- The headline for the text that a command writes for the texts of its files. `label`: it is the line of the address's
--- label. `info`: the numbers are the sums of those of each message. `rows`: it is a table of the rows that each option in
--- turn leaves. `uniq`: it is a table of the groups of these rows. `cat`: exactly one run has each address. `shrink`: it is
--- read as a shortest list for the map, or as a certificate for this list. `check`: it is the number of entries of the
--- list, which is equivalent and least. `recert`: it is a certificate as good as the one read. Under a map or a list: it is
--- the same under an equivalent list or map.
+-- label. `info`: the numbers are the sums of those of each message. `rows`: it is a table of the rows that each option
+-- in turn leaves. `uniq`: it is a table of the groups of these rows. `cat`: exactly one run has each address. `shrink`:
+-- it is read as a shortest list for the map, or as a certificate for this list. `check`: it is the number of entries of
+-- the list, which is equivalent and least. `recert`: it is a certificate as good as the one read.
 abbrev pub IsHeadline : Command → ByFile Text → Text → Type 0
-IsHeadline (Label labels addr) texts out = IsSameUnder (λ other. Label other addr) texts
-    × ((given : Labelling) × GivesLabels labels texts given
-    × (out ≡ unwrap_or (label_by given (addr.version, addr.value)) [] ++ 10 ∷ []))
+IsHeadline (Label labels addr) texts out = (given : Labelling) × GivesLabels labels texts given
+    × (out ≡ unwrap_or (label_by given (addr.version, addr.value)) [] ++ 10 ∷ [])
 IsHeadline (Info flows) texts out =
-    FlowsThen (λ l ms. Prints (info_text (summed_counts ms))) None texts (Ok out)
+    Then (λ messages. Prints (info_text (summed_counts messages)))
+    (with_bytes_fault InFlows (file_reading texts.flows)) (Ok out)
 IsHeadline (Rows labels options columns flows) texts out =
-    IsSameUnder (λ other. Rows (Some other) options columns flows) texts
-    × FlowsThen (λ l ms. PrintsRows columns l (rows_left options l (rows_of_messages ms)))
-    labels texts (Ok out)
+    Then (λ read. PrintsRows columns read.0 (rows_left options read.0 (rows_of_messages read.1)))
+    (report_reading labels texts) (Ok out)
 IsHeadline (Uniq fields labels options sorted columns flows) texts out =
-    IsSameUnder (λ other. Uniq fields (Some other) options sorted columns flows) texts
-    × FlowsThen (λ l ms.
-    PrintsGroups fields sorted columns l (rows_left options l (rows_of_messages ms)))
-    labels texts (Ok out)
-IsHeadline (Cat labels) texts out =
-    IsSameUnder Cat texts × LabelsThen PrintsEachOnce labels texts (Ok out)
+    Then (λ read. PrintsGroups fields sorted columns read.0
+    (rows_left options read.0 (rows_of_messages read.1))) (report_reading labels texts) (Ok out)
+IsHeadline (Cat labels) texts out = Then PrintsEachOnce (labels_reading labels texts) (Ok out)
 IsHeadline (Shrink map shrunk.List) texts out = (m : MapModel) × (l : ListModel)
     × (map_reading texts.map ≡ Ok m) × IsShortest m l × PrintsList l out
 IsHeadline (Shrink map shrunk.Certificate) texts out =

@@ -1,34 +1,28 @@
 use Rattle.std.specs.Prelude.{◌≡◌, ⊤, List, ℕ, Option, is_some, Result, Ok, Err, length}
-use Rattle.std.specs.Option.{option_map_or}
 use Rattle.flow_io.specs.Devices.{InputView}
 use Rattle.pmap_text.specs.PrefixList.{list_of}
 use Rattle.pmap_text.specs.ListModel.{ListModel}
 use Rattle.pmap_text.specs.MapModel.{MapModel}
-use Rattle.label_lookup.specs.Labelling.{Labelling}
+use Rattle.label_lookup.specs.Labelling.{Labelling, label_by}
 use Rattle.ipfix_read.specs.Message.{MessageView}
 use Rattle.flow_rows.specs.Counts.{counts_of, count_list}
 use Rattle.flow_rows.specs.Elements.{RowView}
 use Rattle.flow_uniq.specs.Groups.{shown_groups}
-use Rattle.pmap_print.specs.Reports.{column_count, groups_text}
+use Rattle.pmap_print.specs.Reports.{LabelTexts, column_count, groups_text}
 use Rattle.pmap_print.specs.Table.{IsTable, Line, has_columns, table_text}
 use Rattle.pmap_text.specs.RunsText.{IsRunsText}
 use Rattle.pmap_text.specs.Stretches.{AreLabelsBelow, text_held}
 use Rattle.pmap_text.specs.declared.runs.Runs.{Runs}
 use Rattle.pmap_cert.specs.Acceptance.{IsMinimalPair}
-use Rattle.cert_check.specs.Checking.{text_fault}
-use Rattle.cert_check.specs.declared.fault.TextFault.{TextFault}
-use Rattle.cert_check.specs.declared.fault.TextFault.TheVariants as text
 use Rattle.pmap_cert.specs.CertificateModel.{CertificateModel}
 use Rattle.pmap_cert.specs.Certificate.{IsOpening, certificate_of}
 use Rattle.pmap_cert.specs.CertificateText.{certificate_text}
 use Rattle.pmap_cert.specs.Compacting.{compact}
 use Rattle.pmap_cert.specs.ListText.{list_text}
-use Rattle.pmap_cert.specs.FormatReading.{format_reading}
 use Rattle.flow_files.specs.declared.by_file.ByFile.{ByFile}
-use Rattle.flow_files.specs.declared.bytes_fault.BytesFault.TheVariants.{Certificate as InCertificate, Check as InCheck}
 use Rattle.flow_files.specs.declared.bytes_fault.BytesFault.{BytesFault}
 use Rattle.flow_files.specs.Outcomes.{Outcome}
-use Rattle.flowlabel.specs.Output.{labelled_row_lines, minimal_text, shrunk_text}
+use Rattle.flowlabel.specs.Output.{labelled_row_lines, shrunk_text}
 use Rattle.flowlabel.specs.Request.{Shrunk}
 use Rattle.flow_files.specs.Sources.{Text}
 use Rattle.flow_files.specs.Readers.{Readers}
@@ -41,17 +35,6 @@ use Rattle.flowlabel.specs.declared.run.rows.Lines.{Lines}
 use Rattle.flow_files.specs.Reports.{labelling_read, table_read, AreRead}
 
 -- What the parts of a command make of what they read.
-
--- what `check` prints, by the first fault of a certificate's text and the number of the list's entries
-abbrev pub in_text : TextFault → BytesFault
-in_text (text.Certificate fault) = InCertificate fault
-in_text (text.Check fault) = InCheck fault
-
-abbrev pub verdict : Option TextFault → ℕ → Outcome
-verdict found count = option_map_or (λ fault. Err (in_text fault)) found (Ok (minimal_text count))
-
-abbrev pub check_reading : MapModel → ListModel → Text → Outcome
-check_reading m l bytes = verdict (text_fault m l (format_reading bytes)) (length l.prefixes)
 
 -- what a command made can be printed
 abbrev pub IsWhole : Made → Type 0
@@ -95,6 +78,10 @@ Makes Is (Err fault) = Is (Err fault)
 abbrev pub IsMade : {R : Type 0} → (R → InputView) → (ByFile Text → Outcome → Type 0) → Readers R → Readers R
     → Result Made RunFault → Type 0
 IsMade input Is = AreRead input 4 (λ texts. Makes (Is texts))
+
+-- the labels of a row's source and destination
+abbrev pub row_labels : Labelling → RowView → LabelTexts
+row_labels l row = (label_by l (row.version, row.src), label_by l (row.version, row.dst))
 
 -- What is built from messages and from rows. The first value is the one before any was added.
 

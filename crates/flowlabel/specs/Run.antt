@@ -16,8 +16,8 @@ use Rattle.flow_files.specs.declared.fault.RunFault.{RunFault}
 -- The functions are what contracts see of a reader and of a writer.
 module _ {R W : Type 0} (input : R → InputView) (output : W → OutputView) where
   -- The writer took exactly the output over each text that the files may have, for which the headline holds, and was
-  -- then flushed once. After a write fault it has a prefix of the output, or all of it if the flush failed. Any other fault comes
-  -- before it is called. A fault of a device comes exactly from a device that failed.
+  -- then flushed once. After a write fault it has a prefix of the output, or all of it if the flush failed. Any other
+  -- fault comes before it is called. A fault of a device comes exactly from a device that failed.
   abbrev pub EndsAs : Command → Readers R → Readers R → W → W
       → Result (Unit {0}) RunFault → Type 0
   EndsAs command old new writer writer' (Ok done) =
@@ -31,8 +31,8 @@ module _ {R W : Type 0} (input : R → InputView) (output : W → OutputView) wh
   EndsAs command old new writer writer' (Err fault) =
       IsFaultOf input (IsOutput command) old new fault × (writer' ≡ writer)
 
-  -- What a run does; and that a text which a reader reports is among those that its file may have: then the output is the
-  -- one over this text.
+  -- What a run does; and that a text which a reader reports is among those that its file may have: then the output is
+  -- the one over this text.
   pub record IsRunOf (command : Command) (old new : Readers R)
       (writer writer' : W) (result : Result (Unit {0}) RunFault) : Type 0 where
     pub ends : EndsAs command old new writer writer' result

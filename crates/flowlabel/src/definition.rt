@@ -27,8 +27,8 @@ macro_rules! arguments {
     ($($kind:ident $name:tt $($text:literal)+;)*) => { [$($kind($name, $($text),+)),*] };
 }
 
-// A table of subcommands: the name, what the subcommand does, its words, an example with its words, and the lists of its
-// arguments.
+// A table of subcommands: the name, what the subcommand does, its words, an example with its words, and the lists of
+// its arguments.
 macro_rules! subcommands {
     ($($name:literal $about:literal $words:literal; $what:literal $example:literal;
         $($arguments:expr),+;)*) => {

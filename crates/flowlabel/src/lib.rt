@@ -1,5 +1,5 @@
-//! The commands of the program `flowlabel` as calls. They label addresses by a prefix map or a prefix list, print, filter
-//! and sum the flows of IPFIX Files, and make and check shortest lists.
+//! The commands of the program `flowlabel` as calls. They label addresses by a prefix map or a prefix list, print,
+//! filter and sum the flows of IPFIX Files, and make and check shortest lists.
 //!
 //! ```rust
 //! use flow_io::{MemoryInput, MemoryOutput};
@@ -23,8 +23,9 @@
 //! It depends on all the other libraries. `parse` reads the words of a command line, which clap splits, and `needs` of
 //! `Command` returns which files the command reads. `run` reads these, and writes the output while it is printed, once
 //! nothing but the writer can fail. `fault_line` returns the line of a fault for standard error, and `status` its exit
-//! status. Rely on the contract of `run`: the bytes written are a stated function of the bytes read, a fault is the first
-//! one of those bytes, only a write fault leaves anything written, and device faults come exactly from failed devices.
+//! status. Rely on the contract of `run`: the bytes written are a stated function of the bytes read, a fault is the
+//! first one of those bytes, only a write fault leaves anything written, and device faults come exactly from failed
+//! devices.
 //!
 //! `program` is the whole program. `open_all` opens the files that a command names. `execute` joins `parse`, `open_all`
 //! and `run`: by its contract it runs the request of the words over the files that they name. `end` writes help or the
@@ -85,8 +86,8 @@ pub fn execute<'a, S: AsStr, O: Opener, W: Output>(
     run(alloc, &command, &mut inputs, output)
 }
 
-/// The program: executes the words, or reports the error of getting them, and returns the exit status. Labels and groups
-/// are hashed by `hashing`.
+/// The program: executes the words, or reports the error of getting them, and returns the exit status. Labels and
+/// groups are hashed by `hashing`.
 pub fn program<O: Opener, W: Output, E: Output>(
     alloc: Global,
     words: Result<env::Args, ErrorKind>,
@@ -98,7 +99,8 @@ pub fn program<O: Opener, W: Output, E: Output>(
     requires output { (W.output output.old).failed ≡ false }
     requires error { (E.output error.old).failed ≡ false }
     ensures { IsProgram (O.answers opener.now) O.Reader.input W.output E.output
-        (result_map_both (λ args. map string_bytes (into_iter_items args)) (λ kind. kind) words) output.old output.new error.old error.new result }
+        (result_map_both (λ args. map string_bytes (into_iter_items args))
+        (λ kind. kind) words) output.old output.new error.old error.new result }
 {
     let list;
     let outcome = match words {

@@ -27,7 +27,8 @@ mod uniq;
 
 pub use joined::output_of_joined_file;
 pub use laws::{
-    one_output, output_keeps_headline, shrunk_list_is_least, shrunk_list_keeps_reports,
+    one_output, output_is_same_under_equivalent_labels, output_keeps_headline,
+    shrunk_list_is_least, shrunk_list_keeps_reports,
 };
 use made::Made;
 use uniq::Grouping;
@@ -108,9 +109,9 @@ fn write_made<'a, W: Output>(alloc: Global, made: Made, writer: &mut W) -> Resul
     }
 }
 
-/// Runs a command: reads its inputs, makes what it prints, takes all memory, and then writes the text while it is printed,
-/// and flushes once. The map, the list and the certificate are each read whole and decoded, in this order. The flows are
-/// last, and are read message by message.
+/// Runs a command: reads its inputs, makes what it prints, takes all memory, and then writes the text while it is
+/// printed, and flushes once. The map, the list and the certificate are each read whole and decoded, in this order. The
+/// flows are last, and are read message by message.
 ///
 /// # Errors
 ///

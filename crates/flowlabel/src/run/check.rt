@@ -1,11 +1,11 @@
 //! The output of `check`.
-ghost use Rattle.std.specs.Prelude.{◌≡◌, ⊤};
+ghost use Rattle.std.specs.Prelude.{◌≡◌, ⊤, length};
 ghost use Rattle.std.specs.Borrow.{Bor};
 ghost use Rattle.pmap_text.specs.MapText.{map_of};
 ghost use Rattle.pmap_text.specs.PrefixList.{list_of};
-ghost use Rattle.flowlabel.specs.Output.{IsOutput};
+ghost use Rattle.flowlabel.specs.Output.{IsOutput, check_reading, minimal_text};
 ghost use Rattle.flow_files.specs.Reports.{AreFresh, IsFresh, IsRead};
-ghost use Rattle.flowlabel.specs.Reports.{IsMade, check_reading};
+ghost use Rattle.flowlabel.specs.Reports.{IsMade};
 ghost use Rattle.flowlabel.specs.Request.{Check};
 ghost use Rattle.flow_files.specs.Sources.{Text};
 
@@ -25,8 +25,8 @@ fn checked<'a, R: Input>(
     hashing: KeyHashing,
 ) -> Result<Vec<u8>, RunFault<'a>>
     requires { IsFresh R.input file.old }
-    ensures { IsRead R.input (check_reading (map_of map.now) (list_of list.now)) (λ out made. out ≡ made.items) (λ _. ⊤)
-        file.old file.new result }
+    ensures { IsRead R.input (check_reading (map_of map.now) (list_of list.now))
+        (λ l out. out.items ≡ minimal_text (length l.prefixes)) (λ _. ⊤) file.old file.new result }
 {
     let (name, text) = read(alloc, file)?;
     match check_text(alloc, map, list, text.as_slice(), hashing) {

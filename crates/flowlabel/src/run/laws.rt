@@ -1,8 +1,9 @@
-ghost use Rattle.std.specs.Prelude.{◌≡◌, ◌≤◌, ℕ, Bool, List, Ok, Some, length};
+ghost use Rattle.std.specs.Prelude.{◌≡◌, ◌≤◌, ◌↔◌, ℕ, Bool, List, Ok, Some, length};
 ghost use Rattle.std.specs.Borrow.{Bor};
-ghost use Rattle.pmap_text.specs.ListModel.{ListModel};
+ghost use Rattle.prefix_keys.specs.declared.addr.Addr.{Addr};
+ghost use Rattle.pmap_text.specs.ListModel.{IsEquivalent, ListModel};
 ghost use Rattle.pmap_text.specs.MapModel.{MapModel};
-ghost use Rattle.pmap_text.specs.Reading.{label_limit, map_reading, mapping_limit};
+ghost use Rattle.pmap_text.specs.Reading.{label_limit, list_reading, map_reading, mapping_limit};
 ghost use Rattle.pmap_cert.specs.CertificateModel.{CertificateModel};
 ghost use Rattle.pmap_cert.specs.ListText.{labels_of, list_text};
 ghost use Rattle.label_lookup.specs.Labelling.{labelling_of_map};
@@ -17,8 +18,9 @@ ghost use Rattle.flow_files.specs.Groups.{PrintsGroups};
 ghost use Rattle.flowlabel.specs.Output.{IsOutput};
 ghost use Rattle.flow_files.specs.Outcomes.{Outcome};
 ghost use Rattle.flow_files.specs.declared.by_file.ByFile.{ByFile};
-ghost use Rattle.flowlabel.specs.Request.{Command, Rows, Shrink, Uniq};
+ghost use Rattle.flowlabel.specs.Request.{Cat, Command, Label, Rows, Shrink, Uniq};
 ghost use Rattle.flow_files.specs.Sources.{Text};
+ghost use Rattle.flow_files.specs.declared.label_file.LabelFile.{LabelFile};
 ghost use Rattle.flow_files.specs.declared.label_file.LabelFile.TheVariants.{List as Prefixes, Map};
 ghost use Rattle.flowlabel.specs.declared.command.Shrunk.TheVariants as shrunk;
 
@@ -87,6 +89,20 @@ pub fn output_keeps_headline()
     runs_cover_each_address_once();
 }
 
+/// For equivalent texts of a map and a list, `label`, `rows`, `uniq` and `cat` have the same outcome under the map as
+/// under the list. The other files have any texts, and all files any names.
+pub fn output_is_same_under_equivalent_labels()
+    ensures { (name : Bor Text) (texts : ByFile Text) (m : MapModel) (l : ListModel) →
+        map_reading texts.map ≡ Ok m → list_reading texts.list ≡ Ok l → IsEquivalent l m →
+        let IsSame = λ (under : LabelFile → Command). (outcome : Outcome)
+        → IsOutput (under (Map name)) texts outcome ↔ IsOutput (under (Prefixes name)) texts outcome in
+        ((addr : Addr) → IsSame (λ labels. Label labels addr))
+        × ((condition : Condition) (columns : Bool) → IsSame (λ labels. Rows (Some labels) condition columns name))
+        × ((fields : List KeyField) (condition : Condition) (sorted columns : Bool)
+        → IsSame (λ labels. Uniq fields (Some labels) condition sorted columns name))
+        × IsSame (λ labels. Cat labels) }
+{}
+
 /// For each map text and each File, `rows` and `uniq` print the same text under the map as under the list that `shrink`
 /// prints, if this list is within the limits of a text: the rows that the options leave, and the groups of these rows.
 pub fn shrunk_list_keeps_reports()
@@ -108,4 +124,5 @@ pub fn shrunk_list_keeps_reports()
     one_output();
     shrunk_list_is_least();
     output_keeps_headline();
+    output_is_same_under_equivalent_labels();
 }

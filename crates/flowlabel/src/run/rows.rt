@@ -2,9 +2,9 @@
 ghost use Rattle.std.specs.Prelude.{◌≡◌, option_map};
 ghost use Rattle.std.specs.Borrow.{Bor};
 ghost use Rattle.pmap_print.specs.Reports.{label_texts};
-ghost use Rattle.flowlabel.specs.Output.{IsOutput, row_labels};
+ghost use Rattle.flowlabel.specs.Output.{IsOutput};
 ghost use Rattle.flow_files.specs.Reports.{AreFresh, labelling_found};
-ghost use Rattle.flowlabel.specs.Reports.{IsMade};
+ghost use Rattle.flowlabel.specs.Reports.{IsMade, row_labels};
 ghost use Rattle.flowlabel.specs.Request.{Rows};
 ghost use Rattle.flow_files.specs.Sources.{Text};
 

@@ -38,7 +38,8 @@ pub fn output<'a, R: Input>(
     requires { AreFresh R.input files.old }
     ensures { (flows : Bor Text) →
         IsMade R.input
-        (IsOutput (Uniq grouping.entry.keys.now labels.entry grouping.entry.filter.now grouping.entry.sorted grouping.entry.columns flows))
+        (IsOutput (Uniq grouping.entry.keys.now labels.entry grouping.entry.filter.now grouping.entry.sorted
+        grouping.entry.columns flows))
         files.old files.new result }
 {
     let groups = Groups::with_hashing(alloc, grouping.keys, hashing)?;

@@ -3,7 +3,7 @@ use Rattle.pmap_cert.specs.Certificate.{certificate_of}
 use Rattle.pmap_cert.specs.CertificateText.{HasFormatText, certificate_text}
 use Rattle.pmap_cert.specs.FormatReading.{format_reading}
 use Rattle.flow_files.specs.BytesFault.{is_out_of_memory}
-use Rattle.flow_files.specs.Reports.{with_bytes_fault}
+use Rattle.flow_files.specs.Outcomes.{with_bytes_fault}
 use Rattle.flow_files.specs.declared.bytes_fault.BytesFault.TheVariants.{Certificate as InCertificate}
 use Rattle.flow_files.proofs.ReadLemmas.{whole_is, whole_is_bad, whole_stops}
 use Rattle.flow_files.proofs.reading.read_certificate.Goals as goal

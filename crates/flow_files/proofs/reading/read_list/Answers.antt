@@ -2,7 +2,7 @@ use Rattle.std.proofs.Common.{◌≡◌, ◌∙◌, ap, refl, sym, true}
 use Rattle.pmap_text.specs.PrefixList.{list_of}
 use Rattle.pmap_text.specs.Reading.{list_reading}
 use Rattle.flow_files.specs.BytesFault.{is_out_of_memory}
-use Rattle.flow_files.specs.Reports.{with_bytes_fault}
+use Rattle.flow_files.specs.Outcomes.{with_bytes_fault}
 use Rattle.flow_files.specs.declared.bytes_fault.BytesFault.TheVariants.{List as InList}
 use Rattle.flow_files.proofs.ReadLemmas.{whole_is, whole_is_bad, whole_stops}
 use Rattle.flow_files.proofs.reading.read_list.Goals as goal

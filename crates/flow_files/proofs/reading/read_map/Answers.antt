@@ -2,7 +2,7 @@ use Rattle.std.proofs.Common.{◌≡◌, ◌∙◌, ap, refl, sym, true}
 use Rattle.pmap_text.specs.MapText.{map_of}
 use Rattle.pmap_text.specs.Reading.{map_reading}
 use Rattle.flow_files.specs.BytesFault.{is_out_of_memory}
-use Rattle.flow_files.specs.Reports.{with_bytes_fault}
+use Rattle.flow_files.specs.Outcomes.{with_bytes_fault}
 use Rattle.flow_files.specs.declared.bytes_fault.BytesFault.TheVariants.{Map as InMap}
 use Rattle.flow_files.proofs.ReadLemmas.{whole_is, whole_is_bad, whole_stops}
 use Rattle.flow_files.proofs.reading.read_map.Goals as goal

@@ -4,9 +4,9 @@ use Rattle.pmap_cert.specs.Compacting.{compact}
 use Rattle.pmap_cert.specs.FormatReading.{format_reading}
 use Rattle.flow_files.specs.ByFile as role
 use Rattle.flow_files.specs.declared.bytes_fault.BytesFault.TheVariants.{Certificate as InCertificate}
-use Rattle.flowlabel.proofs.Outcomes.{PrintsCompact}
+use Rattle.flow_files.specs.Outcomes.{Prints}
 use Rattle.flowlabel.proofs.MadeLemmas.{faulty, makes}
-use Rattle.flow_files.proofs.ReadLemmas.{named_in, none_read, text_read, then_in}
+use Rattle.flow_files.proofs.ReadLemmas.{named_in, none_read, text_read}
 use Rattle.flowlabel.proofs.run.output.Goals as goal
 
 pub returns-in-Label : goal.returns-in-Label
@@ -33,15 +33,13 @@ returns-in-Shrink g c = rw c.in-Shrink.is (c.output-in-Shrink.ensures c.in-Shrin
 pub returns-in_err-certificate-in-Recert : goal.returns-in_err-certificate-in-Recert
 returns-in_err-certificate-in-Recert g c =
     rw c.in-Recert.is
-    (faulty (λ texts. PrintsCompact) (λ texts given. then_in InCertificate _ (format_reading texts.certificate))
-    (text_read (none_read 2 c.args.files.now c.requires) role.Certificate (omega arith) (omega arith)
+    (faulty (λ k. Prints (certificate_text (compact k))) (text_read (none_read 2 c.args.files.now c.requires) role.Certificate (omega arith) (omega arith)
     (λ bytes. named_in InCertificate (λ own. refl) (format_reading bytes))
-    c.in_err-certificate-in-Recert.ensures) (omega arith) (λ texts k fault is. cc) c.from_residual.ensures.1)
+    c.in_err-certificate-in-Recert.ensures) (omega arith) (λ k fault is. cc) c.from_residual.ensures.1)
 
 pub returns-in_ok-certificate-in-Recert : goal.returns-in_ok-certificate-in-Recert
 returns-in_ok-certificate-in-Recert g c =
     rw c.in-Recert.is
-    (makes (λ texts. PrintsCompact) (λ texts given. then_in InCertificate _ (format_reading texts.certificate))
-    (text_read (none_read 2 c.args.files.now c.requires) role.Certificate (omega arith) (omega arith)
+    (makes (λ k. Prints (certificate_text (compact k))) (text_read (none_read 2 c.args.files.now c.requires) role.Certificate (omega arith) (omega arith)
     (λ bytes. named_in InCertificate (λ own. refl) (format_reading bytes))
-    c.in_ok-certificate-in-Recert.ensures) (omega arith) (λ texts k same. (tt, λ out is. ap Ok (is ∙ ap (λ x. certificate_text (compact x)) (sym same)))))
+    c.in_ok-certificate-in-Recert.ensures) (omega arith) (λ k same. (tt, λ out is. ap Ok (is ∙ ap (λ x. certificate_text (compact x)) (sym same)))))

@@ -1,33 +1,68 @@
-use Rattle.std.proofs.Common.{◌≡◌, Option, ap, length, refl, rules, sym, true}
+use Rattle.std.proofs.Common.{◌≡◌, ◌∙◌, None, Option, Ok, Result, Err, Some, ap, length, refl, rules, true}
+use Rattle.std.specs.Prelude.{option_map}
+use Rattle.pmap_text.specs.ListModel.{ListModel}
+use Rattle.pmap_text.specs.MapModel.{MapModel}
+use Rattle.pmap_text.specs.MapText.{map_of}
 use Rattle.pmap_text.specs.PrefixList.{list_of}
+use Rattle.pmap_cert.specs.CertificateModel.{CertificateModel}
+use Rattle.pmap_cert.specs.FormatReading.{format_reading}
+use Rattle.pmap_cert.specs.declared.fault.CertFault.{CertFault}
+use Rattle.cert_check.specs.Checking.{first_fault, text_fault}
+use Rattle.cert_check.specs.declared.fault.CheckFault.{CheckFault}
 use Rattle.cert_check.specs.declared.fault.TextFault.{TextFault}
+use Rattle.cert_check.specs.declared.fault.TextFault.TheVariants as text
+use Rattle.pmap_text.specs.Reading.{◌>>=◌}
+use Rattle.std.specs.Option.{option_map_or}
 use Rattle.flow_files.specs.BytesFault.{is_out_of_memory}
-use Rattle.flowlabel.specs.Output.{minimal_text}
-use Rattle.flowlabel.specs.Reports.{verdict}
+use Rattle.flow_files.specs.Outcomes.{with_bytes_fault}
+use Rattle.flow_files.specs.declared.bytes_fault.BytesFault.{BytesFault}
 use Rattle.flow_files.specs.declared.bytes_fault.BytesFault.TheVariants.{Certificate as InCertificate, Check as InCheck}
+use Rattle.flowlabel.specs.Output.{minimal_text}
 use Rattle.flow_files.proofs.ReadLemmas.{whole_is, whole_is_bad, whole_stops}
 use Rattle.flowlabel.proofs.run.check.checked.Goals as goal
+
+-- a fault of the text of a certificate, or of the certificate, as one of its file
+abbrev in_text : TextFault → BytesFault
+in_text (text.Certificate fault) = InCertificate fault
+in_text (text.Check fault) = InCheck fault
+
+-- the reading of a certificate by its first fault
+by_fault : (m : MapModel) (l : ListModel) (reading : Result CertificateModel CertFault)
+    → (with_bytes_fault InCertificate reading >>= (λ c. option_map_or (λ fault. Err (InCheck fault)) (first_fault m l c) (Ok l)))
+    ≡ option_map_or (λ fault. Err (in_text fault)) (text_fault m l reading) (Ok l)
+by_fault m l (Err fault) = refl
+by_fault m l (Ok c) = by (first_fault m l c)
+  where
+    by : (found : Option CheckFault) → ◌≡◌ {A = Result ListModel BytesFault} (option_map_or (λ fault. Err (InCheck fault)) found (Ok l))
+        (option_map_or (λ fault. Err (in_text fault)) (option_map text.Check found) (Ok l))
+    by None = refl
+    by (Some fault) = refl
 
 pub returns-in_err-name : goal.returns-in_err-name
 returns-in_err-name g c = whole_stops c.from_residual.ensures.1 c.in_err-name.ensures
 
 pub returns-in-Ok : goal.returns-in-Ok
 returns-in-Ok g c =
-    let count = length (list_of c.args.list.now).prefixes in
-    let text : c.into_bytes.result.items ≡ minimal_text count = search rules in
-    whole_is c.in_ok-name.ensures (minimal_text count)
-    (ap (λ (found : Option TextFault). verdict found count) (rw c.as_slice.ensures.value at c.in-Ok.ensures.fault)) (sym text)
+    let l = list_of c.args.list.now in
+    let text : c.into_bytes.result.items ≡ minimal_text (length l.prefixes) = search rules in
+    whole_is c.in_ok-name.ensures l
+    (by_fault (map_of c.args.map.now) l (format_reading c.in_ok-name.text.items)
+    ∙ ap (λ (found : Option TextFault). option_map_or (λ fault. Err (in_text fault)) found (Ok l)) (rw c.as_slice.ensures.value at c.in-Ok.ensures.fault)) text
 
 pub returns-in-Err-Check : goal.returns-in-Err-Check
 returns-in-Err-Check g c =
+    let l = list_of c.args.list.now in
     let fault = rw (c.in-Err-Check.field-0-is, c.as_slice.ensures.value) at c.in-Err-Check.ensures.fault in
     whole_is_bad c.in_ok-name.ensures (InCheck c.in-Err-Check.fault) (rw c.in-Err-Check.field-0-is at c.of.ensures)
-    (λ bytes. ap (λ (found : Option TextFault). verdict found (length (list_of c.args.list.now).prefixes)) fault)
+    (λ bytes. by_fault (map_of c.args.map.now) l (format_reading c.in_ok-name.text.items)
+    ∙ ap (λ (found : Option TextFault). option_map_or (λ fault. Err (in_text fault)) found (Ok l)) fault)
 
 pub returns : goal.returns
 returns g c =
+    let l = list_of c.args.list.now in
     let fault = rw (c.in-Err-Certificate.field-0-is, c.as_slice.ensures.value) at c.in-Err-Certificate.ensures.fault in
     whole_is_bad c.in_ok-name.ensures (InCertificate c.in-Err-Certificate.fault)
     (rw c.in-Err-Certificate.field-0-is at c.of-in-Err-Certificate.ensures)
-    (λ bytes. ap (λ (found : Option TextFault). verdict found (length (list_of c.args.list.now).prefixes))
+    (λ bytes. by_fault (map_of c.args.map.now) l (format_reading c.in_ok-name.text.items)
+    ∙ ap (λ (found : Option TextFault). option_map_or (λ fault. Err (in_text fault)) found (Ok l))
     (fault.0 (λ same. let wrong : is_out_of_memory (InCertificate c.in-Err-Certificate.fault) ≡ true = rw same refl in cc)))

@@ -1,11 +1,7 @@
 use Rattle.std.proofs.Common.{◌∙◌, Ok, ap, arith}
-use Rattle.ipfix_read.specs.Messages.{file_reading}
-use Rattle.flow_rows.specs.Counts.{counts_of}
 use Rattle.pmap_print.specs.Reports.{info_text}
-use Rattle.flow_files.specs.declared.bytes_fault.BytesFault.TheVariants.{Flows as InFlows}
-use Rattle.flow_files.specs.Outcomes.{Prints}
 use Rattle.flowlabel.proofs.MadeLemmas.{faulty, makes}
-use Rattle.flow_files.proofs.ReadLemmas.{flows_read, no_memory_left, none_read, then_in}
+use Rattle.flow_files.proofs.ReadLemmas.{flows_read, no_memory_left, none_read}
 use Rattle.flowlabel.specs.Reports.{HasCounts}
 use Rattle.flowlabel.proofs.run.info.output.Goals as goal
 
@@ -14,9 +10,8 @@ returns-in_err-buffer g c flows = no_memory_left (none_read 3 c.args.files.now c
 
 pub returns-in_err-add_messages : goal.returns-in_err-add_messages
 returns-in_err-add_messages g c flows =
-    faulty (λ texts messages. Prints (info_text (counts_of messages))) (λ texts given. then_in InFlows _ (file_reading texts.flows))
-    (flows_read (none_read 3 c.args.files.now c.requires) {is = λ messages _. HasCounts messages c.add_messages.new.taker} (omega arith) c.in_err-add_messages.ensures.reads) (omega arith)
-    (λ texts messages fault is. cc) c.from_residual-in_err-add_messages.ensures.1
+    faulty _ (flows_read (none_read 3 c.args.files.now c.requires) {is = λ messages _. HasCounts messages c.add_messages.new.taker} (omega arith) c.in_err-add_messages.ensures.reads) (omega arith)
+    (λ messages fault is. cc) c.from_residual-in_err-add_messages.ensures.1
 
 pub returns-in_err-print_info : goal.returns-in_err-print_info
 returns-in_err-print_info g c flows =
@@ -25,6 +20,5 @@ returns-in_err-print_info g c flows =
 
 pub returns : goal.returns
 returns g c flows =
-    makes (λ texts messages. Prints (info_text (counts_of messages))) (λ texts given. then_in InFlows _ (file_reading texts.flows))
-    (flows_read (none_read 3 c.args.files.now c.requires) {is = λ messages _. HasCounts messages c.add_messages.new.taker} (omega arith) c.in_ok-add_messages.ensures.reads) (omega arith)
-    (λ texts messages is. (tt, λ out same. ap Ok (same ∙ c.in_ok-print_info.ensures ∙ ap info_text is)))
+    makes _ (flows_read (none_read 3 c.args.files.now c.requires) {is = λ messages _. HasCounts messages c.add_messages.new.taker} (omega arith) c.in_ok-add_messages.ensures.reads) (omega arith)
+    (λ messages is. (tt, λ out same. ap Ok (same ∙ c.in_ok-print_info.ensures ∙ ap info_text is)))

@@ -5,7 +5,6 @@ use Rattle.std.specs.List.{flat_map}
 use Rattle.std.proofs.lemmas.List.{map-append}
 use Rattle.std.proofs.lemmas.List.Elements.{All-cons, All-weaker, filter-append}
 use Rattle.ipfix_read.specs.Message.{MessageView}
-use Rattle.ipfix_read.specs.declared.fault.ReadFault.{ReadFault}
 use Rattle.ipfix_read.specs.Laws.{CanFollow, File, IsRead, IsSelfContained, joined}
 use Rattle.flow_rows.specs.Counts.{counts_of, rows_of_messages}
 use Rattle.flow_rows.specs.Elements.{RowView}
@@ -28,13 +27,12 @@ use Rattle.flow_files.specs.declared.label_file.LabelFile.{LabelFile}
 use Rattle.flow_files.specs.declared.label_file.LabelFile.TheVariants.{Map, List as Prefixes}
 use Rattle.flowlabel.specs.Joined.{IsPutTogether}
 use Rattle.flow_files.specs.declared.bytes_fault.BytesFault.{BytesFault}
-use Rattle.flow_files.specs.Outcomes.{FlowsThen, Outcome, Prints, Then}
+use Rattle.flow_files.specs.Outcomes.{Outcome, Prints, Then, report_reading, source_reading, with_bytes_fault}
 use Rattle.flowlabel.specs.Output.{IsOutput, labelled_row_lines}
-use Rattle.flow_files.specs.Reports.{with_bytes_fault, source_reading}
 use Rattle.flow_files.specs.Sources.{Text}
-use Rattle.flow_files.proofs.ReadLemmas.{both, report_after, report_then}
-use Rattle.flowlabel.proofs.Outcomes.{printed_of}
-use Rattle.flowlabel.proofs.RowLemmas.{line_of_row, lines_are}
+use Rattle.flow_files.proofs.ReadLemmas.{flows_in}
+use Rattle.flowlabel.proofs.Outcomes.{printed_of, read_then}
+use Rattle.flowlabel.proofs.RowLemmas.{line_of_row}
 use Rattle.flowlabel.proofs.run.joined.output_of_joined_file.Goals as goal
 
 -- ---- lists in parts
@@ -61,22 +59,10 @@ same_source None flows texts = refl
 same_source (Some (Map file)) flows texts = refl
 same_source (Some (Prefixes file)) flows texts = refl
 
--- the outcome over a File that is read, by the labels
-over_file : (rest : Option Labelling → List MessageView → Outcome → Type 0) (labels : Option LabelFile) (texts : ByFile Text) (file : File) → IsRead file
-    → FlowsThen rest labels (with_at role.Flows file.0 texts) ≡ Then (λ f. f) (λ l. rest l file.1) (source_reading labels texts)
-over_file rest labels texts file read =
-    report_then rest labels given
-    ∙ ap (λ (source : Result (Option Labelling) BytesFault). Then (λ f. f) (both rest) (source >>= (λ l. report_after l given)))
-    (same_source labels file.0 texts)
-    ∙ by (source_reading labels texts)
-  where
-    given : ByFile Text
-    given = with_at role.Flows file.0 texts
-
-    by : (source : Result (Option Labelling) BytesFault)
-        → Then (λ f. f) (both rest) (source >>= (λ l. report_after l given)) ≡ Then (λ f. f) (λ l. rest l file.1) source
-    by (Ok l) = ap (λ (messages : Result (List MessageView) ReadFault). Then (λ f. f) (both rest) (with_bytes_fault InFlows messages >>= (λ m. Ok (l, m)))) read
-    by (Err fault) = refl
+-- what a report over a File that is read is on, by the labels
+report_over : (labels : Option LabelFile) (texts : ByFile Text) (file : File) → IsRead file
+    → report_reading labels (with_at role.Flows file.0 texts) ≡ (source_reading labels texts >>= (λ l. Ok (l, file.1)))
+report_over labels texts file read = λ i. same_source labels file.0 texts i >>= (λ l. with_bytes_fault InFlows (read i) >>= (λ messages. Ok (l, messages)))
 
 -- ---- the commands
 
@@ -100,43 +86,49 @@ module _ (first : File) (later : List File) (follow : CanFollow first later) (te
       ap (passing condition l) (joined_file_adds_up first later follow).1
       ∙ of_parts (filter passes) refl (filter-append passes) (λ (file : File). rows_of_messages file.1) files
 
-  module _ (rest : Option Labelling → List MessageView → Outcome → Type 0) (labels : Option LabelFile) (is : FlowsThen rest labels (with_at role.Flows whole.0 texts) (Ok out)) where
-    found : (l : Option Labelling) × (source_reading labels texts ≡ Ok l) × rest l whole.1 (Ok out)
+  module _ (rest : Option Labelling × List MessageView → Outcome → Type 0) (labels : Option LabelFile)
+      (is : Then rest (report_reading labels (with_at role.Flows whole.0 texts)) (Ok out)) where
+    found : (l : Option Labelling) × (source_reading labels texts ≡ Ok l) × rest (l, whole.1) (Ok out)
     found =
-        printed_of (λ f. f) (λ l. rest l whole.1) (source_reading labels texts) out
-        (subst (λ (P : Outcome → Type 0). P (Ok out)) (over_file rest labels texts whole (joined_file_adds_up first later follow).0) is)
+        let (read, reads, holds) = printed_of rest _ out is in
+        let (l, source, same) = read_then (source_reading labels texts) (λ l. Ok (l, whole.1)) read
+        (sym (report_over labels texts whole (joined_file_adds_up first later follow).0) ∙ reads) in
+        let own : (l, whole.1) ≡ read = cc in
+        (l, source, subst (λ (r : Option Labelling × List MessageView). rest r (Ok out)) (sym own) holds)
 
-    each_prints : (text : File → Text) → ((file : File) → rest found.0 file.1 (Ok (text file)))
-        → All (λ file. FlowsThen rest labels (with_at role.Flows file.0 texts) (Ok (text file))) files
+    each_prints : (text : File → Text) → ((file : File) → rest (found.0, file.1) (Ok (text file)))
+        → All (λ file. Then rest (report_reading labels (with_at role.Flows file.0 texts)) (Ok (text file))) files
     each_prints text prints =
-        All-weaker IsRead (λ file. FlowsThen rest labels (with_at role.Flows file.0 texts) (Ok (text file)))
+        All-weaker IsRead (λ file. Then rest (report_reading labels (with_at role.Flows file.0 texts)) (Ok (text file)))
         (λ file read.
-        subst (λ (P : Outcome → Type 0). P (Ok (text file)))
-        (sym (over_file rest labels texts file read ∙ ap (Then (λ f. f) (λ l. rest l file.1)) found.1)) (prints file)) files all_read
+        subst (λ (r : Result (Option Labelling × List MessageView) BytesFault). Then rest r (Ok (text file)))
+        (sym (report_over labels texts file read ∙ ap (λ (source : Result (Option Labelling) BytesFault). source >>= (λ l. Ok (l, file.1))) found.1)) (prints file)) files all_read
 
   info_output : (flows : Bor Text) → IsOutput (Info flows) (with_at role.Flows whole.0 texts) (Ok out) → IsPutTogether (Info flows) texts files out
   info_output flows is =
-      let rest : Option Labelling → List MessageView → Outcome → Type 0 = λ l messages. Prints (info_text (counts_of messages)) in (
-        each_prints rest None is (λ file. info_text (counts_of file.1)) (λ file. refl),
-        text_is out (info_text (counts_of whole.1)) (found rest None is).2 ∙ ap info_text (joined_file_adds_up first later follow).2,
+      let over : (file : File) → IsRead file → flows_in (with_at role.Flows file.0 texts) ≡ Ok file.1 = λ file read. ap (with_bytes_fault InFlows) read in
+      let rest : List MessageView → Outcome → Type 0 = λ messages. Prints (info_text (counts_of messages)) in (
+        All-weaker IsRead (λ file. Then rest (flows_in (with_at role.Flows file.0 texts)) (Ok (info_text (counts_of file.1))))
+            (λ file read. subst (λ (r : Result (List MessageView) BytesFault). Then rest r (Ok (info_text (counts_of file.1)))) (sym (over file read)) refl) files all_read,
+        text_is out (info_text (counts_of whole.1))
+            (subst (λ (r : Result (List MessageView) BytesFault). Then rest r (Ok out)) (over whole (joined_file_adds_up first later follow).0) is)
+            ∙ ap info_text (joined_file_adds_up first later follow).2,
       )
 
   rows_output : (labels : Option LabelFile) (condition : Condition) (columns : Bool) (flows : Bor Text)
       → IsOutput (Rows labels condition columns flows) (with_at role.Flows whole.0 texts) (Ok out) → IsPutTogether (Rows labels condition columns flows) texts files out
   rows_output labels condition columns flows is =
       let printed : Option Labelling → List RowView → Text = λ l rows. table_text columns (labelled_row_lines l rows) in
-      let rest : Option Labelling → List MessageView → Outcome → Type 0 =
-      λ l messages. Prints (printed l (passing condition l (rows_of_messages messages))) in
+      let rest : Option Labelling × List MessageView → Outcome → Type 0 =
+      λ read. Prints (printed read.0 (passing condition read.0 (rows_of_messages read.1))) in
       let l : Option Labelling = (found rest labels is).0 in
-      let each : (rows : List RowView) → map (line_of_row l) rows ≡ drop 1 (labelled_row_lines l rows) = λ rows. ap (drop 1) (sym (lines_are l rows)) in
       let lines : map (line_of_row l) (shown condition l whole) ≡ flat_map (λ file. drop 1 (labelled_row_lines l (shown condition l file))) files =
-      ap (map (line_of_row l)) (shown_are condition l) ∙ of_parts (map (line_of_row l)) refl (map-append (line_of_row l)) (shown condition l) files
-      ∙ (λ i. flat_map (λ file. each (shown condition l file) i) files) in (
+      ap (map (line_of_row l)) (shown_are condition l) ∙ of_parts (map (line_of_row l)) refl (map-append (line_of_row l)) (shown condition l) files in (
         l,
         (
           each_prints rest labels is (λ file. printed l (shown condition l file)) (λ file. refl),
           text_is out (printed l (shown condition l whole)) (found rest labels is).2
-              ∙ ap (table_text columns) (lines_are l (shown condition l whole) ∙ ap (λ (own : List Line). title_line (is_some l) ∷ own) lines),
+              ∙ ap (λ (own : List Line). table_text columns (title_line (is_some l) ∷ own)) lines,
         ),
       )
 
@@ -146,8 +138,8 @@ module _ (first : File) (later : List File) (follow : CanFollow first later) (te
   uniq_output fields labels condition sorted columns flows is =
       let grouped : Option Labelling → List RowView → List GroupModel = λ l rows. shown_groups sorted (groups_of fields (label_where l) rows) in
       let printed : List GroupModel → Text = λ groups. groups_text fields groups columns in
-      let rest : Option Labelling → List MessageView → Outcome → Type 0 =
-      λ l messages. Prints (printed (grouped l (passing condition l (rows_of_messages messages)))) in
+      let rest : Option Labelling × List MessageView → Outcome → Type 0 =
+      λ read. Prints (printed (grouped read.0 (passing condition read.0 (rows_of_messages read.1)))) in
       let l : Option Labelling = (found rest labels is).0 in
       let groups : grouped l (shown condition l whole) ≡ shown_groups sorted (merged (flat_map (λ file. grouped l (shown condition l file)) files)) =
       ap (grouped l) (shown_are condition l ∙ sym (changed_parts (λ (rows : List RowView). rows) (shown condition l) files))

@@ -9,11 +9,9 @@ use Rattle.pmap_cert.specs.CertificateText.{HasFormatText, certificate_text}
 use Rattle.pmap_cert.specs.CertificateModel.{CertificateModel}
 use Rattle.pmap_cert.specs.Compacting.{compact}
 use Rattle.cert_check.specs.Checking.{first_fault}
-use Rattle.cert_check.specs.declared.fault.CheckFault.{CheckFault}
 use Rattle.pmap_cert.specs.FormatReading.{format_reading}
 use Rattle.pmap_cert.specs.ListText.{list_text}
 use Rattle.flowlabel.specs.Output.{minimal_text}
-use Rattle.flowlabel.proofs.Outcomes.{checked}
 use Rattle.flowlabel.proofs.run.laws.shrunk_list_is_least.Goals as goal
 
 pub returns : goal.returns
@@ -77,6 +75,6 @@ returns c name texts m reads =
               | inr short ↦ (compact k, short, c.compact_keeps_acceptance.ensures m again k formed.format accepted')
             ] in
             let none : first_fault m again x ≡ None = faultless m again x accepts in
-            rw (reads, reads_list, reads') (ap (λ (n : ℕ). Ok (minimal_text n)) (sym (ap length same)) ∙ sym (ap (λ (f : Option CheckFault). checked f (length again.prefixes)) none));
+            rw (reads, reads_list, reads', none) (ap (λ (n : ℕ). Ok (minimal_text n)) (sym (ap length same)));
       },
     )

@@ -1,13 +1,10 @@
-use Rattle.std.proofs.Common.{◌∙◌, ◌∷◌, [], Bool, List, Ok, ap, arith, is_some, refl, subst, sym}
+use Rattle.std.proofs.Common.{◌∙◌, ◌∷◌, [], Bool, Ok, ap, arith, refl, subst, sym}
 use Rattle.pmap_print.specs.Reports.{column_count, title_line}
-use Rattle.pmap_print.specs.Table.{IsTable, Line, table_text}
-use Rattle.flow_files.specs.Outcomes.{Prints}
+use Rattle.pmap_print.specs.Table.{IsTable, table_text}
 use Rattle.flowlabel.specs.Output.{labelled_row_lines}
 use Rattle.flow_files.specs.Reports.{passing_rows}
-use Rattle.flowlabel.proofs.Outcomes.{report_of_rows}
 use Rattle.flowlabel.proofs.MadeLemmas.{faulty, makes}
-use Rattle.flow_files.proofs.ReadLemmas.{no_memory_left, none_read, report_then}
-use Rattle.flowlabel.proofs.RowLemmas.{lines_are}
+use Rattle.flow_files.proofs.ReadLemmas.{no_memory_left, none_read}
 use Rattle.flowlabel.proofs.run.rows.output.Goals as goal
 
 pub returns-in_err-of_rows : goal.returns-in_err-of_rows
@@ -20,23 +17,16 @@ read_rows-requires g c = record {
       record {
         padded = refl;
         lines =
-            subst (λ (ls : List Line). IsTable (column_count (is_some labels)) ls c.in_ok-of_rows.field-0) (sym (lines_are labels []))
-            (subst (λ (b : Bool). IsTable (column_count b) (title_line b ∷ []) c.in_ok-of_rows.field-0) (c.is_some.ensures ∙ sym same) c.in_ok-of_rows.ensures.header);
+            subst (λ (b : Bool). IsTable (column_count b) (title_line b ∷ []) c.in_ok-of_rows.field-0) (c.is_some.ensures ∙ sym same) c.in_ok-of_rows.ensures.header;
       };
 }
 
 pub returns-in_err-lines : goal.returns-in_err-lines
-returns-in_err-lines g c flows =
-    faulty (λ texts read. Prints (report_of_rows c.args.filter.now c.args.columns read.0 read.1))
-    (λ texts given. report_then (λ l messages. Prints (report_of_rows c.args.filter.now c.args.columns l messages)) c.args.labels texts)
-    c.in_err-lines.ensures (omega arith) (λ texts read fault is. cc) c.from_residual-in_err-lines.ensures.1
+returns-in_err-lines g c flows = faulty _ c.in_err-lines.ensures (omega arith) (λ read fault is. cc) c.from_residual-in_err-lines.ensures.1
 
 pub returns : goal.returns
 returns g c flows =
-    makes (λ texts read. Prints (report_of_rows c.args.filter.now c.args.columns read.0 read.1))
-    (λ texts given. report_then (λ l messages. Prints (report_of_rows c.args.filter.now c.args.columns l messages)) c.args.labels texts)
-    c.in_ok-lines.ensures (omega arith)
-    (λ texts read has. (
+    makes _ c.in_ok-lines.ensures (omega arith) (λ read has. (
       (_, _, has.lines),
       λ out is.
           ap Ok (is _ _ has.lines

@@ -1,15 +1,11 @@
 use Rattle.std.proofs.Common.{Ok, ap, arith}
-use Rattle.pmap_text.specs.Reading.{map_reading}
-use Rattle.flow_files.specs.declared.bytes_fault.BytesFault.TheVariants.{Map as InMap}
-use Rattle.flowlabel.proofs.Outcomes.{PrintsMinimal}
 use Rattle.flowlabel.proofs.MadeLemmas.{faulty, makes}
-use Rattle.flow_files.proofs.ReadLemmas.{map_read, no_memory_left, then_in}
+use Rattle.flow_files.proofs.ReadLemmas.{map_read, no_memory_left}
 use Rattle.flowlabel.proofs.run.shrink.output.Goals as goal
 
 pub returns-in_err-map : goal.returns-in_err-map
 returns-in_err-map g c map =
-    faulty (λ texts. PrintsMinimal c.args.printed) (λ texts given. then_in InMap _ (map_reading texts.map))
-    (map_read c.args.files.now c.requires c.in_err-map.ensures) (omega arith) (λ texts m fault (l, k, pair, is). cc) c.from_residual.ensures.1
+    faulty _ (map_read c.args.files.now c.requires c.in_err-map.ensures) (omega arith) (λ m fault (l, k, pair, is). cc) c.from_residual.ensures.1
 
 pub returns-in_err-made_of : goal.returns-in_err-made_of
 returns-in_err-made_of g c map =
@@ -17,9 +13,7 @@ returns-in_err-made_of g c map =
 
 pub returns : goal.returns
 returns g c map =
-    makes (λ texts. PrintsMinimal c.args.printed) (λ texts given. then_in InMap _ (map_reading texts.map))
-    (map_read c.args.files.now c.requires c.in_ok-map.ensures) (omega arith)
-    (λ texts m same. (
+    makes _ (map_read c.args.files.now c.requires c.in_ok-map.ensures) (omega arith) (λ m same. (
       c.in_ok-made_of.ensures.0,
       λ out is_text. let (l, k, pair, text) = c.in_ok-made_of.ensures.1 out is_text in rw same (l, k, pair, ap Ok text),
     ))

@@ -3,11 +3,9 @@ use Rattle.flow_uniq.specs.Groups.{groups_of, record_count, shown_groups}
 use Rattle.flow_uniq.specs.declared.field.KeyField.{KeyField}
 use Rattle.label_lookup.specs.Labelling.{label_where}
 use Rattle.pmap_print.specs.Reports.{groups_text}
-use Rattle.flow_files.specs.Outcomes.{Prints}
 use Rattle.flow_files.specs.Reports.{passing_rows}
-use Rattle.flowlabel.proofs.Outcomes.{report_of_groups}
 use Rattle.flowlabel.proofs.MadeLemmas.{faulty, makes}
-use Rattle.flow_files.proofs.ReadLemmas.{no_memory_left, none_read, report_then}
+use Rattle.flow_files.proofs.ReadLemmas.{no_memory_left, none_read}
 use Rattle.flowlabel.proofs.run.uniq.output.Goals as goal
 
 pub returns-in_err-groups : goal.returns-in_err-groups
@@ -19,18 +17,12 @@ read_rows-requires g c =
     record { fresh = c.requires; none = λ labels same. record { fields = refl; groups = of_none.groups; few = omega (arith, ap record_count of_none.groups) } }
 
 pub returns-in_err-groups-2 : goal.returns-in_err-groups-2
-returns-in_err-groups-2 g c flows =
-    let text = report_of_groups c.args.grouping.keys.now c.args.grouping.filter.now c.args.grouping.sorted c.args.grouping.columns in
-    faulty (λ texts read. Prints (text read.0 read.1)) (λ texts given. report_then (λ l messages. Prints (text l messages)) c.args.labels texts)
-    c.in_err-groups-2.ensures (omega arith) (λ texts read fault is. cc) c.from_residual-in_err-groups-2.ensures.1
+returns-in_err-groups-2 g c flows = faulty _ c.in_err-groups-2.ensures (omega arith) (λ read fault is. cc) c.from_residual-in_err-groups-2.ensures.1
 
 pub returns : goal.returns
 returns g c flows =
     let grouping = c.args.grouping in
-    let text = report_of_groups grouping.keys.now grouping.filter.now grouping.sorted grouping.columns in
-    makes (λ texts read. Prints (text read.0 read.1)) (λ texts given. report_then (λ l messages. Prints (text l messages)) c.args.labels texts)
-    c.in_ok-groups-2.ensures (omega arith)
-    (λ texts read has. (
+    makes _ c.in_ok-groups-2.ensures (omega arith) (λ read has. (
       tt,
       λ out same.
           ap Ok (same
