@@ -263,8 +263,9 @@ class Shared(Month):
 PERHAPS = {"missing": "may be missing|can't be counted|begin again with|came late", "twice": "twice|came late",
            "begin": "begin at .* records before them may be missing",
            "end": "end at .* records after them may be missing", "mixed": "gets other fields"}
-# For what else a month may be refused: the first message that is missing has had the template of another exporter.
-OTHER_KINDS = {"lost_begin": ["missing"], "lost_end": ["missing"], "cut_head": ["skipped"], "overlapping": ["skipped"]}
+# For what else a month may be refused: a message that is missing may have had the template of an exporter.
+OTHER_KINDS = {"lost_begin": ["missing"], "lost_end": ["missing"], "cut_head": ["skipped"], "overlapping": ["skipped"],
+               "lost_messages": ["skipped"]}
 SHARED = ("whole", "late", "lost_file", "lost_messages", "cut_end", "cut_head", "lost_begin", "lost_end",
           "doubled_file", "doubled_message", "overlapping", "without_bytes", "without_template", "sampled")
 
