@@ -26,37 +26,10 @@ row_titles =
 abbrev pub label_titles : Line
 label_titles = codes "src-label" ∷ codes "dst-label" ∷ []
 
--- the fields of a row
-abbrev pub row_fields : RowView → Line
-row_fields r =
-    address_text r.version r.src ∷ address_text r.version r.dst ∷ decimal r.sport ∷ decimal r.dport
-    ∷ decimal r.protocol
-    ∷ decimal r.flags ∷ decimal r.packets ∷ decimal r.octets ∷ decimal r.start_ms
-    ∷ decimal r.end_ms ∷ []
-
--- the labels of a row's two addresses, if they have one
-abbrev pub LabelTexts : Type 0
-LabelTexts = Option Text × Option Text
-
--- the fields of a row's labels; that of a missing label is empty
-abbrev pub label_fields : LabelTexts → Line
-label_fields labels = unwrap_or labels.0 [] ∷ unwrap_or labels.1 [] ∷ []
-
 -- the header of rows, without labels or with them
 abbrev pub title_line : Bool → Line
 title_line false = row_titles
 title_line true = row_titles ++ label_titles
-
--- the line of a row, with its labels if it has them
-abbrev pub row_line : RowView → Option LabelTexts → Line
-row_line row None = row_fields row
-row_line row (Some labels) = row_fields row ++ label_fields labels
-
--- the header and the lines of rows, with labels if they are given
-abbrev pub row_lines : List RowView → Option (List LabelTexts) → List Line
-row_lines rows None = title_line false ∷ map (λ row. row_line row None) rows
-row_lines rows (Some labels) =
-    title_line true ∷ map (λ p. row_line p.0 (Some p.1)) (zip rows labels)
 
 -- The printed text of groups.
 
@@ -100,8 +73,36 @@ info_text counts =
 
 -- Below: only contracts of parts and proofs use these; no promise of the program rests on them.
 
+-- the fields of a row
+abbrev pub row_fields : RowView → Line
+row_fields r =
+    address_text r.version r.src ∷ address_text r.version r.dst ∷ decimal r.sport ∷ decimal r.dport
+    ∷ decimal r.protocol
+    ∷ decimal r.flags ∷ decimal r.packets ∷ decimal r.octets ∷ decimal r.start_ms
+    ∷ decimal r.end_ms ∷ []
+
+-- the labels of a row's two addresses, if they have one
+abbrev pub LabelTexts : Type 0
+LabelTexts = Option Text × Option Text
+
+-- the fields of a row's labels; that of a missing label is empty
+abbrev pub label_fields : LabelTexts → Line
+label_fields labels = unwrap_or labels.0 [] ∷ unwrap_or labels.1 [] ∷ []
+
+-- the labels that a row has been given
 abbrev pub label_texts : RowLabels → LabelTexts
 label_texts labels = (option_copied labels.src, option_copied labels.dst)
+
+-- the line of a row, with its labels if it has them
+abbrev pub row_line : RowView → Option LabelTexts → Line
+row_line row None = row_fields row
+row_line row (Some labels) = row_fields row ++ label_fields labels
+
+-- the header and the lines of rows, with labels if they are given
+abbrev pub row_lines : List RowView → Option (List LabelTexts) → List Line
+row_lines rows None = title_line false ∷ map (λ row. row_line row None) rows
+row_lines rows (Some labels) =
+    title_line true ∷ map (λ p. row_line p.0 (Some p.1)) (zip rows labels)
 
 -- the labels of rows, if labels are given
 abbrev pub given_labels : Option (Bor (List RowLabels)) → Option (List LabelTexts)
