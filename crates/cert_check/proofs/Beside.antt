@@ -13,7 +13,7 @@ use Rattle.pmap_text.proofs.BlockHalves.{high_lies_in, low_lies_in}
 use Rattle.pmap_cert.specs.CertificateModel.{chosen_half, side_half}
 use Rattle.pmap_cert.specs.Paths.{LeadsTo, path_number}
 use Rattle.cert_check.specs.Checking.{leaf_fault, CheckFaultKind}
-use Rattle.cert_check.specs.Inner.{IsClear, Sources, sides_fault}
+use Rattle.cert_check.specs.Inner.{AreOf, IsClear, Origin, Sources, sides_fault}
 
 -- the lower half of a block ends right before the upper
 lower-before : (W n q : ℕ) → last_of W (suc n) (2 * q) + 1 ≡ first_of W (suc n) (2 * q + 1)
@@ -70,18 +70,18 @@ block-first : (b : Block) → first_of (width_of b.version) b.len (number_of_blo
 block-first b = whole b.value (2 ^ (width_of b.version - b.len)) (pow_pos (width_of b.version - b.len)) b.no_host_bit
 
 -- the blocks beside the path from a block to its end
-pub path-clear : (s : Sources) (x : Label) (b end : Block) → b.version ≡ s.map.now.version → (bits : List Bool) → LeadsTo b end bits
+pub path-clear : (s : Sources) (o : Origin) (of : AreOf o s) (x : Label) (b end : Block) → b.version ≡ s.version → (bits : List Bool) → LeadsTo b end bits
     → IsClear s b.value end.value x
     → IsClear s (last_of (width_of end.version) end.len (number_of_block end) + 1) (last_of (width_of b.version) b.len (number_of_block b) + 1) x
-    → sides_fault (map_of s.map.now) (list_of s.list.now).prefixes x bits b.len (number_of_block b) ≡ None
-path-clear s x b end version bits path before after =
-    let same : end.version ≡ s.map.now.version = path.version ∙ version in
-    let W = width_of s.map.now.version in
+    → sides_fault (map_of o.map) (list_of o.list).prefixes x bits b.len (number_of_block b) ≡ None
+path-clear s o of x b end version bits path before after =
+    let same : end.version ≡ s.version = path.version ∙ version in
+    let W = width_of s.version in
     let first = subst (λ (v : Version). first_of (width_of v) b.len (number_of_block b) ≡ b.value) version (block-first b) in
     let last = subst (λ (v : Version). last_of (width_of b.version) b.len (number_of_block b) ≡ last_of (width_of v) b.len (number_of_block b)) version refl in
     let start = subst (λ (v : Version). first_of (width_of v) end.len (number_of_block end) ≡ end.value) same (block-first end) in
     let stop = subst (λ (v : Version). last_of (width_of end.version) end.len (number_of_block end) ≡ last_of (width_of v) end.len (number_of_block end)) same refl in
-    sides-clear (map_of s.map.now) (list_of s.list.now).prefixes x W b.value end.value (last_of (width_of end.version) end.len (number_of_block end) + 1)
-    (last_of (width_of b.version) b.len (number_of_block b) + 1) before after bits b.len (number_of_block b) end.len path.len
+    sides-clear (map_of o.map) (list_of o.list).prefixes x W b.value end.value (last_of (width_of end.version) end.len (number_of_block end) + 1)
+    (last_of (width_of b.version) b.len (number_of_block b) + 1) (before o of) (after o of) bits b.len (number_of_block b) end.len path.len
     (subst (λ (v : Version). end.len ≤ width_of v) same end.len_in_range) (omega (arith, first)) (omega (arith, last))
     (sym start ∙ ap (first_of W end.len) path.number) (ap (λ (a : ℕ). a + 1) (stop ∙ ap (last_of W end.len) path.number))

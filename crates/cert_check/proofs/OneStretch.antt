@@ -31,7 +31,7 @@ use Rattle.pmap_text.proofs.Settling.{Settles, map_is, stretch_labelled}
 use Rattle.pmap_text.proofs.BlockHalves.{halves_ends}
 use Rattle.pmap_text.proofs.Windows.{block_some, first_number}
 use Rattle.cert_check.specs.Checking.{list_settles, is_label_of, leaf_fault, CheckFaultKind, LeafNotUniform, ListDiffers}
-use Rattle.cert_check.specs.Inner.{AreSources, IsClear, IsRangeOf, IsSource, Source, Sources, has_one_label, number_at}
+use Rattle.cert_check.specs.Inner.{AreNumbers, AreOf, AreSources, IsRangeOf, Origin, Sources, has_one_label, number_at}
 use Rattle.cert_check.proofs.Lists.{any-filtered}
 
 -- whether the stretch i has the addresses up to the last and has the label x
@@ -155,7 +155,7 @@ module _ (from : List Label) (s : StretchesModel) (every : HasEveryAddress s) (f
       (and_from (nat_le high (last_at s i)) (is_label_of (text_if_some from (label_at s i)) x) (le-leb high (last_at s i) (omega (arith, most, le))) parts.1)
 
 -- the range of a block
-pub block-range : (s : Sources) (b : Block) → b.version ≡ s.map.now.version → (last : ℕ) → last ≡ last_of (width_of b.version) b.len (number_of_block b) → last < 2 ^ width_of b.version
+pub block-range : (s : Sources) (b : Block) → b.version ≡ s.version → (last : ℕ) → last ≡ last_of (width_of b.version) b.len (number_of_block b) → last < 2 ^ width_of b.version
     → IsRangeOf s b.value last b.len (number_of_block b)
 block-range s b version last last_is fits =
     let W = width_of b.version in
@@ -170,9 +170,9 @@ block-range s b version last last_is fits =
     }
 
 -- the range of all addresses
-pub whole-range : (s : Sources) (last : ℕ) → last + 1 ≡ 2 ^ width_of s.map.now.version → IsRangeOf s 0 last 0 (number_at s 0 0)
+pub whole-range : (s : Sources) (last : ℕ) → last + 1 ≡ 2 ^ width_of s.version → IsRangeOf s 0 last 0 (number_at s 0 0)
 whole-range s last is =
-    let W = width_of s.map.now.version in
+    let W = width_of s.version in
     let none : W - 0 ≡ W = omega arith in
     let number : number_at s 0 0 ≡ 0 = zero-div (2 ^ (W - 0)) in
     rw number (record { short = omega arith; first_is = omega arith; last_is = rw none (omega (arith, is)); some = omega arith; fits = omega (arith, is) })
@@ -184,9 +184,9 @@ pub record HaveRanges (s : Sources) (first middle last n q : ℕ) : Type 0 where
   pub low_is : number_at s n first ≡ 2 * q
   pub high_is : number_at s n (middle + 1) ≡ 2 * q + 1
 
-pub half-ranges : (s : Sources) (first last n q : ℕ) → n < width_of s.map.now.version → IsRangeOf s first last n q → HaveRanges s first (first + (last - first) / 2) last (n + 1) q
+pub half-ranges : (s : Sources) (first last n q : ℕ) → n < width_of s.version → IsRangeOf s first last n q → HaveRanges s first (first + (last - first) / 2) last (n + 1) q
 half-ranges s first last n q room range =
-    let W = width_of s.map.now.version in
+    let W = width_of s.version in
     let middle = first + (last - first) / 2 in
     let ends = halves_ends W n q first last room range.first_is range.last_is in
     let one : suc n ≡ n + 1 = omega arith in
@@ -203,49 +203,55 @@ half-ranges s first last n q room range =
     }
 
 -- the numbers of a source's labels
-pub known-numbers : (from to : List Label) (s : Source) → IsSource from to s → AreLabelsBelow (length s.numbers.items) s.stretches
-known-numbers from to s is =
-    let count : length from ≡ length s.numbers.items =
-    sym (length-map from (number_of to)) ∙ ap (λ (ns : List (Option ℕ)). length ns) (sym is.numbers.each) ∙ length-map s.numbers.items (option_map (λ (id : LabelId). id.0)) in
-    subst (λ (n : ℕ). AreLabelsBelow n s.stretches) count is.known
+pub known-numbers : (from to : List Label) (numbers : List (Option LabelId)) (s : StretchesModel) → AreNumbers numbers from to → AreLabelsBelow (length from) s → AreLabelsBelow (length numbers) s
+known-numbers from to numbers s are known =
+    let count : length from ≡ length numbers =
+    sym (length-map from (number_of to)) ∙ ap (λ (ns : List (Option ℕ)). length ns) (sym are.each) ∙ length-map numbers (option_map (λ (id : LabelId). id.0)) in
+    subst (λ (n : ℕ). AreLabelsBelow n s) count known
 
 -- The fault of a leaf, by the stretches of the map and of the list.
-module _ (s : Sources) (are : AreSources s) (x : Label) where
+module _ (s : Sources) (are : AreSources s) (o : Origin) (of : AreOf o s) (x : Label) where
   abbrev W : ℕ
-  W = width_of s.map.now.version
+  W = width_of s.version
 
   abbrev of_map : ℕ → ℕ → Bool
-  of_map first last = has_one_label s.map.now.labels s.of_map.stretches first last x
+  of_map first last = has_one_label o.map.labels s.of_map.stretches.now first last x
 
   abbrev of_list : ℕ → ℕ → Bool
-  of_list first last = has_one_label s.list.now.labels s.of_list.stretches first last x
+  of_list first last = has_one_label o.list.labels s.of_list.stretches.now first last x
 
   abbrev pub fault_by : Bool → Bool → Option CheckFaultKind
   fault_by settled decided = cond settled (cond decided None (Some ListDiffers)) (Some LeafNotUniform)
 
-  pub leaf-is : (n q : ℕ) → n ≤ W → last_of W n q < 2 ^ W
-      → leaf_fault (map_of s.map.now) (list_of s.list.now).prefixes n q x
-      ≡ fault_by (of_map (first_of W n q) (last_of W n q)) (of_list (first_of W n q) (last_of W n q))
-  leaf-is n q short fits = λ i.
-      fault_by (map-settles s.map.now s.of_map.stretches are.map_width are.map_stretches n q x fits i)
-      (list-decides s.list.now s.of_list.stretches are.list_width are.list_stretches.0 are.list_stretches.1 are.list_stretches.2 n q x
-      s.map.now.version (are.list_width ∙ are.list_version) short fits i)
+  abbrev IsLeafIn : ℕ → ℕ → Version → Type 0
+  IsLeafIn n q v =
+      n ≤ width_of v → last_of (width_of v) n q < 2 ^ width_of v
+      → leaf_fault (map_of o.map) (list_of o.list).prefixes n q x
+      ≡ fault_by (of_map (first_of (width_of v) n q) (last_of (width_of v) n q)) (of_list (first_of (width_of v) n q) (last_of (width_of v) n q))
+
+  pub leaf-is : (n q : ℕ) → IsLeafIn n q s.version
+  leaf-is n q =
+      subst (IsLeafIn n q) of.map_version (λ short fits i.
+      fault_by (map-settles o.map s.of_map.stretches.now (are.map_version ∙ sym of.map_version) of.map_stretches n q x fits i)
+      (list-decides o.list s.of_list.stretches.now (are.list_version ∙ sym of.list_version) of.list_stretches.0 of.list_stretches.1 of.list_stretches.2 n q x
+      o.map.version (are.list_version ∙ sym of.map_version) short fits i))
 
   -- by its addresses
-  pub leaf-at : (first last n q : ℕ) → IsRangeOf s first last n q → leaf_fault (map_of s.map.now) (list_of s.list.now).prefixes n q x ≡ fault_by (of_map first last) (of_list first last)
+  pub leaf-at : (first last n q : ℕ) → IsRangeOf s first last n q → leaf_fault (map_of o.map) (list_of o.list).prefixes n q x ≡ fault_by (of_map first last) (of_list first last)
   leaf-at first last n q range =
       leaf-is n q range.short (omega (arith, range.last_is, range.fits))
       ∙ (λ i. fault_by (of_map (sym range.first_is i) (sym range.last_is i)) (of_list (sym range.first_is i) (sym range.last_is i)))
 
   -- no block in a range that has the label in both has a fault
-  pub range-clear : (first last : ℕ) → first < 2 ^ W → of_map first last ≡ true → of_list first last ≡ true → IsClear s first (last + 1) x
+  pub range-clear : (first last : ℕ) → first < 2 ^ W → of_map first last ≡ true → of_list first last ≡ true → (n q : ℕ) → n ≤ W → first ≤ first_of W n q → last_of W n q < last + 1
+      → leaf_fault (map_of o.map) (list_of o.list).prefixes n q x ≡ None
   range-clear first last fits in_map in_list n q short from to =
       let some = block_some W n q in
-      let every = are.list_stretches.2.every in
-      let fits_map = subst (λ (v : Version). first < 2 ^ width_of v) (sym are.map_width) fits in
-      let fits_list = subst (λ (v : Version). first < 2 ^ width_of v) (sym (are.list_width ∙ are.list_version)) fits in
-      let ends = subst (λ (v : Version). last < 2 ^ width_of v) are.map_width
-      (label-fits s.map.now.labels s.of_map.stretches are.map_stretches.every first last x fits_map in_map (omega (arith, some, from, to))) in
+      let every = of.list_stretches.2.every in
+      let fits_map = subst (λ (v : Version). first < 2 ^ width_of v) (sym are.map_version) fits in
+      let fits_list = subst (λ (v : Version). first < 2 ^ width_of v) (sym are.list_version) fits in
+      let ends = subst (λ (v : Version). last < 2 ^ width_of v) are.map_version
+      (label-fits o.map.labels s.of_map.stretches.now of.map_stretches.every first last x fits_map in_map (omega (arith, some, from, to))) in
       leaf-is n q short (omega (arith, ends, to))
-      ∙ (λ i. fault_by (narrower-label s.map.now.labels s.of_map.stretches are.map_stretches.every first last x fits_map in_map (first_of W n q) (last_of W n q) from some (omega (arith, to)) i)
-      (narrower-label s.list.now.labels s.of_list.stretches every first last x fits_list in_list (first_of W n q) (last_of W n q) from some (omega (arith, to)) i))
+      ∙ (λ i. fault_by (narrower-label o.map.labels s.of_map.stretches.now of.map_stretches.every first last x fits_map in_map (first_of W n q) (last_of W n q) from some (omega (arith, to)) i)
+      (narrower-label o.list.labels s.of_list.stretches.now every first last x fits_list in_list (first_of W n q) (last_of W n q) from some (omega (arith, to)) i))

@@ -4,8 +4,6 @@ use Rattle.std.proofs.lemmas.List.{append-nil, append_assoc, length-append, leng
 use Rattle.std.proofs.Common.{◌≡◌, ◌∙◌, ℕ, drop, take, suc, ◌+◌, ◌-◌, ◌*◌, ◌≤◌, Bool, List, [], ◌++◌, length, Option, Ok, option_map, refl, sym, ap, arith}
 use Rattle.std.specs.Option.{option_or}
 use Rattle.prefix_keys.specs.declared.block.Block.{Block}
-use Rattle.pmap_text.specs.MapModel.{MapModel}
-use Rattle.pmap_text.specs.ListModel.{Prefix}
 use Rattle.pmap_text.specs.MapText.{map_of, text_at}
 use Rattle.pmap_text.specs.PrefixList.{list_of, number_of_block}
 use Rattle.pmap_text.specs.Reading.{◌>>=◌}
@@ -17,7 +15,7 @@ use Rattle.pmap_cert.specs.FormatReading.{Place}
 use Rattle.pmap_cert.specs.Paths.{LeadsTo}
 use Rattle.pmap_cert.specs.declared.fault.CertFault.{CertFault}
 use Rattle.cert_check.specs.Checking.{bits_fault, claim_fault, fault_of_number, node_fault, BoundNotMet, CheckFault, CheckFaultKind}
-use Rattle.cert_check.specs.Inner.{IsAfter, IsPassed, IsUnread, Read, Sources, Walk, chain_reading, claim_with, fault_of_node, fault_with, halves_reading, reading_at, sides_fault}
+use Rattle.cert_check.specs.Inner.{AreOf, IsAfter, IsPassed, IsUnread, Origin, Read, Sources, Walk, chain_reading, claim_with, fault_of_node, fault_with, halves_reading, reading_at, sides_fault}
 use Rattle.cert_check.proofs.Nodes.{bits-sides, or-or}
 use Rattle.cert_check.proofs.Sets.{numbers}
 
@@ -44,16 +42,16 @@ module _ (s : Sources) (n q low high cost : ℕ) (low_is : low ≡ 2 * q) (high_
   lower-unread f unread = (λ some. ap lower_then (unread.0 some), unread.1)
 
   module _ (sets : List LabelId) (before : Option CheckFault) (middle : Walk) (low_cost : ℕ)
-      (lower : IsPassed s (reading_at s (n + 1) place) (fault_of_node s (n + 1) low) next sets before middle low_cost) where
+      (lower : IsPassed s (reading_at s (n + 1) place) (fault_of_node (n + 1) low) next sets before middle low_cost) where
     pub upper-unread : (f : CertFault) → IsUnread (reading_at s (n + 1) middle.nodes) f → IsUnread (halves_reading s n claim place) f
     upper-unread f unread = (λ some. ap lower_then lower.read ∙ ap (upper_then lower.tree) (unread.0 some), unread.1)
 
     pub halves-passed : (old : List LabelId) (last new : Walk) (high_cost : ℕ) (o : Option CheckFaultKind)
-        (upper : IsPassed s (reading_at s (n + 1) middle.nodes) (fault_of_node s (n + 1) high) middle.number middle.sets.items middle.fault last high_cost)
+        (upper : IsPassed s (reading_at s (n + 1) middle.nodes) (fault_of_node (n + 1) high) middle.number middle.sets.items middle.fault last high_cost)
         → IsAscending (length s.limits.labels.now) 0 (numbers own)
         → o ≡ claim_fault claim (exact_claim (claim_with s.limits.labels.now low_cost (numbers lower.set)) (claim_with s.limits.labels.now high_cost (numbers upper.set)))
         → new.nodes ≡ last.nodes → new.number ≡ last.number → new.sets.items ≡ old ++ own → new.fault ≡ option_or last.fault (fault_with number o)
-        → IsPassed s (halves_reading s n claim place) (fault_of_node s n q) number old before new cost
+        → IsPassed s (halves_reading s n claim place) (fault_of_node n q) number old before new cost
     halves-passed old last new high_cost o upper ascending fault nodes numbered sets noted = record {
       tree = InnerNode claim lower.tree upper.tree;
       set = own;
@@ -69,14 +67,14 @@ module _ (s : Sources) (n q low high cost : ℕ) (low_is : low ≡ 2 * q) (high_
           let exact = exact_claim (claim_of lower.tree) (claim_of upper.tree) in
           let is : o ≡ claim_fault claim exact = fault ∙ sym (λ i. claim_fault claim (exact_claim (lower.claim i) (upper.claim i))) in
           let own_fault = option_map (fault_of_number k) (claim_fault claim exact) in
-          let low_fault = fault_of_node s (n + 1) low lower.tree (k + 1) in
-          let high_fault = fault_of_node s (n + 1) high upper.tree j in
+          let low_fault = λ (o : Origin). fault_of_node (n + 1) low o lower.tree (k + 1) in
+          let high_fault = λ (o : Origin). fault_of_node (n + 1) high o upper.tree j in
           let one : n + 1 ≡ suc n = omega arith in (
-            noted ∙ (λ i. option_or (second.0 i) (fault_with (sym told_is i) (is i)))
-                ∙ (λ i. option_or (option_or (first.0 i) high_fault) own_fault)
-                ∙ or-or (option_or before low_fault) high_fault own_fault
-                ∙ or-or before low_fault (option_or high_fault own_fault)
-                ∙ (λ i. option_or before (option_or (fault_of_node s (one i) (low_is i) lower.tree (k + 1)) (option_or (fault_of_node s (one i) (high_is i) upper.tree j) own_fault))),
+            λ o' of. noted ∙ (λ i. option_or (second.0 o' of i) (fault_with (sym told_is i) (is i)))
+                ∙ (λ i. option_or (option_or (first.0 o' of i) (high_fault o')) own_fault)
+                ∙ or-or (option_or before (low_fault o')) (high_fault o') own_fault
+                ∙ or-or before (low_fault o') (option_or (high_fault o') own_fault)
+                ∙ (λ i. option_or before (option_or (fault_of_node (one i) (low_is i) o' lower.tree (k + 1)) (option_or (fault_of_node (one i) (high_is i) o' upper.tree j) own_fault))),
             numbered ∙ second.1 ∙ ap (λ (j : ℕ). (fault_of_number j BoundNotMet).node) count,
           );
     }
@@ -91,11 +89,8 @@ module _ (s : Sources) (b end : Block) (cost : ℕ) (own : List LabelId) (bits :
   abbrev text : List ℕ
   text = text_at s.limits.labels.now side
 
-  abbrev m : MapModel
-  m = map_of s.map.now
-
-  abbrev ps : List Prefix
-  ps = (list_of s.list.now).prefixes
+  abbrev sides_of : Origin → Option CheckFaultKind
+  sides_of o = sides_fault (map_of o.map) (list_of o.list).prefixes text bits b.len (number_of_block b)
 
   abbrev then_chain : Read → Read
   then_chain r = r >>= (λ below. Ok (ChainNode claim' bits text below.0, below.1))
@@ -107,21 +102,23 @@ module _ (s : Sources) (b end : Block) (cost : ℕ) (own : List LabelId) (bits :
   end-unread f unread = (λ some. ap then_chain (end-at ∙ unread.0 some), unread.1)
 
   -- the faults along the bits of the chain, with those of its end
-  along : (tree : Tree) (k : ℕ)
-      → bits_fault m ps text k (node_fault m ps tree (k + 1)) bits b.len (number_of_block b)
-      ≡ option_or (fault_of_node s end.len (number_of_block end) tree (k + 1)) (option_map (fault_of_number k) (sides_fault m ps text bits b.len (number_of_block b)))
-  along tree k =
+  along : (o : Origin) (tree : Tree) (k : ℕ)
+      → bits_fault (map_of o.map) (list_of o.list).prefixes text k (node_fault (map_of o.map) (list_of o.list).prefixes tree (k + 1)) bits b.len (number_of_block b)
+      ≡ option_or (fault_of_node end.len (number_of_block end) o tree (k + 1)) (option_map (fault_of_number k) (sides_of o))
+  along o tree k =
+      let m = map_of o.map in
+      let ps = (list_of o.list).prefixes in
       bits-sides m ps text k (node_fault m ps tree (k + 1)) bits b.len (number_of_block b)
-      ∙ (λ i. option_or (node_fault m ps tree (k + 1) (sym path.len i) (sym path.number i)) (option_map (fault_of_number k) (sides_fault m ps text bits b.len (number_of_block b))))
+      ∙ (λ i. option_or (node_fault m ps tree (k + 1) (sym path.len i) (sym path.number i)) (option_map (fault_of_number k) (sides_of o)))
 
   pub chain-passed : (sets old : List LabelId) (before : Option CheckFault) (last new : Walk) (end_cost : ℕ) (beside o : Option CheckFaultKind)
-      (below : IsPassed s (reading_at s end.len place) (fault_of_node s end.len (number_of_block end)) next sets before last end_cost)
+      (below : IsPassed s (reading_at s end.len place) (fault_of_node end.len (number_of_block end)) next sets before last end_cost)
       → IsAscending (length s.limits.labels.now) 0 (numbers own)
-      → beside ≡ sides_fault m ps text bits b.len (number_of_block b)
+      → ((o' : Origin) → AreOf o' s → beside ≡ sides_of o')
       → o ≡ claim_fault claim' (chain_claim (length bits) text (claim_with s.limits.labels.now end_cost (numbers below.set)))
       → new.nodes ≡ last.nodes → new.number ≡ last.number → new.sets.items ≡ old ++ own
       → new.fault ≡ option_or (option_or last.fault (fault_with number beside)) (fault_with number o)
-      → IsPassed s (chain_reading s b.len claim' bits side place) (fault_of_node s b.len (number_of_block b)) number old before new cost
+      → IsPassed s (chain_reading s b.len claim' bits side place) (fault_of_node b.len (number_of_block b)) number old before new cost
   chain-passed sets old before last new end_cost beside o below ascending sides fault nodes numbered items noted = record {
     tree = ChainNode claim' bits text below.tree;
     set = own;
@@ -133,13 +130,13 @@ module _ (s : Sources) (b end : Block) (cost : ℕ) (own : List LabelId) (bits :
         let there = below.fault (k + 1) (after k told_is) in
         let count : (k + 1) + line_count below.tree ≡ k + (1 + line_count below.tree) = omega arith in
         let is : o ≡ claim_fault claim' (chain_claim (length bits) text (claim_of below.tree)) = fault ∙ sym (λ i. claim_fault claim' (chain_claim (length bits) text (below.claim i))) in
-        let at_end = fault_of_node s end.len (number_of_block end) below.tree (k + 1) in
-        let at_sides = option_map (fault_of_number k) (sides_fault m ps text bits b.len (number_of_block b)) in
+        let at_end = λ (o' : Origin). fault_of_node end.len (number_of_block end) o' below.tree (k + 1) in
+        let at_sides = λ (o' : Origin). option_map (fault_of_number k) (sides_of o') in
         let at_claim = option_map (fault_of_number k) (claim_fault claim' (chain_claim (length bits) text (claim_of below.tree))) in (
-          noted ∙ (λ i. option_or (option_or (there.0 i) (fault_with (sym told_is i) (sides i))) (fault_with (sym told_is i) (is i)))
-              ∙ ap (λ (f : Option CheckFault). option_or f at_claim) (or-or before at_end at_sides)
-              ∙ or-or before (option_or at_end at_sides) at_claim
-              ∙ ap (λ (f : Option CheckFault). option_or before (option_or f at_claim)) (sym (along below.tree k)),
+          λ o' of. noted ∙ (λ i. option_or (option_or (there.0 o' of i) (fault_with (sym told_is i) (sides o' of i))) (fault_with (sym told_is i) (is i)))
+              ∙ ap (λ (f : Option CheckFault). option_or f at_claim) (or-or before (at_end o') (at_sides o'))
+              ∙ or-or before (option_or (at_end o') (at_sides o')) at_claim
+              ∙ ap (λ (f : Option CheckFault). option_or before (option_or f at_claim)) (sym (along o' below.tree k)),
           numbered ∙ there.1 ∙ ap (λ (j : ℕ). (fault_of_number j BoundNotMet).node) count,
         );
   }

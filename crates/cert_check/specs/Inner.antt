@@ -5,11 +5,13 @@ use Rattle.prefix_keys.specs.Block.{block_number, width_of, first_of, last_of}
 use Rattle.prefix_keys.specs.declared.block.Block.{Block}
 use Rattle.prefix_keys.specs.declared.version.Version.{Version}
 use Rattle.pmap_text.specs.Label.{IsLabelTable, number_of as number_of_label}
-use Rattle.pmap_text.specs.ListModel.{Prefix}
+use Rattle.pmap_text.specs.ListModel.{ListModel, Prefix}
 use Rattle.pmap_text.specs.MapModel.{Label, MapModel}
 use Rattle.pmap_text.specs.PrefixList.{AreShortestFirst, list_of, number_of_block}
 use Rattle.pmap_text.specs.declared.label.LabelId.{LabelId}
 use Rattle.pmap_text.specs.Stretches.{AreLabelsBelow, AreStretches, StretchesModel, count_begun, label_held, last_at}
+use Rattle.pmap_text.specs.declared.map_text.MapText.{MapText}
+use Rattle.pmap_text.specs.declared.prefix_list.PrefixList.{PrefixList}
 use Rattle.pmap_text.specs.declared.statement.Statement.{Statement}
 use Rattle.pmap_text.specs.MapText.{text_at, map_of, text_if_some}
 use Rattle.pmap_cert.specs.Compacting.{line_count}
@@ -26,6 +28,7 @@ use Rattle.pmap_text.specs.Reading.{◌>>=◌}
 use Rattle.cert_check.specs.Checking.{is_label_of, fault_of_number, first_fault, leaf_fault, node_fault, BoundNotMet, CheckFault, CheckFaultKind}
 pub use Rattle.cert_check.specs.declared.source.Source.{Source}
 pub use Rattle.cert_check.specs.declared.sources.Sources.{Sources}
+pub use Rattle.cert_check.specs.declared.swept.Swept.{Swept}
 pub use Rattle.cert_check.specs.declared.walk.StoredClaim.{StoredClaim}
 pub use Rattle.cert_check.specs.declared.walk.Walk.{Walk}
 
@@ -37,35 +40,61 @@ pub record AreNumbers (numbers : List (Option LabelId)) (from to : List Label) :
 abbrev pub has_number : List ℕ → ℕ → Bool
 has_number ns n = list_any (λ i. i == n) ns
 
--- the labels of the source's stretches are in a table, and it has the numbers of that table's labels in another one
-pub record IsSource (from to : List Label) (s : Source) : Type 0 where
-  pub numbers : AreNumbers s.numbers.items from to
-  pub known : AreLabelsBelow (length from) s.stretches
+abbrev pub HasKnownLabels : Swept → Type 0
+HasKnownLabels s = AreLabelsBelow (length s.labels) s.stretches
+
+-- a check needs this of the map
+pub record IsOfMap (m : MapText) (s : Swept) : Type 0 where
+  pub labels : s.labels ≡ m.labels
+  pub version : s.stretches.version ≡ m.version
+  pub stretches : AreStretches m.statements (Some m.default) s.stretches
+
+-- a check needs this of the list
+pub record IsOfList (l : PrefixList) (s : Swept) : Type 0 where
+  pub labels : s.labels ≡ l.labels
+  pub version : s.stretches.version ≡ l.version
+  pub stretches : (ss : List Statement) × AreShortestFirst l.entries ss × AreStretches ss None s.stretches
+  pub count : s.count ≡ length l.entries
+
+-- each map and list of which a check needs these meet the claim
+abbrev pub ForInputs : Swept → Swept → (MapModel → ListModel → Type 0) → Type 0
+ForInputs map list IsMet =
+    (m : MapText) (l : PrefixList) → IsOfMap m map → IsOfList l list → IsMet (map_of m) (list_of l)
 
 -- whether one stretch has all addresses from the first to the last, and has the label x
 abbrev pub has_one_label : List Label → StretchesModel → ℕ → ℕ → Label → Bool
 has_one_label from s first last x =
     nat_le last (last_at s (count_begun s.firsts first - 1)) && is_label_of (text_if_some from (label_held s first)) x
 
--- the inputs have one version, by its number of bits for the certificate, and the sources are those of the map and of
--- the list
+-- the inputs have one version, by its number of bits for the certificate, and the labels of the stretches have numbers
 pub record AreSources (s : Sources) : Type 0 where
-  pub list_version : s.list.now.version ≡ s.map.now.version
-  pub width : s.limits.width ≡ width_of s.map.now.version
-  pub of_map : IsSource s.map.now.labels s.limits.labels.now s.of_map
-  pub of_list : IsSource s.list.now.labels s.limits.labels.now s.of_list
-  pub map_width : s.of_map.stretches.version ≡ s.map.now.version
-  pub list_width : s.of_list.stretches.version ≡ s.list.now.version
-  pub map_stretches : AreStretches s.map.now.statements (Some s.map.now.default) s.of_map.stretches
-  pub list_stretches : (ss : List Statement) × AreShortestFirst s.list.now.entries ss
-      × AreStretches ss None s.of_list.stretches
+  pub width : s.limits.width ≡ width_of s.version
+  pub map_version : s.of_map.stretches.now.version ≡ s.version
+  pub list_version : s.of_list.stretches.now.version ≡ s.version
+  pub map_known : AreLabelsBelow (length s.of_map.numbers.items) s.of_map.stretches.now
+  pub list_known : AreLabelsBelow (length s.of_list.numbers.items) s.of_list.stretches.now
+
+-- a map and a list that a certificate is checked against
+pub record Origin : Type 0 where
+  pub map : MapText
+  pub list : PrefixList
+
+-- the sources are those of this map and this list
+pub record AreOf (o : Origin) (s : Sources) : Type 0 where
+  pub map_version : o.map.version ≡ s.version
+  pub list_version : o.list.version ≡ s.version
+  pub of_map : AreNumbers s.of_map.numbers.items o.map.labels s.limits.labels.now
+  pub of_list : AreNumbers s.of_list.numbers.items o.list.labels s.limits.labels.now
+  pub map_stretches : AreStretches o.map.statements (Some o.map.default) s.of_map.stretches.now
+  pub list_stretches : (ss : List Statement) × AreShortestFirst o.list.entries ss
+      × AreStretches ss None s.of_list.stretches.now
+  pub count : s.count ≡ length o.list.entries
 
 -- no block whose addresses are all at least `first` and below `stop` has a fault as a leaf with the label x
 abbrev pub IsClear : Sources → ℕ → ℕ → Label → Type 0
 IsClear s first stop x =
-    (n q : ℕ) → n ≤ width_of s.map.now.version → first ≤ first_of (width_of s.map.now.version) n q →
-    last_of (width_of s.map.now.version) n q < stop
-    → leaf_fault (map_of s.map.now) (list_of s.list.now).prefixes n q x ≡ None
+    (o : Origin) → AreOf o s → (n q : ℕ) → n ≤ width_of s.version → first ≤ first_of (width_of s.version) n q →
+    last_of (width_of s.version) n q < stop → leaf_fault (map_of o.map) (list_of o.list).prefixes n q x ≡ None
 
 -- the fault of the blocks beside the path with these bits, from the deepest up, as leaves with the label x
 abbrev pub sides_fault : MapModel → List Prefix → Label → List Bool → ℕ → ℕ → Option CheckFaultKind
@@ -110,19 +139,19 @@ chain_reading s n claim bits side place =
 
 -- the number of the block of n bits that the address is in
 abbrev pub number_at : Sources → ℕ → ℕ → ℕ
-number_at s n a = block_number (width_of s.map.now.version) n a
+number_at s n a = block_number (width_of s.version) n a
 
 -- these are the first and the last address of the block of n bits with the number q
 pub record IsRangeOf (s : Sources) (first last n q : ℕ) : Type 0 where
-  pub short : n ≤ width_of s.map.now.version
-  pub first_is : first ≡ first_of (width_of s.map.now.version) n q
-  pub last_is : last ≡ last_of (width_of s.map.now.version) n q
+  pub short : n ≤ width_of s.version
+  pub first_is : first ≡ first_of (width_of s.version) n q
+  pub last_is : last ≡ last_of (width_of s.version) n q
   pub some : first ≤ last
-  pub fits : last < 2 ^ width_of s.map.now.version
+  pub fits : last < 2 ^ width_of s.version
 
 -- the first fault of a tree whose node has the number k, for the block of n bits with the number q
-abbrev pub fault_of_node : Sources → ℕ → ℕ → Tree → ℕ → Option CheckFault
-fault_of_node s n q tree k = node_fault (map_of s.map.now) (list_of s.list.now).prefixes tree k n q
+abbrev pub fault_of_node : ℕ → ℕ → Origin → Tree → ℕ → Option CheckFault
+fault_of_node n q o tree k = node_fault (map_of o.map) (list_of o.list).prefixes tree k n q
 
 -- the block is the half of another one with this number
 pub record IsHalfNumbered (whole half : Block) (q : ℕ) : Type 0 where
@@ -146,7 +175,7 @@ fault_with number = option_map (λ kind. record { kind = kind; node = number })
 
 -- A tree was read, whose node has this number. The walk has its claimed set after the old ones, and its first fault
 -- unless one came before.
-pub record IsPassed (s : Sources) (reading : Read) (fault_at : Tree → ℕ → Option CheckFault) (number : ℕ)
+pub record IsPassed (s : Sources) (reading : Read) (fault_at : Origin → Tree → ℕ → Option CheckFault) (number : ℕ)
     (old : List LabelId) (before : Option CheckFault) (new : Walk) (cost : ℕ) : Type 0 where
   pub tree : Tree
   pub set : List LabelId
@@ -155,7 +184,7 @@ pub record IsPassed (s : Sources) (reading : Read) (fault_at : Tree → ℕ → 
   pub ascending : IsAscending (length s.limits.labels.now) 0 (map (λ i. i.0) set)
   pub sets : new.sets.items ≡ old ++ set
   pub fault : (k : ℕ) → (fault_of_number k BoundNotMet).node ≡ number
-      → (new.fault ≡ option_or before (fault_at tree k))
+      → ((o : Origin) → AreOf o s → new.fault ≡ option_or before (fault_at o tree k))
       × (new.number ≡ (fault_of_number (k + line_count tree) BoundNotMet).node)
 
 -- the text has this fault, or an allocation failed
@@ -164,8 +193,8 @@ IsUnread read found = (found.kind ≢ NoMemoryForText → read ≡ Err found)
     × (found.kind ≡ NoMemoryForText → found.line ≡ 0)
 
 -- the result of a walk over a tree: its claimed cost, or `None` if the walk has the first fault of its text
-abbrev pub IsWalkResult : Sources → Read → (Tree → ℕ → Option CheckFault) → ℕ → List LabelId → Option CheckFault → Walk
-    → Option ℕ → Type 0
+abbrev pub IsWalkResult : Sources → Read → (Origin → Tree → ℕ → Option CheckFault) → ℕ → List LabelId
+    → Option CheckFault → Walk → Option ℕ → Type 0
 IsWalkResult s read fault number old before new (Some cost) = IsPassed s read fault number old before new cost
 IsWalkResult s read fault number old before new None = (found : CertFault) × (new.outcome ≡ Err found)
     × IsUnread read found
@@ -183,6 +212,6 @@ certificate_with format version table root = record {
 pub record IsRootChecked (s : Sources) (place : Place) (new : Walk) : Type 0 where
   pub tree : Tree
   pub read : reading_at s 0 place ≡ Ok (tree, new.nodes)
-  pub fault : new.fault
-      ≡ first_fault (map_of s.map.now) (list_of s.list.now)
-      (certificate_with s.limits.format s.map.now.version s.limits.labels.now tree)
+  pub fault : (o : Origin) → AreOf o s → new.fault
+      ≡ first_fault (map_of o.map) (list_of o.list)
+      (certificate_with s.limits.format s.version s.limits.labels.now tree)

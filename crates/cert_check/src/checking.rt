@@ -7,29 +7,30 @@ ghost use Rattle.pmap_cert.specs.Acceptance.{IsAccepted, IsLeast};
 ghost use Rattle.pmap_cert.specs.Certificate.{certificate_of};
 ghost use Rattle.pmap_cert.specs.FormatReading.{format_reading};
 ghost use Rattle.cert_check.specs.Checking.{IsTextOutcome, first_fault, is_same_version, text_fault, NoMemory};
-ghost use Rattle.cert_check.specs.Inner.{AreSources, IsRootChecked, IsUnread, reading_at};
+ghost use Rattle.cert_check.specs.Inner.{AreSources, ForInputs, HasKnownLabels, IsRootChecked, IsUnread, reading_at};
 ghost use Rattle.pmap_cert.specs.CertificateModel.{CertificateModel};
 
 use crate::fault::{CheckFault, CheckFaultKind, TextFault};
 use crate::laws::no_fault_is_acceptance;
 use crate::sources::Sources;
+use crate::swept::Swept;
 use crate::walk::{Walk, check_node};
 use pmap_cert::{
     CertFault, CertFaultKind, Certificate, Head, LineLimits, acceptance_is_enough,
     read_cert_with_hashing, read_head, text_of_format_is_read_or_has_a_fault, write_cert,
 };
-use pmap_text::{KeyHashing, MapText, PrefixList};
+use pmap_text::{KeyHashing, MapText, PrefixList, Stretches};
 use prefix_keys::Version;
 use std::alloc::{AllocError, Global};
 
 // Returns whether the map, the list and a certificate of this version are of one version.
-fn are_one_version(map: &MapText, list: &PrefixList, version: Version) -> bool
+fn are_one_version(map: &Stretches, list: &Stretches, version: Version) -> bool
     ensures value { result ≡ (is_same_version list.now.version map.now.version
         && is_same_version version map.now.version) }
     ensures list { IsTrue result → list.now.version ≡ map.now.version }
     ensures certificate { IsTrue result → version ≡ map.now.version }
 {
-    list.version == map.version && version == map.version
+    list.version() == map.version() && version == map.version()
 }
 
 // Checks the nodes of a certificate, and keeps its first fault.
@@ -40,31 +41,35 @@ fn check_root(sources: &Sources, walk: &mut Walk) -> Result<(), CertFault>
     ensures ok { OnOk result (IsRootChecked sources.now walk.old.nodes walk.new) }
     ensures err { IfErr result (IsUnread (reading_at sources.now 0 walk.old.nodes)) }
 {
-    let Some(cost) = check_node(sources, walk, 0, sources.map.version.last_address(), 0) else {
+    let Some(cost) = check_node(sources, walk, 0, sources.version.last_address(), 0) else {
         return walk.outcome;
     };
-    if sources.list.entries.len() as u64 > u64::from(cost) + 1 {
+    if sources.count as u64 > u64::from(cost) + 1 {
         walk.note(Some(CheckFaultKind::BoundNotMet), 0);
     }
     Ok(())
 }
 
-/// Checks the text of a certificate like [`check`], while it is read, and stores none of its nodes. A fault of the text
-/// comes before any fault of the check. `hashing` is for the labels, and doesn't affect the result.
+/// Checks the text of a certificate like [`check`], while it is read, and stores none of its nodes. `map` and `list`
+/// are what a check needs of the map and of the list. A fault of the text comes before any fault of the check. `hashing`
+/// is for the labels, and doesn't affect the result.
 pub fn check_text(
     alloc: Global,
-    map: &MapText,
-    list: &PrefixList,
+    map: &Swept,
+    list: &Swept,
     text: &[u8],
     hashing: KeyHashing,
 ) -> Result<u64, TextFault>
-    ensures accepted { IfOk result (λ _. (c : CertificateModel) × (format_reading text.now ≡ Ok c)
-        × IsAccepted (map_of map.now) (list_of list.now) c) }
-    ensures count { IfOk result (λ n. n ≡ length (list_of list.now).prefixes) }
+    requires map { HasKnownLabels map.now }
+    requires list { HasKnownLabels list.now }
+    ensures accepted { IfOk result (λ _. ForInputs map.now list.now (λ m l. (c : CertificateModel)
+        × (format_reading text.now ≡ Ok c) × IsAccepted m l c)) }
+    ensures count { IfOk result (λ n. ForInputs map.now list.now (λ m l. n ≡ length l.prefixes)) }
     // The list labels every address as the map does, and no list that does so has fewer entries.
-    ensures equivalent { IfOk result (λ _. IsEquivalent (list_of list.now) (map_of map.now)) }
-    ensures least { IfOk result (λ _. IsLeast (map_of map.now) (list_of list.now)) }
-    ensures fault { IsTextOutcome (text_fault (map_of map.now) (list_of list.now) (format_reading text.now)) result }
+    ensures equivalent { IfOk result (λ _. ForInputs map.now list.now (λ m l. IsEquivalent l m)) }
+    ensures least { IfOk result (λ _. ForInputs map.now list.now IsLeast) }
+    ensures fault { ForInputs map.now list.now (λ m l.
+        IsTextOutcome (text_fault m l (format_reading text.now)) result) }
 {
     let Head {
         format,
@@ -77,7 +82,7 @@ pub fn check_text(
         width: version.width(),
         labels: &labels,
     };
-    if !are_one_version(map, list, version) {
+    if !are_one_version(&map.stretches, &list.stretches, version) {
         // A fault of the text comes first. A certificate that is read has a text.
         let certificate = read_cert_with_hashing(alloc, text, hashing)?;
         let _root = certificate.root();
@@ -101,7 +106,7 @@ pub fn check_text(
     text_of_format_is_read_or_has_a_fault();
     no_fault_is_acceptance();
     acceptance_is_enough();
-    Ok(list.entries.len() as u64)
+    Ok(list.count as u64)
 }
 
 /// Checks that the certificate shows the list to be equivalent to the map and a shortest one, and returns the number of
@@ -143,10 +148,13 @@ pub fn check(
     ensures memory { IfErr result (λ fault. fault.kind ≡ NoMemory → fault.node ≡ 0) }
 {
     let text = write_cert(alloc, certificate)?;
+    let swept_map = Swept::copied_from_map(alloc, map)?;
+    let swept_list = Swept::copied_from_list(alloc, list)?;
     // Provides these laws: a certificate has a text, and a text is read as the certificate that it is the text of.
     let _root = certificate.root();
     text_of_format_is_read_or_has_a_fault();
-    match check_text(alloc, map, list, text.as_slice(), KeyHashing::known()) {
+    let hashing = KeyHashing::known();
+    match check_text(alloc, &swept_map, &swept_list, text.as_slice(), hashing) {
         Ok(count) => Ok(count),
         Err(TextFault::Check(fault)) => Err(fault),
         // The text of a certificate has no fault, so an allocation failed.

@@ -16,7 +16,8 @@
 //! on this: `check` returns the number of entries exactly if the certificate is accepted for the map and the list, and
 //! then the list labels every address as the map does and no list that does so has fewer entries. Otherwise it returns
 //! the first fault with the number of its node. `check_text` does the same for a certificate's text while it reads the
-//! text, and stores no node: a fault of the text comes first. `carried` and `carried_entries` return the statements and
+//! text, and stores no node: a fault of the text comes first. It needs no statement and no entry, only what `Swept`
+//! has of a map and of a list. `carried` and `carried_entries` return the statements and
 //! entries that affect a block.
 #![tactic(auto)]
 
@@ -28,9 +29,11 @@ mod labels;
 mod laws;
 mod source;
 mod sources;
+mod swept;
 mod walk;
 
 pub use carrying::{carried, carried_entries};
 pub use checking::{check, check_text};
 pub use fault::{CheckFault, CheckFaultKind, TextFault};
 pub use laws::no_fault_is_acceptance;
+pub use swept::Swept;

@@ -4,7 +4,7 @@ ghost use Rattle.prefix_keys.specs.Block.{width_of};
 ghost use Rattle.pmap_text.specs.MapModel.{Label};
 ghost use Rattle.pmap_text.specs.MapText.{text_at};
 ghost use Rattle.pmap_text.specs.Stretches.{AreLabelsBelow, HoldsAddress, last_at};
-ghost use Rattle.cert_check.specs.Inner.{IsSource, has_one_label};
+ghost use Rattle.cert_check.specs.Inner.{AreNumbers, has_one_label};
 
 use crate::labels::{is_label, numbers_in};
 use pmap_text::{LabelId, Labels, Stretches};
@@ -13,22 +13,23 @@ use std::alloc::{AllocError, Global};
 /// The stretches of a map or a list, and the number of each of its labels in the certificate's table, so that texts are
 /// compared only once.
 #[derive(Drop)]
-pub struct Source {
-    pub stretches: Stretches,
+pub struct Source<'a> {
+    pub stretches: &'a Stretches,
     pub numbers: Vec<Option<LabelId>>,
 }
 
-impl Source {
+impl<'a> Source<'a> {
     /// Returns the source with these stretches, whose labels are in the table `labels`.
     pub fn new(
         alloc: Global,
-        stretches: Stretches,
+        stretches: &'a Stretches,
         labels: &Labels,
         table: &Labels,
-    ) -> Result<Source, AllocError>
-        requires { AreLabelsBelow (length labels.now) stretches }
-        ensures source { IfOk result (IsSource labels.now table.now) }
-        ensures stretches { IfOk result (λ s. s.stretches ≡ stretches) }
+    ) -> Result<Source<'a>, AllocError>
+        requires { AreLabelsBelow (length labels.now) stretches.now }
+        ensures numbers { IfOk result (λ s. AreNumbers s.numbers.items labels.now table.now) }
+        ensures known { IfOk result (λ s. AreLabelsBelow (length s.numbers.items) s.stretches.now) }
+        ensures stretches { IfOk result (λ s. s.stretches ≡ stretches.entry) }
     {
         Ok(Source {
             stretches,
@@ -40,8 +41,8 @@ impl Source {
     #[inline(always)]
     fn has_range(&self, index: usize, first: u128, last: u128) -> bool
         requires order { first ≤ last }
-        ensures first { IsTrue result → HoldsAddress self.now.stretches first index }
-        ensures last { IsTrue result → last ≤ last_at self.now.stretches index }
+        ensures first { IsTrue result → HoldsAddress self.now.stretches.now first index }
+        ensures last { IsTrue result → last ≤ last_at self.now.stretches.now index }
     {
         index < self.stretches.len()
             && last <= self.stretches.last(index)
@@ -52,10 +53,10 @@ impl Source {
     // exists and has all addresses from `first` to `last`.
     #[inline(always)]
     fn has_label_at(&self, index: usize, first: u128, last: u128, id: LabelId) -> Option<bool>
-        requires known { AreLabelsBelow (length self.now.numbers.items) self.now.stretches }
+        requires known { AreLabelsBelow (length self.now.numbers.items) self.now.stretches.now }
         requires order { first ≤ last }
-        ensures { IfSome result (λ holds. (from to : List Label) → IsSource from to self.now → id.0 < length to →
-            holds ≡ has_one_label from self.now.stretches first last (text_at to id.0)) }
+        ensures { IfSome result (λ holds. (from to : List Label) → AreNumbers self.now.numbers.items from to →
+            id.0 < length to → holds ≡ has_one_label from self.now.stretches.now first last (text_at to id.0)) }
     {
         self.stretches.laws();
         if self.has_range(index, first, last) {
@@ -70,10 +71,10 @@ impl Source {
     #[cold]
     #[inline(never)]
     fn has_label_beyond(&self, near: &mut usize, first: u128, last: u128, id: LabelId) -> bool
-        requires known { AreLabelsBelow (length self.now.numbers.items) self.now.stretches }
-        requires within { first < 2 ^ width_of self.now.stretches.version }
-        ensures { (from to : List Label) → IsSource from to self.now → id.0 < length to →
-            result ≡ has_one_label from self.now.stretches first last (text_at to id.0) }
+        requires known { AreLabelsBelow (length self.now.numbers.items) self.now.stretches.now }
+        requires within { first < 2 ^ width_of self.now.stretches.now.version }
+        ensures { (from to : List Label) → AreNumbers self.now.numbers.items from to → id.0 < length to →
+            result ≡ has_one_label from self.now.stretches.now first last (text_at to id.0) }
     {
         let index = self.stretches.find_near(*near, first);
         let holds = last <= self.stretches.last(index)
@@ -87,11 +88,11 @@ impl Source {
     /// address.
     #[inline(always)]
     pub fn has_label(&self, near: &mut usize, first: u128, last: u128, id: LabelId) -> bool
-        requires known { AreLabelsBelow (length self.now.numbers.items) self.now.stretches }
-        requires within { first < 2 ^ width_of self.now.stretches.version }
+        requires known { AreLabelsBelow (length self.now.numbers.items) self.now.stretches.now }
+        requires within { first < 2 ^ width_of self.now.stretches.now.version }
         requires order { first ≤ last }
-        ensures { (from to : List Label) → IsSource from to self.now → id.0 < length to →
-            result ≡ has_one_label from self.now.stretches first last (text_at to id.0) }
+        ensures { (from to : List Label) → AreNumbers self.now.numbers.items from to → id.0 < length to →
+            result ≡ has_one_label from self.now.stretches.now first last (text_at to id.0) }
     {
         if let Some(holds) = self.has_label_at(*near, first, last, id) {
             return holds;

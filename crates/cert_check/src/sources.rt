@@ -8,24 +8,25 @@ ghost use Rattle.pmap_cert.specs.CertificateModel.{chosen_half, side_half};
 ghost use Rattle.pmap_cert.specs.Packed.{bits_in};
 ghost use Rattle.pmap_cert.specs.Paths.{LeadsTo};
 ghost use Rattle.cert_check.specs.Checking.{leaf_fault as leaf_fault_of};
-ghost use Rattle.cert_check.specs.Inner.{AreSources, IsClear, IsHalfNumbered, IsRangeOf, sides_fault as sides_fault_of};
+ghost use Rattle.cert_check.specs.Inner.{AreOf, AreSources, HasKnownLabels, IsClear, IsHalfNumbered, IsOfList, IsOfMap, IsRangeOf, Origin, sides_fault as sides_fault_of};
 
 use crate::fault::CheckFaultKind;
 use crate::source::Source;
+use crate::swept::Swept;
 use pmap_cert::{LineLimits, Path};
-use pmap_text::{LabelId, MapText, PrefixList, Stretches};
-use prefix_keys::Block;
+use pmap_text::LabelId;
+use prefix_keys::{Block, Version};
 use std::alloc::{AllocError, Global};
 
-/// The input of a check: a map and a list of one version with their stretches, and the limits of the certificate's node
-/// lines.
+/// The input of a check: the stretches of a map and of a list of one version, the number of the list's entries, and the
+/// limits of the certificate's node lines.
 #[derive(Drop)]
 pub struct Sources<'a> {
-    pub map: &'a MapText,
-    pub list: &'a PrefixList,
+    pub version: Version,
+    pub count: usize,
     pub limits: LineLimits<'a>,
-    pub of_map: Source,
-    pub of_list: Source,
+    pub of_map: Source<'a>,
+    pub of_list: Source<'a>,
 }
 
 /// The stretches of the map and of the list that were found last. The next ones are most often these or the ones after
@@ -54,25 +55,28 @@ impl<'a> Sources<'a> {
     /// Returns the sources for a certificate of the version of the map and the list.
     pub fn new(
         alloc: Global,
-        map: &'a MapText,
-        list: &'a PrefixList,
+        map: &'a Swept,
+        list: &'a Swept,
         limits: LineLimits<'a>,
     ) -> Result<Sources<'a>, AllocError>
-        requires version { list.now.version ≡ map.now.version }
-        requires width { limits.width ≡ width_of map.now.version }
+        requires map { HasKnownLabels map.now }
+        requires list { HasKnownLabels list.now }
+        requires version { list.now.stretches.version ≡ map.now.stretches.version }
+        requires width { limits.width ≡ width_of map.now.stretches.version }
         ensures sources { IfOk result AreSources }
-        ensures map { IfOk result (λ s. s.map ≡ map.entry) }
-        ensures list { IfOk result (λ s. s.list ≡ list.entry) }
+        ensures origin { IfOk result (λ s. (o : Origin) → IsOfMap o.map map.now → IsOfList o.list list.now
+            → AreOf o s) }
+        ensures version { IfOk result (λ s. s.version ≡ map.now.stretches.version) }
         ensures limits { IfOk result (λ s. s.limits ≡ limits.entry) }
     {
-        let of_map = Stretches::of_map(alloc, map)?;
-        let of_list = Stretches::of_list(alloc, list)?;
+        let of_map = Source::new(alloc, &map.stretches, &map.labels, limits.labels)?;
+        let of_list = Source::new(alloc, &list.stretches, &list.labels, limits.labels)?;
         Ok(Sources {
-            map,
-            list,
+            version: map.stretches.version(),
+            count: list.count,
             limits,
-            of_map: Source::new(alloc, of_map, &map.labels, limits.labels)?,
-            of_list: Source::new(alloc, of_list, &list.labels, limits.labels)?,
+            of_map,
+            of_list,
         })
     }
 
@@ -86,11 +90,12 @@ impl<'a> Sources<'a> {
         id: LabelId,
     ) -> Option<CheckFaultKind>
         requires sources { AreSources self.now }
-        requires within { first < 2 ^ width_of self.now.map.now.version }
+        requires within { first < 2 ^ width_of self.now.version }
         requires order { first ≤ last }
         requires known { id.0 < length self.now.limits.labels.now }
-        ensures { (n q : ℕ) → IsRangeOf self.now first last n q → result ≡ leaf_fault_of (map_of self.now.map.now)
-            (list_of self.now.list.now).prefixes n q (text_at self.now.limits.labels.now id.0) }
+        ensures { (o : Origin) → AreOf o self.now → (n q : ℕ) → IsRangeOf self.now first last n q →
+            result ≡ leaf_fault_of (map_of o.map) (list_of o.list).prefixes n q
+            (text_at self.now.limits.labels.now id.0) }
     {
         if !self.of_map.has_label(&mut near.map, first, last, id) {
             return Some(CheckFaultKind::LeafNotUniform);
@@ -104,7 +109,7 @@ impl<'a> Sources<'a> {
     // Returns `true` only if no block between the addresses has a fault as a leaf with the certificate's label `id`.
     fn is_clear(&self, near: &mut LastFound, first: u128, last: u128, id: LabelId) -> bool
         requires sources { AreSources self.now }
-        requires within { first < 2 ^ width_of self.now.map.now.version }
+        requires within { first < 2 ^ width_of self.now.version }
         requires order { first ≤ last }
         requires known { id.0 < length self.now.limits.labels.now }
         ensures { IsTrue result → IsClear self.now first (last + 1) (text_at self.now.limits.labels.now id.0) }
@@ -122,7 +127,7 @@ impl<'a> Sources<'a> {
         side: LabelId,
     ) -> bool
         requires sources { AreSources self.now }
-        requires version { block.now.version ≡ self.now.map.now.version }
+        requires version { block.now.version ≡ self.now.version }
         requires known { side.0 < length self.now.limits.labels.now }
         ensures { IsTrue result → IsClear self.now block.now.value end.now.value
             (text_at self.now.limits.labels.now side.0) }
@@ -139,7 +144,7 @@ impl<'a> Sources<'a> {
         side: LabelId,
     ) -> bool
         requires sources { AreSources self.now }
-        requires version { block.now.version ≡ self.now.map.now.version }
+        requires version { block.now.version ≡ self.now.version }
         requires known { side.0 < length self.now.limits.labels.now }
         ensures { let W = width_of block.now.version in IsTrue result →
             IsClear self.now (last_of (width_of end.now.version) end.now.len (number_of end.now) + 1)
@@ -160,12 +165,12 @@ impl<'a> Sources<'a> {
         is_clear_before: bool,
     ) -> Option<CheckFaultKind>
         requires sources { AreSources self.now }
-        requires version { block.now.version ≡ self.now.map.now.version }
+        requires version { block.now.version ≡ self.now.version }
         requires known { side.0 < length self.now.limits.labels.now }
         requires room { block.now.len + path.now.count ≤ width_of block.now.version }
         requires before { (end : Block) → LeadsTo block.now end (bits_in path.now) → IsTrue is_clear_before →
             IsClear self.now block.now.value end.value (text_at self.now.limits.labels.now side.0) }
-        ensures { result ≡ sides_fault_of (map_of self.now.map.now) (list_of self.now.list.now).prefixes
+        ensures { (o : Origin) → AreOf o self.now → result ≡ sides_fault_of (map_of o.map) (list_of o.list).prefixes
             (text_at self.now.limits.labels.now side.0) (bits_in path.now) block.now.len (number_of block.now) }
     {
         if is_clear_before && self.is_clear_after(near, block, &path.end(block), side) {

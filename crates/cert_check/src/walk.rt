@@ -120,7 +120,7 @@ pub fn check_node(
     requires sources { AreSources sources.now }
     requires range { IsRangeOf sources.now first last len (number_at sources.now len first) }
     ensures { let q = number_at sources.now len first in
-        IsWalkResult sources.now (reading_at sources.now len walk.old.nodes) (fault_of_node sources.now len q)
+        IsWalkResult sources.now (reading_at sources.now len walk.old.nodes) (fault_of_node len q)
         walk.old.number walk.old.sets.items walk.old.fault walk.new result }
 {
     let deepest = walk.nodes.fault(CertFaultKind::TooDeep);
@@ -156,9 +156,8 @@ pub fn check_node(
             let Ok(held) = hold(&mut walk.sets, claim) else {
                 return walk.stop(CertFault::from(AllocError));
             };
-            let version = sources.map.version;
             let block = Block {
-                version,
+                version: sources.version,
                 value: first,
                 len,
             };
@@ -185,7 +184,7 @@ fn check_inner(
     requires held { IsHeld sources.now held walk.old.sets.items }
     ensures { let q = number_at sources.now len first in IsWalkResult sources.now
         (halves_reading sources.now len (held_claim sources.now held walk.old.sets.items) walk.old.nodes)
-        (fault_of_node sources.now len q) number (take held.from walk.old.sets.items) walk.old.fault walk.new result }
+        (fault_of_node len q) number (take held.from walk.old.sets.items) walk.old.fault walk.new result }
 {
     let middle = first + (last - first) / 2;
     let lower = walk.sets.len();
@@ -226,7 +225,7 @@ fn check_chain(
     side: LabelId,
 ) -> Option<u32>
     requires sources { AreSources sources.now }
-    requires version { block.now.version ≡ sources.now.map.now.version }
+    requires version { block.now.version ≡ sources.now.version }
     requires fits { FitsPath sources.now block.now side.0 (bits_in path.now) }
     requires some { 0 < length (bits_in path.now) }
     requires number { IsAfter number walk.old.number }
@@ -234,7 +233,7 @@ fn check_chain(
     ensures { IsWalkResult sources.now
         (chain_reading sources.now block.now.len (held_claim sources.now held walk.old.sets.items)
         (bits_in path.now) side.0 walk.old.nodes)
-        (fault_of_node sources.now block.now.len (number_of block.now)) number
+        (fault_of_node block.now.len (number_of block.now)) number
         (take held.from walk.old.sets.items) walk.old.fault walk.new result }
 {
     let end = path.end(block);

@@ -1,8 +1,7 @@
 //! The output of `check`.
 ghost use Rattle.std.specs.Prelude.{◌≡◌, ⊤, length};
 ghost use Rattle.std.specs.Borrow.{Bor};
-ghost use Rattle.pmap_text.specs.MapText.{map_of};
-ghost use Rattle.pmap_text.specs.PrefixList.{list_of};
+ghost use Rattle.cert_check.specs.Inner.{ForInputs, HasKnownLabels};
 ghost use Rattle.flowlabel.specs.Output.{IsOutput, check_reading, minimal_text};
 ghost use Rattle.flow_files.specs.Reports.{AreFresh, IsFresh, IsRead};
 ghost use Rattle.flowlabel.specs.Reports.{IsMade};
@@ -10,23 +9,25 @@ ghost use Rattle.flowlabel.specs.Request.{Check};
 ghost use Rattle.flow_files.specs.Sources.{Text};
 
 use crate::run::made::Made;
-use cert_check::{TextFault, check_text};
+use cert_check::{Swept, TextFault, check_text};
 use flow_files::{BytesFault, Files, RunFault, Source, read, read_list, read_map};
 use flow_io::Input;
-use pmap_text::{KeyHashing, MapText, PrefixList};
+use pmap_text::KeyHashing;
 use std::alloc::Global;
 
 // Checks a certificate, whose file is read.
 fn checked<'a, R: Input>(
     alloc: Global,
-    map: &MapText,
-    list: &PrefixList,
+    map: &Swept,
+    list: &Swept,
     file: &mut Option<Source<'a, R>>,
     hashing: KeyHashing,
 ) -> Result<Vec<u8>, RunFault<'a>>
-    requires { IsFresh R.input file.old }
-    ensures { IsRead R.input (check_reading (map_of map.now) (list_of list.now))
-        (λ l out. out.items ≡ minimal_text (length l.prefixes)) (λ _. ⊤) file.old file.new result }
+    requires fresh { IsFresh R.input file.old }
+    requires map { HasKnownLabels map.now }
+    requires list { HasKnownLabels list.now }
+    ensures { ForInputs map.now list.now (λ m l. IsRead R.input (check_reading m l)
+        (λ read out. out.items ≡ minimal_text (length read.prefixes)) (λ _. ⊤) file.old file.new result) }
 {
     let (name, text) = read(alloc, file)?;
     match check_text(alloc, map, list, text.as_slice(), hashing) {
@@ -40,7 +41,7 @@ fn checked<'a, R: Input>(
 }
 
 /// Returns the number of entries of a list, if the certificate shows that the list is a shortest one for the map. A
-/// file is read only after the one before it is decoded.
+/// file is read only after the one before it is decoded and its statements or entries are freed.
 pub fn output<'a, R: Input>(
     alloc: Global,
     files: &mut Files<'a, R>,
@@ -51,6 +52,9 @@ pub fn output<'a, R: Input>(
         IsMade R.input (IsOutput (Check map list certificate)) files.old files.new result }
 {
     let map = read_map(alloc, &mut files.map, hashing)?;
+    let swept_map = Swept::of_map(alloc, map)?;
     let list = read_list(alloc, &mut files.list, hashing)?;
-    Ok(Made::Text(checked(alloc, &map, &list, &mut files.certificate, hashing)?))
+    let swept_list = Swept::of_list(alloc, list)?;
+    let certificate = &mut files.certificate;
+    Ok(Made::Text(checked(alloc, &swept_map, &swept_list, certificate, hashing)?))
 }

@@ -1,4 +1,4 @@
-use Rattle.std.proofs.Common.{◌∙◌, ◌+◌, ap, arith, length, nat_lt, refl, sym}
+use Rattle.std.proofs.Common.{◌∙◌, ◌+◌, ap, arith, nat_lt, refl, sym}
 use Rattle.std.proofs.lemmas.Bool.{false_from_ne_true, lt-ltb, ltb-true}
 use Rattle.cert_check.proofs.Nodes.{or-none}
 use Rattle.cert_check.proofs.OneStretch.{whole-range}
@@ -8,24 +8,24 @@ use Rattle.cert_check.proofs.checking.check_root.Goals as goal
 pub check_node-requires-clause-range : goal.check_node-requires-clause-range
 check_node-requires-clause-range c = whole-range c.args.sources.now c.last_address.result c.last_address.ensures
 
-pub returns-then-len-from-clause-ok : goal.returns-then-len-from-clause-ok
-returns-then-len-from-clause-ok c =
+pub returns-then-sources-from-clause-ok : goal.returns-then-sources-from-clause-ok
+returns-then-sources-from-clause-ok c =
     let s = c.args.sources.now in
     let last = c.check_node.new.walk in
-    let count = length s.list.now.entries in
+    let count = s.count in
     let cost = c.in-Some.cost in
     rw c.note.ensures
-    (root-checked s c.requires.sources c.args.walk.now.nodes c.args.walk.now.number cost c.args.walk.now.sets.items c.args.walk.now.fault last _
+    (root-checked s c.args.walk.now.nodes c.args.walk.now.number cost c.args.walk.now.sets.items c.args.walk.now.fault last _
     c.requires.number c.requires.fault c.in-Some.ensures refl
-    (ap (bound last.fault) (sym (lt-ltb (cost + 1) count (omega (arith, c.if-len-from.true, c.len.ensures, c.from.ensures))))))
+    (ap (bound last.fault) (sym (lt-ltb (cost + 1) count (omega (arith, c.if-sources-from.true, c.from.ensures))))))
 
-pub returns-else-len-from-clause-ok : goal.returns-else-len-from-clause-ok
-returns-else-len-from-clause-ok c =
+pub returns-else-sources-from-clause-ok : goal.returns-else-sources-from-clause-ok
+returns-else-sources-from-clause-ok c =
     let s = c.args.sources.now in
     let last = c.check_node.new.walk in
-    let count = length s.list.now.entries in
+    let count = s.count in
     let cost = c.in-Some.cost in
-    root-checked s c.requires.sources c.args.walk.now.nodes c.args.walk.now.number cost c.args.walk.now.sets.items c.args.walk.now.fault last last
+    root-checked s c.args.walk.now.nodes c.args.walk.now.number cost c.args.walk.now.sets.items c.args.walk.now.fault last last
     c.requires.number c.requires.fault c.in-Some.ensures refl
     (sym (or-none last.fault)
-    ∙ ap (bound last.fault) (sym (false_from_ne_true (nat_lt (cost + 1) count) (λ t. absurd (omega (arith, ltb-true (cost + 1) count t, c.if-len-from.false, c.len.ensures, c.from.ensures))))))
+    ∙ ap (bound last.fault) (sym (false_from_ne_true (nat_lt (cost + 1) count) (λ t. absurd (omega (arith, ltb-true (cost + 1) count t, c.if-sources-from.false, c.from.ensures))))))

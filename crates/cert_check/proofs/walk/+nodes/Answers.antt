@@ -79,8 +79,8 @@ check_node-returns-in-Ok-hold t c =
     ∙ ap (λ (m : ℕ). nodes_at due table m 0 c.next_node.new.self >>= (λ lower. nodes_at due table m 0 lower.1 >>= (λ upper.
     Ok (InnerNode claim lower.0 upper.0, upper.1)))) less in
     let q = number_at s n c.args.first in
-    subst (λ (r : Read). IsWalkResult s r (fault_of_node s n q) walk.number walk.sets.items walk.fault c.check_inner.new.walk c.check_inner.result) (sym is)
-    (subst (λ (x : Claim × List LabelId). IsWalkResult s (halves_reading s n x.0 c.next_node.new.self) (fault_of_node s n q) walk.number x.1 walk.fault c.check_inner.new.walk c.check_inner.result)
+    subst (λ (r : Read). IsWalkResult s r (fault_of_node n q) walk.number walk.sets.items walk.fault c.check_inner.new.walk c.check_inner.result) (sym is)
+    (subst (λ (x : Claim × List LabelId). IsWalkResult s (halves_reading s n x.0 c.next_node.new.self) (fault_of_node n q) walk.number x.1 walk.fault c.check_inner.new.walk c.check_inner.result)
     (λ i. (claim_with table (c.in-Ok-hold.ensures.cost i) (numbers (held.1 i)), held.0 i)) c.check_inner.ensures)
 
 pub check_node-returns-then-len-sources-2 : goal.check_node-returns-then-len-sources-2
@@ -126,8 +126,8 @@ check_node-returns-in-Ok-hold-2 t c =
     (limits.width - n) c.len.result c.len.ensures (omega (arith, c.if-len-sources-2.false)) (reading_at s (n + length bits) c.next_node.new.self)
     (ap (λ (m : ℕ). nodes_at (due_in limits.format limits.width table) table m 0 c.next_node.new.self) less) in
     let q = number_at s n c.args.first in
-    subst (λ (r : Read). IsWalkResult s r (fault_of_node s n q) walk.number walk.sets.items walk.fault c.check_chain.new.walk c.check_chain.result) (sym is)
-    (subst (λ (x : Claim × List LabelId). IsWalkResult s (chain_reading s n x.0 bits side c.next_node.new.self) (fault_of_node s n q) walk.number x.1 walk.fault c.check_chain.new.walk c.check_chain.result)
+    subst (λ (r : Read). IsWalkResult s r (fault_of_node n q) walk.number walk.sets.items walk.fault c.check_chain.new.walk c.check_chain.result) (sym is)
+    (subst (λ (x : Claim × List LabelId). IsWalkResult s (chain_reading s n x.0 bits side c.next_node.new.self) (fault_of_node n q) walk.number x.1 walk.fault c.check_chain.new.walk c.check_chain.result)
     (λ i. (claim_with table (c.in-Ok-hold-2.ensures.cost i) (numbers (held.1 i)), held.0 i)) c.check_chain.ensures)
 
 pub check_node-returns-in-Ok-hold_leaf : goal.check_node-returns-in-Ok-hold_leaf
@@ -146,7 +146,10 @@ check_node-returns-in-Ok-hold_leaf t c =
       claim = refl;
       ascending = (omega arith, said.1, tt);
       sets = c.in-Ok-hold_leaf.ensures;
-      fault = λ k told_is. ((λ i. option_or walk.fault (fault_with (sym told_is i) (c.leaf_fault-fault.ensures c.args.len (number_at s c.args.len c.args.first) c.requires.range i))), sym (c.next_number-walk.ensures k told_is));
+      fault = λ k told_is. (
+        λ o of i. option_or walk.fault (fault_with (sym told_is i) (c.leaf_fault-fault.ensures o of c.args.len (number_at s c.args.len c.args.first) c.requires.range i)),
+        sym (c.next_number-walk.ensures k told_is),
+      );
     })
 
 pub check_node-leaf_fault-fault-requires-clause-known : goal.check_node-leaf_fault-fault-requires-clause-known
@@ -159,7 +162,7 @@ pub check_node-invariant_of-block : goal.check_node-invariant_of-block
 check_node-invariant_of-block t c =
     let s = c.args.sources.now in
     let range = c.requires.range in
-    let size = 2 ^ (width_of s.map.now.version - c.args.len) in
+    let size = 2 ^ (width_of s.version - c.args.len) in
     record {
       len_in_range = range.short;
       in_range = omega (arith, range.some, range.fits);
@@ -266,7 +269,7 @@ check_chain-returns t c =
     let own = drop c.args.held.from walk.sets.items in
     let bits = bits_in c.args.path.now in
     let end = c.end-end.result in
-    let below = subst (λ (v : Version). IsPassed s (reading_at s end.len walk.nodes) (fault_of_node s end.len (block_number (width_of v) end.len end.value)) walk.number walk.sets.items walk.fault
+    let below = subst (λ (v : Version). IsPassed s (reading_at s end.len walk.nodes) (fault_of_node end.len (block_number (width_of v) end.len end.value)) walk.number walk.sets.items walk.fault
     c.check_node.new.walk c.in_ok-end_cost.end_cost) (sym (c.end-end.ensures.version ∙ c.requires.version)) c.in_ok-end_cost.ensures in
     let last = c.check_node.new.walk in
     let at = c.len-start.ensures ∙ walk.sets.ok.0 in

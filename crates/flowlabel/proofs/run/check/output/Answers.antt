@@ -21,7 +21,7 @@ use Rattle.flow_files.specs.declared.bytes_fault.BytesFault.{BytesFault}
 use Rattle.flow_files.specs.Outcomes.{with_bytes_fault}
 use Rattle.flowlabel.specs.Output.{check_reading, minimal_text}
 use Rattle.flow_files.specs.Sources.{Text}
-use Rattle.flow_files.proofs.ReadLemmas.{decoded, list_in, list_read, map_in, map_read, text_read, then_err, then_ok}
+use Rattle.flow_files.proofs.ReadLemmas.{decoded, list_in, list_read, map_in, map_read, no_memory_left, text_read, then_err, then_ok}
 use Rattle.flowlabel.proofs.MadeLemmas.{faulty, makes}
 use Rattle.flowlabel.proofs.run.check.output.Goals as goal
 
@@ -62,6 +62,10 @@ returns-in_err-map g c map list certificate =
     faulty {n = 4} _ (then_err {W = Unit {0}} {is' = λ _ _. ⊤} after_map (map_read c.args.files.now c.requires c.in_err-map.ensures) (omega arith)
     (λ texts given. refl) (λ texts m fault fails. omega arith) refl) (omega arith) (λ l fault is. cc) c.from_residual.ensures.1
 
+pub returns-in_err-swept_map : goal.returns-in_err-swept_map
+returns-in_err-swept_map g c map list certificate =
+    no_memory_left (map_read c.args.files.now c.requires c.in_ok-map.ensures) (omega arith) c.from_residual-in_err-swept_map.ensures.1
+
 pub returns-in_err-list : goal.returns-in_err-list
 returns-in_err-list g c map list certificate =
     let m = map_of c.in_ok-map.map in
@@ -71,13 +75,19 @@ returns-in_err-list g c map list certificate =
     (λ texts l fault fails. omega (arith, ap turn (of_check m l texts.certificate fault fails))) refl) (omega arith)
     (λ l fault is. cc) c.from_residual-in_err-list.ensures.1
 
+pub returns-in_err-swept_list : goal.returns-in_err-swept_list
+returns-in_err-swept_list g c map list certificate =
+    no_memory_left (list_read (map_read c.args.files.now c.requires c.in_ok-map.ensures) (omega arith) c.in_ok-list.ensures) (omega arith)
+    c.from_residual-in_err-swept_list.ensures.1
+
 pub returns-in_err-checked : goal.returns-in_err-checked
 returns-in_err-checked g c map list certificate =
     let m = map_of c.in_ok-map.map in
     let l = list_of c.in_ok-list.list in
     faulty {n = 4} _ (then_err {W = Unit {0}} {is' = λ _ _. ⊤} (λ texts l. Ok l)
     (text_read (list_read (map_read c.args.files.now c.requires c.in_ok-map.ensures) (omega arith) c.in_ok-list.ensures)
-    role.Certificate (omega arith) (omega arith) (of_check m l) c.in_err-checked.ensures) (omega arith)
+    role.Certificate (omega arith) (omega arith) (of_check m l)
+    (c.in_err-checked.ensures c.in_ok-map.map c.in_ok-list.list c.in_ok-swept_map.ensures.map c.in_ok-swept_list.ensures.list)) (omega arith)
     (λ texts given. over_certificate m l texts
     (decoded c.in_ok-map.ensures texts.map (given role.Map)) (decoded c.in_ok-list.ensures texts.list (given role.List)))
     (λ texts l fault is. cc) refl) (omega arith) (λ l fault is. cc) c.from_residual-in_err-checked.ensures.1
@@ -88,7 +98,8 @@ returns g c map list certificate =
     let l = list_of c.in_ok-list.list in
     makes {n = 4} _ {v = c.in_ok-checked.field-0} (then_ok {is' = λ (l : ListModel) (out : Vec ℕ). out.items ≡ minimal_text (length l.prefixes)} (λ texts l. Ok l)
     (text_read (list_read (map_read c.args.files.now c.requires c.in_ok-map.ensures) (omega arith) c.in_ok-list.ensures)
-    role.Certificate (omega arith) (omega arith) (of_check m l) c.in_ok-checked.ensures) (omega arith)
+    role.Certificate (omega arith) (omega arith) (of_check m l)
+    (c.in_ok-checked.ensures c.in_ok-map.map c.in_ok-list.list c.in_ok-swept_map.ensures.map c.in_ok-swept_list.ensures.list)) (omega arith)
     (λ texts given. over_certificate m l texts
     (decoded c.in_ok-map.ensures texts.map (given role.Map (omega arith))) (decoded c.in_ok-list.ensures texts.list (given role.List (omega arith))))
     (λ texts l is. (l, refl, is))) (omega arith)
