@@ -1,5 +1,5 @@
 -- The lines of groups, one by one.
-use Rattle.std.proofs.Common.{ℕ, subst, ◌≡◌, ◌+◌, ◌≤◌, ◌∙◌, List, [], ◌∷◌, ◌++◌, All, None, Some, length, map, take, slice_get, ap, sym, refl, arith, ◌<◌}
+use Rattle.std.proofs.Common.{ℕ, subst, ◌≡◌, ◌+◌, ◌≤◌, ◌∙◌, List, [], ◌∷◌, ◌++◌, All, None, Some, length, map, take, slice_get, ap, sym, arith, ◌<◌}
 use Rattle.std.specs.Prelude.{codes, decimal}
 use Rattle.std.specs.List.Sorted.{IsPermutation}
 use Rattle.std.proofs.lemmas.List.{length-append, length-map, map_push, take_all, take_more}
@@ -17,9 +17,6 @@ length-group_titles fields = omega (arith, length-append (map field_name fields)
 
 pub length-group_fields : (g : GroupModel) (count : ℕ) → length g.key ≡ count → length (group_fields g) ≡ count + 3
 length-group_fields g count h = omega (arith, length-append (map part_text g.key) (decimal g.totals.records ∷ decimal g.totals.packets ∷ decimal g.totals.octets ∷ []), length-map g.key part_text, h)
-
-pub has_totals : (g : GroupModel) → 0 < length (group_fields g)
-has_totals g = omega (arith, length-group_fields g (length g.key) refl)
 
 -- the header and the lines of the first groups
 abbrev pub first_lines : List KeyField → List GroupModel → ℕ → List Line

@@ -3,6 +3,7 @@ pub mod GroupLines
 pub mod Spreading
 pub mod WideLines
 pub mod PaddedLines
+pub mod FilledLines
 pub mod TableLines
 pub mod RowLines
 pub mod MessageLines

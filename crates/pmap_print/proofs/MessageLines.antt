@@ -46,17 +46,3 @@ lines_from-added file (first ∷ files) messages =
     ap (λ (lines : List Line). file_lines file 1 first ++ lines)
     (lines_from-added (file + 1) files messages ∙ ap (λ n. lines_from (file + 1) files ++ file_lines n 1 messages) (omega arith))
     ∙ sym (append_assoc (file_lines file 1 first) (lines_from (file + 1) files) (file_lines (file + length (first ∷ files)) 1 messages))
-
--- one more File without messages yet, and one more message of the last File
-pub lines_from-begun : (file : ℕ) (files : List (List (ℕ × MessageView))) → lines_from file (files ++ [] ∷ []) ≡ lines_from file files
-lines_from-begun file files = lines_from-added file files [] ∙ append-nil (lines_from file files)
-
-pub lines_from-continued : (file : ℕ) (files : List (List (ℕ × MessageView))) (messages : List (ℕ × MessageView)) (message : ℕ × MessageView)
-    → lines_from file (files ++ (messages ++ message ∷ []) ∷ [])
-    ≡ lines_from file (files ++ messages ∷ []) ++ message_line (file + length files) (1 + length messages) message ∷ []
-lines_from-continued file files messages message =
-    let number : ℕ = file + length files in
-    lines_from-added file files (messages ++ message ∷ [])
-    ∙ ap (λ (lines : List Line). lines_from file files ++ lines) (file_lines-added number 1 messages message)
-    ∙ sym (append_assoc (lines_from file files) (file_lines number 1 messages) (message_line number (1 + length messages) message ∷ []))
-    ∙ ap (λ (lines : List Line). lines ++ message_line number (1 + length messages) message ∷ []) (sym (lines_from-added file files messages))

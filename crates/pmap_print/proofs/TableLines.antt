@@ -51,7 +51,7 @@ module _ (count : ℕ) (line : Line) (widths : Option Columns) (text : Text) (co
   pub header_fits : ForSome widths (λ c. (fields : Line) × (text ≡ sized fields) × (length fields ≡ length c.widths.items))
   header_fits = λ c e. (line, sized_header c e, all ∙ sym (wide c e).columns)
 
-  pub header_printed : (new : Table) → new.text ≡ text → has_columns new ≡ is_some widths
+  pub header_printed : (new : Table) → new.text.items ≡ text → has_columns new ≡ is_some widths
       → ((n : ℕ) (ls : List Line) (fields : Line) → ForSome widths (AreWide n ls) → text ≡ sized fields → length fields ≡ n
       → ForSome new.columns (AreWide n (ls ++ fields ∷ []))) → IsTable count (line ∷ []) new
   header_printed new same kept more = by widths refl
@@ -69,45 +69,45 @@ module _ (count : ℕ) (line : Line) (widths : Option Columns) (text : Text) (co
 
 -- a line is printed at the end of a table
 module _ (count : ℕ) (lines : List Line) (line : Line) (old : Table) (text : Text) (begin : ℕ) (is : IsTable count lines old)
-    (all : length line ≡ count) (at : begin ≡ length old.text) (text_is : text ≡ old.text ++ added_line (has_columns old) line) where
-  sized_text : (c : Columns) → old.columns ≡ Some c → text ≡ old.text ++ sized line
+    (all : length line ≡ count) (at : begin ≡ length old.text.items) (text_is : text ≡ old.text.items ++ added_line (has_columns old) line) where
+  sized_text : (c : Columns) → old.columns ≡ Some c → text ≡ old.text.items ++ sized line
   sized_text c e =
-      text_is ∙ ap (λ (o : Option Columns). old.text ++ added_line (is_some o) line) e ∙ ap (λ (l : Text). old.text ++ l) (all_sized line)
+      text_is ∙ ap (λ (o : Option Columns). old.text.items ++ added_line (is_some o) line) e ∙ ap (λ (l : Text). old.text.items ++ l) (all_sized line)
 
   sized_end : (c : Columns) → old.columns ≡ Some c → drop begin text ≡ sized line
-  sized_end c e = ap (drop begin) (sized_text c e) ∙ drop_at old.text (sized line) begin (sym at)
+  sized_end c e = ap (drop begin) (sized_text c e) ∙ drop_at old.text.items (sized line) begin (sym at)
 
   pub fits_columns : ForSome old.columns (λ c. (fields : Line) × (drop begin text ≡ sized fields) × (length fields ≡ length c.widths.items))
   fits_columns = λ c e. (line, sized_end c e, all ∙ sym (is.padded c e).1.columns)
 
   -- the columns, if there are any, are widened for it
-  pub line_printed : (new : Table) → 0 < length line → new.text ≡ text → has_columns new ≡ has_columns old
+  pub line_printed : (new : Table) → 0 < length line → new.text.items ≡ text → has_columns new ≡ has_columns old
       → ((n : ℕ) (ls : List Line) (fields : Line) → ForSome old.columns (AreWide n ls) → drop begin text ≡ sized fields → length fields ≡ n
       → ForSome new.columns (AreWide n (ls ++ fields ∷ []))) → IsTable count (lines ++ line ∷ []) new
   line_printed new some same kept wide = by old.columns refl
     where
       by : (o : Option Columns) → old.columns ≡ o → IsTable count (lines ++ line ∷ []) new
       by None e = record {
-        plain = λ _. plain_added [] old.text new.text lines line some (is.plain e)
-            (same ∙ text_is ∙ ap (λ (o : Option Columns). old.text ++ added_line (is_some o) line) e);
+        plain = λ _. plain_added [] old.text.items new.text.items lines line some (is.plain e)
+            (same ∙ text_is ∙ ap (λ (o : Option Columns). old.text.items ++ added_line (is_some o) line) e);
         padded = λ c f. absurd (none_here new.columns c f (kept ∙ ap is_some e));
       }
       by (Some c) e = record {
         plain = λ f. absurd (none_here old.columns c e (sym kept ∙ ap is_some f));
         padded = λ d f. (
-          sized_added old.text new.text lines line (is.padded c e).0 (same ∙ sized_text c e),
+          sized_added old.text.items new.text.items lines line (is.padded c e).0 (same ∙ sized_text c e),
           wide count lines line (λ d e. (is.padded d e).1) (sized_end c e) all d f,
         );
       }
 
 -- a line is printed at the end of a table without columns
 pub plain_printed : (count : ℕ) (lines : List Line) (line : Line) (old new : Table) → IsTable count lines old → 0 < length line
-    → has_columns old ≡ false → new.columns ≡ old.columns → new.text ≡ old.text ++ marked_line (End 10) (End 124) line → IsTable count (lines ++ line ∷ []) new
+    → has_columns old ≡ false → new.columns ≡ old.columns → new.text.items ≡ old.text.items ++ marked_line (End 10) (End 124) line → IsTable count (lines ++ line ∷ []) new
 plain_printed count lines line old new is some none kept text = by old.columns refl
   where
     by : (o : Option Columns) → old.columns ≡ o → IsTable count (lines ++ line ∷ []) new
     by None e = record {
-      plain = λ _. plain_added [] old.text new.text lines line some (is.plain e) text;
+      plain = λ _. plain_added [] old.text.items new.text.items lines line some (is.plain e) text;
       padded = λ c f. absurd (none_here new.columns c f (ap is_some (kept ∙ e)));
     }
     by (Some c) e = absurd (none_here old.columns c e none)

@@ -1,4 +1,4 @@
-use Rattle.std.specs.Prelude.{ℕ, ◌-◌, max, List, [], ◌∷◌, ◌++◌, length, map, fold, replicate, slice_index_or, Bool, if◌then◌else◌, ◌≡◌, ◌<◌, ◌≤◌, All, is_some, slice_index, take}
+use Rattle.std.specs.Prelude.{ℕ, ◌+◌, ◌-◌, max, set, List, [], ◌∷◌, ◌++◌, length, map, fold, replicate, slice_index_or, Bool, if◌then◌else◌, ◌≡◌, ◌<◌, ◌≤◌, All, is_some, slice_index, take}
 use Rattle.std.specs.List.{enumerate_from, flat_map, join_with_byte}
 use Rattle.std.specs.Option.{ForNone, ForSome}
 pub use Rattle.pmap_text.specs.RunsText.{Line, Text, line_text}
@@ -32,6 +32,24 @@ table_text columns lines =
 -- a field with spaces on the left that make it this wide
 abbrev pub filled : ℕ → Text → Text
 filled width field = replicate (width - length field) 32 ++ field
+
+-- this field and the byte that ends it
+abbrev pub ended : ℕ → ℕ → Text → Text
+ended width end field = filled width field ++ end ∷ []
+
+-- fields in columns of these widths; without widths they are as they are
+abbrev pub filled_by : List ℕ → Line → Line
+filled_by [] fields = fields
+filled_by (width ∷ widths) [] = []
+filled_by (width ∷ widths) (field ∷ fields) = filled width field ∷ filled_by widths fields
+
+-- a width that is widened for a field of this length, and the widths from an index on that are widened for fields
+abbrev pub widen : List ℕ → ℕ → ℕ → List ℕ
+widen widths index size = set widths index (max (slice_index widths index) size)
+
+abbrev pub widened : List ℕ → ℕ → Line → List ℕ
+widened widths index [] = widths
+widened widths index (field ∷ fields) = widened (widen widths index (length field)) (index + 1) fields
 
 -- the byte before a field of this length
 abbrev pub mark_byte : Mark → ℕ → ℕ
@@ -75,10 +93,11 @@ has_columns t = is_some t.columns
 
 -- the table has these lines, each of `count` fields
 pub record IsTable (count : ℕ) (lines : List Line) (t : Table) : Type 0 where
-  pub plain : ForNone t.columns (t.text ++ 10 ∷ [] ≡ flat_map line_text lines)
-  pub padded : ForSome t.columns (λ c. (t.text ≡ flat_map sized lines) × AreWide count lines c)
+  pub plain : ForNone t.columns (t.text.items ++ 10 ∷ [] ≡ flat_map line_text lines)
+  pub padded : ForSome t.columns (λ c. (t.text.items ≡ flat_map sized lines) × AreWide count lines c)
 
--- a line that is not empty has a field for each of these columns, which have the widths of a function and are no narrower
+-- a line that is not empty has a field for each of these columns, which have the widths of a function and are no
+-- narrower
 pub record Fits (width : ℕ → ℕ) (columns : List ℕ) (fields : Line) : Type 0 where
   pub some : 0 < length fields
   pub all : length fields ≡ length columns

@@ -1,28 +1,12 @@
 //! The widths of a table's columns, and the padding of its fields.
-ghost use Rattle.std.specs.Prelude.{◌≡◌, ℕ, ◌<◌, ◌≤◌, List, [], ◌∷◌, ◌++◌, IfOk, length, take, true};
+ghost use Rattle.std.specs.Prelude.{◌≡◌, ℕ, ◌<◌, List, [], ◌∷◌, ◌++◌, IfOk, length, true};
 ghost use Rattle.std.specs.List.{flat_map};
 ghost use Rattle.flow_io.specs.Sinks.{Adds, Pushes};
-ghost use Rattle.pmap_print.specs.Table.{AreWide, Fits, Line, Text, filled_line, line_text, sized, table_text};
+ghost use Rattle.pmap_print.specs.Table.{AreWide, Fits, Line, Text, filled_line, line_text, sized, table_text, widen};
 
+use crate::fields::{SPACES, push_few};
 use flow_io::Sink;
 use std::alloc::{AllocError, Global};
-
-// The number of bytes that are copied at once, if there are as many, which is faster.
-const FEW: usize = 24;
-
-const SPACES: [u8; 255] = [b' '; 255];
-
-// Prints the first `count` of some bytes.
-#[inline(always)]
-fn push_few<S: Sink>(out: &mut S, bytes: &[u8], count: usize) -> Result<(), S::Fault>
-    requires { count ≤ length bytes.now }
-    ensures { Pushes S.sink S.began out.old out.new (take count bytes.now) result }
-{
-    if count <= FEW && bytes.len() >= FEW {
-        return out.push_start(&bytes[..FEW], count);
-    }
-    out.push(&bytes[..count])
-}
 
 /// The widths of the columns of a table: the length of the longest field in each.
 #[derive(Drop)]
@@ -38,6 +22,23 @@ impl Columns {
     {
         let widths = vec![in alloc; 0u8; count]?;
         Ok(Columns { widths })
+    }
+
+    /// Returns the widths.
+    #[inline(always)]
+    pub fn widths(&self) -> &[u8]
+        ensures { result.now ≡ self.now.widths.items }
+    {
+        self.widths.as_slice()
+    }
+
+    /// Widens a column for a field of this size.
+    #[inline(always)]
+    pub fn widen(&mut self, index: usize, size: u8)
+        requires { index < length self.old.widths.items }
+        ensures { self.new.widths.items ≡ widen self.old.widths.items index size }
+    {
+        self.widths[index] = self.widths[index].max(size);
     }
 
     /// Widens the columns for one more line, whose fields each follow the byte of their length.

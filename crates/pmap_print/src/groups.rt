@@ -1,81 +1,123 @@
 //! The printed text of groups.
-ghost use Rattle.std.specs.Prelude.{◌≡◌, ◌+◌, ◌++◌, ◌∷◌, [], ℕ, List, IfOk, OnOk, false, length, option_map, slice_get, true};
+ghost use Rattle.std.specs.Prelude.{◌≡◌, ◌+◌, ◌∷◌, [], List, IfOk, length, map, option_map, slice_get};
+ghost use Rattle.std.specs.List.{flat_map};
 ghost use Rattle.std.specs.List.Sorted.{IsPermutation};
 ghost use Rattle.flow_io.specs.Sinks.{Pushes};
 ghost use Rattle.flow_uniq.specs.Codes.{IsSmall, part_model};
 ghost use Rattle.flow_uniq.specs.Inner.{group_model};
 ghost use Rattle.flow_uniq.specs.Groups.{shown_groups};
-ghost use Rattle.pmap_print.specs.Table.{has_columns, header_text, IsTable, Line, marked, marked_line};
+ghost use Rattle.pmap_print.specs.Table.{AreWide, Line, Text, ended, filled, filled_by, line_text, widened};
 ghost use Rattle.pmap_print.specs.Reports.{group_fields, group_lines, group_titles, groups_text, ordered, part_text};
 
-use crate::fields::{push_address, push_field, push_number, push_time, push_total};
-use crate::mark::Mark;
-use crate::table::Table;
+use crate::columns::Columns;
+use crate::fields::{
+    address_length, number_length, push_address, push_field, push_number, push_time, push_total,
+    time_length, total_length,
+};
 use flow_io::{Printable, Sink, text_of};
 use flow_uniq::{Group, Groups, KeyField, KeyPart};
 use std::alloc::{AllocError, Global};
 use std::marker::Model;
 
-// The number of columns of a group's totals.
+// The titles of the columns of a group's totals.
+const RECORDS: &[u8] = b"records";
+
+const PACKETS: &[u8] = b"packets";
+
+const BYTES: &[u8] = b"bytes";
+
+// The number of these columns.
 const TOTALS: usize = 3;
 
-// Prints the header of groups by these fields. In a table with columns, the names of the columns each follow the byte
-// of their length.
-fn print_header<S: Sink>(out: &mut S, fields: &[KeyField], columns: bool) -> Result<(), S::Fault>
-    ensures { Pushes S.sink S.began out.old out.new (header_text columns (group_titles fields.now)) result }
+// Returns the width of the first column, and the widths of the others. Without columns fields aren't padded.
+#[inline(always)]
+fn first_width(widths: &[u8]) -> (u8, &[u8])
+    ensures { (field : Text) → (fields : Line) → filled_by widths.entry.now (field ∷ fields)
+        ≡ filled result.0 field ∷ filled_by result.1.now fields }
 {
-    for field in fields {
-        let name = field.name().as_bytes();
-        if columns {
-            push_field(out, Mark::Length, name)?;
-        } else {
-            out.push(name)?;
-            out.push(b"|")?;
-        }
+    match widths.split_first() {
+        Some((width, others)) => (*width, others),
+        None => (0, widths),
     }
-    let names: &[u8] = if columns {
-        b"\x07records\x07packets\x05bytes"
-    } else {
-        b"records|packets|bytes"
-    };
-    out.push(names)?;
+}
+
+// Returns the widths of the columns of a group's totals, which are the first three.
+#[inline(always)]
+fn total_widths(widths: &[u8]) -> (u8, u8, u8)
+    ensures { (records packets octets : Text) → filled_by widths.now (records ∷ packets ∷ octets ∷ [])
+        ≡ filled result.0 records ∷ filled result.1 packets ∷ filled result.2 octets ∷ [] }
+{
+    let (records, widths) = first_width(widths);
+    let (packets, widths) = first_width(widths);
+    let (octets, _) = first_width(widths);
+    (records, packets, octets)
+}
+
+// Prints the header of groups by these fields, with columns of these widths.
+fn print_header<S: Sink>(out: &mut S, fields: &[KeyField], widths: &[u8]) -> Result<(), S::Fault>
+    ensures { Pushes S.sink S.began out.old out.new
+        (line_text (filled_by widths.now (group_titles fields.now))) result }
+{
+    let mut rest = widths;
+    for field in fields {
+        let (width, others) = first_width(rest);
+        push_field(out, width, b'|', field.name().as_bytes())?;
+        rest = others;
+    }
+    let (records, packets, octets) = total_widths(rest);
+    push_field(out, records, b'|', RECORDS)?;
+    push_field(out, packets, b'|', PACKETS)?;
+    push_field(out, octets, b'\n', BYTES)?;
     Ok(())
 }
 
-// Prints a mark and the text of a part of a key. The text of a missing label is empty.
+// Returns the length of the text of a part of a key.
 #[inline(always)]
-fn print_part<S: Sink>(out: &mut S, mark: Mark, part: KeyPart<'_>) -> Result<(), S::Fault>
+fn part_length(part: KeyPart<'_>) -> u8
     requires { IsSmall (part_model part) }
-    ensures { Pushes S.sink S.began out.old out.new (marked mark (part_text (part_model part.entry))) result }
+    ensures { result ≡ length (part_text (part_model part.entry)) }
 {
     match part {
-        KeyPart::Address(addr) => push_address(out, mark, addr),
-        KeyPart::Number(number) => push_number(out, mark, u64::from(number)),
-        KeyPart::Label(label) => push_field(out, mark, label.unwrap_or(b"")),
-        KeyPart::Time(number, precision) => push_time(out, mark, precision, number),
+        KeyPart::Address(addr) => address_length(addr),
+        KeyPart::Number(number) => number_length(u64::from(number)),
+        KeyPart::Label(label) => label.unwrap_or(b"").len() as u8,
+        KeyPart::Time(number, precision) => time_length(precision, number),
     }
 }
 
-// Prints the fields of a group, the first after the mark `first` and each other one after `mark`.
+// Prints a part of a key in a column of this width, which isn't the last one. The text of a missing label is empty.
 #[inline(always)]
-fn print_marked<S: Sink>(
-    out: &mut S,
-    group: &Group<'_>,
-    first: Mark,
-    mark: Mark,
-) -> Result<(), S::Fault>
-    ensures { Pushes S.sink S.began out.old out.new (marked_line first mark (group_fields (group_model group.now))) result }
+fn print_part<S: Sink>(out: &mut S, width: u8, part: KeyPart<'_>) -> Result<(), S::Fault>
+    requires { IsSmall (part_model part) }
+    ensures { Pushes S.sink S.began out.old out.new (ended width 124 (part_text (part_model part.entry))) result }
 {
-    let mut before = first;
-    let mut rest = group.key;
-    while let Some((part, others)) = rest.split_first() {
-        print_part(out, before, part)?;
-        before = mark;
+    match part {
+        KeyPart::Address(addr) => push_address(out, width, b'|', addr),
+        KeyPart::Number(number) => push_number(out, width, b'|', u64::from(number)),
+        KeyPart::Label(label) => push_field(out, width, b'|', label.unwrap_or(b"")),
+        KeyPart::Time(number, precision) => push_time(out, width, b'|', precision, number),
+    }
+}
+
+// Prints the line of a group, with columns of these widths.
+#[inline(always)]
+fn print_group<S: Sink>(out: &mut S, group: &Group<'_>, widths: &[u8]) -> Result<(), S::Fault>
+    ensures { Pushes S.sink S.began out.old out.new
+        (line_text (filled_by widths.now (group_fields (group_model group.now)))) result }
+{
+    let mut key = group.key;
+    let mut rest = widths;
+    while let Some((part, parts)) = key.split_first() {
+        let (width, others) = first_width(rest);
+        print_part(out, width, part)?;
+        key = parts;
         rest = others;
     }
-    push_number(out, before, group.totals.records)?;
-    push_total(out, mark, group.totals.packets)?;
-    push_total(out, mark, group.totals.octets)
+    let (records, packets, octets) = total_widths(rest);
+    push_number(out, records, b'|', group.totals.records)?;
+    push_total(out, packets, b'|', group.totals.packets)?;
+    push_total(out, octets, b'\n', group.totals.octets)?;
+    Ok(())
 }
 
 // Returns the groups in the order of their keys, if they are to be sorted.
@@ -103,65 +145,78 @@ fn group_at<'a>(
     }
 }
 
-impl Table {
-    // Adds the line of a group, whose key has as many parts as the table has columns before those of the totals. The
-    // table has columns. If an allocation fails, the table may end with a part of the line.
-    fn add_group(&mut self, group: &Group<'_>) -> Result<(), AllocError>
-        requires columns { has_columns self.old ≡ true }
-        requires line { (count : ℕ) × (lines : List Line) × IsTable count lines self.old
-            × (length (group_fields (group_model group.now)) ≡ count) }
-        ensures columns { has_columns self.new ≡ true }
-        ensures line { OnOk result ((count : ℕ) → (lines : List Line) → IsTable count lines self.old
-            → length (group_fields (group_model group.now)) ≡ count
-            → IsTable count (lines ++ group_fields (group_model group.now) ∷ []) self.new) }
+impl Columns {
+    // Widens the columns for the titles of groups by these fields.
+    fn add_titles(&mut self, fields: &[KeyField])
+        requires { length fields.now + 3 ≡ length self.old.widths.items }
+        ensures { self.new.widths.items ≡ widened self.old.widths.items 0 (group_titles fields.now) }
     {
-        let begin = self.text.len();
-        print_marked(&mut self.text, group, Mark::Length, Mark::Length)?;
-        self.end_line(begin);
-        Ok(())
+        for (index, field) in fields.iter().enumerate() {
+            self.widen(index, field.name().len() as u8);
+        }
+        let count = fields.len();
+        self.widen(count, RECORDS.len() as u8);
+        self.widen(count + 1, PACKETS.len() as u8);
+        self.widen(count + 2, BYTES.len() as u8);
     }
 
-    // Returns the table of groups, with columns.
+    // Widens the columns for the line of a group.
+    fn add_group(&mut self, group: &Group<'_>)
+        requires { length (group_fields (group_model group.now)) ≡ length self.old.widths.items }
+        ensures { self.new.widths.items ≡ widened self.old.widths.items 0 (group_fields (group_model group.now)) }
+    {
+        let mut rest = group.key;
+        let mut index = 0;
+        while let Some((part, others)) = rest.split_first() {
+            self.widen(index, part_length(part));
+            index += 1;
+            rest = others;
+        }
+        self.widen(index, number_length(group.totals.records));
+        self.widen(index + 1, total_length(group.totals.packets));
+        self.widen(index + 2, total_length(group.totals.octets));
+    }
+
+    // Returns the columns for the lines of groups.
     fn of_groups<'a>(
         alloc: Global,
         groups: &'a Groups,
         sorted: &Option<Vec<Group<'a>>>,
-    ) -> Result<Table, AllocError>
+    ) -> Result<Columns, AllocError>
         requires { IsPermutation groups.now.groups (ordered sorted.now groups.now) }
-        ensures columns { IfOk result (λ t. has_columns t ≡ true) }
-        ensures lines { IfOk result (IsTable (length groups.now.fields + 3)
+        ensures { IfOk result (AreWide (length groups.now.fields + 3)
             (group_lines groups.now.fields (ordered sorted.now groups.now))) }
     {
         let fields = groups.fields();
-        let mut table = Table::new(alloc, fields.len() + TOTALS, true)?;
-        print_header(&mut table.text, fields, true)?;
-        table.end_line(0);
+        let mut columns = Columns::new(alloc, fields.len() + TOTALS)?;
+        columns.add_titles(fields);
         for index in 0..groups.group_count() {
             if let Some(group) = group_at(groups, sorted, index) {
-                table.add_group(&group)?;
+                columns.add_group(&group);
             }
         }
-        Ok(table)
+        Ok(columns)
     }
 }
 
-// Prints the lines of groups without columns. The marks are constant, which is faster.
-fn print_plain<'a, S: Sink>(
+// Prints the header and the lines of groups, with columns of these widths. Without widths that is faster.
+#[inline(always)]
+fn print_lines<'a, S: Sink>(
     out: &mut S,
     groups: &'a Groups,
     sorted: &Option<Vec<Group<'a>>>,
+    widths: &[u8],
 ) -> Result<(), S::Fault>
     requires { IsPermutation groups.now.groups (ordered sorted.now groups.now) }
-    ensures { Pushes S.sink S.began out.old out.new
-        (groups_text groups.now.fields (ordered sorted.now groups.now) false) result }
+    ensures { Pushes S.sink S.began out.old out.new (flat_map line_text (map (filled_by widths.now)
+        (group_lines groups.now.fields (ordered sorted.now groups.now)))) result }
 {
-    print_header(out, groups.fields(), false)?;
+    print_header(out, groups.fields(), widths)?;
     for index in 0..groups.group_count() {
         if let Some(group) = group_at(groups, sorted, index) {
-            print_marked(out, &group, Mark::End(b'\n'), Mark::End(b'|'))?;
+            print_group(out, &group, widths)?;
         }
     }
-    out.push(b"\n")?;
     Ok(())
 }
 
@@ -171,25 +226,25 @@ pub struct GroupsText<'a> {
     groups: &'a Groups,
     // The groups in the order of their keys, if that is their order.
     sorted: Option<Vec<Group<'a>>>,
-    // The table of the lines, if they are padded to columns.
-    table: Option<Table>,
+    // The columns of the lines, if their fields are padded to columns.
+    columns: Option<Columns>,
 }
 
 impl<'a> Model for GroupsText<'a> {
-    ghost use Rattle.std.specs.Prelude.{List, ℕ, ◌≡◌, ◌+◌, is_some, length, true};
+    ghost use Rattle.std.specs.Prelude.{List, ℕ, ◌+◌, is_some, length};
     ghost use Rattle.std.specs.List.Sorted.{IsPermutation};
     ghost use Rattle.std.specs.Option.{ForSome};
 
     ghost Value = { List ℕ };
 
     ghost use Rattle.pmap_print.specs.Reports.{group_lines, groups_text, ordered};
-    ghost use Rattle.pmap_print.specs.Table.{IsTable, has_columns};
+    ghost use Rattle.pmap_print.specs.Table.{AreWide};
 
-    ghost view = { λ t. groups_text t.groups.now.fields (ordered t.sorted t.groups.now) (is_some t.table) };
+    ghost view = { λ t. groups_text t.groups.now.fields (ordered t.sorted t.groups.now) (is_some t.columns) };
 
     ghost invariant = { λ t. IsPermutation t.groups.now.groups (ordered t.sorted t.groups.now)
-        × ForSome t.table (λ table. (has_columns table ≡ true)
-        × IsTable (length t.groups.now.fields + 3) (group_lines t.groups.now.fields (ordered t.sorted t.groups.now)) table) };
+        × ForSome t.columns (AreWide (length t.groups.now.fields + 3)
+        (group_lines t.groups.now.fields (ordered t.sorted t.groups.now))) };
 }
 
 impl<'a> GroupsText<'a> {
@@ -207,18 +262,15 @@ impl<'a> GroupsText<'a> {
         ensures { IfOk result (λ t. t ≡ groups_text groups.now.fields (shown_groups sorted groups.now.groups) columns) }
     {
         let sorted = in_key_order(groups, sorted)?;
-        if !columns {
-            return Ok(GroupsText {
-                groups,
-                sorted,
-                table: None,
-            });
-        }
-        let table = Some(Table::of_groups(alloc, groups, &sorted)?);
+        let columns = if columns {
+            Some(Columns::of_groups(alloc, groups, &sorted)?)
+        } else {
+            None
+        };
         Ok(GroupsText {
             groups,
             sorted,
-            table,
+            columns,
         })
     }
 }
@@ -231,11 +283,11 @@ impl Printable for GroupsText<'_> {
     ghost is_text = { λ t text. text ≡ t };
 
     fn print<S: Sink>(&self, out: &mut S) -> Result<(), S::Fault> {
-        if let Some(table) = &self.table {
-            table.print(out)?;
+        if let Some(columns) = &self.columns {
+            print_lines(out, self.groups, &self.sorted, columns.widths())?;
             return Ok(());
         }
-        print_plain(out, self.groups, &self.sorted)?;
+        print_lines(out, self.groups, &self.sorted, &[])?;
         Ok(())
     }
 }

@@ -5,7 +5,6 @@ ghost use Rattle.flow_rows.specs.Counts.{count_list};
 ghost use Rattle.pmap_print.specs.Reports.{info_text};
 
 use crate::fields::push_number;
-use crate::mark::Mark;
 use flow_io::Sink;
 use flow_rows::Counts;
 use std::alloc::{AllocError, Global};
@@ -15,8 +14,8 @@ fn print_count<S: Sink>(out: &mut S, name: &[u8], number: u64) -> Result<(), S::
     ensures { Pushes S.sink S.began out.old out.new (name.now ++ 32 ∷ decimal number ++ 10 ∷ []) result }
 {
     out.push(name)?;
-    push_number(out, Mark::End(b' '), number)?;
-    out.push(b"\n")
+    out.push(b" ")?;
+    push_number(out, 0, b'\n', number)
 }
 
 /// Returns the text of counts: a line for each, with its name and its number.

@@ -29,7 +29,6 @@ mod row_labels;
 mod rows;
 mod runs;
 mod table;
-mod text;
 
 pub use groups::{GroupsText, print_groups};
 pub use info::print_info;

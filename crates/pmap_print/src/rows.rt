@@ -1,32 +1,26 @@
 //! The printed text of flow rows.
-ghost use Rattle.std.specs.Prelude.{◌≡◌, ◌+◌, ◌<◌, List, [], ◌∷◌, ◌++◌, IfOk, OnErr, OnOk, is_some, length, option_map};
+ghost use Rattle.std.specs.Prelude.{◌≡◌, ◌<◌, ◌≤◌, ◌++◌, IfOk, OnErr, OnOk, is_some, length, option_map};
 ghost use Rattle.std.specs.List.{flat_map};
 ghost use Rattle.std.specs.Option.{ForSome};
-ghost use Rattle.pmap_print.specs.Table.{IsFrontOf, has_columns, header_text, IsTable, Line, marked, marked_line};
-ghost use Rattle.pmap_print.specs.Reports.{column_count, labels_of_row, given_labels, label_fields, label_texts, row_fields, row_line, rows_text, title_line};
+ghost use Rattle.pmap_print.specs.Table.{IsFrontOf, header_text, marked, marked_line};
+ghost use Rattle.pmap_print.specs.Reports.{labels_of_row, given_labels, label_fields, label_texts, row_fields, row_line, rows_text, title_line};
 
 use crate::fields::{write_address, write_number};
 use crate::mark::Mark;
 use crate::row_labels::RowLabels;
 use crate::table::Table;
-use crate::text::Text;
-use flow_io::{Sink, text_of};
+use flow_io::text_of;
 use flow_rows::Row;
 use std::alloc::{AllocError, Global};
-
-// The number of columns of rows, without labels and with them.
-const COLUMNS: usize = 10;
-
-const WITH_LABELS: usize = 12;
 
 // The fields of a row without labels, each after its mark, take at most this many bytes.
 const LINE: usize = 192;
 
 // Appends the fields of a row without labels, the first after the mark `first` and each other one after `mark`.
 #[inline(always)]
-fn print_fields(out: &mut Text, row: &Row<'_>, first: Mark, mark: Mark) -> Result<(), AllocError>
-    ensures ok { OnOk result (out.new ≡ out.old ++ marked_line first mark (row_fields row.now)) }
-    ensures err { OnErr result (out.new ≡ out.old) }
+fn print_fields(out: &mut Vec<u8>, row: &Row<'_>, first: Mark, mark: Mark) -> Result<(), AllocError>
+    ensures ok { OnOk result (out.new.items ≡ out.old.items ++ marked_line first mark (row_fields row.now)) }
+    ensures err { OnErr result (out.new.items ≡ out.old.items) }
 {
     let mut line = [0; LINE];
     let end = write_number(mark, row.end_ms(), &mut line, LINE);
@@ -39,33 +33,45 @@ fn print_fields(out: &mut Text, row: &Row<'_>, first: Mark, mark: Mark) -> Resul
     let sport = write_number(mark, u64::from(row.sport()), &mut line, dport);
     let dst = write_address(mark, row.dst(), &mut line, sport);
     let src = write_address(first, row.src(), &mut line, dst);
-    out.add(&line[src..], LINE - src)
+    out.extend_from_slice(&line[src..])
+}
+
+// Appends a mark and a field. If an allocation fails, the mark may have been appended.
+#[inline(always)]
+fn append_field(out: &mut Vec<u8>, mark: Mark, field: &[u8]) -> Result<(), AllocError>
+    requires { length field.now ≤ 255 }
+    ensures ok { OnOk result (out.new.items ≡ out.old.items ++ marked mark field.now) }
+    ensures err { OnErr result (IsFrontOf out.old.items out.new.items) }
+{
+    out.push(mark.of(field.len()))?;
+    out.extend_from_slice(field)
 }
 
 // Appends the fields of the labels of a row, each after a mark. The field of a missing label is empty. If an allocation
 // fails, some of it may have been appended.
 #[inline(always)]
-fn print_labels(out: &mut Text, labels: RowLabels<'_>, mark: Mark) -> Result<(), AllocError>
-    ensures ok { OnOk result (out.new ≡ out.old ++ flat_map (marked mark) (label_fields (label_texts labels.entry))) }
-    ensures err { OnErr result (IsFrontOf out.old out.new) }
+fn print_labels(out: &mut Vec<u8>, labels: RowLabels<'_>, mark: Mark) -> Result<(), AllocError>
+    ensures ok { OnOk result (out.new.items
+        ≡ out.old.items ++ flat_map (marked mark) (label_fields (label_texts labels.entry))) }
+    ensures err { OnErr result (IsFrontOf out.old.items out.new.items) }
 {
-    out.add_field(mark, labels.src.unwrap_or(b""))?;
-    out.add_field(mark, labels.dst.unwrap_or(b""))
+    append_field(out, mark, labels.src.unwrap_or(b""))?;
+    append_field(out, mark, labels.dst.unwrap_or(b""))
 }
 
 // Appends the line of a row, with its labels if they are given: the first field after the mark `first`, and each other
 // one after `mark`.
 #[inline(always)]
-fn print_row(
-    out: &mut Text,
+pub(crate) fn print_row(
+    out: &mut Vec<u8>,
     row: &Row<'_>,
     labels: Option<RowLabels<'_>>,
     first: Mark,
     mark: Mark,
 ) -> Result<(), AllocError>
-    ensures ok { OnOk result (out.new
-        ≡ out.old ++ marked_line first mark (row_line row.now (option_map label_texts labels.entry))) }
-    ensures err { OnErr result (out.new ≡ out.old) }
+    ensures ok { OnOk result (out.new.items
+        ≡ out.old.items ++ marked_line first mark (row_line row.now (option_map label_texts labels.entry))) }
+    ensures err { OnErr result (out.new.items ≡ out.old.items) }
 {
     let Some(labels) = labels else {
         return print_fields(out, row, first, mark);
@@ -80,75 +86,26 @@ fn print_row(
 }
 
 // Appends the header of rows. In a table with columns, the names of the columns each follow the byte of their length.
-fn print_header(out: &mut Text, labelled: bool, columns: bool) -> Result<(), AllocError>
-    ensures { OnOk result (out.new ≡ out.old ++ header_text columns (title_line labelled)) }
+pub(crate) fn print_header(
+    out: &mut Vec<u8>,
+    labelled: bool,
+    columns: bool,
+) -> Result<(), AllocError>
+    ensures { OnOk result (out.new.items ≡ out.old.items ++ header_text columns (title_line labelled)) }
 {
     let names: &[u8] = if columns {
         b"\x03sip\x03dip\x05sport\x05dport\x05proto\x05flags\x07packets\x05bytes\x05stime\x05etime"
     } else {
         b"sip|dip|sport|dport|proto|flags|packets|bytes|stime|etime"
     };
-    out.push(names)?;
+    out.extend_from_slice(names)?;
     let names: &[u8] = match (labelled, columns) {
         (true, true) => b"\x09src-label\x09dst-label",
         (true, false) => b"|src-label|dst-label",
         (false, _) => b"",
     };
-    out.push(names)?;
+    out.extend_from_slice(names)?;
     Ok(())
-}
-
-impl Table {
-    /// Returns a table of rows that has only its header, with the names of the label columns if `labelled`.
-    ///
-    /// With `columns` each field is padded with spaces on the left to the width of its column.
-    ///
-    /// # Errors
-    /// If an allocation fails.
-    pub fn of_rows(alloc: Global, labelled: bool, columns: bool) -> Result<Table, AllocError>
-        ensures header { IfOk result (IsTable (column_count labelled) (title_line labelled ∷ [])) }
-        ensures columns { IfOk result (λ t. has_columns t ≡ columns) }
-    {
-        let count = if labelled { WITH_LABELS } else { COLUMNS };
-        let mut table = Table::new(alloc, count, columns)?;
-        print_header(&mut table.text, labelled, columns)?;
-        table.end_line(0);
-        Ok(table)
-    }
-
-    /// Adds the line of a row, with its labels if the table has columns for them. The field of a missing label is
-    /// empty.
-    ///
-    /// # Errors
-    /// If an allocation fails. The table is then unchanged.
-    #[inline(always)]
-    pub fn add_row(
-        &mut self,
-        row: &Row<'_>,
-        labels: Option<RowLabels<'_>>,
-    ) -> Result<(), AllocError>
-        requires { (lines : List Line) × IsTable (column_count (is_some labels)) lines self.old }
-        ensures columns { has_columns self.new ≡ has_columns self.old }
-        ensures line { OnOk result ((lines : List Line) → IsTable (column_count (is_some labels.entry)) lines self.old
-            → IsTable (column_count (is_some labels.entry))
-            (lines ++ row_line row.now (option_map label_texts labels.entry) ∷ []) self.new) }
-        ensures err { OnErr result (self.new ≡ self.old) }
-    {
-        if self.columns.is_none() {
-            // Constant marks are faster.
-            return print_row(
-                &mut self.text,
-                row,
-                labels,
-                Mark::End(b'\n'),
-                Mark::End(b'|'),
-            );
-        }
-        let begin = self.text.len();
-        print_row(&mut self.text, row, labels, Mark::Length, Mark::Length)?;
-        self.end_line(begin);
-        Ok(())
-    }
 }
 
 // The labels of the row at an index, if labels are given.

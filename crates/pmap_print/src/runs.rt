@@ -1,17 +1,26 @@
-ghost use Rattle.std.specs.Prelude.{◌<◌, IfOk, false, length};
+ghost use Rattle.std.specs.Prelude.{◌≡◌, ◌<◌, [], IfOk, length, unwrap_or};
 ghost use Rattle.flow_io.specs.Sinks.{Pushes};
 ghost use Rattle.pmap_text.specs.Stretches.{AreLabelsBelow, text_held};
-ghost use Rattle.pmap_text.specs.RunsText.{IsRunsText, run_at, run_fields};
-ghost use Rattle.pmap_print.specs.Table.{added_line};
+ghost use Rattle.pmap_text.specs.RunsText.{IsRunsText, line_text, run_at, run_fields};
 
 use crate::fields::{push_address, push_field};
-use crate::mark::Mark;
 use flow_io::{Printable, Sink, text_of};
 use pmap_text::{Labels, Runs, Stretches};
 use prefix_keys::Addr;
 use std::alloc::{AllocError, Global};
 
-// Prints the line of the run with this index: its first and last address, and the label. The line follows a line feed.
+// Returns the label of the run with this index, which is empty if it has none.
+fn label_text<'l>(runs: &Stretches, index: usize, labels: &'l Labels) -> &'l [u8]
+    requires { index < length runs.now.firsts }
+    ensures { result.now ≡ unwrap_or (run_at labels.now runs.now index).label [] }
+{
+    match runs.label(index) {
+        Some(label) => labels.text(label).unwrap_or(b""),
+        None => b"",
+    }
+}
+
+// Prints the line of the run with this index: its first and last address, and the label.
 fn print_run<S: Sink>(
     out: &mut S,
     runs: &Stretches,
@@ -19,8 +28,8 @@ fn print_run<S: Sink>(
     labels: &Labels,
 ) -> Result<(), S::Fault>
     requires { index < length runs.now.firsts }
-    ensures { Pushes S.sink S.began out.old out.new (added_line false
-        (run_fields runs.now.version (run_at labels.now runs.now index))) result }
+    ensures { Pushes S.sink S.began out.old out.new
+        (line_text (run_fields runs.now.version (run_at labels.now runs.now index))) result }
 {
     runs.laws();
     let version = runs.version();
@@ -32,13 +41,10 @@ fn print_run<S: Sink>(
         version,
         value: runs.last(index),
     };
-    push_address(out, Mark::End(b'\n'), low)?;
-    push_address(out, Mark::End(b'|'), high)?;
-    let text = match runs.label(index) {
-        Some(label) => labels.text(label).unwrap_or(b""),
-        None => b"",
-    };
-    push_field(out, Mark::End(b'|'), text)
+    push_address(out, 0, b'|', low)?;
+    push_address(out, 0, b'|', high)?;
+    push_field(out, 0, b'\n', label_text(runs, index, labels))?;
+    Ok(())
 }
 
 /// The text of runs, to be printed: a header, and a line for each maximal range of consecutive addresses with the same
@@ -65,11 +71,10 @@ impl Printable for RunsText<'_> {
         let runs = &self.runs.stretches;
         self.labels.laws();
         runs.laws();
-        out.push(b"low|high|label")?;
+        out.push(b"low|high|label\n")?;
         for index in 0..runs.len() {
             print_run(out, runs, index, self.labels)?;
         }
-        out.push(b"\n")?;
         Ok(())
     }
 }

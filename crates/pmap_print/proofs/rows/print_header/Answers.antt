@@ -29,7 +29,7 @@ returns c =
       | in-true-false w ↦ ap (λ b. b.now) w.names-is ∙ (λ i. label_names (sym w.in-true-false.is-0 i) (sym w.in-true-false.is-1 i))
       | in-false-default w ↦ ap (λ b. b.now) w.names-is ∙ ap (λ b. label_names b columns) (sym w.in-false-default.is-0)
     ] in
-    c.in_ok-push-2.ensures.0 ∙ (λ i. (c.in_ok-push.ensures.0 i) ++ more i)
-    ∙ append_assoc c.args.out.now c.if-columns.names.now (label_names labelled columns)
-    ∙ ap (λ (l : Text). c.args.out.now ++ (l ++ label_names labelled columns)) names
-    ∙ ap (λ (l : Text). c.args.out.now ++ l) (all_names labelled columns)
+    c.in_ok-extend_from_slice-2.ensures.items ∙ (λ i. (c.in_ok-extend_from_slice.ensures.items i) ++ more i)
+    ∙ append_assoc c.args.out.now.items c.if-columns.names.now (label_names labelled columns)
+    ∙ ap (λ (l : Text). c.args.out.now.items ++ (l ++ label_names labelled columns)) names
+    ∙ ap (λ (l : Text). c.args.out.now.items ++ l) (all_names labelled columns)

@@ -1,11 +1,10 @@
-use Rattle.std.proofs.Common.{◌≡◌, ℕ, suc, ◌+◌, ◌-◌, ◌∙◌, [], ◌∷◌, ◌++◌, append_assoc, ap, arith, length, map, refl, sym}
+use Rattle.std.proofs.Common.{◌≡◌, ℕ, suc, ◌+◌, ◌-◌, ◌∙◌, ◌++◌, append_assoc, ap, arith, length, map, refl, sym}
 use Rattle.std.specs.Prelude.{codes}
 use Rattle.std.specs.List.{flat_map}
 use Rattle.std.proofs.lemmas.List.{append-nil}
 use Rattle.pmap_text.specs.Stretches.{StretchesModel}
 use Rattle.pmap_text.specs.RunsText.{Line, Text, line_text, run_at, run_fields, runs_text}
 use Rattle.pmap_text.proofs.StretchRuns.{all_runs, runs_from}
-use Rattle.pmap_print.proofs.TableLines.{line_after}
 use Rattle.pmap_print.proofs.runs.RunsTextPrintable.print.Goals as goal
 
 pub loop-index-init : goal.loop-index-init
@@ -14,8 +13,7 @@ loop-index-init g c =
     let front : Text = (g.S.Sink.sink c.args.out.now).printed in
     let text : ℕ → Text = λ count. flat_map line_text (map (run_fields s.version) (runs_from c.args.self.now.labels.now s 0 count)) in
     let pushed = c.in_ok-push.ensures in (
-      ap (λ (l : Text). (l ++ 10 ∷ []) ++ text (length s.firsts - 0)) pushed.0
-          ∙ ap (λ (l : Text). l ++ text (length s.firsts - 0)) (append_assoc front (codes "low|high|label") (10 ∷ []))
+      ap (λ (l : Text). l ++ text (length s.firsts - 0)) pushed.0
           ∙ append_assoc front (codes "low|high|label\n") (text (length s.firsts - 0))
           ∙ ap (λ (n : ℕ). front ++ (codes "low|high|label\n" ++ text n)) (let all : length s.firsts - 0 ≡ length s.firsts = omega arith in all),
       pushed.1,
@@ -33,8 +31,8 @@ loop-index-preserved g c =
     let run : Line = run_fields s.version (run_at c.args.self.now.labels.now s i) in
     let so_far = c.loop-index.invariant in
     let pushed = c.in_ok-print_run.ensures in (
-      ap (λ (l : Text). l ++ rest) (line_after old _ run (omega arith) pushed.0) ∙ append_assoc (old ++ 10 ∷ []) (line_text run) rest
-          ∙ sym (ap (λ (n : ℕ). (old ++ 10 ∷ []) ++ text i n) left) ∙ so_far.0,
+      ap (λ (l : Text). l ++ rest) pushed.0 ∙ append_assoc old (line_text run) rest
+          ∙ sym (ap (λ (n : ℕ). old ++ text i n) left) ∙ so_far.0,
       pushed.1 ∙ so_far.1,
       λ first h. pushed.2 first (so_far.2 first h),
     )
@@ -46,8 +44,7 @@ returns g c =
     let old : Text = (g.S.Sink.sink c.loop-index.out).printed in
     let none : length s.firsts - i ≡ 0 = omega (arith, c.loop-index-test.false, c.len-index-end.ensures) in
     let text : ℕ → Text = λ count. flat_map line_text (map (run_fields s.version) (runs_from c.args.self.now.labels.now s i count)) in
-    let so_far = c.loop-index.invariant in
-    let pushed = c.in_ok-push-2.ensures in (
+    let so_far = c.loop-index.invariant in (
       runs_text s.version (runs_from c.args.self.now.labels.now s 0 (length s.firsts)),
       record {
         runs = runs_from c.args.self.now.labels.now s 0 (length s.firsts);
@@ -55,8 +52,8 @@ returns g c =
         is = refl;
       },
       (
-        pushed.0 ∙ sym (append-nil (old ++ 10 ∷ [])) ∙ sym (ap (λ (n : ℕ). (old ++ 10 ∷ []) ++ text n) none) ∙ so_far.0,
-        pushed.1 ∙ so_far.1,
-        λ first h. pushed.2 first (so_far.2 first h),
+        sym (append-nil old) ∙ sym (ap (λ (n : ℕ). old ++ text n) none) ∙ so_far.0,
+        so_far.1,
+        so_far.2,
       ),
     )

@@ -1,4 +1,4 @@
-use Rattle.std.proofs.Common.{◌≡◌, ◌-◌, ◌++◌, ◌∷◌, [], length, map}
+use Rattle.std.proofs.Common.{◌≡◌, ◌-◌, ◌++◌, length, map}
 use Rattle.std.specs.List.{flat_map}
 use Rattle.flow_io.specs.Devices.{OutputView}
 use Rattle.pmap_text.specs.RunsText.{line_text, run_fields, runs_text}
@@ -9,7 +9,7 @@ use Rattle.pmap_print.proofs.runs.RunsTextPrintable.print.Given as goal
 abbrev pub invariant-loop-index : goal.invariant-loop-index
 invariant-loop-index g l =
     let s = l.runs in
-    (((g.S.Sink.sink l.out).printed ++ 10 ∷ [])
+    ((g.S.Sink.sink l.out).printed
     ++ flat_map line_text (map (run_fields s.version) (runs_from l.self.labels.now s l.index (length s.firsts - l.index)))
     ≡ (g.S.Sink.sink l.fn.out).printed ++ runs_text s.version (runs_from l.self.labels.now s 0 (length s.firsts)))
     × ((g.S.Sink.sink l.out).reference ≡ (g.S.Sink.sink l.fn.out).reference)

@@ -1,7 +1,7 @@
 use Rattle.std.proofs.Common.{List, arith, subst, ℕ}
 use Rattle.std.proofs.lemmas.List.{take-take}
 use Rattle.flow_io.specs.Sinks.{Pushes}
-use Rattle.pmap_print.proofs.columns.push_few.Goals as goal
+use Rattle.pmap_print.proofs.fields.push_few.Goals as goal
 
 pub returns-then-bytes-ge-FEW : goal.returns-then-bytes-ge-FEW
 returns-then-bytes-ge-FEW g c =
