@@ -255,6 +255,7 @@ fn front_label(code: &[u8]) -> Option<(Option<&[u8]>, &[u8])>
 }
 
 // Returns the part at the start of the bytes, and the bytes after it, or `None` if there are too few.
+#[inline(always)]
 fn first_part(code: &[u8]) -> Option<(KeyPart<'_>, &[u8])>
     ensures { option_map (λ r. (part_model r.0, r.1.now)) result ≡ first_part code.now }
 {
@@ -303,6 +304,7 @@ impl<'a> Key<'a> {
 
     /// Returns the first part and the key of the other parts, or `None` if there is no part. A label in the part has 1
     /// to 255 bytes.
+    #[inline(always)]
     pub fn split_first(self) -> Option<(KeyPart<'a>, Key<'a>)>
         ensures some { IfSome result (λ r. key_model self.entry ≡ part_model r.0 ∷ key_model r.1) }
         ensures small { IfSome result (λ r. IsSmall (part_model r.0)) }
