@@ -475,11 +475,16 @@ HOSTILE = (
 
 
 class Hostile(Audit):
-    """Files that an attacker made: it takes little memory and, on a quiet machine, at most 5 CPU seconds for 8 MB."""
+    """Files that an attacker made: it takes at most 200 MB of memory and 5 CPU seconds for 8 MB.
+
+    The time is measured on a quiet machine alone, and elsewhere the File has 4 MB, for which half of the memory does.
+    """
     @rows(*HOSTILE)
     def test_file(self, _, messages, wanted):
+        is_quiet = os.environ.get("QUIET") == "1"
+        megabytes = 8 if is_quiet else 4
         with open("hostile.ipfix", "wb") as file:
-            while file.tell() < 8_000_000:
+            while file.tell() < megabytes * 1_000_000:
                 file.write(next(messages))
         with open("said", "w+b") as said:
             process = os.posix_spawn(AUDIT, [AUDIT, "hostile.ipfix"], os.environ, file_actions=[
@@ -487,6 +492,5 @@ class Hostile(Audit):
             _, status, used = os.wait4(process, 0)
         self.assertIn(os.waitstatus_to_exitcode(status), (0, 1))
         self.assertIn(wanted, read("said")[-400:])
-        self.assertLess(used.ru_maxrss, 200_000)
-        # Without a quiet machine the time isn't measured.
-        self.assertLess(used.ru_utime + used.ru_stime, 5 if os.environ.get("QUIET") else FOREVER)
+        self.assertLess(used.ru_maxrss, megabytes * 25_000)
+        self.assertLess(used.ru_utime + used.ru_stime, 5 if is_quiet else FOREVER)
