@@ -477,7 +477,7 @@ HOSTILE = (
 class Hostile(Audit):
     """Files that an attacker made: it takes at most 200 MB of memory and 5 CPU seconds for 8 MB.
 
-    The time is measured on a quiet machine alone, and elsewhere the File has 4 MB, for which half of the memory does.
+    The time is measured on a quiet machine alone, and elsewhere the File has 4 MB.
     """
     @rows(*HOSTILE)
     def test_file(self, _, messages, wanted):
@@ -492,5 +492,5 @@ class Hostile(Audit):
             _, status, used = os.wait4(process, 0)
         self.assertIn(os.waitstatus_to_exitcode(status), (0, 1))
         self.assertIn(wanted, read("said")[-400:])
-        self.assertLess(used.ru_maxrss, megabytes * 25_000)
+        self.assertLess(used.ru_maxrss, 200_000)
         self.assertLess(used.ru_utime + used.ru_stime, 5 if is_quiet else FOREVER)

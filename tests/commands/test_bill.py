@@ -487,8 +487,10 @@ class Times(Case):
     def prepare(cls):
         write("autumn.ipfix", file(*(flow(1792875600 + cls.quarters * number) for number in range(108))))
         write("spring.ipfix", file(*(flow(1774735200 + cls.quarters * number) for number in range(100))))
-        write("ends.ipfix", file(*map(flow, (1793487599, 1793487600, 1793491199, 1793491200, 1796079599, 1796079600))))
-        write("none.ipfix", file(flow(0), flow()))
+        # Messages at both ends of November, so that none can be missing before or after them.
+        times = 1793487599, 1793487600, 1793491199, 1793491200, 1796079599, 1796079600
+        write("ends.ipfix", file(*map(flow, times)) + message(number=len(times), time=1796083200))
+        write("none.ipfix", file(flow(0), flow()) + message(number=2, time=1796083200))
         write("kathmandu.ipfix", file(flow(1793491200 + 18 * 3600 + 14 * 60), flow(1793491200 + 18 * 3600 + 15 * 60)))
 
     def lines(self, *words):
