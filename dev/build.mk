@@ -19,8 +19,8 @@ proved = @echo 'proved: $@'
 named = </dev/null 2>&1 | sed -u 's/^/$@: /'
 
 # Each job reads the modules of the logic and of the crates below anew: flow_filter takes 120 CPU seconds by one job,
-# and 175 by four. So most libraries have half of the jobs. Nearly all of them wait for pmap_text, which has all.
-jobs = $(if $(filter pmap_text,$@),$(JOBS),$(shell expr \( $(JOBS) + 1 \) / 2))
+# and 175 by four. So most libraries have half of the jobs. Nearly all of them wait for pmap_model, which has all.
+jobs = $(if $(filter pmap_model,$@),$(JOBS),$(shell expr \( $(JOBS) + 1 \) / 2))
 
 # rt locks the folder of a crate and those of all crates below, so it would prove the crates above prefix_keys one by
 # one. So each library is proved in a room, which has links to the sources and to the libraries that are built. An

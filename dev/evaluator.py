@@ -559,7 +559,7 @@ def runs_of(definitions, label_of, first, end, runs):
 
 def minimal_pair(definitions, m, l, c):
     """The tree that divides blocks until the map settles them, with exact claims; and the list that is read off it."""
-    settled_label = definitions.call("pmap_text/MapModel.settled_label", m)
+    settled_label = definitions.call("pmap_model/MapModel.settled_label", m)
     in_table_order = definitions.call("pmap_cert/Acceptance.in_table_order", m.f_table)
     width = definitions.call("prefix_keys/Block.width_of", m.f_version)
     leaf, inner, claim_of, exact_claim = (definitions.call(f"pmap_cert/CertificateModel.{name}") for name in (
@@ -578,7 +578,7 @@ def minimal_pair(definitions, m, l, c):
     l.meet(Record(f_version=m.f_version, f_name=m.f_name, f_prefixes=entries, f_table=m.f_table))
 
 
-WITNESSES = {("pmap_text/Runs", "AreRuns"): runs_of, ("pmap_cert/Acceptance", "IsMinimalPair"): minimal_pair}
+WITNESSES = {("pmap_stretches/Runs", "AreRuns"): runs_of, ("pmap_cert/Acceptance", "IsMinimalPair"): minimal_pair}
 
 
 # The definitions of a repository, and the runs of the program by them.

@@ -37,9 +37,9 @@ def groups(definitions, plain, rows):
 def in_order(definitions, plain, is_less, items):
     """The items, merged from two halves in order.
 
-    pmap_text/Sorting with_in_order x [] = x ∷ []
+    pmap_model/Sorting with_in_order x [] = x ∷ []
     with_in_order x (y ∷ ys) = if is_less y x then y ∷ with_in_order x ys else x ∷ y ∷ ys
-    pmap_text/Sorting in_order [] = []
+    pmap_model/Sorting in_order [] = []
     in_order (x ∷ xs) = with_in_order x (in_order xs)
     """
     if len(items) < SHORT:
@@ -103,10 +103,10 @@ def spans(mappings):
 def map_label(definitions, plain, m, a):
     """The label of the last mapping at the address, by the ranges in which one is the last.
 
-    pmap_text/MapModel last_such p [] = None
+    pmap_model/MapModel last_such p [] = None
     last_such p (m ∷ ms) = option_or (last_such p ms) (if p m then Some m else None)
-    pmap_text/MapModel spans a m = nat_le m.low a && nat_le a m.high
-    pmap_text/MapModel map_label m a = option_map_or (λ p. p.label) (last_such (spans a) m.mappings) m.fallback
+    pmap_model/MapModel spans a m = nat_le m.low a && nat_le a m.high
+    pmap_model/MapModel map_label m a = option_map_or (λ p. p.label) (last_such (spans a) m.mappings) m.fallback
     """
     if len(m.f_mappings) < SHORT:
         return plain(m, a)
@@ -119,10 +119,10 @@ def settled_label(definitions, plain, m, n, q):
 
     prefix_keys/Block first_of W n q = q * 2 ^ (W - n)
     prefix_keys/Block last_of W n q = (q + 1) * 2 ^ (W - n) - 1
-    pmap_text/MapModel last_such p [] = None
+    pmap_model/MapModel last_such p [] = None
     last_such p (m ∷ ms) = option_or (last_such p ms) (if p m then Some m else None)
-    pmap_text/MapModel meets W n q m = nat_le m.low (last_of W n q) && nat_le (first_of W n q) m.high
-    pmap_text/MapModel settled_label m n q =
+    pmap_model/MapModel meets W n q m = nat_le m.low (last_of W n q) && nat_le (first_of W n q) m.high
+    pmap_model/MapModel settled_label m n q =
     settled_by (width_of m.version) n q m.fallback
     (last_such (meets (width_of m.version) n q) m.mappings)
     """
@@ -131,7 +131,7 @@ def settled_label(definitions, plain, m, n, q):
     width = definitions.function("prefix_keys/Block", "width_of")(m.f_version)
     size = 2 ** max(width - n, 0)
     number = ranges_of(definitions, m.f_mappings, spans).last_among(q * size, (q + 1) * size - 1)
-    settled_by = definitions.function("pmap_text/MapModel", "settled_by")
+    settled_by = definitions.function("pmap_model/MapModel", "settled_by")
     return settled_by(width, n, q, m.f_fallback, some(m.f_mappings[number]) if number >= 0 else definitions.none)
 
 
@@ -139,11 +139,11 @@ def list_label(definitions, plain, l, a):
     """The label of the longest entry at the address, by the ranges in which one is the longest.
 
     prefix_keys/Block block_number W n a = a / 2 ^ (W - n)
-    pmap_text/ListModel covers W n a p = p.bits == n && block_number W n p.start == block_number W n a
-    pmap_text/ListModel label_below W ps zero a = None
+    pmap_model/ListModel covers W n a p = p.bits == n && block_number W n p.start == block_number W n a
+    pmap_model/ListModel label_below W ps zero a = None
     label_below W ps (suc n) a =
     option_or (option_map (λ p. p.label) (find (covers W n a) ps)) (label_below W ps n a)
-    pmap_text/ListModel list_label l a = label_below (width_of l.version) l.prefixes (suc (width_of l.version)) a
+    pmap_model/ListModel list_label l a = label_below (width_of l.version) l.prefixes (suc (width_of l.version)) a
     """
     if len(l.f_prefixes) < SHORT:
         return plain(l, a)

@@ -155,7 +155,7 @@ class Quick(Evaluating):
     @rows((lambda a, b: a < b,), (lambda a, b: a <= b,), (lambda a, b: a // 4 < b // 4,))
     def test_in_order(self, is_less):
         rng = random.Random(2)
-        self.compare(("pmap_text/Sorting", "in_order"), self.kit.curried(is_less, 2),
+        self.compare(("pmap_model/Sorting", "in_order"), self.kit.curried(is_less, 2),
                      tuple(rng.randrange(60) for _ in range(200)))
 
     def test_map(self):
@@ -164,10 +164,10 @@ class Quick(Evaluating):
         m = self.kit.Record(f_version=self.definitions.call("prefix_keys/Block.V4"), f_fallback=(90,), f_mappings=tuple(
             self.kit.Record(f_low=low, f_high=high, f_label=(65 + rng.randrange(9),)) for low, high in spans))
         for address in range(310):
-            self.compare(("pmap_text/MapModel", "map_label"), m, address)
+            self.compare(("pmap_model/MapModel", "map_label"), m, address)
         for bits in range(33):
             for number in {0, 1, 2 ** bits - 1, 7 % 2 ** bits, 37 % 2 ** bits, 290 >> 32 - bits}:
-                self.compare(("pmap_text/MapModel", "settled_label"), m, bits, number)
+                self.compare(("pmap_model/MapModel", "settled_label"), m, bits, number)
 
     def test_list(self):
         rng = random.Random(4)
@@ -176,7 +176,7 @@ class Quick(Evaluating):
         entries = tuple(entry() for _ in range(200))
         l = self.kit.Record(f_version=self.definitions.call("prefix_keys/Block.V4"), f_prefixes=entries)
         for address in [0, 2 ** 32, *(each.f_start for each in entries), *(rng.randrange(2 ** 32) for _ in range(50))]:
-            self.compare(("pmap_text/ListModel", "list_label"), l, address)
+            self.compare(("pmap_model/ListModel", "list_label"), l, address)
         long = self.kit.added(self.kit.added(entries, (entry(),)), (entry(),))
         for each in (*entries[:9], entry()):
             self.compare(("pmap_text/Reading", "has_prefix"), long, each.f_start, each.f_bits)
@@ -190,7 +190,7 @@ class Quick(Evaluating):
 
     def test_changed(self):
         """With other equations these are evaluated."""
-        module = "pmap_text/MapModel"
+        module = "pmap_model/MapModel"
         text = self.definitions.modules[module].text
         self.definitions.replace(module, text.replace("nat_le a m.high", "nat_lt a m.high"))
         used = self.definitions.function(module, "map_label")

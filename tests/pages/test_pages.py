@@ -49,10 +49,10 @@ LIMITS = (
     ("mappings", r"(?:at most|than) (\d[\d,]*) mappings", "pmap_text/specs/Reading.antt", r"^mapping_limit = (\d+)$"),
     ("labels", r"(?:at most|than) (?:1,000,000 mappings (?:and|or entries, or more than) )?(\d[\d,]*) (?:different )?"
      r"labels\b", "pmap_text/specs/Reading.antt", r"^label_limit = (\d+)$"),
-    ("bytes of a label", r"[Ii]t has 1 to (\d+) bytes", "pmap_text/specs/Label.antt", r"nat_le \(length text\) (\d+)"),
-    ("digits of a label's number", r"has 1 to (\d+) digits and is at most", "pmap_text/specs/Label.antt",
+    ("bytes of a label", r"[Ii]t has 1 to (\d+) bytes", "pmap_model/specs/Label.antt", r"nat_le \(length text\) (\d+)"),
+    ("digits of a label's number", r"has 1 to (\d+) digits and is at most", "pmap_text/specs/Declarations.antt",
      r"= decimal_number (\d+) 2147483647"),
-    ("greatest number of a label", r"(?:is\s+at\s+most|is\s+above)\s+(\d{9,})", "pmap_text/specs/Label.antt",
+    ("greatest number of a label", r"(?:is\s+at\s+most|is\s+above)\s+(\d{9,})", "pmap_text/specs/Declarations.antt",
      r"= decimal_number 10 (\d+)"),
     ("messages", r"(?:more than (\d[\d,]*) messages|\| (\d[\d,]*) messages precede)", "ipfix_read/specs/Message.antt",
      r"nat_lt count (\d+)\) then Some TooManyMessages"),

@@ -46,9 +46,9 @@ HEADLINE = ("flowlabel/specs/Ending", "flowlabel/specs/Headline", "flowlabel/spe
             "flow_files/specs/Groups", "flow_files/specs/Opening", "flow_files/specs/Readers", "flow_many/specs/Ending",
             "flow_many/specs/Headline", "flow_many/specs/Joined", "flow_many/specs/Run",
             "flow_io/specs/Ahead", "flow_io/specs/Devices", "flow_io/specs/Watched", "flow_uniq/specs/Grouped",
-            "pmap_text/specs/Runs")
+            "pmap_stretches/specs/Runs")
 DEFINITIONS = {"pmap_cert/specs/Acceptance": ("HasBlock", "IsInOrder", "IsLeast", "begins_before"),
-               "pmap_text/specs/ListModel": ("IsEquivalent",)}
+               "pmap_model/specs/ListModel": ("IsEquivalent",)}
 DIVIDER = "-- Below:"
 # An out-of-memory error, but no import under its own name, type, variant, comparison or text of it.
 MADE = re.compile(r"\b(?:AllocError|NoMemory)\b")

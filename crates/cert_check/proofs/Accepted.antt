@@ -12,8 +12,8 @@ use Rattle.std.proofs.lemmas.Slice.Eq.{bytes_eq-Decides}
 use Rattle.prefix_keys.specs.Block.{first_of, width_of}
 use Rattle.prefix_keys.specs.declared.version.Version.{Version}
 use Rattle.prefix_keys.specs.declared.version.Version.TheVariants.{V4, V6}
-use Rattle.pmap_text.specs.ListModel.{ListModel, Prefix, label_below, lies_inside}
-use Rattle.pmap_text.specs.MapModel.{Label, MapModel, settled_label}
+use Rattle.pmap_model.specs.ListModel.{ListModel, Prefix, label_below, lies_inside}
+use Rattle.pmap_model.specs.MapModel.{Label, MapModel, settled_label}
 use Rattle.pmap_cert.specs.Compacting.{line_count}
 use Rattle.pmap_cert.specs.Acceptance.{AreBitsAccepted, IsAccepted, IsLeafAccepted, IsNodeAccepted, IsWithinExact}
 use Rattle.pmap_cert.specs.CertificateText.{HasNodeForm, HasRoomBelow}
@@ -21,7 +21,7 @@ use Rattle.pmap_cert.specs.CertificateModel.{CertificateModel, ChainNode, InnerN
 use Rattle.pmap_cert.proofs.Sets.{bytes_eq-same}
 use Rattle.cert_check.specs.Checking.{bits_fault, claim_fault, fault_of_number, first_fault, list_settles, is_label_of, leaf_fault, node_fault, is_same_version, CheckFault, BoundNotMet, CostTooHigh, LeafNotUniform, ListDiffers, SetTooSmall, VersionDiffers}
 use Rattle.cert_check.proofs.Lists.{any-filtered, none_kept}
-use Rattle.pmap_text.specs.Label.{has_label}
+use Rattle.pmap_model.specs.Label.{has_label}
 
 pub same_version-true : (v w : Version) → is_same_version v w ≡ true → v ≡ w
 same_version-true V4 V4 h = refl

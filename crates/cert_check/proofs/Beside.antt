@@ -5,11 +5,11 @@ use Rattle.prefix_keys.proofs.Quotients.{whole}
 use Rattle.prefix_keys.specs.Block.{first_of, last_of, width_of}
 use Rattle.prefix_keys.specs.declared.block.Block.{Block}
 use Rattle.prefix_keys.specs.declared.version.Version.{Version}
-use Rattle.pmap_text.specs.ListModel.{Prefix}
-use Rattle.pmap_text.specs.MapModel.{Label, MapModel}
-use Rattle.pmap_text.specs.MapText.{map_of}
-use Rattle.pmap_text.specs.PrefixList.{list_of, number_of_block}
-use Rattle.pmap_text.proofs.BlockHalves.{high_lies_in, low_lies_in}
+use Rattle.pmap_model.specs.ListModel.{Prefix}
+use Rattle.pmap_model.specs.MapModel.{Label, MapModel}
+use Rattle.pmap_model.specs.MapText.{map_of}
+use Rattle.pmap_model.specs.PrefixList.{list_of, number_of_block}
+use Rattle.pmap_stretches.proofs.BlockHalves.{high_lies_in, low_lies_in}
 use Rattle.pmap_cert.specs.CertificateModel.{chosen_half, side_half}
 use Rattle.pmap_cert.specs.Paths.{LeadsTo, path_number}
 use Rattle.cert_check.specs.Checking.{leaf_fault, CheckFaultKind}

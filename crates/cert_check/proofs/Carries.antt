@@ -6,8 +6,8 @@ use Rattle.std.proofs.lemmas.List.{append-nil}
 use Rattle.std.proofs.lemmas.List.Elements.{filter_agree, filter_more}
 use Rattle.std.proofs.lemmas.List.Folds.{list_any-append, list_any_more}
 use Rattle.prefix_keys.specs.declared.block.Block.{Block}
-use Rattle.pmap_text.specs.declared.entry.Entry.{Entry}
-use Rattle.pmap_text.specs.declared.statement.Statement.{Statement}
+use Rattle.pmap_model.specs.declared.entry.Entry.{Entry}
+use Rattle.pmap_model.specs.declared.statement.Statement.{Statement}
 use Rattle.cert_check.specs.Carried.{carried_to, covers_whole, entries_carried_to, from_last, is_inside, meets_block, spans_block}
 
 -- the list from the last element that passes on, if one more follows

@@ -2,16 +2,15 @@
 use Rattle.std.proofs.Common.{◌≡◌, ◌∙◌, ℕ, suc, ◌+◌, ◌*◌, ◌&&◌, Bool, true, false, cond, nat_lt, List, [], ◌∷◌, length, Option, Some, None, option_map, refl, sym, ap, arith}
 use Rattle.std.specs.Option.{option_or}
 use Rattle.std.proofs.lemmas.Option.{none-some, same_Some}
-use Rattle.pmap_text.specs.ListModel.{Prefix}
-use Rattle.pmap_text.specs.MapModel.{Label, MapModel}
+use Rattle.pmap_model.specs.ListModel.{Prefix, ListModel}
+use Rattle.pmap_model.specs.MapModel.{Label, MapModel}
 use Rattle.prefix_keys.specs.declared.block.Block.{Block}
-use Rattle.pmap_text.specs.PrefixList.{number_of_block}
+use Rattle.pmap_model.specs.PrefixList.{number_of_block}
 use Rattle.pmap_cert.specs.Paths.{path_number}
 use Rattle.pmap_cert.specs.Compacting.{line_count}
 use Rattle.pmap_cert.specs.CertificateModel.{CertificateModel, ChainNode, InnerNode, LeafNode, Tree, claim_of, chosen_half, side_half}
 use Rattle.cert_check.specs.Inner.{IsHalfNumbered, sides_fault}
 use Rattle.cert_check.specs.Checking.{bits_fault, fault_of_number, first_fault, is_same_version, leaf_fault, node_fault, BoundNotMet, Check, CheckFault, CostTooHigh, LeafNotUniform, ListDiffers, NoMemory, SetTooSmall, VersionDiffers}
-use Rattle.pmap_text.specs.ListModel.{ListModel}
 
 pub or-none : {X : Type 0} (a : Option X) → option_or a None ≡ a
 or-none None = refl

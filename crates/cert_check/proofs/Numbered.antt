@@ -5,12 +5,12 @@ use Rattle.std.proofs.lemmas.List.{map-append, take_more}
 use Rattle.std.proofs.lemmas.Option.{get_or_from_slice_get, none-some, same_Some, slice_get-map, slice_get_within}
 use Rattle.std.specs.Option.{unwrap_or}
 use Rattle.std.proofs.lemmas.Slice.Eq.{bytes_eq-Decides}
-use Rattle.pmap_text.specs.Label.{number_of}
-use Rattle.pmap_text.specs.MapModel.{Label}
-use Rattle.pmap_text.specs.MapText.{text_at}
-use Rattle.pmap_text.specs.declared.label.LabelId.{LabelId}
-use Rattle.pmap_text.proofs.LabelTexts.{slice_get-number}
-use Rattle.pmap_text.proofs.Orders.{known_text}
+use Rattle.pmap_model.specs.Label.{number_of}
+use Rattle.pmap_model.specs.MapModel.{Label}
+use Rattle.pmap_model.specs.MapText.{text_at}
+use Rattle.pmap_model.specs.declared.label.LabelId.{LabelId}
+use Rattle.pmap_model.proofs.LabelTexts.{slice_get-number}
+use Rattle.pmap_stretches.proofs.Orders.{known_text}
 use Rattle.cert_check.specs.Inner.{AreNumbers}
 
 -- the numbers of the first i + 1 labels, by those of the first i

@@ -10,26 +10,26 @@ use Rattle.prefix_keys.specs.Block.{first_of, last_of, width_of}
 use Rattle.prefix_keys.specs.declared.block.Block.{Block}
 use Rattle.prefix_keys.specs.declared.version.Version.{Version}
 use Rattle.prefix_keys.proofs.Quotients.{whole}
-use Rattle.pmap_text.specs.Label.{number_of}
-use Rattle.pmap_text.specs.ListModel.{Prefix, label_below, lies_inside}
-use Rattle.pmap_text.specs.MapModel.{Label, MapModel, last_such, meets, settled_by, settled_label}
-use Rattle.pmap_text.specs.declared.statement.Statement.{Statement}
-use Rattle.pmap_text.specs.MapText.{map_of, text_at, text_if_some}
-use Rattle.pmap_text.specs.PrefixList.{AreShortestFirst, list_of, number_of_block}
-use Rattle.pmap_text.specs.Settled.{IsMapOf}
-use Rattle.pmap_text.specs.Stretches.{AreLabelsBelow, AreStretches, HasEveryAddress, HoldsAddress, StretchesModel, count_begun, label_at, last_at, mappings_of}
-use Rattle.pmap_text.specs.declared.label.LabelId.{LabelId}
-use Rattle.pmap_text.specs.declared.map_text.MapText.{MapText}
-use Rattle.pmap_text.specs.declared.prefix_list.PrefixList.{PrefixList}
-use Rattle.pmap_text.proofs.Decided.{held_seen, held_settles, split_has_inside, split_unsettled}
-use Rattle.pmap_text.proofs.ListPainted.{list_blocks}
-use Rattle.pmap_text.proofs.Longest.{AreBlocks, known_seen, label_seen, none_inside}
-use Rattle.pmap_text.proofs.Orders.{known_text}
-use Rattle.pmap_text.proofs.Painted.{IsSeen}
-use Rattle.pmap_text.proofs.Ranges.{held_fits, held_index, holder}
-use Rattle.pmap_text.proofs.Settling.{Settles, map_is, stretch_labelled}
-use Rattle.pmap_text.proofs.BlockHalves.{halves_ends}
-use Rattle.pmap_text.proofs.Windows.{block_some, first_number}
+use Rattle.pmap_model.specs.Label.{number_of}
+use Rattle.pmap_model.specs.ListModel.{Prefix, label_below, lies_inside}
+use Rattle.pmap_model.specs.MapModel.{Label, MapModel, last_such, meets, settled_by, settled_label}
+use Rattle.pmap_model.specs.declared.statement.Statement.{Statement}
+use Rattle.pmap_model.specs.MapText.{map_of, text_at, text_if_some, mappings_of}
+use Rattle.pmap_model.specs.PrefixList.{AreShortestFirst, list_of, number_of_block}
+use Rattle.pmap_model.specs.Settled.{IsMapOf}
+use Rattle.pmap_stretches.specs.Stretches.{AreLabelsBelow, AreStretches, HasEveryAddress, HoldsAddress, StretchesModel, count_begun, label_at, last_at}
+use Rattle.pmap_model.specs.declared.label.LabelId.{LabelId}
+use Rattle.pmap_model.specs.declared.map_text.MapText.{MapText}
+use Rattle.pmap_model.specs.declared.prefix_list.PrefixList.{PrefixList}
+use Rattle.pmap_stretches.proofs.Decided.{held_seen, held_settles, split_has_inside, split_unsettled}
+use Rattle.pmap_stretches.proofs.ListPainted.{list_blocks}
+use Rattle.pmap_stretches.proofs.Longest.{AreBlocks, known_seen, label_seen, none_inside}
+use Rattle.pmap_stretches.proofs.Orders.{known_text}
+use Rattle.pmap_stretches.proofs.Painted.{IsSeen}
+use Rattle.pmap_stretches.proofs.Ranges.{held_fits, held_index, holder}
+use Rattle.pmap_stretches.proofs.Settling.{Settles, map_is, stretch_labelled}
+use Rattle.pmap_stretches.proofs.BlockHalves.{halves_ends}
+use Rattle.pmap_stretches.proofs.Windows.{block_some, first_number}
 use Rattle.cert_check.specs.Checking.{list_settles, is_label_of, leaf_fault, CheckFaultKind, LeafNotUniform, ListDiffers}
 use Rattle.cert_check.specs.Inner.{AreNumbers, AreOf, AreSources, IsRangeOf, Origin, Sources, has_one_label, number_at}
 use Rattle.cert_check.proofs.Lists.{any-filtered}

@@ -4,10 +4,10 @@ use Rattle.std.proofs.lemmas.List.{append-nil, append_assoc, length-append, leng
 use Rattle.std.proofs.Common.{◌≡◌, ◌∙◌, ℕ, drop, take, suc, ◌+◌, ◌-◌, ◌*◌, ◌≤◌, Bool, List, [], ◌++◌, length, Option, Ok, option_map, refl, sym, ap, arith}
 use Rattle.std.specs.Option.{option_or}
 use Rattle.prefix_keys.specs.declared.block.Block.{Block}
-use Rattle.pmap_text.specs.MapText.{map_of, text_at}
-use Rattle.pmap_text.specs.PrefixList.{list_of, number_of_block}
-use Rattle.pmap_text.specs.Reading.{◌>>=◌}
-use Rattle.pmap_text.specs.declared.label.LabelId.{LabelId}
+use Rattle.pmap_model.specs.MapText.{map_of, text_at}
+use Rattle.pmap_model.specs.PrefixList.{list_of, number_of_block}
+use Rattle.pmap_model.specs.Steps.{◌>>=◌}
+use Rattle.pmap_model.specs.declared.label.LabelId.{LabelId}
 use Rattle.pmap_cert.specs.Compacting.{line_count}
 use Rattle.pmap_cert.specs.CertificateText.{IsAscending}
 use Rattle.pmap_cert.specs.CertificateModel.{ChainNode, InnerNode, Claim, Tree, chain_claim, claim_of, exact_claim}

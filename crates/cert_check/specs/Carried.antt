@@ -2,12 +2,12 @@ use Rattle.std.specs.Prelude.{◌&&◌, ◌||◌, ◌==◌, Bool, not, List, [],
 use Rattle.std.specs.List.{list_any}
 use Rattle.prefix_keys.specs.Block.{block_number, first_of, width_of}
 use Rattle.prefix_keys.specs.declared.block.Block.{Block}
-use Rattle.pmap_text.specs.ListModel.{lies_inside}
-use Rattle.pmap_text.specs.MapModel.{meets, spans_all}
-use Rattle.pmap_text.specs.MapText.{mapping_of}
-use Rattle.pmap_text.specs.PrefixList.{number_of_block as number_of, prefix_of}
-use Rattle.pmap_text.specs.declared.entry.Entry.{Entry}
-use Rattle.pmap_text.specs.declared.statement.Statement.{Statement}
+use Rattle.pmap_model.specs.ListModel.{lies_inside}
+use Rattle.pmap_model.specs.MapModel.{meets, spans_all}
+use Rattle.pmap_model.specs.MapText.{mapping_of}
+use Rattle.pmap_model.specs.PrefixList.{number_of_block as number_of, prefix_of}
+use Rattle.pmap_model.specs.declared.entry.Entry.{Entry}
+use Rattle.pmap_model.specs.declared.statement.Statement.{Statement}
 use Rattle.cert_check.specs.Checking.{is_same_version}
 
 -- The statements of a map and the entries of a list that affect a block. Those of another version than the block's

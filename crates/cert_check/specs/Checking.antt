@@ -5,8 +5,8 @@ use Rattle.std.specs.Str.{bytes_eq}
 use Rattle.prefix_keys.specs.declared.version.Version.{Version}
 use Rattle.prefix_keys.specs.declared.version.Version.TheVariants.{V4, V6}
 use Rattle.prefix_keys.specs.Block.{first_of, width_of}
-use Rattle.pmap_text.specs.ListModel.{ListModel, Prefix, label_below, lies_inside}
-use Rattle.pmap_text.specs.MapModel.{Label, MapModel, settled_label}
+use Rattle.pmap_model.specs.ListModel.{ListModel, Prefix, label_below, lies_inside}
+use Rattle.pmap_model.specs.MapModel.{Label, MapModel, settled_label}
 use Rattle.pmap_cert.specs.Compacting.{line_count}
 use Rattle.pmap_cert.specs.declared.fault.CertFault.{CertFault}
 use Rattle.pmap_cert.specs.declared.fault.CertFaultKind.TheVariants.{NoMemory as NoMemoryForText}
@@ -16,7 +16,7 @@ pub use Rattle.cert_check.specs.declared.fault.CheckFaultKind.{CheckFaultKind}
 pub use Rattle.cert_check.specs.declared.fault.TextFault.{TextFault}
 pub use Rattle.cert_check.specs.declared.fault.TextFault.TheVariants.{Certificate, Check}
 pub use Rattle.cert_check.specs.declared.fault.CheckFaultKind.TheVariants.{BoundNotMet, CostTooHigh, LeafNotUniform, ListDiffers, NoMemory, SetTooSmall, VersionDiffers}
-use Rattle.pmap_text.specs.Label.{has_label}
+use Rattle.pmap_model.specs.Label.{has_label}
 
 -- the versions are equal
 abbrev pub is_same_version : Version → Version → Bool

@@ -4,16 +4,16 @@ use Rattle.std.specs.Option.{option_or}
 use Rattle.prefix_keys.specs.Block.{block_number, width_of, first_of, last_of}
 use Rattle.prefix_keys.specs.declared.block.Block.{Block}
 use Rattle.prefix_keys.specs.declared.version.Version.{Version}
-use Rattle.pmap_text.specs.Label.{IsLabelTable, number_of as number_of_label}
-use Rattle.pmap_text.specs.ListModel.{ListModel, Prefix}
-use Rattle.pmap_text.specs.MapModel.{Label, MapModel}
-use Rattle.pmap_text.specs.PrefixList.{AreShortestFirst, list_of, number_of_block}
-use Rattle.pmap_text.specs.declared.label.LabelId.{LabelId}
-use Rattle.pmap_text.specs.Stretches.{AreLabelsBelow, AreStretches, StretchesModel, count_begun, label_held, last_at}
-use Rattle.pmap_text.specs.declared.map_text.MapText.{MapText}
-use Rattle.pmap_text.specs.declared.prefix_list.PrefixList.{PrefixList}
-use Rattle.pmap_text.specs.declared.statement.Statement.{Statement}
-use Rattle.pmap_text.specs.MapText.{text_at, map_of, text_if_some}
+use Rattle.pmap_model.specs.Label.{IsLabelTable, number_of as number_of_label}
+use Rattle.pmap_model.specs.ListModel.{ListModel, Prefix}
+use Rattle.pmap_model.specs.MapModel.{Label, MapModel}
+use Rattle.pmap_model.specs.PrefixList.{AreShortestFirst, list_of, number_of_block}
+use Rattle.pmap_model.specs.declared.label.LabelId.{LabelId}
+use Rattle.pmap_stretches.specs.Stretches.{AreLabelsBelow, AreStretches, StretchesModel, count_begun, label_held, last_at}
+use Rattle.pmap_model.specs.declared.map_text.MapText.{MapText}
+use Rattle.pmap_model.specs.declared.prefix_list.PrefixList.{PrefixList}
+use Rattle.pmap_model.specs.declared.statement.Statement.{Statement}
+use Rattle.pmap_model.specs.MapText.{text_at, map_of, text_if_some}
 use Rattle.pmap_cert.specs.Compacting.{line_count}
 use Rattle.pmap_cert.specs.CertificateText.{IsAscending}
 use Rattle.pmap_cert.specs.CertificateModel.{CertificateModel, ChainNode, Claim, InnerNode, Tree, chosen_half, claim_of, side_half}
@@ -24,7 +24,7 @@ use Rattle.pmap_cert.specs.declared.fault.CertFault.{CertFault}
 use Rattle.pmap_cert.specs.declared.node.Claim.{Claim as Claimed}
 use Rattle.pmap_cert.specs.declared.fault.CertFaultKind.TheVariants.{NoMemory as NoMemoryForText}
 use Rattle.pmap_cert.specs.Inner.{node_due_at}
-use Rattle.pmap_text.specs.Reading.{◌>>=◌}
+use Rattle.pmap_model.specs.Steps.{◌>>=◌}
 use Rattle.cert_check.specs.Checking.{is_label_of, fault_of_number, first_fault, leaf_fault, node_fault, BoundNotMet, CheckFault, CheckFaultKind}
 pub use Rattle.cert_check.specs.declared.source.Source.{Source}
 pub use Rattle.cert_check.specs.declared.sources.Sources.{Sources}

@@ -3,7 +3,7 @@ ghost use Rattle.std.specs.Prelude.{◌≡◌, ℕ, ◌&&◌, ◌||◌, ◌++◌
 ghost use Rattle.std.specs.List.{list_any};
 ghost use Rattle.cert_check.specs.Carried.{carried_to, entries_carried_to, covers_whole as covers_whole_of, is_inside as is_inside_of, meets_block as meets_block_of, spans_block as spans_block_of};
 
-use pmap_text::{Entry, Statement};
+use pmap_model::{Entry, Statement};
 use prefix_keys::Block;
 use std::alloc::{AllocError, Global};
 

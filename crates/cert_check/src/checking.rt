@@ -1,8 +1,8 @@
 //! The check of a certificate and of its text.
 ghost use Rattle.std.specs.Prelude.{◌≡◌, ◌≢◌, ◌&&◌, Some, None, Ok, length, IfErr, IfOk, IsTrue, OnOk};
-ghost use Rattle.pmap_text.specs.ListModel.{IsEquivalent};
-ghost use Rattle.pmap_text.specs.MapText.{map_of};
-ghost use Rattle.pmap_text.specs.PrefixList.{list_of};
+ghost use Rattle.pmap_model.specs.ListModel.{IsEquivalent};
+ghost use Rattle.pmap_model.specs.MapText.{map_of};
+ghost use Rattle.pmap_model.specs.PrefixList.{list_of};
 ghost use Rattle.pmap_cert.specs.Acceptance.{IsAccepted, IsLeast};
 ghost use Rattle.pmap_cert.specs.Certificate.{certificate_of};
 ghost use Rattle.pmap_cert.specs.FormatReading.{format_reading};
@@ -19,7 +19,8 @@ use pmap_cert::{
     CertFault, CertFaultKind, Certificate, Head, LineLimits, acceptance_is_enough,
     read_cert_with_hashing, read_head, text_of_format_is_read_or_has_a_fault, write_cert,
 };
-use pmap_text::{KeyHashing, MapText, PrefixList, Stretches};
+use pmap_model::{KeyHashing, MapText, PrefixList};
+use pmap_stretches::Stretches;
 use prefix_keys::Version;
 use std::alloc::{AllocError, Global};
 

@@ -2,7 +2,7 @@
 //! sets.
 ghost use Rattle.std.specs.Prelude.{◌≡◌, ℕ, ◌+◌, ◌^◌, ◌<◌, ◌≤◌, ◌&&◌, ◌||◌, ◌==◌, ◌∷◌, [], IfSome, Some, None, length, map, nat_lt, not, if◌then◌else◌};
 ghost use Rattle.std.specs.List.{list_all};
-ghost use Rattle.pmap_text.specs.MapText.{text_at};
+ghost use Rattle.pmap_model.specs.MapText.{text_at};
 ghost use Rattle.pmap_cert.specs.CertificateText.{IsAscending};
 ghost use Rattle.pmap_cert.specs.CertificateModel.{chain_claim, exact_claim};
 ghost use Rattle.pmap_cert.specs.Packed.{bits_in};
@@ -11,7 +11,7 @@ ghost use Rattle.cert_check.specs.Inner.{claim_in, has_number};
 
 use crate::fault::CheckFaultKind;
 use pmap_cert::{Claim, Path};
-use pmap_text::{LabelId, Labels};
+use pmap_model::{LabelId, Labels};
 
 // Returns the rest of the set from the first number that is at least `id`.
 fn rest_from<'a>(set: &'a [LabelId], id: LabelId) -> &'a [LabelId]

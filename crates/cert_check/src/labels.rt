@@ -1,12 +1,12 @@
 //! The numbers of the map's and the list's labels in the certificate's table.
 ghost use Rattle.std.specs.Prelude.{◌≡◌, ◌<◌, length, List, IfOk};
 ghost use Rattle.std.specs.Option.{ForSome};
-ghost use Rattle.pmap_text.specs.MapModel.{Label};
-ghost use Rattle.pmap_text.specs.MapText.{text_at, text_if_some};
+ghost use Rattle.pmap_model.specs.MapModel.{Label};
+ghost use Rattle.pmap_model.specs.MapText.{text_at, text_if_some};
 ghost use Rattle.cert_check.specs.Checking.{is_label_of};
 ghost use Rattle.cert_check.specs.Inner.{AreNumbers};
 
-use pmap_text::{LabelId, Labels};
+use pmap_model::{LabelId, Labels};
 use std::alloc::{AllocError, Global};
 
 /// Returns for each label of a table its number in another table, or `None` if that table lacks it.

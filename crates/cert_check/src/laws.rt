@@ -1,8 +1,8 @@
 //! The law about faults and acceptance.
 
 ghost use Rattle.std.specs.Prelude.{◌≡◌, None};
-ghost use Rattle.pmap_text.specs.ListModel.{ListModel};
-ghost use Rattle.pmap_text.specs.MapModel.{MapModel};
+ghost use Rattle.pmap_model.specs.ListModel.{ListModel};
+ghost use Rattle.pmap_model.specs.MapModel.{MapModel};
 ghost use Rattle.pmap_cert.specs.Acceptance.{IsAccepted};
 ghost use Rattle.pmap_cert.specs.CertificateText.{HasFormatText};
 ghost use Rattle.pmap_cert.specs.CertificateModel.{CertificateModel};

@@ -11,14 +11,14 @@
 //! assert!(rt; check(alloc, &map, &list, &certificate)? == 2);
 //! ```
 //!
-//! It depends on prefix_keys (blocks), pmap_text (maps, their stretches and prefix lists) and pmap_cert (certificates
-//! and the law that an accepted one is enough), and knows neither the trie nor the minimiser. The layer above may rely
-//! on this: `check` returns the number of entries exactly if the certificate is accepted for the map and the list, and
-//! then the list labels every address as the map does and no list that does so has fewer entries. Otherwise it returns
-//! the first fault with the number of its node. `check_text` does the same for a certificate's text while it reads the
-//! text, and stores no node: a fault of the text comes first. It needs no statement and no entry, only what `Swept`
-//! has of a map and of a list. `carried` and `carried_entries` return the statements and
-//! entries that affect a block.
+//! It depends on prefix_keys (blocks), pmap_model (maps and prefix lists), pmap_stretches (their stretches) and
+//! pmap_cert (certificates and the law that an accepted one is enough), and knows neither the trie nor the minimiser.
+//! The layer above may rely on this: `check` returns the number of entries exactly if the certificate is accepted for
+//! the map and the list, and then the list labels every address as the map does and no list that does so has fewer
+//! entries. Otherwise it returns the first fault with the number of its node. `check_text` does the same for a
+//! certificate's text while it reads the text, and stores no node: a fault of the text comes first. It needs no
+//! statement and no entry, only what `Swept` has of a map and of a list. `carried` and `carried_entries` return the
+//! statements and entries that affect a block.
 #![tactic(auto)]
 
 mod carrying;

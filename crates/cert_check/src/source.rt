@@ -1,13 +1,14 @@
 //! A map or a list that a certificate is checked against.
 ghost use Rattle.std.specs.Prelude.{◌≡◌, ◌^◌, ◌<◌, ◌≤◌, List, IfOk, IfSome, IsTrue, length};
 ghost use Rattle.prefix_keys.specs.Block.{width_of};
-ghost use Rattle.pmap_text.specs.MapModel.{Label};
-ghost use Rattle.pmap_text.specs.MapText.{text_at};
-ghost use Rattle.pmap_text.specs.Stretches.{AreLabelsBelow, HoldsAddress, last_at};
+ghost use Rattle.pmap_model.specs.MapModel.{Label};
+ghost use Rattle.pmap_model.specs.MapText.{text_at};
+ghost use Rattle.pmap_stretches.specs.Stretches.{AreLabelsBelow, HoldsAddress, last_at};
 ghost use Rattle.cert_check.specs.Inner.{AreNumbers, has_one_label};
 
 use crate::labels::{is_label, numbers_in};
-use pmap_text::{LabelId, Labels, Stretches};
+use pmap_model::{LabelId, Labels};
+use pmap_stretches::Stretches;
 use std::alloc::{AllocError, Global};
 
 /// The stretches of a map or a list, and the number of each of its labels in the certificate's table, so that texts are

@@ -2,8 +2,8 @@
 ghost use Rattle.std.specs.Prelude.{◌≡◌, ℕ, ◌^◌, ◌+◌, ◌<◌, ◌≤◌, IfOk, IfSome, IsNone, IsTrue, length};
 ghost use Rattle.prefix_keys.specs.Block.{last_of, width_of};
 ghost use Rattle.prefix_keys.specs.declared.block.Block.{Block};
-ghost use Rattle.pmap_text.specs.MapText.{map_of, text_at};
-ghost use Rattle.pmap_text.specs.PrefixList.{list_of, number_of_block as number_of};
+ghost use Rattle.pmap_model.specs.MapText.{map_of, text_at};
+ghost use Rattle.pmap_model.specs.PrefixList.{list_of, number_of_block as number_of};
 ghost use Rattle.pmap_cert.specs.CertificateModel.{chosen_half, side_half};
 ghost use Rattle.pmap_cert.specs.Packed.{bits_in};
 ghost use Rattle.pmap_cert.specs.Paths.{LeadsTo};
@@ -14,7 +14,7 @@ use crate::fault::CheckFaultKind;
 use crate::source::Source;
 use crate::swept::Swept;
 use pmap_cert::{LineLimits, Path};
-use pmap_text::LabelId;
+use pmap_model::LabelId;
 use prefix_keys::{Block, Version};
 use std::alloc::{AllocError, Global};
 

@@ -1,7 +1,8 @@
 ghost use Rattle.std.specs.Prelude.{IfOk};
 ghost use Rattle.cert_check.specs.Inner.{HasKnownLabels, IsOfList, IsOfMap};
 
-use pmap_text::{Labels, MapText, PrefixList, Stretches};
+use pmap_model::{Labels, MapText, PrefixList};
+use pmap_stretches::Stretches;
 use std::alloc::{AllocError, Global};
 
 /// What a check needs of a map or of a list: the stretches, the table of their labels, and the number of statements or

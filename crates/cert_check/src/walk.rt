@@ -1,7 +1,7 @@
 //! The walk over the nodes of a certificate or of its text, which reads and checks each of them.
 ghost use Rattle.std.specs.Prelude.{◌≡◌, ◌+◌, ◌++◌, ◌∷◌, [], ◌<◌, Err, None, IfOk, OnOk, length, take};
 ghost use Rattle.std.specs.Option.{option_or};
-ghost use Rattle.pmap_text.specs.PrefixList.{number_of_block as number_of};
+ghost use Rattle.pmap_model.specs.PrefixList.{number_of_block as number_of};
 ghost use Rattle.pmap_cert.specs.Packed.{bits_in};
 ghost use Rattle.cert_check.specs.Inner.{AreSources, FitsPath, IsAfter, IsWalkResult, IsHeld, IsRangeOf, chain_reading, fault_of_node, fault_with, halves_reading, held_claim, number_at, reading_at};
 
@@ -9,7 +9,7 @@ use crate::claims::{chain_fault, claim_fault};
 use crate::fault::{CheckFault, CheckFaultKind};
 use crate::sources::{LastFound, Sources};
 use pmap_cert::{CertFault, CertFaultKind, Claim, Lines, Node, NodeBuffer, Path};
-use pmap_text::LabelId;
+use pmap_model::LabelId;
 use prefix_keys::Block;
 use std::alloc::{AllocError, Global};
 

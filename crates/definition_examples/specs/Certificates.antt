@@ -1,9 +1,10 @@
 use Rattle.std.specs.Prelude.{ℕ, List, [], ◌++◌, Option, Some, None, Result, Ok, Err, codes, length, replicate, zero, suc}
 use Rattle.std.specs.Fmt.{digits}
 use Rattle.std.specs.List.{flat_map}
-use Rattle.pmap_text.specs.ListModel.{ListModel}
-use Rattle.pmap_text.specs.MapModel.{MapModel}
-use Rattle.pmap_text.specs.Reading.{◌>>=◌, list_reading, map_reading}
+use Rattle.pmap_model.specs.ListModel.{ListModel}
+use Rattle.pmap_model.specs.MapModel.{MapModel}
+use Rattle.pmap_model.specs.Steps.{◌>>=◌}
+use Rattle.pmap_text.specs.Reading.{list_reading, map_reading}
 use Rattle.pmap_text.specs.declared.fault.MapFault.{MapFault}
 use Rattle.pmap_cert.specs.Acceptance.{IsMinimalPair}
 use Rattle.pmap_cert.specs.CertificateModel.{CertificateModel, InnerNode, LeafNode, Tree, opened_certificate}

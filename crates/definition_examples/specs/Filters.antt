@@ -1,7 +1,8 @@
 use Rattle.std.specs.Prelude.{ℕ, List, [], ◌∷◌, ◌==◌, Bool, Option, None, Some, Result, Ok, find, map, option_map}
 use Rattle.prefix_keys.specs.Text.{AddressOf}
-use Rattle.pmap_text.specs.MapModel.{Label}
-use Rattle.pmap_text.specs.Reading.{◌>>=◌, map_reading}
+use Rattle.pmap_model.specs.MapModel.{Label}
+use Rattle.pmap_model.specs.Steps.{◌>>=◌}
+use Rattle.pmap_text.specs.Reading.{map_reading}
 use Rattle.pmap_text.specs.declared.fault.MapFault.{MapFault}
 use Rattle.label_lookup.specs.Labelling.{labelling_of_map}
 use Rattle.flow_rows.specs.Elements.{RowView}

@@ -1,8 +1,9 @@
 use Rattle.std.specs.Prelude.{ℕ, List, Option, None, option_and_then, Result, Ok, Err, codes}
 use Rattle.prefix_keys.specs.Text.{AddressOf, address_of}
-use Rattle.pmap_text.specs.ListModel.{ListModel}
-use Rattle.pmap_text.specs.MapModel.{Label, MapModel}
-use Rattle.pmap_text.specs.Reading.{◌>>=◌, list_reading, map_reading}
+use Rattle.pmap_model.specs.ListModel.{ListModel}
+use Rattle.pmap_model.specs.MapModel.{Label, MapModel}
+use Rattle.pmap_model.specs.Steps.{◌>>=◌}
+use Rattle.pmap_text.specs.Reading.{list_reading, map_reading}
 use Rattle.pmap_text.specs.declared.fault.MapFault.{MapFault}
 use Rattle.pmap_text.specs.declared.fault.MapFaultKind.{MapFaultKind}
 use Rattle.label_lookup.specs.Labelling.{Labelling, label_by, labelling_of_list, labelling_of_map}

@@ -1,8 +1,9 @@
 use Rattle.std.specs.Prelude.{ℕ, List, Bool, false, Option, None, Result, Ok, map}
 use Rattle.std.specs.List.{flat_map}
 use Rattle.prefix_keys.specs.Text.{AddressOf}
-use Rattle.pmap_text.specs.MapModel.{Label}
-use Rattle.pmap_text.specs.Reading.{◌>>=◌, list_reading}
+use Rattle.pmap_model.specs.MapModel.{Label}
+use Rattle.pmap_model.specs.Steps.{◌>>=◌}
+use Rattle.pmap_text.specs.Reading.{list_reading}
 use Rattle.pmap_text.specs.declared.fault.MapFault.{MapFault}
 use Rattle.ipfix_read.specs.declared.set.Set.{Set}
 use Rattle.flow_rows.specs.Counts.{counts_of}

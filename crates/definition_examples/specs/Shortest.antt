@@ -1,6 +1,6 @@
 use Rattle.std.specs.Prelude.{ℕ, List, Result, Ok}
-use Rattle.pmap_text.specs.ListModel.{IsEquivalent, ListModel}
-use Rattle.pmap_text.specs.MapModel.{MapModel}
+use Rattle.pmap_model.specs.ListModel.{IsEquivalent, ListModel}
+use Rattle.pmap_model.specs.MapModel.{MapModel}
 use Rattle.pmap_text.specs.Reading.{list_reading, map_reading}
 use Rattle.pmap_text.specs.declared.fault.MapFault.{MapFault}
 use Rattle.pmap_cert.specs.Acceptance.{IsLeast}

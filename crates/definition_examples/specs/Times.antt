@@ -1,7 +1,7 @@
 use Rattle.std.specs.Prelude.{ℕ, List, ◌∷◌, Option, false, true}
 use Rattle.std.proofs.Common.{lit<}
 use Rattle.prefix_keys.specs.Text.{AddressOf}
-use Rattle.pmap_text.specs.MapModel.{Label}
+use Rattle.pmap_model.specs.MapModel.{Label}
 use Rattle.flow_rows.specs.Elements.{RowView}
 use Rattle.flow_uniq.specs.Groups.{groups_of, shown_groups}
 use Rattle.flow_uniq.specs.Times.{unit_start}

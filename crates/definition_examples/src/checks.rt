@@ -7,7 +7,7 @@ ghost use Rattle.definition_examples.specs.Certificates.{AreMinimalPair, head, l
 ghost use Rattle.pmap_cert.specs.Acceptance.{begins_before, HasBlock, IsInOrder, StandsFor, entries_of, handed_on, in_table_order, least_label, own_entry};
 ghost use Rattle.pmap_cert.specs.CertificateModel.{ChainNode, InnerNode, LeafNode};
 ghost use Rattle.pmap_cert.specs.FormatReading.{format_reading};
-ghost use Rattle.pmap_text.specs.MapModel.{meets};
+ghost use Rattle.pmap_model.specs.MapModel.{meets};
 ghost use Rattle.pmap_text.specs.Reading.{list_reading, map_reading};
 ghost use Rattle.prefix_keys.specs.declared.version.Version.TheVariants.{V4};
 ghost use Rattle.std.specs.Prelude.{◌≡◌, ◌++◌, codes, None, ◌∷◌, [], Some, true, false};

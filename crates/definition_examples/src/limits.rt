@@ -1,7 +1,7 @@
 //! The limits of a text: FORMATS.md, "Limits". Fault M12 is reported if a mapping, an entry or a label has no room.
 
-ghost use Rattle.pmap_text.specs.ListModel.{Prefix};
-ghost use Rattle.pmap_text.specs.MapModel.{Mapping};
+ghost use Rattle.pmap_model.specs.ListModel.{Prefix};
+ghost use Rattle.pmap_model.specs.MapModel.{Mapping};
 ghost use Rattle.pmap_text.specs.Reading.{content_line, no_lines, label_limit, mapping_limit, with_text};
 ghost use Rattle.pmap_text.specs.declared.fault.MapFaultKind.TheVariants.{TooMany};
 ghost use Rattle.pmap_text.specs.declared.reading.form.Form.TheVariants as form;

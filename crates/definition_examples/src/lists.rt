@@ -2,7 +2,7 @@
 
 ghost use Rattle.definition_examples.specs.Maps.{of_list, office_list, under_list};
 ghost use Rattle.pmap_cert.specs.ListText.{labels_of};
-ghost use Rattle.pmap_text.specs.ListModel.{list_label, label_below};
+ghost use Rattle.pmap_model.specs.ListModel.{list_label, label_below};
 ghost use Rattle.prefix_keys.specs.declared.version.Version.TheVariants.{V4, V6};
 ghost use Rattle.std.specs.Prelude.{◌≡◌, ◌∷◌, [], codes, None, Ok, Some};
 

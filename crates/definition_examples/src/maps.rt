@@ -2,7 +2,7 @@
 
 ghost use Rattle.definition_examples.specs.Maps.{of_map, offices, under_map, label_at};
 ghost use Rattle.label_lookup.specs.Labelling.{labelling};
-ghost use Rattle.pmap_text.specs.Label.{with_declared};
+ghost use Rattle.pmap_text.specs.Declarations.{with_declared};
 ghost use Rattle.prefix_keys.specs.declared.version.Version.TheVariants.{V4, V6};
 ghost use Rattle.std.specs.Prelude.{◌≡◌, ◌++◌, ◌∷◌, [], codes, None, Ok, replicate, Some};
 

@@ -1,8 +1,8 @@
 //! Printed runs, as `cat` prints them: FORMATS.md, "Printed texts".
 #![tactic(auto, unfolding(crate::specs::Addresses::opened))]
 
-ghost use Rattle.pmap_text.specs.Runs.{AreRuns, HasOneRun, HasOneLabel};
-ghost use Rattle.pmap_text.specs.RunsText.{runs_text};
+ghost use Rattle.pmap_stretches.specs.Runs.{AreRuns, HasOneRun, HasOneLabel};
+ghost use Rattle.pmap_stretches.specs.RunsText.{runs_text};
 ghost use Rattle.prefix_keys.specs.declared.version.Version.TheVariants.{V4, V6};
 ghost use Rattle.std.specs.Prelude.{◌≡◌, ◌∷◌, [], codes, None, Some, nat_lt, if◌then◌else◌};
 

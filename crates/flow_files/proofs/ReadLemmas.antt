@@ -18,13 +18,14 @@ use Rattle.ipfix_read.proofs.Readings.{placed_are_messages}
 use Rattle.ipfix_read.specs.Messages.{StopsReading, file_reading, messages_in, placed_messages}
 use Rattle.ipfix_read.specs.declared.fault.ReadFault.{ReadFault}
 use Rattle.label_lookup.specs.Labelling.{Labelling, StretchModel, labelling_of_list, labelling_of_map, labelling_of_stretches}
-use Rattle.pmap_text.specs.ListModel.{ListModel}
-use Rattle.pmap_text.specs.MapModel.{MapModel}
-use Rattle.pmap_text.specs.MapText.{map_of}
-use Rattle.pmap_text.specs.PrefixList.{list_of}
-use Rattle.pmap_text.specs.Reading.{◌>>=◌, list_reading, map_reading}
-use Rattle.pmap_text.specs.declared.map_text.MapText.{MapText}
-use Rattle.pmap_text.specs.declared.prefix_list.PrefixList.{PrefixList}
+use Rattle.pmap_model.specs.ListModel.{ListModel}
+use Rattle.pmap_model.specs.MapModel.{MapModel}
+use Rattle.pmap_model.specs.MapText.{map_of}
+use Rattle.pmap_model.specs.PrefixList.{list_of}
+use Rattle.pmap_model.specs.Steps.{◌>>=◌}
+use Rattle.pmap_text.specs.Reading.{list_reading, map_reading}
+use Rattle.pmap_model.specs.declared.map_text.MapText.{MapText}
+use Rattle.pmap_model.specs.declared.prefix_list.PrefixList.{PrefixList}
 use Rattle.pmap_cert.specs.CertificateModel.{CertificateModel}
 use Rattle.pmap_cert.specs.FormatReading.{format_reading}
 use Rattle.flow_files.specs.BytesFault.{is_out_of_memory, role_of}

@@ -1,6 +1,7 @@
 use Rattle.std.specs.Prelude.{◌≡◌, ℕ, Bool, List, Option, Some, None, Result, Ok, Err}
 use Rattle.std.specs.Result.{result_map_both}
-use Rattle.pmap_text.specs.Reading.{◌>>=◌, list_reading, map_reading}
+use Rattle.pmap_model.specs.Steps.{◌>>=◌}
+use Rattle.pmap_text.specs.Reading.{list_reading, map_reading}
 use Rattle.ipfix_read.specs.Messages.{file_reading}
 use Rattle.ipfix_read.specs.Message.{MessageView}
 use Rattle.flow_rows.specs.Counts.{rows_of_messages}

@@ -16,7 +16,7 @@ use flow_io::Input;
 use flow_rows::{Row, rows_of};
 use ipfix_read::{Buffer, Message};
 use label_lookup::StretchIndex;
-use pmap_text::KeyHashing;
+use pmap_model::KeyHashing;
 use std::alloc::{AllocError, Global};
 
 /// What rows are added to, with the labels of their addresses.

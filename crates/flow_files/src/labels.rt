@@ -9,7 +9,7 @@ use crate::label_file::LabelFile;
 use crate::reading::{read_list, read_map};
 use flow_io::Input;
 use label_lookup::StretchIndex;
-use pmap_text::{KeyHashing, Labels, MapText, PrefixList};
+use pmap_model::{KeyHashing, Labels, MapText, PrefixList};
 use std::alloc::{AllocError, Global};
 
 /// A prefix map or a prefix list.

@@ -1,6 +1,6 @@
 //! Reads a file whole, and decodes its text. A text is given away once it is decoded.
-ghost use Rattle.pmap_text.specs.MapText.{map_of};
-ghost use Rattle.pmap_text.specs.PrefixList.{list_of};
+ghost use Rattle.pmap_model.specs.MapText.{map_of};
+ghost use Rattle.pmap_model.specs.PrefixList.{list_of};
 ghost use Rattle.pmap_text.specs.Reading.{list_reading, map_reading};
 ghost use Rattle.pmap_cert.specs.Certificate.{certificate_of};
 ghost use Rattle.pmap_cert.specs.FormatReading.{format_reading};
@@ -12,7 +12,8 @@ use crate::fault::RunFault;
 use crate::inputs::Source;
 use flow_io::{Input, ReadStop, read_whole};
 use pmap_cert::{Certificate, read_cert_with_hashing, text_of_format_is_read_or_has_a_fault};
-use pmap_text::{KeyHashing, MapText, PrefixList, read_list_with_hashing, read_map_with_hashing};
+use pmap_model::{KeyHashing, MapText, PrefixList};
+use pmap_text::{read_list_with_hashing, read_map_with_hashing};
 use std::alloc::Global;
 
 /// Reads the rest of a file, and returns its name and its text. Both are empty if the file isn't there.

@@ -3,7 +3,7 @@ use Rattle.std.proofs.Common.{◌≡◌, ◌∙◌, ℕ, ◌+◌, List, [], ◌�
 use Rattle.std.specs.List.{flat_map}
 use Rattle.std.specs.Option.{option_or}
 use Rattle.std.proofs.lemmas.Grind.{flat_map-append}
-use Rattle.pmap_text.specs.Reading.{◌>>=◌}
+use Rattle.pmap_model.specs.Steps.{◌>>=◌}
 use Rattle.ipfix_templates.specs.Reading.{after_items}
 use Rattle.flow_files.specs.declared.bytes_fault.BytesFault.{BytesFault}
 use Rattle.flow_files.specs.Sources.{Text}

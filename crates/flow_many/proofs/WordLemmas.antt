@@ -6,7 +6,7 @@ use Rattle.std.specs.Result.{result_map_both}
 use Rattle.std.specs.Str.{bytes_eq}
 use Rattle.std.proofs.lemmas.Bool.{or_parts}
 use Rattle.std.proofs.lemmas.List.{append-nil}
-use Rattle.pmap_text.specs.Reading.{◌>>=◌}
+use Rattle.pmap_model.specs.Steps.{◌>>=◌}
 use Rattle.flow_uniq.specs.Key.{all_fields, each_once, field_name, field_named, fields_need_labels, has_unnamed, items_of, keys_reading, named_fields, same_field, with_field, with_unit}
 use Rattle.flow_uniq.specs.declared.fault.KeyFault.{KeyFault}
 use Rattle.flow_uniq.specs.declared.fault.KeyFault.TheVariants.{BadField, FieldRepeated}

@@ -1,6 +1,6 @@
 use Rattle.std.specs.Prelude.{ℕ, ◌&&◌, Bool, true, false, not, List, ◌∷◌, Option, Some, None, Result, Ok, if◌then◌else◌, map, nat_le, nat_lt, option_map}
 use Rattle.std.specs.List.{flat_map, list_any}
-use Rattle.pmap_text.specs.Reading.{◌>>=◌}
+use Rattle.pmap_model.specs.Steps.{◌>>=◌}
 use Rattle.ipfix_read.specs.Message.{MessageView}
 use Rattle.flow_rows.specs.Counts.{is_skipped, rows_of_sets}
 use Rattle.flow_rows.specs.Elements.{RowView}

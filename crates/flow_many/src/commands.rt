@@ -13,8 +13,8 @@ use flow_files::{Files, LabelFile, Opener, RunFault, index_of, print_to, read_la
 use flow_filter::Filter;
 use flow_io::Output;
 use flow_uniq::Keys;
+use pmap_model::KeyHashing;
 use pmap_print::GroupsText;
-use pmap_text::KeyHashing;
 use std::alloc::Global;
 
 /// What the rows of Files are summed by, and which of them.

@@ -16,7 +16,7 @@ ghost use Rattle.flow_many.specs.Ending.{IsEndOf, IsProgram};
 
 use flow_files::{Opener, RunFault, UsageFault, end, listed, open_all, words_fault};
 use flow_io::Output;
-use pmap_text::KeyHashing;
+use pmap_model::KeyHashing;
 use std::alloc::Global;
 use std::convert::AsStr;
 use std::env;

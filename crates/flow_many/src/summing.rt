@@ -11,7 +11,7 @@ use flow_rows::Row;
 use flow_uniq::{Groups, KeyField, Keys};
 use ipfix_read::{Message, Set};
 use label_lookup::StretchIndex;
-use pmap_text::KeyHashing;
+use pmap_model::KeyHashing;
 use std::alloc::{AllocError, Global};
 
 // The most messages of all Files together. A message has at most 131,070 rows, so the number of rows fits 64 bits.

@@ -4,7 +4,7 @@
 
 use flow_io::Watched;
 use flow_many::program;
-use pmap_text::KeyHashing;
+use pmap_model::KeyHashing;
 use std::env;
 use std::process::ExitCode;
 

@@ -11,7 +11,7 @@ use Rattle.std.proofs.lemmas.Map.Keys.{IsDistinct-head, IsDistinct-tail}
 use Rattle.std.proofs.lemmas.Simd.{map-map}
 use Rattle.flow_rows.specs.Elements.{RowView}
 use Rattle.prefix_keys.specs.Text.{AddressOf}
-use Rattle.pmap_text.specs.MapModel.{Label}
+use Rattle.pmap_model.specs.MapModel.{Label}
 use Rattle.flow_uniq.specs.Key.{Key, KeyField, key_of, same_key}
 use Rattle.flow_uniq.specs.Groups.{GroupModel, distinct_keys, groups_of, groups_of_keyed, totals_of}
 use Rattle.flow_uniq.specs.Laws.{DivideRows, SumsItsRows}

@@ -9,8 +9,8 @@ use Rattle.std.proofs.lemmas.Simd.{map-map}
 use Rattle.std.specs.Cmp.{IsEquivalence}
 use Rattle.std.specs.List.{list_any}
 use Rattle.prefix_keys.specs.Text.{AddressOf}
-use Rattle.pmap_text.specs.MapModel.{Label}
-use Rattle.pmap_text.proofs.LabelTexts.{list_any-map}
+use Rattle.pmap_model.specs.MapModel.{Label}
+use Rattle.pmap_model.proofs.LabelTexts.{list_any-map}
 use Rattle.flow_rows.specs.Elements.{RowView}
 use Rattle.flow_uniq.specs.Key.{Key, KeyField, key_of, part_numbers, same_key}
 use Rattle.flow_uniq.specs.Groups.{Totals, GroupModel, distinct_keys, groups_of_keyed, totals_of}

@@ -12,9 +12,9 @@ use Rattle.std.proofs.lemmas.List.Elements.{filter_agree}
 use Rattle.std.proofs.lemmas.List.Sorted.{IsPermutation-append, IsPermutation-map, IsPermutation-refl, list_any-IsPermutation, ranks_by}
 use Rattle.std.proofs.lemmas.Simd.{map-map}
 use Rattle.prefix_keys.specs.Text.{AddressOf}
-use Rattle.pmap_text.specs.MapModel.{Label}
-use Rattle.pmap_text.specs.Sorting.{in_order}
-use Rattle.pmap_text.proofs.Sorting.{in_order-sorted, same-in_order, sorted_is, stable-in_order}
+use Rattle.pmap_model.specs.MapModel.{Label}
+use Rattle.pmap_model.specs.Sorting.{in_order}
+use Rattle.pmap_model.proofs.Sorting.{in_order-sorted, same-in_order, sorted_is, stable-in_order}
 use Rattle.flow_rows.specs.Elements.{RowView}
 use Rattle.flow_uniq.specs.Key.{Key, KeyField, KeyPartModel, key_of, part_numbers, same_key}
 use Rattle.flow_uniq.specs.Groups.{GroupModel, distinct_keys, groups_of, is_before, totals_of}

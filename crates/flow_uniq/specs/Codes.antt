@@ -6,7 +6,7 @@ use Rattle.std.specs.Option.{option_map_or}
 use Rattle.std.specs.Str.{bytes_eq}
 use Rattle.prefix_keys.specs.Block.{width_of}
 use Rattle.prefix_keys.specs.declared.version.Version.TheVariants.{V4, V6}
-use Rattle.pmap_text.specs.Label.{is_label}
+use Rattle.pmap_model.specs.Label.{is_label}
 use Rattle.flow_uniq.specs.declared.codec.KeyPart.{KeyPart}
 use Rattle.flow_uniq.specs.declared.codec.KeyPart.TheVariants as part
 use Rattle.flow_uniq.specs.Key.{Key, KeyPartModel, AddressPart, NumberPart, LabelPart, TimePart, Precision, Day, Hour, Minute}

@@ -5,7 +5,7 @@ use Rattle.std.specs.Str.{bytes_eq}
 use Rattle.std.specs.Cmp.Lexicographic.{pointwise}
 use Rattle.prefix_keys.specs.Text.{AddressOf}
 use Rattle.prefix_keys.specs.Block.{width_of}
-use Rattle.pmap_text.specs.MapModel.{Label}
+use Rattle.pmap_model.specs.MapModel.{Label}
 use Rattle.flow_rows.specs.Elements.{RowView}
 pub use Rattle.flow_uniq.specs.declared.field.KeyField.{KeyField}
 pub use Rattle.flow_uniq.specs.declared.field.TimeUnit.{TimeUnit}

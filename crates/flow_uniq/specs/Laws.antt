@@ -2,7 +2,7 @@ use Rattle.std.specs.Prelude.{◌≡◌, ◌<◌, All, Bool, List, Option, filte
 use Rattle.std.specs.List.{IsDistinct, flat_map}
 use Rattle.flow_rows.specs.Elements.{RowView}
 use Rattle.prefix_keys.specs.Text.{AddressOf}
-use Rattle.pmap_text.specs.MapModel.{Label}
+use Rattle.pmap_model.specs.MapModel.{Label}
 use Rattle.flow_uniq.specs.Key.{Key, KeyField, same_key}
 use Rattle.flow_uniq.specs.Groups.{GroupModel, Totals, distinct_keys, groups_of, shown_groups}
 

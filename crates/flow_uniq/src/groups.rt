@@ -1,5 +1,5 @@
 ghost use Rattle.std.specs.Prelude.{All, ◌≡◌, ◌++◌, ℕ, ◌∷◌, [], ◌+◌, ◌-◌, ◌^◌, ◌<◌, ◌≤◌, false, IsTrue, List, IfOk, OnOk, OnErr, length, map, option_map, slice_get};
-ghost use Rattle.pmap_text.specs.Sorting.{in_order};
+ghost use Rattle.pmap_model.specs.Sorting.{in_order};
 ghost use Rattle.label_lookup.specs.Labelling.{label_where, labelling_borrowed};
 ghost use Rattle.flow_rows.specs.Elements.{RowView};
 ghost use Rattle.flow_uniq.specs.Groups.{AreOfNoRows, groups_of_keyed, is_before, record_count};
@@ -14,7 +14,7 @@ use crate::recent::{Recent, mixed};
 use flow_rows::Row;
 use indexmap::IndexMap;
 use label_lookup::Labeller;
-use pmap_text::KeyHashing;
+use pmap_model::KeyHashing;
 use std::alloc::{AllocError, Global};
 use std::marker::Model;
 

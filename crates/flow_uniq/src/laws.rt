@@ -2,8 +2,8 @@
 ghost use Rattle.std.specs.Prelude.{◌≡◌, ◌∷◌, Bool, List, Option, map};
 ghost use Rattle.std.specs.List.Sorted.{IsPermutation, IsSortedBy};
 ghost use Rattle.prefix_keys.specs.Text.{AddressOf};
-ghost use Rattle.pmap_text.specs.MapModel.{Label};
-ghost use Rattle.pmap_text.specs.Sorting.{in_order};
+ghost use Rattle.pmap_model.specs.MapModel.{Label};
+ghost use Rattle.pmap_model.specs.Sorting.{in_order};
 ghost use Rattle.flow_rows.specs.Elements.{RowView};
 ghost use Rattle.flow_uniq.specs.Key.{KeyField, key_of};
 ghost use Rattle.flow_uniq.specs.Groups.{GroupModel, groups_of, is_before, shown_groups};

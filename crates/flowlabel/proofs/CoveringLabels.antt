@@ -6,11 +6,11 @@ use Rattle.std.specs.Option.{option_map_or, option_or}
 use Rattle.std.proofs.lemmas.Bool.{and_from, and_parts, le-leb, leb-true, lt-ltb, le-ltb}
 use Rattle.std.proofs.lemmas.List.Elements.{All-filter, All-head, All-tail, filter_passes}
 use Rattle.std.proofs.lemmas.List.Sorted.{All-permutation}
-use Rattle.pmap_text.specs.ListModel.{CoversAddress, IsLongestMatch, ListModel, Prefix, covers, list_label}
-use Rattle.pmap_text.specs.MapModel.{Label, MapModel, Mapping, last_such, spans}
-use Rattle.pmap_text.specs.Sorting.{in_order, with_in_order}
-use Rattle.pmap_text.proofs.Sorting.{same-in_order}
-use Rattle.pmap_text.proofs.ListLabels.{covers-from, covers-true, longest-match}
+use Rattle.pmap_model.specs.ListModel.{CoversAddress, IsLongestMatch, ListModel, Prefix, covers, list_label}
+use Rattle.pmap_model.specs.MapModel.{Label, MapModel, Mapping, last_such, spans}
+use Rattle.pmap_model.specs.Sorting.{in_order, with_in_order}
+use Rattle.pmap_model.proofs.Sorting.{same-in_order}
+use Rattle.pmap_model.proofs.ListLabels.{covers-from, covers-true, longest-match}
 use Rattle.prefix_keys.specs.Block.{width_of}
 use Rattle.std.proofs.Math.Path.{fun_ext}
 use Rattle.label_lookup.specs.Labelling.{labelling, labelling_of_list, labelling_of_map}

@@ -7,7 +7,7 @@ use Rattle.clap.specs.Words.{Text}
 use Rattle.clap.proofs.OnLiterals.{clap_on_literals}
 use Rattle.prefix_keys.specs.Text.{address_of}
 use Rattle.flowlabel.specs.Definition.{flowlabel_app}
-use Rattle.pmap_text.specs.Reading.{◌>>=◌}
+use Rattle.pmap_model.specs.Steps.{◌>>=◌}
 use Rattle.flow_files.specs.Sources.{FromMap}
 use Rattle.flowlabel.specs.Request.{label, rows}
 use Rattle.flowlabel.specs.Answer.{Answer, Answers, HaveOneAnswer, LinesHaveAnswers, is_plain_word}

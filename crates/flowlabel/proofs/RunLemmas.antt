@@ -2,9 +2,9 @@
 use Rattle.std.proofs.Common.{◌≡◌, ◌≢◌, ◌∙◌, ℕ, ◌+◌, ◌<◌, ◌≤◌, All, List, [], ◌∷◌, Option, ap, sym, arith}
 use Rattle.std.specs.Prelude.{Contains}
 use Rattle.std.proofs.lemmas.List.Elements.{All-cons, All-contains, All-nil, All-weaker}
-use Rattle.pmap_text.specs.MapModel.{Label}
-use Rattle.pmap_text.specs.Runs.{AreRuns, HasOneLabel, Run}
-use Rattle.pmap_text.proofs.RunLists.{first-label, ordered}
+use Rattle.pmap_model.specs.MapModel.{Label}
+use Rattle.pmap_stretches.specs.Runs.{AreRuns, HasOneLabel, Run}
+use Rattle.pmap_stretches.proofs.RunLists.{first-label, ordered}
 
 module _ (f : ℕ → Option Label) where
   -- a run is within the addresses of its list, has one label, and the address after it has another one

@@ -1,7 +1,7 @@
 use Rattle.std.specs.Prelude.{◌≡◌, ◌==◌, ◌&&◌, ◌||◌, ◌∷◌, [], Bool, not, true, false, List, codes, map, Option, None, Result, Ok, Err, if◌then◌else◌, is_none, ok_or}
 use Rattle.std.specs.Str.{bytes_eq}
 use Rattle.prefix_keys.specs.Text.{address_of}
-use Rattle.pmap_text.specs.Reading.{◌>>=◌}
+use Rattle.pmap_model.specs.Steps.{◌>>=◌}
 use Rattle.flow_filter.specs.Condition.{condition_needs_labels}
 use Rattle.flow_uniq.specs.Key.{fields_need_labels}
 use Rattle.clap.specs.Words.{Row}

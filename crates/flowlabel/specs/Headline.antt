@@ -2,17 +2,17 @@ use Rattle.std.specs.Prelude.{◌≡◌, ◌≢◌, ◌≤◌, ◌<◌, ◌+◌,
 use Rattle.std.specs.Borrow.{Bor}
 use Rattle.std.specs.List.{last_or}
 use Rattle.prefix_keys.specs.Block.{width_of}
-use Rattle.pmap_text.specs.ListModel.{IsEquivalent, ListModel, covers}
-use Rattle.pmap_text.specs.Label.{is_label}
-use Rattle.pmap_text.specs.MapModel.{Label as LabelOf, MapModel, spans}
+use Rattle.pmap_model.specs.ListModel.{IsEquivalent, ListModel, covers}
+use Rattle.pmap_model.specs.Label.{is_label}
+use Rattle.pmap_model.specs.MapModel.{Label as LabelOf, MapModel, spans}
 use Rattle.pmap_text.specs.Reading.{label_limit, list_reading, map_reading, mapping_limit}
-use Rattle.pmap_text.specs.Sorting.{in_order}
+use Rattle.pmap_model.specs.Sorting.{in_order}
 use Rattle.pmap_cert.specs.Acceptance.{HasBlock, IsInOrder, IsLeast}
 use Rattle.pmap_cert.specs.CertificateModel.{CertificateModel}
 use Rattle.pmap_cert.specs.Compacting.{compact, line_count}
 use Rattle.pmap_cert.specs.FormatReading.{format_reading}
 use Rattle.cert_check.specs.Checking.{first_fault}
-use Rattle.pmap_text.specs.Runs.{HasOneRun, Run}
+use Rattle.pmap_stretches.specs.Runs.{HasOneRun, Run}
 use Rattle.label_lookup.specs.Labelling.{Labelling, label_by, labelling}
 use Rattle.ipfix_read.specs.Messages.{file_reading}
 use Rattle.flow_rows.specs.Counts.{rows_of_messages}
@@ -21,7 +21,7 @@ use Rattle.flow_rows.specs.Laws.{summed_counts}
 use Rattle.flow_filter.specs.Laws.{rows_left}
 use Rattle.pmap_cert.specs.ListText.{labels_of, list_text}
 use Rattle.pmap_print.specs.Reports.{info_text, title_line}
-use Rattle.pmap_text.specs.RunsText.{runs_text}
+use Rattle.pmap_stretches.specs.RunsText.{runs_text}
 use Rattle.pmap_print.specs.Table.{table_text}
 use Rattle.flow_files.specs.Groups.{PrintsGroups, row_columns}
 use Rattle.flow_files.specs.Outcomes.{Outcome, Prints, Then, labels_reading, report_reading, with_bytes_fault}

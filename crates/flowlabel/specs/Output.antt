@@ -1,9 +1,10 @@
 use Rattle.std.specs.Prelude.{ℕ, List, [], ◌∷◌, ◌++◌, Option, Result, Ok, Err, is_some, map, unwrap_or, codes, decimal, length}
 use Rattle.std.specs.Option.{option_map_or}
 use Rattle.prefix_keys.specs.Text.{AddressOf}
-use Rattle.pmap_text.specs.ListModel.{ListModel}
-use Rattle.pmap_text.specs.MapModel.{MapModel}
-use Rattle.pmap_text.specs.Reading.{◌>>=◌, list_reading, map_reading}
+use Rattle.pmap_model.specs.ListModel.{ListModel}
+use Rattle.pmap_model.specs.MapModel.{MapModel}
+use Rattle.pmap_model.specs.Steps.{◌>>=◌}
+use Rattle.pmap_text.specs.Reading.{list_reading, map_reading}
 use Rattle.pmap_cert.specs.Acceptance.{IsMinimalPair}
 use Rattle.pmap_cert.specs.CertificateText.{certificate_text}
 use Rattle.pmap_cert.specs.CertificateModel.{CertificateModel}
@@ -16,7 +17,7 @@ use Rattle.flow_rows.specs.Elements.{RowView}
 use Rattle.flow_filter.specs.Condition.{passing}
 use Rattle.pmap_print.specs.Reports.{info_text, title_line}
 use Rattle.pmap_cert.specs.ListText.{list_text}
-use Rattle.pmap_text.specs.RunsText.{IsRunsText}
+use Rattle.pmap_stretches.specs.RunsText.{IsRunsText}
 use Rattle.pmap_print.specs.Table.{Line, table_text}
 use Rattle.label_lookup.specs.Labelling.{Labelling, label_by}
 pub use Rattle.flow_files.specs.declared.bytes_fault.BytesFault.{BytesFault}

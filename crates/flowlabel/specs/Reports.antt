@@ -1,8 +1,8 @@
 use Rattle.std.specs.Prelude.{◌≡◌, ⊤, List, ℕ, Option, is_some, Result, Ok, Err, length}
 use Rattle.flow_io.specs.Devices.{InputView}
-use Rattle.pmap_text.specs.PrefixList.{list_of}
-use Rattle.pmap_text.specs.ListModel.{ListModel}
-use Rattle.pmap_text.specs.MapModel.{MapModel}
+use Rattle.pmap_model.specs.PrefixList.{list_of}
+use Rattle.pmap_model.specs.ListModel.{ListModel}
+use Rattle.pmap_model.specs.MapModel.{MapModel}
 use Rattle.label_lookup.specs.Labelling.{Labelling, label_by}
 use Rattle.ipfix_read.specs.Message.{MessageView}
 use Rattle.flow_rows.specs.Counts.{counts_of, count_list}
@@ -10,9 +10,9 @@ use Rattle.flow_rows.specs.Elements.{RowView}
 use Rattle.flow_uniq.specs.Groups.{shown_groups}
 use Rattle.pmap_print.specs.Reports.{LabelTexts, column_count, groups_text}
 use Rattle.pmap_print.specs.Table.{IsTable, Line, has_columns, table_text}
-use Rattle.pmap_text.specs.RunsText.{IsRunsText}
-use Rattle.pmap_text.specs.Stretches.{AreLabelsBelow, text_held}
-use Rattle.pmap_text.specs.declared.runs.Runs.{Runs}
+use Rattle.pmap_stretches.specs.RunsText.{IsRunsText}
+use Rattle.pmap_stretches.specs.Stretches.{AreLabelsBelow, text_held}
+use Rattle.pmap_stretches.specs.declared.runs.Runs.{Runs}
 use Rattle.pmap_cert.specs.Acceptance.{IsMinimalPair}
 use Rattle.pmap_cert.specs.CertificateModel.{CertificateModel}
 use Rattle.pmap_cert.specs.Certificate.{IsOpening, certificate_of}

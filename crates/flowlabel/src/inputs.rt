@@ -1,5 +1,5 @@
 use flow_files::Files;
-use pmap_text::KeyHashing;
+use pmap_model::KeyHashing;
 
 /// The files that a command reads, and how labels and groups are hashed. What is written doesn't depend on the hashing.
 #[derive(Drop)]

@@ -5,7 +5,7 @@
 //! use flow_io::{MemoryInput, MemoryOutput};
 //! use flowlabel::run::run;
 //! use flowlabel::{ByFile, Inputs, Source, parse};
-//! use pmap_text::KeyHashing;
+//! use pmap_model::KeyHashing;
 //!
 //! // Prints the label of an address under a map in memory.
 //! let words = ["flowlabel", "label", "--pmap", "map.txt", "10.1.1.1"];
@@ -41,7 +41,7 @@ ghost use Rattle.flowlabel.specs.Ending.{IsEndOf, IsProgram};
 
 use flow_files::{listed, words_fault};
 use flow_io::Output;
-use pmap_text::KeyHashing;
+use pmap_model::KeyHashing;
 use run::run;
 use std::alloc::Global;
 use std::convert::AsStr;

@@ -10,8 +10,8 @@ use crate::inputs::Inputs;
 use flow_files::{Files, RunFault, print_to, read_certificate};
 use flow_io::{Input, Output};
 use pmap_cert::{CompactText, OpenedText};
+use pmap_model::KeyHashing;
 use pmap_print::{GroupsText, ListText, RunsText};
-use pmap_text::KeyHashing;
 use std::alloc::Global;
 
 mod cat;

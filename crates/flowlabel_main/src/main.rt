@@ -5,7 +5,7 @@
 
 use flow_io::Watched;
 use flowlabel::program;
-use pmap_text::KeyHashing;
+use pmap_model::KeyHashing;
 use std::env;
 use std::process::ExitCode;
 

@@ -8,15 +8,15 @@ use Rattle.std.proofs.lemmas.Option.{get_or_from_slice_get, none-some, same_Some
 use Rattle.prefix_keys.specs.Block.{block_number, width_of}
 use Rattle.prefix_keys.specs.Covers.{IsInBlock}
 use Rattle.prefix_keys.specs.declared.version.Version.{Version}
-use Rattle.pmap_text.specs.ListModel.{CoversAddress, IsLongestMatch, Prefix, label_below, list_label}
-use Rattle.pmap_text.specs.MapModel.{Label}
-use Rattle.pmap_text.specs.PrefixList.{list_of, prefix_of}
-use Rattle.pmap_text.specs.declared.entry.Entry.{Entry}
-use Rattle.pmap_text.specs.declared.prefix_list.PrefixList.{PrefixList}
-use Rattle.pmap_text.proofs.Finds.{Contains-cases, Contains-first, Contains-from_map, Contains-later, Contains-nil}
-use Rattle.pmap_text.proofs.ListLabels.{label_below-top, longest-match}
-use Rattle.pmap_text.proofs.ListPainted.{list_blocks}
-use Rattle.pmap_text.proofs.Orders.{known_text}
+use Rattle.pmap_model.specs.ListModel.{CoversAddress, IsLongestMatch, Prefix, label_below, list_label}
+use Rattle.pmap_model.specs.MapModel.{Label}
+use Rattle.pmap_model.specs.PrefixList.{list_of, prefix_of}
+use Rattle.pmap_model.specs.declared.entry.Entry.{Entry}
+use Rattle.pmap_model.specs.declared.prefix_list.PrefixList.{PrefixList}
+use Rattle.pmap_model.proofs.Finds.{Contains-cases, Contains-first, Contains-from_map, Contains-later, Contains-nil}
+use Rattle.pmap_model.proofs.ListLabels.{label_below-top, longest-match}
+use Rattle.pmap_stretches.proofs.ListPainted.{list_blocks}
+use Rattle.pmap_stretches.proofs.Orders.{known_text}
 
 -- an element of a list, mapped, is an element of the mapped list
 contains-map : {X Y : Type 0} (f : X → Y) (xs : List X) (x : X) → Contains xs x → Contains (map f xs) (f x)

@@ -5,8 +5,8 @@ use Rattle.std.specs.Prelude.{if◌then◌else◌, nat_lt}
 use Rattle.std.proofs.lemmas.Bool.{lt-ltb, ltb-true}
 use Rattle.prefix_keys.specs.Block.{width_of}
 use Rattle.prefix_keys.specs.declared.version.Version.{Version}
-use Rattle.pmap_text.specs.ListModel.{IsEquivalent, ListModel, list_label}
-use Rattle.pmap_text.specs.MapModel.{Label, MapModel, map_label}
+use Rattle.pmap_model.specs.ListModel.{IsEquivalent, ListModel, list_label}
+use Rattle.pmap_model.specs.MapModel.{Label, MapModel, map_label}
 use Rattle.label_lookup.specs.Labelling.{labelling, labelling_of_list, labelling_of_map}
 
 -- at an address of the version, labels agree with their restriction to the version's addresses

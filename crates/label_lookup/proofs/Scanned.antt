@@ -7,12 +7,12 @@ use Rattle.std.proofs.lemmas.List.{map-append, take_more}
 use Rattle.std.proofs.lemmas.List.Elements.{All-contains}
 use Rattle.prefix_keys.specs.Covers.{SpanCovers}
 use Rattle.prefix_keys.specs.declared.addr.Addr.{Addr}
-use Rattle.pmap_text.proofs.LastSuch.{last_such-push}
-use Rattle.pmap_text.specs.MapModel.{Label, Mapping, last_such, map_label, spans}
-use Rattle.pmap_text.specs.MapText.{map_of, mapping_of}
-use Rattle.pmap_text.specs.declared.map_text.MapText.{MapText}
-use Rattle.pmap_text.specs.declared.statement.Statement.{Statement}
-use Rattle.pmap_text.proofs.Orders.{known_text, le_both}
+use Rattle.pmap_model.proofs.LastSuch.{last_such-push}
+use Rattle.pmap_model.specs.MapModel.{Label, Mapping, last_such, map_label, spans}
+use Rattle.pmap_model.specs.MapText.{map_of, mapping_of}
+use Rattle.pmap_model.specs.declared.map_text.MapText.{MapText}
+use Rattle.pmap_model.specs.declared.statement.Statement.{Statement}
+use Rattle.pmap_stretches.proofs.Orders.{known_text, le_both}
 
 -- the last of a map's first statements that covers an address, as a mapping
 abbrev pub last_of_first : MapText → ℕ → ℕ → Option Mapping

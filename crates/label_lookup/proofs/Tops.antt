@@ -7,8 +7,8 @@ use Rattle.std.proofs.lemmas.Nat.{div-add-mod', mod_below, pow_pos}
 use Rattle.prefix_keys.specs.Block.{width_of}
 use Rattle.prefix_keys.specs.declared.version.Version.{Version}
 use Rattle.prefix_keys.specs.declared.version.Version.TheVariants.{V4, V6}
-use Rattle.pmap_text.specs.Stretches.{HasEveryAddress, HoldsAddress, StretchesModel, first_at, label_at, last_at, text_held}
-use Rattle.pmap_text.proofs.Ranges.{ends_before, last_end, next_first, text_at_index}
+use Rattle.pmap_stretches.specs.Stretches.{HasEveryAddress, HoldsAddress, StretchesModel, first_at, label_at, last_at, text_held}
+use Rattle.pmap_stretches.proofs.Ranges.{ends_before, last_end, next_first, text_at_index}
 use Rattle.label_lookup.specs.Labelling.{AreTops, IsTopAt, StretchModel, block_size, labelling}
 use Rattle.label_lookup.proofs.Labellings.{same_at_addresses}
 

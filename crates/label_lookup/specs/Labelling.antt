@@ -5,9 +5,9 @@ use Rattle.prefix_keys.specs.Conversion.{converted}
 use Rattle.prefix_keys.specs.Text.{AddressOf}
 use Rattle.prefix_keys.specs.Block.{width_of}
 use Rattle.prefix_keys.specs.declared.version.Version.{Version}
-use Rattle.pmap_text.specs.ListModel.{ListModel, list_label}
-use Rattle.pmap_text.specs.MapModel.{Label, MapModel, map_label}
-use Rattle.pmap_text.specs.Stretches.{StretchesModel, first_at, last_at, text_held}
+use Rattle.pmap_model.specs.ListModel.{ListModel, list_label}
+use Rattle.pmap_model.specs.MapModel.{Label, MapModel, map_label}
+use Rattle.pmap_stretches.specs.Stretches.{StretchesModel, first_at, last_at, text_held}
 use Rattle.label_trie.specs.TrieModel.{TrieModel, label_in}
 
 -- The labels of the addresses of one version: those of a prefix map or of a prefix list, which contracts don't

@@ -1,6 +1,6 @@
 ghost use Rattle.std.specs.Prelude.{◌≡◌, ℕ, IfSome, IsTrue, List, Option, option_map};
 ghost use Rattle.prefix_keys.specs.declared.version.Version.{Version as VersionOf};
-ghost use Rattle.pmap_text.specs.Label.{is_label};
+ghost use Rattle.pmap_model.specs.Label.{is_label};
 
 use prefix_keys::{Addr, Version};
 

@@ -10,13 +10,13 @@
 //! assert!(rt; label_row(&Scan::new(&map), addr) == Some(b"Inside".as_slice()));
 //! ```
 //!
-//! This crate uses prefix_keys (addresses and their versions), pmap_text (prefix maps, prefix lists, their stretches
-//! and label tables) and label_trie. Callers may rely on the contract of `Labeller`: `label_of` returns the label that
-//! the labeller's `label` has at the address, and each returned label is well formed. For a `Scan` that is the map's
-//! label, and for a `ListIndex`, or the `PrefixList` itself, the prefix list's. For a `TrieLabeller` it is the text of
-//! the trie's label, which is the map's or the prefix list's if the trie was built from one. A `StretchIndex` has the
-//! labelling of the map or the prefix list from which it was built. `label_row` returns the label of a row's address,
-//! converted to the labeller's version, with one definition for all labellers.
+//! This crate uses prefix_keys (addresses and their versions), pmap_model (prefix maps, prefix lists and label tables),
+//! pmap_stretches (their stretches) and label_trie. Callers may rely on the contract of `Labeller`: `label_of` returns
+//! the label that the labeller's `label` has at the address, and each returned label is well formed. For a `Scan` that
+//! is the map's label, and for a `ListIndex`, or the `PrefixList` itself, the prefix list's. For a `TrieLabeller` it is
+//! the text of the trie's label, which is the map's or the prefix list's if the trie was built from one. A
+//! `StretchIndex` has the labelling of the map or the prefix list from which it was built. `label_row` returns the
+//! label of a row's address, converted to the labeller's version, with one definition for all labellers.
 #![tactic(auto)]
 
 mod labeller;

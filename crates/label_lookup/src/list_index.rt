@@ -1,8 +1,9 @@
 ghost use Rattle.std.specs.Prelude.{◌≡◌, IfOk};
-ghost use Rattle.pmap_text.specs.PrefixList.{list_of};
+ghost use Rattle.pmap_model.specs.PrefixList.{list_of};
 
 use crate::labeller::Labeller;
-use pmap_text::{PrefixList, Runs, Stretches};
+use pmap_model::PrefixList;
+use pmap_stretches::{Runs, Stretches};
 use prefix_keys::{Addr, Version};
 use std::alloc::{AllocError, Global};
 use std::marker::Model;
@@ -17,11 +18,11 @@ pub struct ListIndex<'a> {
 
 impl<'a> Model for ListIndex<'a> {
     ghost use Rattle.std.specs.Prelude.{◌≡◌};
-    ghost use Rattle.pmap_text.specs.ListModel.{ListModel};
+    ghost use Rattle.pmap_model.specs.ListModel.{ListModel};
 
     ghost Value = { ListModel };
 
-    ghost use Rattle.pmap_text.specs.PrefixList.{list_of};
+    ghost use Rattle.pmap_model.specs.PrefixList.{list_of};
     ghost use Rattle.label_lookup.specs.Labelling.{labelling_of_list, labelling_of_stretches};
 
     ghost view = { λ i. list_of i.list.now };
@@ -44,7 +45,7 @@ impl<'a> ListIndex<'a> {
 }
 
 impl<'a> Labeller for ListIndex<'a> {
-    ghost use Rattle.pmap_text.specs.ListModel.{list_label};
+    ghost use Rattle.pmap_model.specs.ListModel.{list_label};
 
     ghost version_of = { λ l. l.version };
 

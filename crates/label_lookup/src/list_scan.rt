@@ -1,13 +1,13 @@
 //! The labels of a prefix list, found by a look at each entry.
 use crate::labeller::Labeller;
-use pmap_text::{Entry, PrefixList};
+use pmap_model::{Entry, PrefixList};
 use prefix_keys::{Addr, Version};
 
 /// The labels of a prefix list under longest match. Nothing is built, so for one address this is faster than a
 /// [`ListIndex`](crate::ListIndex).
 impl Labeller for PrefixList {
-    ghost use Rattle.pmap_text.specs.ListModel.{list_label};
-    ghost use Rattle.pmap_text.specs.PrefixList.{list_of};
+    ghost use Rattle.pmap_model.specs.ListModel.{list_label};
+    ghost use Rattle.pmap_model.specs.PrefixList.{list_of};
 
     ghost version_of = { λ l. l.version };
 

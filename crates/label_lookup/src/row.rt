@@ -1,6 +1,6 @@
 //! The label of a row's address.
 ghost use Rattle.std.specs.Prelude.{◌≡◌, IfSome, IsTrue, option_map};
-ghost use Rattle.pmap_text.specs.Label.{is_label};
+ghost use Rattle.pmap_model.specs.Label.{is_label};
 ghost use Rattle.label_lookup.specs.Labelling.{label_by, label_where, labelling_by, labelling_borrowed};
 
 use crate::labeller::Labeller;

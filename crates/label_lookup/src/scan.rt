@@ -1,8 +1,8 @@
 ghost use Rattle.std.specs.Prelude.{◌≡◌};
-ghost use Rattle.pmap_text.specs.MapText.{map_of};
+ghost use Rattle.pmap_model.specs.MapText.{map_of};
 
 use crate::labeller::Labeller;
-use pmap_text::MapText;
+use pmap_model::MapText;
 use prefix_keys::{Addr, Version};
 use std::marker::Model;
 
@@ -14,11 +14,11 @@ pub struct Scan<'a> {
 }
 
 impl<'a> Model for Scan<'a> {
-    ghost use Rattle.pmap_text.specs.MapModel.{MapModel};
+    ghost use Rattle.pmap_model.specs.MapModel.{MapModel};
 
     ghost Value = { MapModel };
 
-    ghost use Rattle.pmap_text.specs.MapText.{map_of};
+    ghost use Rattle.pmap_model.specs.MapText.{map_of};
 
     ghost view = { λ s. map_of s.map.now };
 }
@@ -34,7 +34,7 @@ impl<'a> Scan<'a> {
 
 impl<'a> Labeller for Scan<'a> {
     ghost use Rattle.std.specs.Prelude.{Some};
-    ghost use Rattle.pmap_text.specs.MapModel.{map_label};
+    ghost use Rattle.pmap_model.specs.MapModel.{map_label};
 
     ghost version_of = { λ m. m.version };
 

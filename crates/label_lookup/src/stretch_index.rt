@@ -1,12 +1,13 @@
 ghost use Rattle.std.specs.Prelude.{◌≡◌, ◌+◌, ◌^◌, ◌<◌, ◌≤◌, IfOk, length};
 ghost use Rattle.prefix_keys.specs.Block.{width_of};
-ghost use Rattle.pmap_text.specs.MapText.{map_of};
-ghost use Rattle.pmap_text.specs.PrefixList.{list_of};
-ghost use Rattle.pmap_text.specs.Stretches.{HoldsAddress, first_at};
+ghost use Rattle.pmap_model.specs.MapText.{map_of};
+ghost use Rattle.pmap_model.specs.PrefixList.{list_of};
+ghost use Rattle.pmap_stretches.specs.Stretches.{HoldsAddress, first_at};
 ghost use Rattle.label_lookup.specs.Labelling.{labelling_of_list, labelling_of_map, AreTops, labelling_of_stretches};
 
 use crate::labeller::Labeller;
-use pmap_text::{Labels, MapText, PrefixList, Runs, Stretches};
+use pmap_model::{Labels, MapText, PrefixList};
+use pmap_stretches::{Runs, Stretches};
 use prefix_keys::{Addr, Version};
 use std::alloc::{AllocError, Global};
 use std::marker::Model;

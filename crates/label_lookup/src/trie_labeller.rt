@@ -2,7 +2,7 @@ ghost use Rattle.std.specs.Prelude.{◌≡◌, ◌<◌};
 
 use crate::labeller::Labeller;
 use label_trie::Trie;
-use pmap_text::Labels;
+use pmap_model::Labels;
 use prefix_keys::{Addr, Version};
 use std::marker::Model;
 

@@ -5,19 +5,20 @@ use Rattle.std.proofs.lemmas.Bool.{cases_eq, cond-false, cond-true, eq-eqb, ne_e
 use Rattle.std.proofs.lemmas.List.Elements.{All-append, All-cons, All-contains, All-nil, All-weaker, Contains-append_left, Contains-push}
 use Rattle.std.proofs.lemmas.Nat.{pow_pos, shr-shr}
 use Rattle.prefix_keys.specs.Block.{block_number, first_of, last_of, width_of}
-use Rattle.pmap_text.specs.MapModel.{MapModel, settled_label}
-use Rattle.pmap_text.specs.Settled.{IsMapOf, ends_inside}
-use Rattle.pmap_text.specs.Stretches.{AreStretches, HasEveryAddress, HoldsAddress, StretchesModel, count_begun, first_at, label_at, label_held, last_at, mappings_of}
-use Rattle.pmap_text.specs.Windows.{IsWindow, window_number}
-use Rattle.pmap_text.specs.declared.label.LabelId.{LabelId}
-use Rattle.pmap_text.specs.declared.statement.Statement.{Statement}
-use Rattle.pmap_text.specs.declared.stretches.window.Window.{Window}
-use Rattle.pmap_text.proofs.BlockHalves.{has_halves}
-use Rattle.pmap_text.proofs.Blocks.{address-first, address-last, first_of-lower, pow-half}
-use Rattle.pmap_text.proofs.Ends.{ends-halves, ends-unsettled_by, ends_most, halves-most}
-use Rattle.pmap_text.proofs.Ranges.{held_index}
-use Rattle.pmap_text.proofs.Settling.{Settles, stretch_labelled, window_settled, window_unsettled}
-use Rattle.pmap_text.proofs.Windows.{divided_window, whole_window, window_some}
+use Rattle.pmap_model.specs.MapModel.{MapModel, settled_label}
+use Rattle.pmap_model.specs.Settled.{IsMapOf, ends_inside}
+use Rattle.pmap_stretches.specs.Stretches.{AreStretches, HasEveryAddress, HoldsAddress, StretchesModel, count_begun, first_at, label_at, label_held, last_at}
+use Rattle.pmap_model.specs.MapText.{mappings_of}
+use Rattle.pmap_stretches.specs.Windows.{IsWindow, window_number}
+use Rattle.pmap_model.specs.declared.label.LabelId.{LabelId}
+use Rattle.pmap_model.specs.declared.statement.Statement.{Statement}
+use Rattle.pmap_stretches.specs.declared.stretches.window.Window.{Window}
+use Rattle.pmap_stretches.proofs.BlockHalves.{has_halves}
+use Rattle.pmap_model.proofs.Blocks.{address-first, address-last, first_of-lower, pow-half}
+use Rattle.pmap_model.proofs.Ends.{ends-halves, ends-unsettled_by, ends_most, halves-most}
+use Rattle.pmap_stretches.proofs.Ranges.{held_index}
+use Rattle.pmap_stretches.proofs.Settling.{Settles, stretch_labelled, window_settled, window_unsettled}
+use Rattle.pmap_stretches.proofs.Windows.{divided_window, whole_window, window_some}
 use Rattle.label_trie.specs.Leaves.{in_one, labelled_leaf, leaf_in, leaves_in}
 use Rattle.label_trie.specs.TrieModel.{LeafModel, IsCut, IsSettledLeaf, IsUndivided}
 

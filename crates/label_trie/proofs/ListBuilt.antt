@@ -5,24 +5,24 @@ use Rattle.std.proofs.lemmas.Bool.Decides.{nat_tests}
 use Rattle.std.proofs.lemmas.List.{length-map}
 use Rattle.std.proofs.lemmas.List.Elements.{All-weaker}
 use Rattle.prefix_keys.specs.Block.{block_number, first_of, width_of}
-use Rattle.pmap_text.specs.ListModel.{ListModel, Prefix, lies_inside}
-use Rattle.pmap_text.specs.MapModel.{Label}
-use Rattle.pmap_text.specs.PrefixList.{list_of, prefix_of, AreShortestFirst}
-use Rattle.pmap_text.specs.Settled.{one_if}
-use Rattle.pmap_text.specs.Stretches.{AreStretches, HoldsAddress, StretchesModel, last_at}
-use Rattle.pmap_text.specs.Windows.{IsWindow, window_number}
-use Rattle.pmap_text.specs.declared.prefix_list.PrefixList.{PrefixList}
-use Rattle.pmap_text.specs.declared.statement.Statement.{Statement}
-use Rattle.pmap_text.specs.declared.stretches.window.Window.{Window}
+use Rattle.pmap_model.specs.ListModel.{ListModel, Prefix, lies_inside}
+use Rattle.pmap_model.specs.MapModel.{Label}
+use Rattle.pmap_model.specs.PrefixList.{list_of, prefix_of, AreShortestFirst}
+use Rattle.pmap_model.specs.Settled.{one_if}
+use Rattle.pmap_stretches.specs.Stretches.{AreStretches, HoldsAddress, StretchesModel, last_at}
+use Rattle.pmap_stretches.specs.Windows.{IsWindow, window_number}
+use Rattle.pmap_model.specs.declared.prefix_list.PrefixList.{PrefixList}
+use Rattle.pmap_model.specs.declared.statement.Statement.{Statement}
+use Rattle.pmap_stretches.specs.declared.stretches.window.Window.{Window}
 use Rattle.label_trie.specs.Leaves.{leaves_in}
 use Rattle.label_trie.specs.TrieModel.{IsLeafSettledByList, LeafModel}
-use Rattle.pmap_text.proofs.Blocks.{block_number-half}
-use Rattle.pmap_text.proofs.Decided.{held_seen, split_has_inside}
-use Rattle.pmap_text.proofs.Finds.{Contains-cases, Contains-nil}
-use Rattle.pmap_text.proofs.ListPainted.{list_blocks}
-use Rattle.pmap_text.proofs.Longest.{AreBlocks, known_seen, label_seen, none_inside}
-use Rattle.pmap_text.proofs.Painted.{IsSeen}
-use Rattle.pmap_text.proofs.Ranges.{ends_before, held_fits}
+use Rattle.pmap_model.proofs.Blocks.{block_number-half}
+use Rattle.pmap_stretches.proofs.Decided.{held_seen, split_has_inside}
+use Rattle.pmap_model.proofs.Finds.{Contains-cases, Contains-nil}
+use Rattle.pmap_stretches.proofs.ListPainted.{list_blocks}
+use Rattle.pmap_stretches.proofs.Longest.{AreBlocks, known_seen, label_seen, none_inside}
+use Rattle.pmap_stretches.proofs.Painted.{IsSeen}
+use Rattle.pmap_stretches.proofs.Ranges.{ends_before, held_fits}
 use Rattle.label_trie.proofs.Leaves.{each_leaf, leaves_most}
 
 -- the label is seen at the leaf

@@ -7,14 +7,14 @@ use Rattle.std.proofs.lemmas.List.Folds.{find-append}
 use Rattle.std.proofs.lemmas.Nat.{pow_pos}
 use Rattle.std.proofs.lemmas.Option.{same_Some, slice_get_within}
 use Rattle.prefix_keys.specs.Block.{block_number, first_of, last_of, width_of}
-use Rattle.pmap_text.specs.MapModel.{Label}
-use Rattle.pmap_text.specs.Stretches.{HasEveryAddress, StretchesModel, label_held, text_held}
-use Rattle.pmap_text.specs.declared.label.LabelId.{LabelId}
+use Rattle.pmap_model.specs.MapModel.{Label}
+use Rattle.pmap_stretches.specs.Stretches.{HasEveryAddress, StretchesModel, label_held, text_held}
+use Rattle.pmap_model.specs.declared.label.LabelId.{LabelId}
 use Rattle.label_trie.specs.Leaves.{leaves_in}
 use Rattle.label_trie.specs.Stored.{IsInnerAt, IsLeafAt, IsNodeAt}
 use Rattle.label_trie.specs.TrieModel.{LeafModel, NodeModel, TrieModel, IsCut, has_address, label_among, label_in}
-use Rattle.pmap_text.proofs.Blocks.{address-between, address-first, address-last, block_number-half, block_number-zero}
-use Rattle.pmap_text.proofs.Finds.{find_passes}
+use Rattle.pmap_model.proofs.Blocks.{address-between, address-first, address-last, block_number-half, block_number-zero}
+use Rattle.pmap_model.proofs.Finds.{find_passes}
 use Rattle.label_trie.proofs.Leaves.{CutsBlock, HasItsLabel, leaves_held, meet, space_cut}
 
 -- a leaf that ends before an address doesn't have it

@@ -3,11 +3,11 @@ use Rattle.std.proofs.Common.{◌≡◌, ◌∙◌, ℕ, zero, suc, ◌+◌, ◌
 use Rattle.std.proofs.lemmas.Bool.{cases_eq, cases_lt, cond-false, cond-true}
 use Rattle.std.proofs.Math.Nat.{zero-div}
 use Rattle.prefix_keys.specs.Block.{first_of, width_of}
-use Rattle.pmap_text.specs.Stretches.{HasEveryAddress, StretchesModel, label_at, label_held}
-use Rattle.pmap_text.specs.Windows.{AreHalvesOf, IsWindow, window_number}
-use Rattle.pmap_text.specs.declared.label.LabelId.{LabelId}
-use Rattle.pmap_text.specs.declared.stretches.window.Window.{Window}
-use Rattle.pmap_text.proofs.Windows.{divided_window}
+use Rattle.pmap_stretches.specs.Stretches.{HasEveryAddress, StretchesModel, label_at, label_held}
+use Rattle.pmap_stretches.specs.Windows.{AreHalvesOf, IsWindow, window_number}
+use Rattle.pmap_model.specs.declared.label.LabelId.{LabelId}
+use Rattle.pmap_stretches.specs.declared.stretches.window.Window.{Window}
+use Rattle.pmap_stretches.proofs.Windows.{divided_window}
 use Rattle.label_trie.specs.Leaves.{in_one, labelled_leaf, leaf_in, leaves_in, leaves_of}
 use Rattle.label_trie.specs.Nodes.{AreStored, is_stored_leaf, stored_label, leaf_stored, leaves_from, trie_node_from, nodes_from, stored_at, stored_in, stored_of, trie_in, upper_of}
 use Rattle.label_trie.specs.Stored.{IsInnerAt, IsNodeAt, IsStoredAs}

@@ -1,9 +1,9 @@
 use Rattle.std.specs.Prelude.{ℕ, zero, suc, ◌+◌, ◌-◌, ◌*◌, ◌==◌, Bool, List, [], ◌∷◌, ◌++◌, Option, option_map, if◌then◌else◌}
 use Rattle.prefix_keys.specs.Block.{first_of, last_of, width_of}
-use Rattle.pmap_text.specs.Stretches.{StretchesModel, count_begun, label_held}
-use Rattle.pmap_text.specs.declared.label.LabelId.{LabelId}
-use Rattle.pmap_text.specs.Windows.{window_number}
-use Rattle.pmap_text.specs.declared.stretches.window.Window.{Window}
+use Rattle.pmap_stretches.specs.Stretches.{StretchesModel, count_begun, label_held}
+use Rattle.pmap_model.specs.declared.label.LabelId.{LabelId}
+use Rattle.pmap_stretches.specs.Windows.{window_number}
+use Rattle.pmap_stretches.specs.declared.stretches.window.Window.{Window}
 use Rattle.label_trie.specs.TrieModel.{LeafModel}
 
 -- How stretches divide a block: into halves, until one stretch has all addresses of each piece.

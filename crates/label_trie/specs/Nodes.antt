@@ -2,10 +2,10 @@ use Rattle.std.specs.Prelude.{◌≡◌, ℕ, zero, suc, ◌+◌, ◌-◌, ◌*�
 use Rattle.prefix_keys.specs.Block.{first_of, width_of}
 use Rattle.prefix_keys.specs.declared.block.Block.{Block}
 use Rattle.prefix_keys.specs.declared.version.Version.{Version}
-use Rattle.pmap_text.specs.Stretches.{StretchesModel, label_held}
-use Rattle.pmap_text.specs.Windows.{window_number}
-use Rattle.pmap_text.specs.declared.label.LabelId.{LabelId}
-use Rattle.pmap_text.specs.declared.stretches.window.Window.{Window}
+use Rattle.pmap_stretches.specs.Stretches.{StretchesModel, label_held}
+use Rattle.pmap_stretches.specs.Windows.{window_number}
+use Rattle.pmap_model.specs.declared.label.LabelId.{LabelId}
+use Rattle.pmap_stretches.specs.declared.stretches.window.Window.{Window}
 use Rattle.label_trie.specs.Leaves.{in_one, labelled_leaf, leaves_in}
 use Rattle.label_trie.specs.Stored.{IsNodeAt, IsStoredAs}
 use Rattle.label_trie.specs.TrieModel.{LeafModel, NodeModel, TrieModel, number_of}

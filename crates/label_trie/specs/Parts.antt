@@ -1,6 +1,6 @@
 use Rattle.std.specs.Prelude.{◌≡◌, ℕ, zero, suc, ◌+◌, ◌*◌, ◌⊎◌, [], ◌∷◌, ◌++◌, None, All, length}
 use Rattle.prefix_keys.specs.declared.block.Block.{Block}
-use Rattle.pmap_text.specs.MapModel.{MapModel, settled_label}
+use Rattle.pmap_model.specs.MapModel.{MapModel, settled_label}
 use Rattle.label_trie.specs.TrieModel.{IsUndivided, number_of, model_of, CursorModel, TrieModel}
 use Rattle.label_trie.specs.declared.cursor.Parts.{Parts}
 use Rattle.label_trie.specs.declared.cursor.Parts.TheVariants.{Leaf, Inner}

@@ -1,6 +1,6 @@
 use Rattle.std.specs.Prelude.{◌≡◌, ℕ, ◌+◌, ◌*◌, ◌≤◌, List, [], ◌∷◌, ◌++◌, Option, None, Some, All, length, slice_get}
 use Rattle.prefix_keys.specs.Block.{first_of, last_of, width_of}
-use Rattle.pmap_text.specs.MapModel.{MapModel, settled_label}
+use Rattle.pmap_model.specs.MapModel.{MapModel, settled_label}
 use Rattle.label_trie.specs.TrieModel.{IsCut, IsUndivided, LeafModel, NodeModel, TrieModel}
 use Rattle.label_trie.specs.declared.node.TrieNode.{TrieNode}
 use Rattle.label_trie.specs.declared.node.TrieNode.TheVariants.{Inner, Labelled, Unlabelled}

@@ -3,10 +3,10 @@ use Rattle.std.specs.Option.{ForSome}
 use Rattle.prefix_keys.specs.Block.{block_number, first_of, last_of, width_of}
 use Rattle.prefix_keys.specs.declared.version.Version.{Version}
 use Rattle.prefix_keys.specs.declared.block.Block.{Block}
-use Rattle.pmap_text.specs.ListModel.{ListModel, label_below, lies_inside}
-use Rattle.pmap_text.specs.MapModel.{MapModel, IsSettled, settled_label}
-use Rattle.pmap_text.specs.MapText.{text_at}
-pub use Rattle.pmap_text.specs.PrefixList.{number_of_block as number_of}
+use Rattle.pmap_model.specs.ListModel.{ListModel, label_below, lies_inside}
+use Rattle.pmap_model.specs.MapModel.{MapModel, IsSettled, settled_label}
+use Rattle.pmap_model.specs.MapText.{text_at}
+pub use Rattle.pmap_model.specs.PrefixList.{number_of_block as number_of}
 use Rattle.label_trie.specs.declared.leaf.Leaf.{Leaf}
 
 -- A trie as contracts see it: its leaves, in ascending order of their addresses, and its nodes.

@@ -5,7 +5,7 @@ ghost use Rattle.label_trie.specs.Nodes.{IsPlace, leaves_at};
 
 use crate::node::TrieNode;
 use crate::trie::Trie;
-use pmap_text::LabelId;
+use pmap_model::LabelId;
 use prefix_keys::Block;
 use std::marker::Model;
 

@@ -1,4 +1,4 @@
-use pmap_text::LabelId;
+use pmap_model::LabelId;
 use prefix_keys::Block;
 
 /// A block that a trie does not divide, with the number of its label, if it has one.

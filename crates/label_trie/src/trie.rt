@@ -1,10 +1,10 @@
 ghost use Rattle.std.specs.Prelude.{◌≡◌, ℕ, ◌+◌, ◌*◌, ◌^◌, ◌<◌, ◌≤◌, ◌++◌, Some, All, IfOk, OnOk, length, map, option_map, option_and_then, slice_get};
 ghost use Rattle.prefix_keys.specs.Block.{width_of};
-ghost use Rattle.pmap_text.specs.ListModel.{list_label};
-ghost use Rattle.pmap_text.specs.PrefixList.{list_of};
-ghost use Rattle.pmap_text.specs.MapModel.{map_label};
-ghost use Rattle.pmap_text.specs.MapText.{map_of};
-ghost use Rattle.pmap_text.specs.Windows.{IsWindow};
+ghost use Rattle.pmap_model.specs.ListModel.{list_label};
+ghost use Rattle.pmap_model.specs.PrefixList.{list_of};
+ghost use Rattle.pmap_model.specs.MapModel.{map_label};
+ghost use Rattle.pmap_model.specs.MapText.{map_of};
+ghost use Rattle.pmap_stretches.specs.Windows.{IsWindow};
 ghost use Rattle.label_trie.specs.Leaves.{leaves_in, leaves_of};
 ghost use Rattle.label_trie.specs.Nodes.{stored_of};
 ghost use Rattle.label_trie.specs.Parts.{IsMet, IsRoot};
@@ -14,7 +14,8 @@ ghost use Rattle.label_trie.specs.TrieModel.{model_of, IsCut, IsLeafSettledByLis
 use crate::cursor::{Cursor, Parts, cursor_at};
 use crate::leaf::Leaf;
 use crate::node::TrieNode;
-use pmap_text::{LabelId, MapText, PrefixList, Stretches, Window};
+use pmap_model::{LabelId, MapText, PrefixList};
+use pmap_stretches::{Stretches, Window};
 use prefix_keys::{Addr, Block, Version};
 use std::alloc::{AllocError, Global};
 use std::marker::Model;

@@ -2,13 +2,13 @@ use Rattle.std.proofs.Common.{◌≡◌, ℕ, suc, ◌+◌, ◌*◌, Bool, true,
 use Rattle.std.proofs.lemmas.Option.{cond_some, none-some, same_Some}
 use Rattle.std.proofs.lemmas.List.Elements.{All-head, All-tail}
 use Rattle.prefix_keys.specs.Block.{width_of}
-use Rattle.pmap_text.specs.ListModel.{ListModel}
-use Rattle.pmap_text.specs.MapModel.{Label, MapModel, Mapping, last_such, meets, settled_by, spans_all}
+use Rattle.pmap_model.specs.ListModel.{ListModel}
+use Rattle.pmap_model.specs.MapModel.{Label, MapModel, Mapping, last_such, meets, settled_by, spans_all}
 use Rattle.pmap_cert.specs.CertificateModel.{CertificateModel, ChainNode, InnerNode, LeafNode, Tree, claim_of, exact_claim}
 use Rattle.pmap_cert.specs.Acceptance.{HasItsLabels, IsMinimalPair, StandsFor, entries_of, in_table_order}
 use Rattle.pmap_cert.proofs.Sets.{exact_claim-labels, has-single, same-listed}
-use Rattle.pmap_text.proofs.LastSuch.{last_such-cases}
-use Rattle.pmap_text.specs.Label.{has_label}
+use Rattle.pmap_model.proofs.LastSuch.{last_such-cases}
+use Rattle.pmap_model.specs.Label.{has_label}
 
 -- A map has only one minimal pair.
 

@@ -1,11 +1,11 @@
 use Rattle.std.proofs.Common.{◌≡◌, ℕ, zero, suc, ◌+◌, ◌*◌, ◌<◌, ◌≤◌, Bool, true, false, cond, List, [], ◌∷◌, IsTrue, arith, length, refl, sym, ap₂, ◌∙◌, subst}
-use Rattle.pmap_text.specs.ListModel.{ListModel, Prefix}
-use Rattle.pmap_text.specs.MapModel.{Label, MapModel}
+use Rattle.pmap_model.specs.ListModel.{ListModel, Prefix}
+use Rattle.pmap_model.specs.MapModel.{Label, MapModel}
 use Rattle.prefix_keys.specs.Block.{width_of}
 use Rattle.pmap_cert.specs.Acceptance.{AreBitsAccepted, IsAccepted, IsLeafAccepted, IsNodeAccepted, IsWithinExact}
 use Rattle.pmap_cert.specs.CertificateModel.{CertificateModel, ChainNode, InnerNode, LeafNode, Claim, Tree, claim_of, IsPlain, chain_labels, chain_opened, chain_claim, chosen_half, link, link_claim, links, opened_tree, opened_certificate, claim_by_bits, side_half, IsSameClaim, exact_claim}
 use Rattle.pmap_cert.proofs.Sets.{exact_claim-apart, exact_claim-common, has-head, has-own, has-single, same-exact_claim, same-then}
-use Rattle.pmap_text.specs.Label.{has_label}
+use Rattle.pmap_model.specs.Label.{has_label}
 
 -- A chain's exact claim is the exact claim taken bit by bit, and an accepted certificate with chains is accepted with
 -- each chain opened.

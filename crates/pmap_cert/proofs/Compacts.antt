@@ -1,8 +1,8 @@
 -- Compacting a certificate.
 use Rattle.std.proofs.Common.{◌≡◌, ◌+◌, ◌==◌, ◌≤◌, inl, inr, Bool, true, false, bytes_eq, cond, arith, length, refl, sym, subst}
 use Rattle.std.proofs.lemmas.Bool.{cond-false, cond-true, eq-eqb, ne_eqb}
-use Rattle.pmap_text.specs.ListModel.{ListModel}
-use Rattle.pmap_text.specs.MapModel.{MapModel}
+use Rattle.pmap_model.specs.ListModel.{ListModel}
+use Rattle.pmap_model.specs.MapModel.{MapModel}
 use Rattle.pmap_cert.specs.Acceptance.{IsAccepted}
 use Rattle.pmap_cert.specs.CertificateModel.{CertificateModel, Claim, IsOfFormat, IsPlain, opened_tree}
 use Rattle.pmap_cert.specs.Compacting.{HasNoRun, IsSameShape, OpensTo, compact, compacted, line_count}

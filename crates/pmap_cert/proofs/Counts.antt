@@ -2,10 +2,10 @@ use Rattle.std.proofs.Common.{◌≡◌, ℕ, suc, ◌+◌, ◌*◌, ◌/◌, �
 use Rattle.std.proofs.lemmas.Bool.Decides.{nat_tests}
 use Rattle.std.proofs.lemmas.List.{nil_from_length}
 use Rattle.prefix_keys.specs.Block.{block_number}
-use Rattle.pmap_text.specs.ListModel.{Prefix}
-use Rattle.pmap_text.specs.Settled.{one_if}
+use Rattle.pmap_model.specs.ListModel.{Prefix}
+use Rattle.pmap_model.specs.Settled.{one_if}
 use Rattle.pmap_cert.proofs.Filters.{filter-filter, find-filter}
-use Rattle.pmap_text.proofs.Blocks.{block_number-half}
+use Rattle.pmap_model.proofs.Blocks.{block_number-half}
 
 -- The number of entries of a prefix list that pass a test, such as lying at or within a block.
 

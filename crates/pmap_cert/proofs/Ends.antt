@@ -3,11 +3,11 @@ use Rattle.std.proofs.Common.{◌≡◌, ℕ, zero, suc, ◌+◌, ◌*◌, ◌^�
 use Rattle.std.proofs.lemmas.Nat.{mul-le}
 use Rattle.prefix_keys.specs.Block.{first_of, last_of, width_of}
 use Rattle.prefix_keys.proofs.Groups.{width-le}
-use Rattle.pmap_text.proofs.Ends.{ends-few, ends-halves, ends-unsettled_by, halves-most}
-use Rattle.pmap_text.proofs.Settled.{unsettled-halves}
-use Rattle.pmap_text.specs.MapModel.{MapModel, last_such, meets}
+use Rattle.pmap_model.proofs.Ends.{ends-few, ends-halves, ends-unsettled_by, halves-most}
+use Rattle.pmap_model.proofs.Settled.{unsettled-halves}
+use Rattle.pmap_model.specs.MapModel.{MapModel, last_such, meets}
 use Rattle.pmap_text.specs.Reading.{mapping_limit}
-use Rattle.pmap_text.specs.Settled.{ends}
+use Rattle.pmap_model.specs.Settled.{ends}
 use Rattle.pmap_cert.proofs.Sets.{exact_claim-cost}
 use Rattle.pmap_cert.specs.CertificateModel.{ChainNode, Claim, InnerNode, LeafNode, Tree, claim_of, exact_claim}
 use Rattle.pmap_cert.specs.Acceptance.{StandsFor}

@@ -1,16 +1,16 @@
 use Rattle.std.proofs.Common.{◌≡◌, ℕ, suc, ◌+◌, ◌-◌, ◌*◌, ◌^◌, ◌<◌, ◌≤◌, List, Some, arith, length, sym, ap, ◌∙◌, subst, ⊎_elim}
 use Rattle.prefix_keys.specs.Block.{block_number, first_of, width_of}
 use Rattle.prefix_keys.specs.declared.version.Version.{Version}
-use Rattle.pmap_text.specs.ListModel.{IsEquivalent, ListModel, Prefix, label_below}
-use Rattle.pmap_text.specs.MapModel.{Label, MapModel, map_label}
+use Rattle.pmap_model.specs.ListModel.{IsEquivalent, ListModel, Prefix, label_below}
+use Rattle.pmap_model.specs.MapModel.{Label, MapModel, map_label}
 use Rattle.pmap_cert.specs.Acceptance.{IsAccepted, ListSettles, IsLeast, IsNodeAccepted}
 use Rattle.pmap_cert.specs.CertificateModel.{CertificateModel, ChainNode, InnerNode, LeafNode, Claim, Tree, claim_of, IsPlain, opened_certificate}
 use Rattle.pmap_cert.proofs.Chains.{claim-opened, opened-accepted, opened-plain}
-use Rattle.pmap_text.proofs.Blocks.{block_number-first_of, block_number-halves, block_number-zero}
+use Rattle.pmap_model.proofs.Blocks.{block_number-first_of, block_number-halves, block_number-zero}
 use Rattle.pmap_cert.proofs.Counts.{count_of-le, is_within}
 use Rattle.pmap_cert.proofs.Kernel.{kernel}
 use Rattle.pmap_cert.proofs.Longest.{label_below-inside, label_below-same}
-use Rattle.pmap_text.proofs.Settled.{map_label-settled}
+use Rattle.pmap_model.proofs.Settled.{map_label-settled}
 
 -- An accepted certificate shows that its list is equivalent to the map and least.
 

@@ -3,16 +3,16 @@ use Rattle.std.specs.List.{AllByRecursion}
 use Rattle.std.proofs.lemmas.Bool.{and_from}
 use Rattle.std.proofs.lemmas.Bool.Decides.{nat_tests}
 use Rattle.prefix_keys.specs.Block.{block_number, first_of, width_of}
-use Rattle.pmap_text.specs.ListModel.{Prefix}
-use Rattle.pmap_text.specs.MapModel.{Label, MapModel}
+use Rattle.pmap_model.specs.ListModel.{Prefix}
+use Rattle.pmap_model.specs.MapModel.{Label, MapModel}
 use Rattle.pmap_cert.specs.CertificateModel.{ChainNode, InnerNode, LeafNode, Claim, Tree, claim_of, IsSameClaim, exact_claim}
 use Rattle.pmap_cert.specs.Acceptance.{StandsFor, entries_of, handed_on, has_inherited, least_label, own_entry}
-use Rattle.pmap_text.proofs.Blocks.{block_number-first_of, block_number-half}
+use Rattle.pmap_model.proofs.Blocks.{block_number-first_of, block_number-half}
 use Rattle.pmap_cert.proofs.Counts.{is_within}
 use Rattle.pmap_cert.proofs.Filters.{all-append, all-weaker}
 use Rattle.pmap_cert.proofs.Handed.{IsInhabited, exact_claim-cost_of, handed_on-has, inhabited}
 use Rattle.pmap_cert.proofs.Sets.{miss, same-listed}
-use Rattle.pmap_text.proofs.Settled.{unsettled-halves}
+use Rattle.pmap_model.proofs.Settled.{unsettled-halves}
 
 -- The entries of a node that represents a block: their number, and that they lie within the block.
 

@@ -7,16 +7,16 @@ use Rattle.std.proofs.lemmas.List.Elements.{All-contains, All-from_recursion, Al
 use Rattle.std.proofs.lemmas.List.Sorted.{Contains-permutation, IsPermutation-cons, IsPermutation-map, IsPermutation-sym, IsPermutation-trans}
 use Rattle.std.proofs.lemmas.Map.Keys.{IsDistinct-IsPermutation, IsDistinct-head, IsDistinct-tail}
 use Rattle.pmap_cert.specs.Acceptance.{IsInOrder, begins_before}
-use Rattle.pmap_text.specs.ListEntries.{HasDistinctBlocks, rank_of, same_block}
-use Rattle.pmap_text.specs.ListModel.{Prefix, same_start_and_bits}
-use Rattle.pmap_text.specs.MapModel.{Label}
-use Rattle.pmap_text.specs.PrefixList.{prefix_of}
-use Rattle.pmap_text.specs.declared.entry.Entry.{Entry}
-use Rattle.pmap_text.proofs.Filed.{distinct_to_map, flips}
-use Rattle.pmap_text.proofs.ListBlocks.{ranks_ascend, short-block}
-use Rattle.pmap_text.proofs.Finds.{Contains-cases, Contains-first, Contains-later, Contains-nil}
-use Rattle.pmap_text.specs.Sorting.{with_in_order}
-use Rattle.pmap_text.proofs.Sorting.{same-in_order}
+use Rattle.pmap_model.specs.ListEntries.{HasDistinctBlocks, rank_of, same_block}
+use Rattle.pmap_model.specs.ListModel.{Prefix, same_start_and_bits}
+use Rattle.pmap_model.specs.MapModel.{Label}
+use Rattle.pmap_model.specs.PrefixList.{prefix_of}
+use Rattle.pmap_model.specs.declared.entry.Entry.{Entry}
+use Rattle.pmap_model.proofs.Distinct.{distinct_to_map, flips}
+use Rattle.pmap_model.proofs.ListBlocks.{ranks_ascend, short-block}
+use Rattle.pmap_model.proofs.Finds.{Contains-cases, Contains-first, Contains-later, Contains-nil}
+use Rattle.pmap_model.specs.Sorting.{with_in_order}
+use Rattle.pmap_model.proofs.Sorting.{same-in_order}
 use Rattle.pmap_cert.specs.ListText.{entries_in_order}
 
 -- the entries with one more, before the first entry that doesn't precede it

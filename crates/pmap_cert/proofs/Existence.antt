@@ -1,10 +1,10 @@
 use Rattle.std.proofs.Common.{◌≡◌, ℕ, zero, suc, ◌+◌, ◌*◌, ◌<◌, Option, Some, None, arith, refl}
 use Rattle.prefix_keys.specs.Block.{width_of}
-use Rattle.pmap_text.specs.ListModel.{ListModel}
-use Rattle.pmap_text.specs.MapModel.{Label, MapModel, settled_label}
+use Rattle.pmap_model.specs.ListModel.{ListModel}
+use Rattle.pmap_model.specs.MapModel.{Label, MapModel, settled_label}
 use Rattle.pmap_cert.specs.CertificateModel.{CertificateModel, InnerNode, LeafNode, Tree, claim_of, exact_claim}
 use Rattle.pmap_cert.specs.Acceptance.{IsMinimalPair, StandsFor, entries_of, in_table_order}
-use Rattle.pmap_text.proofs.Settled.{unsettled-halves}
+use Rattle.pmap_model.proofs.Settled.{unsettled-halves}
 
 -- Each map has a minimal pair: blocks are halved until they are settled, and a block of one address always is.
 

@@ -1,11 +1,11 @@
 use Rattle.std.proofs.Common.{◌≡◌, ℕ, ◌+◌, Bool, true, false, cond, ◌&&◌, ◌||◌, List, [], ◌∷◌, Option, Some, None, arith, find, slice_index_or, unwrap_or, sym, refl, ap, ◌∙◌}
 use Rattle.std.proofs.lemmas.Bool.{and_from, or_left}
-use Rattle.pmap_text.specs.MapModel.{Label, MapModel}
-use Rattle.pmap_text.proofs.Finds.{find_passes}
+use Rattle.pmap_model.specs.MapModel.{Label, MapModel}
+use Rattle.pmap_model.proofs.Finds.{find_passes}
 use Rattle.pmap_cert.specs.CertificateModel.{ChainNode, InnerNode, LeafNode, Claim, Tree, claim_of, exact_claim}
 use Rattle.pmap_cert.specs.Acceptance.{StandsFor, handed_on, least_label}
 use Rattle.pmap_cert.proofs.Sets.{IsExact, apart, common, exact, has-head, has-own, has-single, miss, same-listed}
-use Rattle.pmap_text.specs.Label.{has_label}
+use Rattle.pmap_model.specs.Label.{has_label}
 
 -- A node of a minimal certificate passes on a label of its set, so its halves have as many entries as it costs.
 

@@ -5,8 +5,8 @@ use Rattle.std.proofs.lemmas.Bool.{and_parts, ne_eqb, not-true}
 use Rattle.std.proofs.lemmas.List.Elements.{All-append, All-cons, All-weaker}
 use Rattle.std.proofs.lemmas.List.Sums.{AllPass-from_list_all}
 use Rattle.prefix_keys.proofs.Printed.{Lacks}
-use Rattle.pmap_text.specs.Label.{IsLabelTable, is_label, is_label_byte}
-use Rattle.pmap_text.specs.MapModel.{Label}
+use Rattle.pmap_model.specs.Label.{IsLabelTable, is_label, is_label_byte}
+use Rattle.pmap_model.specs.MapModel.{Label}
 
 -- a text whose bytes all pass the test lacks the byte
 pub Lacks-tested : (c : ℕ) (text : List ℕ) → list_all (λ b. not (b == c)) text ≡ true → Lacks c text

@@ -5,18 +5,18 @@ use Rattle.std.proofs.lemmas.Bool.{and_parts, and_from, cases_lt, eq-eqb, eqb-tr
 use Rattle.std.proofs.lemmas.List.Elements.{All-from_recursion}
 use Rattle.std.proofs.Math.Nat.{mul-mod_left}
 use Rattle.prefix_keys.specs.Block.{block_number, first_of, last_of, width_of}
-use Rattle.pmap_text.specs.ListModel.{ListModel, Prefix}
-use Rattle.pmap_text.specs.MapModel.{Label, MapModel}
+use Rattle.pmap_model.specs.ListModel.{ListModel, Prefix}
+use Rattle.pmap_model.specs.MapModel.{Label, MapModel}
 use Rattle.pmap_cert.specs.CertificateModel.{CertificateModel, ChainNode, InnerNode, LeafNode, Tree, claim_of}
 use Rattle.pmap_cert.specs.Acceptance.{HasBlock, HasListForm, IsInOrder, begins_before, HasItsLabels, IsMinimalPair, StandsFor, entries_of, handed_on, has_inherited, least_label, own_entry}
 use Rattle.pmap_cert.proofs.Alike.{table-node}
-use Rattle.pmap_text.proofs.Blocks.{address-first, address-last, first_of-below, first_of-lower}
+use Rattle.pmap_model.proofs.Blocks.{address-first, address-last, first_of-below, first_of-lower}
 use Rattle.pmap_cert.proofs.Counts.{is_within}
 use Rattle.pmap_cert.proofs.Entries.{own-all, within-entries}
 use Rattle.pmap_cert.proofs.Filters.{all-append, all-weaker}
 use Rattle.pmap_cert.proofs.Handed.{has-least_label, inhabited}
-use Rattle.pmap_text.proofs.Settled.{unsettled-halves}
-use Rattle.pmap_text.specs.Label.{has_label}
+use Rattle.pmap_model.proofs.Settled.{unsettled-halves}
+use Rattle.pmap_model.specs.Label.{has_label}
 
 -- two lists in order are in order when joined if each entry of the first comes before each of the second
 in_order-append : (P Q : Prefix → Type 0) → ((p r : Prefix) → P p → Q r → begins_before p r ≡ true) → (xs ys : List Prefix)

@@ -2,11 +2,11 @@
 use Rattle.std.proofs.Common.{inl, ◌≡◌, ℕ, zero, suc, ◌+◌, ◌*◌, ◌<◌, ◌≤◌, ◌∙◌, ◌++◌, Bool, true, false, not, List, [], ◌∷◌, Some, ap, append-nil, arith, filter, length, map, refl, subst, sym, bytes_eq, slice_get, Ok}
 use Rattle.std.proofs.lemmas.Bool.{ltb-true, or_right}
 use Rattle.prefix_keys.specs.Block.{width_of}
-use Rattle.pmap_text.proofs.LabelTexts.{any_place}
-use Rattle.pmap_text.proofs.Settled.{unsettled-halves}
-use Rattle.pmap_text.specs.Label.{IsLabelTable, has_label}
-use Rattle.pmap_text.specs.ListModel.{ListModel}
-use Rattle.pmap_text.specs.MapModel.{Label, MapModel}
+use Rattle.pmap_model.proofs.LabelTexts.{any_place}
+use Rattle.pmap_model.proofs.Settled.{unsettled-halves}
+use Rattle.pmap_model.specs.Label.{IsLabelTable, has_label}
+use Rattle.pmap_model.specs.ListModel.{ListModel}
+use Rattle.pmap_model.specs.MapModel.{Label, MapModel}
 use Rattle.pmap_text.specs.Reading.{mapping_limit, map_reading}
 use Rattle.pmap_cert.proofs.Plain.{plain-stands}
 use Rattle.pmap_cert.proofs.Alike.{table-node}

@@ -1,16 +1,16 @@
 use Rattle.std.proofs.Common.{◌≡◌, ℕ, zero, suc, ◌+◌, ◌-◌, ◌*◌, ◌/◌, ◌^◌, ◌<◌, ◌≤◌, Bool, true, cond, List, [], ◌∷◌, Option, Some, None, arith, sym, refl, ap, ◌∙◌, subst, pow-suc}
 use Rattle.prefix_keys.specs.Block.{block_number, first_of, width_of}
-use Rattle.pmap_text.specs.ListModel.{Prefix, label_below}
-use Rattle.pmap_text.specs.MapModel.{IsSettled, Label, MapModel, map_label}
+use Rattle.pmap_model.specs.ListModel.{Prefix, label_below}
+use Rattle.pmap_model.specs.MapModel.{IsSettled, Label, MapModel, map_label}
 use Rattle.pmap_cert.specs.Acceptance.{IsNodeAccepted, IsWithinExact}
 use Rattle.pmap_cert.specs.CertificateModel.{ChainNode, InnerNode, LeafNode, Claim, Tree, claim_of, IsPlain, exact_claim}
-use Rattle.pmap_text.proofs.Blocks.{block_number-first_of, block_number-half, first_of-below, first_of-lower}
+use Rattle.pmap_model.proofs.Blocks.{block_number-first_of, block_number-half, first_of-below, first_of-lower}
 use Rattle.pmap_cert.proofs.Counts.{count_of, count_of-halves, is_at, is_within}
 use Rattle.pmap_cert.proofs.Longest.{label_at-none, label_below-same, label_below-within}
 use Rattle.pmap_cert.proofs.Sets.{exact_claim-cost, has-own, miss, miss-le}
-use Rattle.pmap_text.proofs.Settled.{map_label-settled}
-use Rattle.pmap_text.specs.Label.{has_label}
-use Rattle.pmap_text.proofs.ListLabels.{label_of_length}
+use Rattle.pmap_model.proofs.Settled.{map_label-settled}
+use Rattle.pmap_model.specs.Label.{has_label}
+use Rattle.pmap_model.proofs.ListLabels.{label_of_length}
 
 -- The bound: a list that labels a block's addresses as the map does has at least as many entries there as an accepted
 -- node claims, and one more if the claim's set lacks the inherited label, or none is inherited.

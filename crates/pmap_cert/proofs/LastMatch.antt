@@ -6,10 +6,10 @@ use Rattle.std.proofs.lemmas.List.Elements.{All-cons, All-contains, All-from_rec
 use Rattle.prefix_keys.specs.Block.{block_number, first_of, last_of}
 use Rattle.prefix_keys.proofs.Quotients.{whole}
 use Rattle.pmap_cert.specs.Acceptance.{HasBlock, IsInOrder, begins_before}
-use Rattle.pmap_text.specs.ListModel.{Prefix, CoversAddress, IsLongestMatch}
-use Rattle.pmap_text.specs.MapModel.{Mapping, last_such, spans}
-use Rattle.pmap_text.proofs.Blocks.{address-between, address-first, address-last, block_number-shorter}
-use Rattle.pmap_text.proofs.Finds.{Contains-first}
+use Rattle.pmap_model.specs.ListModel.{Prefix, CoversAddress, IsLongestMatch}
+use Rattle.pmap_model.specs.MapModel.{Mapping, last_such, spans}
+use Rattle.pmap_model.proofs.Blocks.{address-between, address-first, address-last, block_number-shorter}
+use Rattle.pmap_model.proofs.Finds.{Contains-first}
 
 -- the statement that the addresses of an entry's block, which have W bits, have the entry's label
 abbrev pub mapping_of_prefix : ℕ → Prefix → Mapping

@@ -2,10 +2,10 @@ use Rattle.std.proofs.Common.{◌≡◌, ℕ, zero, suc, ◌+◌, ◌/◌, ◌<�
 use Rattle.std.specs.Option.{option_or}
 use Rattle.std.proofs.lemmas.Bool.{and_from, and_parts, lt-ltb}
 use Rattle.prefix_keys.specs.Block.{block_number}
-use Rattle.pmap_text.specs.ListModel.{Prefix, covers, label_below, lies_inside}
-use Rattle.pmap_text.proofs.Blocks.{block_number-half, block_number-shorter}
+use Rattle.pmap_model.specs.ListModel.{Prefix, covers, label_below, lies_inside}
+use Rattle.pmap_model.proofs.Blocks.{block_number-half, block_number-shorter}
 use Rattle.pmap_cert.proofs.Counts.{count_of, find-none, is_within}
-use Rattle.pmap_text.proofs.ListLabels.{label_of_length}
+use Rattle.pmap_model.proofs.ListLabels.{label_of_length}
 
 -- All addresses of a block have the same longest match if no entry lies inside the block.
 

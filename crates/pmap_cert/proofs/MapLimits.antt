@@ -12,12 +12,14 @@ use Rattle.prefix_keys.specs.Text.{AddressOf, BlockOf, address_of, block_of_text
 use Rattle.prefix_keys.specs.declared.text.BlockFault.{BlockFault}
 use Rattle.prefix_keys.specs.declared.text.BlockFault.TheVariants as block_faults
 use Rattle.prefix_keys.specs.declared.version.Version.{Version}
-use Rattle.pmap_text.proofs.Finds.{find_passes}
-use Rattle.pmap_text.proofs.LabelTexts.{IsLabelTable-with_label, has_label-with_label, with_label-known, with_label-new}
-use Rattle.pmap_text.specs.Label.{conflicts, declared_text, label_number, meant_text, with_declared, IsLabelTable, has_label, is_label, with_label}
-use Rattle.pmap_text.specs.Reading.{◌>>=◌, after_word, content_of, first_word, lines_of, Earlier, address_line, block_line, content_line, default_line, label_limit, label_line, label_of, lines_read, mapping_limit, mode_line, mode_version, no_lines, number_in, span_line, statement_line, unknown, with_text, map_reading, name_line, has_room}
+use Rattle.pmap_model.proofs.Finds.{find_passes}
+use Rattle.pmap_model.proofs.LabelTexts.{IsLabelTable-with_label, has_label-with_label, with_label-known, with_label-new}
+use Rattle.pmap_text.specs.Declarations.{conflicts, declared_text, label_number, meant_text, with_declared}
+use Rattle.pmap_model.specs.Label.{IsLabelTable, has_label, is_label, with_label}
+use Rattle.pmap_model.specs.Steps.{◌>>=◌}
+use Rattle.pmap_text.specs.Reading.{after_word, content_of, first_word, lines_of, Earlier, address_line, block_line, content_line, default_line, label_limit, label_line, label_of, lines_read, mapping_limit, mode_line, mode_version, no_lines, number_in, span_line, statement_line, unknown, with_text, map_reading, name_line, has_room}
 use Rattle.pmap_text.specs.Inner.{one_or_two, text_read, map_from}
-use Rattle.pmap_text.specs.MapModel.{Label, MapModel, Mapping}
+use Rattle.pmap_model.specs.MapModel.{Label, MapModel, Mapping}
 use Rattle.pmap_text.specs.declared.fault.MapFault.{MapFault}
 use Rattle.pmap_text.specs.declared.fault.MapFaultKind.{MapFaultKind}
 use Rattle.pmap_text.specs.declared.reading.form.Form.TheVariants as form

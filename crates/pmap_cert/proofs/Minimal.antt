@@ -3,18 +3,18 @@ use Rattle.std.specs.Option.{option_or}
 use Rattle.std.proofs.lemmas.Bool.{and_from, and_left, lt-leb}
 use Rattle.std.proofs.lemmas.Bool.Decides.{nat_tests}
 use Rattle.prefix_keys.specs.Block.{block_number, first_of, width_of}
-use Rattle.pmap_text.specs.ListModel.{ListModel, Prefix, covers, label_below, lies_inside}
-use Rattle.pmap_text.specs.MapModel.{Label, MapModel}
+use Rattle.pmap_model.specs.ListModel.{ListModel, Prefix, covers, label_below, lies_inside}
+use Rattle.pmap_model.specs.MapModel.{Label, MapModel}
 use Rattle.pmap_cert.specs.Acceptance.{IsAccepted, ListSettles, IsNodeAccepted, IsWithinExact, IsMinimalPair, StandsFor, entries_of, handed_on, has_inherited, least_label, own_entry}
 use Rattle.pmap_cert.specs.CertificateModel.{CertificateModel, ChainNode, InnerNode, LeafNode, Claim, Tree, claim_of, IsSameClaim, exact_claim}
-use Rattle.pmap_text.proofs.Blocks.{block_number-first_of}
+use Rattle.pmap_model.proofs.Blocks.{block_number-first_of}
 use Rattle.pmap_cert.proofs.Counts.{is_within}
 use Rattle.pmap_cert.proofs.Entries.{filter-entries_of, filter-own_entry, is_within-half, length-entries_of}
 use Rattle.pmap_cert.proofs.Filters.{filter-filter, filter-three, find-filter}
 use Rattle.pmap_cert.proofs.Handed.{handed_on-leaf}
 use Rattle.pmap_cert.proofs.Kernel.{label_below-lower, label_below-upper}
 use Rattle.pmap_cert.proofs.Sets.{same-listed}
-use Rattle.pmap_text.proofs.Settled.{unsettled-halves}
+use Rattle.pmap_model.proofs.Settled.{unsettled-halves}
 
 -- A minimal pair is accepted.
 

@@ -11,12 +11,11 @@ use Rattle.prefix_keys.specs.Block.{block_number, width_of}
 use Rattle.pmap_cert.specs.Acceptance.{IsAccepted, IsNodeAccepted, HasBlock, HasListForm, IsInOrder, begins_before, IsMinimalPair}
 use Rattle.pmap_cert.specs.CertificateModel.{CertificateModel, claim_of}
 use Rattle.pmap_cert.proofs.InOrder.{list-form}
-use Rattle.pmap_cert.proofs.MapLimits.{labels-read}
-use Rattle.pmap_cert.proofs.MapLimits.{IsLimited, limits-read}
+use Rattle.pmap_cert.proofs.MapLimits.{labels-read, IsLimited, limits-read}
 use Rattle.pmap_cert.proofs.Minimal.{accepted-minimal}
-use Rattle.pmap_text.specs.Label.{is_label, has_label}
-use Rattle.pmap_text.specs.ListModel.{ListModel, Prefix, is_same_prefix}
-use Rattle.pmap_text.specs.MapModel.{Label, MapModel}
+use Rattle.pmap_model.specs.Label.{is_label, has_label}
+use Rattle.pmap_model.specs.ListModel.{ListModel, Prefix, is_same_prefix}
+use Rattle.pmap_model.specs.MapModel.{Label, MapModel}
 use Rattle.pmap_text.specs.Reading.{label_limit, mapping_limit, map_reading}
 use Rattle.pmap_cert.specs.ListText.{CanBeReadAgain, IsListAgain, IsPrintedEntry, IsWellFormed, labels_of}
 use Rattle.pmap_cert.proofs.LastMatch.{block-start}

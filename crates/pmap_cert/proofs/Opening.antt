@@ -1,6 +1,6 @@
 use Rattle.std.proofs.Common.{◌≡◌, ℕ, suc, ◌+◌, ◌*◌, ◌<◌, ◌≤◌, Bool, true, false, List, [], ◌∷◌, arith, length, sym, ap, ap₂, subst}
-use Rattle.pmap_text.specs.ListModel.{Prefix}
-use Rattle.pmap_text.specs.MapModel.{Label, MapModel}
+use Rattle.pmap_model.specs.ListModel.{Prefix}
+use Rattle.pmap_model.specs.MapModel.{Label, MapModel}
 use Rattle.pmap_cert.specs.Acceptance.{AreBitsAccepted, IsNodeAccepted, IsWithinExact}
 use Rattle.pmap_cert.specs.CertificateModel.{ChainNode, InnerNode, LeafNode, Claim, Tree, claim_of, chain_claim, link_claim, claim_by_bits, exact_claim}
 use Rattle.pmap_cert.specs.Compacting.{IsPath, OpensTo, line_count}

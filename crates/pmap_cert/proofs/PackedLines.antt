@@ -3,7 +3,7 @@ use Rattle.std.proofs.Common.{◌≡◌, ℕ, ◌+◌, ◌-◌, ◌<◌, ◌≤�
 use Rattle.std.specs.List.{slice_range}
 use Rattle.std.proofs.lemmas.List.{drop-append-le, get_or_append_left, map-append, reverse-append, take-append-le}
 use Rattle.std.proofs.lemmas.List.Elements.{All-cons, All-head, All-nil, All-push, All-tail}
-use Rattle.pmap_text.specs.declared.label.LabelId.{LabelId}
+use Rattle.pmap_model.specs.declared.label.LabelId.{LabelId}
 use Rattle.pmap_cert.specs.FormatReading.{DueLine, InnerLine}
 use Rattle.pmap_cert.specs.Packed.{HasSetAt, IsLine, IsMore, IsPacked, IsStored, Store, chain_at, chain_with, cost_at, count_at, joined_halves, line_in, line_with, no_chain, set_at, unpacked, Packed, Chain, Inner, Leaf, PackedChain, SideChain, Single, Unpacked}
 

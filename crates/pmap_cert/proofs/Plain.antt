@@ -1,8 +1,8 @@
 -- Trees without chains: those of minimal pairs, and those that the code keeps.
 use Rattle.std.proofs.Common.{ℕ, suc, ◌+◌, ◌*◌, List, inl, inr, refl}
 use Rattle.prefix_keys.specs.declared.version.Version.{Version}
-use Rattle.pmap_text.specs.MapModel.{Label, MapModel}
-use Rattle.pmap_text.specs.MapText.{text_at}
+use Rattle.pmap_model.specs.MapModel.{Label, MapModel}
+use Rattle.pmap_model.specs.MapText.{text_at}
 use Rattle.pmap_cert.specs.CertificateModel.{ChainNode, InnerNode, LeafNode, Tree, IsOfFormat, IsPlain}
 use Rattle.pmap_cert.specs.Format.{IsNodeOf, format_number, Format, One, Two}
 use Rattle.pmap_cert.specs.Acceptance.{StandsFor}

@@ -17,15 +17,16 @@ use Rattle.prefix_keys.specs.declared.version.Version.{Version}
 use Rattle.prefix_keys.specs.declared.version.Version.TheVariants.{V4, V6}
 use Rattle.prefix_keys.proofs.Printed.{Lacks}
 use Rattle.pmap_cert.specs.Acceptance.{HasBlock}
-use Rattle.pmap_text.specs.Label.{is_label}
-use Rattle.pmap_text.specs.Reading.{◌>>=◌, Earlier, lines_read, no_lines, unknown, map_reading, list_reading}
+use Rattle.pmap_model.specs.Label.{is_label}
+use Rattle.pmap_model.specs.Steps.{◌>>=◌}
+use Rattle.pmap_text.specs.Reading.{Earlier, lines_read, no_lines, unknown, map_reading, list_reading}
 use Rattle.pmap_text.specs.Inner.{text_read, list_from, map_from}
-use Rattle.pmap_text.specs.ListModel.{ListModel, Prefix, label_below, list_label, CoversAddress, IsLongestMatch, is_same_prefix, same_start_and_bits}
-use Rattle.pmap_text.specs.MapModel.{Label, MapModel, Mapping, last_such, spans}
+use Rattle.pmap_model.specs.ListModel.{ListModel, Prefix, label_below, list_label, CoversAddress, IsLongestMatch, is_same_prefix, same_start_and_bits}
+use Rattle.pmap_model.specs.MapModel.{Label, MapModel, Mapping, last_such, spans}
 use Rattle.pmap_text.specs.declared.fault.MapFault.{MapFault}
 use Rattle.pmap_text.specs.declared.reading.form.Form.{Form}
 use Rattle.pmap_text.specs.declared.reading.form.Form.TheVariants as form
-use Rattle.pmap_text.proofs.ListLabels.{label-longest, label-same_prefixes, longest-match, once-distinct, same_prefixes-permuted}
+use Rattle.pmap_model.proofs.ListLabels.{label-longest, label-same_prefixes, longest-match, once-distinct, same_prefixes-permuted}
 use Rattle.pmap_cert.specs.ListText.{entry_line, list_text, entries_in_order, CanBeReadAgain, IsListAgain, IsMapAgain, IsPrintedEntry}
 use Rattle.pmap_cert.proofs.LastMatch.{last-found, match-in, mapping_of_prefix}
 use Rattle.prefix_keys.proofs.Groups.{width-le}

@@ -18,10 +18,11 @@ use Rattle.prefix_keys.specs.declared.text.BlockFault.{BlockFault}
 use Rattle.prefix_keys.specs.declared.version.Version.{Version}
 use Rattle.prefix_keys.specs.declared.version.Version.TheVariants.{V4, V6}
 use Rattle.prefix_keys.proofs.ReadBack.{block_is_read_back}
-use Rattle.pmap_text.specs.Label.{declared_text, label_number, meant_text, is_label, with_label}
+use Rattle.pmap_text.specs.Declarations.{declared_text, label_number, meant_text}
+use Rattle.pmap_model.specs.Label.{is_label, with_label}
 use Rattle.pmap_text.specs.Reading.{after_word, content_of, first_word, Earlier, block_line, content_line, label_of, no_lines, number_in, placed_line, statement_line}
-use Rattle.pmap_text.specs.ListModel.{Prefix}
-use Rattle.pmap_text.specs.MapModel.{Label}
+use Rattle.pmap_model.specs.ListModel.{Prefix}
+use Rattle.pmap_model.specs.MapModel.{Label}
 use Rattle.pmap_text.specs.declared.reading.form.Form.{Form}
 use Rattle.pmap_text.specs.declared.reading.form.Form.TheVariants as form
 use Rattle.pmap_cert.proofs.LastMatch.{mapping_of_prefix}

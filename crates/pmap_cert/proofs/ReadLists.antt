@@ -12,9 +12,9 @@ use Rattle.std.proofs.lemmas.List.Sums.{fold-append}
 use Rattle.std.proofs.lemmas.Map.Keys.{apart_from_distinct}
 use Rattle.prefix_keys.specs.Block.{width_of}
 use Rattle.prefix_keys.specs.declared.version.Version.{Version}
-use Rattle.pmap_text.specs.Label.{is_label, with_label}
-use Rattle.pmap_text.specs.ListModel.{Prefix, same_start_and_bits}
-use Rattle.pmap_text.specs.MapModel.{Label, Mapping}
+use Rattle.pmap_model.specs.Label.{is_label, with_label}
+use Rattle.pmap_model.specs.ListModel.{Prefix, same_start_and_bits}
+use Rattle.pmap_model.specs.MapModel.{Label, Mapping}
 use Rattle.pmap_text.specs.Reading.{content_line, content_of, Earlier, label_limit, lines_read, mapping_limit, no_lines, has_room, has_prefix}
 use Rattle.pmap_text.specs.declared.fault.MapFaultKind.{MapFaultKind}
 use Rattle.pmap_text.specs.declared.reading.form.Form.{Form}

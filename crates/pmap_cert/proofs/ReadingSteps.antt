@@ -2,9 +2,9 @@
 use Rattle.std.proofs.Common.{◌≡◌, ℕ, zero, suc, ◌+◌, ◌-◌, ◌<◌, ◌≤◌, ◌∙◌, Bool, List, [], ◌∷◌, ◌++◌, Result, Ok, Err, length, map, nat_le, sym, ap, subst, arith}
 use Rattle.std.proofs.lemmas.Bool.{cond-false, cond-true, le-leb, lt-leb}
 use Rattle.std.proofs.lemmas.List.{append_assoc, length_push}
-use Rattle.pmap_text.specs.MapModel.{Label}
-use Rattle.pmap_text.specs.Reading.{◌>>=◌}
-use Rattle.pmap_text.specs.MapText.{text_at}
+use Rattle.pmap_model.specs.MapModel.{Label}
+use Rattle.pmap_model.specs.Steps.{◌>>=◌}
+use Rattle.pmap_model.specs.MapText.{text_at}
 use Rattle.pmap_cert.specs.CertificateModel.{ChainNode, InnerNode, LeafNode, Claim, Tree}
 use Rattle.pmap_cert.specs.Format.{format_number, Format}
 use Rattle.pmap_cert.specs.FormatReading.{ChainLine, DueLine, InnerLine, LeafLine, Place, due_node, fault_at, labels_at, line_due_at, new_label, nodes_at, line_value, CertFault, BadLabelTable, TooDeep}

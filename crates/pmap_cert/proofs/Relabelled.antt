@@ -2,9 +2,9 @@
 use Rattle.std.proofs.Common.{◌≡◌, ℕ, zero, suc, ◌<◌, ◌∙◌, Bool, true, false, List, Option, Some, None, bytes_eq, cond, length, nat_eq, nat_le, option_map, refl, sym, ap, subst, ⊎_elim}
 use Rattle.std.specs.Option.{option_or}
 use Rattle.std.proofs.lemmas.Option.{none-some, same_Some}
-use Rattle.pmap_text.specs.Label.{IsLabelTable}
-use Rattle.pmap_text.specs.MapModel.{Label}
-use Rattle.pmap_text.specs.MapText.{text_at}
+use Rattle.pmap_model.specs.Label.{IsLabelTable}
+use Rattle.pmap_model.specs.MapModel.{Label}
+use Rattle.pmap_model.specs.MapText.{text_at}
 use Rattle.pmap_cert.specs.CertificateText.{HasChainForm, HasNodeForm, place_of}
 use Rattle.pmap_cert.specs.Node.{Node}
 use Rattle.pmap_cert.specs.CertificateModel.{ChainNode, ClaimOf, InnerNode, IsPlain, LeafNode, Tree, TreeOf, map_claim, map_tree}

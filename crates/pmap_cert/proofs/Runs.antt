@@ -4,7 +4,7 @@ use Rattle.std.specs.Option.{option_or}
 use Rattle.std.proofs.lemmas.Bool.{cond-false, cond-true, false≢true, le-leb, leb-true}
 use Rattle.std.proofs.lemmas.Option.{none-some, same_Some}
 use Rattle.std.proofs.lemmas.Slice.Eq.{bytes_eq-Decides}
-use Rattle.pmap_text.specs.MapModel.{Label}
+use Rattle.pmap_model.specs.MapModel.{Label}
 use Rattle.pmap_cert.specs.CertificateModel.{ChainNode, InnerNode, LeafNode, Claim, ClaimOf, Tree, TreeOf, IsPlain, chain_opened, links, opened_tree}
 use Rattle.pmap_cert.specs.Compacting.{HasNoRun, IsSameShape, IsPath, OpensTo, compacted, compacted_in, has_side, is_side, line_count, run_bits, run_compacted, run_end, side_of}
 use Rattle.pmap_cert.proofs.Sets.{bytes_eq-same}

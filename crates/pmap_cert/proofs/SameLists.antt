@@ -5,15 +5,15 @@ use Rattle.std.proofs.lemmas.List.{append-nil}
 use Rattle.std.proofs.lemmas.Slice.Eq.{bytes_eq-Decides}
 use Rattle.std.proofs.lemmas.Option.{none-some}
 use Rattle.prefix_keys.specs.Block.{block_number, first_of, width_of}
-use Rattle.pmap_text.specs.MapModel.{Label, MapModel, Mapping, map_label}
-use Rattle.pmap_text.proofs.Blocks.{block_number-first_of, block_number-half, first_of-below}
-use Rattle.pmap_text.proofs.Settled.{map_label-settled, unsettled-halves}
+use Rattle.pmap_model.specs.MapModel.{Label, MapModel, Mapping, map_label}
+use Rattle.pmap_model.proofs.Blocks.{block_number-first_of, block_number-half, first_of-below}
+use Rattle.pmap_model.proofs.Settled.{map_label-settled, unsettled-halves}
 use Rattle.pmap_cert.specs.CertificateModel.{ChainNode, InnerNode, LeafNode, Claim, IsSameClaim, Tree, claim_of, exact_claim, exact_claim_by}
 use Rattle.pmap_cert.specs.Acceptance.{HasItsLabels, StandsFor, entries_of, handed_on, has_inherited, least_label, own_entry}
 use Rattle.pmap_cert.proofs.Alike.{table-node}
 use Rattle.pmap_cert.proofs.Handed.{handed_on-leaf, inhabited}
 use Rattle.pmap_cert.proofs.Sets.{has-own, same-back, same-exact_claim, same-listed, same-then}
-use Rattle.pmap_text.specs.Label.{has_label}
+use Rattle.pmap_model.specs.Label.{has_label}
 
 -- a test that a label of the table passes is passed by the one that is found
 found-some : (test : Label → Bool) (table : List Label) (x : Label) → has_label table x ≡ true → test x ≡ true → find test table ≡ None → ⊥

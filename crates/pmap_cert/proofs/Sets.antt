@@ -2,10 +2,10 @@ use Rattle.std.proofs.Common.{◌≡◌, ◌⊎◌, ℕ, ◌+◌, ◌≤◌, Boo
 use Rattle.std.proofs.lemmas.Bool.{and_from, and_parts, false≢true, or_cases, or_left}
 use Rattle.std.proofs.lemmas.Slice.Eq.{bytes_eq-Decides}
 use Rattle.std.proofs.Math.Bool.{or-false, or_assoc}
-use Rattle.pmap_text.specs.MapModel.{Label}
+use Rattle.pmap_model.specs.MapModel.{Label}
 use Rattle.pmap_cert.specs.CertificateModel.{Claim, IsClaimWith, IsSameClaim, exact_claim, exact_claim_by}
 use Rattle.pmap_cert.specs.Acceptance.{has_inherited, in_table_order}
-use Rattle.pmap_text.specs.Label.{has_label}
+use Rattle.pmap_model.specs.Label.{has_label}
 
 -- Sets of labels, and the cost of the exact claim of two claims.
 

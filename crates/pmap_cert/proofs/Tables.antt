@@ -7,11 +7,11 @@ use Rattle.std.proofs.lemmas.List.{append-nil, append_assoc, get_or_at, length-a
 use Rattle.std.proofs.lemmas.List.Sums.{passes_at_first}
 use Rattle.std.proofs.lemmas.Option.{cond_some, slice_get-get_or, unwrap_or-slice_get}
 use Rattle.std.proofs.lemmas.Slice.Eq.{bytes_eq-Decides}
-use Rattle.pmap_text.proofs.LabelTexts.{IsLabelTable-with_label, any_place, with_label-new}
-use Rattle.pmap_text.specs.Label.{IsLabelTable, has_label, is_label}
-use Rattle.pmap_text.specs.MapModel.{Label}
-use Rattle.pmap_text.specs.Reading.{◌>>=◌}
-use Rattle.pmap_text.specs.MapText.{text_at}
+use Rattle.pmap_model.proofs.LabelTexts.{IsLabelTable-with_label, any_place, with_label-new}
+use Rattle.pmap_model.specs.Label.{IsLabelTable, has_label, is_label}
+use Rattle.pmap_model.specs.MapModel.{Label}
+use Rattle.pmap_model.specs.Steps.{◌>>=◌}
+use Rattle.pmap_model.specs.MapText.{text_at}
 use Rattle.pmap_cert.specs.CertificateText.{IsAscending, place_of}
 use Rattle.pmap_cert.specs.FormatReading.{Place, fault_at, labels_at, new_label, line_value, CertFault, CertFaultKind, BadLabelTable}
 use Rattle.pmap_cert.proofs.Pieces.{found_at, line_from-cons}

@@ -14,7 +14,7 @@ use Rattle.prefix_keys.proofs.Digits.{All-digits}
 use Rattle.prefix_keys.proofs.Groups.{address_bytes, bytes-below, groups-below}
 use Rattle.prefix_keys.proofs.Printed.{Lacks}
 use Rattle.pmap_cert.specs.CertificateText.{text_of_lines}
-use Rattle.pmap_text.specs.Label.{is_blank, is_label, is_label_byte}
+use Rattle.pmap_model.specs.Label.{is_blank, is_label, is_label_byte}
 use Rattle.pmap_text.specs.Reading.{after_word, content_of, first_word, lines_of, trim_start, trim_end}
 use Rattle.pmap_text.proofs.LeadingWords.{first-after}
 

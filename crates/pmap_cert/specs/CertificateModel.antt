@@ -1,7 +1,7 @@
 use Rattle.std.specs.Prelude.{ℕ, Bool, List, [], ◌∷◌, ◌≡◌, ◌+◌, ◌++◌, filter, map, zero, suc, ◌*◌, ◌⊎◌, true, false, length, if◌then◌else◌}
 use Rattle.prefix_keys.specs.declared.version.Version.{Version}
-use Rattle.pmap_text.specs.Label.{has_label}
-use Rattle.pmap_text.specs.MapModel.{Label}
+use Rattle.pmap_model.specs.Label.{has_label}
+use Rattle.pmap_model.specs.MapModel.{Label}
 
 -- A certificate as contracts see it: a binary tree over the address space, with label texts.
 

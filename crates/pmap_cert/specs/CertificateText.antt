@@ -6,8 +6,8 @@ use Rattle.std.specs.Coded.{Unit-prop, le_prop}
 use Rattle.prefix_keys.specs.declared.version.Version.{Version}
 use Rattle.prefix_keys.specs.declared.version.Version.TheVariants.{V4, V6}
 use Rattle.prefix_keys.specs.Block.{width_of}
-use Rattle.pmap_text.specs.MapModel.{Label}
-use Rattle.pmap_text.specs.Label.{IsLabelTable}
+use Rattle.pmap_model.specs.MapModel.{Label}
+use Rattle.pmap_model.specs.Label.{IsLabelTable}
 use Rattle.pmap_cert.specs.CertificateModel.{CertificateModel, ChainNode, InnerNode, LeafNode, Tree, TreeOf, IsOfFormat, map_tree}
 
 -- The text of a certificate of either format: lines of words with one space between two, each line ended by a line

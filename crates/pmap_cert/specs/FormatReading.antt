@@ -5,10 +5,10 @@ use Rattle.prefix_keys.specs.Text.{decimal_value}
 use Rattle.prefix_keys.specs.Block.{width_of}
 use Rattle.prefix_keys.specs.declared.version.Version.{Version}
 use Rattle.prefix_keys.specs.declared.version.Version.TheVariants.{V4, V6}
-use Rattle.pmap_text.specs.Label.{has_label, is_label}
-use Rattle.pmap_text.specs.MapModel.{Label}
-use Rattle.pmap_text.specs.MapText.{text_at}
-use Rattle.pmap_text.specs.Reading.{◌>>=◌}
+use Rattle.pmap_model.specs.Label.{has_label, is_label}
+use Rattle.pmap_model.specs.MapModel.{Label}
+use Rattle.pmap_model.specs.MapText.{text_at}
+use Rattle.pmap_model.specs.Steps.{◌>>=◌}
 use Rattle.pmap_cert.specs.CertificateModel.{CertificateModel, InnerNode, LeafNode, Tree, ChainNode}
 use Rattle.pmap_cert.specs.CertificateText.{format_header}
 pub use Rattle.pmap_cert.specs.CertificateText.{ChainLine, DueLine, InnerLine, LeafLine, node_line_text}

@@ -4,13 +4,13 @@ use Rattle.std.specs.List.{IsDistinct}
 use Rattle.prefix_keys.specs.Print.{block_text}
 use Rattle.prefix_keys.specs.declared.version.Version.{Version}
 use Rattle.prefix_keys.specs.Block.{width_of}
-use Rattle.pmap_text.specs.ListModel.{Prefix, ListModel, list_label, is_same_prefix}
-use Rattle.pmap_text.specs.MapModel.{Label, MapModel, map_label}
-use Rattle.pmap_text.specs.Label.{is_label, with_label}
+use Rattle.pmap_model.specs.ListModel.{Prefix, ListModel, list_label, is_same_prefix}
+use Rattle.pmap_model.specs.MapModel.{Label, MapModel, map_label}
+use Rattle.pmap_model.specs.Label.{is_label, with_label}
 use Rattle.pmap_text.specs.Reading.{label_limit, mapping_limit, unknown}
 use Rattle.pmap_cert.specs.Acceptance.{begins_before, HasBlock}
 use Rattle.pmap_cert.specs.CertificateText.{text_of_lines, version_word}
-use Rattle.pmap_text.specs.Sorting.{in_order}
+use Rattle.pmap_model.specs.Sorting.{in_order}
 
 -- the line of an entry: `BLOCK LABEL`
 abbrev pub entry_line : Version → Prefix → List ℕ

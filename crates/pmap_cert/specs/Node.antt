@@ -3,8 +3,8 @@ use mathlib.Core.Logic.{inl, inr}
 use Rattle.std.proofs.Common.{◌∙◌, ap}
 use Rattle.std.proofs.lemmas.List.{append_assoc}
 use Rattle.std.specs.Coded.{Coded, code_by, coded_bool, coded_list, coded_ℕ, coded×, coded⊎, le_prop}
-use Rattle.pmap_text.specs.MapModel.{Label}
-use Rattle.pmap_text.specs.MapText.{text_at}
+use Rattle.pmap_model.specs.MapModel.{Label}
+use Rattle.pmap_model.specs.MapText.{text_at}
 use Rattle.pmap_cert.specs.CertificateText.{ChainLine, DueLine, HasRoomBelow, InnerLine, IsAscending-prop, LeafLine}
 pub use Rattle.pmap_cert.specs.CertificateText.{HasChainForm, node_line_text, node_lines}
 use Rattle.pmap_cert.specs.CertificateModel.{ChainNode, ClaimOf, InnerNode, IsPlain, LeafNode, Tree, TreeOf, map_tree}

@@ -1,7 +1,7 @@
 use Rattle.std.specs.Prelude.{◌≡◌, ℕ, ◌+◌, ◌*◌, ◌/◌, ◌%◌, ◌^◌, ◌<◌, ◌≤◌, ◌==◌, Bool, List, [], ◌∷◌, ◌++◌, length, map, slice_index_or, if◌then◌else◌}
 use Rattle.std.proofs.Common.{lit≤}
 use Rattle.std.specs.List.{slice_range}
-use Rattle.pmap_text.specs.declared.label.LabelId.{LabelId}
+use Rattle.pmap_model.specs.declared.label.LabelId.{LabelId}
 use Rattle.pmap_cert.specs.FormatReading.{ChainLine, DueLine, InnerLine, LeafLine}
 pub use Rattle.pmap_cert.specs.declared.nodes.PackedChain.{PackedChain}
 pub use Rattle.pmap_cert.specs.declared.packed.Packed.{Packed}

@@ -7,7 +7,7 @@ ghost use Rattle.pmap_cert.specs.Node.{HasChainForm, HasChainForm-prop, HasNumbe
 use crate::cursor::Cursor;
 use crate::format::Format;
 use crate::root::Root;
-use pmap_text::Labels;
+use pmap_model::Labels;
 use prefix_keys::Version;
 
 /// A certificate: its format, the version of its addresses, its label table, and its root, which represents the address

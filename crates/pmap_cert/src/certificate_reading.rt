@@ -1,6 +1,6 @@
 //! Reading the text of a certificate, line by line.
 ghost use Rattle.std.specs.Prelude.{◌≡◌, ◌≢◌, ◌-◌, ◌<◌, ◌≤◌, [], Ok, Err, false, length, IfErr, IfOk, IsTrue, OnOk};
-ghost use Rattle.pmap_text.specs.Label.{has_label, is_label as is_label_text};
+ghost use Rattle.pmap_model.specs.Label.{has_label, is_label as is_label_text};
 ghost use Rattle.pmap_cert.specs.Certificate.{ReturnsCertificate, certificate_of};
 ghost use Rattle.pmap_cert.specs.Format.{IsNodeOf};
 ghost use Rattle.pmap_cert.specs.FormatReading.{format_reading, is_ended, labels_at, new_label, line_value, BadLabelTable, NoMemory};
@@ -15,7 +15,7 @@ use crate::node::Node;
 use crate::node_line::{LineLimits, NodeBuffer};
 use crate::nodes::Nodes;
 use crate::root::Root;
-use pmap_text::{KeyHashing, Labels, is_label};
+use pmap_model::{KeyHashing, Labels, is_label};
 use prefix_keys::Version;
 use std::alloc::Global;
 

@@ -2,8 +2,8 @@
 
 ghost use Rattle.std.specs.Prelude.{◌≡◌, ◌≤◌, ◌⊎◌, ◌↔◌, ◌∷◌, ℕ, Bool, List, Err, Ok, length};
 ghost use Rattle.std.specs.Str.{bytes_eq};
-ghost use Rattle.pmap_text.specs.ListModel.{ListModel};
-ghost use Rattle.pmap_text.specs.MapModel.{Label, MapModel};
+ghost use Rattle.pmap_model.specs.ListModel.{ListModel};
+ghost use Rattle.pmap_model.specs.MapModel.{Label, MapModel};
 ghost use Rattle.pmap_cert.specs.Acceptance.{IsAccepted};
 ghost use Rattle.pmap_cert.specs.CertificateText.{HasFormatText, HasTextForm, certificate_text};
 ghost use Rattle.pmap_cert.specs.CertificateModel.{CertificateModel, InnerNode, LeafNode, Claim, Tree, claim_of, IsOfFormat, IsPlain, chain_claim, opened_tree, opened_certificate, claim_by_bits, IsSameClaim};

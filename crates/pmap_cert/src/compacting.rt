@@ -19,7 +19,7 @@ use crate::nodes::Nodes;
 use crate::path::Path;
 use crate::writing::{push_head, push_line, push_nodes};
 use flow_io::{Printable, Sink, text_of};
-use pmap_text::LabelId;
+use pmap_model::LabelId;
 use std::alloc::{AllocError, Global};
 
 // Returns the label of the node at line `number` if it is a leaf.

@@ -1,13 +1,13 @@
 //! Laws about certificates.
 
 ghost use Rattle.std.specs.Prelude.{◌≡◌, ◌+◌, ◌≤◌, ◌&&◌, ◌||◌, ℕ, List, Ok, false, length, IsTrue};
-ghost use Rattle.pmap_text.specs.ListModel.{IsEquivalent, ListModel};
-ghost use Rattle.pmap_text.specs.MapModel.{Label, MapModel};
+ghost use Rattle.pmap_model.specs.ListModel.{IsEquivalent, ListModel};
+ghost use Rattle.pmap_model.specs.MapModel.{Label, MapModel};
 ghost use Rattle.pmap_text.specs.Reading.{map_reading};
 ghost use Rattle.pmap_cert.specs.Acceptance.{IsAccepted, IsLeast, HasListForm, HasItsLabels, IsMinimalPair};
 ghost use Rattle.pmap_cert.specs.CertificateText.{HasTextForm};
 ghost use Rattle.pmap_cert.specs.CertificateModel.{CertificateModel, Claim, claim_of, IsClaimWith, IsSameClaim, exact_claim};
-ghost use Rattle.pmap_text.specs.Label.{has_label};
+ghost use Rattle.pmap_model.specs.Label.{has_label};
 
 /// An accepted certificate is enough, whoever made it: its list labels every address as the map does, and no list that
 /// does so has fewer entries. Each such list has at least as many entries as the root's cost plus one.

@@ -3,8 +3,8 @@
 ghost use Rattle.std.specs.Prelude.{◌≡◌, ◌≤◌, ℕ, List, length, Ok};
 ghost use Rattle.std.specs.List.{IsDistinct};
 ghost use Rattle.std.specs.List.Sorted.{IsPermutation};
-ghost use Rattle.pmap_text.specs.ListModel.{ListModel, Prefix, same_start_and_bits};
-ghost use Rattle.pmap_text.specs.MapModel.{MapModel};
+ghost use Rattle.pmap_model.specs.ListModel.{ListModel, Prefix, same_start_and_bits};
+ghost use Rattle.pmap_model.specs.MapModel.{MapModel};
 ghost use Rattle.pmap_text.specs.Reading.{label_limit, mapping_limit, map_reading, list_reading};
 ghost use Rattle.pmap_cert.specs.Acceptance.{IsAccepted, IsInOrder, IsMinimalPair};
 ghost use Rattle.pmap_cert.specs.CertificateModel.{CertificateModel};

@@ -2,7 +2,7 @@ ghost use Rattle.std.specs.Prelude.{◌≡◌};
 ghost use Rattle.pmap_cert.specs.Opened.{has_number, numbers_of};
 
 use crate::path::Path;
-use pmap_text::LabelId;
+use pmap_model::LabelId;
 
 /// What a node claims: a cost, and a set of labels by ascending numbers. A leaf claims the cost 0 and only its label.
 #[derive(Clone, Copy)]

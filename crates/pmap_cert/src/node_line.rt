@@ -7,7 +7,7 @@ ghost use Rattle.pmap_cert.specs.Packed.{bits_in, line_of};
 use crate::format::Format;
 use crate::node::{Claim, Node};
 use crate::path::Path;
-use pmap_text::{LabelId, Labels};
+use pmap_model::{LabelId, Labels};
 use std::alloc::{AllocError, Global};
 
 // The number of costs that a node can claim: a cost has 32 bits.

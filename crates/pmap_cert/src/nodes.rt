@@ -7,7 +7,7 @@ ghost use Rattle.pmap_cert.specs.Packed.{HasSetAt, IsGrown, IsLine, IsMore, bits
 use crate::node::{Claim, Node};
 use crate::packed::{HALF, Packed, SHORT_COSTS, Unpacked};
 use crate::path::Path;
-use pmap_text::LabelId;
+use pmap_model::LabelId;
 use std::alloc::{AllocError, Global};
 use std::marker::Model;
 use std::slice;

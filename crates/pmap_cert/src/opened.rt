@@ -16,7 +16,7 @@ use crate::path::Path;
 use crate::writing::{push_head, push_line, push_number, push_set};
 use flow_io::{Printable, Sink};
 use itoa::write_digits;
-use pmap_text::LabelId;
+use pmap_model::LabelId;
 
 // The room for the two lines of a chain, which have at most 37 bytes, and the room for the second one.
 const ROOM: usize = 40;

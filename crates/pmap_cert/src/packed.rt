@@ -2,7 +2,7 @@
 ghost use Rattle.std.specs.Prelude.{◌≡◌, ◌/◌, ◌^◌, ◌<◌};
 ghost use Rattle.pmap_cert.specs.Packed.{FitsPacked, of_kind, unpacked};
 
-use pmap_text::LabelId;
+use pmap_model::LabelId;
 
 /// The line of a node: the label of a leaf; the cost and the label of an inner node whose set is one label; the index
 /// of another inner node's cost and set; or that of a chain. The set of a `SideChain` is its side label alone.

@@ -15,7 +15,7 @@ use crate::nodes::Nodes;
 use crate::path::Path;
 use flow_io::{Printable, Sink, text_of};
 use itoa::Buffer;
-use pmap_text::{LabelId, Labels};
+use pmap_model::{LabelId, Labels};
 use prefix_keys::Version;
 use std::alloc::{AllocError, Global};
 

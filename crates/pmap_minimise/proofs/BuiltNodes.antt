@@ -6,9 +6,9 @@ use Rattle.std.proofs.Math.Nat.{mul-le-mul_right, zero-div}
 use Rattle.std.proofs.lemmas.List.{append_assoc, append-nil, reverse-append, reverse-reverse}
 use Rattle.std.proofs.lemmas.Option.{none-some, same_Some}
 use Rattle.prefix_keys.specs.Block.{block_number, width_of}
-use Rattle.pmap_text.specs.MapText.{map_of}
-use Rattle.pmap_text.specs.Stretches.{AreStretches, StretchesModel}
-use Rattle.pmap_text.specs.declared.map_text.MapText.{MapText}
+use Rattle.pmap_model.specs.MapText.{map_of}
+use Rattle.pmap_stretches.specs.Stretches.{AreStretches, StretchesModel}
+use Rattle.pmap_model.specs.declared.map_text.MapText.{MapText}
 use Rattle.pmap_cert.specs.FormatReading.{ChainLine, DueLine, InnerLine, LeafLine}
 use Rattle.pmap_cert.specs.CertificateModel.{ChainNode, ClaimOf, InnerNode, LeafNode, claim_of}
 use Rattle.pmap_cert.specs.Compacting.{compacted, leaf_label, run_bits, run_end, side_of}
@@ -17,13 +17,13 @@ use Rattle.pmap_cert.specs.CertificateText.{IsAscending}
 use Rattle.pmap_cert.specs.Inner.{IsShort, side_below}
 use Rattle.pmap_cert.proofs.CompactNodes.{compact-chain, compact-short}
 use Rattle.pmap_cert.proofs.Runs.{compacted-leaf}
-use Rattle.pmap_text.specs.MapModel.{MapModel}
-use Rattle.pmap_text.specs.Label.{IsLabelTable}
-use Rattle.pmap_text.proofs.Ends.{ends_most}
-use Rattle.pmap_text.proofs.Settling.{map_is}
+use Rattle.pmap_model.specs.MapModel.{MapModel}
+use Rattle.pmap_model.specs.Label.{IsLabelTable}
+use Rattle.pmap_model.proofs.Ends.{ends_most}
+use Rattle.pmap_stretches.proofs.Settling.{map_is}
 use Rattle.pmap_minimise.specs.Runs.{AreCountable, AreCountedHalves, HasNoLongRun, IsCounted, IsChoice, IsWindowNode, IsMapOn, AreSteps, IsRunTo, IsStepInto, IsStop, own_label}
-use Rattle.pmap_text.specs.Windows.{IsWindow, window_number}
-use Rattle.pmap_text.specs.declared.stretches.window.Window.{Window}
+use Rattle.pmap_stretches.specs.Windows.{IsWindow, window_number}
+use Rattle.pmap_stretches.specs.declared.stretches.window.Window.{Window}
 use Rattle.pmap_minimise.specs.Built.{AddsInner, AreHalves, IsBuilt, IsBuiltIn, claim_at, last_claim}
 use Rattle.pmap_cert.specs.Opened.{Opens, claim_above, cost_above, path_node}
 use Rattle.pmap_cert.specs.Paths.{path_to}

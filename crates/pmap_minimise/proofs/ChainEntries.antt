@@ -5,12 +5,12 @@ use Rattle.std.proofs.lemmas.List.{append-nil, append_assoc}
 use Rattle.prefix_keys.specs.Block.{width_of}
 use Rattle.prefix_keys.specs.declared.block.Block.{Block}
 use Rattle.prefix_keys.specs.declared.version.Version.{Version}
-use Rattle.pmap_text.specs.ListModel.{Prefix}
-use Rattle.pmap_text.specs.MapModel.{Label}
-use Rattle.pmap_text.specs.MapText.{text_at, text_if_some}
-use Rattle.pmap_text.specs.PrefixList.{prefix_of}
-use Rattle.pmap_text.specs.declared.entry.Entry.{Entry}
-use Rattle.pmap_text.specs.declared.label.LabelId.{LabelId}
+use Rattle.pmap_model.specs.ListModel.{Prefix}
+use Rattle.pmap_model.specs.MapModel.{Label}
+use Rattle.pmap_model.specs.MapText.{text_at, text_if_some}
+use Rattle.pmap_model.specs.PrefixList.{prefix_of}
+use Rattle.pmap_model.specs.declared.entry.Entry.{Entry}
+use Rattle.pmap_model.specs.declared.label.LabelId.{LabelId}
 use Rattle.label_trie.specs.TrieModel.{number_of}
 use Rattle.pmap_cert.specs.CertificateModel.{ClaimOf, InnerNode, LeafNode, chosen_half, claim_of}
 use Rattle.pmap_cert.specs.CertificateText.{IsAscending}
@@ -25,7 +25,7 @@ use Rattle.pmap_minimise.specs.Numbers.{IsOwn, IsSound, has_number, numbers_of}
 use Rattle.pmap_cert.specs.Opened.{claim_above, node_over, path_node, set_above}
 use Rattle.pmap_minimise.proofs.Entered.{half-entries, handed, one-known}
 use Rattle.pmap_minimise.proofs.Paths.{above-has}
-use Rattle.pmap_text.specs.Label.{has_label}
+use Rattle.pmap_model.specs.Label.{has_label}
 
 -- A property of nodes at a depth that an inner node passes on to its halves, one level deeper.
 abbrev PassesOn : (Node → ℕ → Type 0) → Type 0

@@ -6,9 +6,9 @@ use Rattle.std.proofs.lemmas.List.{length-take-le, take-append-le}
 use Rattle.std.proofs.lemmas.List.Elements.{All-head}
 use Rattle.std.proofs.lemmas.Option.{same_Some, slice_get_within}
 use Rattle.prefix_keys.specs.Block.{width_of}
-use Rattle.pmap_text.specs.MapModel.{IsSettled}
-use Rattle.pmap_text.specs.MapText.{text_at}
-use Rattle.pmap_text.proofs.Finds.{All-left, All-right}
+use Rattle.pmap_model.specs.MapModel.{IsSettled}
+use Rattle.pmap_model.specs.MapText.{text_at}
+use Rattle.pmap_model.proofs.Finds.{All-left, All-right}
 use Rattle.pmap_cert.specs.FormatReading.{DueLine, InnerLine, LeafLine}
 use Rattle.pmap_cert.specs.CertificateText.{IsAscending}
 use Rattle.pmap_cert.specs.CertificateModel.{InnerNode, LeafNode, claim_of}

@@ -2,11 +2,11 @@
 use Rattle.std.proofs.Common.{◌≡◌, ◌==◌, ◌&&◌, ◌⊎◌, inl, inr, true, false, List, [], ◌∷◌, IsTrue, map, nat_lt, arith}
 use Rattle.std.specs.List.{AllByRecursion, IsDistinct}
 use Rattle.std.proofs.lemmas.Bool.{and_parts, eqb-true, false_from_ne_true, ltb-true, or_cases}
-use Rattle.pmap_text.specs.ListEntries.{HasDistinctBlocks, same_block}
-use Rattle.pmap_text.specs.ListModel.{Prefix}
-use Rattle.pmap_text.specs.MapModel.{Label}
-use Rattle.pmap_text.specs.PrefixList.{prefix_of}
-use Rattle.pmap_text.specs.declared.entry.Entry.{Entry}
+use Rattle.pmap_model.specs.ListEntries.{HasDistinctBlocks, same_block}
+use Rattle.pmap_model.specs.ListModel.{Prefix}
+use Rattle.pmap_model.specs.MapModel.{Label}
+use Rattle.pmap_model.specs.PrefixList.{prefix_of}
+use Rattle.pmap_model.specs.declared.entry.Entry.{Entry}
 use Rattle.pmap_cert.specs.Acceptance.{IsInOrder, begins_before}
 
 not-same : (p r : Prefix) → begins_before p r ≡ true → (p.start == r.start && p.bits == r.bits) ≡ true → ⊥

@@ -6,19 +6,19 @@ use Rattle.std.proofs.lemmas.List.Elements.{All-map, All-weaker}
 use Rattle.std.proofs.lemmas.Option.{option_and_then_some, same_Some, slice_get_within}
 use Rattle.prefix_keys.specs.Block.{width_of}
 use Rattle.prefix_keys.specs.declared.version.Version.{Version}
-use Rattle.pmap_text.specs.Label.{IsLabelTable, has_label}
-use Rattle.pmap_text.specs.ListEntries.{HasDistinctBlocks}
-use Rattle.pmap_text.specs.ListModel.{ListModel}
-use Rattle.pmap_text.specs.MapModel.{Label, MapModel, Mapping, map_label}
-use Rattle.pmap_text.specs.MapText.{map_of, mapping_of, text_at}
-use Rattle.pmap_text.specs.Settled.{IsMapOf}
-use Rattle.pmap_text.specs.Stretches.{AreRunsOf, AreStretches, StretchesModel, first_at, label_at, mappings_of, text_held}
-use Rattle.pmap_text.specs.declared.entry.Entry.{Entry}
-use Rattle.pmap_text.specs.declared.label.LabelId.{LabelId}
-use Rattle.pmap_text.specs.declared.map_text.MapText.{MapText}
-use Rattle.pmap_text.specs.declared.statement.Statement.{Statement}
-use Rattle.pmap_text.proofs.Layers.{are-layers, layer-wins, layers, layers-known, length-layers_to}
-use Rattle.pmap_text.proofs.Ranges.{holder, ordered_at, text_at_index}
+use Rattle.pmap_model.specs.Label.{IsLabelTable, has_label}
+use Rattle.pmap_model.specs.ListEntries.{HasDistinctBlocks}
+use Rattle.pmap_model.specs.ListModel.{ListModel}
+use Rattle.pmap_model.specs.MapModel.{Label, MapModel, Mapping, map_label}
+use Rattle.pmap_model.specs.MapText.{map_of, mapping_of, text_at, mappings_of}
+use Rattle.pmap_model.specs.Settled.{IsMapOf}
+use Rattle.pmap_stretches.specs.Stretches.{AreRunsOf, AreStretches, StretchesModel, first_at, label_at, text_held}
+use Rattle.pmap_model.specs.declared.entry.Entry.{Entry}
+use Rattle.pmap_model.specs.declared.label.LabelId.{LabelId}
+use Rattle.pmap_model.specs.declared.map_text.MapText.{MapText}
+use Rattle.pmap_model.specs.declared.statement.Statement.{Statement}
+use Rattle.pmap_stretches.proofs.Layers.{are-layers, layer-wins, layers, layers-known, length-layers_to}
+use Rattle.pmap_stretches.proofs.Ranges.{holder, ordered_at, text_at_index}
 use Rattle.pmap_cert.specs.Acceptance.{HasItsLabels, IsMinimalPair}
 use Rattle.pmap_cert.specs.CertificateModel.{CertificateModel}
 use Rattle.pmap_cert.specs.CertificateText.{HasTextForm}

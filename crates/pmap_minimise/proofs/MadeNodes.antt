@@ -7,19 +7,18 @@ use Rattle.std.proofs.lemmas.Option.{none-some, same_Some}
 use Rattle.std.specs.Option.{option_or}
 use Rattle.prefix_keys.specs.Block.{width_of}
 use Rattle.prefix_keys.proofs.Quotients.{above_first, below_end, quotient_is}
-use Rattle.pmap_text.specs.Stretches.{AreStretches, HasEveryAddress, HoldsAddress, StretchesModel, label_at}
-use Rattle.pmap_text.specs.declared.label.LabelId.{LabelId}
-use Rattle.pmap_text.specs.declared.statement.Statement.{Statement}
+use Rattle.pmap_stretches.specs.Stretches.{AreStretches, HasEveryAddress, HoldsAddress, StretchesModel, label_at}
+use Rattle.pmap_model.specs.declared.label.LabelId.{LabelId}
+use Rattle.pmap_model.specs.declared.statement.Statement.{Statement}
 use Rattle.pmap_cert.specs.CertificateText.{IsAscending}
 use Rattle.pmap_cert.specs.CertificateModel.{ClaimOf, InnerNode, LeafNode, claim_of}
 use Rattle.pmap_cert.specs.Compacting.{leaf_label, run_bits, run_end}
 use Rattle.pmap_cert.specs.Node.{Node}
 use Rattle.pmap_cert.specs.Inner.{side_below}
-use Rattle.pmap_text.specs.Settled.{divisions}
-use Rattle.pmap_text.proofs.Settling.{Settles, window_divided, window_most, window_settled, window_unsettled}
-use Rattle.pmap_text.specs.Windows.{AreHalvesOf, IsWindow, window_number}
-use Rattle.pmap_text.specs.declared.stretches.window.Window.{Window}
-use Rattle.pmap_text.proofs.Windows.{one_index, ordered_window}
+use Rattle.pmap_stretches.specs.Windows.{divisions, AreHalvesOf, IsWindow, window_number}
+use Rattle.pmap_stretches.proofs.Settling.{Settles, window_divided, window_most, window_settled, window_unsettled}
+use Rattle.pmap_stretches.specs.declared.stretches.window.Window.{Window}
+use Rattle.pmap_stretches.proofs.Windows.{one_index, ordered_window}
 use Rattle.pmap_minimise.specs.Runs.{AreCountedHalves, IsCounted, IsChoice, IsWindowNode, AreSteps, IsRunTo, IsStepInto, IsStop, own_label}
 use Rattle.pmap_cert.specs.Paths.{digit, path_to}
 use Rattle.pmap_cert.specs.Opened.{claim_above, node_over, path_node}

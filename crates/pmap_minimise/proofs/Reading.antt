@@ -4,8 +4,8 @@ use Rattle.std.proofs.lemmas.List.{reverse-append}
 use Rattle.prefix_keys.specs.Block.{width_of}
 use Rattle.prefix_keys.specs.declared.block.Block.{Block}
 use Rattle.prefix_keys.specs.declared.version.Version.{Version}
-use Rattle.pmap_text.specs.declared.entry.Entry.{Entry}
-use Rattle.pmap_text.specs.declared.label.LabelId.{LabelId}
+use Rattle.pmap_model.specs.declared.entry.Entry.{Entry}
+use Rattle.pmap_model.specs.declared.label.LabelId.{LabelId}
 use Rattle.label_trie.specs.Parts.{IsHalf}
 use Rattle.pmap_cert.specs.FormatReading.{ChainLine, InnerLine, LeafLine}
 use Rattle.pmap_cert.proofs.NodeWalk.{bits_of}

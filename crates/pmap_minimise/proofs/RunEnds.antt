@@ -12,11 +12,11 @@ use Rattle.prefix_keys.specs.Block.{block_number, first_of, last_of, width_of}
 use Rattle.prefix_keys.specs.declared.block.Block.{Block}
 use Rattle.prefix_keys.specs.declared.version.Version.{Version}
 use Rattle.prefix_keys.proofs.Quotients.{above_first, below_end, half_split, quotient_is}
-use Rattle.pmap_text.specs.Stretches.{HasEveryAddress, HoldsAddress, StretchesModel, first_at, last_at}
-use Rattle.pmap_text.proofs.Ranges.{ends_before, held_order, next_first, ordered_at}
-use Rattle.pmap_text.specs.Windows.{IsBlock, window_number}
-use Rattle.pmap_text.specs.declared.stretches.window.Window.{Window}
-use Rattle.pmap_text.proofs.Windows.{are_halves, divided_window, first_number, one_index}
+use Rattle.pmap_stretches.specs.Stretches.{HasEveryAddress, HoldsAddress, StretchesModel, first_at, last_at}
+use Rattle.pmap_stretches.proofs.Ranges.{ends_before, held_order, next_first, ordered_at}
+use Rattle.pmap_stretches.specs.Windows.{IsBlock, window_number}
+use Rattle.pmap_stretches.specs.declared.stretches.window.Window.{Window}
+use Rattle.pmap_stretches.proofs.Windows.{are_halves, divided_window, first_number, one_index}
 use Rattle.pmap_minimise.specs.Runs.{AreCountedHalves, HasLabel, IsCounted, AreSteps, IsRunTo, IsStop, own_label}
 use Rattle.prefix_keys.proofs.Groups.{width-le}
 use Rattle.pmap_minimise.proofs.MadeNodes.{block-order, counted-halves, own-is, own-single, run-below, same-window}

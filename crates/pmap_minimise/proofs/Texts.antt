@@ -7,10 +7,10 @@ use Rattle.std.proofs.lemmas.Bool.{cases_eq, cond-true, cond-false, eq-eqb, fals
 use Rattle.std.proofs.lemmas.List.Folds.{list_any_at}
 use Rattle.std.proofs.lemmas.Slice.Eq.{bytes_eq-Decides}
 use Rattle.std.proofs.lemmas.Option.{unwrap_or-slice_get}
-use Rattle.pmap_text.specs.Label.{IsLabelTable, has_label}
-use Rattle.pmap_text.specs.MapModel.{Label}
-use Rattle.pmap_text.specs.MapText.{text_at, text_if_some}
-use Rattle.pmap_text.specs.declared.label.LabelId.{LabelId}
+use Rattle.pmap_model.specs.Label.{IsLabelTable, has_label}
+use Rattle.pmap_model.specs.MapModel.{Label}
+use Rattle.pmap_model.specs.MapText.{text_at, text_if_some}
+use Rattle.pmap_model.specs.declared.label.LabelId.{LabelId}
 use Rattle.pmap_cert.specs.CertificateText.{IsAscending}
 use Rattle.pmap_cert.specs.CertificateModel.{Claim, ClaimOf, IsSameClaim, exact_claim, exact_claim_by, map_claim}
 use Rattle.pmap_cert.specs.Acceptance.{has_inherited, least_label, in_table_order}

@@ -4,13 +4,13 @@ use Rattle.std.proofs.lemmas.List.Elements.{All-from_recursion, All-map, All-wea
 use Rattle.std.proofs.lemmas.Option.{none-some}
 use Rattle.prefix_keys.specs.Block.{width_of}
 use Rattle.prefix_keys.specs.declared.version.Version.{Version}
-use Rattle.pmap_text.specs.Label.{IsLabelTable, has_label}
-use Rattle.pmap_text.specs.ListModel.{ListModel}
-use Rattle.pmap_text.specs.MapModel.{MapModel}
-use Rattle.pmap_text.specs.MapText.{map_of, mapping_of, text_at}
-use Rattle.pmap_text.specs.PrefixList.{prefix_of}
-use Rattle.pmap_text.specs.declared.entry.Entry.{Entry}
-use Rattle.pmap_text.specs.declared.map_text.MapText.{MapText}
+use Rattle.pmap_model.specs.Label.{IsLabelTable, has_label}
+use Rattle.pmap_model.specs.ListModel.{ListModel}
+use Rattle.pmap_model.specs.MapModel.{MapModel}
+use Rattle.pmap_model.specs.MapText.{map_of, mapping_of, text_at}
+use Rattle.pmap_model.specs.PrefixList.{prefix_of}
+use Rattle.pmap_model.specs.declared.entry.Entry.{Entry}
+use Rattle.pmap_model.specs.declared.map_text.MapText.{MapText}
 use Rattle.pmap_cert.specs.CertificateModel.{CertificateModel, Tree}
 use Rattle.pmap_cert.specs.Acceptance.{HasListForm, IsInOrder, HasItsLabels, IsMinimalPair, StandsFor, entries_of}
 use Rattle.pmap_cert.specs.Certificate.{IsOpening, certificate_of}
@@ -24,7 +24,7 @@ use Rattle.label_trie.specs.TrieModel.{number_of, IsSettledLeaf, IsUndivided, Le
 use Rattle.pmap_cert.proofs.CompactNodes.{compact-one}
 use Rattle.pmap_cert.proofs.Relabelled.{plain-map}
 use Rattle.pmap_cert.proofs.Written.{node_form}
-use Rattle.pmap_text.specs.ListEntries.{HasDistinctBlocks}
+use Rattle.pmap_model.specs.ListEntries.{HasDistinctBlocks}
 use Rattle.pmap_cert.proofs.InOrder.{list-form}
 use Rattle.pmap_minimise.specs.Listing.{IsEntryOf, IsListedBy}
 use Rattle.pmap_minimise.proofs.Distinct.{order-distinct}

@@ -1,14 +1,14 @@
 use Rattle.std.specs.Prelude.{◌≡◌, ◌≢◌, ℕ, zero, suc, ◌+◌, ◌-◌, ◌^◌, ◌<◌, ◌≤◌, ◌==◌, ◌⊎◌, List, Option, None, Some, IsSome, length, if◌then◌else◌, option_map}
 use Rattle.std.specs.Option.{option_or}
 use Rattle.prefix_keys.specs.Block.{width_of}
-use Rattle.pmap_text.specs.Label.{IsLabelTable}
-use Rattle.pmap_text.specs.MapModel.{MapModel}
-use Rattle.pmap_text.specs.Settled.{IsMapOf, divisions}
-use Rattle.pmap_text.specs.Stretches.{AreStretches, StretchesModel, label_at}
-use Rattle.pmap_text.specs.Windows.{AreHalvesOf, IsWindow, window_number}
-use Rattle.pmap_text.specs.declared.stretches.window.Window.{Window}
-use Rattle.pmap_text.specs.declared.label.LabelId.{LabelId}
-use Rattle.pmap_text.specs.declared.statement.Statement.{Statement}
+use Rattle.pmap_model.specs.Label.{IsLabelTable}
+use Rattle.pmap_model.specs.MapModel.{MapModel}
+use Rattle.pmap_model.specs.Settled.{IsMapOf}
+use Rattle.pmap_stretches.specs.Windows.{divisions, AreHalvesOf, IsWindow, window_number}
+use Rattle.pmap_stretches.specs.Stretches.{AreStretches, StretchesModel, label_at}
+use Rattle.pmap_stretches.specs.declared.stretches.window.Window.{Window}
+use Rattle.pmap_model.specs.declared.label.LabelId.{LabelId}
+use Rattle.pmap_model.specs.declared.statement.Statement.{Statement}
 use Rattle.pmap_cert.specs.CertificateText.{IsAscending}
 use Rattle.pmap_cert.specs.CertificateModel.{ClaimOf, InnerNode, LeafNode, claim_of}
 use Rattle.pmap_cert.specs.Compacting.{leaf_label}

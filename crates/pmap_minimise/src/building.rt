@@ -4,8 +4,8 @@ ghost use Rattle.std.specs.Option.{option_or};
 ghost use Rattle.pmap_cert.specs.FormatReading.{ChainLine};
 ghost use Rattle.pmap_cert.specs.Node.{claiming};
 ghost use Rattle.pmap_cert.specs.Paths.{path_to};
-ghost use Rattle.pmap_text.specs.MapModel.{MapModel};
-ghost use Rattle.pmap_text.specs.Windows.{IsWindow, window_number};
+ghost use Rattle.pmap_model.specs.MapModel.{MapModel};
+ghost use Rattle.pmap_stretches.specs.Windows.{IsWindow, window_number};
 ghost use Rattle.pmap_minimise.specs.Built.{AddsExact, AddsInner, AreHalves, IsBuilt, IsBuiltIn, last_claim};
 ghost use Rattle.pmap_minimise.specs.Numbers.{has_number, numbers_of};
 ghost use Rattle.pmap_cert.specs.Opened.{cost_above};
@@ -14,7 +14,8 @@ ghost use Rattle.pmap_minimise.specs.Runs.{AreCountable, HasNoLongRun, IsCounted
 use crate::runs::{own_label, run_end};
 use crate::sets::exact_claim;
 use pmap_cert::{Claim, Node, Nodes, Path, Root, has_label};
-use pmap_text::{LabelId, Stretches, Window};
+use pmap_model::LabelId;
+use pmap_stretches::{Stretches, Window};
 use std::alloc::{AllocError, Global};
 use std::slice;
 

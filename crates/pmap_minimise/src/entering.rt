@@ -3,7 +3,7 @@ ghost use Rattle.std.specs.Prelude.{◌<◌, IfOk, length};
 ghost use Rattle.pmap_minimise.specs.Numbers.{IsOwn};
 
 use pmap_cert::has_label;
-use pmap_text::{Entries, Entry, LabelId};
+use pmap_model::{Entries, Entry, LabelId};
 use prefix_keys::Block;
 use std::alloc::AllocError;
 

@@ -8,7 +8,7 @@ ghost use Rattle.pmap_cert.specs.Opened.{Opens};
 
 use crate::entering::push_own;
 use pmap_cert::{Cursor, Node, Root};
-use pmap_text::{Entries, LabelId};
+use pmap_model::{Entries, LabelId};
 use prefix_keys::{Block, Version};
 use std::alloc::{AllocError, Global};
 

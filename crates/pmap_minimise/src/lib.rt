@@ -12,11 +12,12 @@
 //! assert!(rt; minimal.list.entries.len() == 3);
 //! ```
 //!
-//! It depends on label_trie (the map's trie), pmap_cert (certificates, and the laws on minimal pairs), pmap_text (maps
-//! and lists) and `smallvec` for small sets of labels. The layer above may rely on `minimise`: the list and the
-//! certificate are the map's minimal pair. So the list is equivalent to the map, it has one entry more than the root's
-//! cost, no equivalent list has fewer, and the certificate is accepted for both. `shortest` returns the list alone, and
-//! `compact_certificate` the compacted certificate, of which the other one can be printed.
+//! It depends on label_trie (the map's trie), pmap_cert (certificates, and the laws on minimal pairs), pmap_model (maps
+//! and lists), pmap_stretches (a map's stretches and runs) and `smallvec` for small sets of labels. The layer above may
+//! rely on `minimise`: the list and the certificate are the map's minimal pair. So the list is equivalent to the map,
+//! it has one entry more than the root's cost, no equivalent list has fewer, and the certificate is accepted for both.
+//! `shortest` returns the list alone, and `compact_certificate` the compacted certificate, of which the other one can
+//! be printed.
 #![tactic(auto)]
 
 mod building;

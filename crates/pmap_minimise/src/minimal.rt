@@ -1,8 +1,8 @@
 ghost use Rattle.std.specs.Prelude.{◌≡◌, ◌+◌, ◌<◌, All, IfOk, length, map};
-ghost use Rattle.pmap_text.specs.ListEntries.{HasDistinctBlocks};
-ghost use Rattle.pmap_text.specs.ListModel.{IsEquivalent, ListModel};
-ghost use Rattle.pmap_text.specs.MapText.{map_of};
-ghost use Rattle.pmap_text.specs.PrefixList.{list_of, prefix_of};
+ghost use Rattle.pmap_model.specs.ListEntries.{HasDistinctBlocks};
+ghost use Rattle.pmap_model.specs.ListModel.{IsEquivalent, ListModel};
+ghost use Rattle.pmap_model.specs.MapText.{map_of};
+ghost use Rattle.pmap_model.specs.PrefixList.{list_of, prefix_of};
 ghost use Rattle.pmap_cert.specs.Acceptance.{IsAccepted, IsLeast, HasListForm, IsMinimalPair};
 ghost use Rattle.pmap_cert.specs.Certificate.{IsOpening, certificate_of};
 ghost use Rattle.pmap_cert.specs.CertificateText.{HasTextForm};
@@ -15,7 +15,8 @@ use crate::claiming::claimed;
 use crate::entries::entries_of;
 use label_trie::Trie;
 use pmap_cert::{Certificate, Format, minimal_pair_is_accepted};
-use pmap_text::{Entries, Labels, MapText, Name, PrefixList, Runs, Stretches};
+use pmap_model::{Entries, Labels, MapText, Name, PrefixList};
+use pmap_stretches::{Runs, Stretches};
 use prefix_keys::Version;
 use std::alloc::{AllocError, Global};
 

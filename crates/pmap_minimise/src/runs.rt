@@ -1,9 +1,10 @@
 //! Runs: steps down to the half whose sibling has the side label alone.
 ghost use Rattle.std.specs.Prelude.{◌≡◌, ◌+◌, ◌^◌, ◌<◌, ◌↔◌, IsTrue, MatchOption, Some, length, option_map};
-ghost use Rattle.pmap_text.specs.Windows.{IsWindow};
+ghost use Rattle.pmap_stretches.specs.Windows.{IsWindow};
 ghost use Rattle.pmap_minimise.specs.Runs.{HasLabel, IsCounted, IsRunTo, IsStepInto, IsStop, own_label};
 
-use pmap_text::{LabelId, Stretches, Window};
+use pmap_model::LabelId;
+use pmap_stretches::{Stretches, Window};
 use prefix_keys::{Addr, block_of};
 
 /// Returns the label of a block in one stretch, or `None` if the block has addresses of two stretches or more.

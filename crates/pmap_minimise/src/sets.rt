@@ -5,7 +5,7 @@ ghost use Rattle.pmap_cert.specs.Node.{claiming};
 ghost use Rattle.pmap_minimise.specs.Numbers.{AreApart, IsExact, IsUnion, common_numbers, numbers_of};
 
 use pmap_cert::Claim;
-use pmap_text::LabelId;
+use pmap_model::LabelId;
 use smallvec::SmallVec;
 use std::alloc::{AllocError, Global};
 

@@ -1,7 +1,7 @@
 use Rattle.std.specs.Prelude.{ℕ, ◌+◌, ◌-◌, max, set, List, [], ◌∷◌, ◌++◌, length, map, fold, replicate, slice_index_or, Bool, if◌then◌else◌, ◌≡◌, ◌<◌, ◌≤◌, All, is_some, slice_index, take}
 use Rattle.std.specs.List.{enumerate_from, flat_map, join_with_byte}
 use Rattle.std.specs.Option.{ForNone, ForSome}
-pub use Rattle.pmap_text.specs.RunsText.{Line, Text, line_text}
+pub use Rattle.pmap_stretches.specs.RunsText.{Line, Text, line_text}
 pub use Rattle.pmap_print.specs.declared.columns.Columns.{Columns}
 pub use Rattle.pmap_print.specs.declared.table.Table.{Table}
 pub use Rattle.pmap_print.specs.declared.mark.Mark.{Mark}

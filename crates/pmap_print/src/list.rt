@@ -4,11 +4,11 @@ ghost use Rattle.flow_io.specs.Sinks.{Pushes};
 ghost use Rattle.pmap_cert.proofs.ReadLines.{name_lines};
 ghost use Rattle.pmap_cert.specs.CertificateText.{text_of_lines};
 ghost use Rattle.pmap_cert.specs.ListText.{entry_line, list_text};
-ghost use Rattle.pmap_text.specs.PrefixList.{list_of, prefix_of};
+ghost use Rattle.pmap_model.specs.PrefixList.{list_of, prefix_of};
 
 use crate::fields::push_block;
 use flow_io::{Printable, Sink, text_of};
-use pmap_text::{Entries, Entry, Labels, Name, PrefixList, in_order, sorted_or};
+use pmap_model::{Entries, Entry, Labels, Name, PrefixList, in_order, sorted_or};
 use prefix_keys::Version;
 use std::alloc::{AllocError, Global};
 use std::marker::Model;
@@ -49,8 +49,8 @@ impl<'a> Model for ListText<'a> {
     ghost use Rattle.std.specs.Prelude.{List, ℕ, unwrap_or};
     ghost use Rattle.std.specs.List.Sorted.{IsNonDecreasingBy, IsPermutation};
     ghost use Rattle.pmap_cert.specs.ListText.{list_text};
-    ghost use Rattle.pmap_text.specs.ListEntries.{rank_of};
-    ghost use Rattle.pmap_text.specs.PrefixList.{list_of};
+    ghost use Rattle.pmap_model.specs.ListEntries.{rank_of};
+    ghost use Rattle.pmap_model.specs.PrefixList.{list_of};
 
     ghost Value = { List ℕ };
 

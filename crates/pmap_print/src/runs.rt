@@ -1,11 +1,12 @@
 ghost use Rattle.std.specs.Prelude.{◌≡◌, ◌<◌, [], IfOk, length, unwrap_or};
 ghost use Rattle.flow_io.specs.Sinks.{Pushes};
-ghost use Rattle.pmap_text.specs.Stretches.{AreLabelsBelow, text_held};
-ghost use Rattle.pmap_text.specs.RunsText.{IsRunsText, line_text, run_at, run_fields};
+ghost use Rattle.pmap_stretches.specs.Stretches.{AreLabelsBelow, text_held};
+ghost use Rattle.pmap_stretches.specs.RunsText.{IsRunsText, line_text, run_at, run_fields};
 
 use crate::fields::{push_address, push_field};
 use flow_io::{Printable, Sink, text_of};
-use pmap_text::{Labels, Runs, Stretches};
+use pmap_model::Labels;
+use pmap_stretches::{Runs, Stretches};
 use prefix_keys::Addr;
 use std::alloc::{AllocError, Global};
 
@@ -59,8 +60,8 @@ pub struct RunsText<'a> {
 
 impl Printable for RunsText<'_> {
     ghost use Rattle.std.specs.Prelude.{length};
-    ghost use Rattle.pmap_text.specs.RunsText.{IsRunsText};
-    ghost use Rattle.pmap_text.specs.Stretches.{AreLabelsBelow, text_held};
+    ghost use Rattle.pmap_stretches.specs.RunsText.{IsRunsText};
+    ghost use Rattle.pmap_stretches.specs.Stretches.{AreLabelsBelow, text_held};
 
     ghost is_whole = { λ t. AreLabelsBelow (length t.labels.now) t.runs.now.stretches };
 

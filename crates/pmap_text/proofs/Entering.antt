@@ -6,9 +6,9 @@ use Rattle.std.proofs.lemmas.List.{length-append}
 use Rattle.std.proofs.lemmas.Option.{slice_get_within}
 use Rattle.pmap_text.specs.Inner.{HasDistinctKeys, IsFirstRepeat, TakesLine, refusal_of, text_read}
 use Rattle.pmap_text.specs.Reading.{content_line, content_of, lines_of, lines_read, no_lines, Earlier, MapFaultKind, DuplicateBlock, NoMemory, Form, has_prefix}
-use Rattle.pmap_text.specs.ListModel.{Prefix}
+use Rattle.pmap_model.specs.ListModel.{Prefix}
 use Rattle.pmap_text.proofs.Filed.{once-front, once-last}
-use Rattle.pmap_text.proofs.LabelTexts.{slice_get-push}
+use Rattle.pmap_model.proofs.LabelTexts.{slice_get-push}
 
 -- the text is read as the rest of its lines is after those so far
 abbrev pub ReadSoFar : Form → List ℕ → Earlier → ℕ → List (List ℕ) → Type 0

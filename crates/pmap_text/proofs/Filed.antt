@@ -1,50 +1,30 @@
--- Lemmas about lists without repetition, and about distinguishing the blocks of entries.
+-- The keys of entries' blocks, among which a repeated block is found.
 use Rattle.std.proofs.Common.{◌≡◌, ℕ, ◌+◌, ◌<◌, Bool, true, false, cond, ◌&&◌, ◌||◌, ◌==◌, List, [], ◌∷◌, ◌++◌, Some, get_or, length, map, option_map, refl, slice_get, sym, subst, take, ap, ap₂, ◌∙◌, arith}
-use Rattle.std.proofs.lemmas.Bool.{and_parts, eqb-true, false_from_ne_true, ltb-true}
+use Rattle.std.proofs.lemmas.Bool.{eqb-true, ltb-true}
 use Rattle.std.proofs.lemmas.Cmp.{and_equiv, nat_eq_equiv, on_equiv}
 use Rattle.std.proofs.lemmas.List.Folds.{list_any-append}
 use Rattle.std.proofs.lemmas.List.{map-append, take-map, take_more}
-use Rattle.std.proofs.lemmas.List.Sorted.{IsNonDecreasingBy-from_all_adjacent, IsPermutation-sym}
-use Rattle.std.proofs.lemmas.Map.Keys.{IsDistinct-IsPermutation, IsDistinct-from_apart, IsDistinct-push}
+use Rattle.std.proofs.lemmas.Map.Keys.{IsDistinct-push}
 use Rattle.std.proofs.lemmas.Option.{slice_get-get_or, slice_get-map}
 use Rattle.std.specs.Cmp.{IsEquivalence}
-use Rattle.std.specs.List.{list_any, AllAdjacentBelow, AllByRecursion, IsDistinct}
-use Rattle.std.specs.List.Sorted.{IsPermutation}
+use Rattle.std.specs.List.{list_any, AllByRecursion, IsDistinct}
 use Rattle.std.specs.Ordering.{is_eq, nat_cmp, ordering_then}
 use Rattle.std.specs.Prelude.{nat_lt}
 use Rattle.std.specs.declared.cmp.Ordering.{Ordering}
 use Rattle.std.specs.declared.cmp.Ordering.TheVariants.{Equal, Greater, Less}
 use Rattle.pmap_text.specs.Inner.{HasDistinctKeys, IsFirstRepeat, has_key, key_cmp}
-use Rattle.pmap_text.specs.ListEntries.{HasDistinctBlocks, rank_of, same_block}
-use Rattle.pmap_text.specs.ListModel.{Prefix, same_start_and_bits}
-use Rattle.pmap_text.specs.MapModel.{Label}
-use Rattle.pmap_text.specs.PrefixList.{prefix_of, Entry}
+use Rattle.pmap_model.specs.ListEntries.{HasDistinctBlocks}
+use Rattle.pmap_model.proofs.Distinct.{distinct_to_map}
+use Rattle.pmap_model.specs.ListModel.{Prefix, same_start_and_bits}
+use Rattle.pmap_model.specs.MapModel.{Label}
+use Rattle.pmap_model.specs.PrefixList.{prefix_of}
+use Rattle.pmap_model.specs.declared.entry.Entry.{Entry}
 use Rattle.pmap_text.specs.Reading.{has_prefix}
 
 -- the keys are the starts and lengths of the entries' blocks, no two of which are equal
 pub record AreFiled (prefixes : List Prefix) (keys : List (ℕ × ℕ)) : Type 0 where
   pub blocks : (start bits : ℕ) → list_any (λ k. k.0 == start && k.1 == bits) keys ≡ has_prefix prefixes start bits
   pub distinct : HasDistinctKeys prefixes
-
-module _ {X Y : Type 0} (f : X → Y) where
-  all_from_map : (P : Y → Type 0) (xs : List X) → AllByRecursion P (map f xs) → AllByRecursion (λ x. P (f x)) xs
-  all_from_map P [] h = tt
-  all_from_map P (x ∷ xs) h = (h.0, all_from_map P xs h.1)
-
-  all_to_map : (P : Y → Type 0) (xs : List X) → AllByRecursion (λ x. P (f x)) xs → AllByRecursion P (map f xs)
-  all_to_map P [] h = tt
-  all_to_map P (x ∷ xs) h = (h.0, all_to_map P xs h.1)
-
-  -- no two elements have equal values of a function if and only if the list of these values has no two equal ones
-  pub distinct_from_map : (eq : Y → Y → Bool) (xs : List X) → IsDistinct eq (map f xs) → IsDistinct (λ x y. eq (f x) (f y)) xs
-  unfolding IsDistinct
-  distinct_from_map eq [] h = tt
-  distinct_from_map eq (x ∷ xs) h = (all_from_map (λ y. eq (f x) y ≡ false) xs h.0, distinct_from_map eq xs h.1)
-
-  pub distinct_to_map : (eq : Y → Y → Bool) (xs : List X) → IsDistinct (λ x y. eq (f x) (f y)) xs → IsDistinct eq (map f xs)
-  unfolding IsDistinct
-  distinct_to_map eq [] h = tt
-  distinct_to_map eq (x ∷ xs) h = (all_to_map (λ y. eq (f x) y ≡ false) xs h.0, distinct_to_map eq xs h.1)
 
 -- two pairs of numbers are equal in their order if and only if their parts are equal
 is_eq-nat_cmp : (x y : ℕ) → is_eq (nat_cmp x y) ≡ (x == y)
@@ -126,27 +106,6 @@ pub once-last : (ps : List Prefix) (p : Prefix) → HasDistinctKeys (ps ++ p ∷
 unfolding IsDistinct
 once-last [] p h = refl
 once-last (q ∷ qs) p h = ap₂ ◌||◌ (all_last (λ r. same_start_and_bits q r ≡ false) qs p h.0) (once-last qs p h.1)
-
--- entries that ascend have distinct blocks
-rank_apart : (d e : Entry) → rank_of d.block < rank_of e.block → same_block d e ≡ false
-rank_apart d e less =
-    false_from_ne_true (same_block d e)
-    (λ h. let parts = and_parts (d.block.value == e.block.value) (d.block.len == e.block.len) h in
-    omega (arith, less, eqb-true d.block.value e.block.value parts.0, eqb-true d.block.len e.block.len parts.1))
-
-pub distinct_ascending : (es : List Entry) → AllAdjacentBelow (λ d e. rank_of d.block < rank_of e.block) es (length es) → HasDistinctBlocks es
-distinct_ascending es adjacent =
-    let up = IsNonDecreasingBy-from_all_adjacent (λ e. rank_of e.block) es (λ k d within. omega (arith, adjacent k d within)) in
-    IsDistinct-from_apart same_block es
-    (λ i j d under within. rank_apart (get_or es i d) (get_or es j d)
-    (omega (arith, adjacent i d (omega (arith, under, within)), up (i + 1) j d (omega (arith, under)) within)))
-
--- this is also so if they ascend in another order
-pub flips : (d e : Entry) → same_block d e ≡ same_block e d
-flips d e = ap₂ ◌&&◌ (nat_eq_equiv.symm d.block.value e.block.value) (nat_eq_equiv.symm d.block.len e.block.len)
-
-pub distinct_sorted : (es sorted : List Entry) → IsPermutation es sorted → HasDistinctBlocks sorted → HasDistinctBlocks es
-distinct_sorted es sorted moved = IsDistinct-IsPermutation same_block flips sorted es (IsPermutation-sym es sorted moved)
 
 -- and so for their prefixes
 pub distinct_keys : (table : List Label) (es : List Entry) → HasDistinctBlocks es → HasDistinctKeys (map (prefix_of table) es)

@@ -20,7 +20,7 @@ use Rattle.prefix_keys.specs.declared.addr.Addr.{Addr}
 use Rattle.prefix_keys.specs.declared.block.Block.{Block}
 use Rattle.prefix_keys.specs.declared.text.BlockFault.TheVariants.{BadLength}
 use Rattle.prefix_keys.specs.declared.version.Version.TheVariants.{V4, V6}
-use Rattle.pmap_text.specs.Label.{is_blank}
+use Rattle.pmap_model.specs.Label.{is_blank}
 use Rattle.pmap_text.specs.Inner.{BeginsWithBlank, IsWord, is_address_byte, is_dotted_byte, Address, one_or_two}
 use Rattle.pmap_text.specs.Reading.{after_word, first_word, trim_start, Earlier, block_line, content_line, statement_line, Form}
 use Rattle.pmap_text.specs.declared.reading.leading.Word.TheVariants.{Block as block_word}

@@ -1,16 +1,13 @@
 -- A block in a text of either version.
 use Rattle.std.proofs.Common.{◌≡◌, ℕ, ◌+◌, ◌-◌, ◌*◌, ◌/◌, ◌%◌, ◌^◌, ◌<◌, ◌≤◌, Ok, ap, ◌∙◌, arith}
 use Rattle.std.proofs.lemmas.Nat.{mod-mul-add, pow_pos}
+use Rattle.pmap_model.proofs.Blocks.{first_of-whole}
 use Rattle.prefix_keys.proofs.Quotients.{whole, width_split}
 use Rattle.prefix_keys.specs.Block.{block_number, first_of, width_of}
 use Rattle.prefix_keys.specs.Conversion.{mapped_prefix}
 use Rattle.prefix_keys.specs.declared.version.Version.{Version}
 use Rattle.prefix_keys.specs.declared.version.Version.TheVariants.{V4, V6}
 use Rattle.pmap_text.specs.Reading.{number_in}
-
--- a number without host bits is the first of its block
-pub first_of-whole : (W n v k : ℕ) → W - n ≡ k → v % 2 ^ k ≡ 0 → first_of W n (block_number W n v) ≡ v
-first_of-whole W n v k e h = rw e (whole v (2 ^ k) (pow_pos k) h)
 
 -- the IPv4-mapped block of an IPv4 block in ::ffff:0:0/96 has no host bits
 mapped-mod : (value len : ℕ) → len ≤ 32 → value % 2 ^ (32 - len) ≡ 0 → (value + mapped_prefix) % 2 ^ (32 - len) ≡ 0

@@ -11,10 +11,11 @@ use Rattle.std.specs.List.{list_any, position_or_len, slice_get, zip, AllByRecur
 use Rattle.std.specs.Option.{option_eq}
 use Rattle.std.specs.Prelude.{nat_eq, position}
 use Rattle.std.specs.Str.{bytes_eq}
-use Rattle.pmap_text.proofs.LabelTexts.{any_place, list_any-map, place-none, position-any, position_or_len-map, slice_get-push}
+use Rattle.pmap_model.proofs.LabelTexts.{any_place, list_any-map, place-none, position-any, position_or_len-map, slice_get-push}
 use Rattle.pmap_text.proofs.Places.{position_or_len-le}
-use Rattle.pmap_text.specs.Label.{ArePaired, conflicts, declared_text, with_declared, has_label, is_label}
-use Rattle.pmap_text.specs.MapModel.{Label}
+use Rattle.pmap_text.specs.Declarations.{ArePaired, conflicts, declared_text, with_declared}
+use Rattle.pmap_model.specs.Label.{has_label, is_label}
+use Rattle.pmap_model.specs.MapModel.{Label}
 
 none_passes : {X : Type 0} (p : X → Bool) (xs : List X) → AllByRecursion (λ x. p x ≡ false) xs → list_any p xs ≡ false
 none_passes p [] h = refl

@@ -9,15 +9,17 @@ use Rattle.std.specs.Option.{ForSome, option_map}
 use Rattle.std.specs.Str.{bytes_eq}
 use Rattle.prefix_keys.specs.declared.version.Version.{Version}
 use Rattle.prefix_keys.specs.declared.version.Version.TheVariants.{V4}
-use Rattle.pmap_text.specs.Label.{has_label, with_label}
-use Rattle.pmap_text.specs.MapModel.{Label, MapModel}
-use Rattle.pmap_text.specs.MapText.{mapping_of, text_at, Statement}
-use Rattle.pmap_text.specs.PrefixList.{prefix_of, Entry}
+use Rattle.pmap_model.specs.Label.{has_label, with_label}
+use Rattle.pmap_model.specs.MapModel.{Label, MapModel}
+use Rattle.pmap_model.specs.MapText.{mapping_of, text_at}
+use Rattle.pmap_model.specs.declared.statement.Statement.{Statement}
+use Rattle.pmap_model.specs.PrefixList.{prefix_of}
+use Rattle.pmap_model.specs.declared.entry.Entry.{Entry}
 use Rattle.pmap_text.specs.Progress.{IsProgress, progress_of}
 use Rattle.pmap_text.specs.Reading.{label_limit, unknown, has_prefix}
 use Rattle.pmap_text.specs.Inner.{map_from}
-use Rattle.pmap_text.specs.declared.label.LabelId.{LabelId}
-use Rattle.pmap_text.proofs.LabelTexts.{list_any-map, slice_get-with_label, with_label-known}
+use Rattle.pmap_model.specs.declared.label.LabelId.{LabelId}
+use Rattle.pmap_model.proofs.LabelTexts.{list_any-map, slice_get-with_label, with_label-known}
 
 -- if the version of an address was decided, it is the version of the lines so far
 pub version-decided : (v : Version) (decided : Option Version) → Some v ≡ decided → v ≡ unwrap_or decided V4

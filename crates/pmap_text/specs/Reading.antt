@@ -8,11 +8,15 @@ use Rattle.prefix_keys.specs.Text.{AddressOf, BlockOf, address_of, block_of_text
 use Rattle.prefix_keys.specs.declared.text.BlockFault.{BlockFault}
 use Rattle.prefix_keys.specs.declared.version.Version.{Version}
 use Rattle.prefix_keys.specs.declared.version.Version.TheVariants.{V4, V6}
-use Rattle.pmap_text.specs.Label.{is_blank, conflicts, label_number, meant_text, with_declared, has_label, is_label, with_label}
-use Rattle.pmap_text.specs.ListModel.{ListModel, Prefix}
-use Rattle.pmap_text.specs.MapModel.{Label, Mapping, MapModel}
-use Rattle.pmap_text.specs.MapText.{map_of, MapText}
-use Rattle.pmap_text.specs.PrefixList.{list_of, PrefixList}
+use Rattle.pmap_model.specs.Steps.{◌>>=◌}
+use Rattle.pmap_model.specs.Label.{is_blank, has_label, is_label, with_label}
+use Rattle.pmap_text.specs.Declarations.{conflicts, label_number, meant_text, with_declared}
+use Rattle.pmap_model.specs.ListModel.{ListModel, Prefix}
+use Rattle.pmap_model.specs.MapModel.{Label, Mapping, MapModel}
+use Rattle.pmap_model.specs.MapText.{map_of}
+use Rattle.pmap_model.specs.declared.map_text.MapText.{MapText}
+use Rattle.pmap_model.specs.PrefixList.{list_of}
+use Rattle.pmap_model.specs.declared.prefix_list.PrefixList.{PrefixList}
 pub use Rattle.pmap_text.specs.declared.fault.MapFault.{MapFault}
 pub use Rattle.pmap_text.specs.declared.fault.MapFaultKind.{MapFaultKind}
 pub use Rattle.pmap_text.specs.declared.fault.MapFaultKind.TheVariants.{BadAddress, BadLabel, BadLength, BadMode, BadStatement, DuplicateBlock, LabelConflict, LowAboveHigh, MissingLabel, ModeLate, ModeRepeated, NoMemory, NotAList, TooMany, WrongVersion}
@@ -78,12 +82,6 @@ mapping_limit = 1000000
 
 abbrev pub label_limit : ℕ
 label_limit = 65535
-
--- the value of a step is passed to the next step, and the first fault is the result
-infixl 10 ◌>>=◌
-abbrev pub ◌>>=◌ : {A B E : Type 0} → Result A E → (A → Result B E) → Result B E
-(Ok x) >>= f = f x
-(Err e) >>= f = Err e
 
 -- the rest of a line as a label, which must exist and be well formed
 abbrev pub label_of : List ℕ → Result Label MapFaultKind

@@ -1,25 +1,18 @@
 ghost use Rattle.std.specs.Prelude.{◌≡◌, ◌<◌, ◌≤◌, ◌++◌, ◌∷◌, [], Some, true, false, ◌⊎◌, length, slice_get, unwrap_or, IsTrue, IfOk, IfErr, IfSome, OnOk, OnErr};
-ghost use Rattle.pmap_text.specs.Label.{has_label, is_label as is_label_text, with_label};
+ghost use Rattle.pmap_model.specs.Label.{has_label, is_label as is_label_text, with_label};
 ghost use Rattle.pmap_text.specs.Inner.{HasDistinctKeys, IsFirstRepeat, list_from, map_from};
-ghost use Rattle.pmap_text.specs.MapText.{map_of, text_at};
-ghost use Rattle.pmap_text.specs.PrefixList.{list_of};
+ghost use Rattle.pmap_model.specs.MapText.{map_of, text_at};
+ghost use Rattle.pmap_model.specs.PrefixList.{list_of};
 ghost use Rattle.pmap_text.specs.Reading.{Earlier, no_lines, NoMemory, TooMany, has_room, has_prefix as has_prefix_of};
 ghost use Rattle.pmap_text.specs.declared.reading.TheConstants.{LABEL_LIMIT, MAPPING_LIMIT};
 
-use crate::entries::Entries;
-use crate::entry::Entry;
 use crate::fault::MapFaultKind;
-use crate::hashing::KeyHashing;
-use crate::label::LabelId;
-use crate::labels::Labels;
-use crate::map_text::MapText;
-use crate::name::Name;
-use crate::prefix_list::PrefixList;
 use crate::reading::declarations::Declarations;
 use crate::reading::recent::Recent;
 use crate::reading::repeats::{first_repeat, has_block};
-use crate::statement::Statement;
-use crate::statements::Statements;
+use pmap_model::{
+    Entries, Entry, KeyHashing, LabelId, Labels, MapText, Name, PrefixList, Statement, Statements,
+};
 use prefix_keys::{Block, Span, Version};
 use std::alloc::{AllocError, Global};
 use std::marker::Model;

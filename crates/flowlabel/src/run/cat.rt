@@ -8,7 +8,8 @@ ghost use Rattle.flowlabel.specs.Request.{Cat};
 use crate::run::made::Made;
 use flow_files::{Files, LabelFile, LabelsRead, RunFault};
 use flow_io::Input;
-use pmap_text::{KeyHashing, Runs, labelling_has_one_runs_text};
+use pmap_model::KeyHashing;
+use pmap_stretches::{Runs, labelling_has_one_runs_text};
 use std::alloc::{AllocError, Global};
 
 fn runs_of(alloc: Global, labels: &LabelsRead) -> Result<Runs, AllocError>

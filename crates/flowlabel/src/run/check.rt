@@ -12,7 +12,7 @@ use crate::run::made::Made;
 use cert_check::{Swept, TextFault, check_text};
 use flow_files::{BytesFault, Files, RunFault, Source, read, read_list, read_map};
 use flow_io::Input;
-use pmap_text::KeyHashing;
+use pmap_model::KeyHashing;
 use std::alloc::Global;
 
 // Checks a certificate, whose file is read.

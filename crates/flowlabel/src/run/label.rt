@@ -10,7 +10,7 @@ use crate::run::made::Made;
 use flow_files::{Files, LabelFile, LabelsRead, RunFault};
 use flow_io::Input;
 use label_lookup::{Labeller, Scan};
-use pmap_text::KeyHashing;
+use pmap_model::KeyHashing;
 use prefix_keys::{Addr, convert};
 use std::alloc::{AllocError, Global};
 

@@ -1,8 +1,8 @@
 ghost use Rattle.std.specs.Prelude.{◌≡◌, ◌≤◌, ◌↔◌, ℕ, Bool, List, Ok, Some, length};
 ghost use Rattle.std.specs.Borrow.{Bor};
 ghost use Rattle.prefix_keys.specs.declared.addr.Addr.{Addr};
-ghost use Rattle.pmap_text.specs.ListModel.{IsEquivalent, ListModel};
-ghost use Rattle.pmap_text.specs.MapModel.{MapModel};
+ghost use Rattle.pmap_model.specs.ListModel.{IsEquivalent, ListModel};
+ghost use Rattle.pmap_model.specs.MapModel.{MapModel};
 ghost use Rattle.pmap_text.specs.Reading.{label_limit, list_reading, map_reading, mapping_limit};
 ghost use Rattle.pmap_cert.specs.CertificateModel.{CertificateModel};
 ghost use Rattle.pmap_cert.specs.ListText.{labels_of, list_text};
@@ -34,7 +34,7 @@ use pmap_cert::{
     minimal_list_can_be_read_again, minimal_list_is_in_order, minimal_pair_is_accepted,
     minimal_pair_is_unique, printed_list_is_read_back, text_of_format_is_read_or_has_a_fault,
 };
-use pmap_text::{
+use pmap_stretches::{
     labelling_has_its_runs, labelling_has_one_runs_text, runs_cover_each_address_once,
 };
 

@@ -2,8 +2,9 @@
 use flow_files::LabelsRead;
 use flow_uniq::Groups;
 use pmap_cert::Certificate;
+use pmap_model::PrefixList;
 use pmap_print::Table;
-use pmap_text::{PrefixList, Runs};
+use pmap_stretches::Runs;
 
 /// The output of a command, before it is printed.
 #[derive(Drop)]

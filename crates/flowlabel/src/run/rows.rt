@@ -14,8 +14,8 @@ use flow_filter::Filter;
 use flow_io::Input;
 use flow_rows::Row;
 use label_lookup::{StretchIndex, label_row};
+use pmap_model::KeyHashing;
 use pmap_print::{RowLabels, Table};
-use pmap_text::KeyHashing;
 use std::alloc::{AllocError, Global};
 
 fn labels_under<'l>(labels: Option<&'l StretchIndex<'_>>, row: &Row<'_>) -> Option<RowLabels<'l>>

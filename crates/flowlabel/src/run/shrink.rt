@@ -1,7 +1,7 @@
 //! The output of `shrink`.
 ghost use Rattle.std.specs.Prelude.{IfOk};
 ghost use Rattle.std.specs.Borrow.{Bor};
-ghost use Rattle.pmap_text.specs.MapText.{map_of};
+ghost use Rattle.pmap_model.specs.MapText.{map_of};
 ghost use Rattle.flowlabel.specs.Output.{IsOutput};
 ghost use Rattle.flow_files.specs.Reports.{AreFresh};
 ghost use Rattle.flowlabel.specs.Reports.{IsMade, IsShrunk};
@@ -13,7 +13,7 @@ use crate::run::made::Made;
 use flow_files::{Files, RunFault, read_map};
 use flow_io::Input;
 use pmap_minimise::{compact_certificate, shortest};
-use pmap_text::{KeyHashing, MapText};
+use pmap_model::{KeyHashing, MapText};
 use std::alloc::{AllocError, Global};
 
 fn made_of(alloc: Global, map: MapText, printed: Shrunk) -> Result<Made, AllocError>

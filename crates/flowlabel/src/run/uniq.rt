@@ -11,7 +11,7 @@ use flow_files::{Files, LabelFile, RunFault, read_rows};
 use flow_filter::Filter;
 use flow_io::Input;
 use flow_uniq::{Groups, Keys};
-use pmap_text::KeyHashing;
+use pmap_model::KeyHashing;
 use std::alloc::Global;
 
 /// How rows are chosen, grouped and printed.

@@ -1,8 +1,9 @@
 ghost use Rattle.std.specs.Prelude.{◌≡◌, ◌↔◌, [], false, option_map, IfSome, IsTrue, OnErr, OnOk};
-ghost use Rattle.pmap_text.specs.Label.{conflicts, declared_text, label_number as number_of_text, meant_text, with_declared, is_label};
+ghost use Rattle.pmap_text.specs.Declarations.{conflicts, declared_text, label_number as number_of_text, meant_text, with_declared};
+ghost use Rattle.pmap_model.specs.Label.{is_label};
 
-use crate::hashing::KeyHashing;
 use indexmap::IndexSet;
+use pmap_model::KeyHashing;
 use prefix_keys::read_decimal;
 use std::alloc::{AllocError, Global};
 use std::marker::Model;
@@ -29,8 +30,8 @@ impl Drop for Declarations {
 impl Model for Declarations {
     ghost use Rattle.std.specs.Prelude.{ℕ, List, map};
     ghost use Rattle.std.specs.List.{zip};
-    ghost use Rattle.pmap_text.specs.Label.{ArePaired};
-    ghost use Rattle.pmap_text.specs.MapModel.{Label};
+    ghost use Rattle.pmap_text.specs.Declarations.{ArePaired};
+    ghost use Rattle.pmap_model.specs.MapModel.{Label};
 
     ghost Value = { List (ℕ × Label) };
 

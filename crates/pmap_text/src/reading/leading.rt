@@ -6,8 +6,8 @@ ghost use Rattle.prefix_keys.specs.Text.{address_of, decimal_number, dotted_addr
 ghost use Rattle.pmap_text.specs.Inner.{BeginsWithBlank, IsWord, is_address_byte, is_dotted_byte};
 ghost use Rattle.pmap_text.specs.Reading.{after_word, first_word, trim_start};
 
-use crate::label::is_blank;
 use crate::reading::lines::without_leading_blanks;
+use pmap_model::is_blank;
 use prefix_keys::{Addr, Block, Version, block_of, leading_colon};
 
 /// The possible first word of a line.

@@ -1,11 +1,11 @@
 //! The lines of a text and the words of a line.
 ghost use Rattle.std.specs.Prelude.{◌≡◌, ◌+◌, ◌<◌, ◌≤◌, ◌∷◌, ◌==◌, ◌||◌, ℕ, Bool, List, [], length, not, position, take};
 ghost use Rattle.std.specs.List.{position_or_len};
-ghost use Rattle.pmap_text.specs.Label.{is_blank as is_blank_byte};
+ghost use Rattle.pmap_model.specs.Label.{is_blank as is_blank_byte};
 ghost use Rattle.pmap_text.specs.Reading.{after_word, content_of, first_word, lines_of, trim_start, trim_end};
 
-use crate::label::is_blank;
 use memchr::memchr2;
+use pmap_model::is_blank;
 use prefix_keys::{cut, find_byte};
 
 // Returns the index of the first blank.

@@ -1,6 +1,6 @@
 ghost use Rattle.std.specs.Prelude.{◌<◌};
 
-use crate::label::LabelId;
+use pmap_model::LabelId;
 
 // How many labels are remembered: a prime, so that each of the bytes that select a slot counts.
 const PLACES: usize = 4093;

@@ -3,12 +3,10 @@ ghost use Rattle.std.specs.Prelude.{◌≡◌, ◌==◌, ◌&&◌, ℕ, IfOk, Is
 ghost use Rattle.std.specs.List.{list_any};
 ghost use Rattle.std.specs.Ordering.{is_eq};
 ghost use Rattle.pmap_text.specs.Inner.{IsFirstRepeat, has_key, key_cmp};
-ghost use Rattle.pmap_text.specs.MapModel.{Label};
-ghost use Rattle.pmap_text.specs.PrefixList.{prefix_of};
+ghost use Rattle.pmap_model.specs.MapModel.{Label};
+ghost use Rattle.pmap_model.specs.PrefixList.{prefix_of};
 
-use crate::entries::Entries;
-use crate::entry::Entry;
-use crate::order::{in_order, sorted_or};
+use pmap_model::{Entries, Entry, in_order, sorted_or};
 use prefix_keys::Block;
 use std::alloc::{AllocError, Global};
 use std::collections::BTreeSet;

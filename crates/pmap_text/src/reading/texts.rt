@@ -4,12 +4,10 @@ ghost use Rattle.pmap_text.specs.Inner.{HasDistinctKeys, HasRead, text_read};
 ghost use Rattle.pmap_text.specs.Reading.{ReturnsList, ReturnsMap, no_lines, NoMemory};
 
 use crate::fault::{MapFault, MapFaultKind};
-use crate::hashing::KeyHashing;
-use crate::map_text::MapText;
-use crate::prefix_list::PrefixList;
 use crate::reading::Reading;
 use crate::reading::form::Form;
 use crate::reading::lines::split_content;
+use pmap_model::{KeyHashing, MapText, PrefixList};
 use std::alloc::Global;
 
 // Returns the fault of a line. A failed allocation has line 0.

@@ -1,6 +1,6 @@
 use Rattle.std.proofs.Common.{◌∙◌, ap, subst, sym}
-use Rattle.pmap_text.specs.MapText.{map_of}
-use Rattle.pmap_text.specs.PrefixList.{list_of}
+use Rattle.pmap_model.specs.MapText.{map_of}
+use Rattle.pmap_model.specs.PrefixList.{list_of}
 use Rattle.pmap_cert.specs.Acceptance.{IsAccepted}
 use Rattle.pmap_cert.specs.Certificate.{certificate_of}
 use Rattle.pmap_cert.proofs.Tables.{ok_is}

@@ -1,7 +1,7 @@
 use Rattle.std.proofs.Common.{◌≡◌, ◌∙◌, ◌&&◌, None, ap, option_map, sym}
 use Rattle.std.proofs.lemmas.List.{length-map}
-use Rattle.pmap_text.specs.MapText.{map_of}
-use Rattle.pmap_text.specs.PrefixList.{list_of, prefix_of}
+use Rattle.pmap_model.specs.MapText.{map_of}
+use Rattle.pmap_model.specs.PrefixList.{list_of, prefix_of}
 use Rattle.pmap_cert.specs.Acceptance.{IsAccepted}
 use Rattle.pmap_cert.specs.Certificate.{certificate_of}
 use Rattle.pmap_cert.specs.Inner.{reading_from}

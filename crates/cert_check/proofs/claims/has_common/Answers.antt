@@ -1,5 +1,5 @@
 use Rattle.std.proofs.Common.{◌∙◌, ◌||◌, inl, inr, not, sym}
-use Rattle.pmap_text.specs.declared.label.LabelId.{LabelId}
+use Rattle.pmap_model.specs.declared.label.LabelId.{LabelId}
 use Rattle.cert_check.specs.Inner.{has_number}
 use Rattle.cert_check.proofs.Sets.{all-more, goes-on, numbers, or-from, walk-has}
 use Rattle.cert_check.proofs.claims.has_common.Goals as goal

@@ -1,7 +1,7 @@
 use Rattle.std.proofs.Common.{None, Option, ap, get_or, sym, ◌∙◌}
 use Rattle.std.proofs.lemmas.Option.{slice_get-get_or}
-use Rattle.pmap_text.specs.declared.label.LabelId.{LabelId}
-use Rattle.pmap_text.specs.MapText.{text_at, text_if_some}
+use Rattle.pmap_model.specs.declared.label.LabelId.{LabelId}
+use Rattle.pmap_model.specs.MapText.{text_at, text_if_some}
 use Rattle.cert_check.specs.Checking.{is_label_of}
 use Rattle.cert_check.proofs.Numbered.{same-none, same-some}
 use Rattle.cert_check.proofs.labels.is_label.Goals as goal

@@ -1,6 +1,6 @@
 use Rattle.std.proofs.Common.{◌≡◌, map, take}
 use Rattle.std.specs.Option.{option_map}
-use Rattle.pmap_text.specs.Label.{number_of}
+use Rattle.pmap_model.specs.Label.{number_of}
 use Rattle.cert_check.proofs.labels.numbers_in.Given as goal
 
 abbrev pub invariant-loop-number : goal.invariant-loop-number

@@ -4,9 +4,9 @@ use Rattle.prefix_keys.specs.Block.{block_number, width_of}
 use Rattle.prefix_keys.specs.declared.version.Version.{Version}
 use Rattle.std.proofs.Math.Nat.{mul-mod_left}
 use Rattle.std.specs.Option.{option_or}
-use Rattle.pmap_text.specs.MapText.{text_at}
-use Rattle.pmap_text.specs.Reading.{◌>>=◌}
-use Rattle.pmap_text.specs.declared.label.LabelId.{LabelId}
+use Rattle.pmap_model.specs.MapText.{text_at}
+use Rattle.pmap_model.specs.Steps.{◌>>=◌}
+use Rattle.pmap_model.specs.declared.label.LabelId.{LabelId}
 use Rattle.pmap_cert.specs.CertificateModel.{Claim, InnerNode, LeafNode, chain_claim, exact_claim}
 use Rattle.pmap_cert.specs.Format.{format_number}
 use Rattle.pmap_cert.specs.FormatReading.{ChainLine, InnerLine, LeafLine, nodes_at}

@@ -2,7 +2,7 @@
 use Rattle.std.proofs.Common.{◌≡◌, [], ◌∷◌, None, Ok, Some, codes, refl, arith}
 use Rattle.std.proofs.lemmas.Bool.{lt-ltb}
 use Rattle.prefix_keys.specs.Block.{block_number}
-use Rattle.pmap_text.specs.Runs.{Run}
+use Rattle.pmap_stretches.specs.Runs.{Run}
 use Rattle.definition_examples.specs.Commands.{opened}
 use Rattle.definition_examples.proofs.commands.a_run_prints_ranges.Goals as goal
 

@@ -1,8 +1,8 @@
 -- The minimal pair of the map of four quarters.
 use Rattle.std.proofs.Common.{rules, [], ◌∷◌, List, Ok, Err, None, Result, codes, refl}
 use Rattle.prefix_keys.specs.declared.version.Version.TheVariants.{V4}
-use Rattle.pmap_text.specs.ListModel.{ListModel}
-use Rattle.pmap_text.specs.MapModel.{Label, MapModel}
+use Rattle.pmap_model.specs.ListModel.{ListModel}
+use Rattle.pmap_model.specs.MapModel.{Label, MapModel}
 use Rattle.pmap_text.specs.Reading.{map_reading}
 use Rattle.pmap_text.specs.declared.fault.MapFault.{MapFault}
 use Rattle.pmap_cert.specs.Acceptance.{IsMinimalPair, entries_of}

@@ -1,5 +1,5 @@
 use Rattle.std.proofs.Common.{◌≡◌, ℕ, [], Option, ap, arith, get_or, refl, unwrap_or}
-use Rattle.pmap_text.specs.MapModel.{Label}
+use Rattle.pmap_model.specs.MapModel.{Label}
 use Rattle.definition_examples.proofs.shortest.a_list_that_labels_an_address_otherwise_is_not_equivalent.Goals as goal
 
 abbrev first_byte : Option Label → ℕ

@@ -1,7 +1,7 @@
 use Rattle.std.proofs.Common.{◌≡◌, ◌<◌, ◌≤◌, ◌^◌, ◌∷◌, [], ℕ, None, Some, arith, codes, refl}
 use Rattle.prefix_keys.specs.Block.{block_number}
 use Rattle.prefix_keys.specs.declared.version.Version.TheVariants.{V4}
-use Rattle.pmap_text.specs.ListModel.{ListModel, list_label}
+use Rattle.pmap_model.specs.ListModel.{ListModel, list_label}
 use Rattle.definition_examples.proofs.shortest.a_list_with_an_entry_too_many_is_not_least.Goals as goal
 
 abbrev one_entry : ListModel

@@ -1,5 +1,5 @@
 use Rattle.std.proofs.Common.{◌≡◌, ◌∙◌, ap, refl, sym, true}
-use Rattle.pmap_text.specs.PrefixList.{list_of}
+use Rattle.pmap_model.specs.PrefixList.{list_of}
 use Rattle.pmap_text.specs.Reading.{list_reading}
 use Rattle.flow_files.specs.BytesFault.{is_out_of_memory}
 use Rattle.flow_files.specs.Outcomes.{with_bytes_fault}

@@ -1,5 +1,5 @@
 use Rattle.std.proofs.Common.{◌∙◌, Ok, ap}
-use Rattle.pmap_text.specs.Reading.{◌>>=◌}
+use Rattle.pmap_model.specs.Steps.{◌>>=◌}
 use Rattle.pmap_print.specs.Messages.{messages_text, lines_text}
 use Rattle.flow_many.specs.Request.{Messages}
 use Rattle.flow_many.proofs.CommandLemmas.{ends_written, listed_text}

@@ -1,6 +1,6 @@
 use Rattle.std.proofs.Common.{◌≡◌, ◌∙◌, Ok, ap, map, subst, sym, true}
 use Rattle.std.specs.Prelude.{option_map}
-use Rattle.pmap_text.specs.Reading.{◌>>=◌}
+use Rattle.pmap_model.specs.Steps.{◌>>=◌}
 use Rattle.flow_uniq.specs.Groups.{GroupsModel, shown_groups}
 use Rattle.pmap_print.specs.Reports.{groups_text}
 use Rattle.flow_files.specs.Outcomes.{uniq_text}

@@ -1,6 +1,6 @@
 use Rattle.std.proofs.Common.{◌∙◌, List, Ok, Err, Option, Result, ap, sym, subst}
 use Rattle.std.specs.Option.{option_map_or}
-use Rattle.pmap_text.specs.Reading.{◌>>=◌}
+use Rattle.pmap_model.specs.Steps.{◌>>=◌}
 use Rattle.flow_io.specs.Devices.{InputView}
 use Rattle.flow_files.proofs.ReadLemmas.{handed_on, may_have}
 use Rattle.flow_files.specs.Readers.{MayHave, view_of}

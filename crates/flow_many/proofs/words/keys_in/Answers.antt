@@ -2,7 +2,7 @@ use Rattle.std.proofs.Common.{◌≡◌, ◌∙◌, ℕ, List, [], None, Ok, Opt
 use Rattle.std.specs.Prelude.{codes, ok_or, option_map}
 use Rattle.std.specs.Borrow.{Bor}
 use Rattle.clap.specs.Words.{Text, first_of, found_of, rows_of}
-use Rattle.pmap_text.specs.Reading.{◌>>=◌}
+use Rattle.pmap_model.specs.Steps.{◌>>=◌}
 use Rattle.flow_uniq.specs.declared.field.KeyField.{KeyField}
 use Rattle.flow_files.specs.Answer.{fields_reading}
 use Rattle.flow_uniq.specs.Key.{with_unit}

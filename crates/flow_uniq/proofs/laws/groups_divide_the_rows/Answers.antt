@@ -7,8 +7,8 @@ use Rattle.flow_uniq.specs.Groups.{GroupModel, groups_of, is_before, shown_group
 use Rattle.flow_uniq.specs.Laws.{DivideRows, SumsItsRows}
 use Rattle.flow_uniq.proofs.Dividing.{groups-divide}
 use Rattle.flow_uniq.proofs.Grouping.{same_key-equiv}
-use Rattle.pmap_text.specs.Sorting.{in_order}
-use Rattle.pmap_text.proofs.Sorting.{same-in_order}
+use Rattle.pmap_model.specs.Sorting.{in_order}
+use Rattle.pmap_model.proofs.Sorting.{same-in_order}
 use Rattle.flow_uniq.proofs.laws.groups_divide_the_rows.Goals as goal
 
 -- sorted groups divide what the groups divide

@@ -13,9 +13,9 @@ use Rattle.std.proofs.lemmas.List.Elements.{All-contains, All-head, All-tail, fi
 use Rattle.std.proofs.lemmas.List.Sorted.{ranks_by, sorted_far}
 use Rattle.std.proofs.lemmas.Map.Keys.{apart_from_distinct}
 use Rattle.prefix_keys.specs.Text.{AddressOf}
-use Rattle.pmap_text.specs.MapModel.{Label}
-use Rattle.pmap_text.specs.Sorting.{in_order}
-use Rattle.pmap_text.proofs.Sorting.{in_order-sorted, map-in_order, same-in_order}
+use Rattle.pmap_model.specs.MapModel.{Label}
+use Rattle.pmap_model.specs.Sorting.{in_order}
+use Rattle.pmap_model.proofs.Sorting.{in_order-sorted, map-in_order, same-in_order}
 use Rattle.flow_rows.specs.Elements.{RowView}
 use Rattle.flow_uniq.specs.Key.{Key, KeyField, key_of, part_numbers, same_key}
 use Rattle.flow_uniq.specs.Groups.{GroupModel, groups_of, is_before, shown_groups, totals_of}

@@ -1,5 +1,5 @@
 use Rattle.flow_uniq.specs.Groups.{is_before}
-use Rattle.pmap_text.proofs.Sorting.{in_order-sorted, same-in_order}
+use Rattle.pmap_model.proofs.Sorting.{in_order-sorted, same-in_order}
 use Rattle.flow_uniq.proofs.MergedParts.{before-order}
 use Rattle.flow_uniq.proofs.laws.sorted_groups_are_in_order.Goals as goal
 

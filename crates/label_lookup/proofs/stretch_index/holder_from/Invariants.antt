@@ -1,5 +1,5 @@
 use Rattle.std.proofs.Common.{◌-◌, ◌<◌, ◌≤◌, length}
-use Rattle.pmap_text.specs.Stretches.{first_at}
+use Rattle.pmap_stretches.specs.Stretches.{first_at}
 use Rattle.label_lookup.proofs.stretch_index.holder_from.Given as goal
 
 abbrev pub invariant-loop-index : goal.invariant-loop-index

@@ -1,6 +1,6 @@
 use Rattle.std.proofs.Common.{◌≡◌, ℕ, ◌*◌, ◌<◌, ◌≤◌, length}
 use Rattle.std.specs.Prelude.{slice_index}
-use Rattle.pmap_text.specs.Stretches.{first_at}
+use Rattle.pmap_stretches.specs.Stretches.{first_at}
 use Rattle.label_lookup.specs.Labelling.{IsTopAt, block_size}
 use Rattle.label_lookup.proofs.stretch_index.tops_of.Given as goal
 

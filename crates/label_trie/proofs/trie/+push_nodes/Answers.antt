@@ -3,11 +3,11 @@ use Rattle.std.proofs.Math.ListN.{set}
 use Rattle.std.proofs.Math.Seq.{set-append_seam}
 use Rattle.std.proofs.lemmas.List.{append_assoc}
 use Rattle.std.proofs.lemmas.Result.{on_ok_weaker}
-use Rattle.pmap_text.specs.Stretches.{StretchesModel, label_at}
-use Rattle.pmap_text.specs.declared.stretches.window.Window.{Window}
+use Rattle.pmap_stretches.specs.Stretches.{StretchesModel, label_at}
+use Rattle.pmap_stretches.specs.declared.stretches.window.Window.{Window}
 use Rattle.prefix_keys.specs.Block.{width_of}
-use Rattle.pmap_text.specs.Windows.{window_number}
-use Rattle.pmap_text.proofs.Windows.{window_some}
+use Rattle.pmap_stretches.specs.Windows.{window_number}
+use Rattle.pmap_stretches.proofs.Windows.{window_some}
 use Rattle.label_trie.specs.Leaves.{leaves_of}
 use Rattle.label_trie.specs.Nodes.{leaf_stored, stored_of}
 use Rattle.label_trie.specs.declared.node.TrieNode.{TrieNode}

@@ -1,8 +1,8 @@
 use Rattle.std.proofs.Common.{◌∙◌, List, arith}
 use Rattle.std.proofs.lemmas.Result.{err_from_is_err_and}
 use Rattle.std.proofs.lemmas.List.{length_push}
-use Rattle.pmap_text.proofs.LabelTexts.{with_label-new}
-use Rattle.pmap_text.specs.MapModel.{Label}
+use Rattle.pmap_model.proofs.LabelTexts.{with_label-new}
+use Rattle.pmap_model.specs.MapModel.{Label}
 use Rattle.pmap_cert.proofs.ReadingSteps.{labels_at-fault, labels_at-next}
 use Rattle.pmap_cert.proofs.certificate_reading.read_labels.Goals as goal
 

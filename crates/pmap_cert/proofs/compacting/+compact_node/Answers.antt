@@ -1,7 +1,7 @@
 use Rattle.std.proofs.Common.{◌∙◌, ap, map, get_or, List, ℕ, ◌++◌, ◌∷◌, [], nat_eq, subst, sym}
 use Rattle.std.proofs.lemmas.List.{append-nil}
 use Rattle.flow_io.specs.Sinks.{Pushes}
-use Rattle.pmap_text.specs.declared.label.LabelId.{LabelId}
+use Rattle.pmap_model.specs.declared.label.LabelId.{LabelId}
 use Rattle.pmap_cert.specs.CertificateText.{node_line_text, text_of_lines}
 use Rattle.pmap_cert.specs.Compacting.{compacted}
 use Rattle.pmap_cert.specs.FormatReading.{DueLine, LeafLine}

@@ -1,5 +1,5 @@
 use Rattle.std.proofs.Common.{◌∙◌, ap, arith, option_map, sym}
-use Rattle.pmap_text.specs.declared.label.LabelId.{LabelId}
+use Rattle.pmap_model.specs.declared.label.LabelId.{LabelId}
 use Rattle.pmap_cert.proofs.CompactPlaces.{halves-of}
 use Rattle.pmap_cert.proofs.compacting.halves_of.Goals as goal
 

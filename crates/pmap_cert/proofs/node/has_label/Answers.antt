@@ -2,8 +2,8 @@ use Rattle.std.proofs.Common.{◌∙◌, ◌==◌, rules, sym}
 use borrow.Author.Tests.{tests}
 use Rattle.std.proofs.lemmas.Iterator.{YieldsList-from_slice}
 use Rattle.std.proofs.lemmas.Iterator.Search.{any_from_yields_List}
-use Rattle.pmap_text.proofs.LabelTexts.{list_any-map}
-use Rattle.pmap_text.specs.declared.label.LabelId.{LabelId}
+use Rattle.pmap_model.proofs.LabelTexts.{list_any-map}
+use Rattle.pmap_model.specs.declared.label.LabelId.{LabelId}
 use Rattle.pmap_cert.proofs.node.has_label.Goals as goal
 
 pub returns : goal.returns

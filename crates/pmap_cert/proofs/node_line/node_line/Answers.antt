@@ -1,5 +1,5 @@
 use Rattle.std.proofs.Common.{Some, None, ap, map, sym}
-use Rattle.pmap_text.specs.declared.label.LabelId.{LabelId}
+use Rattle.pmap_model.specs.declared.label.LabelId.{LabelId}
 use Rattle.pmap_cert.specs.Format.{format_number}
 use Rattle.pmap_cert.specs.Packed.{bits_in}
 use Rattle.pmap_cert.proofs.LineTexts.{line-chain, line-inner}

@@ -1,6 +1,6 @@
 use Rattle.std.proofs.Common.{◌∙◌, ◌++◌, ◌≡◌, ◌∷◌, [], ℕ, List, ap, arith, map, sym}
 use Rattle.std.proofs.lemmas.List.{map-append}
-use Rattle.pmap_text.specs.declared.label.LabelId.{LabelId}
+use Rattle.pmap_model.specs.declared.label.LabelId.{LabelId}
 use Rattle.pmap_cert.proofs.LineTexts.{set-ended, set-fallen, set-more, set-stopped}
 use Rattle.pmap_cert.proofs.node_line.set_to_end.Goals as goal
 

@@ -1,7 +1,7 @@
 use Rattle.std.proofs.Common.{◌∙◌, ◌++◌, List, ℕ, ap, subst, sym}
 use Rattle.std.proofs.lemmas.Result.{on_ok_weaker}
 use Rattle.flow_io.specs.Sinks.{Adds}
-use Rattle.pmap_text.specs.declared.label.LabelId.{LabelId}
+use Rattle.pmap_model.specs.declared.label.LabelId.{LabelId}
 use Rattle.pmap_cert.specs.CertificateModel.{ClaimOf, claim_of}
 use Rattle.pmap_cert.specs.Node.{Node, first_node}
 use Rattle.pmap_cert.specs.Opened.{Opens, cost_above, node_text, numbers_of, path_node, text_down, text_up}

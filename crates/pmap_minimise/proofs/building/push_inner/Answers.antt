@@ -1,6 +1,6 @@
 use Rattle.std.proofs.Common.{◌≡◌, ◌∷◌, [], ℕ, List, arith, get_or, length, rules, subst}
 use Rattle.std.proofs.lemmas.Result.{on_ok_weaker}
-use Rattle.pmap_text.specs.declared.label.LabelId.{LabelId}
+use Rattle.pmap_model.specs.declared.label.LabelId.{LabelId}
 use Rattle.pmap_cert.specs.CertificateModel.{ClaimOf}
 use Rattle.pmap_cert.specs.Node.{claiming}
 use Rattle.pmap_minimise.specs.Built.{AddsExact, claim_at, last_claim}

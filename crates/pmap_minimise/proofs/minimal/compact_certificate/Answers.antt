@@ -1,6 +1,6 @@
 use Rattle.std.proofs.Common.{length}
 use Rattle.prefix_keys.specs.Block.{width_of}
-use Rattle.pmap_text.specs.MapText.{map_of}
+use Rattle.pmap_model.specs.MapText.{map_of}
 use Rattle.pmap_cert.proofs.CompactForms.{form-compacted}
 use Rattle.pmap_minimise.proofs.BuiltNodes.{map-countable, map-on}
 use Rattle.pmap_minimise.proofs.Whole.{built-certificate}

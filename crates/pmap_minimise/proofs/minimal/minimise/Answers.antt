@@ -1,9 +1,9 @@
 use Rattle.std.proofs.Common.{◌≡◌, ◌<◌, ◌∙◌, All, List, length, map, ap, arith, subst, sym}
 use Rattle.std.proofs.lemmas.List.{length-map}
 use Rattle.prefix_keys.specs.Block.{width_of}
-use Rattle.pmap_text.specs.MapModel.{Label}
-use Rattle.pmap_text.specs.MapText.{map_of}
-use Rattle.pmap_text.specs.PrefixList.{list_of, prefix_of}
+use Rattle.pmap_model.specs.MapModel.{Label}
+use Rattle.pmap_model.specs.MapText.{map_of}
+use Rattle.pmap_model.specs.PrefixList.{list_of, prefix_of}
 use Rattle.pmap_cert.specs.Certificate.{certificate_of}
 use Rattle.pmap_cert.specs.Format.{format_number}
 use Rattle.pmap_cert.specs.CertificateModel.{claim_of}

@@ -1,5 +1,5 @@
-use Rattle.pmap_text.specs.MapText.{map_of}
-use Rattle.pmap_text.specs.PrefixList.{list_of}
+use Rattle.pmap_model.specs.MapText.{map_of}
+use Rattle.pmap_model.specs.PrefixList.{list_of}
 use Rattle.pmap_cert.proofs.InOrder.{list-form}
 use Rattle.pmap_minimise.proofs.LabelRuns.{runs-built, runs-countable, runs-distinct, runs-entries, runs-pair}
 use Rattle.pmap_minimise.proofs.Whole.{own-labels}

@@ -1,8 +1,8 @@
 use Rattle.std.proofs.Common.{◌≡◌, arith, inl, inr, refl, true≢false, sym, ◌∙◌}
-use Rattle.pmap_text.specs.Stretches.{StretchesModel}
-use Rattle.pmap_text.specs.Windows.{AreHalvesOf}
-use Rattle.pmap_text.specs.declared.stretches.window.Window.{Window}
-use Rattle.pmap_text.proofs.Windows.{window_some}
+use Rattle.pmap_stretches.specs.Stretches.{StretchesModel}
+use Rattle.pmap_stretches.specs.Windows.{AreHalvesOf}
+use Rattle.pmap_stretches.specs.declared.stretches.window.Window.{Window}
+use Rattle.pmap_stretches.proofs.Windows.{window_some}
 use Rattle.pmap_minimise.specs.Runs.{AreCountedHalves, IsCounted}
 use Rattle.pmap_minimise.proofs.MadeNodes.{counted-halves}
 use Rattle.pmap_minimise.proofs.runs.step.Goals as goal

@@ -1,5 +1,5 @@
 use Rattle.std.proofs.Common.{◌-◌}
-use Rattle.pmap_text.specs.declared.stretches.window.Window.{Window}
+use Rattle.pmap_stretches.specs.declared.stretches.window.Window.{Window}
 use Rattle.pmap_minimise.specs.Runs.{IsCounted, IsRunTo}
 use Rattle.pmap_minimise.proofs.runs.stepwise_end.Given as goal
 

@@ -1,7 +1,7 @@
 use Rattle.std.proofs.Common.{List, subst, sym}
 use Rattle.std.specs.List.Sorted.{IsPermutation}
 use Rattle.flow_uniq.specs.Groups.{GroupModel, is_before}
-use Rattle.pmap_text.proofs.Sorting.{same-in_order}
+use Rattle.pmap_model.proofs.Sorting.{same-in_order}
 use Rattle.pmap_print.proofs.groups.in_key_order.Goals as goal
 
 pub returns-then-sorted-clause-same : goal.returns-then-sorted-clause-same

@@ -1,6 +1,6 @@
 use Rattle.std.proofs.Common.{◌∙◌, ◌∷◌, ◌++◌, [], List, sym, ℕ}
 use Rattle.prefix_keys.specs.Print.{address_text}
-use Rattle.pmap_text.specs.RunsText.{line_text}
+use Rattle.pmap_stretches.specs.RunsText.{line_text}
 use Rattle.pmap_print.proofs.FilledLines.{filled_none, totals_printed}
 use Rattle.pmap_print.proofs.runs.print_run.Goals as goal
 

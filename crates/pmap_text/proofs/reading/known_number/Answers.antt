@@ -1,5 +1,5 @@
 use Rattle.std.proofs.Common.{sym, rules}
-use Rattle.pmap_text.proofs.LabelTexts.{has_label-number}
+use Rattle.pmap_model.proofs.LabelTexts.{has_label-number}
 use Rattle.pmap_text.proofs.reading.known_number.Goals as goal
 
 pub returns-in-Some-clause-known : goal.returns-in-Some-clause-known

@@ -1,5 +1,5 @@
 use Rattle.std.proofs.Common.{◌∙◌, refl}
-use Rattle.pmap_text.specs.MapText.{text_at}
+use Rattle.pmap_model.specs.MapText.{text_at}
 use Rattle.cert_check.proofs.OneStretch.{held_label}
 use Rattle.cert_check.proofs.source.Source.has_label_at.Goals as goal
 

@@ -1,7 +1,7 @@
 use Rattle.std.proofs.Common.{Option, ap, sym, ◌∙◌}
 use Rattle.std.specs.Option.{option_or}
-use Rattle.pmap_text.specs.MapText.{map_of, text_at}
-use Rattle.pmap_text.specs.PrefixList.{list_of, number_of_block}
+use Rattle.pmap_model.specs.MapText.{map_of, text_at}
+use Rattle.pmap_model.specs.PrefixList.{list_of, number_of_block}
 use Rattle.pmap_cert.specs.Packed.{bits_in}
 use Rattle.cert_check.specs.Checking.{CheckFaultKind, leaf_fault}
 use Rattle.cert_check.proofs.Beside.{path-clear}

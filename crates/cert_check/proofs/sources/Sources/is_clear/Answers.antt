@@ -1,5 +1,5 @@
 use Rattle.std.proofs.Common.{sym, ◌∙◌}
-use Rattle.pmap_text.specs.MapText.{text_at}
+use Rattle.pmap_model.specs.MapText.{text_at}
 use Rattle.cert_check.proofs.OneStretch.{range-clear}
 use Rattle.cert_check.proofs.sources.Sources.is_clear.Goals as goal
 

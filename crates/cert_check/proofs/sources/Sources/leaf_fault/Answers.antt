@@ -1,5 +1,5 @@
 use Rattle.std.proofs.Common.{sym, ◌∙◌}
-use Rattle.pmap_text.specs.MapText.{text_at}
+use Rattle.pmap_model.specs.MapText.{text_at}
 use Rattle.cert_check.specs.Inner.{has_one_label}
 use Rattle.cert_check.proofs.OneStretch.{fault_by, leaf-at}
 use Rattle.cert_check.proofs.sources.Sources.leaf_fault.Goals as goal

@@ -1,7 +1,7 @@
 use Rattle.std.proofs.Common.{◌∙◌, Bor, List, None, Some, ap, refl, subst, sym}
 use Rattle.prefix_keys.specs.Block.{width_of}
-use Rattle.pmap_text.specs.MapModel.{Label}
-use Rattle.pmap_text.specs.Stretches.{AreStretches, StretchesModel}
+use Rattle.pmap_model.specs.MapModel.{Label}
+use Rattle.pmap_stretches.specs.Stretches.{AreStretches, StretchesModel}
 use Rattle.cert_check.specs.Inner.{AreNumbers}
 use Rattle.cert_check.proofs.sources.Sources.new.Goals as goal
 

@@ -1,6 +1,6 @@
 use Rattle.std.proofs.Common.{List, length, subst, sym}
-use Rattle.pmap_text.specs.MapModel.{Label}
-use Rattle.pmap_text.specs.Stretches.{AreLabelsBelow}
+use Rattle.pmap_model.specs.MapModel.{Label}
+use Rattle.pmap_stretches.specs.Stretches.{AreLabelsBelow}
 use Rattle.cert_check.proofs.swept.Swept.copied_from_list.Goals as goal
 
 pub returns-clause-known : goal.returns-clause-known

@@ -6,8 +6,8 @@ use Rattle.std.specs.Cmp.{IsStrictWeakOrder}
 use Rattle.flow_uniq.specs.Inner.{Group, group_model}
 use Rattle.flow_uniq.specs.Key.{part_numbers}
 use Rattle.flow_uniq.specs.Groups.{is_before}
-use Rattle.pmap_text.specs.Sorting.{in_order}
-use Rattle.pmap_text.proofs.Sorting.{map-in_order, sorted_is}
+use Rattle.pmap_model.specs.Sorting.{in_order}
+use Rattle.pmap_model.proofs.Sorting.{map-in_order, sorted_is}
 use Rattle.flow_uniq.proofs.groups.Groups.sorted.Goals as goal
 
 abbrev before : Group → Group → Bool

@@ -1,9 +1,9 @@
 use Rattle.std.proofs.Common.{ℕ, Option, Some}
-use Rattle.pmap_text.specs.ListModel.{list_label}
-use Rattle.pmap_text.specs.MapModel.{Label, map_label}
-use Rattle.pmap_text.specs.MapText.{map_of}
-use Rattle.pmap_text.specs.PrefixList.{list_of}
-use Rattle.pmap_text.specs.Stretches.{text_held}
+use Rattle.pmap_model.specs.ListModel.{list_label}
+use Rattle.pmap_model.specs.MapModel.{Label, map_label}
+use Rattle.pmap_model.specs.MapText.{map_of}
+use Rattle.pmap_model.specs.PrefixList.{list_of}
+use Rattle.pmap_stretches.specs.Stretches.{text_held}
 use Rattle.label_lookup.proofs.Labellings.{same_at_addresses}
 use Rattle.flowlabel.proofs.run.cat.runs_of.Goals as goal
 

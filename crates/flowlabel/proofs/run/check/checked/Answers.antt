@@ -1,9 +1,9 @@
 use Rattle.std.proofs.Common.{◌≡◌, ◌∙◌, None, Option, Ok, Result, Err, Some, ap, length, refl, rules, true}
 use Rattle.std.specs.Prelude.{option_map}
-use Rattle.pmap_text.specs.ListModel.{ListModel}
-use Rattle.pmap_text.specs.MapModel.{MapModel}
-use Rattle.pmap_text.specs.MapText.{map_of}
-use Rattle.pmap_text.specs.PrefixList.{list_of}
+use Rattle.pmap_model.specs.ListModel.{ListModel}
+use Rattle.pmap_model.specs.MapModel.{MapModel}
+use Rattle.pmap_model.specs.MapText.{map_of}
+use Rattle.pmap_model.specs.PrefixList.{list_of}
 use Rattle.pmap_cert.specs.CertificateModel.{CertificateModel}
 use Rattle.pmap_cert.specs.FormatReading.{format_reading}
 use Rattle.pmap_cert.specs.declared.fault.CertFault.{CertFault}
@@ -11,7 +11,7 @@ use Rattle.cert_check.specs.Checking.{first_fault, text_fault}
 use Rattle.cert_check.specs.declared.fault.CheckFault.{CheckFault}
 use Rattle.cert_check.specs.declared.fault.TextFault.{TextFault}
 use Rattle.cert_check.specs.declared.fault.TextFault.TheVariants as text
-use Rattle.pmap_text.specs.Reading.{◌>>=◌}
+use Rattle.pmap_model.specs.Steps.{◌>>=◌}
 use Rattle.std.specs.Option.{option_map_or}
 use Rattle.flow_files.specs.BytesFault.{is_out_of_memory}
 use Rattle.flow_files.specs.Outcomes.{with_bytes_fault}

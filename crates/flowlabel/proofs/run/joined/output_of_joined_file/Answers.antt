@@ -15,7 +15,7 @@ use Rattle.flow_uniq.specs.Groups.{GroupModel, groups_of, shown_groups}
 use Rattle.flow_uniq.specs.Laws.{merged}
 use Rattle.flow_uniq.proofs.MergedParts.{merged_are_all}
 use Rattle.label_lookup.specs.Labelling.{Labelling, label_where}
-use Rattle.pmap_text.specs.Reading.{◌>>=◌}
+use Rattle.pmap_model.specs.Steps.{◌>>=◌}
 use Rattle.pmap_print.specs.Reports.{groups_text, info_text, title_line}
 use Rattle.pmap_print.specs.Table.{Line, table_text}
 use Rattle.flow_files.specs.declared.by_file.ByFile.{ByFile}

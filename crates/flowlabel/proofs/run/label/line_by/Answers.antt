@@ -7,7 +7,7 @@ use Rattle.prefix_keys.specs.Text.{AddressOf}
 use Rattle.prefix_keys.specs.Block.{width_of}
 use Rattle.prefix_keys.specs.declared.addr.Addr.{Addr}
 use Rattle.prefix_keys.specs.declared.version.Version.{Version}
-use Rattle.pmap_text.specs.MapModel.{Label}
+use Rattle.pmap_model.specs.MapModel.{Label}
 use Rattle.label_lookup.specs.Labelling.{label_by, labelling}
 use Rattle.label_lookup.proofs.Labellings.{same_at_addresses}
 use Rattle.flowlabel.proofs.run.label.line_by.Goals as goal

@@ -1,7 +1,8 @@
 use Rattle.std.proofs.Common.{◌≡◌, ◌∙◌, ℕ, List, Option, Result, Ok, Err, ap, refl}
 use Rattle.std.specs.Prelude.{length}
-use Rattle.pmap_text.specs.ListModel.{ListModel}
-use Rattle.pmap_text.specs.Reading.{◌>>=◌, map_reading}
+use Rattle.pmap_model.specs.ListModel.{ListModel}
+use Rattle.pmap_model.specs.Steps.{◌>>=◌}
+use Rattle.pmap_text.specs.Reading.{map_reading}
 use Rattle.label_lookup.specs.Labelling.{Labelling}
 use Rattle.pmap_cert.specs.CertificateText.{certificate_text}
 use Rattle.pmap_cert.specs.Compacting.{compact}
@@ -10,7 +11,7 @@ use Rattle.flow_rows.specs.Counts.{counts_of, rows_of_messages}
 use Rattle.flow_filter.specs.Condition.{passing}
 use Rattle.pmap_print.specs.Reports.{info_text}
 use Rattle.pmap_print.specs.Table.{table_text}
-use Rattle.pmap_text.specs.RunsText.{IsRunsText, runs_text}
+use Rattle.pmap_stretches.specs.RunsText.{IsRunsText, runs_text}
 use Rattle.flow_files.specs.declared.bytes_fault.BytesFault.{BytesFault}
 use Rattle.flow_files.specs.declared.bytes_fault.BytesFault.TheVariants.{Map as InMap}
 use Rattle.flow_files.specs.Outcomes.{Outcome, Prints, Then, labels_reading, report_reading, uniq_text}

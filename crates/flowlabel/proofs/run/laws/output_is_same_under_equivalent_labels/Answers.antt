@@ -1,8 +1,8 @@
 use Rattle.std.proofs.Common.{◌≡◌, ◌∙◌, List, Option, Some, Ok, Result, ap, subst, sym}
 use Rattle.std.specs.Prelude.{◌↔◌}
 use Rattle.std.specs.Result.{result_map_both}
-use Rattle.pmap_text.specs.Reading.{◌>>=◌}
-use Rattle.pmap_text.specs.RunsText.{IsRunsText}
+use Rattle.pmap_model.specs.Steps.{◌>>=◌}
+use Rattle.pmap_stretches.specs.RunsText.{IsRunsText}
 use Rattle.ipfix_read.specs.Message.{MessageView}
 use Rattle.flow_rows.specs.Counts.{rows_of_messages}
 use Rattle.flow_filter.specs.Condition.{passing}

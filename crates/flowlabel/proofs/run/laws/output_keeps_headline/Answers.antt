@@ -1,8 +1,9 @@
 use Rattle.std.proofs.Common.{◌≡◌, ◌∙◌, ◌^◌, ℕ, Bool, List, ◌∷◌, Option, None, Some, Result, Ok, Err, ap, map, refl, subst, sym}
 use Rattle.std.specs.Prelude.{is_some, length, slice_index_or}
 use Rattle.std.specs.Option.{option_map_or}
-use Rattle.pmap_text.specs.ListModel.{ListModel}
-use Rattle.pmap_text.specs.Reading.{◌>>=◌, list_reading, map_reading}
+use Rattle.pmap_model.specs.ListModel.{ListModel}
+use Rattle.pmap_model.specs.Steps.{◌>>=◌}
+use Rattle.pmap_text.specs.Reading.{list_reading, map_reading}
 use Rattle.prefix_keys.specs.Block.{width_of}
 use Rattle.pmap_cert.specs.FormatReading.{format_reading}
 use Rattle.pmap_cert.specs.CertificateText.{certificate_text}

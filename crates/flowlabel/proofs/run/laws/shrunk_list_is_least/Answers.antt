@@ -1,8 +1,8 @@
 use Rattle.std.proofs.Common.{◌≡◌, ◌∙◌, ◌^◌, ◌<◌, ℕ, Ok, None, Option, Some, ap, inl, inr, length, refl, subst, sym, unwrap_or}
 use Rattle.prefix_keys.specs.Block.{width_of}
 use Rattle.prefix_keys.specs.declared.version.Version.{Version}
-use Rattle.pmap_text.specs.ListModel.{IsEquivalent}
-use Rattle.pmap_text.specs.MapModel.{Label}
+use Rattle.pmap_model.specs.ListModel.{IsEquivalent}
+use Rattle.pmap_model.specs.MapModel.{Label}
 use Rattle.pmap_text.specs.Reading.{unknown}
 use Rattle.pmap_cert.specs.Acceptance.{IsAccepted}
 use Rattle.pmap_cert.specs.CertificateText.{HasFormatText, certificate_text}

@@ -1,5 +1,5 @@
 use Rattle.std.proofs.Common.{◌≡◌, ◌∙◌, Some, Ok, ap, refl}
-use Rattle.pmap_text.specs.ListModel.{IsEquivalent, ListModel}
+use Rattle.pmap_model.specs.ListModel.{IsEquivalent, ListModel}
 use Rattle.pmap_text.specs.Reading.{list_reading}
 use Rattle.label_lookup.specs.Labelling.{labelling_of_map}
 use Rattle.flowlabel.specs.Headline.{IsReadAgain}

@@ -1,8 +1,8 @@
 use Rattle.std.proofs.Common.{◌∙◌, ◌^◌, ◌<◌, ap, option_and_then, option_map, slice_get, subst, sym}
 use Rattle.prefix_keys.specs.Block.{width_of}
 use Rattle.prefix_keys.specs.declared.version.Version.{Version}
-use Rattle.pmap_text.specs.ListModel.{ListModel, list_label}
-use Rattle.pmap_text.specs.PrefixList.{list_of}
+use Rattle.pmap_model.specs.ListModel.{ListModel, list_label}
+use Rattle.pmap_model.specs.PrefixList.{list_of}
 use Rattle.label_lookup.specs.Labelling.{Labelling, StretchModel}
 use Rattle.label_lookup.proofs.Labellings.{same_at_addresses}
 use Rattle.label_lookup.proofs.Tops.{label_found}

@@ -1,7 +1,7 @@
 use Rattle.std.proofs.Common.{◌≡◌, ◌∙◌, All, ap, arith, length, option_map, subst, sym, true≢false}
 use Rattle.std.proofs.lemmas.List.Elements.{All-contains}
 use Rattle.std.proofs.lemmas.Option.{get_or_from_slice_get, none-some, same_Some, slice_get_within}
-use Rattle.pmap_text.specs.declared.entry.Entry.{Entry}
+use Rattle.pmap_model.specs.declared.entry.Entry.{Entry}
 use Rattle.label_lookup.proofs.Entries.{IsNoLonger, all_seen, covered, inside, labelled, passed_over, taken, unlabelled}
 use Rattle.label_lookup.proofs.list_scan.PrefixListLabeller.label_of.Goals as goal
 use Rattle.label_lookup.proofs.list_scan.PrefixListLabeller.label_of.Goals.{then-covers+in-Some, then-covers+in_default-2, then-covers+in_default, else-covers}

@@ -1,6 +1,6 @@
 use Rattle.std.proofs.Common.{◌≡◌, ◌∙◌, ◌+◌, ◌-◌, ap, subst, arith, get_or, sym, Some, refl}
 use Rattle.std.proofs.lemmas.Option.{get_or_from_slice_get}
-use Rattle.pmap_text.specs.MapModel.{MapModel, map_label}
+use Rattle.pmap_model.specs.MapModel.{MapModel, map_label}
 use Rattle.label_lookup.proofs.Scanned.{IsLeft, by_default, covering, found, passed_over}
 use Rattle.label_lookup.proofs.scan.ScanLabeller.label_of.Goals as goal
 

@@ -1,6 +1,6 @@
-use Rattle.pmap_text.specs.ListModel.{list_label}
-use Rattle.pmap_text.specs.PrefixList.{list_of}
-use Rattle.pmap_text.specs.Stretches.{text_held}
+use Rattle.pmap_model.specs.ListModel.{list_label}
+use Rattle.pmap_model.specs.PrefixList.{list_of}
+use Rattle.pmap_stretches.specs.Stretches.{text_held}
 use Rattle.label_lookup.proofs.Labellings.{alike}
 use Rattle.label_lookup.proofs.stretch_index.StretchIndex.of_list.Goals as goal
 

@@ -1,7 +1,7 @@
 use Rattle.std.proofs.Common.{Some}
-use Rattle.pmap_text.specs.MapModel.{map_label}
-use Rattle.pmap_text.specs.MapText.{map_of}
-use Rattle.pmap_text.specs.Stretches.{text_held}
+use Rattle.pmap_model.specs.MapModel.{map_label}
+use Rattle.pmap_model.specs.MapText.{map_of}
+use Rattle.pmap_stretches.specs.Stretches.{text_held}
 use Rattle.label_lookup.proofs.Labellings.{alike}
 use Rattle.label_lookup.proofs.stretch_index.StretchIndex.of_map.Goals as goal
 

@@ -1,7 +1,7 @@
 use Rattle.std.proofs.Common.{◌≡◌, ◌∙◌, ℕ, ◌^◌, ◌<◌, ap, option_and_then, option_map, slice_get, sym}
 use Rattle.prefix_keys.specs.Block.{width_of}
 use Rattle.prefix_keys.specs.declared.version.Version.{Version}
-use Rattle.pmap_text.specs.Stretches.{text_held}
+use Rattle.pmap_stretches.specs.Stretches.{text_held}
 use Rattle.label_lookup.specs.Labelling.{StretchModel, labelling}
 use Rattle.label_lookup.proofs.Tops.{label_found, read_begins, read_below, read_ends, read_order}
 use Rattle.label_lookup.proofs.stretch_index.StretchIndexLabeller.label_of.Goals as goal

@@ -2,9 +2,9 @@ use Rattle.std.proofs.Common.{◌∙◌, ◌^◌, ◌<◌, Some, length, arith, 
 use Rattle.std.proofs.Math.Nat.{mul-le-mul_right}
 use Rattle.prefix_keys.specs.Block.{width_of}
 use Rattle.prefix_keys.proofs.Groups.{width-le}
-use Rattle.pmap_text.specs.MapText.{map_of}
-use Rattle.pmap_text.specs.Settled.{IsMapOf}
-use Rattle.pmap_text.proofs.Settling.{map_is}
+use Rattle.pmap_model.specs.MapText.{map_of}
+use Rattle.pmap_model.specs.Settled.{IsMapOf}
+use Rattle.pmap_stretches.proofs.Settling.{map_is}
 use Rattle.label_trie.proofs.Leaves.{leaves_settled, leaves_undivided, map_bounded, space_cut}
 use Rattle.label_trie.proofs.Lookup.{text_held_in}
 use Rattle.label_trie.proofs.trie.Trie.build.Goals as goal

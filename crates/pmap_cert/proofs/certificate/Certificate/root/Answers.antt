@@ -1,5 +1,5 @@
 use Rattle.std.proofs.Common.{ap}
-use Rattle.pmap_text.specs.Label.{IsLabelTable}
+use Rattle.pmap_model.specs.Label.{IsLabelTable}
 use Rattle.prefix_keys.specs.Block.{width_of}
 use Rattle.pmap_cert.specs.Format.{format_number}
 use Rattle.pmap_cert.proofs.Plain.{of-kind}

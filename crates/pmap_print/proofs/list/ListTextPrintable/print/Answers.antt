@@ -6,11 +6,11 @@ use Rattle.std.proofs.lemmas.List.Sorted.{All-permutation}
 use Rattle.std.proofs.lemmas.List.{take_all, take_more}
 use Rattle.std.proofs.lemmas.Option.{get_or_from_slice_get, slice_get_within}
 use Rattle.pmap_cert.specs.CertificateText.{text_of_lines}
-use Rattle.pmap_text.specs.ListModel.{Prefix}
-use Rattle.pmap_text.specs.PrefixList.{prefix_of}
+use Rattle.pmap_model.specs.ListModel.{Prefix}
+use Rattle.pmap_model.specs.PrefixList.{prefix_of}
 use Rattle.pmap_cert.specs.ListText.{entry_line}
 use Rattle.pmap_cert.proofs.ReadLines.{mode_text, name_lines}
-use Rattle.pmap_text.specs.declared.entry.Entry.{Entry}
+use Rattle.pmap_model.specs.declared.entry.Entry.{Entry}
 use Rattle.pmap_cert.proofs.EntryOrder.{sorted-order}
 use Rattle.pmap_print.proofs.list.ListTextPrintable.print.Goals as goal
 use Rattle.pmap_print.proofs.list.ListTextPrintable.print.Goals.{in-V4, in-V6}

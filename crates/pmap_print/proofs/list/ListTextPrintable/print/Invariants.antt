@@ -3,7 +3,7 @@ use Rattle.flow_io.specs.Devices.{OutputView}
 use Rattle.pmap_cert.specs.CertificateText.{text_of_lines}
 use Rattle.pmap_cert.specs.ListText.{entry_line}
 use Rattle.pmap_cert.proofs.ReadLines.{mode_text, name_lines}
-use Rattle.pmap_text.specs.PrefixList.{prefix_of}
+use Rattle.pmap_model.specs.PrefixList.{prefix_of}
 use Rattle.pmap_print.proofs.list.ListTextPrintable.print.Given as goal
 
 -- the lines so far are printed

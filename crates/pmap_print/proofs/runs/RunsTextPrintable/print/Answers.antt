@@ -2,9 +2,9 @@ use Rattle.std.proofs.Common.{◌≡◌, ℕ, suc, ◌+◌, ◌-◌, ◌∙◌, 
 use Rattle.std.specs.Prelude.{codes}
 use Rattle.std.specs.List.{flat_map}
 use Rattle.std.proofs.lemmas.List.{append-nil}
-use Rattle.pmap_text.specs.Stretches.{StretchesModel}
-use Rattle.pmap_text.specs.RunsText.{Line, Text, line_text, run_at, run_fields, runs_text}
-use Rattle.pmap_text.proofs.StretchRuns.{all_runs, runs_from}
+use Rattle.pmap_stretches.specs.Stretches.{StretchesModel}
+use Rattle.pmap_stretches.specs.RunsText.{Line, Text, line_text, run_at, run_fields, runs_text}
+use Rattle.pmap_stretches.proofs.StretchRuns.{all_runs, runs_from}
 use Rattle.pmap_print.proofs.runs.RunsTextPrintable.print.Goals as goal
 
 pub loop-index-init : goal.loop-index-init

@@ -1,8 +1,8 @@
 use Rattle.std.proofs.Common.{◌≡◌, ◌-◌, ◌++◌, length, map}
 use Rattle.std.specs.List.{flat_map}
 use Rattle.flow_io.specs.Devices.{OutputView}
-use Rattle.pmap_text.specs.RunsText.{line_text, run_fields, runs_text}
-use Rattle.pmap_text.proofs.StretchRuns.{runs_from}
+use Rattle.pmap_stretches.specs.RunsText.{line_text, run_fields, runs_text}
+use Rattle.pmap_stretches.proofs.StretchRuns.{runs_from}
 use Rattle.pmap_print.proofs.runs.RunsTextPrintable.print.Given as goal
 
 -- the text so far and the lines of the runs from the index on are the text of all runs

@@ -1,11 +1,11 @@
 use Rattle.std.proofs.Common.{sym, subst, ◌∙◌, get_or}
 use Rattle.pmap_text.specs.Inner.{HasDistinctKeys}
-use Rattle.pmap_text.specs.PrefixList.{prefix_of}
+use Rattle.pmap_model.specs.PrefixList.{prefix_of}
 use Rattle.pmap_text.specs.Reading.{Earlier}
-use Rattle.pmap_text.proofs.Filed.{distinct_from_map}
+use Rattle.pmap_model.proofs.Distinct.{distinct_from_map}
 use Rattle.pmap_text.proofs.ProgressSteps.{version-decided}
 use Rattle.pmap_text.proofs.reading.Reading.into_list.Goals as goal
-use Rattle.pmap_text.specs.ListModel.{same_start_and_bits}
+use Rattle.pmap_model.specs.ListModel.{same_start_and_bits}
 
 pub invariant_of-result-clause-one_version : goal.invariant_of-result-clause-one_version
 invariant_of-result-clause-one_version c = λ k d within.

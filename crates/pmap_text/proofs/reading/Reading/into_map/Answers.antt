@@ -2,7 +2,7 @@ use Rattle.std.proofs.Common.{◌≡◌, arith, subst, sym, ◌∙◌, Option}
 use Rattle.pmap_text.specs.Progress.{IsProgress}
 use Rattle.pmap_text.specs.Reading.{unknown}
 use Rattle.pmap_text.specs.Inner.{map_from}
-use Rattle.pmap_text.specs.declared.label.LabelId.{LabelId}
+use Rattle.pmap_model.specs.declared.label.LabelId.{LabelId}
 use Rattle.pmap_text.proofs.ProgressSteps.{finished, finished-known, finished-unknown, length-with_label, version-decided}
 use Rattle.pmap_text.proofs.reading.Reading.into_map.Goals as goal
 use Rattle.pmap_text.proofs.reading.Reading.into_map.Goals.{in-Some, in-None+in_ok-default-in-None}

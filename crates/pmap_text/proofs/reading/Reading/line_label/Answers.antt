@@ -1,7 +1,8 @@
 use Rattle.std.proofs.Common.{List, ap, ◌∙◌}
 use Rattle.std.proofs.lemmas.Result.{on_ok_weaker}
-use Rattle.pmap_text.specs.Label.{meant_text, with_label}
-use Rattle.pmap_text.specs.MapModel.{Label}
+use Rattle.pmap_text.specs.Declarations.{meant_text}
+use Rattle.pmap_model.specs.Label.{with_label}
+use Rattle.pmap_model.specs.MapModel.{Label}
 use Rattle.pmap_text.specs.Progress.{progress_of}
 use Rattle.pmap_text.specs.Reading.{Earlier}
 use Rattle.pmap_text.proofs.ProgressSteps.{progress-with_label}

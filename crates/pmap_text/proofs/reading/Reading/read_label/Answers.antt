@@ -1,6 +1,6 @@
 use Rattle.std.proofs.Common.{List, Ok, ap, inl, map, refl, rules, sym, ◌∙◌}
-use Rattle.pmap_text.specs.MapModel.{Label}
-use Rattle.pmap_text.specs.PrefixList.{prefix_of}
+use Rattle.pmap_model.specs.MapModel.{Label}
+use Rattle.pmap_model.specs.PrefixList.{prefix_of}
 use Rattle.pmap_text.proofs.ProgressSteps.{IsProgress-with_label, prefixes-with_label, progress-with_label}
 use Rattle.pmap_text.proofs.reading.Reading.read_label.Goals as goal
 

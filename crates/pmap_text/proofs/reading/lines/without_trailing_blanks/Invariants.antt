@@ -1,6 +1,6 @@
 use Rattle.std.proofs.Common.{◌≡◌, ◌≤◌, ◌+◌, take, length}
 use Rattle.std.specs.List.{suffix_len}
-use Rattle.pmap_text.specs.Label.{is_blank}
+use Rattle.pmap_model.specs.Label.{is_blank}
 use Rattle.pmap_text.proofs.reading.lines.without_trailing_blanks.Given as goal
 
 -- the bytes that were removed are blanks

@@ -1,7 +1,7 @@
 use Rattle.std.proofs.Common.{List, map, take}
 use Rattle.pmap_text.proofs.Filed.{AreFiled}
-use Rattle.pmap_text.specs.MapModel.{Label}
-use Rattle.pmap_text.specs.PrefixList.{prefix_of}
+use Rattle.pmap_model.specs.MapModel.{Label}
+use Rattle.pmap_model.specs.PrefixList.{prefix_of}
 use Rattle.pmap_text.proofs.reading.repeats.find_repeat.Given as goal
 
 -- the keys are those of the entries so far, no two of which have the same block

@@ -1,7 +1,8 @@
 use Rattle.std.proofs.Common.{subst}
 use Rattle.std.specs.Prelude.{unwrap_or}
-use Rattle.pmap_text.specs.ListEntries.{HasDistinctBlocks}
-use Rattle.pmap_text.proofs.Filed.{distinct_sorted, distinct_keys}
+use Rattle.pmap_model.specs.ListEntries.{HasDistinctBlocks}
+use Rattle.pmap_model.proofs.Distinct.{distinct_sorted}
+use Rattle.pmap_text.proofs.Filed.{distinct_keys}
 use Rattle.pmap_text.proofs.reading.repeats.first_repeat.Goals as goal
 
 pub returns-then-are_in_order : goal.returns-then-are_in_order

@@ -2,7 +2,7 @@ use Rattle.std.proofs.Common.{◌==◌, ◌&&◌, ◌∙◌, ap, sym}
 use Rattle.std.proofs.lemmas.Bool.{or_from}
 use Rattle.std.proofs.lemmas.List.Folds.{list_any_at, list_any_more}
 use Rattle.std.proofs.lemmas.Option.{get_or_from_slice_get, slice_get_within}
-use Rattle.pmap_text.specs.declared.entry.Entry.{Entry}
+use Rattle.pmap_model.specs.declared.entry.Entry.{Entry}
 use Rattle.pmap_text.proofs.reading.repeats.has_block.Goals as goal
 
 pub returns-then-is_for : goal.returns-then-is_for

@@ -3,9 +3,10 @@ use Rattle.std.specs.List.{list_any, zip}
 use Rattle.std.specs.Prelude.{nat_eq}
 use Rattle.std.specs.Str.{bytes_eq}
 use Rattle.indexmap.specs.IndexSet.{insert_key}
-use Rattle.pmap_text.specs.Label.{conflicts, with_declared, with_label}
-use Rattle.pmap_text.proofs.Filed.{distinct_to_map}
-use Rattle.pmap_text.proofs.LabelTexts.{map-insert_key, with_label-new}
+use Rattle.pmap_text.specs.Declarations.{conflicts, with_declared}
+use Rattle.pmap_model.specs.Label.{with_label}
+use Rattle.pmap_model.proofs.Distinct.{distinct_to_map}
+use Rattle.pmap_model.proofs.LabelTexts.{map-insert_key, with_label-new}
 use Rattle.pmap_text.proofs.Pairs.{ArePaired-push, new_text, with_declared-known, with_declared-new}
 use Rattle.pmap_text.proofs.reading.declarations.Declarations.add.Goals as goal
 

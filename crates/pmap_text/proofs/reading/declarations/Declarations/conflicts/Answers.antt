@@ -2,8 +2,8 @@ use Rattle.std.proofs.Common.{◌∙◌, ap, sym, not, map}
 use Rattle.std.specs.Option.{option_eq}
 use Rattle.std.specs.Prelude.{nat_eq}
 use Rattle.std.specs.Str.{bytes_eq}
-use Rattle.pmap_text.specs.Label.{conflicts}
-use Rattle.pmap_text.proofs.LabelTexts.{position-map}
+use Rattle.pmap_text.specs.Declarations.{conflicts}
+use Rattle.pmap_model.proofs.LabelTexts.{position-map}
 use Rattle.pmap_text.proofs.Pairs.{conflicts-places, same_places}
 use Rattle.pmap_text.proofs.reading.declarations.Declarations.conflicts.Goals as goal
 

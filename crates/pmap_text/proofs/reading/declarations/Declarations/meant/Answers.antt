@@ -6,7 +6,8 @@ use Rattle.std.proofs.lemmas.List.Elements.{All-get_or}
 use Rattle.std.proofs.lemmas.List.Sums.{AllPass-from_list_all}
 use Rattle.prefix_keys.specs.Text.{decimal_value, is_digit}
 use Rattle.prefix_keys.proofs.Bytes.{all-weaker}
-use Rattle.pmap_text.specs.Label.{is_blank, is_label, is_label_byte, label_number}
+use Rattle.pmap_model.specs.Label.{is_blank, is_label, is_label_byte}
+use Rattle.pmap_text.specs.Declarations.{label_number}
 use Rattle.pmap_text.proofs.reading.declarations.Declarations.meant.Goals as goal
 
 some-true : (b : Bool) (v n : ℕ) → cond b (Some v) None ≡ Some n → b ≡ true

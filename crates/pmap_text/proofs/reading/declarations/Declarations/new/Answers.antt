@@ -1,7 +1,7 @@
 use Rattle.std.proofs.Common.{[], map, refl, sym, subst}
 use Rattle.std.proofs.lemmas.Option.{none-some}
 use Rattle.std.specs.List.{IsDistinct}
-use Rattle.pmap_text.specs.Label.{ArePaired}
+use Rattle.pmap_text.specs.Declarations.{ArePaired}
 use Rattle.pmap_text.proofs.reading.declarations.Declarations.new.Goals as goal
 
 none_paired : ArePaired [] []

@@ -1,6 +1,6 @@
 use Rattle.std.proofs.Common.{◌≡◌, ◌∙◌, Some, sym, ap, map, option_map, slice_get}
 use Rattle.std.proofs.lemmas.Option.{slice_get-map}
-use Rattle.pmap_text.specs.Label.{declared_text}
+use Rattle.pmap_text.specs.Declarations.{declared_text}
 use Rattle.pmap_text.proofs.Pairs.{declared_text-none, declared_text-some}
 use Rattle.pmap_text.proofs.reading.declarations.Declarations.text_of.Goals as goal
 use Rattle.pmap_text.proofs.reading.declarations.Declarations.text_of.Goals.{After-as_slice}

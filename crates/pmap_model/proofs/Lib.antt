@@ -1,0 +1,11 @@
+pub mod PackedStatements
+pub mod LabelTexts
+pub mod Blocks
+pub mod Finds
+pub mod LastSuch
+pub mod Settled
+pub mod ListLabels
+pub mod ListBlocks
+pub mod Ends
+pub mod Sorting
+pub mod Distinct

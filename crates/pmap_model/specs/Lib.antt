@@ -1,0 +1,11 @@
+pub mod MapModel
+pub mod ListModel
+pub mod Label
+pub mod MapText
+pub mod ListEntries
+pub mod PrefixList
+pub mod Packed
+pub mod Settled
+pub mod Sorting
+pub mod Hashing
+pub mod Steps

@@ -1,0 +1,7 @@
+use Rattle.std.specs.Prelude.{Result, Ok, Err}
+
+-- the value of a step is passed to the next step, and the first fault is the result
+infixl 10 ◌>>=◌
+abbrev pub ◌>>=◌ : {A B E : Type 0} → Result A E → (A → Result B E) → Result B E
+(Ok x) >>= f = f x
+(Err e) >>= f = Err e

@@ -1,0 +1,70 @@
+-- The open statements, as the stretches grow.
+use Rattle.std.proofs.Common.{◌≡◌, ◌∙◌, ℕ, ◌+◌, ◌<◌, ◌≤◌, inl, inr, List, Option, Some, Contains, length, slice_get, sym, ap, subst, arith}
+use Rattle.std.specs.Option.{ForSome}
+use Rattle.std.proofs.lemmas.Bool.{cases_lt}
+use Rattle.std.proofs.lemmas.Option.{same_Some, slice_get_within}
+use Rattle.pmap_model.specs.declared.statement.Statement.{Statement}
+use Rattle.pmap_stretches.specs.Sweep.{AreOpen, BeginAfter, HasOneMore, IsGreatest, IsWinner}
+use Rattle.pmap_stretches.specs.Starting.{IsOrder, Start, number_at}
+
+-- if a statement begins after an address, so do all later ones
+pub begin_later : (ss : List Statement) (starts : List Start) (next last : ℕ) (e : Statement) → IsOrder ss starts
+    → slice_get ss (number_at starts next) ≡ Some e → last < e.span.low.value → BeginAfter ss starts next last
+begin_later ss starts next last e order listed less i s le below is = omega (arith, order.ascending next i e s le below listed is, less)
+
+module _ (ss : List Statement) (starts : List Start) (order : IsOrder ss starts) (next first : ℕ) (opened : List ℕ)
+    (are : AreOpen ss starts next first opened) where
+  -- the greatest open statement wins up to its end, if no other begins before
+  pub top_wins : (last : ℕ) (top : Option ℕ) → IsGreatest opened top → BeginAfter ss starts next last
+      → ((j : ℕ) (s : Statement) → top ≡ Some j → slice_get ss j ≡ Some s → last ≤ s.span.high.value) → (a : ℕ) → first ≤ a → a ≤ last
+      → IsWinner ss a top
+  top_wins last top greatest later reaches a from to = record {
+    covers = λ j is.
+        let begun = are.begun j (greatest.listed j is) in
+        record { statement = begun.0; listed = begun.1; low = omega (arith, begun.2, from); high = omega (arith, reaches j begun.0 is begun.1, to) };
+    most = λ j covers.
+        let place = order.every j (slice_get_within ss j covers.statement covers.listed) in
+        let here = ap (slice_get ss) place.2 ∙ covers.listed in
+        elim (cases_lt place.0 next) [
+          | inl early ↦ greatest.most j (subst (Contains opened) place.2
+              (are.every place.0 covers.statement early here (omega (arith, covers.high, from))))
+          | inr late ↦ absurd (omega (arith, later place.0 covers.statement late place.1 here, covers.low, to))
+        ];
+  }
+
+  pub top_known : (top : Option ℕ) → IsGreatest opened top → ForSome top (λ j. j < length ss)
+  top_known top greatest j is = let begun = are.begun j (greatest.listed j is) in slice_get_within ss j begun.0 begun.1
+
+  -- they may still cover addresses further on
+  pub open_on : (first' : ℕ) → first ≤ first' → AreOpen ss starts next first' opened
+  open_on first' le = record {
+    begun = λ j has. let begun = are.begun j has in (begun.0, begun.1, omega (arith, begun.2, le));
+    every = λ i s less listed high. are.every i s less listed (omega (arith, high, le));
+  }
+
+  -- one that ends before the address is closed
+  pub open_closed : (opened' : List ℕ) (top : ℕ) (t : Statement) → HasOneMore opened' top opened → slice_get ss top ≡ Some t → t.span.high.value < first
+      → AreOpen ss starts next first opened'
+  open_closed opened' top t one listed ends = record {
+    begun = λ j has. are.begun j (one.has_fewer j has);
+    every = λ i s less at high. elim (one.more_than (number_at starts i) (are.every i s less at high)) [
+      | inl same ↦
+          let end = ap (λ (r : Statement). r.span.high.value) (same_Some t s (sym listed ∙ ap (slice_get ss) (sym same) ∙ at)) in
+          absurd (omega (arith, end, ends, high))
+      | inr has ↦ has
+    ];
+  }
+
+  -- the next one begins at the address
+  pub open_pushed : (opened' : List ℕ) (e : Statement) → HasOneMore opened (number_at starts next) opened'
+      → slice_get ss (number_at starts next) ≡ Some e → e.span.low.value ≤ first → AreOpen ss starts (next + 1) first opened'
+  open_pushed opened' e one listed begins = record {
+    begun = λ j has. elim (one.more_than j has) [
+      | inl same ↦ (e, ap (slice_get ss) same ∙ listed, begins)
+      | inr before ↦ are.begun j before
+    ];
+    every = λ i s less at high. elim (cases_lt i next) [
+      | inl early ↦ one.has_fewer (number_at starts i) (are.every i s early at high)
+      | inr late ↦ subst (λ (k : ℕ). Contains opened' (number_at starts k)) (let same : next ≡ i = omega (arith, less, late) in same) one.has_number
+    ];
+  }

@@ -1,6 +1,0 @@
-use Rattle.std.proofs.Common.{refl, sym}
-use Rattle.pmap_text.proofs.PackedStatements.{entry-same}
-use Rattle.pmap_text.proofs.entries.EntryPackable.narrow.Goals as goal
-
-pub returns : goal.returns
-returns c = entry-same _ _ (sym c.requires) refl refl refl

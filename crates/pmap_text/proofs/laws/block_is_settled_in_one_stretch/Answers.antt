@@ -1,5 +1,0 @@
-use Rattle.pmap_text.proofs.SeenBlocks.{settled_stretch}
-use Rattle.pmap_text.proofs.laws.block_is_settled_in_one_stretch.Goals as goal
-
-pub returns : goal.returns
-returns c = settled_stretch

@@ -1,6 +1,0 @@
-use Rattle.std.proofs.Common.{refl}
-use Rattle.pmap_text.proofs.PackedStatements.{addr-same, statement-same}
-use Rattle.pmap_text.proofs.statements.StatementPackable.from_wide.Goals as goal
-
-pub returns : goal.returns
-returns c = statement-same _ _ (addr-same _ _ refl refl) (addr-same _ _ refl refl) refl
