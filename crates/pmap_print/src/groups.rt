@@ -86,8 +86,12 @@ fn part_length(part: KeyPart<'_>) -> u8
 }
 
 // Prints a part of a key in a column of this width, which isn't the last one. The text of a missing label is empty.
-#[inline(always)]
-fn print_part<S: Sink>(out: &mut S, width: u8, part: KeyPart<'_>) -> Result<(), S::Fault>
+// `PADDED` is as for `print_lines`.
+fn print_part<S: Sink, const PADDED: bool>(
+    out: &mut S,
+    width: u8,
+    part: KeyPart<'_>,
+) -> Result<(), S::Fault>
     requires { IsSmall (part_model part) }
     ensures { Pushes S.sink S.began out.old out.new (ended width 124 (part_text (part_model part.entry))) result }
 {
@@ -99,9 +103,12 @@ fn print_part<S: Sink>(out: &mut S, width: u8, part: KeyPart<'_>) -> Result<(), 
     }
 }
 
-// Prints the line of a group, with columns of these widths.
-#[inline(always)]
-fn print_group<S: Sink>(out: &mut S, group: &Group<'_>, widths: &[u8]) -> Result<(), S::Fault>
+// Prints the line of a group, with columns of these widths. `PADDED` is as for `print_lines`.
+fn print_group<S: Sink, const PADDED: bool>(
+    out: &mut S,
+    group: &Group<'_>,
+    widths: &[u8],
+) -> Result<(), S::Fault>
     ensures { Pushes S.sink S.began out.old out.new
         (line_text (filled_by widths.now (group_fields (group_model group.now)))) result }
 {
@@ -109,7 +116,7 @@ fn print_group<S: Sink>(out: &mut S, group: &Group<'_>, widths: &[u8]) -> Result
     let mut rest = widths;
     while let Some((part, parts)) = key.split_first() {
         let (width, others) = first_width(rest);
-        print_part(out, width, part)?;
+        print_part::<S, PADDED>(out, width, part)?;
         key = parts;
         rest = others;
     }
@@ -199,9 +206,12 @@ impl Columns {
     }
 }
 
-// Prints the header and the lines of groups, with columns of these widths. Without widths that is faster.
-#[inline(always)]
-fn print_lines<'a, S: Sink>(
+// Prints the header and the lines of groups, with columns of these widths.
+//
+// `PADDED` is `true` in the call with columns. It changes no text, but gives each of the two calls functions of its own,
+// which LLVM inlines because they have one caller. So without columns no width is looked at, which is faster.
+// `#[inline(always)]` would have no effect: the functions are so large that a proved build drops it.
+fn print_lines<'a, S: Sink, const PADDED: bool>(
     out: &mut S,
     groups: &'a Groups,
     sorted: &Option<Vec<Group<'a>>>,
@@ -214,7 +224,7 @@ fn print_lines<'a, S: Sink>(
     print_header(out, groups.fields(), widths)?;
     for index in 0..groups.group_count() {
         if let Some(group) = group_at(groups, sorted, index) {
-            print_group(out, &group, widths)?;
+            print_group::<S, PADDED>(out, &group, widths)?;
         }
     }
     Ok(())
@@ -284,10 +294,10 @@ impl Printable for GroupsText<'_> {
 
     fn print<S: Sink>(&self, out: &mut S) -> Result<(), S::Fault> {
         if let Some(columns) = &self.columns {
-            print_lines(out, self.groups, &self.sorted, columns.widths())?;
+            print_lines::<S, true>(out, self.groups, &self.sorted, columns.widths())?;
             return Ok(());
         }
-        print_lines(out, self.groups, &self.sorted, &[])?;
+        print_lines::<S, false>(out, self.groups, &self.sorted, &[])?;
         Ok(())
     }
 }
